@@ -1,4 +1,4 @@
--- The calendar on numbers that are not negative: years are counted from -999999.
+-- The calendar on numbers that are not negative: years and days are counted from -999999-01-01.
 use Rattle.std.proofs.Common.{◌≡◌, ℕ, zero, suc, ◌+◌, ◌-◌, ◌*◌, ◌/◌, ◌%◌, ◌<◌, ◌≤◌, Bool, refl, sym, ap, ◌∙◌, arith, ℤ, pos, negsuc, ◌+ℤ◌, ◌-ℤ◌, ◌*ℤ◌, unsigned_abs, to_z-of_z}
 use Rattle.std.proofs.lemmas.Int.{ints}
 use Rattle.std.specs.Int.{int_div_euclid, int_rem_euclid}
@@ -43,18 +43,25 @@ cycle-parts (negsuc a) n e =
     let h : n + suc a ≡ 1_460_970_000 = omega (arith, ints) in
     (omega (arith, ints), omega arith)
 
+-- the whole years in n days from the start, and the days left
+abbrev pub years_at : ℕ → ℕ
+years_at n = 100 * ((4 * n + 3) / 146_097) + ((4 * n + 3) % 146_097 / 4 * 4 + 3) / 1461
+
+abbrev pub place_at : ℕ → ℕ
+place_at n = ((4 * n + 3) % 146_097 / 4 * 4 + 3) % 1461 / 4
+
 pub same_date : (y x : ℤ) (o p : ℕ) → y ≡ x → o ≡ p → ◌≡◌ {A = OrdinalDate} (record { year = y; ordinal = o }) (record { year = x; ordinal = p })
 same_date y x o p e f = rw (e, f) refl
 
 -- the date of a day number, by the days from the start
-pub date_at_shifted : (z : ℤ) (n : ℕ) → z +ℤ pos 365_242_500 ≡ pos n → date_at z ≡ record { year = pos (100 * ((4 * n + 3) / 146_097) + ((4 * n + 3) % 146_097 / 4 * 4 + 3) / 1461) -ℤ pos 999_999; ordinal = ((4 * n + 3) % 146_097 / 4 * 4 + 3) % 1461 / 4 + 1 }
+pub date_at_shifted : (z : ℤ) (n : ℕ) → z +ℤ pos 365_242_500 ≡ pos n → date_at z ≡ record { year = pos (years_at n) -ℤ pos 999_999; ordinal = place_at n + 1 }
 unfolding date_at
 date_at_shifted z n e =
     let parts = cycle-parts (pos 4 *ℤ z +ℤ pos 3) (4 * n + 3) (omega (arith, ints)) in
     let day : 4 * (unsigned_abs (int_rem_euclid (pos 4 *ℤ z +ℤ pos 3) (pos 146_097)) / 4) + 3 ≡ (4 * n + 3) % 146_097 / 4 * 4 + 3 = omega arith in
     same_date _ _ _ _ (rw day (omega (arith, ints))) (rw day refl)
 
-pub date_at_from_start : (n : ℕ) → date_at (pos n -ℤ pos 365_242_500) ≡ record { year = pos (100 * ((4 * n + 3) / 146_097) + ((4 * n + 3) % 146_097 / 4 * 4 + 3) / 1461) -ℤ pos 999_999; ordinal = ((4 * n + 3) % 146_097 / 4 * 4 + 3) % 1461 / 4 + 1 }
+pub date_at_from_start : (n : ℕ) → date_at (pos n -ℤ pos 365_242_500) ≡ record { year = pos (years_at n) -ℤ pos 999_999; ordinal = place_at n + 1 }
 date_at_from_start n = date_at_shifted (pos n -ℤ pos 365_242_500) n (omega (arith, ints))
 
 -- the Thursday of the week, by the days from the start

@@ -5,6 +5,7 @@ mod calendar;
 mod component_range;
 mod date;
 pub mod format_description;
+pub mod laws;
 mod month;
 mod period;
 #[cfg(test)]
