@@ -1,5 +1,5 @@
 -- Moments, counted from 1970-01-01T00:00:00 UTC, and dates with a time of day.
-use Rattle.std.specs.Prelude.{ℕ, ◌+◌, ◌/◌, ◌<◌, ℤ, pos, neg_ℤ, ◌+ℤ◌, ◌-ℤ◌, ◌*ℤ◌, ◌≤ℤ◌, ◌<ℤ◌, unsigned_abs, int_lt, if◌then◌else◌}
+use Rattle.std.specs.Prelude.{ℕ, ◌+◌, ◌/◌, ◌<◌, ℤ, pos, neg_ℤ, ◌+ℤ◌, ◌-ℤ◌, ◌*ℤ◌, ◌≤ℤ◌, ◌<ℤ◌, unsigned_abs, int_div}
 use Rattle.std.specs.Int.{int_div_euclid, int_rem_euclid}
 use Rattle.time_below.specs.Calendar.{OrdinalDate, day_number, date_at}
 use Rattle.time_below.specs.TimeOfDay.{TimeOfDay, seconds_from_midnight, time_at}
@@ -54,8 +54,14 @@ second_of_day seconds = unsigned_abs (int_rem_euclid seconds (pos 86_400))
 abbrev pub utc_time : Moment → TimeOfDay
 utc_time m = time_at (second_of_day m.seconds) m.nanosecond
 
--- the milliseconds since 1970-01-01, rounded toward zero
+-- the UTC date and time of a moment
+abbrev pub utc_date_and_time : Moment → DateAndTime
+utc_date_and_time m = record { date = utc_date m.seconds; time = utc_time m }
+
+-- the nanoseconds since 1970-01-01
+abbrev pub nanoseconds : Moment → ℤ
+nanoseconds m = pos 1_000_000_000 *ℤ m.seconds +ℤ pos m.nanosecond
+
+-- the milliseconds since 1970-01-01: `int_div` rounds toward zero
 abbrev pub milliseconds : Moment → ℤ
-milliseconds m =
-    pos 1000 *ℤ m.seconds
-    +ℤ pos ((if int_lt m.seconds (pos 0) then m.nanosecond + 999_999 else m.nanosecond) / 1_000_000)
+milliseconds m = int_div (nanoseconds m) (pos 1_000_000)
