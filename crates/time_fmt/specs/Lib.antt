@@ -1,0 +1,4 @@
+pub mod Description
+pub mod Outcome
+pub mod Room
+pub mod Text

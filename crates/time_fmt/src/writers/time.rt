@@ -1,0 +1,63 @@
+//! The components of a time of day.
+ghost use Rattle.std.specs.Prelude.{length};
+ghost use Rattle.time_fmt.specs.Room.{HasRoom, Writes};
+ghost use Rattle.time_fmt.specs.Text.{padded_text, hour_12, period_text};
+
+use crate::writers::digits::format_two_digits;
+use crate::writers::plain::write;
+use time_below::Period;
+use time_below::format_description::modifier;
+use time_digits::ru8;
+use time_provide::ranges::{Hours, Minutes, Seconds};
+
+/// Appends the hour of the 12-hour clock, 1 to 12, in two places.
+#[inline]
+pub fn fmt_hour_12(output: &mut Vec<u8>, hour: Hours, modifier: modifier::Hour12) -> usize
+    requires room { HasRoom output.old (length (padded_text modifier.padding 2 (hour_12 hour))) }
+    ensures writes { Writes output.old output.new result (padded_text modifier.padding 2 (hour_12 hour)) }
+{
+    let on_the_dial = (hour.get() + 11) % 12 + 1;
+    format_two_digits(output, ru8::new(on_the_dial).unwrap(), modifier.padding)
+}
+
+/// Appends the hour, 0 to 23, in two places.
+#[inline]
+pub fn fmt_hour_24(output: &mut Vec<u8>, hour: Hours, modifier: modifier::Hour24) -> usize
+    requires room { HasRoom output.old (length (padded_text modifier.padding 2 hour)) }
+    ensures writes { Writes output.old output.new result (padded_text modifier.padding 2 hour) }
+{
+    format_two_digits(output, hour.expand(), modifier.padding)
+}
+
+/// Appends the minute in two places.
+#[inline]
+pub fn fmt_minute(output: &mut Vec<u8>, minute: Minutes, modifier: modifier::Minute) -> usize
+    requires room { HasRoom output.old (length (padded_text modifier.padding 2 minute)) }
+    ensures writes { Writes output.old output.new result (padded_text modifier.padding 2 minute) }
+{
+    format_two_digits(output, minute.expand(), modifier.padding)
+}
+
+/// Appends `am` or `pm`, in capitals if they are wanted.
+#[inline]
+pub fn fmt_period(output: &mut Vec<u8>, period: Period, modifier: modifier::Period) -> usize
+    requires room { HasRoom output.old (length (period_text period modifier.is_uppercase)) }
+    ensures writes { Writes output.old output.new result (period_text period modifier.is_uppercase) }
+{
+    let text = match (period, modifier.is_uppercase) {
+        (Period::Am, true) => "AM",
+        (Period::Am, false) => "am",
+        (Period::Pm, true) => "PM",
+        (Period::Pm, false) => "pm",
+    };
+    write(output, text)
+}
+
+/// Appends the second in two places.
+#[inline]
+pub fn fmt_second(output: &mut Vec<u8>, second: Seconds, modifier: modifier::Second) -> usize
+    requires room { HasRoom output.old (length (padded_text modifier.padding 2 second)) }
+    ensures writes { Writes output.old output.new result (padded_text modifier.padding 2 second) }
+{
+    format_two_digits(output, second.expand(), modifier.padding)
+}
