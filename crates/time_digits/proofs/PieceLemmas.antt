@@ -1,8 +1,9 @@
 -- Texts in pieces: what stands before the last digits, and then these.
-use Rattle.std.proofs.Common.{◌≡◌, ℕ, zero, suc, ◌+◌, ◌-◌, ◌*◌, ◌/◌, ◌%◌, ◌^◌, ◌<◌, ◌≤◌, List, [], ◌∷◌, ◌++◌, length, replicate, refl, sym, ap, ap₂, ◌∙◌, arith, length-append, append_assoc, decimal}
+use Rattle.std.proofs.Common.{◌≡◌, ℕ, zero, suc, ◌+◌, ◌-◌, ◌*◌, ◌/◌, ◌%◌, ◌^◌, ◌<◌, ◌≤◌, List, [], ◌∷◌, ◌++◌, length, replicate, refl, sym, ap, ap₂, ◌∙◌, arith, length-append, append_assoc, get_or, decimal}
 use Rattle.std.proofs.Math.Nat.{one-le-pow, div-le_self}
 use Rattle.std.proofs.lemmas.List.{append-nil}
-use Rattle.time_digits.specs.Digits.{fixed, padded, zero_padded, space_padded}
+use Rattle.std.specs.Borrow.{Bor}
+use Rattle.time_digits.specs.Digits.{fixed, padded, zero_padded, space_padded, joined, piece_lengths}
 use Rattle.time_digits.proofs.DigitLemmas.{fixed-append, fixed-mod, decimal-split, decimal_longer, length-digit, length-decimal_below, length-decimal_two, some_digit, length-fixed, length-padded, padded_whole, padded_short, padded-split, zero_padded_is}
 
 -- the last k places of n, with zeros
@@ -106,8 +107,34 @@ pub nine_fixed : (n : ℕ) → n < 1_000_000_000 → zero_padded 5 (n / 10_000) 
 nine_fixed n h = rw (zero_padded_is 4 (n / 10_000) (omega arith) (omega arith)) (sym (fixed-append 5 4 n))
 
 -- how many digits stand before the last four
-pub length-before_four : (n : ℕ) → 10_000 ≤ n → n < 2 ^ 64 → length (decimal n) ≡ length (decimal (n / 10_000)) + 4
+pub length-before_four : (n : ℕ) → 10_000 ≤ n → n < 2 ^ 64 → length (decimal n) - 4 ≡ length (decimal (n / 10_000))
 length-before_four n low h =
     omega (arith, ap length (decimal-split 4 n low h), length-append (decimal (n / 10_000)) (fixed 4 n), length-fixed 4 n)
 
-pub ruleset six_places = (four_last, zero_four, five_or_six, five_zero_padded, six_zero_padded, nine_fixed, length-before_four, length-four, length-fixed, length-digit, length-decimal_two, some_digit, length-padded)
+pub length-before_none : (n : ℕ) → n < 10_000 → length (decimal n) - 4 ≡ 0
+length-before_none n h = omega (arith, length-four n h)
+
+-- ---- pieces that are taken over from another list of pieces
+
+pub two_of : (last : List (Bor (List ℕ))) (d : Bor (List ℕ)) → piece_lengths last ≡ 2 ∷ 2 ∷ [] → (get_or last 0 d).now ++ ((get_or last 1 d).now ++ []) ≡ joined last
+two_of [] d e = cc
+two_of (x ∷ []) d e = cc
+two_of (x ∷ y ∷ []) d e = refl
+two_of (x ∷ y ∷ z ∷ more) d e = cc
+
+pub five_of : (first last : List (Bor (List ℕ))) (d : Bor (List ℕ)) → piece_lengths first ≡ 1 ∷ 2 ∷ 2 ∷ [] → piece_lengths last ≡ 2 ∷ 2 ∷ []
+    → (get_or first 0 d).now ++ ((get_or first 1 d).now ++ ((get_or first 2 d).now ++ ((get_or last 0 d).now ++ ((get_or last 1 d).now ++ [])))) ≡ joined first ++ joined last
+five_of [] last d e f = cc
+five_of (x ∷ []) last d e f = cc
+five_of (x ∷ y ∷ []) last d e f = cc
+five_of (x ∷ y ∷ z ∷ []) last d e f = rw (two_of last d f, append-nil, append_assoc, append_assoc) refl
+five_of (x ∷ y ∷ z ∷ w ∷ more) last d e f = cc
+
+pub lengths_before : (front n : ℕ) (last : List (Bor (List ℕ))) (d : Bor (List ℕ)) → piece_lengths last ≡ 2 ∷ 2 ∷ [] → front ≡ length (decimal n) - 4
+    → front ∷ length (get_or last 0 d).now ∷ length (get_or last 1 d).now ∷ [] ≡ (length (decimal n) - 4) ∷ 2 ∷ 2 ∷ []
+lengths_before front n [] d e f = cc
+lengths_before front n (x ∷ []) d e f = cc
+lengths_before front n (x ∷ y ∷ []) d e f = cc
+lengths_before front n (x ∷ y ∷ z ∷ more) d e f = cc
+
+pub ruleset six_places = (two_of, five_of, lengths_before, four_last, zero_four, five_or_six, five_zero_padded, six_zero_padded, nine_fixed, length-before_four, length-before_none, length-fixed, length-digit, length-decimal_two, some_digit, length-padded)
