@@ -152,3 +152,19 @@ length-decimal_two n h = length-decimal_below 2 n (omega arith) h (omega arith)
 
 pub some_digit : (n : ℕ) → n < 2 ^ 64 → 1 ≤ length (decimal n)
 some_digit n h = omega (arith, decimal_nonempty n h)
+
+-- where 10 ^ k is the greatest power of ten within n
+pub length-decimal_at : (k n : ℕ) → 10 ^ k ≤ n → n < 10 * 10 ^ k → n < 2 ^ 64 → length (decimal n) ≡ k + 1
+length-decimal_at k n low high fits =
+    let p : 10 ^ suc k ≡ 10 ^ k * 10 = pow-suc 10 k in
+    omega (arith, length-decimal k n low (omega arith) fits)
+
+pub length-decimal_zero : (n : ℕ) → n ≡ 0 → length (decimal n) ≡ 1
+length-decimal_zero n e = length-digit n (omega arith)
+
+pub ruleset count_facts = (length-decimal_at, length-decimal_zero)
+
+-- a digit is its own text
+pub decimal_one : (n : ℕ) → n < 10 → decimal n ≡ fixed 1 n
+unfolding fixed
+decimal_one n h = let m : n % 10 ≡ n = omega arith in rw (decimal_digit n h, m) refl

@@ -1,7 +1,7 @@
 //! The texts of numbers, borrowed from constant tables or written into arrays.
 //!
 //! A text in several pieces is read by joining them, the first piece first.
-ghost use Rattle.std.specs.Prelude.{◌≡◌, ◌+◌, ◌-◌, ◌/◌, ◌%◌, ◌≤◌, [], ◌∷◌, length, min, decimal};
+ghost use Rattle.std.specs.Prelude.{◌≡◌, ◌+◌, ◌-◌, ◌/◌, ◌%◌, ◌≤◌, [], ◌∷◌, ◌++◌, length, take, drop, min, decimal};
 ghost use Rattle.time_digits.specs.Digits.{fixed, zero_padded, space_padded, joined, piece_lengths};
 
 use crate::ranged::{ru8, ru16, ru32};
@@ -210,4 +210,22 @@ fn last_four_digits(number: u32) -> [&'static str; 2]
     ensures pieces { piece_lengths result ≡ 2 ∷ 2 ∷ [] }
 {
     four_digits_zero_padded(ru16::new((number % 10_000) as u16).unwrap())
+}
+
+/// Writes `value` in two places, with a zero where it is below 10, from the byte `offset` on.
+#[tactic(auto, using(crate::proofs::WriteLemmas::written))]
+pub fn write_two_digits(buf: &mut [u8], offset: usize, value: ru8<0, 99>)
+    requires room { offset + 2 ≤ length buf.old }
+    ensures { buf.new ≡ take offset buf.old ++ fixed 2 value ++ drop (offset + 2) buf.old }
+{
+    buf[offset..offset + 2].copy_from_slice(two_digits_zero_padded(value).as_bytes());
+}
+
+/// Writes the digit `value` to the byte `offset`.
+#[tactic(auto, using(crate::proofs::WriteLemmas::written))]
+pub fn write_one_digit(buf: &mut [u8], offset: usize, value: ru8<0, 9>)
+    requires room { offset + 1 ≤ length buf.old }
+    ensures { buf.new ≡ take offset buf.old ++ fixed 1 value ++ drop (offset + 1) buf.old }
+{
+    buf[offset..offset + 1].copy_from_slice(single_digit(value).as_bytes());
 }
