@@ -1,0 +1,4 @@
+pub mod DigitLemmas
+pub mod PieceLemmas
+pub mod TableLemmas
+pub mod WriteLemmas
