@@ -1,7 +1,63 @@
--- Moments, counted from 1970-01-01T00:00:00 UTC.
-use Rattle.std.specs.Prelude.{ℕ, ℤ}
+-- Moments, counted from 1970-01-01T00:00:00 UTC, and dates with a time of day.
+use Rattle.std.specs.Prelude.{ℕ, ◌+◌, ◌*◌, ◌/◌, ◌%◌, ◌<◌, ℤ, pos, neg_ℤ, ◌+ℤ◌, ◌-ℤ◌, ◌*ℤ◌, ◌≤ℤ◌, unsigned_abs, int_lt, if◌then◌else◌}
+use Rattle.std.specs.Int.{int_div_euclid, int_rem_euclid}
+use Rattle.time_below.specs.Calendar.{OrdinalDate, day_number, date_at}
+use Rattle.time_below.specs.TimeOfDay.{TimeOfDay}
+use Rattle.time_below.specs.Offset.{Offset, offset_seconds}
 
 -- the seconds since then, and the nanosecond counted forward from there
 pub record Moment : Type 0 where
   pub seconds : ℤ
   pub nanosecond : ℕ
+
+-- a date and a time of that day
+pub record DateAndTime : Type 0 where
+  pub date : OrdinalDate
+  pub time : TimeOfDay
+
+-- a local date and time, and the offset of the place from UTC
+pub record OffsetDateAndTime : Type 0 where
+  pub date : OrdinalDate
+  pub time : TimeOfDay
+  pub offset : Offset
+
+-- from -999999-01-01T00:00:00 to 999999-12-31T23:59:59
+abbrev pub IsTimestampSecond : ℤ → Type 0
+IsTimestampSecond s = (neg_ℤ (pos 31_619_087_596_800) ≤ℤ s) × (s ≤ℤ pos 31_494_784_780_799)
+
+-- a moment that a timestamp may have
+abbrev pub IsMoment : Moment → Type 0
+IsMoment m = IsTimestampSecond m.seconds × (m.nanosecond < 1_000_000_000)
+
+-- the seconds from midnight to a time
+abbrev pub seconds_from_midnight : TimeOfDay → ℕ
+seconds_from_midnight t = 3600 * t.hour + 60 * t.minute + t.second
+
+-- the seconds from 1970-01-01, which is day 719,162, to a date and time, both in UTC
+abbrev pub unix_seconds : DateAndTime → ℤ
+unix_seconds t =
+    (day_number t.date -ℤ pos 719_162) *ℤ pos 86_400 +ℤ pos (seconds_from_midnight t.time)
+
+-- the same of a local date and time: a place with a positive offset is ahead of UTC
+abbrev pub local_unix_seconds : OffsetDateAndTime → ℤ
+local_unix_seconds t = unix_seconds (record { date = t.date; time = t.time }) -ℤ offset_seconds t.offset
+
+-- the UTC date of so many seconds since 1970-01-01
+abbrev pub utc_date : ℤ → OrdinalDate
+utc_date seconds = date_at (int_div_euclid seconds (pos 86_400) +ℤ pos 719_162)
+
+-- how far into the UTC day they end
+abbrev pub second_of_day : ℤ → ℕ
+second_of_day seconds = unsigned_abs (int_rem_euclid seconds (pos 86_400))
+
+-- the UTC time of a moment
+abbrev pub utc_time : Moment → TimeOfDay
+utc_time m =
+    let passed = second_of_day m.seconds in
+    record { hour = passed / 3600; minute = passed % 3600 / 60; second = passed % 60; nanosecond = m.nanosecond }
+
+-- the milliseconds since 1970-01-01, rounded toward zero
+abbrev pub milliseconds : Moment → ℤ
+milliseconds m =
+    pos 1000 *ℤ m.seconds
+    +ℤ pos ((if int_lt m.seconds (pos 0) then m.nanosecond + 999_999 else m.nanosecond) / 1_000_000)
