@@ -65,10 +65,10 @@ same_week_day d e h k year week day =
     let v = years_from_start (thursday_of e).year (IsDate-thursday_of e k).0 in
     let rests : a % 7 ≡ b % 7 = sym (weekday_from_start (day_number d) a (sym p)) ∙ day ∙ weekday_from_start (day_number e) b (sym q) in
     let same : a ≡ b =
-        same_week m n (thursday_of d).ordinal (thursday_of e).ordinal a b (ap (λ y. unsigned_abs (y +ℤ pos 999_999)) year) week
-        (IsDate-thursday_of d h).1.0
-        (IsDate-thursday_of e k).1.0
-        rests
-        (thursday_counted d a m h p u)
-        (thursday_counted e b n k q v) in
+    same_week m n (thursday_of d).ordinal (thursday_of e).ordinal a b (ap (λ y. unsigned_abs (y +ℤ pos 999_999)) year) week
+    (IsDate-thursday_of d h).1.0
+    (IsDate-thursday_of e k).1.0
+    rests
+    (thursday_counted d a m h p u)
+    (thursday_counted e b n k q v) in
     same_day_number d e h k (same_number (day_number d) (day_number e) a b p q same)

@@ -6,7 +6,7 @@ ghost use Rattle.time_fmt.specs.Outcome.{Appends};
 ghost use Rattle.time_fmt.specs.Room.{HasRoom};
 
 use crate::error::Format;
-use crate::writers::{fmt_hour_12, fmt_hour_24, fmt_minute, fmt_period, fmt_second};
+use crate::writers::{fmt_hour_12, fmt_hour_24, fmt_minute, fmt_period, fmt_second, fmt_subsecond};
 use time_below::format_description::Component;
 use time_provide::ComponentProvider;
 
@@ -69,7 +69,12 @@ pub fn component_write_into<V: ComponentProvider>(
                 fmt_second(output, value.second(state), *modifier)
             )
         }
+        Component::Subsecond(modifier) => {
+            of_group!(
+                V::SUPPLIES_TIME,
+                fmt_subsecond(output, value.nanosecond(state), *modifier)
+            )
+        }
         Component::Ignore(_) | Component::End(_) => Ok(0),
-        Component::Subsecond(_) => Ok(0),
     }
 }

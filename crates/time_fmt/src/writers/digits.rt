@@ -5,10 +5,10 @@ ghost use Rattle.time_fmt.specs.Text.{padded_text};
 
 use crate::writers::plain::write;
 use time_below::format_description::modifier::Padding;
-use time_digits::{
-    one_to_two_digits_no_padding, ru8, single_digit, two_digits_space_padded,
-    two_digits_zero_padded,
+use time_digits::num_fmt::{
+    one_to_two_digits_no_padding, single_digit, two_digits_space_padded, two_digits_zero_padded,
 };
+use time_digits::ru8;
 
 /// Appends one digit.
 #[inline]

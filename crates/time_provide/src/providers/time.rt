@@ -1,6 +1,6 @@
 //! A time of day supplies its group, and keeps nothing.
 ghost use Rattle.std.specs.Prelude.{◌≡◌, refl, true, false};
-ghost use Rattle.time_below.specs.Facts.{time_facts};
+ghost use Rattle.time_below.specs.Facts.{facts_of_time};
 
 use crate::component_provider::ComponentProvider;
 use crate::ranges::{Hours, Minutes, Nanoseconds, Seconds};
@@ -10,7 +10,7 @@ use time_digits::{ru8, ru32};
 impl ComponentProvider for Time {
     type State = ();
 
-    ghost facts = { time_facts };
+    ghost facts = { facts_of_time };
 
     ghost agrees = { λ _ _. Unit {0} };
 
