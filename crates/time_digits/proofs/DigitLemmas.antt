@@ -2,7 +2,7 @@
 use Rattle.std.proofs.Common.{◌≡◌, ℕ, zero, suc, ◌+◌, ◌-◌, ◌*◌, ◌/◌, ◌%◌, ◌^◌, ◌<◌, ◌≤◌, List, [], ◌∷◌, ◌++◌, length, replicate, refl, sym, ap, ap₂, ◌∙◌, arith, length-append, append_assoc, decimal, IsAscii, ⊎_elim}
 use Rattle.std.proofs.Math.Nat.{pow-suc, pow-succ', one-le-pow, div-le_self, div-div-eq-div-mul}
 use Rattle.std.proofs.Math.Arith.{mod-mul}
-use Rattle.std.proofs.lemmas.Fmt.{decimal_digit, decimal_step, decimal_nonempty, length-decimal-le, IsAscii-from_digits}
+use Rattle.std.proofs.lemmas.Fmt.{decimal_digit, decimal_step, decimal_step_wide, decimal_nonempty, length-decimal-le, IsAscii-from_digits}
 use Rattle.std.proofs.lemmas.Int.Digits.{digits_push}
 use Rattle.std.proofs.lemmas.Str.{digit_value_digit}
 use Rattle.std.proofs.lemmas.List.{append-nil, length-replicate, replicate-append-replicate}
@@ -168,3 +168,5 @@ pub ruleset count_facts = (length-decimal_at, length-decimal_zero)
 pub decimal_one : (n : ℕ) → n < 10 → decimal n ≡ fixed 1 n
 unfolding fixed
 decimal_one n h = let m : n % 10 ≡ n = omega arith in rw (decimal_digit n h, m) refl
+
+pub ruleset decimal_recursion = (decimal_digit, decimal_step_wide)

@@ -1,20 +1,25 @@
 -- The decimals of a second, without the zeros at their end.
-use Rattle.std.specs.Prelude.{◌≡◌, ℕ, ◌-◌, ◌≤◌, ◌==◌, List, [], ◌∷◌, ◌++◌, length, take, drop, replicate, if◌then◌else◌}
+use Rattle.std.specs.Prelude.{◌≡◌, ℕ, ◌-◌, ◌≤◌, ◌==◌, List, [], ◌∷◌, ◌++◌, length, replicate, Bool, if◌then◌else◌}
 use Rattle.std.specs.List.{list_all}
 use Rattle.std.specs.Str.Parse.{AllDigits}
 use Rattle.time_digits.specs.Digits.{fixed}
 
+-- whether each byte is the digit 0
+abbrev pub are_zeros : List ℕ → Bool
+are_zeros ds = list_all (λ d. d == 48) ds
+
 -- a text without the zeros at its end
 abbrev pub without_last_zeros : List ℕ → List ℕ
 without_last_zeros [] = []
-without_last_zeros (d ∷ ds) = if list_all (λ b. b == 48) (d ∷ ds) then [] else d ∷ without_last_zeros ds
+without_last_zeros (d ∷ ds) = if are_zeros (d ∷ ds) then [] else d ∷ without_last_zeros ds
 
--- a text without the zeros at its end, but for its first byte
+-- the same, but for the first byte, which stays
 abbrev pub trimmed : List ℕ → List ℕ
-trimmed text = take 1 text ++ without_last_zeros (drop 1 text)
+trimmed [] = []
+trimmed (d ∷ ds) = d ∷ without_last_zeros ds
 
 -- the nine digits of n without the zeros at their end, at least one digit
-abbrev pub trimmed_fraction : ℕ → List ℕ
+unfoldable pub trimmed_fraction : ℕ → List ℕ
 trimmed_fraction n = trimmed (fixed 9 n)
 
 -- one to nine digits that, filled with zeros to nine, are the nine digits of n

@@ -5,6 +5,7 @@
 #![tactic(auto)]
 
 pub mod digit_count;
+pub mod laws;
 pub mod num_fmt;
 pub mod ranged;
 pub mod stack_str;

@@ -3,8 +3,11 @@
 //! A text in several pieces is read by joining them, the first piece first.
 ghost use Rattle.std.specs.Prelude.{◌≡◌, ◌+◌, ◌-◌, ◌/◌, ◌%◌, ◌≤◌, [], ◌∷◌, ◌++◌, length, take, drop, min, decimal};
 ghost use Rattle.time_digits.specs.Digits.{fixed, zero_padded, space_padded, joined, piece_lengths};
+ghost use Rattle.time_digits.specs.Fraction.{trimmed_fraction};
+ghost use Rattle.time_digits.specs.Shown.{shown, shown_end};
 
 use crate::ranged::{ru8, ru16, ru32};
+use crate::stack_str::{StackStr, StackTrailingStr};
 use crate::tables::{SINGLE_DIGITS, SPACE_PADDED_PAIRS, ZERO_PADDED_PAIRS, piece_of};
 
 /// The quotient and the remainder of `n` by 100.
@@ -228,4 +231,50 @@ pub fn write_one_digit(buf: &mut [u8], offset: usize, value: ru8<0, 9>)
     ensures { buf.new ≡ take offset buf.old ++ fixed 1 value ++ drop (offset + 1) buf.old }
 {
     buf[offset..offset + 1].copy_from_slice(single_digit(value).as_bytes());
+}
+
+/// The nine digits of a number of nanoseconds without the zeros at their end, at least one digit.
+pub fn truncated_subsecond_from_nanos(n: ru32<0, 999_999_999>) -> StackStr<9>
+    ensures text { shown result ≡ trimmed_fraction n }
+    ensures some { 1 ≤ length (shown result) }
+    ensures len { length (shown result) ≤ 9 }
+{
+    let bytes = nine_digits(n);
+    let mut len = 9;
+    while len > 1 && bytes[len - 1] == b'0' {
+        len -= 1;
+    }
+    StackStr::new(bytes, len)
+}
+
+// The nine digits of a number of nanoseconds, the last one first.
+fn nine_digits(n: ru32<0, 999_999_999>) -> [u8; 9]
+    ensures { result ≡ fixed 9 n }
+{
+    let mut bytes = [b'0'; 9];
+    let mut rest = n.get();
+    for place in (0..9).rev() {
+        bytes[place] = b'0' + (rest % 10) as u8;
+        rest /= 10;
+    }
+    bytes
+}
+
+/// The digits of `value`.
+pub fn u64_pad_none(value: u64) -> StackTrailingStr<20>
+    ensures text { shown_end result ≡ decimal value }
+    ensures some { 1 ≤ length (shown_end result) }
+    ensures len { length (shown_end result) ≤ 20 }
+{
+    let mut bytes = [b'0'; 20];
+    let mut start = 20;
+    let mut rest = value;
+    while rest > 9 {
+        start -= 1;
+        bytes[start] = b'0' + (rest % 10) as u8;
+        rest /= 10;
+    }
+    start -= 1;
+    bytes[start] = b'0' + rest as u8;
+    StackTrailingStr::new(bytes, start)
 }
