@@ -1,3 +1,4 @@
+pub mod DateText
 pub mod Description
 pub mod Outcome
 pub mod Room
