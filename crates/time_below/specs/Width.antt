@@ -19,13 +19,41 @@ subsecond_width digits.Eight = 8
 subsecond_width digits.Nine = 9
 subsecond_width digits.OneOrMore = 9
 
+-- the longest text of a component, which some value reaches whatever its choices are
 abbrev pub component_width : Component → ℕ
+component_width (component.Day m) = 2
+component_width (component.MonthShort m) = 3
+component_width (component.MonthLong m) = 9
+component_width (component.MonthNumerical m) = 2
+component_width (component.Ordinal m) = 3
+component_width (component.WeekdayShort m) = 3
+component_width (component.WeekdayLong m) = 9
+component_width (component.WeekdaySunday m) = 1
+component_width (component.WeekdayMonday m) = 1
+component_width (component.WeekNumberIso m) = 2
+component_width (component.WeekNumberSunday m) = 2
+component_width (component.WeekNumberMonday m) = 2
+component_width (component.CalendarYearFullExtendedRange m) = 7
+component_width (component.CalendarYearFullStandardRange m) = 5
+component_width (component.CalendarYearCenturyExtendedRange m) = 5
+component_width (component.CalendarYearCenturyStandardRange m) = 3
+component_width (component.CalendarYearLastTwo m) = 2
+component_width (component.IsoYearFullExtendedRange m) = 7
+component_width (component.IsoYearFullStandardRange m) = 5
+component_width (component.IsoYearCenturyExtendedRange m) = 5
+component_width (component.IsoYearCenturyStandardRange m) = 3
+component_width (component.IsoYearLastTwo m) = 2
 component_width (component.Hour12 m) = 2
 component_width (component.Hour24 m) = 2
 component_width (component.Minute m) = 2
 component_width (component.Period m) = 2
 component_width (component.Second m) = 2
 component_width (component.Subsecond m) = subsecond_width m.digits
+component_width (component.OffsetHour m) = 3
+component_width (component.OffsetMinute m) = 2
+component_width (component.OffsetSecond m) = 2
+component_width (component.UnixTimestampSecond m) = 15
+component_width (component.UnixTimestampMillisecond m) = 18
 component_width (component.Ignore m) = 0
 component_width (component.End m) = 0
 

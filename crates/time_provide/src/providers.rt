@@ -1,0 +1,2 @@
+//! The values that supply components, a file for each type.
+mod time;
