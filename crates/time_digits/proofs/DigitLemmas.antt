@@ -170,3 +170,7 @@ unfolding fixed
 decimal_one n h = let m : n % 10 ≡ n = omega arith in rw (decimal_digit n h, m) refl
 
 pub ruleset decimal_recursion = (decimal_digit, decimal_step_wide)
+
+-- a number of 64 bits has at most twenty digits
+pub length-decimal_word : (n : ℕ) → n < 2 ^ 64 → length (decimal n) ≤ 20
+length-decimal_word n h = length-decimal-le 20 n (omega arith) (omega arith) h
