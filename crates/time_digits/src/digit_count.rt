@@ -14,6 +14,7 @@ pub trait DigitCount {
 impl DigitCount for u8 {
     ghost number = { λ n. n };
 
+    #[inline]
     #[tactic(auto, using(crate::proofs::DigitLemmas::count_facts))]
     fn num_digits(self) -> u8 {
         match self.checked_ilog10() {
@@ -26,6 +27,7 @@ impl DigitCount for u8 {
 impl DigitCount for u16 {
     ghost number = { λ n. n };
 
+    #[inline]
     #[tactic(auto, using(crate::proofs::DigitLemmas::count_facts))]
     fn num_digits(self) -> u8 {
         match self.checked_ilog10() {
@@ -38,6 +40,7 @@ impl DigitCount for u16 {
 impl DigitCount for u32 {
     ghost number = { λ n. n };
 
+    #[inline]
     #[tactic(auto, using(crate::proofs::DigitLemmas::count_facts))]
     fn num_digits(self) -> u8 {
         match self.checked_ilog10() {
