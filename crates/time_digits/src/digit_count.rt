@@ -49,3 +49,39 @@ impl DigitCount for u32 {
         }
     }
 }
+
+#[cfg(test)]
+mod tests {
+    use super::*;
+
+    // Through the trait's bound, as generic callers count.
+    fn count<N: DigitCount>(n: N) -> u8 {
+        n.num_digits()
+    }
+
+    #[test]
+    fn digits(rt: HostRuntime) {
+        for (n, want) in [(0, 1), (1, 1), (9, 1), (10, 2), (99, 2), (100, 3), (255, 3)] {
+            assert_eq!(rt; count::<u8>(n), want);
+        }
+        for (n, want) in [
+            (0, 1),
+            (9, 1),
+            (999, 3),
+            (1_000, 4),
+            (9_999, 4),
+            (65_535, 5),
+        ] {
+            assert_eq!(rt; count::<u16>(n), want);
+        }
+        for (n, want) in [
+            (0, 1),
+            (99_999, 5),
+            (100_000, 6),
+            (999_999_999, 9),
+            (u32::MAX, 10),
+        ] {
+            assert_eq!(rt; count::<u32>(n), want);
+        }
+    }
+}

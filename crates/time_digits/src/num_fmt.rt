@@ -299,3 +299,6 @@ pub fn u64_pad_none(value: u64) -> StackTrailingStr<20>
     bytes[start] = b'0' + rest as u8;
     StackTrailingStr::new(bytes, start)
 }
+
+#[cfg(test)]
+mod tests;
