@@ -72,7 +72,7 @@ thursday_from_start d n e =
 
 pub ruleset thursday_facts = (thursday_from_start, to_z-of_z)
 
-utc_day : (s : ℤ) (n : ℕ) → s +ℤ pos 31_619_087_596_800 ≡ pos n → pos (n / 86_400) -ℤ pos 365_242_500 ≡ int_div_euclid s (pos 86_400) +ℤ pos 719_162
+pub utc_day : (s : ℤ) (n : ℕ) → s +ℤ pos 31_619_087_596_800 ≡ pos n → pos (n / 86_400) -ℤ pos 365_242_500 ≡ int_div_euclid s (pos 86_400) +ℤ pos 719_162
 utc_day (pos a) n e = let h : n ≡ a + 31_619_087_596_800 = omega (arith, ints) in omega (arith, ints)
 utc_day (negsuc a) n e = let h : n + suc a ≡ 31_619_087_596_800 = omega (arith, ints) in omega (arith, ints)
 

@@ -1,8 +1,8 @@
 -- The Thursday of each week, and the one date of a day of the week calendar.
-use Rattle.std.proofs.Common.{◌≡◌, ℕ, ◌+◌, ◌-◌, ◌*◌, ◌/◌, ◌%◌, ◌<◌, ◌≤◌, refl, sym, ap, ◌∙◌, arith, ℤ, pos, ◌+ℤ◌, ◌-ℤ◌, unsigned_abs}
+use Rattle.std.proofs.Common.{◌≡◌, ℕ, ◌+◌, ◌-◌, ◌/◌, ◌%◌, ◌≤◌, sym, ap, ◌∙◌, arith, ℤ, pos, ◌+ℤ◌, ◌-ℤ◌, unsigned_abs}
 use Rattle.std.proofs.lemmas.Int.{ints}
 use Rattle.std.specs.Int.{IsInRange, int_rem_euclid}
-use Rattle.time_below.specs.Calendar.{OrdinalDate, IsDate, IsYear, IsDayNumber, day_number, date_at, weekday_of, thursday_of, iso_year_of, iso_week_of}
+use Rattle.time_below.specs.Calendar.{OrdinalDate, IsDate, IsYear, IsDayNumber, day_number, weekday_of, thursday_of, iso_year_of, iso_week_of}
 use Rattle.time_below.proofs.CalendarLemmas.{days_of_years, day_number_from_start, weekday_from_start}
 use Rattle.time_below.proofs.YearLemmas.{years_from_start, days_from_start, days_before_end, is_day_number, IsDayNumber-day_number, IsDate-date_at, day_number_back, same_day_number}
 

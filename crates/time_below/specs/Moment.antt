@@ -1,8 +1,8 @@
 -- Moments, counted from 1970-01-01T00:00:00 UTC, and dates with a time of day.
-use Rattle.std.specs.Prelude.{ℕ, ◌+◌, ◌*◌, ◌/◌, ◌%◌, ◌<◌, ℤ, pos, neg_ℤ, ◌+ℤ◌, ◌-ℤ◌, ◌*ℤ◌, ◌≤ℤ◌, unsigned_abs, int_lt, if◌then◌else◌}
+use Rattle.std.specs.Prelude.{ℕ, ◌+◌, ◌/◌, ◌<◌, ℤ, pos, neg_ℤ, ◌+ℤ◌, ◌-ℤ◌, ◌*ℤ◌, ◌≤ℤ◌, ◌<ℤ◌, unsigned_abs, int_div}
 use Rattle.std.specs.Int.{int_div_euclid, int_rem_euclid}
 use Rattle.time_below.specs.Calendar.{OrdinalDate, day_number, date_at}
-use Rattle.time_below.specs.TimeOfDay.{TimeOfDay}
+use Rattle.time_below.specs.TimeOfDay.{TimeOfDay, seconds_from_midnight, time_at}
 use Rattle.time_below.specs.Offset.{Offset, offset_seconds}
 
 -- the seconds since then, and the nanosecond counted forward from there
@@ -25,13 +25,13 @@ pub record OffsetDateAndTime : Type 0 where
 abbrev pub IsTimestampSecond : ℤ → Type 0
 IsTimestampSecond s = (neg_ℤ (pos 31_619_087_596_800) ≤ℤ s) × (s ≤ℤ pos 31_494_784_780_799)
 
+-- less than 26 hours outside that range, as a local date and time may be
+abbrev pub IsNearTimestampSecond : ℤ → Type 0
+IsNearTimestampSecond s = (neg_ℤ (pos 31_619_087_690_400) <ℤ s) × (s <ℤ pos 31_494_784_874_399)
+
 -- a moment that a timestamp may have
 abbrev pub IsMoment : Moment → Type 0
 IsMoment m = IsTimestampSecond m.seconds × (m.nanosecond < 1_000_000_000)
-
--- the seconds from midnight to a time
-abbrev pub seconds_from_midnight : TimeOfDay → ℕ
-seconds_from_midnight t = 3600 * t.hour + 60 * t.minute + t.second
 
 -- the seconds from 1970-01-01, which is day 719,162, to a date and time, both in UTC
 abbrev pub unix_seconds : DateAndTime → ℤ
@@ -52,12 +52,16 @@ second_of_day seconds = unsigned_abs (int_rem_euclid seconds (pos 86_400))
 
 -- the UTC time of a moment
 abbrev pub utc_time : Moment → TimeOfDay
-utc_time m =
-    let passed = second_of_day m.seconds in
-    record { hour = passed / 3600; minute = passed % 3600 / 60; second = passed % 60; nanosecond = m.nanosecond }
+utc_time m = time_at (second_of_day m.seconds) m.nanosecond
 
--- the milliseconds since 1970-01-01, rounded toward zero
+-- the UTC date and time of a moment
+abbrev pub utc_date_and_time : Moment → DateAndTime
+utc_date_and_time m = record { date = utc_date m.seconds; time = utc_time m }
+
+-- the nanoseconds since 1970-01-01
+abbrev pub nanoseconds : Moment → ℤ
+nanoseconds m = pos 1_000_000_000 *ℤ m.seconds +ℤ pos m.nanosecond
+
+-- the milliseconds since 1970-01-01: `int_div` rounds toward zero
 abbrev pub milliseconds : Moment → ℤ
-milliseconds m =
-    pos 1000 *ℤ m.seconds
-    +ℤ pos ((if int_lt m.seconds (pos 0) then m.nanosecond + 999_999 else m.nanosecond) / 1_000_000)
+milliseconds m = int_div (nanoseconds m) (pos 1_000_000)

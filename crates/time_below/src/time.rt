@@ -1,6 +1,6 @@
 //! The time of day.
 ghost use Rattle.std.specs.Prelude.{◌≡◌, ◌↔◌, ◌<◌, nat_lt, IsOk, IfOk, IfErr, codes, if◌then◌else◌};
-ghost use Rattle.time_below.specs.TimeOfDay.{TimeOfDay, IsTimeOfDay};
+ghost use Rattle.time_below.specs.TimeOfDay.{TimeOfDay, IsTimeOfDay, time_at, seconds_from_midnight};
 ghost use Rattle.time_below.specs.ComponentRange.{range_refusal, unconditional_range};
 
 use crate::component_range::ComponentRange;
@@ -83,5 +83,27 @@ impl Time {
         ensures range { IsTimeOfDay self }
     {
         (self.hour, self.minute, self.second, self.nanosecond)
+    }
+
+    // The time so many seconds after midnight.
+    pub(crate) fn from_seconds(passed: u32, nanosecond: u32) -> Time
+        requires day { passed < 86_400 }
+        requires second { nanosecond < 1_000_000_000 }
+        ensures { result ≡ time_at passed nanosecond }
+    {
+        Time {
+            hour: (passed / 3600) as u8,
+            minute: (passed % 3600 / 60) as u8,
+            second: (passed % 60) as u8,
+            nanosecond,
+        }
+    }
+
+    // The whole seconds from midnight to the time.
+    pub(crate) fn seconds_from_midnight(self) -> u32
+        ensures value { result ≡ seconds_from_midnight self }
+        ensures range { result < 86_400 }
+    {
+        self.hour as u32 * 3600 + self.minute as u32 * 60 + self.second as u32
     }
 }
