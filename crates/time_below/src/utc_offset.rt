@@ -1,6 +1,6 @@
 //! Offsets from UTC.
 ghost use Rattle.std.specs.Prelude.{◌≡◌, ◌↔◌, ◌+◌, ◌*◌, ◌<◌, ◌≤◌, pos, ◌+ℤ◌, ◌*ℤ◌, unsigned_abs, nat_le, IsTrue, IsOk, IfOk, IfErr, codes, if◌then◌else◌};
-ghost use Rattle.time_below.specs.Offset.{AreOffsetParts, IsOffset, IsNegative, settled, signed_like, offset_seconds, utc};
+ghost use Rattle.time_below.specs.Offset.{AreOffsetParts, IsOffset, is_negative, is_utc, settled, signed_like, offset_seconds, utc};
 ghost use Rattle.time_below.specs.ComponentRange.{range_refusal, unconditional_range};
 
 use crate::component_range::ComponentRange;
@@ -94,14 +94,14 @@ impl UtcOffset {
 
     /// Whether every part is zero.
     pub fn is_utc(self) -> bool
-        ensures { IsTrue result ↔ (self ≡ utc) }
+        ensures { result ≡ is_utc self }
     {
         self.hours == 0 && self.minutes == 0 && self.seconds == 0
     }
 
     /// Whether some part is below zero.
     pub fn is_negative(self) -> bool
-        ensures { IsTrue result ↔ IsNegative self }
+        ensures { result ≡ is_negative self }
     {
         self.hours < 0 || self.minutes < 0 || self.seconds < 0
     }
