@@ -2,6 +2,9 @@
 ghost use Rattle.std.specs.Prelude.{◌≡◌, ◌+◌, ◌%◌, ℕ, ℤ, pos, ◌+ℤ◌};
 ghost use Rattle.std.specs.Int.{IsInRange};
 ghost use Rattle.time_below.specs.Calendar.{OrdinalDate, IsDate, IsYear, IsDayNumber, IsDayOfMonth, day_number, date_at, next_day, month_of, day_of, date_of, weekday_of, iso_year_of, iso_week_of};
+ghost use Rattle.time_below.specs.TimeOfDay.{IsTimeOfDay};
+ghost use Rattle.time_below.specs.Offset.{IsOffset};
+ghost use Rattle.time_below.specs.Moment.{Moment, DateAndTime, OffsetDateAndTime, IsMoment, IsTimestampSecond, IsNearTimestampSecond, utc_date, utc_time, utc_date_and_time, unix_seconds, local_unix_seconds};
 
 /// Each date has one day number, and each day number from -999999-01-01 to 999999-12-31 one date.
 pub fn one_date_for_each_day()
@@ -38,4 +41,22 @@ pub fn one_date_for_each_day_of_week()
     ensures week { (d : OrdinalDate) → IsDate d → IsInRange 1 53 (iso_week_of d) }
     ensures date { (d e : OrdinalDate) → IsDate d → IsDate e → iso_year_of d ≡ iso_year_of e
         → iso_week_of d ≡ iso_week_of e → weekday_of d ≡ weekday_of e → d ≡ e }
+{}
+
+/// The UTC date and time of a moment have its Unix seconds, and no others do. Those of a date and
+/// time in UTC are a moment.
+pub fn one_date_and_time_for_each_moment()
+    ensures date { (m : Moment) → IsMoment m → IsDate (utc_date m.seconds) }
+    ensures time { (m : Moment) → IsMoment m → IsTimeOfDay (utc_time m) }
+    ensures seconds { (m : Moment) → IsMoment m → unix_seconds (utc_date_and_time m) ≡ m.seconds }
+    ensures only { (m : Moment) (t : DateAndTime) → IsDate t.date → IsTimeOfDay t.time
+        → unix_seconds t ≡ m.seconds → t.time.nanosecond ≡ m.nanosecond → t ≡ utc_date_and_time m }
+    ensures moment { (t : DateAndTime) → IsDate t.date → IsTimeOfDay t.time
+        → IsTimestampSecond (unix_seconds t) }
+{}
+
+/// The Unix seconds of a local date and time are less than 26 hours outside the range of a moment.
+pub fn local_seconds_near_the_range()
+    ensures { (t : OffsetDateAndTime) → IsDate t.date → IsTimeOfDay t.time → IsOffset t.offset
+        → IsNearTimestampSecond (local_unix_seconds t) }
 {}
