@@ -1,3 +1,4 @@
 pub mod BorrowedTrees
 pub mod Engine
 pub mod TextLemmas
+pub mod DecimalLemmas
