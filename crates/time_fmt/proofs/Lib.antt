@@ -1,3 +1,4 @@
 pub mod BorrowedTrees
+pub mod DateTextLemmas
 pub mod Engine
 pub mod TextLemmas
