@@ -1,8 +1,10 @@
 -- How long the texts of components are.
-use Rattle.std.proofs.Common.{◌≡◌, ℕ, ◌+◌, ◌-◌, ◌%◌, ◌^◌, ◌<◌, ◌≤◌, Bool, true, false, length, decimal, arith, length-append, append_assoc}
+use Rattle.std.proofs.Common.{◌≡◌, ℕ, ◌+◌, ◌-◌, ◌%◌, ◌^◌, ◌<◌, ◌≤◌, Bool, true, false, ◌++◌, length, replicate, refl, decimal, arith, length-append, append_assoc}
 use Rattle.std.proofs.lemmas.Fmt.{length-decimal-le}
+use Rattle.std.proofs.lemmas.List.{length-replicate}
 use Rattle.time_below.specs.declared.format_description.modifier.Padding.{Padding}
 use Rattle.time_below.specs.declared.format_description.modifier.Padding.TheVariants as padding
+use Rattle.time_digits.specs.Digits.{padded, zero_padded}
 use Rattle.time_digits.proofs.DigitLemmas.{length-padded}
 use Rattle.time_fmt.specs.Text.{padded_text, sign_text}
 
@@ -19,6 +21,19 @@ pub length-sign_text : (is_negative is_wanted : Bool) → length (sign_text is_n
 length-sign_text true is_wanted = omega arith
 length-sign_text false true = omega arith
 length-sign_text false false = omega arith
+
+-- zeros and then the digits, in so many places
+pub places_of : (places n : ℕ) → length (decimal n) ≤ places → length (zero_padded places n) ≡ places
+places_of places n h = length-padded 48 places n h
+
+pub zero_padded_is_zeros : (places n : ℕ) → zero_padded places n ≡ replicate (places - length (decimal n)) 48 ++ decimal n
+unfolding padded
+zero_padded_is_zeros places n = refl
+
+pub length-zeros : (n : ℕ) → length (replicate {A = ℕ} n 48) ≡ n
+length-zeros n = length-replicate {A = ℕ} n 48
+
+pub ruleset zeros_before = (places_of, zero_padded_is_zeros, length-zeros, append_assoc)
 
 -- one text after another
 pub ruleset signed_parts = (length-append, append_assoc)
