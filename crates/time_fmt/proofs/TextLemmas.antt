@@ -1,4 +1,5 @@
 -- How long the texts of components are.
+<<<<<<< HEAD
 use Rattle.std.proofs.Common.{◌≡◌, ℕ, ◌+◌, ◌-◌, ◌%◌, ◌^◌, ◌<◌, ◌≤◌, Bool, true, false, List, ◌++◌, length, replicate, take, decimal, arith, ℤ, pos, unsigned_abs, length-append, append_assoc}
 use Rattle.std.proofs.lemmas.Fmt.{length-decimal-le}
 use Rattle.std.proofs.Math.ListN.{length-replicate, length-take}
@@ -13,10 +14,49 @@ length-padded_text padding.Space places n h =
     omega (arith, length-append (replicate (places - length (decimal n)) 32) (decimal n), length-replicate {A = ℕ} (places - length (decimal n)) 32)
 length-padded_text padding.Zero places n h =
     omega (arith, length-append (replicate (places - length (decimal n)) 48) (decimal n), length-replicate {A = ℕ} (places - length (decimal n)) 48)
+=======
+use Rattle.std.proofs.Common.{◌≡◌, ℕ, ◌+◌, ◌-◌, ◌%◌, ◌^◌, ◌<◌, ◌≤◌, Bool, true, false, ◌++◌, length, replicate, refl, decimal, arith, length-append, append_assoc}
+use Rattle.std.proofs.lemmas.Fmt.{length-decimal-le}
+use Rattle.std.proofs.lemmas.List.{length-replicate}
+use Rattle.time_below.specs.declared.format_description.modifier.Padding.{Padding}
+use Rattle.time_below.specs.declared.format_description.modifier.Padding.TheVariants as padding
+use Rattle.time_digits.specs.Digits.{padded, zero_padded}
+use Rattle.time_digits.proofs.DigitLemmas.{length-padded}
+use Rattle.time_fmt.specs.Text.{padded_text, sign_text}
+
+-- a text in so many places has no more bytes, where the number has no more digits
+pub length-padded_text : (p : Padding) (places n : ℕ) → length (decimal n) ≤ places → length (padded_text p places n) ≤ places
+length-padded_text padding.Space places n h = omega (arith, length-padded 32 places n h)
+length-padded_text padding.Zero places n h = omega (arith, length-padded 48 places n h)
+>>>>>>> dates
 length-padded_text padding.None places n h = h
 
 pub two_places : (p : Padding) (n : ℕ) → n < 100 → length (padded_text p 2 n) ≤ 2
 two_places p n h = length-padded_text p 2 n (length-decimal-le 2 n (omega arith) (omega arith) (omega arith))
+<<<<<<< HEAD
+=======
+
+pub length-sign_text : (is_negative is_wanted : Bool) → length (sign_text is_negative is_wanted) ≤ 1
+length-sign_text true is_wanted = omega arith
+length-sign_text false true = omega arith
+length-sign_text false false = omega arith
+
+-- zeros and then the digits, in so many places
+pub places_of : (places n : ℕ) → length (decimal n) ≤ places → length (zero_padded places n) ≡ places
+places_of places n h = length-padded 48 places n h
+
+pub zero_padded_is_zeros : (places n : ℕ) → zero_padded places n ≡ replicate (places - length (decimal n)) 48 ++ decimal n
+unfolding padded
+zero_padded_is_zeros places n = refl
+
+pub length-zeros : (n : ℕ) → length (replicate {A = ℕ} n 48) ≡ n
+length-zeros n = length-replicate {A = ℕ} n 48
+
+pub ruleset zeros_before = (places_of, zero_padded_is_zeros, length-zeros, append_assoc)
+
+-- one text after another
+pub ruleset signed_parts = (length-append, append_assoc)
+>>>>>>> dates
 
 pub length-sign_text : (is_negative is_wanted : Bool) → length (sign_text is_negative is_wanted) ≤ 1
 length-sign_text true is_wanted = omega arith

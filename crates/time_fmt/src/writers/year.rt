@@ -2,7 +2,8 @@
 //!
 //! The calendar year and the year of the week calendar have the same texts.
 ghost use Rattle.std.specs.Prelude.{Bool, ◌||◌, nat_lt, length, unsigned_abs};
-ghost use Rattle.time_fmt.specs.DateText.{extended_year_text, standard_year_text, extended_century_text, standard_century_text};
+ghost use Rattle.time_fmt.specs.DateText.{extended_year_text, standard_year_text};
+ghost use Rattle.time_fmt.specs.DateText.{extended_century_text, standard_century_text};
 ghost use Rattle.time_fmt.specs.Room.{HasRoom, Writes};
 ghost use Rattle.time_fmt.specs.Text.{padded_text};
 
@@ -44,8 +45,8 @@ pub fn fmt_calendar_year_full_standard_range(
     write_standard_year(output, year, modifier.padding, modifier.sign_is_mandatory)
 }
 
-/// Appends the sign and four places of the week calendar's year (ISO 8601-1:2019), or all its digits
-/// and a sign from 10,000 on.
+/// Appends the sign and four places of the week calendar's year (ISO 8601-1:2019), or all its
+/// digits and a sign from 10,000 on.
 #[inline]
 pub fn fmt_iso_year_full_extended_range(
     output: &mut Vec<u8>,
@@ -125,8 +126,8 @@ pub fn fmt_calendar_year_century_standard_range(
     )
 }
 
-/// Appends the sign and two places of the century of the week calendar's year, or all its digits and
-/// a sign from 100 on. The sign is that of the year.
+/// Appends the sign and two places of the century of the week calendar's year, or all its digits
+/// and a sign from 100 on. The sign is that of the year.
 #[inline]
 pub fn fmt_iso_year_century_extended_range(
     output: &mut Vec<u8>,
@@ -209,8 +210,10 @@ fn write_extended_year(
     padding: Padding,
     sign_is_mandatory: bool,
 ) -> usize
-    requires room { HasRoom output.old (length (extended_year_text padding sign_is_mandatory year)) }
-    ensures writes { Writes output.old output.new result (extended_year_text padding sign_is_mandatory year) }
+    requires room { HasRoom output.old
+        (length (extended_year_text padding sign_is_mandatory year)) }
+    ensures writes { Writes output.old output.new result
+        (extended_year_text padding sign_is_mandatory year) }
 {
     let number = year.get();
     let sign = fmt_sign(output, number < 0, sign_is_mandatory || number > 9_999);
@@ -223,8 +226,10 @@ fn write_standard_year(
     padding: Padding,
     sign_is_mandatory: bool,
 ) -> usize
-    requires room { HasRoom output.old (length (standard_year_text padding sign_is_mandatory year)) }
-    ensures writes { Writes output.old output.new result (standard_year_text padding sign_is_mandatory year) }
+    requires room { HasRoom output.old
+        (length (standard_year_text padding sign_is_mandatory year)) }
+    ensures writes { Writes output.old output.new result
+        (standard_year_text padding sign_is_mandatory year) }
 {
     let sign = fmt_sign(output, year.get() < 0, sign_is_mandatory);
     sign + format_four_digits(output, year.abs(), padding)
@@ -263,6 +268,7 @@ fn write_standard_century(
 }
 
 // Appends a year in four places, or all its digits.
+#[tactic(auto, using(crate::proofs::DateTextLemmas::whole_year))]
 fn write_year_digits(output: &mut Vec<u8>, year: ru32<0, 999_999>, padding: Padding) -> usize
     requires room { HasRoom output.old (length (padded_text padding 4 year)) }
     ensures writes { Writes output.old output.new result (padded_text padding 4 year) }
@@ -276,6 +282,7 @@ fn write_year_digits(output: &mut Vec<u8>, year: ru32<0, 999_999>, padding: Padd
 }
 
 // Appends a century in two places, or all its digits.
+#[tactic(auto, using(crate::proofs::DateTextLemmas::whole_century))]
 fn write_century_digits(output: &mut Vec<u8>, century: ru16<0, 9_999>, padding: Padding) -> usize
     requires room { HasRoom output.old (length (padded_text padding 2 century)) }
     ensures writes { Writes output.old output.new result (padded_text padding 2 century) }
