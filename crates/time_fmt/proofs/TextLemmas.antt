@@ -1,40 +1,25 @@
 -- How long the texts of components are.
-<<<<<<< HEAD
-use Rattle.std.proofs.Common.{◌≡◌, ℕ, ◌+◌, ◌-◌, ◌%◌, ◌^◌, ◌<◌, ◌≤◌, Bool, true, false, List, ◌++◌, length, replicate, take, decimal, arith, ℤ, pos, unsigned_abs, length-append, append_assoc}
-use Rattle.std.proofs.lemmas.Fmt.{length-decimal-le}
-use Rattle.std.proofs.Math.ListN.{length-replicate, length-take}
+use Rattle.std.proofs.Common.{◌≡◌, ℕ, ◌+◌, ◌-◌, ◌%◌, ◌^◌, ◌<◌, ◌≤◌, Bool, true, false, List, ◌++◌, length, replicate, take, refl, decimal, arith, ℤ, pos, unsigned_abs, length-append, append_assoc}
 use Rattle.std.specs.Prelude.{int_lt}
-use Rattle.time_below.specs.declared.format_description.modifier.Padding.{Padding}
-use Rattle.time_below.specs.declared.format_description.modifier.Padding.TheVariants as padding
-use Rattle.time_fmt.specs.Text.{padded_text, sign_text, hour_12, offset_hour_text, timestamp_text}
-
--- a text in so many places has no more bytes, where the number has no more digits
-pub length-padded_text : (p : Padding) (places n : ℕ) → length (decimal n) ≤ places → length (padded_text p places n) ≤ places
-length-padded_text padding.Space places n h =
-    omega (arith, length-append (replicate (places - length (decimal n)) 32) (decimal n), length-replicate {A = ℕ} (places - length (decimal n)) 32)
-length-padded_text padding.Zero places n h =
-    omega (arith, length-append (replicate (places - length (decimal n)) 48) (decimal n), length-replicate {A = ℕ} (places - length (decimal n)) 48)
-=======
-use Rattle.std.proofs.Common.{◌≡◌, ℕ, ◌+◌, ◌-◌, ◌%◌, ◌^◌, ◌<◌, ◌≤◌, Bool, true, false, ◌++◌, length, replicate, refl, decimal, arith, length-append, append_assoc}
 use Rattle.std.proofs.lemmas.Fmt.{length-decimal-le}
 use Rattle.std.proofs.lemmas.List.{length-replicate}
 use Rattle.time_below.specs.declared.format_description.modifier.Padding.{Padding}
 use Rattle.time_below.specs.declared.format_description.modifier.Padding.TheVariants as padding
-use Rattle.time_digits.specs.Digits.{padded, zero_padded}
-use Rattle.time_digits.proofs.DigitLemmas.{length-padded}
-use Rattle.time_fmt.specs.Text.{padded_text, sign_text}
+use Rattle.time_below.specs.declared.format_description.modifier.SubsecondDigits.{SubsecondDigits}
+use Rattle.time_below.specs.declared.format_description.modifier.SubsecondDigits.TheVariants as digits
+use Rattle.time_below.specs.Width.{subsecond_width}
+use Rattle.time_digits.specs.Digits.{fixed, padded, zero_padded}
+use Rattle.time_digits.proofs.DigitLemmas.{length-padded, length-fixed}
+use Rattle.time_fmt.specs.Text.{padded_text, sign_text, offset_hour_text, timestamp_text, subsecond_text}
 
 -- a text in so many places has no more bytes, where the number has no more digits
 pub length-padded_text : (p : Padding) (places n : ℕ) → length (decimal n) ≤ places → length (padded_text p places n) ≤ places
 length-padded_text padding.Space places n h = omega (arith, length-padded 32 places n h)
 length-padded_text padding.Zero places n h = omega (arith, length-padded 48 places n h)
->>>>>>> dates
 length-padded_text padding.None places n h = h
 
 pub two_places : (p : Padding) (n : ℕ) → n < 100 → length (padded_text p 2 n) ≤ 2
 two_places p n h = length-padded_text p 2 n (length-decimal-le 2 n (omega arith) (omega arith) (omega arith))
-<<<<<<< HEAD
-=======
 
 pub length-sign_text : (is_negative is_wanted : Bool) → length (sign_text is_negative is_wanted) ≤ 1
 length-sign_text true is_wanted = omega arith
@@ -56,12 +41,6 @@ pub ruleset zeros_before = (places_of, zero_padded_is_zeros, length-zeros, appen
 
 -- one text after another
 pub ruleset signed_parts = (length-append, append_assoc)
->>>>>>> dates
-
-pub length-sign_text : (is_negative is_wanted : Bool) → length (sign_text is_negative is_wanted) ≤ 1
-length-sign_text true is_wanted = omega arith
-length-sign_text false true = omega arith
-length-sign_text false false = omega arith
 
 pub length-offset_hour_text : (p : Padding) (s n : Bool) (hour : ℤ) → unsigned_abs hour ≤ 25 → length (offset_hour_text p s n hour) ≤ 3
 length-offset_hour_text p s n hour h =
@@ -70,13 +49,12 @@ length-offset_hour_text p s n hour h =
 -- the text of a number of seconds, and of milliseconds
 pub length-seconds_text : (s : Bool) (n : ℤ) → unsigned_abs n < 100_000_000_000_000 → length (timestamp_text s n) ≤ 15
 length-seconds_text s n h =
-    omega (arith, length-append (sign_text (int_lt n (pos 0)) s) (decimal (unsigned_abs n)), length-sign_text (int_lt n (pos 0)) s, length-decimal-le 14 (unsigned_abs n) (omega arith) (omega arith) (omega arith))
+    let sign = sign_text (int_lt n (pos 0)) s in
+    omega (arith, length-append sign (decimal (unsigned_abs n)), length-sign_text (int_lt n (pos 0)) s, length-decimal-le 14 (unsigned_abs n) (omega arith) (omega arith) (omega arith))
 
 pub length-milliseconds_text : (s : Bool) (n : ℤ) → unsigned_abs n < 100_000_000_000_000_000 → length (timestamp_text s n) ≤ 18
 length-milliseconds_text s n h =
-    omega (arith, length-append (sign_text (int_lt n (pos 0)) s) (decimal (unsigned_abs n)), length-sign_text (int_lt n (pos 0)) s, length-decimal-le 17 (unsigned_abs n) (omega arith) (omega arith) (omega arith))
-
--- one text after another
-pub ruleset signed_parts = (length-append, append_assoc)
+    let sign = sign_text (int_lt n (pos 0)) s in
+    omega (arith, length-append sign (decimal (unsigned_abs n)), length-sign_text (int_lt n (pos 0)) s, length-decimal-le 17 (unsigned_abs n) (omega arith) (omega arith) (omega arith))
 
 pub ruleset text_lengths = (two_places, length-offset_hour_text, length-seconds_text, length-milliseconds_text)

@@ -2,12 +2,8 @@
 ghost use Rattle.std.specs.Prelude.{◌≡◌, ◌≤◌, length, decimal};
 ghost use Rattle.time_below.specs.Month.{month_number};
 ghost use Rattle.time_below.specs.Weekday.{days_from_monday};
-<<<<<<< HEAD
-ghost use Rattle.time_fmt.specs.DateText.{month_name, weekday_name, short_name, indexed, from_sunday};
-=======
 ghost use Rattle.time_fmt.specs.DateText.{month_name, weekday_name, short_name};
 ghost use Rattle.time_fmt.specs.DateText.{indexed, from_sunday};
->>>>>>> dates
 ghost use Rattle.time_fmt.specs.Room.{HasRoom, Writes};
 ghost use Rattle.time_fmt.specs.Text.{padded_text};
 
@@ -31,12 +27,8 @@ pub fn fmt_day(output: &mut Vec<u8>, day: Day, modifier: modifier::Day) -> usize
 #[inline]
 pub fn fmt_month_short(output: &mut Vec<u8>, month: Month, modifier: modifier::MonthShort) -> usize
     requires room { HasRoom output.old (length (short_name (month_name (month_number month)))) }
-<<<<<<< HEAD
-    ensures writes { Writes output.old output.new result (short_name (month_name (month_number month))) }
-=======
     ensures writes { Writes output.old output.new result
         (short_name (month_name (month_number month))) }
->>>>>>> dates
 {
     let _ = modifier;
     write_bytes(output, &name_of_month(month).as_bytes()[..3])
@@ -59,15 +51,10 @@ pub fn fmt_month_numerical(
     month: Month,
     modifier: modifier::MonthNumerical,
 ) -> usize
-<<<<<<< HEAD
-    requires room { HasRoom output.old (length (padded_text modifier.padding 2 (month_number month))) }
-    ensures writes { Writes output.old output.new result (padded_text modifier.padding 2 (month_number month)) }
-=======
     requires room { HasRoom output.old
         (length (padded_text modifier.padding 2 (month_number month))) }
     ensures writes { Writes output.old output.new result
         (padded_text modifier.padding 2 (month_number month)) }
->>>>>>> dates
 {
     format_two_digits(output, ru8::new(u8::from(month)).unwrap(), modifier.padding)
 }
@@ -88,15 +75,10 @@ pub fn fmt_weekday_short(
     weekday: Weekday,
     modifier: modifier::WeekdayShort,
 ) -> usize
-<<<<<<< HEAD
-    requires room { HasRoom output.old (length (short_name (weekday_name (days_from_monday weekday)))) }
-    ensures writes { Writes output.old output.new result (short_name (weekday_name (days_from_monday weekday))) }
-=======
     requires room { HasRoom output.old
         (length (short_name (weekday_name (days_from_monday weekday)))) }
     ensures writes { Writes output.old output.new result
         (short_name (weekday_name (days_from_monday weekday))) }
->>>>>>> dates
 {
     let _ = modifier;
     write_bytes(output, &name_of_weekday(weekday).as_bytes()[..3])
@@ -142,12 +124,8 @@ pub fn fmt_weekday_monday(
     weekday: Weekday,
     modifier: modifier::WeekdayMonday,
 ) -> usize
-<<<<<<< HEAD
-    requires room { HasRoom output.old (length (decimal (indexed modifier.one_indexed (days_from_monday weekday)))) }
-=======
     requires room { HasRoom output.old
         (length (decimal (indexed modifier.one_indexed (days_from_monday weekday)))) }
->>>>>>> dates
     ensures writes { Writes output.old output.new result
         (decimal (indexed modifier.one_indexed (days_from_monday weekday))) }
 {

@@ -113,10 +113,7 @@ pub fn format_u64_pad_none(output: &mut Vec<u8>, value: u64) -> usize
 
 /// Appends a number in `width` places, with zeros in front, where it has no more digits than that.
 #[inline]
-<<<<<<< HEAD
-=======
 #[tactic(auto, using(crate::proofs::TextLemmas::zeros_before))]
->>>>>>> dates
 pub fn format_int_padded(output: &mut Vec<u8>, value: u64, width: u8) -> usize
     requires digits { length (decimal value) ≤ width }
     requires room { HasRoom output.old (length (zero_padded width value)) }

@@ -71,7 +71,11 @@ pub fn fmt_second(output: &mut Vec<u8>, second: Seconds, modifier: modifier::Sec
 /// Appends the first decimals of the second, or as many as are needed.
 #[inline]
 #[tactic(auto, using(crate::proofs::DecimalLemmas::first_decimals))]
-pub fn fmt_subsecond(output: &mut Vec<u8>, nanosecond: Nanoseconds, modifier: modifier::Subsecond) -> usize
+pub fn fmt_subsecond(
+    output: &mut Vec<u8>,
+    nanosecond: Nanoseconds,
+    modifier: modifier::Subsecond,
+) -> usize
     requires room { HasRoom output.old (length (subsecond_text modifier.digits nanosecond)) }
     ensures writes { Writes output.old output.new result (subsecond_text modifier.digits nanosecond) }
 {
