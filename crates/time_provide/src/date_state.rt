@@ -28,6 +28,7 @@ impl DateState {
         ensures agrees { Agrees self.new (date_facts date) }
     {
         if let Some(day) = self.day {
+            let _in_range = day.get();
             return day;
         }
         let (_, month, day) = date.to_calendar_date();
@@ -59,6 +60,7 @@ impl DateState {
         ensures agrees { Agrees self.new (date_facts date) }
     {
         if let Some(week) = self.iso_week {
+            let _in_range = week.get();
             return week;
         }
         self.fill_week(date).1
@@ -72,6 +74,7 @@ impl DateState {
         ensures agrees { Agrees self.new (date_facts date) }
     {
         if let Some(year) = self.iso_year {
+            let _in_range = year.get();
             return year;
         }
         self.fill_week(date).0

@@ -1,4 +1,5 @@
 //! A date supplies its group, and keeps the costly components.
+ghost use Rattle.std.proofs.Common.{rules};
 ghost use Rattle.std.specs.Prelude.{◌≡◌, refl, true, false, pos};
 ghost use Rattle.time_below.specs.Facts.{date_facts, facts_of_date};
 ghost use Rattle.time_below.specs.Month.{month_number};
@@ -131,5 +132,5 @@ impl ComponentProvider for Date {
 
     ghost supplies_timestamp = { λ value. refl };
 
-    ghost fresh = { λ state value is_fresh. ? };
+    ghost fresh = { λ state value is_fresh. Prim.search rules };
 }
