@@ -5,6 +5,8 @@ pub mod component_provider;
 mod date_state;
 mod providers;
 pub mod ranges;
+mod timestamp_state;
 
 pub use component_provider::ComponentProvider;
 pub use date_state::DateState;
+pub use timestamp_state::TimestampState;
