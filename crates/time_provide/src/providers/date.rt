@@ -72,6 +72,7 @@ impl ComponentProvider for Date {
         state.iso_year(*self)
     }
 
+    // No caller may reach a method of a group that is not supplied: it answers a constant.
     fn hour(&self, state: &mut DateState) -> Hours
         ensures value { result ≡ 0 }
         ensures kept { state.new ≡ state.old }

@@ -7,7 +7,8 @@ ghost use Rattle.time_below.specs.Moment.{IsNearTimestampSecond, milliseconds};
 pub(crate) fn from_parts(seconds: i64, nanosecond: u32) -> i64
     requires seconds { IsNearTimestampSecond seconds }
     requires nanosecond { nanosecond < 1_000_000_000 }
-    ensures value { result ≡ milliseconds (record { seconds = seconds; nanosecond = nanosecond }) }
+    ensures value { result
+        ≡ milliseconds (record { seconds = seconds; nanosecond = nanosecond }) }
     ensures range { unsigned_abs result < 100_000_000_000_000_000 }
 {
     if seconds >= 0 {
