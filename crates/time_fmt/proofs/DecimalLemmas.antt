@@ -7,7 +7,8 @@ use Rattle.time_below.specs.declared.format_description.modifier.SubsecondDigits
 use Rattle.time_below.specs.declared.format_description.modifier.SubsecondDigits.TheVariants as digits
 use Rattle.time_below.specs.Width.{subsecond_width}
 use Rattle.time_digits.specs.Digits.{fixed, zero_padded}
-use Rattle.time_digits.proofs.DigitLemmas.{fixed-append, fixed-mod, length-fixed, length-digit, length-padded, zero_padded_is, decimal_one}
+use Rattle.time_digits.proofs.DigitLemmas.{fixed-append, fixed-mod, length-fixed, zero_padded_is, decimal_one}
+use Rattle.time_digits.proofs.LengthLemmas.{length-digit, length-padded}
 use Rattle.time_digits.proofs.FractionLemmas.{length-trimmed_fraction}
 use Rattle.time_fmt.specs.Text.{subsecond_text}
 
