@@ -1,5 +1,7 @@
 //! The texts, counts and widths of worked rows, and what happens where memory is refused.
+mod dates;
 mod memory;
+mod moments;
 mod times;
 
 use crate::{ComponentProvider, ComputeMetadata, Format, Formattable, Time};
