@@ -1,0 +1,139 @@
+//! Worked rows: the paddings and the signs of each kind of number.
+ghost use Rattle.std.specs.Prelude.{IfOk};
+ghost use Rattle.time_fmt.specs.Room.{HasRoom};
+
+use super::*;
+use modifier::Padding;
+use std::alloc::AllocError;
+use std::process::Abort;
+use std::test::Fail;
+use time_below::format_description::modifier;
+use time_digits::{ri32, ru8, ru16, ru32};
+
+/// An empty vector with room for each text of these tests.
+fn empty(rt: &HostRuntime) -> Result<Vec<u8>, AllocError>
+    ensures { IfOk result (λ output. HasRoom output 20) }
+{
+    Vec::with_capacity(rt.alloc(), 20)
+}
+
+/// Compares what was appended to an empty vector, and the answer.
+fn assert_written(rt: &impl Abort, output: &Vec<u8>, count: usize, text: &str) {
+    assert_eq!(rt; output.as_slice(), text.as_bytes());
+    assert_eq!(rt; count, text.len());
+}
+
+#[test]
+#[tactic(auto, using(crate::proofs::TextLemmas::text_lengths))]
+fn two_digits(rt: HostRuntime) -> Result<(), Fail> {
+    for (number, padding, text) in [
+        (5, Padding::Zero, "05"),
+        (5, Padding::Space, " 5"),
+        (5, Padding::None, "5"),
+        (42, Padding::Zero, "42"),
+        (42, Padding::Space, "42"),
+        (42, Padding::None, "42"),
+    ] {
+        let mut output = empty(&rt)?;
+        let number = ru8::new(number).expect(&rt, "two digits");
+        let count = format_two_digits(&mut output, number, padding);
+        assert_written(&rt, &output, count, text);
+    }
+    Ok(())
+}
+
+#[test]
+#[tactic(auto, using(crate::proofs::DateTextLemmas::day_lengths))]
+fn days_and_ordinals(rt: HostRuntime) -> Result<(), Fail> {
+    for (number, padding, day_text, ordinal_text) in [
+        (7, Padding::Zero, "07", "007"),
+        (7, Padding::Space, " 7", "  7"),
+        (7, Padding::None, "7", "7"),
+        (31, Padding::Zero, "31", "031"),
+        (31, Padding::Space, "31", " 31"),
+        (31, Padding::None, "31", "31"),
+    ] {
+        let mut output = empty(&rt)?;
+        let day = ru8::new(number).expect(&rt, "a day");
+        let count = fmt_day(&mut output, day, modifier::Day { padding });
+        assert_written(&rt, &output, count, day_text);
+        let mut output = empty(&rt)?;
+        let ordinal = ru16::new(u16::from(number)).expect(&rt, "an ordinal");
+        let count = fmt_ordinal(&mut output, ordinal, modifier::Ordinal { padding });
+        assert_written(&rt, &output, count, ordinal_text);
+    }
+    Ok(())
+}
+
+#[test]
+#[tactic(auto, using(crate::proofs::DateTextLemmas::year_lengths))]
+fn extended_years(rt: HostRuntime) -> Result<(), Fail> {
+    for (year, padding, sign_is_mandatory, text) in [
+        (-44, Padding::Space, false, "-  44"),
+        (-44, Padding::None, true, "-44"),
+        (5, Padding::Zero, false, "0005"),
+        (5, Padding::Zero, true, "+0005"),
+        (5, Padding::Space, true, "+   5"),
+        (12_345, Padding::Zero, false, "+12345"),
+        (-12_345, Padding::None, false, "-12345"),
+        (999_999, Padding::Space, false, "+999999"),
+        (-999_999, Padding::Zero, false, "-999999"),
+    ] {
+        let year = ri32::new(year).expect(&rt, "a year");
+        let mut output = empty(&rt)?;
+        let modifier = modifier::CalendarYearFullExtendedRange {
+            padding,
+            sign_is_mandatory,
+        };
+        let count = fmt_calendar_year_full_extended_range(&mut output, year, modifier);
+        assert_written(&rt, &output, count, text);
+        let mut output = empty(&rt)?;
+        let modifier = modifier::IsoYearFullExtendedRange {
+            padding,
+            sign_is_mandatory,
+        };
+        let count = fmt_iso_year_full_extended_range(&mut output, year, modifier);
+        assert_written(&rt, &output, count, text);
+    }
+    Ok(())
+}
+
+#[test]
+#[tactic(auto, using(crate::proofs::TextLemmas::number_lengths))]
+fn digits_filled_with_zeros(rt: HostRuntime) -> Result<(), Fail> {
+    for (number, four, five, six) in [
+        (0, "0000", "00000", "000000"),
+        (7, "0007", "00007", "000007"),
+        (1_997, "1997", "01997", "001997"),
+    ] {
+        let mut output = empty(&rt)?;
+        let value = ru16::new(number).expect(&rt, "four digits");
+        let count = format_four_digits_pad_zero(&mut output, value);
+        assert_written(&rt, &output, count, four);
+        let mut output = empty(&rt)?;
+        let value = ru32::new(u32::from(number)).expect(&rt, "five digits");
+        let count = format_five_digits_pad_zero(&mut output, value);
+        assert_written(&rt, &output, count, five);
+        let mut output = empty(&rt)?;
+        let value = ru32::new(u32::from(number)).expect(&rt, "six digits");
+        let count = format_six_digits_pad_zero(&mut output, value);
+        assert_written(&rt, &output, count, six);
+    }
+    Ok(())
+}
+
+#[test]
+#[tactic(auto, using(crate::proofs::TextLemmas::number_lengths))]
+fn signs(rt: HostRuntime) -> Result<(), Fail> {
+    for (is_negative, sign_is_mandatory, text) in [
+        (true, true, "-"),
+        (true, false, "-"),
+        (false, true, "+"),
+        (false, false, ""),
+    ] {
+        let mut output = empty(&rt)?;
+        let count = fmt_sign(&mut output, is_negative, sign_is_mandatory);
+        assert_written(&rt, &output, count, text);
+    }
+    Ok(())
+}
