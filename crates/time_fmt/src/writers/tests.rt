@@ -1,4 +1,4 @@
-//! Worked rows: the paddings and the signs of each kind of number.
+//! Worked rows: the paddings and the signs of each kind of number, and the names.
 ghost use Rattle.std.specs.Prelude.{IfOk};
 ghost use Rattle.time_fmt.specs.Room.{HasRoom};
 
@@ -7,8 +7,9 @@ use modifier::Padding;
 use std::alloc::AllocError;
 use std::process::Abort;
 use std::test::Fail;
+use time_below::Weekday;
 use time_below::format_description::modifier;
-use time_digits::{ri32, ru8, ru16, ru32};
+use time_digits::{ri16, ri32, ru8, ru16, ru32};
 
 /// An empty vector with room for each text of these tests.
 fn empty(rt: &HostRuntime) -> Result<Vec<u8>, AllocError>
@@ -66,6 +67,58 @@ fn days_and_ordinals(rt: HostRuntime) -> Result<(), Fail> {
 }
 
 #[test]
+#[tactic(auto, using(crate::proofs::DateTextLemmas::name_lengths))]
+fn names_of_weekdays(rt: HostRuntime) -> Result<(), Fail> {
+    for (weekday, short, long) in [
+        (Weekday::Monday, "Mon", "Monday"),
+        (Weekday::Wednesday, "Wed", "Wednesday"),
+        (Weekday::Sunday, "Sun", "Sunday"),
+    ] {
+        let mut output = empty(&rt)?;
+        let modifier = modifier::WeekdayShort {
+            case_sensitive: false,
+        };
+        let count = fmt_weekday_short(&mut output, weekday, modifier);
+        assert_written(&rt, &output, count, short);
+        let mut output = empty(&rt)?;
+        let modifier = modifier::WeekdayLong {
+            case_sensitive: false,
+        };
+        let count = fmt_weekday_long(&mut output, weekday, modifier);
+        assert_written(&rt, &output, count, long);
+    }
+    Ok(())
+}
+
+#[test]
+#[tactic(auto, using(crate::proofs::DateTextLemmas::day_lengths))]
+fn weeks(rt: HostRuntime) -> Result<(), Fail> {
+    for (week, padding, text) in [
+        (46, Padding::Zero, "46"),
+        (9, Padding::Zero, "09"),
+        (9, Padding::Space, " 9"),
+        (9, Padding::None, "9"),
+    ] {
+        let mut output = empty(&rt)?;
+        let number = ru8::new(week).expect(&rt, "a week");
+        let modifier = modifier::WeekNumberIso { padding };
+        let count = fmt_week_number_iso(&mut output, number, modifier);
+        assert_written(&rt, &output, count, text);
+        let mut output = empty(&rt)?;
+        let number = ru8::new(week).expect(&rt, "a week");
+        let modifier = modifier::WeekNumberSunday { padding };
+        let count = fmt_week_number_sunday(&mut output, number, modifier);
+        assert_written(&rt, &output, count, text);
+        let mut output = empty(&rt)?;
+        let number = ru8::new(week).expect(&rt, "a week");
+        let modifier = modifier::WeekNumberMonday { padding };
+        let count = fmt_week_number_monday(&mut output, number, modifier);
+        assert_written(&rt, &output, count, text);
+    }
+    Ok(())
+}
+
+#[test]
 #[tactic(auto, using(crate::proofs::DateTextLemmas::year_lengths))]
 fn extended_years(rt: HostRuntime) -> Result<(), Fail> {
     for (year, padding, sign_is_mandatory, text) in [
@@ -93,6 +146,46 @@ fn extended_years(rt: HostRuntime) -> Result<(), Fail> {
             sign_is_mandatory,
         };
         let count = fmt_iso_year_full_extended_range(&mut output, year, modifier);
+        assert_written(&rt, &output, count, text);
+    }
+    Ok(())
+}
+
+#[test]
+#[tactic(auto, using(crate::proofs::DateTextLemmas::century_lengths))]
+fn extended_centuries(rt: HostRuntime) -> Result<(), Fail> {
+    for (century, is_negative, padding, sign_is_mandatory, text) in [
+        (0, true, Padding::Zero, false, "-00"),
+        (0, false, Padding::Space, true, "+ 0"),
+        (-9, true, Padding::None, false, "-9"),
+        (19, false, Padding::Zero, false, "19"),
+        (100, false, Padding::Zero, false, "+100"),
+        (9_999, false, Padding::Space, false, "+9999"),
+    ] {
+        let century = ri16::new(century).expect(&rt, "a century");
+        let mut output = empty(&rt)?;
+        let modifier = modifier::CalendarYearCenturyExtendedRange {
+            padding,
+            sign_is_mandatory,
+        };
+        let count = fmt_calendar_year_century_extended_range(
+            &mut output,
+            century,
+            is_negative,
+            modifier,
+        );
+        assert_written(&rt, &output, count, text);
+        let mut output = empty(&rt)?;
+        let modifier = modifier::IsoYearCenturyExtendedRange {
+            padding,
+            sign_is_mandatory,
+        };
+        let count = fmt_iso_year_century_extended_range(
+            &mut output,
+            century,
+            is_negative,
+            modifier,
+        );
         assert_written(&rt, &output, count, text);
     }
     Ok(())
