@@ -7,9 +7,9 @@ use modifier::Padding;
 use std::alloc::AllocError;
 use std::process::Abort;
 use std::test::Fail;
-use time_below::Weekday;
 use time_below::format_description::modifier;
-use time_digits::{ri16, ri32, ru8, ru16, ru32};
+use time_below::{Month, Weekday};
+use time_digits::{ri8, ri16, ri32, ru8, ru16, ru32};
 
 /// An empty vector with room for each text of these tests.
 fn empty(rt: &HostRuntime) -> Result<Vec<u8>, AllocError>
@@ -62,6 +62,35 @@ fn days_and_ordinals(rt: HostRuntime) -> Result<(), Fail> {
         let ordinal = ru16::new(u16::from(number)).expect(&rt, "an ordinal");
         let count = fmt_ordinal(&mut output, ordinal, modifier::Ordinal { padding });
         assert_written(&rt, &output, count, ordinal_text);
+    }
+    Ok(())
+}
+
+#[test]
+#[tactic(auto, using(crate::proofs::DateTextLemmas::name_lengths))]
+fn months(rt: HostRuntime) -> Result<(), Fail> {
+    for (month, padding, number, short, long) in [
+        (Month::January, Padding::Zero, "01", "Jan", "January"),
+        (Month::May, Padding::Space, " 5", "May", "May"),
+        (Month::September, Padding::None, "9", "Sep", "September"),
+        (Month::November, Padding::Zero, "11", "Nov", "November"),
+    ] {
+        let mut output = empty(&rt)?;
+        let modifier = modifier::MonthNumerical { padding };
+        let count = fmt_month_numerical(&mut output, month, modifier);
+        assert_written(&rt, &output, count, number);
+        let mut output = empty(&rt)?;
+        let modifier = modifier::MonthShort {
+            case_sensitive: true,
+        };
+        let count = fmt_month_short(&mut output, month, modifier);
+        assert_written(&rt, &output, count, short);
+        let mut output = empty(&rt)?;
+        let modifier = modifier::MonthLong {
+            case_sensitive: true,
+        };
+        let count = fmt_month_long(&mut output, month, modifier);
+        assert_written(&rt, &output, count, long);
     }
     Ok(())
 }
@@ -152,6 +181,35 @@ fn extended_years(rt: HostRuntime) -> Result<(), Fail> {
 }
 
 #[test]
+#[tactic(auto, using(crate::proofs::DateTextLemmas::year_lengths))]
+fn standard_years(rt: HostRuntime) -> Result<(), Fail> {
+    for (year, padding, sign_is_mandatory, text) in [
+        (-44, Padding::Space, false, "-  44"),
+        (-44, Padding::None, true, "-44"),
+        (5, Padding::Zero, false, "0005"),
+        (5, Padding::Space, true, "+   5"),
+        (9_999, Padding::None, true, "+9999"),
+    ] {
+        let year = ri16::new(year).expect(&rt, "a year");
+        let mut output = empty(&rt)?;
+        let modifier = modifier::CalendarYearFullStandardRange {
+            padding,
+            sign_is_mandatory,
+        };
+        let count = fmt_calendar_year_full_standard_range(&mut output, year, modifier);
+        assert_written(&rt, &output, count, text);
+        let mut output = empty(&rt)?;
+        let modifier = modifier::IsoYearFullStandardRange {
+            padding,
+            sign_is_mandatory,
+        };
+        let count = fmt_iso_year_full_standard_range(&mut output, year, modifier);
+        assert_written(&rt, &output, count, text);
+    }
+    Ok(())
+}
+
+#[test]
 #[tactic(auto, using(crate::proofs::DateTextLemmas::century_lengths))]
 fn extended_centuries(rt: HostRuntime) -> Result<(), Fail> {
     for (century, is_negative, padding, sign_is_mandatory, text) in [
@@ -186,6 +244,67 @@ fn extended_centuries(rt: HostRuntime) -> Result<(), Fail> {
             is_negative,
             modifier,
         );
+        assert_written(&rt, &output, count, text);
+    }
+    Ok(())
+}
+
+#[test]
+#[tactic(auto, using(crate::proofs::DateTextLemmas::century_lengths))]
+fn standard_centuries(rt: HostRuntime) -> Result<(), Fail> {
+    for (century, is_negative, padding, sign_is_mandatory, text) in [
+        (0, true, Padding::Zero, false, "-00"),
+        (0, false, Padding::Space, true, "+ 0"),
+        (-9, true, Padding::None, false, "-9"),
+        (19, false, Padding::Zero, false, "19"),
+        (99, false, Padding::Zero, true, "+99"),
+    ] {
+        let century = ri8::new(century).expect(&rt, "a century");
+        let mut output = empty(&rt)?;
+        let modifier = modifier::CalendarYearCenturyStandardRange {
+            padding,
+            sign_is_mandatory,
+        };
+        let count = fmt_calendar_year_century_standard_range(
+            &mut output,
+            century,
+            is_negative,
+            modifier,
+        );
+        assert_written(&rt, &output, count, text);
+        let mut output = empty(&rt)?;
+        let modifier = modifier::IsoYearCenturyStandardRange {
+            padding,
+            sign_is_mandatory,
+        };
+        let count = fmt_iso_year_century_standard_range(
+            &mut output,
+            century,
+            is_negative,
+            modifier,
+        );
+        assert_written(&rt, &output, count, text);
+    }
+    Ok(())
+}
+
+#[test]
+#[tactic(auto, using(crate::proofs::DateTextLemmas::day_lengths))]
+fn last_two_digits(rt: HostRuntime) -> Result<(), Fail> {
+    for (last_two, padding, text) in [
+        (50, Padding::Zero, "50"),
+        (7, Padding::Zero, "07"),
+        (7, Padding::Space, " 7"),
+        (7, Padding::None, "7"),
+    ] {
+        let last_two = ru8::new(last_two).expect(&rt, "two digits");
+        let mut output = empty(&rt)?;
+        let modifier = modifier::CalendarYearLastTwo { padding };
+        let count = fmt_calendar_year_last_two(&mut output, last_two, modifier);
+        assert_written(&rt, &output, count, text);
+        let mut output = empty(&rt)?;
+        let modifier = modifier::IsoYearLastTwo { padding };
+        let count = fmt_iso_year_last_two(&mut output, last_two, modifier);
         assert_written(&rt, &output, count, text);
     }
     Ok(())
