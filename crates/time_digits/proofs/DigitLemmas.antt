@@ -86,15 +86,18 @@ length-decimal k n low high fits = omega (arith, decimal_longer k n low fits, le
 -- ---- padded text
 
 pub length-padded : (fill k n : ℕ) → length (decimal n) ≤ k → length (padded fill k n) ≡ k
+unfolding padded
 length-padded fill k n h =
     omega (arith, length-append (replicate {A = ℕ} (k - length (decimal n)) fill) (decimal n), length-replicate (k - length (decimal n)) fill)
 
 -- a number that has all the places needs no padding
 pub padded_whole : (fill k n : ℕ) → k ≤ length (decimal n) → padded fill k n ≡ decimal n
+unfolding padded
 padded_whole fill k n h = let e : k - length (decimal n) ≡ 0 = omega arith in rw e refl
 
 -- a number that leaves the first j places free has the padding there
 pub padded_short : (fill j k n : ℕ) → length (decimal n) ≤ k → padded fill (j + k) n ≡ replicate j fill ++ padded fill k n
+unfolding padded
 padded_short fill j k n h =
     let places : (j + k) - length (decimal n) ≡ j + (k - length (decimal n)) = omega arith in
     ap (λ m. replicate m fill ++ decimal n) places
@@ -103,6 +106,7 @@ padded_short fill j k n h =
 
 -- from 10 ^ k on, only what stands before the last k digits is padded
 pub padded-split : (fill j k n : ℕ) → 10 ^ k ≤ n → n < 2 ^ 64 → padded fill (j + k) n ≡ padded fill j (n / 10 ^ k) ++ fixed k n
+unfolding padded
 padded-split fill j k n low high =
     let d = decimal-split k n low high in
     let rest = decimal (n / 10 ^ k) in
@@ -120,7 +124,7 @@ fixed-zero (suc k) = rw (fixed-zero k, replicate-push k) refl
 
 -- padded with zeros, it is the fixed digits
 pub zero_padded_is : (k n : ℕ) → n < 10 ^ suc k → n < 2 ^ 64 → zero_padded (suc k) n ≡ fixed (suc k) n
-unfolding fixed
+unfolding fixed padded
 zero_padded_is zero n low high =
     let m : n % 10 ≡ n = omega arith in
     rw (decimal_digit n (omega arith), m) refl
@@ -170,3 +174,7 @@ unfolding fixed
 decimal_one n h = let m : n % 10 ≡ n = omega arith in rw (decimal_digit n h, m) refl
 
 pub ruleset decimal_recursion = (decimal_digit, decimal_step_wide)
+
+-- a number of 64 bits has at most twenty digits
+pub length-decimal_word : (n : ℕ) → n < 2 ^ 64 → length (decimal n) ≤ 20
+length-decimal_word n h = length-decimal-le 20 n (omega arith) (omega arith) h

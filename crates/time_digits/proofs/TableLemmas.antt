@@ -8,7 +8,7 @@ use Rattle.std.proofs.lemmas.List.Sums.{AllPass-from_list_all}
 use Rattle.std.proofs.lemmas.List.Elements.{All-weaker}
 use Rattle.std.specs.List.{range_with_len, list_all}
 use Rattle.std.specs.Fmt.{digits}
-use Rattle.time_digits.specs.Digits.{is_ascii, zero_padded, space_padded}
+use Rattle.time_digits.specs.Digits.{is_ascii, padded, zero_padded, space_padded}
 use Rattle.time_digits.proofs.DigitLemmas.{padded_whole, decimal_longer, length-digit, length-decimal_two, some_digit, length-padded}
 use Rattle.time_digits.specs.declared.tables.TheConstants.{SINGLE_DIGITS, ZERO_PADDED_PAIRS, SPACE_PADDED_PAIRS}
 
@@ -26,14 +26,14 @@ pub digit_at : (n : ℕ) → n < 10 → take 1 (drop n SINGLE_DIGITS.now) ≡ de
 digit_at n h = same_below (λ k. take 1 (drop k SINGLE_DIGITS.now)) decimal 10 digits_are n h
 
 pairs_are : map (λ n. take 2 (drop (2 * n) ZERO_PADDED_PAIRS.now)) (range_with_len 0 100) ≡ map (zero_padded 2) (range_with_len 0 100)
-unfolding digits
+unfolding digits padded
 pairs_are = refl
 
 pub pair_at : (n : ℕ) → n < 100 → take 2 (drop (2 * n) ZERO_PADDED_PAIRS.now) ≡ zero_padded 2 n
 pair_at n h = same_below (λ k. take 2 (drop (2 * k) ZERO_PADDED_PAIRS.now)) (zero_padded 2) 100 pairs_are n h
 
 spaced_are : map (λ n. take 2 (drop (2 * n) SPACE_PADDED_PAIRS.now)) (range_with_len 0 100) ≡ map (space_padded 2) (range_with_len 0 100)
-unfolding digits
+unfolding digits padded
 spaced_are = refl
 
 pub spaced_at : (n : ℕ) → n < 100 → take 2 (drop (2 * n) SPACE_PADDED_PAIRS.now) ≡ space_padded 2 n

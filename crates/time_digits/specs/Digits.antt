@@ -9,7 +9,7 @@ fixed zero n = []
 fixed (suc k) n = fixed k (n / 10) ++ (48 + n % 10) ∷ []
 
 -- the shortest text of n, after as many bytes of fill as it lacks to k
-abbrev pub padded : ℕ → ℕ → ℕ → List ℕ
+unfoldable pub padded : ℕ → ℕ → ℕ → List ℕ
 padded fill k n = replicate (k - length (decimal n)) fill ++ decimal n
 
 -- with zeros

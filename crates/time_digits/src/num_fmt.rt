@@ -11,6 +11,7 @@ use crate::stack_str::{StackStr, StackTrailingStr};
 use crate::tables::{SINGLE_DIGITS, SPACE_PADDED_PAIRS, ZERO_PADDED_PAIRS, piece_of};
 
 /// The quotient and the remainder of `n` by 100.
+#[inline]
 pub fn div_100(n: ru16<0, 9_999>) -> [ru8<0, 99>; 2]
     ensures { result ≡ n / 100 ∷ n % 100 ∷ [] }
 {
@@ -22,6 +23,7 @@ pub fn div_100(n: ru16<0, 9_999>) -> [ru8<0, 99>; 2]
 }
 
 /// The digit `n`.
+#[inline]
 #[tactic(auto, using(crate::proofs::TableLemmas::table_facts))]
 pub fn single_digit(n: ru8<0, 9>) -> &'static str
     ensures text { result.now ≡ decimal n }
@@ -31,6 +33,7 @@ pub fn single_digit(n: ru8<0, 9>) -> &'static str
 }
 
 /// The one or two digits of `n`.
+#[inline]
 #[tactic(auto, using(crate::proofs::TableLemmas::table_facts))]
 pub fn one_to_two_digits_no_padding(n: ru8<0, 99>) -> &'static str
     ensures text { result.now ≡ decimal n }
@@ -46,6 +49,7 @@ pub fn one_to_two_digits_no_padding(n: ru8<0, 99>) -> &'static str
 }
 
 /// `n` in two places, with a zero in front where it is below 10.
+#[inline]
 #[tactic(auto, using(crate::proofs::TableLemmas::table_facts))]
 pub fn two_digits_zero_padded(n: ru8<0, 99>) -> &'static str
     ensures text { result.now ≡ zero_padded 2 n }
@@ -55,6 +59,7 @@ pub fn two_digits_zero_padded(n: ru8<0, 99>) -> &'static str
 }
 
 /// `n` in two places, with a space in front where it is below 10.
+#[inline]
 #[tactic(auto, using(crate::proofs::TableLemmas::table_facts))]
 pub fn two_digits_space_padded(n: ru8<0, 99>) -> &'static str
     ensures text { result.now ≡ space_padded 2 n }
@@ -64,6 +69,7 @@ pub fn two_digits_space_padded(n: ru8<0, 99>) -> &'static str
 }
 
 /// The one to three digits of `n`; the second piece holds the last two of them.
+#[inline]
 #[tactic(auto, using(crate::proofs::PieceLemmas::three_places))]
 pub fn one_to_three_digits_no_padding(n: ru16<0, 999>) -> [&'static str; 2]
     ensures text { joined result ≡ decimal n }
@@ -81,6 +87,7 @@ pub fn one_to_three_digits_no_padding(n: ru16<0, 999>) -> [&'static str; 2]
 }
 
 /// `n` in three places, with zeros in front.
+#[inline]
 #[tactic(auto, using(crate::proofs::PieceLemmas::three_places))]
 pub fn three_digits_zero_padded(n: ru16<0, 999>) -> [&'static str; 2]
     ensures text { joined result ≡ zero_padded 3 n }
@@ -95,6 +102,7 @@ pub fn three_digits_zero_padded(n: ru16<0, 999>) -> [&'static str; 2]
 }
 
 /// `n` in three places, with spaces in front.
+#[inline]
 #[tactic(auto, using(crate::proofs::PieceLemmas::three_places))]
 pub fn three_digits_space_padded(n: ru16<0, 999>) -> [&'static str; 2]
     ensures text { joined result ≡ space_padded 3 n }
@@ -109,6 +117,7 @@ pub fn three_digits_space_padded(n: ru16<0, 999>) -> [&'static str; 2]
 }
 
 /// The one to four digits of `n`; the second piece holds the last two of them.
+#[inline]
 #[tactic(auto, using(crate::proofs::PieceLemmas::four_places))]
 pub fn one_to_four_digits_no_padding(n: ru16<0, 9_999>) -> [&'static str; 2]
     ensures text { joined result ≡ decimal n }
@@ -123,6 +132,7 @@ pub fn one_to_four_digits_no_padding(n: ru16<0, 9_999>) -> [&'static str; 2]
 }
 
 /// `n` in four places, with zeros in front.
+#[inline]
 #[tactic(auto, using(crate::proofs::PieceLemmas::four_places))]
 pub fn four_digits_zero_padded(n: ru16<0, 9_999>) -> [&'static str; 2]
     ensures text { joined result ≡ zero_padded 4 n }
@@ -134,6 +144,7 @@ pub fn four_digits_zero_padded(n: ru16<0, 9_999>) -> [&'static str; 2]
 }
 
 /// `n` in four places, with spaces in front.
+#[inline]
 #[tactic(auto, using(crate::proofs::PieceLemmas::four_places))]
 pub fn four_digits_space_padded(n: ru16<0, 9_999>) -> [&'static str; 2]
     ensures text { joined result ≡ space_padded 4 n }
@@ -150,6 +161,7 @@ pub fn four_digits_space_padded(n: ru16<0, 9_999>) -> [&'static str; 2]
 
 /// `n` in four places with zeros in front, or all its five or six digits; the first piece is what
 /// stands before the last four digits, empty below 10,000.
+#[inline]
 #[tactic(auto, using(crate::proofs::PieceLemmas::six_places))]
 pub fn four_to_six_digits(n: ru32<0, 999_999>) -> [&'static str; 3]
     ensures text { joined result ≡ zero_padded 4 n }
@@ -168,6 +180,7 @@ pub fn four_to_six_digits(n: ru32<0, 999_999>) -> [&'static str; 3]
 }
 
 /// `n` in five places, with zeros in front.
+#[inline]
 #[tactic(auto, using(crate::proofs::PieceLemmas::six_places))]
 pub fn five_digits_zero_padded(n: ru32<0, 99_999>) -> [&'static str; 3]
     ensures text { joined result ≡ zero_padded 5 n }
@@ -181,6 +194,7 @@ pub fn five_digits_zero_padded(n: ru32<0, 99_999>) -> [&'static str; 3]
 }
 
 /// `n` in six places, with zeros in front.
+#[inline]
 #[tactic(auto, using(crate::proofs::PieceLemmas::six_places))]
 pub fn six_digits_zero_padded(n: ru32<0, 999_999>) -> [&'static str; 3]
     ensures text { joined result ≡ zero_padded 6 n }
@@ -194,6 +208,7 @@ pub fn six_digits_zero_padded(n: ru32<0, 999_999>) -> [&'static str; 3]
 }
 
 /// The nine digits of a number of nanoseconds, to stand behind a decimal sign.
+#[inline]
 #[tactic(auto, using(crate::proofs::PieceLemmas::six_places))]
 pub fn subsecond_from_nanos(n: ru32<0, 999_999_999>) -> [&'static str; 5]
     ensures text { joined result ≡ fixed 9 n }
@@ -207,6 +222,7 @@ pub fn subsecond_from_nanos(n: ru32<0, 999_999_999>) -> [&'static str; 5]
 }
 
 // The last four digits of a number.
+#[inline]
 #[tactic(auto, using(crate::proofs::PieceLemmas::six_places))]
 fn last_four_digits(number: u32) -> [&'static str; 2]
     ensures text { joined result ≡ fixed 4 number }
@@ -216,6 +232,7 @@ fn last_four_digits(number: u32) -> [&'static str; 2]
 }
 
 /// Writes `value` in two places, with a zero where it is below 10, from the byte `offset` on.
+#[inline]
 #[tactic(auto, using(crate::proofs::WriteLemmas::written))]
 pub fn write_two_digits(buf: &mut [u8], offset: usize, value: ru8<0, 99>)
     requires room { offset + 2 ≤ length buf.old }
@@ -225,6 +242,7 @@ pub fn write_two_digits(buf: &mut [u8], offset: usize, value: ru8<0, 99>)
 }
 
 /// Writes the digit `value` to the byte `offset`.
+#[inline]
 #[tactic(auto, using(crate::proofs::WriteLemmas::written))]
 pub fn write_one_digit(buf: &mut [u8], offset: usize, value: ru8<0, 9>)
     requires room { offset + 1 ≤ length buf.old }
@@ -234,6 +252,7 @@ pub fn write_one_digit(buf: &mut [u8], offset: usize, value: ru8<0, 9>)
 }
 
 /// The nine digits of a number of nanoseconds without the zeros at their end, at least one digit.
+#[inline]
 pub fn truncated_subsecond_from_nanos(n: ru32<0, 999_999_999>) -> StackStr<9>
     ensures text { shown result ≡ trimmed_fraction n }
     ensures some { 1 ≤ length (shown result) }
@@ -248,6 +267,7 @@ pub fn truncated_subsecond_from_nanos(n: ru32<0, 999_999_999>) -> StackStr<9>
 }
 
 // The nine digits of a number of nanoseconds, the last one first.
+#[inline]
 fn nine_digits(n: ru32<0, 999_999_999>) -> [u8; 9]
     ensures { result ≡ fixed 9 n }
 {
@@ -261,6 +281,7 @@ fn nine_digits(n: ru32<0, 999_999_999>) -> [u8; 9]
 }
 
 /// The digits of `value`.
+#[inline]
 pub fn u64_pad_none(value: u64) -> StackTrailingStr<20>
     ensures text { shown_end result ≡ decimal value }
     ensures some { 1 ≤ length (shown_end result) }
@@ -278,3 +299,6 @@ pub fn u64_pad_none(value: u64) -> StackTrailingStr<20>
     bytes[start] = b'0' + rest as u8;
     StackTrailingStr::new(bytes, start)
 }
+
+#[cfg(test)]
+mod tests;

@@ -14,6 +14,7 @@ impl<const N: usize> StackStr<N> {
     ghost use Rattle.time_digits.specs.Shown.{shown};
 
     /// The text of the first `len` bytes.
+    #[inline]
     pub fn new(bytes: [u8; N], len: usize) -> Self
         requires within { len ≤ N }
         requires ascii { IsAscii (take len bytes) }
@@ -23,6 +24,7 @@ impl<const N: usize> StackStr<N> {
     }
 
     /// The number of bytes of the text, at most `N`.
+    #[inline]
     pub fn len(&self) -> usize
         ensures value { result ≡ length (shown self.now) }
         ensures within { result ≤ N }
@@ -31,6 +33,7 @@ impl<const N: usize> StackStr<N> {
     }
 
     /// The text.
+    #[inline]
     pub fn as_str(&self) -> &str
         ensures { result.now ≡ shown self.now }
     {
@@ -54,6 +57,7 @@ impl<const N: usize> StackTrailingStr<N> {
     ghost use Rattle.time_digits.specs.Shown.{shown_end};
 
     /// The text of the bytes from `start` on.
+    #[inline]
     pub fn new(bytes: [u8; N], start: usize) -> Self
         requires within { start ≤ N }
         requires ascii { IsAscii (drop start bytes) }
@@ -63,6 +67,7 @@ impl<const N: usize> StackTrailingStr<N> {
     }
 
     /// The number of bytes of the text, at most `N`.
+    #[inline]
     pub fn len(&self) -> usize
         ensures value { result ≡ length (shown_end self.now) }
         ensures within { result ≤ N }
@@ -71,6 +76,7 @@ impl<const N: usize> StackTrailingStr<N> {
     }
 
     /// The text.
+    #[inline]
     pub fn as_str(&self) -> &str
         ensures { result.now ≡ shown_end self.now }
     {
@@ -79,5 +85,32 @@ impl<const N: usize> StackTrailingStr<N> {
             Ok(text) => text,
             Err(_) => unreachable!(),
         }
+    }
+}
+
+#[cfg(test)]
+mod tests {
+    use super::*;
+
+    #[test]
+    fn first_bytes(rt: HostRuntime) {
+        let text = StackStr::new(*b"12000", 2);
+        assert_eq!(rt; text.as_str(), "12");
+        assert_eq!(rt; text.len(), 2);
+        let copy = text;
+        assert_eq!(rt; copy.as_str(), text.as_str());
+        assert_eq!(rt; StackStr::new(*b"12", 2).as_str(), "12");
+        assert_eq!(rt; StackStr::new(*b"12", 0).as_str(), "");
+    }
+
+    #[test]
+    fn last_bytes(rt: HostRuntime) {
+        let text = StackTrailingStr::new(*b"00042", 3);
+        assert_eq!(rt; text.as_str(), "42");
+        assert_eq!(rt; text.len(), 2);
+        let copy = text;
+        assert_eq!(rt; copy.as_str(), text.as_str());
+        assert_eq!(rt; StackTrailingStr::new(*b"42", 0).as_str(), "42");
+        assert_eq!(rt; StackTrailingStr::new(*b"42", 2).as_str(), "");
     }
 }

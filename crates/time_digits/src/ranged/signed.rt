@@ -1,5 +1,5 @@
 //! Signed numbers that keep a greatest magnitude.
-ghost use Rattle.std.specs.Prelude.{◌≡◌, ℤ, pos, ◌≤◌, ◌<ℤ◌, ◌↔◌, IsTrue, SomeIff, unsigned_abs};
+ghost use Rattle.std.specs.Prelude.{◌≡◌, ℤ, pos, neg_ℤ, ◌≤◌, ◌≤ℤ◌, ◌<ℤ◌, ◌↔◌, IsTrue, SomeIff, unsigned_abs};
 
 use crate::ranged::unsigned::{ru8, ru16, ru32};
 use std::marker::Model;
@@ -22,6 +22,7 @@ impl<const MAX: u8> Model for ri8<MAX> {
 
 impl<const MAX: u8> ri8<MAX> {
     /// The number `n`, where it lies in `-MAX` to `MAX`, else `None`.
+    #[inline]
     pub fn new(n: i8) -> Option<Self>
         ensures { SomeIff result (unsigned_abs n ≤ MAX) n }
     {
@@ -33,14 +34,18 @@ impl<const MAX: u8> ri8<MAX> {
     }
 
     /// The number, from `-MAX` to `MAX`.
+    #[inline]
     pub fn get(self) -> i8
         ensures value { result ≡ self.entry }
         ensures range { unsigned_abs result ≤ MAX }
+        ensures least { neg_ℤ (pos MAX) ≤ℤ result }
+        ensures greatest { result ≤ℤ pos MAX }
     {
         self.number
     }
 
     /// The magnitude of the number, from 0 to `MAX`.
+    #[inline]
     pub fn abs(self) -> ru8<0, MAX>
         ensures { result ≡ unsigned_abs self.entry }
     {
@@ -48,6 +53,7 @@ impl<const MAX: u8> ri8<MAX> {
     }
 
     /// Whether the number is below zero.
+    #[inline]
     pub fn is_negative(self) -> bool
         ensures { IsTrue result ↔ (self.entry <ℤ pos 0) }
     {
@@ -55,6 +61,7 @@ impl<const MAX: u8> ri8<MAX> {
     }
 
     /// The same number with a greatest magnitude of at least `MAX`; nothing is tested.
+    #[inline]
     pub fn expand<const HIGH: u8>(self) -> ri8<HIGH>
         requires greatest { MAX ≤ HIGH }
         ensures { result ≡ self.entry }
@@ -65,6 +72,7 @@ impl<const MAX: u8> ri8<MAX> {
     }
 
     /// The same number, where it lies in `-HIGH` to `HIGH`, else `None`.
+    #[inline]
     pub fn narrow<const HIGH: u8>(self) -> Option<ri8<HIGH>>
         ensures { SomeIff result (unsigned_abs self.entry ≤ HIGH) self.entry }
     {
@@ -90,6 +98,7 @@ impl<const MAX: u16> Model for ri16<MAX> {
 
 impl<const MAX: u16> ri16<MAX> {
     /// The number `n`, where it lies in `-MAX` to `MAX`, else `None`.
+    #[inline]
     pub fn new(n: i16) -> Option<Self>
         ensures { SomeIff result (unsigned_abs n ≤ MAX) n }
     {
@@ -101,14 +110,18 @@ impl<const MAX: u16> ri16<MAX> {
     }
 
     /// The number, from `-MAX` to `MAX`.
+    #[inline]
     pub fn get(self) -> i16
         ensures value { result ≡ self.entry }
         ensures range { unsigned_abs result ≤ MAX }
+        ensures least { neg_ℤ (pos MAX) ≤ℤ result }
+        ensures greatest { result ≤ℤ pos MAX }
     {
         self.number
     }
 
     /// The magnitude of the number, from 0 to `MAX`.
+    #[inline]
     pub fn abs(self) -> ru16<0, MAX>
         ensures { result ≡ unsigned_abs self.entry }
     {
@@ -116,6 +129,7 @@ impl<const MAX: u16> ri16<MAX> {
     }
 
     /// Whether the number is below zero.
+    #[inline]
     pub fn is_negative(self) -> bool
         ensures { IsTrue result ↔ (self.entry <ℤ pos 0) }
     {
@@ -123,6 +137,7 @@ impl<const MAX: u16> ri16<MAX> {
     }
 
     /// The same number with a greatest magnitude of at least `MAX`; nothing is tested.
+    #[inline]
     pub fn expand<const HIGH: u16>(self) -> ri16<HIGH>
         requires greatest { MAX ≤ HIGH }
         ensures { result ≡ self.entry }
@@ -133,6 +148,7 @@ impl<const MAX: u16> ri16<MAX> {
     }
 
     /// The same number, where it lies in `-HIGH` to `HIGH`, else `None`.
+    #[inline]
     pub fn narrow<const HIGH: u16>(self) -> Option<ri16<HIGH>>
         ensures { SomeIff result (unsigned_abs self.entry ≤ HIGH) self.entry }
     {
@@ -158,6 +174,7 @@ impl<const MAX: u32> Model for ri32<MAX> {
 
 impl<const MAX: u32> ri32<MAX> {
     /// The number `n`, where it lies in `-MAX` to `MAX`, else `None`.
+    #[inline]
     pub fn new(n: i32) -> Option<Self>
         ensures { SomeIff result (unsigned_abs n ≤ MAX) n }
     {
@@ -169,14 +186,18 @@ impl<const MAX: u32> ri32<MAX> {
     }
 
     /// The number, from `-MAX` to `MAX`.
+    #[inline]
     pub fn get(self) -> i32
         ensures value { result ≡ self.entry }
         ensures range { unsigned_abs result ≤ MAX }
+        ensures least { neg_ℤ (pos MAX) ≤ℤ result }
+        ensures greatest { result ≤ℤ pos MAX }
     {
         self.number
     }
 
     /// The magnitude of the number, from 0 to `MAX`.
+    #[inline]
     pub fn abs(self) -> ru32<0, MAX>
         ensures { result ≡ unsigned_abs self.entry }
     {
@@ -184,6 +205,7 @@ impl<const MAX: u32> ri32<MAX> {
     }
 
     /// Whether the number is below zero.
+    #[inline]
     pub fn is_negative(self) -> bool
         ensures { IsTrue result ↔ (self.entry <ℤ pos 0) }
     {
@@ -191,6 +213,7 @@ impl<const MAX: u32> ri32<MAX> {
     }
 
     /// The same number with a greatest magnitude of at least `MAX`; nothing is tested.
+    #[inline]
     pub fn expand<const HIGH: u32>(self) -> ri32<HIGH>
         requires greatest { MAX ≤ HIGH }
         ensures { result ≡ self.entry }
@@ -201,6 +224,7 @@ impl<const MAX: u32> ri32<MAX> {
     }
 
     /// The same number, where it lies in `-HIGH` to `HIGH`, else `None`.
+    #[inline]
     pub fn narrow<const HIGH: u32>(self) -> Option<ri32<HIGH>>
         ensures { SomeIff result (unsigned_abs self.entry ≤ HIGH) self.entry }
     {

@@ -21,6 +21,7 @@ impl<const MIN: u8, const MAX: u8> Model for ru8<MIN, MAX> {
 
 impl<const MIN: u8, const MAX: u8> ru8<MIN, MAX> {
     /// The number `n`, where it lies in `MIN` to `MAX`, else `None`.
+    #[inline]
     pub fn new(n: u8) -> Option<Self>
         ensures { SomeIff result ((MIN ≤ n) × (n ≤ MAX)) n }
     {
@@ -32,6 +33,7 @@ impl<const MIN: u8, const MAX: u8> ru8<MIN, MAX> {
     }
 
     /// The number, from `MIN` to `MAX`.
+    #[inline]
     pub fn get(self) -> u8
         ensures value { result ≡ self.entry }
         ensures least { MIN ≤ result }
@@ -41,6 +43,7 @@ impl<const MIN: u8, const MAX: u8> ru8<MIN, MAX> {
     }
 
     /// The same number in bounds that contain `MIN` to `MAX`; nothing is tested.
+    #[inline]
     pub fn expand<const LOW: u8, const HIGH: u8>(self) -> ru8<LOW, HIGH>
         requires least { LOW ≤ MIN }
         requires greatest { MAX ≤ HIGH }
@@ -52,6 +55,7 @@ impl<const MIN: u8, const MAX: u8> ru8<MIN, MAX> {
     }
 
     /// The same number, where it lies in `LOW` to `HIGH`, else `None`.
+    #[inline]
     pub fn narrow<const LOW: u8, const HIGH: u8>(self) -> Option<ru8<LOW, HIGH>>
         ensures { SomeIff result ((LOW ≤ self.entry) × (self.entry ≤ HIGH)) self.entry }
     {
@@ -77,6 +81,7 @@ impl<const MIN: u16, const MAX: u16> Model for ru16<MIN, MAX> {
 
 impl<const MIN: u16, const MAX: u16> ru16<MIN, MAX> {
     /// The number `n`, where it lies in `MIN` to `MAX`, else `None`.
+    #[inline]
     pub fn new(n: u16) -> Option<Self>
         ensures { SomeIff result ((MIN ≤ n) × (n ≤ MAX)) n }
     {
@@ -88,6 +93,7 @@ impl<const MIN: u16, const MAX: u16> ru16<MIN, MAX> {
     }
 
     /// The number, from `MIN` to `MAX`.
+    #[inline]
     pub fn get(self) -> u16
         ensures value { result ≡ self.entry }
         ensures least { MIN ≤ result }
@@ -97,6 +103,7 @@ impl<const MIN: u16, const MAX: u16> ru16<MIN, MAX> {
     }
 
     /// The same number in bounds that contain `MIN` to `MAX`; nothing is tested.
+    #[inline]
     pub fn expand<const LOW: u16, const HIGH: u16>(self) -> ru16<LOW, HIGH>
         requires least { LOW ≤ MIN }
         requires greatest { MAX ≤ HIGH }
@@ -108,6 +115,7 @@ impl<const MIN: u16, const MAX: u16> ru16<MIN, MAX> {
     }
 
     /// The same number, where it lies in `LOW` to `HIGH`, else `None`.
+    #[inline]
     pub fn narrow<const LOW: u16, const HIGH: u16>(self) -> Option<ru16<LOW, HIGH>>
         ensures { SomeIff result ((LOW ≤ self.entry) × (self.entry ≤ HIGH)) self.entry }
     {
@@ -133,6 +141,7 @@ impl<const MIN: u32, const MAX: u32> Model for ru32<MIN, MAX> {
 
 impl<const MIN: u32, const MAX: u32> ru32<MIN, MAX> {
     /// The number `n`, where it lies in `MIN` to `MAX`, else `None`.
+    #[inline]
     pub fn new(n: u32) -> Option<Self>
         ensures { SomeIff result ((MIN ≤ n) × (n ≤ MAX)) n }
     {
@@ -144,6 +153,7 @@ impl<const MIN: u32, const MAX: u32> ru32<MIN, MAX> {
     }
 
     /// The number, from `MIN` to `MAX`.
+    #[inline]
     pub fn get(self) -> u32
         ensures value { result ≡ self.entry }
         ensures least { MIN ≤ result }
@@ -153,6 +163,7 @@ impl<const MIN: u32, const MAX: u32> ru32<MIN, MAX> {
     }
 
     /// The same number in bounds that contain `MIN` to `MAX`; nothing is tested.
+    #[inline]
     pub fn expand<const LOW: u32, const HIGH: u32>(self) -> ru32<LOW, HIGH>
         requires least { LOW ≤ MIN }
         requires greatest { MAX ≤ HIGH }
@@ -164,6 +175,7 @@ impl<const MIN: u32, const MAX: u32> ru32<MIN, MAX> {
     }
 
     /// The same number, where it lies in `LOW` to `HIGH`, else `None`.
+    #[inline]
     pub fn narrow<const LOW: u32, const HIGH: u32>(self) -> Option<ru32<LOW, HIGH>>
         ensures { SomeIff result ((LOW ≤ self.entry) × (self.entry ≤ HIGH)) self.entry }
     {
