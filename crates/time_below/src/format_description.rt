@@ -4,6 +4,8 @@ mod component;
 mod format_description_v3;
 pub mod modifier;
 mod owned_format_item;
+#[cfg(test)]
+mod tests;
 
 pub use borrowed_format_item::BorrowedFormatItem;
 pub use component::{Component, component_width};
