@@ -1,5 +1,6 @@
 -- Descriptions, whichever type they are written in.
 use Rattle.std.specs.Prelude.{ℕ, List, [], ◌∷◌, Option, Some, None, if◌then◌else◌, string_bytes}
+use Rattle.time_below.specs.Conversion.{current_component}
 use Rattle.time_below.specs.declared.format_description.component.Component.{Component}
 use Rattle.time_below.specs.declared.format_description.component.Component.TheVariants as component
 use Rattle.time_below.specs.declared.format_description.borrowed_format_item.BorrowedFormatItem as borrowed
@@ -109,3 +110,17 @@ v3_layer layer = optional_component (layer_component layer)
 
 abbrev pub v3_tree : v3.FormatDescriptionV3Inner → Tree
 v3_tree = v3.fold-FormatDescriptionV3Inner Tree v3_layer
+
+-- byte literals read as texts, and current components in the place of deprecated ones
+abbrev mutual
+  pub unmarked : Tree → Tree
+  unmarked (byte_literal bytes) = text_literal bytes
+  unmarked (text_literal text) = text_literal text
+  unmarked (of_component c) = of_component (current_component c)
+  unmarked (all_of ts) = all_of (all_unmarked ts)
+  unmarked (first_of ts) = first_of (all_unmarked ts)
+  unmarked nothing = nothing
+
+  pub all_unmarked : Trees → Trees
+  all_unmarked end = end
+  all_unmarked (more t ts) = more (unmarked t) (all_unmarked ts)

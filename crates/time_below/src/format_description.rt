@@ -1,6 +1,7 @@
 //! Descriptions of a text: components with their modifiers, and trees of them.
 mod borrowed_format_item;
 mod component;
+mod conversion;
 mod format_description_v3;
 pub mod modifier;
 mod owned_format_item;

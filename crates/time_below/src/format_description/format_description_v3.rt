@@ -1,5 +1,6 @@
 //! A description of the third version, over parts that are borrowed or its own.
 ghost use Rattle.std.specs.Prelude.{◌≡◌, min, map, Some};
+ghost use Rattle.time_below.specs.Conversion.{current_component};
 ghost use Rattle.time_below.specs.Tree.{v3_tree, v3_component, trees, first_of};
 ghost use Rattle.time_below.specs.Width.{tree_width, trees_width};
 
@@ -138,13 +139,12 @@ pub fn component_of(inner: &FormatDescriptionV3Inner<'_>) -> Option<Component>
     })
 }
 
+/// A deprecated component becomes the current one in its place.
 impl From<Component> for FormatDescriptionV3Inner<'_> {
-    ghost use Rattle.std.specs.Prelude.{Some};
-
-    ghost from_gives = { λ component inner. v3_component inner ≡ Some component };
+    ghost from_gives = { λ component inner. v3_component inner ≡ Some (current_component component) };
 
     fn from(component: Component) -> Self {
-        match component {
+        match component.current() {
             Component::Day(modifier) => FormatDescriptionV3Inner::Day(modifier),
             Component::MonthShort(modifier) => FormatDescriptionV3Inner::MonthShort(modifier),
             Component::MonthLong(modifier) => FormatDescriptionV3Inner::MonthLong(modifier),
@@ -199,6 +199,12 @@ impl From<Component> for FormatDescriptionV3Inner<'_> {
                 FormatDescriptionV3Inner::UnixTimestampMillisecond(modifier),
             Component::Ignore(modifier) => FormatDescriptionV3Inner::Ignore(modifier),
             Component::End(modifier) => FormatDescriptionV3Inner::End(modifier),
+            Component::Month(_)
+            | Component::Weekday(_)
+            | Component::WeekNumber(_)
+            | Component::Hour(_)
+            | Component::UnixTimestamp(_)
+            | Component::Year(_) => unreachable!(),
         }
     }
 }
