@@ -7,13 +7,16 @@ ghost use Rattle.time_fmt.specs.Room.{HasRoom};
 
 mod borrowed;
 mod lists;
+mod owned;
+mod v3;
 
 use crate::error::Format;
 use crate::metadata::ComputeMetadata;
 use bstr::ByteVec;
-pub use lists::BorrowedItems;
+pub use lists::{BorrowedItems, OwnedItems};
 use std::alloc::Global;
 use time_provide::ComponentProvider;
+pub use v3::v3_write_into;
 
 /// A description, by which any value is formatted.
 pub trait Formattable: ComputeMetadata {
