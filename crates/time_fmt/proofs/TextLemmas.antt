@@ -1,12 +1,16 @@
 -- How long the texts of components are.
-use Rattle.std.proofs.Common.{◌≡◌, ℕ, ◌+◌, ◌-◌, ◌%◌, ◌^◌, ◌<◌, ◌≤◌, Bool, true, false, ◌++◌, length, replicate, refl, decimal, arith, length-append, append_assoc}
+use Rattle.std.proofs.Common.{◌≡◌, ℕ, ◌+◌, ◌-◌, ◌%◌, ◌^◌, ◌<◌, ◌≤◌, Bool, true, false, List, ◌++◌, length, replicate, take, refl, decimal, arith, ℤ, pos, unsigned_abs, length-append, append_assoc}
+use Rattle.std.specs.Prelude.{int_lt}
 use Rattle.std.proofs.lemmas.Fmt.{length-decimal-le}
 use Rattle.std.proofs.lemmas.List.{length-replicate}
 use Rattle.time_below.specs.declared.format_description.modifier.Padding.{Padding}
 use Rattle.time_below.specs.declared.format_description.modifier.Padding.TheVariants as padding
-use Rattle.time_digits.specs.Digits.{padded, zero_padded}
-use Rattle.time_digits.proofs.DigitLemmas.{length-padded, length-decimal_word}
-use Rattle.time_fmt.specs.Text.{padded_text, sign_text}
+use Rattle.time_below.specs.declared.format_description.modifier.SubsecondDigits.{SubsecondDigits}
+use Rattle.time_below.specs.declared.format_description.modifier.SubsecondDigits.TheVariants as digits
+use Rattle.time_below.specs.Width.{subsecond_width}
+use Rattle.time_digits.specs.Digits.{fixed, padded, zero_padded}
+use Rattle.time_digits.proofs.LengthLemmas.{length-padded}
+use Rattle.time_fmt.specs.Text.{padded_text, sign_text, offset_hour_text, timestamp_text, subsecond_text}
 
 -- a text in so many places has no more bytes, where the number has no more digits
 pub length-padded_text : (p : Padding) (places n : ℕ) → length (decimal n) ≤ places → length (padded_text p places n) ≤ places
@@ -35,25 +39,22 @@ length-zeros n = length-replicate {A = ℕ} n 48
 
 pub ruleset zeros_before = (places_of, zero_padded_is_zeros, length-zeros, append_assoc)
 
--- zeros fill all the places
-pub four_zeros : (n : ℕ) → n < 10_000 → length (zero_padded 4 n) ≡ 4
-four_zeros n h = places_of 4 n (length-decimal-le 4 n (omega arith) (omega arith) (omega arith))
-
-pub five_zeros : (n : ℕ) → n < 100_000 → length (zero_padded 5 n) ≡ 5
-five_zeros n h = places_of 5 n (length-decimal-le 5 n (omega arith) (omega arith) (omega arith))
-
-pub six_zeros : (n : ℕ) → n < 1_000_000 → length (zero_padded 6 n) ≡ 6
-six_zeros n h = places_of 6 n (length-decimal-le 6 n (omega arith) (omega arith) (omega arith))
-
-pub four_places : (p : Padding) (n : ℕ) → n < 10_000 → length (padded_text p 4 n) ≤ 4
-four_places p n h = length-padded_text p 4 n (length-decimal-le 4 n (omega arith) (omega arith) (omega arith))
-
-pub four_digits : (n : ℕ) → n < 10_000 → length (decimal n) ≤ 4
-four_digits n h = length-decimal-le 4 n (omega arith) (omega arith) (omega arith)
-
-pub ruleset number_lengths = (two_places, four_digits, four_places, places_of, four_zeros, five_zeros, six_zeros, length-decimal_word, length-sign_text)
-
 -- one text after another
 pub ruleset signed_parts = (length-append, append_assoc)
 
-pub ruleset text_lengths = (two_places, two_places)
+pub length-offset_hour_text : (p : Padding) (s n : Bool) (hour : ℤ) → unsigned_abs hour ≤ 25 → length (offset_hour_text p s n hour) ≤ 3
+length-offset_hour_text p s n hour h =
+    omega (arith, length-append (sign_text n s) (padded_text p 2 (unsigned_abs hour)), length-sign_text n s, two_places p (unsigned_abs hour) (omega arith))
+
+-- the text of a number of seconds, and of milliseconds
+pub length-seconds_text : (s : Bool) (n : ℤ) → unsigned_abs n < 100_000_000_000_000 → length (timestamp_text s n) ≤ 15
+length-seconds_text s n h =
+    let sign = sign_text (int_lt n (pos 0)) s in
+    omega (arith, length-append sign (decimal (unsigned_abs n)), length-sign_text (int_lt n (pos 0)) s, length-decimal-le 14 (unsigned_abs n) (omega arith) (omega arith) (omega arith))
+
+pub length-milliseconds_text : (s : Bool) (n : ℤ) → unsigned_abs n < 100_000_000_000_000_000 → length (timestamp_text s n) ≤ 18
+length-milliseconds_text s n h =
+    let sign = sign_text (int_lt n (pos 0)) s in
+    omega (arith, length-append sign (decimal (unsigned_abs n)), length-sign_text (int_lt n (pos 0)) s, length-decimal-le 17 (unsigned_abs n) (omega arith) (omega arith) (omega arith))
+
+pub ruleset text_lengths = (two_places, length-offset_hour_text, length-seconds_text, length-milliseconds_text)

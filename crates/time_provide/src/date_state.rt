@@ -20,7 +20,8 @@ pub struct DateState {
 }
 
 impl DateState {
-    // The day of the month. Where it is absent, it is kept with the month.
+    // The day of the month. Where it is absent, it is kept with the month. Reading a number that is
+    // held shows that it is in its range, here and below.
     pub(crate) fn day(&mut self, date: Date) -> Day
         requires { Agrees self.old (date_facts date) }
         ensures value { result ≡ day_of date }
@@ -28,6 +29,7 @@ impl DateState {
         ensures agrees { Agrees self.new (date_facts date) }
     {
         if let Some(day) = self.day {
+            let _in_range = day.get();
             return day;
         }
         let (_, month, day) = date.to_calendar_date();
@@ -59,6 +61,7 @@ impl DateState {
         ensures agrees { Agrees self.new (date_facts date) }
     {
         if let Some(week) = self.iso_week {
+            let _in_range = week.get();
             return week;
         }
         self.fill_week(date).1
@@ -72,6 +75,7 @@ impl DateState {
         ensures agrees { Agrees self.new (date_facts date) }
     {
         if let Some(year) = self.iso_year {
+            let _in_range = year.get();
             return year;
         }
         self.fill_week(date).0

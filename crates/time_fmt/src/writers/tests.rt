@@ -311,7 +311,7 @@ fn last_two_digits(rt: HostRuntime) -> Result<(), Fail> {
 }
 
 #[test]
-#[tactic(auto, using(crate::proofs::TextLemmas::number_lengths))]
+#[tactic(auto, using(crate::proofs::NumberLemmas::number_lengths))]
 fn digits_filled_with_zeros(rt: HostRuntime) -> Result<(), Fail> {
     for (number, four, five, six) in [
         (0, "0000", "00000", "000000"),
@@ -335,7 +335,7 @@ fn digits_filled_with_zeros(rt: HostRuntime) -> Result<(), Fail> {
 }
 
 #[test]
-#[tactic(auto, using(crate::proofs::TextLemmas::number_lengths))]
+#[tactic(auto, using(crate::proofs::NumberLemmas::number_lengths))]
 fn signs(rt: HostRuntime) -> Result<(), Fail> {
     for (is_negative, sign_is_mandatory, text) in [
         (true, true, "-"),

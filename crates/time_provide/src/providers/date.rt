@@ -1,7 +1,7 @@
 //! A date supplies its group, and keeps the costly components.
+ghost use Rattle.std.proofs.Common.{rules};
 ghost use Rattle.std.specs.Prelude.{◌≡◌, refl, true, false, pos};
 ghost use Rattle.time_below.specs.Facts.{date_facts, facts_of_date};
-ghost use Rattle.time_below.specs.Month.{month_number};
 ghost use Rattle.time_provide.specs.Agreement.{Agrees};
 
 use crate::component_provider::ComponentProvider;
@@ -72,6 +72,7 @@ impl ComponentProvider for Date {
         state.iso_year(*self)
     }
 
+    // No caller may reach a method of a group that is not supplied: it answers a constant.
     fn hour(&self, state: &mut DateState) -> Hours
         ensures value { result ≡ 0 }
         ensures kept { state.new ≡ state.old }
@@ -79,47 +80,80 @@ impl ComponentProvider for Date {
         ru8::new(0).unwrap()
     }
 
-    fn minute(&self, _state: &mut DateState) -> Minutes {
+    fn minute(&self, state: &mut DateState) -> Minutes
+        ensures value { result ≡ 0 }
+        ensures kept { state.new ≡ state.old }
+    {
         ru8::new(0).unwrap()
     }
 
-    fn period(&self, _state: &mut DateState) -> Period {
+    fn period(&self, state: &mut DateState) -> Period
+        ensures value { result ≡ Period.Am }
+        ensures kept { state.new ≡ state.old }
+    {
         Period::Am
     }
 
-    fn second(&self, _state: &mut DateState) -> Seconds {
-        unreachable!()
+    fn second(&self, state: &mut DateState) -> Seconds
+        ensures value { result ≡ 0 }
+        ensures kept { state.new ≡ state.old }
+    {
+        ru8::new(0).unwrap()
     }
 
-    fn nanosecond(&self, _state: &mut DateState) -> Nanoseconds {
+    fn nanosecond(&self, state: &mut DateState) -> Nanoseconds
+        ensures value { result ≡ 0 }
+        ensures kept { state.new ≡ state.old }
+    {
         ru32::new(0).unwrap()
     }
 
-    fn offset_is_negative(&self, _state: &mut DateState) -> bool {
+    fn offset_is_negative(&self, state: &mut DateState) -> bool
+        ensures value { result ≡ false }
+        ensures kept { state.new ≡ state.old }
+    {
         false
     }
 
-    fn offset_is_utc(&self, _state: &mut DateState) -> bool {
+    fn offset_is_utc(&self, state: &mut DateState) -> bool
+        ensures value { result ≡ true }
+        ensures kept { state.new ≡ state.old }
+    {
         true
     }
 
-    fn offset_hour(&self, _state: &mut DateState) -> OffsetHours {
+    fn offset_hour(&self, state: &mut DateState) -> OffsetHours
+        ensures value { result ≡ pos 0 }
+        ensures kept { state.new ≡ state.old }
+    {
         ri8::new(0).unwrap()
     }
 
-    fn offset_minute(&self, _state: &mut DateState) -> OffsetMinutes {
+    fn offset_minute(&self, state: &mut DateState) -> OffsetMinutes
+        ensures value { result ≡ pos 0 }
+        ensures kept { state.new ≡ state.old }
+    {
         ri8::new(0).unwrap()
     }
 
-    fn offset_second(&self, _state: &mut DateState) -> OffsetSeconds {
+    fn offset_second(&self, state: &mut DateState) -> OffsetSeconds
+        ensures value { result ≡ pos 0 }
+        ensures kept { state.new ≡ state.old }
+    {
         ri8::new(0).unwrap()
     }
 
-    fn unix_timestamp_seconds(&self, _state: &mut DateState) -> i64 {
+    fn unix_timestamp_seconds(&self, state: &mut DateState) -> i64
+        ensures value { result ≡ pos 0 }
+        ensures kept { state.new ≡ state.old }
+    {
         0
     }
 
-    fn unix_timestamp_milliseconds(&self, _state: &mut DateState) -> i64 {
+    fn unix_timestamp_milliseconds(&self, state: &mut DateState) -> i64
+        ensures value { result ≡ pos 0 }
+        ensures kept { state.new ≡ state.old }
+    {
         0
     }
 
@@ -131,5 +165,5 @@ impl ComponentProvider for Date {
 
     ghost supplies_timestamp = { λ value. refl };
 
-    ghost fresh = { λ state value is_fresh. ? };
+    ghost fresh = { λ state value is_fresh. Prim.search rules };
 }
