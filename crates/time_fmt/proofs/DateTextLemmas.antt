@@ -1,7 +1,7 @@
 -- How long the texts of a date are, and where nothing is filled in before a number.
-use Rattle.std.proofs.Common.{◌≡◌, ℕ, ◌+◌, ◌-◌, ◌%◌, ◌^◌, ◌<◌, ◌≤◌, Bool, true, false, ◌||◌, nat_lt, List, ◌++◌, length, replicate, take, decimal, refl, sym, ◌∙◌, arith, ℤ, pos, unsigned_abs, length-append}
+use Rattle.std.proofs.Common.{◌≡◌, ℕ, ◌+◌, ◌%◌, ◌^◌, ◌<◌, ◌≤◌, Bool, true, false, ◌||◌, nat_lt, List, ◌++◌, length, take, decimal, refl, sym, ◌∙◌, arith, ℤ, pos, unsigned_abs, length-append}
 use Rattle.std.proofs.lemmas.Fmt.{length-decimal-le}
-use Rattle.std.proofs.Math.ListN.{length-replicate, length-take}
+use Rattle.std.proofs.Math.ListN.{length-take}
 use Rattle.std.specs.Prelude.{int_lt}
 use Rattle.time_below.specs.declared.format_description.modifier.Padding.{Padding}
 use Rattle.time_below.specs.declared.format_description.modifier.Padding.TheVariants as padding
@@ -11,8 +11,9 @@ use Rattle.time_below.specs.declared.weekday.Weekday.{Weekday}
 use Rattle.time_below.specs.declared.weekday.Weekday.TheVariants.{Monday, Tuesday, Wednesday, Thursday, Friday, Saturday, Sunday}
 use Rattle.time_below.specs.Month.{month_number}
 use Rattle.time_below.specs.Weekday.{days_from_monday}
-use Rattle.time_digits.specs.Digits.{padded, zero_padded}
+use Rattle.time_digits.specs.Digits.{zero_padded}
 use Rattle.time_digits.proofs.DigitLemmas.{decimal_longer, padded_whole}
+use Rattle.time_digits.proofs.LengthLemmas.{length-padded-le}
 use Rattle.time_fmt.specs.DateText.{month_name, weekday_name, short_name, indexed, from_sunday, extended_year_text, standard_year_text, extended_century_text, standard_century_text}
 use Rattle.time_fmt.specs.Text.{padded_text, sign_text}
 use Rattle.time_fmt.proofs.TextLemmas.{length-sign_text, length-padded_text, two_places}
@@ -37,14 +38,9 @@ whole_century padding.None n low high = refl
 -- ---- lengths of numbers
 
 -- no more bytes than the places and the digits
-padded_within : (fill places most n : ℕ) → places ≤ most → length (decimal n) ≤ most → length (padded fill places n) ≤ most
-unfolding padded
-padded_within fill places most n h d =
-    omega (arith, length-append (replicate (places - length (decimal n)) fill) (decimal n), length-replicate {A = ℕ} (places - length (decimal n)) fill)
-
 padded_text_within : (p : Padding) (places most n : ℕ) → places ≤ most → length (decimal n) ≤ most → length (padded_text p places n) ≤ most
-padded_text_within padding.Space places most n h d = padded_within 32 places most n h d
-padded_text_within padding.Zero places most n h d = padded_within 48 places most n h d
+padded_text_within padding.Space places most n h d = length-padded-le 32 places n most h d
+padded_text_within padding.Zero places most n h d = length-padded-le 48 places n most h d
 padded_text_within padding.None places most n h d = d
 
 pub three_places : (p : Padding) (n : ℕ) → n < 1000 → length (padded_text p 3 n) ≤ 3

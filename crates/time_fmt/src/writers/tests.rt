@@ -120,6 +120,28 @@ fn names_of_weekdays(rt: HostRuntime) -> Result<(), Fail> {
 }
 
 #[test]
+#[tactic(auto, using(crate::proofs::DateTextLemmas::weekday_digit_lengths))]
+fn digits_of_weekdays(rt: HostRuntime) -> Result<(), Fail> {
+    for (weekday, one_indexed, from_sunday, from_monday) in [
+        (Weekday::Wednesday, true, "4", "3"),
+        (Weekday::Wednesday, false, "3", "2"),
+        (Weekday::Sunday, true, "1", "7"),
+        (Weekday::Sunday, false, "0", "6"),
+        (Weekday::Monday, false, "1", "0"),
+    ] {
+        let mut output = empty(&rt)?;
+        let modifier = modifier::WeekdaySunday { one_indexed };
+        let count = fmt_weekday_sunday(&mut output, weekday, modifier);
+        assert_written(&rt, &output, count, from_sunday);
+        let mut output = empty(&rt)?;
+        let modifier = modifier::WeekdayMonday { one_indexed };
+        let count = fmt_weekday_monday(&mut output, weekday, modifier);
+        assert_written(&rt, &output, count, from_monday);
+    }
+    Ok(())
+}
+
+#[test]
 #[tactic(auto, using(crate::proofs::DateTextLemmas::day_lengths))]
 fn weeks(rt: HostRuntime) -> Result<(), Fail> {
     for (week, padding, text) in [
@@ -311,7 +333,55 @@ fn last_two_digits(rt: HostRuntime) -> Result<(), Fail> {
 }
 
 #[test]
-#[tactic(auto, using(crate::proofs::TextLemmas::number_lengths))]
+#[tactic(auto, using(crate::proofs::NumberLemmas::four_digits))]
+fn one_digit(rt: HostRuntime) -> Result<(), Fail> {
+    let mut output = empty(&rt)?;
+    let digit = ru8::new(7).expect(&rt, "a digit");
+    let count = format_single_digit(&mut output, digit);
+    assert_written(&rt, &output, count, "7");
+    Ok(())
+}
+
+#[test]
+#[tactic(auto, using(crate::proofs::DateTextLemmas::three_places))]
+fn three_digits(rt: HostRuntime) -> Result<(), Fail> {
+    for (number, padding, text) in [
+        (7, Padding::Zero, "007"),
+        (7, Padding::Space, "  7"),
+        (7, Padding::None, "7"),
+        (42, Padding::Space, " 42"),
+        (316, Padding::Zero, "316"),
+        (316, Padding::None, "316"),
+    ] {
+        let mut output = empty(&rt)?;
+        let number = ru16::new(number).expect(&rt, "three digits");
+        let count = format_three_digits(&mut output, number, padding);
+        assert_written(&rt, &output, count, text);
+    }
+    Ok(())
+}
+
+#[test]
+#[tactic(auto, using(crate::proofs::NumberLemmas::four_places))]
+fn four_digits(rt: HostRuntime) -> Result<(), Fail> {
+    for (number, padding, text) in [
+        (7, Padding::Zero, "0007"),
+        (7, Padding::Space, "   7"),
+        (7, Padding::None, "7"),
+        (316, Padding::Space, " 316"),
+        (1997, Padding::Zero, "1997"),
+        (1997, Padding::None, "1997"),
+    ] {
+        let mut output = empty(&rt)?;
+        let number = ru16::new(number).expect(&rt, "four digits");
+        let count = format_four_digits(&mut output, number, padding);
+        assert_written(&rt, &output, count, text);
+    }
+    Ok(())
+}
+
+#[test]
+#[tactic(auto, using(crate::proofs::NumberLemmas::number_lengths))]
 fn digits_filled_with_zeros(rt: HostRuntime) -> Result<(), Fail> {
     for (number, four, five, six) in [
         (0, "0000", "00000", "000000"),
@@ -335,7 +405,25 @@ fn digits_filled_with_zeros(rt: HostRuntime) -> Result<(), Fail> {
 }
 
 #[test]
-#[tactic(auto, using(crate::proofs::TextLemmas::number_lengths))]
+#[tactic(auto, using(crate::proofs::NumberLemmas::number_lengths))]
+fn whole_numbers(rt: HostRuntime) -> Result<(), Fail> {
+    let mut output = empty(&rt)?;
+    let count = format_int_padded(&mut output, 42, 4);
+    assert_written(&rt, &output, count, "0042");
+    for (number, text) in [
+        (0, "0"),
+        (10_000_000_000_000_000, "10000000000000000"),
+        (u64::MAX, "18446744073709551615"),
+    ] {
+        let mut output = empty(&rt)?;
+        let count = format_u64_pad_none(&mut output, number);
+        assert_written(&rt, &output, count, text);
+    }
+    Ok(())
+}
+
+#[test]
+#[tactic(auto, using(crate::proofs::NumberLemmas::number_lengths))]
 fn signs(rt: HostRuntime) -> Result<(), Fail> {
     for (is_negative, sign_is_mandatory, text) in [
         (true, true, "-"),
