@@ -95,7 +95,7 @@ fn last_two(year: Year) -> LastTwo
 ///
 /// Answers the number of bytes appended, or the refusal of the component, which has no bytes.
 #[inline]
-#[tactic(auto, using(crate::proofs::TextLemmas::text_lengths, crate::proofs::DateTextLemmas::date_text_lengths))]
+#[tactic(auto, using(crate::proofs::TextLemmas::text_lengths, crate::proofs::DateTextLemmas::date_text_lengths, crate::proofs::DecimalLemmas::decimal_lengths))]
 pub fn component_write_into<V: ComponentProvider>(
     component: &Component,
     output: &mut Vec<u8>,
