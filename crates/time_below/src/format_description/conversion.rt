@@ -2,6 +2,9 @@
 ghost use Rattle.std.specs.Prelude.{◌≡◌, IsTrue};
 ghost use Rattle.time_below.specs.Conversion.{current_month, current_weekday, current_week_number, current_hour, current_unix_timestamp, current_year, is_current};
 
+#[cfg(test)]
+mod tests;
+
 use crate::format_description::modifier::{
     MonthRepr, UnixTimestampPrecision, WeekNumberRepr, WeekdayRepr, YearRange, YearRepr,
 };
