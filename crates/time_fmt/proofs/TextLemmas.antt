@@ -9,7 +9,7 @@ use Rattle.time_below.specs.declared.format_description.modifier.SubsecondDigits
 use Rattle.time_below.specs.declared.format_description.modifier.SubsecondDigits.TheVariants as digits
 use Rattle.time_below.specs.Width.{subsecond_width}
 use Rattle.time_digits.specs.Digits.{fixed, padded, zero_padded}
-use Rattle.time_digits.proofs.LengthLemmas.{length-padded, length-decimal_word}
+use Rattle.time_digits.proofs.LengthLemmas.{length-padded}
 use Rattle.time_fmt.specs.Text.{padded_text, sign_text, offset_hour_text, timestamp_text, subsecond_text}
 
 -- a text in so many places has no more bytes, where the number has no more digits
@@ -58,21 +58,3 @@ length-milliseconds_text s n h =
     omega (arith, length-append sign (decimal (unsigned_abs n)), length-sign_text (int_lt n (pos 0)) s, length-decimal-le 17 (unsigned_abs n) (omega arith) (omega arith) (omega arith))
 
 pub ruleset text_lengths = (two_places, length-offset_hour_text, length-seconds_text, length-milliseconds_text)
-
--- zeros fill all the places
-pub four_zeros : (n : ℕ) → n < 10_000 → length (zero_padded 4 n) ≡ 4
-four_zeros n h = places_of 4 n (length-decimal-le 4 n (omega arith) (omega arith) (omega arith))
-
-pub five_zeros : (n : ℕ) → n < 100_000 → length (zero_padded 5 n) ≡ 5
-five_zeros n h = places_of 5 n (length-decimal-le 5 n (omega arith) (omega arith) (omega arith))
-
-pub six_zeros : (n : ℕ) → n < 1_000_000 → length (zero_padded 6 n) ≡ 6
-six_zeros n h = places_of 6 n (length-decimal-le 6 n (omega arith) (omega arith) (omega arith))
-
-pub four_places : (p : Padding) (n : ℕ) → n < 10_000 → length (padded_text p 4 n) ≤ 4
-four_places p n h = length-padded_text p 4 n (length-decimal-le 4 n (omega arith) (omega arith) (omega arith))
-
-pub four_digits : (n : ℕ) → n < 10_000 → length (decimal n) ≤ 4
-four_digits n h = length-decimal-le 4 n (omega arith) (omega arith) (omega arith)
-
-pub ruleset number_lengths = (two_places, four_digits, four_places, places_of, four_zeros, five_zeros, six_zeros, length-decimal_word, length-sign_text)

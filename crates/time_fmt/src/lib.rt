@@ -4,6 +4,7 @@
 mod component;
 mod error;
 mod formattable;
+pub mod laws;
 mod metadata;
 #[cfg(test)]
 mod tests;
