@@ -10,7 +10,7 @@ use Rattle.time_fmt.proofs.formattable.v3.+v3_engine.Goals as goal
 
 pub write_first-returns-in-Some-clause-appends : goal.write_first-returns-in-Some-clause-appends
 write_first-returns-in-Some-clause-appends g t c =
-    rw (outcome_of_first c.args.items.now c.in-Some.item.now (g.V.ComponentProvider.facts c.args.value.now) (sym c.in-Some.ensures.value)) c.write_item.ensures.appends
+    rw (outcome_of_first c.args.items.now c.in-Some.item.now (g.V.ComponentProvider.facts c.args.value.now) (sym c.in-Some.ensures.value)) c.v3_write_into.ensures.appends
 
 pub write_items-returns-in-Err-clause-appends : goal.write_items-returns-in-Err-clause-appends
 write_items-returns-in-Err-clause-appends g t c =
