@@ -1,0 +1,5 @@
+pub mod WrittenLemmas
+pub mod LinesLemmas
+pub mod FieldsLemmas
+pub mod ReplyLemmas
+pub mod ProgressLemmas
