@@ -1,0 +1,10 @@
+pub mod Calendar
+pub mod ComponentRange
+pub mod Facts
+pub mod Moment
+pub mod Month
+pub mod Offset
+pub mod TimeOfDay
+pub mod Tree
+pub mod Weekday
+pub mod Width

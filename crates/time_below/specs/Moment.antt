@@ -1,0 +1,67 @@
+-- Moments, counted from 1970-01-01T00:00:00 UTC, and dates with a time of day.
+use Rattle.std.specs.Prelude.{ℕ, ◌+◌, ◌/◌, ◌<◌, ℤ, pos, neg_ℤ, ◌+ℤ◌, ◌-ℤ◌, ◌*ℤ◌, ◌≤ℤ◌, ◌<ℤ◌, unsigned_abs, int_div}
+use Rattle.std.specs.Int.{int_div_euclid, int_rem_euclid}
+use Rattle.time_below.specs.Calendar.{OrdinalDate, day_number, date_at}
+use Rattle.time_below.specs.TimeOfDay.{TimeOfDay, seconds_from_midnight, time_at}
+use Rattle.time_below.specs.Offset.{Offset, offset_seconds}
+
+-- the seconds since then, and the nanosecond counted forward from there
+pub record Moment : Type 0 where
+  pub seconds : ℤ
+  pub nanosecond : ℕ
+
+-- a date and a time of that day
+pub record DateAndTime : Type 0 where
+  pub date : OrdinalDate
+  pub time : TimeOfDay
+
+-- a local date and time, and the offset of the place from UTC
+pub record OffsetDateAndTime : Type 0 where
+  pub date : OrdinalDate
+  pub time : TimeOfDay
+  pub offset : Offset
+
+-- from -999999-01-01T00:00:00 to 999999-12-31T23:59:59
+abbrev pub IsTimestampSecond : ℤ → Type 0
+IsTimestampSecond s = (neg_ℤ (pos 31_619_087_596_800) ≤ℤ s) × (s ≤ℤ pos 31_494_784_780_799)
+
+-- less than 26 hours outside that range, as a local date and time may be
+abbrev pub IsNearTimestampSecond : ℤ → Type 0
+IsNearTimestampSecond s = (neg_ℤ (pos 31_619_087_690_400) <ℤ s) × (s <ℤ pos 31_494_784_874_399)
+
+-- a moment that a timestamp may have
+abbrev pub IsMoment : Moment → Type 0
+IsMoment m = IsTimestampSecond m.seconds × (m.nanosecond < 1_000_000_000)
+
+-- the seconds from 1970-01-01, which is day 719,162, to a date and time, both in UTC
+abbrev pub unix_seconds : DateAndTime → ℤ
+unix_seconds t =
+    (day_number t.date -ℤ pos 719_162) *ℤ pos 86_400 +ℤ pos (seconds_from_midnight t.time)
+
+-- the same of a local date and time: a place with a positive offset is ahead of UTC
+abbrev pub local_unix_seconds : OffsetDateAndTime → ℤ
+local_unix_seconds t = unix_seconds (record { date = t.date; time = t.time }) -ℤ offset_seconds t.offset
+
+-- the UTC date of so many seconds since 1970-01-01
+abbrev pub utc_date : ℤ → OrdinalDate
+utc_date seconds = date_at (int_div_euclid seconds (pos 86_400) +ℤ pos 719_162)
+
+-- how far into the UTC day they end
+abbrev pub second_of_day : ℤ → ℕ
+second_of_day seconds = unsigned_abs (int_rem_euclid seconds (pos 86_400))
+
+-- the UTC time of a moment
+abbrev pub utc_time : Moment → TimeOfDay
+utc_time m = time_at (second_of_day m.seconds) m.nanosecond
+
+-- the UTC date and time of a moment
+abbrev pub utc_date_and_time : Moment → DateAndTime
+utc_date_and_time m = record { date = utc_date m.seconds; time = utc_time m }
+
+-- the nanoseconds since 1970-01-01
+abbrev pub nanoseconds : Moment → ℤ
+nanoseconds m = pos 1_000_000_000 *ℤ m.seconds +ℤ pos m.nanosecond
+
+-- the milliseconds since 1970-01-01: `int_div` rounds toward zero
+abbrev pub milliseconds : Moment → ℤ
+milliseconds m = int_div (nanoseconds m) (pos 1_000_000)

@@ -1,0 +1,50 @@
+-- The offset of local time from UTC (ISO 8601-1:2019, 4.3.13).
+use Rattle.std.specs.Prelude.{ℤ, ◌≤◌, pos, neg_ℤ, ◌+ℤ◌, ◌*ℤ◌, ◌<ℤ◌, ◌≤ℤ◌, ◌⊎◌, unsigned_abs, int_lt, if◌then◌else◌, Bool, ◌||◌, ◌&&◌, ◌==◌}
+
+-- its parts, which never have two signs
+pub record Offset : Type 0 where
+  pub hours : ℤ
+  pub minutes : ℤ
+  pub seconds : ℤ
+
+-- the parts of an offset are in their ranges: at most 25:59:59 either way
+abbrev pub AreOffsetParts : ℤ → ℤ → ℤ → Type 0
+AreOffsetParts h m s = (unsigned_abs h ≤ 25) × (unsigned_abs m ≤ 59) × (unsigned_abs s ≤ 59)
+
+-- where the first part has a sign, the second does not have the other sign
+abbrev pub HasNoOtherSign : ℤ → ℤ → Type 0
+HasNoOtherSign lead x = (pos 0 <ℤ lead → pos 0 ≤ℤ x) × (lead <ℤ pos 0 → x ≤ℤ pos 0)
+
+-- the parts of an offset are in their ranges and have one sign at most
+abbrev pub IsOffset : Offset → Type 0
+IsOffset o =
+    AreOffsetParts o.hours o.minutes o.seconds × HasNoOtherSign o.hours o.minutes
+    × HasNoOtherSign o.hours o.seconds
+    × HasNoOtherSign o.minutes o.seconds
+
+-- the size of x with the sign of lead, or x where lead is 0
+abbrev pub signed_like : ℤ → ℤ → ℤ
+signed_like lead x =
+    if int_lt (pos 0) lead then pos (unsigned_abs x)
+    else (if int_lt lead (pos 0) then neg_ℤ (pos (unsigned_abs x)) else x)
+
+-- the smaller parts take the sign of the largest part that is not zero
+abbrev pub settled : ℤ → ℤ → ℤ → Offset
+settled h m s =
+    record { hours = h; minutes = signed_like h m; seconds = signed_like h (signed_like m s) }
+
+-- some part is below zero
+abbrev pub is_negative : Offset → Bool
+is_negative o = int_lt o.hours (pos 0) || int_lt o.minutes (pos 0) || int_lt o.seconds (pos 0)
+
+-- all parts are zero
+abbrev pub is_utc : Offset → Bool
+is_utc o = (unsigned_abs o.hours == 0) && (unsigned_abs o.minutes == 0) && (unsigned_abs o.seconds == 0)
+
+-- the offset of UTC itself
+abbrev pub utc : Offset
+utc = record { hours = pos 0; minutes = pos 0; seconds = pos 0 }
+
+-- the whole offset in seconds
+abbrev pub offset_seconds : Offset → ℤ
+offset_seconds o = pos 3600 *ℤ o.hours +ℤ pos 60 *ℤ o.minutes +ℤ o.seconds

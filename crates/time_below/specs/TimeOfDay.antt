@@ -1,0 +1,27 @@
+-- The time of day (ISO 8601-1:2019, 4.3.8 to 4.3.10), without leap seconds.
+use Rattle.std.specs.Prelude.{ℕ, ◌+◌, ◌*◌, ◌/◌, ◌%◌, ◌<◌, nat_lt, if◌then◌else◌}
+use Rattle.time_below.specs.declared.period.Period.{Period}
+use Rattle.time_below.specs.declared.period.Period.TheVariants.{Am, Pm}
+
+pub record TimeOfDay : Type 0 where
+  pub hour : ℕ
+  pub minute : ℕ
+  pub second : ℕ
+  pub nanosecond : ℕ
+
+-- the parts are in their ranges
+abbrev pub IsTimeOfDay : TimeOfDay → Type 0
+IsTimeOfDay t = (t.hour < 24) × (t.minute < 60) × (t.second < 60) × (t.nanosecond < 1_000_000_000)
+
+-- before noon, or from noon on
+abbrev pub period_of : TimeOfDay → Period
+period_of t = if nat_lt t.hour 12 then Am else Pm
+
+-- the whole seconds from midnight to a time
+abbrev pub seconds_from_midnight : TimeOfDay → ℕ
+seconds_from_midnight t = 3600 * t.hour + 60 * t.minute + t.second
+
+-- the time so many whole seconds after midnight
+abbrev pub time_at : ℕ → ℕ → TimeOfDay
+time_at passed nanosecond =
+    record { hour = passed / 3600; minute = passed % 3600 / 60; second = passed % 60; nanosecond = nanosecond }

@@ -1,0 +1,50 @@
+//! The refusal of a component.
+ghost use Rattle.std.specs.Prelude.{◌≡◌};
+
+use thiserror::Error;
+
+/// A component is outside its range.
+#[derive(Debug, Clone, Copy, PartialEq, Eq, Error)]
+#[error("The {name} component is out of range{}.", if *.is_conditional {", given the other components"} else {""})]
+pub struct ComponentRange {
+    name: &'static str,
+    is_conditional: bool,
+}
+
+impl ComponentRange {
+    ghost use Rattle.time_below.specs.ComponentRange.{range_refusal, conditional_range, unconditional_range};
+
+    /// A component that is outside the range that the other components leave it.
+    pub fn conditional(name: &'static str) -> ComponentRange
+        ensures { range_refusal result ≡ conditional_range name.now }
+    {
+        ComponentRange {
+            name,
+            is_conditional: true,
+        }
+    }
+
+    /// A component that is outside its range whatever the others are.
+    pub fn unconditional(name: &'static str) -> ComponentRange
+        ensures { range_refusal result ≡ unconditional_range name.now }
+    {
+        ComponentRange {
+            name,
+            is_conditional: false,
+        }
+    }
+
+    /// The name of the component.
+    pub fn name(&self) -> &'static str
+        ensures { result.now ≡ (range_refusal self.now).name }
+    {
+        self.name
+    }
+
+    /// Whether the other components set the range.
+    pub fn is_conditional(&self) -> bool
+        ensures { result ≡ (range_refusal self.now).is_conditional }
+    {
+        self.is_conditional
+    }
+}

@@ -1,0 +1,190 @@
+//! The dates of the calendar.
+ghost use Rattle.std.specs.Prelude.{◌≡◌, ◌↔◌, ◌+◌, ◌<◌, ◌≤◌, ◌^◌, nat_le, IsOk, IfOk, IfErr, codes, if◌then◌else◌, pos, ◌+ℤ◌, ◌-ℤ◌, ◌*ℤ◌, unsigned_abs};
+ghost use Rattle.std.specs.Int.{IsInRange};
+ghost use Rattle.time_below.specs.Calendar.{IsYear, IsDate, IsDayOfMonth, month_of, day_of, date_of, day_number, date_at, weekday_of, iso_year_of, iso_week_of, monday_based_week_of, sunday_based_week_of};
+ghost use Rattle.time_below.specs.ComponentRange.{range_refusal, conditional_range, unconditional_range};
+ghost use Rattle.time_below.specs.Month.{month_number};
+ghost use Rattle.time_below.specs.Weekday.{days_from_monday};
+
+use crate::calendar;
+use crate::component_range::ComponentRange;
+use crate::month::Month;
+use crate::weekday::Weekday;
+use std::marker::Model;
+
+// The years from -999999 to 0, and their days: 2,500 times 400 years, which are whole weeks.
+const YEARS_BEFORE: i32 = 999_999;
+
+const DAYS_BEFORE: u32 = 365_242_500;
+
+/// A date of the proleptic Gregorian calendar, in the years -999,999 to 999,999.
+#[derive(Debug, Clone, Copy)]
+pub struct Date {
+    year: i32,
+    ordinal: u16,
+}
+
+impl Model for Date {
+    ghost use Rattle.time_below.specs.Calendar.{OrdinalDate, IsDate};
+
+    ghost Value = { OrdinalDate };
+
+    ghost view = { λ d. record { year = d.year; ordinal = d.ordinal } };
+
+    ghost invariant = { λ d. IsDate (record { year = d.year; ordinal = d.ordinal }) };
+
+    ghost inverse = { λ d. record { year = d.year; ordinal = d.ordinal } };
+}
+
+impl Date {
+    /// The date of a year -999,999 to 999,999, a month and a day 1 to the length of that month.
+    /// Refuses the year, then the day, whose range the year and the month set.
+    #[tactic(auto, using(crate::proofs::MonthLemmas::month_within))]
+    pub fn from_calendar_date(year: i32, month: Month, day: u8) -> Result<Date, ComponentRange>
+        ensures accepted { IsOk result ↔ (IsYear year × IsDayOfMonth year (month_number month) day) }
+        ensures value { IfOk result (λ d. d ≡ date_of year (month_number month) day) }
+        ensures refusal { IfErr result (λ e. range_refusal e
+            ≡ (if nat_le (unsigned_abs year) 999_999 then conditional_range (codes "day")
+            else unconditional_range (codes "year"))) }
+    {
+        if year < -999_999 || year > 999_999 {
+            return Err(ComponentRange::unconditional("year"));
+        }
+        let is_leap = calendar::is_leap_year(year);
+        let number = u8::from(month);
+        if day == 0 || day > calendar::days_in_month(is_leap, number) {
+            return Err(ComponentRange::conditional("day"));
+        }
+        Ok(Date {
+            year,
+            ordinal: calendar::days_before_month(is_leap, number) + day as u16,
+        })
+    }
+
+    /// The date of a year -999,999 to 999,999 and a day of the year, 1 to 365, or 366 in a leap
+    /// year. Refuses the year, then the ordinal, whose range the year sets.
+    pub fn from_ordinal_date(year: i32, ordinal: u16) -> Result<Date, ComponentRange>
+        ensures accepted { IsOk result ↔ IsDate (record { year = year; ordinal = ordinal }) }
+        ensures value { IfOk result (λ d. d ≡ record { year = year; ordinal = ordinal }) }
+        ensures refusal { IfErr result (λ e. range_refusal e
+            ≡ (if nat_le (unsigned_abs year) 999_999 then conditional_range (codes "ordinal")
+            else unconditional_range (codes "year"))) }
+    {
+        if year < -999_999 || year > 999_999 {
+            return Err(ComponentRange::unconditional("year"));
+        }
+        if ordinal == 0 || ordinal > calendar::days_in_year(year) {
+            return Err(ComponentRange::conditional("ordinal"));
+        }
+        Ok(Date { year, ordinal })
+    }
+
+    // The date so many days after -999999-01-01.
+    #[tactic(auto, using(crate::proofs::CalendarLemmas::date_at_from_start))]
+    pub(crate) fn from_days(days: u32) -> Date
+        requires { days < 730_484_634 }
+        ensures { result ≡ date_at (pos days -ℤ pos DAYS_BEFORE) }
+    {
+        let quarters = 4 * days + 3;
+        let rest = quarters % 146_097 / 4 * 4 + 3;
+        Date {
+            year: (100 * (quarters / 146_097) + rest / 1461) as i32 - YEARS_BEFORE,
+            ordinal: (rest % 1461 / 4 + 1) as u16,
+        }
+    }
+
+    // The days from -999999-01-01 to the date.
+    #[tactic(auto, using(crate::proofs::CalendarLemmas::day_number_from_start))]
+    fn days_from_start(self) -> u32
+        ensures value { pos result ≡ day_number self +ℤ pos DAYS_BEFORE }
+        ensures range { result < 730_484_634 }
+    {
+        let years = (self.year + YEARS_BEFORE) as u32;
+        365 * years + years / 4 - years / 100 + years / 400 + self.ordinal as u32 - 1
+    }
+
+    // The seconds from 1970-01-01, which is day 719,162, to the start of the day.
+    pub(crate) fn unix_midnight(self) -> i64
+        ensures value { result ≡ (day_number self -ℤ pos 719_162) *ℤ pos 86_400 }
+        ensures range { unsigned_abs result < 2 ^ 62 }
+    {
+        (self.days_from_start() as i64 - 365_961_662) * 86_400
+    }
+
+    /// The year, -999,999 to 999,999. The year 0 is the one before the year 1.
+    pub fn year(self) -> i32
+        ensures value { result ≡ self.year }
+        ensures range { IsYear result }
+        ensures date { IsDate self }
+    {
+        self.year
+    }
+
+    /// The month.
+    pub fn month(self) -> Month
+        ensures { month_number result ≡ month_of self }
+    {
+        self.to_calendar_date().1
+    }
+
+    /// The day of the year, 1 to 366.
+    pub fn ordinal(self) -> u16
+        ensures value { result ≡ self.ordinal }
+        ensures range { IsInRange 1 366 result }
+        ensures date { IsDate self }
+    {
+        self.ordinal
+    }
+
+    /// The year, the month and the day of the month, which is 1 to 31.
+    pub fn to_calendar_date(self) -> (i32, Month, u8)
+        ensures year { result.0 ≡ self.year }
+        ensures month { month_number result.1 ≡ month_of self }
+        ensures day { result.2 ≡ day_of self }
+        ensures year_range { IsYear result.0 }
+        ensures day_range { IsInRange 1 31 result.2 }
+        ensures day_of_month { IsDayOfMonth result.0 (month_number result.1) result.2 }
+    {
+        let is_leap = calendar::is_leap_year(self.year);
+        let (month, day) = calendar::month_and_day(is_leap, self.ordinal);
+        (self.year, Month::from_number(month), day)
+    }
+
+    /// The weekday.
+    #[tactic(auto, using(crate::proofs::CalendarLemmas::weekday_from_start))]
+    pub fn weekday(self) -> Weekday
+        ensures { days_from_monday result ≡ weekday_of self }
+    {
+        Weekday::from_monday((self.days_from_start() % 7) as u8)
+    }
+
+    /// The year of the week calendar, -999,999 to 999,999, and the week of that year, 1 to 53
+    /// (ISO 8601-1:2019, week calendar). Week 1 is the one with the year's first Thursday.
+    #[tactic(auto, using(crate::proofs::CalendarLemmas::thursday_facts))]
+    pub fn iso_year_week(self) -> (i32, u8)
+        ensures year { result.0 ≡ iso_year_of self }
+        ensures week { result.1 ≡ iso_week_of self }
+        ensures year_range { IsYear result.0 }
+        ensures week_range { IsInRange 1 53 result.1 }
+    {
+        let days = self.days_from_start();
+        let thursday = Date::from_days(days - days % 7 + 3);
+        (thursday.year(), ((thursday.ordinal() - 1) / 7 + 1) as u8)
+    }
+
+    /// The week of the year, 0 to 53, where week 1 begins on the first Monday.
+    pub fn monday_based_week(self) -> u8
+        ensures value { result ≡ monday_based_week_of self }
+        ensures range { result ≤ 53 }
+    {
+        ((self.ordinal + 6 - self.weekday().number_days_from_monday() as u16) / 7) as u8
+    }
+
+    /// The week of the year, 0 to 53, where week 1 begins on the first Sunday.
+    pub fn sunday_based_week(self) -> u8
+        ensures value { result ≡ sunday_based_week_of self }
+        ensures range { result ≤ 53 }
+    {
+        ((self.ordinal + 6 - self.weekday().number_days_from_sunday() as u16) / 7) as u8
+    }
+}

@@ -1,0 +1,62 @@
+//! Laws of the calendar: what its definitions come to. Each body is empty.
+ghost use Rattle.std.specs.Prelude.{◌≡◌, ◌+◌, ◌%◌, ℕ, ℤ, pos, ◌+ℤ◌};
+ghost use Rattle.std.specs.Int.{IsInRange};
+ghost use Rattle.time_below.specs.Calendar.{OrdinalDate, IsDate, IsYear, IsDayNumber, IsDayOfMonth, day_number, date_at, next_day, month_of, day_of, date_of, weekday_of, iso_year_of, iso_week_of};
+ghost use Rattle.time_below.specs.TimeOfDay.{IsTimeOfDay};
+ghost use Rattle.time_below.specs.Offset.{IsOffset};
+ghost use Rattle.time_below.specs.Moment.{Moment, DateAndTime, OffsetDateAndTime, IsMoment, IsTimestampSecond, IsNearTimestampSecond, utc_date, utc_time, utc_date_and_time, unix_seconds, local_unix_seconds};
+
+/// Each date has one day number, and each day number from -999999-01-01 to 999999-12-31 one date.
+pub fn one_date_for_each_day()
+    ensures numbered { (d : OrdinalDate) → IsDate d → IsDayNumber (day_number d) }
+    ensures dated { (n : ℤ) → IsDayNumber n → IsDate (date_at n) }
+    ensures date_back { (d : OrdinalDate) → IsDate d → date_at (day_number d) ≡ d }
+    ensures number_back { (n : ℤ) → IsDayNumber n → day_number (date_at n) ≡ n }
+{}
+
+/// Day 0 is Monday 0001-01-01, and the day after a date has the next number and the next weekday.
+pub fn days_follow_one_another()
+    ensures begin { day_number (record { year = pos 1; ordinal = 1 }) ≡ pos 0 }
+    ensures number { (d : OrdinalDate) → IsDate d → day_number (next_day d) ≡ day_number d +ℤ pos 1 }
+    ensures weekday { (d : OrdinalDate) → IsDate d → weekday_of (next_day d) ≡ (weekday_of d + 1) % 7 }
+{}
+
+/// Each date is that of its month and its day of the month, and of no others.
+pub fn one_date_for_each_day_of_month()
+    ensures month { (d : OrdinalDate) → IsDate d → IsInRange 1 12 (month_of d) }
+    ensures day { (d : OrdinalDate) → IsDate d → IsDayOfMonth d.year (month_of d) (day_of d) }
+    ensures made_of { (d : OrdinalDate) → IsDate d → date_of d.year (month_of d) (day_of d) ≡ d }
+    ensures date { (y : ℤ) (m d : ℕ) → IsYear y → IsInRange 1 12 m → IsDayOfMonth y m d
+        → IsDate (date_of y m d) }
+    ensures month_back { (y : ℤ) (m d : ℕ) → IsInRange 1 12 m → IsDayOfMonth y m d
+        → month_of (date_of y m d) ≡ m }
+    ensures day_back { (y : ℤ) (m d : ℕ) → IsInRange 1 12 m → IsDayOfMonth y m d
+        → day_of (date_of y m d) ≡ d }
+{}
+
+/// The year of the week calendar is that of a date, its weeks are 1 to 53, and a year, a week and a
+/// weekday have one date at most.
+pub fn one_date_for_each_day_of_week()
+    ensures year { (d : OrdinalDate) → IsDate d → IsYear (iso_year_of d) }
+    ensures week { (d : OrdinalDate) → IsDate d → IsInRange 1 53 (iso_week_of d) }
+    ensures date { (d e : OrdinalDate) → IsDate d → IsDate e → iso_year_of d ≡ iso_year_of e
+        → iso_week_of d ≡ iso_week_of e → weekday_of d ≡ weekday_of e → d ≡ e }
+{}
+
+/// The UTC date and time of a moment have its Unix seconds, and no others do. Those of a date and
+/// time in UTC are a moment.
+pub fn one_date_and_time_for_each_moment()
+    ensures date { (m : Moment) → IsMoment m → IsDate (utc_date m.seconds) }
+    ensures time { (m : Moment) → IsMoment m → IsTimeOfDay (utc_time m) }
+    ensures seconds { (m : Moment) → IsMoment m → unix_seconds (utc_date_and_time m) ≡ m.seconds }
+    ensures only { (m : Moment) (t : DateAndTime) → IsDate t.date → IsTimeOfDay t.time
+        → unix_seconds t ≡ m.seconds → t.time.nanosecond ≡ m.nanosecond → t ≡ utc_date_and_time m }
+    ensures moment { (t : DateAndTime) → IsDate t.date → IsTimeOfDay t.time
+        → IsTimestampSecond (unix_seconds t) }
+{}
+
+/// The Unix seconds of a local date and time are less than 26 hours outside the range of a moment.
+pub fn local_seconds_near_the_range()
+    ensures { (t : OffsetDateAndTime) → IsDate t.date → IsTimeOfDay t.time → IsOffset t.offset
+        → IsNearTimestampSecond (local_unix_seconds t) }
+{}

@@ -1,0 +1,31 @@
+//! Calendar values and description trees, as far as a formatter needs them. No call takes memory.
+#![tactic(auto)]
+
+mod calendar;
+mod component_range;
+mod date;
+pub mod format_description;
+pub mod laws;
+mod month;
+mod offset_date_time;
+mod period;
+mod plain_date_time;
+#[cfg(test)]
+mod tests;
+mod time;
+mod timestamp;
+mod utc_date_time;
+mod utc_offset;
+mod weekday;
+
+pub use component_range::ComponentRange;
+pub use date::Date;
+pub use month::Month;
+pub use offset_date_time::OffsetDateTime;
+pub use period::Period;
+pub use plain_date_time::PlainDateTime;
+pub use time::Time;
+pub use timestamp::Timestamp;
+pub use utc_date_time::UtcDateTime;
+pub use utc_offset::UtcOffset;
+pub use weekday::Weekday;

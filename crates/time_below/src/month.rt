@@ -1,0 +1,68 @@
+//! The months of the calendar.
+ghost use Rattle.std.specs.Prelude.{◌≡◌};
+ghost use Rattle.std.specs.Int.{IsInRange};
+ghost use Rattle.time_below.specs.Month.{month_number};
+
+/// A month of the Gregorian calendar.
+#[derive(Debug, Clone, Copy, PartialEq, Eq)]
+pub enum Month {
+    /// Month 1.
+    January,
+    /// Month 2, with 28 days, or 29 in a leap year.
+    February,
+    /// Month 3.
+    March,
+    /// Month 4.
+    April,
+    /// Month 5.
+    May,
+    /// Month 6.
+    June,
+    /// Month 7.
+    July,
+    /// Month 8.
+    August,
+    /// Month 9.
+    September,
+    /// Month 10.
+    October,
+    /// Month 11.
+    November,
+    /// Month 12.
+    December,
+}
+
+impl Month {
+    // The month of a number from 1 to 12.
+    pub(crate) fn from_number(number: u8) -> Month
+        requires { IsInRange 1 12 number }
+        ensures { month_number result ≡ number }
+    {
+        match number {
+            1 => Month::January,
+            2 => Month::February,
+            3 => Month::March,
+            4 => Month::April,
+            5 => Month::May,
+            6 => Month::June,
+            7 => Month::July,
+            8 => Month::August,
+            9 => Month::September,
+            10 => Month::October,
+            11 => Month::November,
+            _ => Month::December,
+        }
+    }
+}
+
+impl From<Month> for u8 {
+    ghost from_gives = { λ month number. number ≡ month_number month };
+
+    /// The number of the month, 1 for January to 12 for December.
+    fn from(month: Month) -> u8
+        ensures value { result ≡ month_number month }
+        ensures range { IsInRange 1 12 result }
+    {
+        month as u8 + 1
+    }
+}

@@ -1,0 +1,112 @@
+//! Moments counted in seconds.
+ghost use Rattle.std.specs.Prelude.{◌≡◌, ◌↔◌, ◌<◌, IsOk, IfOk, IfErr, codes, pos, ◌+ℤ◌};
+ghost use Rattle.time_below.specs.Moment.{IsMoment, IsTimestampSecond, utc_date, utc_time, milliseconds};
+ghost use Rattle.time_below.specs.ComponentRange.{range_refusal, unconditional_range};
+
+use crate::component_range::ComponentRange;
+use crate::date::Date;
+use crate::time::Time;
+use std::marker::Model;
+
+// The seconds from -999999-01-01T00:00:00 to 1970, and those of all the years from there on.
+const SECONDS_BEFORE: i64 = 31_619_087_596_800;
+
+const ALL_SECONDS: u64 = 63_113_872_377_600;
+
+/// A moment, by the seconds since 1970-01-01T00:00:00 UTC and the nanosecond counted forward from
+/// there. It lies in the years -999,999 to 999,999.
+#[derive(Debug, Clone, Copy)]
+pub struct Timestamp {
+    seconds: i64,
+    nanosecond: u32,
+}
+
+impl Model for Timestamp {
+    ghost use Rattle.time_below.specs.Moment.{Moment, IsMoment};
+
+    ghost Value = { Moment };
+
+    ghost view = { λ t. record { seconds = t.seconds; nanosecond = t.nanosecond } };
+
+    ghost invariant = { λ t. IsMoment (record { seconds = t.seconds; nanosecond = t.nanosecond }) };
+
+    ghost inverse = { λ t. record { seconds = t.seconds; nanosecond = t.nanosecond } };
+}
+
+impl Timestamp {
+    /// The moment of seconds -31,619,087,596,800 to 31,494,784,780,799 and a nanosecond 0 to
+    /// 999,999,999. Refuses the first part that is outside its range, in this order.
+    pub fn new(seconds: i64, nanosecond: u32) -> Result<Timestamp, ComponentRange>
+        ensures accepted { IsOk result
+            ↔ IsMoment (record { seconds = seconds; nanosecond = nanosecond }) }
+        ensures value { IfOk result (λ t. t ≡ record { seconds = seconds; nanosecond = nanosecond }) }
+        ensures seconds { IfErr result (λ e. ¬ (IsTimestampSecond seconds)
+            → range_refusal e ≡ unconditional_range (codes "seconds")) }
+        ensures nanosecond { IfErr result (λ e. IsTimestampSecond seconds
+            → range_refusal e ≡ unconditional_range (codes "nanosecond")) }
+    {
+        if seconds < -31_619_087_596_800 || seconds > 31_494_784_780_799 {
+            return Err(ComponentRange::unconditional("seconds"));
+        }
+        if nanosecond > 999_999_999 {
+            return Err(ComponentRange::unconditional("nanosecond"));
+        }
+        Ok(Timestamp {
+            seconds,
+            nanosecond,
+        })
+    }
+
+    // The seconds since -999999-01-01T00:00:00.
+    fn seconds_from_start(self) -> u64
+        ensures value { self.seconds +ℤ SECONDS_BEFORE ≡ pos result }
+        ensures range { result < ALL_SECONDS }
+    {
+        (self.seconds + SECONDS_BEFORE) as u64
+    }
+
+    /// The date in UTC.
+    #[tactic(auto, using(crate::proofs::CalendarLemmas::utc_date_from_start))]
+    pub fn date(self) -> Date
+        ensures { result ≡ utc_date self.seconds }
+    {
+        Date::from_days((self.seconds_from_start() / 86_400) as u32)
+    }
+
+    /// The time of day in UTC.
+    #[tactic(auto, using(crate::proofs::CalendarLemmas::second_from_start))]
+    pub fn time(self) -> Time
+        ensures { result ≡ utc_time self }
+    {
+        Time::from_seconds((self.seconds_from_start() % 86_400) as u32, self.nanosecond)
+    }
+
+    /// The whole seconds since 1970-01-01T00:00:00 UTC, rounded down.
+    pub fn as_seconds(self) -> i64
+        ensures value { result ≡ self.seconds }
+        ensures range { IsMoment self }
+    {
+        self.seconds
+    }
+
+    /// The milliseconds since 1970-01-01T00:00:00 UTC, rounded toward zero.
+    pub fn as_milliseconds(self) -> i64
+        ensures { result ≡ milliseconds self }
+    {
+        if self.seconds >= 0 {
+            self.seconds * 1000 + (self.nanosecond / 1_000_000) as i64
+        } else {
+            self.seconds * 1000 + ((self.nanosecond + 999_999) / 1_000_000) as i64
+        }
+    }
+
+    /// The whole seconds since 1970-01-01T00:00:00 UTC, rounded down, and the nanosecond 0 to
+    /// 999,999,999 counted forward from there.
+    pub fn as_parts(self) -> (i64, u32)
+        ensures seconds { result.0 ≡ self.seconds }
+        ensures nanosecond { result.1 ≡ self.nanosecond }
+        ensures range { IsMoment self }
+    {
+        (self.seconds, self.nanosecond)
+    }
+}

@@ -1,0 +1,116 @@
+//! Offsets from UTC.
+ghost use Rattle.std.specs.Prelude.{◌≡◌, ◌↔◌, ◌+◌, ◌*◌, ◌<◌, ◌≤◌, pos, ◌+ℤ◌, ◌*ℤ◌, unsigned_abs, nat_le, IsTrue, IsOk, IfOk, IfErr, codes, if◌then◌else◌};
+ghost use Rattle.time_below.specs.Offset.{AreOffsetParts, IsOffset, is_negative, is_utc, settled, signed_like, offset_seconds, utc};
+ghost use Rattle.time_below.specs.ComponentRange.{range_refusal, unconditional_range};
+
+use crate::component_range::ComponentRange;
+use std::marker::Model;
+
+/// An offset from UTC, at most 25:59:59 either way (ISO 8601-1:2019, 4.3.13). It is positive east
+/// of Greenwich, where local time is ahead of UTC, and its parts never have two signs.
+#[derive(Debug, Clone, Copy)]
+pub struct UtcOffset {
+    hours: i8,
+    minutes: i8,
+    seconds: i8,
+}
+
+impl Model for UtcOffset {
+    ghost use Rattle.time_below.specs.Offset.{Offset, IsOffset};
+
+    ghost Value = { Offset };
+
+    ghost view = { λ o. record { hours = o.hours; minutes = o.minutes; seconds = o.seconds } };
+
+    ghost invariant = { λ o. IsOffset (record { hours = o.hours; minutes = o.minutes; seconds = o.seconds }) };
+
+    ghost inverse = { λ o. record { hours = o.hours; minutes = o.minutes; seconds = o.seconds } };
+}
+
+// The size of a part with the sign of a larger part, or the part itself where that one is 0.
+fn signed_like(lead: i8, part: i8) -> i8
+    requires { unsigned_abs part ≤ 59 }
+    ensures value { result ≡ signed_like lead part }
+    ensures range { unsigned_abs result ≤ 59 }
+{
+    if lead > 0 {
+        part.abs()
+    } else if lead < 0 {
+        -part.abs()
+    } else {
+        part
+    }
+}
+
+// Sixty to each whole, and the part of the next.
+fn sixtieths(whole: i32, part: i8) -> i32
+    requires { unsigned_abs whole < 1560 }
+    ensures value { result ≡ pos 60 *ℤ whole +ℤ part }
+    ensures range { unsigned_abs result ≤ 60 * unsigned_abs whole + unsigned_abs part }
+{
+    whole * 60 + part as i32
+}
+
+impl UtcOffset {
+    /// The offset of hours -25 to 25, minutes -59 to 59 and seconds -59 to 59. Refuses the first
+    /// part that is outside its range, in this order. If signs differ, the smaller parts take the
+    /// sign of the largest part that is not zero.
+    pub fn from_hms(hours: i8, minutes: i8, seconds: i8) -> Result<UtcOffset, ComponentRange>
+        ensures accepted { IsOk result ↔ AreOffsetParts hours minutes seconds }
+        ensures value { IfOk result (λ o. o ≡ settled hours minutes seconds) }
+        ensures refusal { IfErr result (λ e. range_refusal e ≡ unconditional_range (
+            if nat_le (unsigned_abs hours) 25
+            then (if nat_le (unsigned_abs minutes) 59 then codes "seconds" else codes "minutes")
+            else codes "hours"
+            )) }
+    {
+        if hours.unsigned_abs() > 25 {
+            return Err(ComponentRange::unconditional("hours"));
+        }
+        if minutes.unsigned_abs() > 59 {
+            return Err(ComponentRange::unconditional("minutes"));
+        }
+        if seconds.unsigned_abs() > 59 {
+            return Err(ComponentRange::unconditional("seconds"));
+        }
+        let seconds = signed_like(hours, signed_like(minutes, seconds));
+        Ok(UtcOffset {
+            hours,
+            minutes: signed_like(hours, minutes),
+            seconds,
+        })
+    }
+
+    /// The hours -25 to 25, the minutes -59 to 59 and the seconds -59 to 59.
+    pub fn as_hms(self) -> (i8, i8, i8)
+        ensures hours { result.0 ≡ self.hours }
+        ensures minutes { result.1 ≡ self.minutes }
+        ensures seconds { result.2 ≡ self.seconds }
+        ensures range { AreOffsetParts result.0 result.1 result.2 }
+        ensures offset { IsOffset self }
+    {
+        (self.hours, self.minutes, self.seconds)
+    }
+
+    /// Whether every part is zero.
+    pub fn is_utc(self) -> bool
+        ensures { result ≡ is_utc self }
+    {
+        self.hours == 0 && self.minutes == 0 && self.seconds == 0
+    }
+
+    /// Whether some part is below zero.
+    pub fn is_negative(self) -> bool
+        ensures { result ≡ is_negative self }
+    {
+        self.hours < 0 || self.minutes < 0 || self.seconds < 0
+    }
+
+    // The whole offset in seconds.
+    pub(crate) fn whole_seconds(self) -> i32
+        ensures value { result ≡ offset_seconds self }
+        ensures range { unsigned_abs result < 93_600 }
+    {
+        sixtieths(sixtieths(self.hours as i32, self.minutes), self.seconds)
+    }
+}

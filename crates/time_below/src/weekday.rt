@@ -1,0 +1,65 @@
+//! The days of the week.
+ghost use Rattle.std.specs.Prelude.{◌≡◌, ◌+◌, ◌<◌};
+ghost use Rattle.std.specs.Int.{IsInRange};
+ghost use Rattle.time_below.specs.Weekday.{days_from_monday, days_from_sunday};
+
+/// A day of the week, which begins on Monday (ISO 8601-1:2019, week calendar).
+#[derive(Debug, Clone, Copy, PartialEq, Eq)]
+pub enum Weekday {
+    /// Day 1 of the week.
+    Monday,
+    /// Day 2.
+    Tuesday,
+    /// Day 3.
+    Wednesday,
+    /// Day 4.
+    Thursday,
+    /// Day 5.
+    Friday,
+    /// Day 6.
+    Saturday,
+    /// Day 7.
+    Sunday,
+}
+
+impl Weekday {
+    // The weekday that many days after Monday.
+    pub(crate) fn from_monday(days: u8) -> Weekday
+        requires { days < 7 }
+        ensures { days_from_monday result ≡ days }
+    {
+        match days {
+            0 => Weekday::Monday,
+            1 => Weekday::Tuesday,
+            2 => Weekday::Wednesday,
+            3 => Weekday::Thursday,
+            4 => Weekday::Friday,
+            5 => Weekday::Saturday,
+            _ => Weekday::Sunday,
+        }
+    }
+
+    /// The days since Monday, 0 for Monday to 6 for Sunday.
+    pub fn number_days_from_monday(self) -> u8
+        ensures value { result ≡ days_from_monday self }
+        ensures range { result < 7 }
+    {
+        self as u8
+    }
+
+    /// The days since Sunday, 0 for Sunday to 6 for Saturday.
+    pub fn number_days_from_sunday(self) -> u8
+        ensures value { result ≡ days_from_sunday self }
+        ensures range { result < 7 }
+    {
+        (self as u8 + 1) % 7
+    }
+
+    /// The place in the week, 1 for Monday to 7 for Sunday.
+    pub fn number_from_monday(self) -> u8
+        ensures value { result ≡ days_from_monday self + 1 }
+        ensures range { IsInRange 1 7 result }
+    {
+        self as u8 + 1
+    }
+}

@@ -1,0 +1,180 @@
+-- Decimal texts: a number's text is that of its first digits, and then its last ones.
+use Rattle.std.proofs.Common.{◌≡◌, ℕ, zero, suc, ◌+◌, ◌-◌, ◌*◌, ◌/◌, ◌%◌, ◌^◌, ◌<◌, ◌≤◌, List, [], ◌∷◌, ◌++◌, length, replicate, refl, sym, ap, ap₂, ◌∙◌, arith, length-append, append_assoc, decimal, IsAscii, ⊎_elim}
+use Rattle.std.proofs.Math.Nat.{pow-suc, pow-succ', one-le-pow, div-le_self, div-div-eq-div-mul}
+use Rattle.std.proofs.Math.Arith.{mod-mul}
+use Rattle.std.proofs.lemmas.Fmt.{decimal_digit, decimal_step, decimal_step_wide, decimal_nonempty, length-decimal-le, IsAscii-from_digits}
+use Rattle.std.proofs.lemmas.Int.Digits.{digits_push}
+use Rattle.std.proofs.lemmas.Str.{digit_value_digit}
+use Rattle.std.proofs.lemmas.List.{append-nil, length-replicate, replicate-append-replicate}
+use Rattle.std.proofs.lemmas.Nat.{le-div}
+use Rattle.std.proofs.lemmas.Bool.{cases_lt}
+use Rattle.std.specs.Str.Parse.{AllDigits}
+use Rattle.time_digits.specs.Digits.{fixed, padded, zero_padded, space_padded}
+
+-- ---- fixed digits
+
+-- one digit more: the last one stands behind the others
+pub fixed_step : (k n : ℕ) → fixed (suc k) n ≡ fixed k (n / 10) ++ (48 + n % 10) ∷ []
+unfolding fixed
+fixed_step k n = refl
+
+pub length-fixed : (k n : ℕ) → length (fixed k n) ≡ k
+unfolding fixed
+length-fixed zero n = refl
+length-fixed (suc k) n = omega (arith, length-append (fixed k (n / 10)) ((48 + n % 10) ∷ []), length-fixed k (n / 10))
+
+-- each of them is a digit
+pub fixed_digits : (k n : ℕ) → AllDigits 10 (fixed k n)
+unfolding fixed
+fixed_digits zero n = tt
+fixed_digits (suc k) n = digits_push 10 (fixed k (n / 10)) (48 + n % 10) (fixed_digits k (n / 10)) (omega (arith, digit_value_digit (48 + n % 10) (omega arith, omega arith)))
+
+pub IsAscii-fixed : (k n : ℕ) → IsAscii (fixed k n)
+IsAscii-fixed k n = IsAscii-from_digits (fixed k n) (fixed_digits k n)
+
+div-ten-pow : (n k : ℕ) → n / 10 / 10 ^ k ≡ n / 10 ^ suc k
+div-ten-pow n k = div-div-eq-div-mul n 10 (10 ^ k) ∙ ap (λ m. n / m) (sym (pow-succ' 10 k))
+
+-- the first j digits, and then the last k
+pub fixed-append : (j k n : ℕ) → fixed (j + k) n ≡ fixed j (n / 10 ^ k) ++ fixed k n
+unfolding fixed
+fixed-append j zero n =
+    let e : j + 0 ≡ j = omega arith in
+    let d : n / 1 ≡ n = omega arith in
+    rw (e, d, append-nil) refl
+fixed-append j (suc k) n =
+    let e : j + suc k ≡ suc (j + k) = omega arith in
+    rw (e, fixed-append j k (n / 10), div-ten-pow n k, append_assoc) refl
+
+-- the last k digits do not look at what stands before them
+pub fixed-mod : (k n : ℕ) → fixed k (n % 10 ^ k) ≡ fixed k n
+unfolding fixed
+fixed-mod zero n = refl
+fixed-mod (suc k) n =
+    let p : 10 ^ suc k ≡ 10 ^ k * 10 = pow-suc 10 k in
+    let some : 0 < 10 ^ k = one-le-pow k 10 (omega arith) in
+    let m : n % (10 ^ k * 10) ≡ n / 10 % 10 ^ k * 10 + n % 10 = mod-mul n some (omega arith) in
+    let rest : n % 10 ^ suc k / 10 ≡ n / 10 % 10 ^ k = rw (p, m) (omega arith) in
+    let last : n % 10 ^ suc k % 10 ≡ n % 10 = rw (p, m) (omega arith) in
+    rw (rest, last, fixed-mod k (n / 10)) refl
+
+-- ---- decimal text
+
+-- from 10 ^ k on, the last k digits stand behind the text of the rest
+pub decimal-split : (k n : ℕ) → 10 ^ k ≤ n → n < 2 ^ 64 → decimal n ≡ decimal (n / 10 ^ k) ++ fixed k n
+unfolding fixed
+decimal-split zero n low high =
+    let d : n / 1 ≡ n = omega arith in
+    rw (d, append-nil) refl
+decimal-split (suc k) n low high =
+    let p : 10 ^ suc k ≡ 10 ^ k * 10 = pow-suc 10 k in
+    let one : 1 ≤ 10 ^ k = one-le-pow k 10 (omega arith) in
+    let ten : 10 ≤ n = omega arith in
+    let rest : 10 ^ k ≤ n / 10 = omega arith in
+    rw (decimal_step n ten high, decimal-split k (n / 10) rest (omega arith), div-ten-pow n k, append_assoc) refl
+
+-- a number from 10 ^ k on has more than k digits, and below 10 ^ k it has at most k
+pub decimal_longer : (k n : ℕ) → 10 ^ k ≤ n → n < 2 ^ 64 → k < length (decimal n)
+decimal_longer k n low high =
+    let one : 1 ≤ n / 10 ^ k = le-div 1 n (10 ^ k) (one-le-pow k 10 (omega arith)) (omega arith) in
+    omega (arith, ap length (decimal-split k n low high), length-append (decimal (n / 10 ^ k)) (fixed k n), length-fixed k n, decimal_nonempty (n / 10 ^ k) (omega (arith, div-le_self n (10 ^ k))))
+
+-- so many digits exactly
+pub length-decimal : (k n : ℕ) → 10 ^ k ≤ n → n < 10 ^ suc k → n < 2 ^ 64 → length (decimal n) ≡ suc k
+length-decimal k n low high fits = omega (arith, decimal_longer k n low fits, length-decimal-le (suc k) n (omega arith) high fits)
+
+-- ---- padded text
+
+pub length-padded : (fill k n : ℕ) → length (decimal n) ≤ k → length (padded fill k n) ≡ k
+unfolding padded
+length-padded fill k n h =
+    omega (arith, length-append (replicate {A = ℕ} (k - length (decimal n)) fill) (decimal n), length-replicate (k - length (decimal n)) fill)
+
+-- a number that has all the places needs no padding
+pub padded_whole : (fill k n : ℕ) → k ≤ length (decimal n) → padded fill k n ≡ decimal n
+unfolding padded
+padded_whole fill k n h = let e : k - length (decimal n) ≡ 0 = omega arith in rw e refl
+
+-- a number that leaves the first j places free has the padding there
+pub padded_short : (fill j k n : ℕ) → length (decimal n) ≤ k → padded fill (j + k) n ≡ replicate j fill ++ padded fill k n
+unfolding padded
+padded_short fill j k n h =
+    let places : (j + k) - length (decimal n) ≡ j + (k - length (decimal n)) = omega arith in
+    ap (λ m. replicate m fill ++ decimal n) places
+    ∙ ap (λ bs. bs ++ decimal n) (sym (replicate-append-replicate j (k - length (decimal n)) fill))
+    ∙ append_assoc (replicate j fill) (replicate (k - length (decimal n)) fill) (decimal n)
+
+-- from 10 ^ k on, only what stands before the last k digits is padded
+pub padded-split : (fill j k n : ℕ) → 10 ^ k ≤ n → n < 2 ^ 64 → padded fill (j + k) n ≡ padded fill j (n / 10 ^ k) ++ fixed k n
+unfolding padded
+padded-split fill j k n low high =
+    let d = decimal-split k n low high in
+    let rest = decimal (n / 10 ^ k) in
+    let places : (j + k) - length (decimal n) ≡ j - length rest = omega (arith, ap length d, length-append rest (fixed k n), length-fixed k n) in
+    ap₂ (λ m bs. replicate m fill ++ bs) places d ∙ sym (append_assoc (replicate (j - length rest) fill) rest (fixed k n))
+
+replicate-push : (k : ℕ) → replicate {A = ℕ} k 48 ++ 48 ∷ [] ≡ 48 ∷ replicate {A = ℕ} k 48
+replicate-push zero = refl
+replicate-push (suc k) = ap (λ bs. 48 ∷ bs) (replicate-push k)
+
+fixed-zero : (k : ℕ) → fixed k 0 ≡ replicate k 48
+unfolding fixed
+fixed-zero zero = refl
+fixed-zero (suc k) = rw (fixed-zero k, replicate-push k) refl
+
+-- padded with zeros, it is the fixed digits
+pub zero_padded_is : (k n : ℕ) → n < 10 ^ suc k → n < 2 ^ 64 → zero_padded (suc k) n ≡ fixed (suc k) n
+unfolding fixed padded
+zero_padded_is zero n low high =
+    let m : n % 10 ≡ n = omega arith in
+    rw (decimal_digit n (omega arith), m) refl
+zero_padded_is (suc k) n low high =
+    ⊎_elim (λ (h : n < 10).
+    let z : n / 10 ≡ 0 = omega arith in
+    let m : n % 10 ≡ n = omega arith in
+    let l : suc (suc k) - 1 ≡ suc k = omega arith in
+    rw (decimal_digit n h, l, z, m, fixed-zero k, replicate-push k) refl)
+    (λ (h : 10 ≤ n).
+    let p : 10 ^ suc (suc k) ≡ 10 ^ suc k * 10 = pow-suc 10 (suc k) in
+    let rest : n / 10 < 10 ^ suc k = omega arith in
+    let split = padded-split 48 (suc k) 1 n h high in
+    let j : suc k + 1 ≡ suc (suc k) = omega arith in
+    rw j at split ∙ ap (λ bs. bs ++ fixed 1 n) (zero_padded_is k (n / 10) rest (omega arith)))
+    (cases_lt n 10)
+
+-- ---- small numbers
+
+pub length-digit : (n : ℕ) → n < 10 → length (decimal n) ≡ 1
+length-digit n h = ap length (decimal_digit n h)
+
+-- how many bytes the text has at most, by the number
+pub length-decimal_below : (k n : ℕ) → 0 < k → n < 10 ^ k → n < 2 ^ 64 → length (decimal n) ≤ k
+length-decimal_below k n some h fits = length-decimal-le k n some h fits
+
+pub length-decimal_two : (n : ℕ) → n < 100 → length (decimal n) ≤ 2
+length-decimal_two n h = length-decimal_below 2 n (omega arith) h (omega arith)
+
+pub some_digit : (n : ℕ) → n < 2 ^ 64 → 1 ≤ length (decimal n)
+some_digit n h = omega (arith, decimal_nonempty n h)
+
+-- where 10 ^ k is the greatest power of ten within n
+pub length-decimal_at : (k n : ℕ) → 10 ^ k ≤ n → n < 10 * 10 ^ k → n < 2 ^ 64 → length (decimal n) ≡ k + 1
+length-decimal_at k n low high fits =
+    let p : 10 ^ suc k ≡ 10 ^ k * 10 = pow-suc 10 k in
+    omega (arith, length-decimal k n low (omega arith) fits)
+
+pub length-decimal_zero : (n : ℕ) → n ≡ 0 → length (decimal n) ≡ 1
+length-decimal_zero n e = length-digit n (omega arith)
+
+pub ruleset count_facts = (length-decimal_at, length-decimal_zero)
+
+-- a digit is its own text
+pub decimal_one : (n : ℕ) → n < 10 → decimal n ≡ fixed 1 n
+unfolding fixed
+decimal_one n h = let m : n % 10 ≡ n = omega arith in rw (decimal_digit n h, m) refl
+
+pub ruleset decimal_recursion = (decimal_digit, decimal_step_wide)
+
+-- a number of 64 bits has at most twenty digits
+pub length-decimal_word : (n : ℕ) → n < 2 ^ 64 → length (decimal n) ≤ 20
+length-decimal_word n h = length-decimal-le 20 n (omega arith) (omega arith) h

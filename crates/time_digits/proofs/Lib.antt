@@ -1,0 +1,5 @@
+pub mod DigitLemmas
+pub mod FractionLemmas
+pub mod PieceLemmas
+pub mod TableLemmas
+pub mod WriteLemmas

@@ -1,0 +1,304 @@
+//! The texts of numbers, borrowed from constant tables or written into arrays.
+//!
+//! A text in several pieces is read by joining them, the first piece first.
+ghost use Rattle.std.specs.Prelude.{◌≡◌, ◌+◌, ◌-◌, ◌/◌, ◌%◌, ◌≤◌, [], ◌∷◌, ◌++◌, length, take, drop, min, decimal};
+ghost use Rattle.time_digits.specs.Digits.{fixed, zero_padded, space_padded, joined, piece_lengths};
+ghost use Rattle.time_digits.specs.Fraction.{trimmed_fraction};
+ghost use Rattle.time_digits.specs.Shown.{shown, shown_end};
+
+use crate::ranged::{ru8, ru16, ru32};
+use crate::stack_str::{StackStr, StackTrailingStr};
+use crate::tables::{SINGLE_DIGITS, SPACE_PADDED_PAIRS, ZERO_PADDED_PAIRS, piece_of};
+
+/// The quotient and the remainder of `n` by 100.
+#[inline]
+pub fn div_100(n: ru16<0, 9_999>) -> [ru8<0, 99>; 2]
+    ensures { result ≡ n / 100 ∷ n % 100 ∷ [] }
+{
+    let number = n.get();
+    [
+        ru8::new((number / 100) as u8).unwrap(),
+        ru8::new((number % 100) as u8).unwrap(),
+    ]
+}
+
+/// The digit `n`.
+#[inline]
+#[tactic(auto, using(crate::proofs::TableLemmas::table_facts))]
+pub fn single_digit(n: ru8<0, 9>) -> &'static str
+    ensures text { result.now ≡ decimal n }
+    ensures len { length result.now ≡ 1 }
+{
+    piece_of(SINGLE_DIGITS, n.get() as usize, 1)
+}
+
+/// The one or two digits of `n`.
+#[inline]
+#[tactic(auto, using(crate::proofs::TableLemmas::table_facts))]
+pub fn one_to_two_digits_no_padding(n: ru8<0, 99>) -> &'static str
+    ensures text { result.now ≡ decimal n }
+    ensures some { 1 ≤ length result.now }
+    ensures len { length result.now ≤ 2 }
+{
+    let number = n.get() as usize;
+    if number < 10 {
+        piece_of(ZERO_PADDED_PAIRS, 2 * number + 1, 1)
+    } else {
+        piece_of(ZERO_PADDED_PAIRS, 2 * number, 2)
+    }
+}
+
+/// `n` in two places, with a zero in front where it is below 10.
+#[inline]
+#[tactic(auto, using(crate::proofs::TableLemmas::table_facts))]
+pub fn two_digits_zero_padded(n: ru8<0, 99>) -> &'static str
+    ensures text { result.now ≡ zero_padded 2 n }
+    ensures len { length result.now ≡ 2 }
+{
+    piece_of(ZERO_PADDED_PAIRS, 2 * n.get() as usize, 2)
+}
+
+/// `n` in two places, with a space in front where it is below 10.
+#[inline]
+#[tactic(auto, using(crate::proofs::TableLemmas::table_facts))]
+pub fn two_digits_space_padded(n: ru8<0, 99>) -> &'static str
+    ensures text { result.now ≡ space_padded 2 n }
+    ensures len { length result.now ≡ 2 }
+{
+    piece_of(SPACE_PADDED_PAIRS, 2 * n.get() as usize, 2)
+}
+
+/// The one to three digits of `n`; the second piece holds the last two of them.
+#[inline]
+#[tactic(auto, using(crate::proofs::PieceLemmas::three_places))]
+pub fn one_to_three_digits_no_padding(n: ru16<0, 999>) -> [&'static str; 2]
+    ensures text { joined result ≡ decimal n }
+    ensures pieces { let l = length (decimal n) in piece_lengths result ≡ (l - 2) ∷ min l 2 ∷ [] }
+    ensures some { 1 ≤ length (joined result) }
+    ensures len { length (joined result) ≤ 3 }
+{
+    match n.narrow::<0, 99>() {
+        Some(small) => [
+            "",
+            one_to_two_digits_no_padding(ru8::new(small.get() as u8).unwrap()),
+        ],
+        None => three_digits_zero_padded(n),
+    }
+}
+
+/// `n` in three places, with zeros in front.
+#[inline]
+#[tactic(auto, using(crate::proofs::PieceLemmas::three_places))]
+pub fn three_digits_zero_padded(n: ru16<0, 999>) -> [&'static str; 2]
+    ensures text { joined result ≡ zero_padded 3 n }
+    ensures pieces { piece_lengths result ≡ 1 ∷ 2 ∷ [] }
+    ensures len { length (joined result) ≡ 3 }
+{
+    let [high, low] = div_100(n.expand());
+    [
+        single_digit(high.narrow().unwrap()),
+        two_digits_zero_padded(low),
+    ]
+}
+
+/// `n` in three places, with spaces in front.
+#[inline]
+#[tactic(auto, using(crate::proofs::PieceLemmas::three_places))]
+pub fn three_digits_space_padded(n: ru16<0, 999>) -> [&'static str; 2]
+    ensures text { joined result ≡ space_padded 3 n }
+    ensures pieces { piece_lengths result ≡ 1 ∷ 2 ∷ [] }
+    ensures len { length (joined result) ≡ 3 }
+{
+    let [high, low] = div_100(n.expand());
+    match high.narrow::<1, 9>() {
+        Some(high) => [single_digit(high.expand()), two_digits_zero_padded(low)],
+        None => [" ", two_digits_space_padded(low)],
+    }
+}
+
+/// The one to four digits of `n`; the second piece holds the last two of them.
+#[inline]
+#[tactic(auto, using(crate::proofs::PieceLemmas::four_places))]
+pub fn one_to_four_digits_no_padding(n: ru16<0, 9_999>) -> [&'static str; 2]
+    ensures text { joined result ≡ decimal n }
+    ensures pieces { let l = length (decimal n) in piece_lengths result ≡ (l - 2) ∷ min l 2 ∷ [] }
+    ensures some { 1 ≤ length (joined result) }
+    ensures len { length (joined result) ≤ 4 }
+{
+    match n.narrow::<0, 999>() {
+        Some(small) => one_to_three_digits_no_padding(small),
+        None => four_digits_zero_padded(n),
+    }
+}
+
+/// `n` in four places, with zeros in front.
+#[inline]
+#[tactic(auto, using(crate::proofs::PieceLemmas::four_places))]
+pub fn four_digits_zero_padded(n: ru16<0, 9_999>) -> [&'static str; 2]
+    ensures text { joined result ≡ zero_padded 4 n }
+    ensures pieces { piece_lengths result ≡ 2 ∷ 2 ∷ [] }
+    ensures len { length (joined result) ≡ 4 }
+{
+    let [high, low] = div_100(n);
+    [two_digits_zero_padded(high), two_digits_zero_padded(low)]
+}
+
+/// `n` in four places, with spaces in front.
+#[inline]
+#[tactic(auto, using(crate::proofs::PieceLemmas::four_places))]
+pub fn four_digits_space_padded(n: ru16<0, 9_999>) -> [&'static str; 2]
+    ensures text { joined result ≡ space_padded 4 n }
+    ensures pieces { piece_lengths result ≡ 2 ∷ 2 ∷ [] }
+    ensures len { length (joined result) ≡ 4 }
+{
+    let [high, low] = div_100(n);
+    if high.get() == 0 {
+        ["  ", two_digits_space_padded(low)]
+    } else {
+        [two_digits_space_padded(high), two_digits_zero_padded(low)]
+    }
+}
+
+/// `n` in four places with zeros in front, or all its five or six digits; the first piece is what
+/// stands before the last four digits, empty below 10,000.
+#[inline]
+#[tactic(auto, using(crate::proofs::PieceLemmas::six_places))]
+pub fn four_to_six_digits(n: ru32<0, 999_999>) -> [&'static str; 3]
+    ensures text { joined result ≡ zero_padded 4 n }
+    ensures pieces { piece_lengths result ≡ (length (decimal n) - 4) ∷ 2 ∷ 2 ∷ [] }
+    ensures least { 4 ≤ length (joined result) }
+    ensures len { length (joined result) ≤ 6 }
+{
+    let number = n.get();
+    let [second, third] = last_four_digits(number);
+    if number < 10_000 {
+        ["", second, third]
+    } else {
+        let first = ru8::new((number / 10_000) as u8).unwrap();
+        [one_to_two_digits_no_padding(first), second, third]
+    }
+}
+
+/// `n` in five places, with zeros in front.
+#[inline]
+#[tactic(auto, using(crate::proofs::PieceLemmas::six_places))]
+pub fn five_digits_zero_padded(n: ru32<0, 99_999>) -> [&'static str; 3]
+    ensures text { joined result ≡ zero_padded 5 n }
+    ensures pieces { piece_lengths result ≡ 1 ∷ 2 ∷ 2 ∷ [] }
+    ensures len { length (joined result) ≡ 5 }
+{
+    let number = n.get();
+    let first = ru8::new((number / 10_000) as u8).unwrap();
+    let [second, third] = last_four_digits(number);
+    [single_digit(first), second, third]
+}
+
+/// `n` in six places, with zeros in front.
+#[inline]
+#[tactic(auto, using(crate::proofs::PieceLemmas::six_places))]
+pub fn six_digits_zero_padded(n: ru32<0, 999_999>) -> [&'static str; 3]
+    ensures text { joined result ≡ zero_padded 6 n }
+    ensures pieces { piece_lengths result ≡ 2 ∷ 2 ∷ 2 ∷ [] }
+    ensures len { length (joined result) ≡ 6 }
+{
+    let number = n.get();
+    let first = ru8::new((number / 10_000) as u8).unwrap();
+    let [second, third] = last_four_digits(number);
+    [two_digits_zero_padded(first), second, third]
+}
+
+/// The nine digits of a number of nanoseconds, to stand behind a decimal sign.
+#[inline]
+#[tactic(auto, using(crate::proofs::PieceLemmas::six_places))]
+pub fn subsecond_from_nanos(n: ru32<0, 999_999_999>) -> [&'static str; 5]
+    ensures text { joined result ≡ fixed 9 n }
+    ensures pieces { piece_lengths result ≡ 1 ∷ 2 ∷ 2 ∷ 2 ∷ 2 ∷ [] }
+    ensures len { length (joined result) ≡ 9 }
+{
+    let number = n.get();
+    let [first, second, third] = five_digits_zero_padded(ru32::new(number / 10_000).unwrap());
+    let [fourth, fifth] = last_four_digits(number);
+    [first, second, third, fourth, fifth]
+}
+
+// The last four digits of a number.
+#[inline]
+#[tactic(auto, using(crate::proofs::PieceLemmas::six_places))]
+fn last_four_digits(number: u32) -> [&'static str; 2]
+    ensures text { joined result ≡ fixed 4 number }
+    ensures pieces { piece_lengths result ≡ 2 ∷ 2 ∷ [] }
+{
+    four_digits_zero_padded(ru16::new((number % 10_000) as u16).unwrap())
+}
+
+/// Writes `value` in two places, with a zero where it is below 10, from the byte `offset` on.
+#[inline]
+#[tactic(auto, using(crate::proofs::WriteLemmas::written))]
+pub fn write_two_digits(buf: &mut [u8], offset: usize, value: ru8<0, 99>)
+    requires room { offset + 2 ≤ length buf.old }
+    ensures { buf.new ≡ take offset buf.old ++ fixed 2 value ++ drop (offset + 2) buf.old }
+{
+    buf[offset..offset + 2].copy_from_slice(two_digits_zero_padded(value).as_bytes());
+}
+
+/// Writes the digit `value` to the byte `offset`.
+#[inline]
+#[tactic(auto, using(crate::proofs::WriteLemmas::written))]
+pub fn write_one_digit(buf: &mut [u8], offset: usize, value: ru8<0, 9>)
+    requires room { offset + 1 ≤ length buf.old }
+    ensures { buf.new ≡ take offset buf.old ++ fixed 1 value ++ drop (offset + 1) buf.old }
+{
+    buf[offset..offset + 1].copy_from_slice(single_digit(value).as_bytes());
+}
+
+/// The nine digits of a number of nanoseconds without the zeros at their end, at least one digit.
+#[inline]
+pub fn truncated_subsecond_from_nanos(n: ru32<0, 999_999_999>) -> StackStr<9>
+    ensures text { shown result ≡ trimmed_fraction n }
+    ensures some { 1 ≤ length (shown result) }
+    ensures len { length (shown result) ≤ 9 }
+{
+    let bytes = nine_digits(n);
+    let mut len = 9;
+    while len > 1 && bytes[len - 1] == b'0' {
+        len -= 1;
+    }
+    StackStr::new(bytes, len)
+}
+
+// The nine digits of a number of nanoseconds, the last one first.
+#[inline]
+fn nine_digits(n: ru32<0, 999_999_999>) -> [u8; 9]
+    ensures { result ≡ fixed 9 n }
+{
+    let mut bytes = [b'0'; 9];
+    let mut rest = n.get();
+    for place in (0..9).rev() {
+        bytes[place] = b'0' + (rest % 10) as u8;
+        rest /= 10;
+    }
+    bytes
+}
+
+/// The digits of `value`.
+#[inline]
+pub fn u64_pad_none(value: u64) -> StackTrailingStr<20>
+    ensures text { shown_end result ≡ decimal value }
+    ensures some { 1 ≤ length (shown_end result) }
+    ensures len { length (shown_end result) ≤ 20 }
+{
+    let mut bytes = [b'0'; 20];
+    let mut start = 20;
+    let mut rest = value;
+    while rest > 9 {
+        start -= 1;
+        bytes[start] = b'0' + (rest % 10) as u8;
+        rest /= 10;
+    }
+    start -= 1;
+    bytes[start] = b'0' + rest as u8;
+    StackTrailingStr::new(bytes, start)
+}
+
+#[cfg(test)]
+mod tests;

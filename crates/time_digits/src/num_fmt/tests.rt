@@ -1,0 +1,200 @@
+//! Worked rows, both ends and the powers of ten of each text.
+use super::*;
+use std::process::Abort;
+
+fn digit(rt: &impl Abort, n: u8) -> ru8<0, 9> {
+    ru8::new(n).expect(rt, "a digit")
+}
+
+fn pair(rt: &impl Abort, n: u8) -> ru8<0, 99> {
+    ru8::new(n).expect(rt, "two digits")
+}
+
+fn three(rt: &impl Abort, n: u16) -> ru16<0, 999> {
+    ru16::new(n).expect(rt, "three digits")
+}
+
+fn four(rt: &impl Abort, n: u16) -> ru16<0, 9_999> {
+    ru16::new(n).expect(rt, "four digits")
+}
+
+fn five(rt: &impl Abort, n: u32) -> ru32<0, 99_999> {
+    ru32::new(n).expect(rt, "five digits")
+}
+
+fn six(rt: &impl Abort, n: u32) -> ru32<0, 999_999> {
+    ru32::new(n).expect(rt, "six digits")
+}
+
+fn nine(rt: &impl Abort, n: u32) -> ru32<0, 999_999_999> {
+    ru32::new(n).expect(rt, "nine digits")
+}
+
+#[test]
+fn quotients(rt: HostRuntime) {
+    for (n, high, low) in [
+        (0, 0, 0),
+        (99, 0, 99),
+        (100, 1, 0),
+        (1234, 12, 34),
+        (9999, 99, 99),
+    ] {
+        assert_eq!(rt; div_100(four(&rt, n)), [pair(&rt, high), pair(&rt, low)]);
+    }
+}
+
+#[test]
+fn one_and_two_digits(rt: HostRuntime) {
+    for (n, want) in [(0, "0"), (1, "1"), (9, "9")] {
+        assert_eq!(rt; single_digit(digit(&rt, n)), want);
+    }
+    for (n, plain, zeros, spaces) in [
+        (0, "0", "00", " 0"),
+        (7, "7", "07", " 7"),
+        (9, "9", "09", " 9"),
+        (10, "10", "10", "10"),
+        (42, "42", "42", "42"),
+        (99, "99", "99", "99"),
+    ] {
+        assert_eq!(rt; one_to_two_digits_no_padding(pair(&rt, n)), plain);
+        assert_eq!(rt; two_digits_zero_padded(pair(&rt, n)), zeros);
+        assert_eq!(rt; two_digits_space_padded(pair(&rt, n)), spaces);
+    }
+}
+
+#[test]
+fn three_digits(rt: HostRuntime) {
+    for (n, plain, zeros, spaces) in [
+        (0, ["", "0"], ["0", "00"], [" ", " 0"]),
+        (7, ["", "7"], ["0", "07"], [" ", " 7"]),
+        (10, ["", "10"], ["0", "10"], [" ", "10"]),
+        (99, ["", "99"], ["0", "99"], [" ", "99"]),
+        (100, ["1", "00"], ["1", "00"], ["1", "00"]),
+        (105, ["1", "05"], ["1", "05"], ["1", "05"]),
+        (999, ["9", "99"], ["9", "99"], ["9", "99"]),
+    ] {
+        assert_eq!(rt; one_to_three_digits_no_padding(three(&rt, n)), plain);
+        assert_eq!(rt; three_digits_zero_padded(three(&rt, n)), zeros);
+        assert_eq!(rt; three_digits_space_padded(three(&rt, n)), spaces);
+    }
+}
+
+#[test]
+fn four_digits(rt: HostRuntime) {
+    for (n, plain, zeros, spaces) in [
+        (0, ["", "0"], ["00", "00"], ["  ", " 0"]),
+        (5, ["", "5"], ["00", "05"], ["  ", " 5"]),
+        (45, ["", "45"], ["00", "45"], ["  ", "45"]),
+        (100, ["1", "00"], ["01", "00"], [" 1", "00"]),
+        (105, ["1", "05"], ["01", "05"], [" 1", "05"]),
+        (1000, ["10", "00"], ["10", "00"], ["10", "00"]),
+        (9999, ["99", "99"], ["99", "99"], ["99", "99"]),
+    ] {
+        assert_eq!(rt; one_to_four_digits_no_padding(four(&rt, n)), plain);
+        assert_eq!(rt; four_digits_zero_padded(four(&rt, n)), zeros);
+        assert_eq!(rt; four_digits_space_padded(four(&rt, n)), spaces);
+    }
+}
+
+#[test]
+fn four_to_six(rt: HostRuntime) {
+    for (n, want) in [
+        (0, ["", "00", "00"]),
+        (7, ["", "00", "07"]),
+        (9_999, ["", "99", "99"]),
+        (10_000, ["1", "00", "00"]),
+        (100_000, ["10", "00", "00"]),
+        (123_456, ["12", "34", "56"]),
+        (999_999, ["99", "99", "99"]),
+    ] {
+        assert_eq!(rt; four_to_six_digits(six(&rt, n)), want);
+    }
+}
+
+#[test]
+fn five_and_six_digits(rt: HostRuntime) {
+    for (n, want) in [
+        (0, ["0", "00", "00"]),
+        (7, ["0", "00", "07"]),
+        (10_000, ["1", "00", "00"]),
+        (99_999, ["9", "99", "99"]),
+    ] {
+        assert_eq!(rt; five_digits_zero_padded(five(&rt, n)), want);
+    }
+    for (n, want) in [
+        (0, ["00", "00", "00"]),
+        (12_345, ["01", "23", "45"]),
+        (100_000, ["10", "00", "00"]),
+        (999_999, ["99", "99", "99"]),
+    ] {
+        assert_eq!(rt; six_digits_zero_padded(six(&rt, n)), want);
+    }
+}
+
+#[test]
+fn nanoseconds(rt: HostRuntime) {
+    for (n, want) in [
+        (0, ["0", "00", "00", "00", "00"]),
+        (1, ["0", "00", "00", "00", "01"]),
+        (123_456_789, ["1", "23", "45", "67", "89"]),
+        (120_000_000, ["1", "20", "00", "00", "00"]),
+        (999_999_999, ["9", "99", "99", "99", "99"]),
+    ] {
+        assert_eq!(rt; subsecond_from_nanos(nine(&rt, n)), want);
+    }
+}
+
+#[test]
+fn trimmed_nanoseconds(rt: HostRuntime) {
+    for (n, want) in [
+        (0, "0"),
+        (1, "000000001"),
+        (10, "00000001"),
+        (100, "0000001"),
+        (1_000, "000001"),
+        (10_000, "00001"),
+        (100_000, "0001"),
+        (1_000_000, "001"),
+        (10_000_000, "01"),
+        (100_000_000, "1"),
+        (120_000_000, "12"),
+        (101_000_000, "101"),
+        (999_999_999, "999999999"),
+    ] {
+        let text = truncated_subsecond_from_nanos(nine(&rt, n));
+        assert_eq!(rt; text.as_str(), want);
+        assert_eq!(rt; text.len(), want.len());
+    }
+}
+
+#[test]
+fn whole_numbers(rt: HostRuntime) {
+    for (n, want) in [
+        (0, "0"),
+        (9, "9"),
+        (10, "10"),
+        (99, "99"),
+        (999, "999"),
+        (1_000, "1000"),
+        (9_999, "9999"),
+        (10_000, "10000"),
+        (100_000_007, "100000007"),
+        (10_000_000_000_000_000, "10000000000000000"),
+        (u64::MAX, "18446744073709551615"),
+    ] {
+        let text = u64_pad_none(n);
+        assert_eq!(rt; text.as_str(), want);
+        assert_eq!(rt; text.len(), want.len());
+    }
+}
+
+#[test]
+fn written_digits(rt: HostRuntime) {
+    let mut buf = *b"......";
+    write_two_digits(&mut buf, 2, pair(&rt, 7));
+    assert_eq!(rt; buf, *b"..07..");
+    write_one_digit(&mut buf, 5, digit(&rt, 9));
+    assert_eq!(rt; buf, *b"..07.9");
+    write_two_digits(&mut buf, 0, pair(&rt, 42));
+    assert_eq!(rt; buf, *b"4207.9");
+}

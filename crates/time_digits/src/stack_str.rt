@@ -1,0 +1,116 @@
+//! Short ASCII texts that stand in arrays of their own.
+ghost use Rattle.std.specs.Prelude.{◌≡◌, ◌≤◌, ◌-◌, length, take, drop, IsAscii};
+
+/// An ASCII text of at most `N` bytes, at the start of its array.
+#[derive(Clone, Copy)]
+pub struct StackStr<const N: usize> {
+    bytes: [u8; N],
+    len: usize,
+    ghost within: { len ≤ N },
+    ghost ascii: { IsAscii (take len bytes) },
+}
+
+impl<const N: usize> StackStr<N> {
+    ghost use Rattle.time_digits.specs.Shown.{shown};
+
+    /// The text of the first `len` bytes.
+    #[inline]
+    pub fn new(bytes: [u8; N], len: usize) -> Self
+        requires within { len ≤ N }
+        requires ascii { IsAscii (take len bytes) }
+        ensures { shown result ≡ take len bytes.entry }
+    {
+        StackStr { bytes, len }
+    }
+
+    /// The number of bytes of the text, at most `N`.
+    #[inline]
+    pub fn len(&self) -> usize
+        ensures value { result ≡ length (shown self.now) }
+        ensures within { result ≤ N }
+    {
+        self.len
+    }
+
+    /// The text.
+    #[inline]
+    pub fn as_str(&self) -> &str
+        ensures { result.now ≡ shown self.now }
+    {
+        match std::str::from_utf8(&self.bytes[..self.len]) {
+            Ok(text) => text,
+            Err(_) => unreachable!(),
+        }
+    }
+}
+
+/// An ASCII text of at most `N` bytes, at the end of its array.
+#[derive(Clone, Copy)]
+pub struct StackTrailingStr<const N: usize> {
+    bytes: [u8; N],
+    start: usize,
+    ghost within: { start ≤ N },
+    ghost ascii: { IsAscii (drop start bytes) },
+}
+
+impl<const N: usize> StackTrailingStr<N> {
+    ghost use Rattle.time_digits.specs.Shown.{shown_end};
+
+    /// The text of the bytes from `start` on.
+    #[inline]
+    pub fn new(bytes: [u8; N], start: usize) -> Self
+        requires within { start ≤ N }
+        requires ascii { IsAscii (drop start bytes) }
+        ensures { shown_end result ≡ drop start bytes.entry }
+    {
+        StackTrailingStr { bytes, start }
+    }
+
+    /// The number of bytes of the text, at most `N`.
+    #[inline]
+    pub fn len(&self) -> usize
+        ensures value { result ≡ length (shown_end self.now) }
+        ensures within { result ≤ N }
+    {
+        N - self.start
+    }
+
+    /// The text.
+    #[inline]
+    pub fn as_str(&self) -> &str
+        ensures { result.now ≡ shown_end self.now }
+    {
+        let bytes = &self.bytes[..];
+        match std::str::from_utf8(&bytes[self.start..]) {
+            Ok(text) => text,
+            Err(_) => unreachable!(),
+        }
+    }
+}
+
+#[cfg(test)]
+mod tests {
+    use super::*;
+
+    #[test]
+    fn first_bytes(rt: HostRuntime) {
+        let text = StackStr::new(*b"12000", 2);
+        assert_eq!(rt; text.as_str(), "12");
+        assert_eq!(rt; text.len(), 2);
+        let copy = text;
+        assert_eq!(rt; copy.as_str(), text.as_str());
+        assert_eq!(rt; StackStr::new(*b"12", 2).as_str(), "12");
+        assert_eq!(rt; StackStr::new(*b"12", 0).as_str(), "");
+    }
+
+    #[test]
+    fn last_bytes(rt: HostRuntime) {
+        let text = StackTrailingStr::new(*b"00042", 3);
+        assert_eq!(rt; text.as_str(), "42");
+        assert_eq!(rt; text.len(), 2);
+        let copy = text;
+        assert_eq!(rt; copy.as_str(), text.as_str());
+        assert_eq!(rt; StackTrailingStr::new(*b"42", 0).as_str(), "42");
+        assert_eq!(rt; StackTrailingStr::new(*b"42", 2).as_str(), "");
+    }
+}

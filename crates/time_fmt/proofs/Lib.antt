@@ -1,0 +1,3 @@
+pub mod BorrowedTrees
+pub mod Engine
+pub mod TextLemmas

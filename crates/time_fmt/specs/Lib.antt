@@ -1,0 +1,5 @@
+pub mod DateText
+pub mod Description
+pub mod Outcome
+pub mod Room
+pub mod Text

@@ -1,0 +1,45 @@
+-- Outcomes: bytes, and perhaps a refusal after them.
+use Rattle.std.specs.Prelude.{ℕ, ◌≡◌, ◌≤◌, ◌+◌, List, [], ◌++◌, length, Option, Some, None, Result, IfOk, IfErr, IsSomeAnd, vec_len, vec_capacity, Vec}
+use Rattle.std.specs.Global.{Global}
+use Rattle.time_below.specs.ComponentRange.{RangeRefusal, range_refusal}
+use Rattle.time_fmt.specs.declared.error.Format.{Format}
+use Rattle.time_fmt.specs.declared.error.Format.TheVariants as error
+
+-- what a description may refuse: the want of memory is none of it
+pub data Refusal : Type 0 where
+  insufficient : Refusal
+  invalid_component : List ℕ → Refusal
+  out_of_range : RangeRefusal → Refusal
+
+-- the error that names a refusal
+abbrev pub Names : Format → Refusal → Type 0
+Names error.InsufficientTypeInformation insufficient = Unit {0}
+Names (error.InvalidComponent name) (invalid_component component) = name.now ≡ component
+Names (error.ComponentRange range) (out_of_range refusal) = range_refusal range ≡ refusal
+Names e r = ⊥
+
+pub record Outcome : Type 0 where
+  pub bytes : List ℕ
+  pub refusal : Option Refusal
+
+abbrev pub done : List ℕ → Outcome
+done text = record { bytes = text; refusal = None }
+
+abbrev pub refused : Refusal → Outcome
+refused r = record { bytes = []; refusal = Some r }
+
+-- one after the other: nothing follows a refusal
+abbrev pub join : Outcome → Outcome → Outcome
+join a b = elim a.refusal [
+  | None ↦ record { bytes = a.bytes ++ b.bytes; refusal = b.refusal }
+  | Some r ↦ a
+]
+
+-- The bytes of the outcome are appended, and the answer is their number, or names the refusal. The
+-- room afterwards is at least the room before less the bytes appended, since no capacity is lost.
+pub record Appends (old new : Vec ℕ Global) (answer : Result ℕ Format) (o : Outcome) : Type 0 where
+  pub appended : new.items ≡ old.items ++ o.bytes
+  pub counted : IfOk answer (λ n. (o.refusal ≡ None) × (n ≡ length o.bytes))
+  pub named : IfErr answer (λ e. IsSomeAnd o.refusal (Names e))
+  pub grown : vec_len new ≡ vec_len old + length o.bytes
+  pub capacity : vec_capacity old ≤ vec_capacity new

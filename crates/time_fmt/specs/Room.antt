@@ -1,0 +1,15 @@
+-- Room at the end of a vector of bytes, and what is written into it.
+use Rattle.std.specs.Prelude.{ℕ, ◌≡◌, ◌+◌, ◌≤◌, ◌++◌, List, length, vec_len, vec_capacity, Vec}
+use Rattle.std.specs.Global.{Global}
+
+-- the capacity leaves so many bytes behind what is there
+abbrev pub HasRoom : Vec ℕ Global → ℕ → Type 0
+HasRoom output width = vec_len output + width ≤ vec_capacity output
+
+-- The text was appended, and the count is its length. The room afterwards is at least the room
+-- before less the bytes appended, since no capacity is lost.
+pub record Writes (old new : Vec ℕ Global) (count : ℕ) (text : List ℕ) : Type 0 where
+  pub appended : new.items ≡ old.items ++ text
+  pub counted : count ≡ length text
+  pub grown : vec_len new ≡ vec_len old + length text
+  pub capacity : vec_capacity old ≤ vec_capacity new

@@ -1,0 +1,252 @@
+//! The engine for one component.
+ghost use Rattle.std.specs.Prelude.{◌≡◌, ◌↔◌, ◌+◌, ◌/◌, ◌%◌, ◌≤◌, IsOk, IfOk, IfErr, codes, unsigned_abs, vec_len};
+ghost use Rattle.time_below.specs.ComponentRange.{conditional_range};
+ghost use Rattle.time_below.specs.Width.{component_width};
+ghost use Rattle.time_fmt.specs.Description.{component_outcome, century_of};
+ghost use Rattle.time_fmt.specs.Outcome.{Appends, Names, out_of_range};
+ghost use Rattle.time_fmt.specs.Room.{HasRoom};
+
+use crate::error::Format;
+use crate::writers::{
+    fmt_calendar_year_century_extended_range, fmt_calendar_year_century_standard_range,
+    fmt_calendar_year_full_extended_range, fmt_calendar_year_full_standard_range,
+    fmt_calendar_year_last_two, fmt_day, fmt_hour_12, fmt_hour_24,
+    fmt_iso_year_century_extended_range, fmt_iso_year_century_standard_range,
+    fmt_iso_year_full_extended_range, fmt_iso_year_full_standard_range, fmt_iso_year_last_two,
+    fmt_minute, fmt_month_long, fmt_month_numerical, fmt_month_short, fmt_offset_hour,
+    fmt_offset_minute, fmt_offset_second, fmt_ordinal, fmt_period, fmt_second, fmt_subsecond,
+    fmt_unix_timestamp_millisecond, fmt_unix_timestamp_second, fmt_week_number_iso,
+    fmt_week_number_monday, fmt_week_number_sunday, fmt_weekday_long, fmt_weekday_monday,
+    fmt_weekday_short, fmt_weekday_sunday,
+};
+use time_below::ComponentRange;
+use time_below::format_description::Component;
+use time_digits::{ri8, ri16, ru8};
+use time_provide::ComponentProvider;
+use time_provide::ranges::{ExtendedCentury, LastTwo, StandardCentury, StandardYear, Year};
+
+/// What is written if the value supplies the group, else the refusal.
+macro_rules! of_group {
+    ($supplied:expr, $written:expr) => {
+        if $supplied {
+            Ok($written)
+        } else {
+            Err(Format::InsufficientTypeInformation)
+        }
+    };
+}
+
+/// The same of a number that may be outside the range of its component.
+macro_rules! of_group_in_range {
+    ($supplied:expr, $number:ident, $checked:expr, $written:expr) => {
+        if $supplied {
+            match $checked {
+                Ok($number) => Ok($written),
+                Err(refusal) => Err(refusal),
+            }
+        } else {
+            Err(Format::InsufficientTypeInformation)
+        }
+    };
+}
+
+/// The year, if it has at most four digits.
+fn standard_year(year: Year) -> Result<StandardYear, Format>
+    ensures accepted { IsOk result ↔ (unsigned_abs year ≤ 9_999) }
+    ensures value { IfOk result (λ y. y ≡ year) }
+    ensures refusal { IfErr result (λ e. Names e (out_of_range (conditional_range (codes "year")))) }
+{
+    let number = year.get();
+    if number.unsigned_abs() > 9_999 {
+        return Err(Format::ComponentRange(ComponentRange::conditional("year")));
+    }
+    Ok(ri16::new(number as i16).unwrap())
+}
+
+/// The year without its last two digits, toward zero.
+fn extended_century(year: Year) -> ExtendedCentury
+    ensures value { unsigned_abs result ≡ century_of year }
+    ensures range { unsigned_abs result ≤ 9_999 }
+{
+    ri16::new((year.get() / 100) as i16).unwrap()
+}
+
+/// The century of the year, if it has at most two digits.
+fn standard_century(year: Year) -> Result<StandardCentury, Format>
+    ensures accepted { IsOk result ↔ (century_of year ≤ 99) }
+    ensures value { IfOk result (λ c. unsigned_abs c ≡ century_of year) }
+    ensures refusal { IfErr result (λ e. Names e (out_of_range (conditional_range (codes "year")))) }
+{
+    let century = year.get() / 100;
+    if century.unsigned_abs() > 99 {
+        return Err(Format::ComponentRange(ComponentRange::conditional("year")));
+    }
+    Ok(ri8::new(century as i8).unwrap())
+}
+
+/// The last two digits of the year.
+fn last_two(year: Year) -> LastTwo
+    ensures { result ≡ unsigned_abs year % 100 }
+{
+    ru8::new((year.get().unsigned_abs() % 100) as u8).unwrap()
+}
+
+/// Appends the text of the component where there is room for its width. Takes no memory.
+///
+/// Answers the number of bytes appended, or the refusal of the component, which has no bytes.
+#[inline]
+#[tactic(auto, using(crate::proofs::TextLemmas::text_lengths))]
+pub fn component_write_into<V: ComponentProvider>(
+    component: &Component,
+    output: &mut Vec<u8>,
+    value: &V,
+    state: &mut V::State,
+) -> Result<usize, Format>
+    requires room { HasRoom output.old (component_width component.now) }
+    requires agrees { V.agrees state.old value.now }
+    ensures appends { Appends output.old output.new result (component_outcome component.now (V.facts value.now)) }
+    ensures within { vec_len output.new ≤ vec_len output.old + component_width component.now }
+    ensures agrees { V.agrees state.new value.now }
+{
+    match component {
+        Component::Day(modifier) => {
+            of_group!(V::SUPPLIES_DATE, fmt_day(output, value.day(state), *modifier))
+        }
+        Component::MonthShort(modifier) => {
+            of_group!(V::SUPPLIES_DATE, fmt_month_short(output, value.month(state), *modifier))
+        }
+        Component::MonthLong(modifier) => {
+            of_group!(V::SUPPLIES_DATE, fmt_month_long(output, value.month(state), *modifier))
+        }
+        Component::MonthNumerical(modifier) => {
+            of_group!(V::SUPPLIES_DATE, fmt_month_numerical(output, value.month(state), *modifier))
+        }
+        Component::Ordinal(modifier) => {
+            of_group!(V::SUPPLIES_DATE, fmt_ordinal(output, value.ordinal(state), *modifier))
+        }
+        Component::WeekdayShort(modifier) => {
+            of_group!(V::SUPPLIES_DATE, fmt_weekday_short(output, value.weekday(state), *modifier))
+        }
+        Component::WeekdayLong(modifier) => {
+            of_group!(V::SUPPLIES_DATE, fmt_weekday_long(output, value.weekday(state), *modifier))
+        }
+        Component::WeekdaySunday(modifier) => {
+            of_group!(V::SUPPLIES_DATE, fmt_weekday_sunday(output, value.weekday(state), *modifier))
+        }
+        Component::WeekdayMonday(modifier) => {
+            of_group!(V::SUPPLIES_DATE, fmt_weekday_monday(output, value.weekday(state), *modifier))
+        }
+        Component::WeekNumberIso(modifier) => {
+            of_group!(V::SUPPLIES_DATE, fmt_week_number_iso(output, value.iso_week_number(state), *modifier))
+        }
+        Component::WeekNumberSunday(modifier) => {
+            of_group!(V::SUPPLIES_DATE, fmt_week_number_sunday(output, value.sunday_based_week(state), *modifier))
+        }
+        Component::WeekNumberMonday(modifier) => {
+            of_group!(V::SUPPLIES_DATE, fmt_week_number_monday(output, value.monday_based_week(state), *modifier))
+        }
+        Component::CalendarYearFullExtendedRange(modifier) => {
+            of_group!(V::SUPPLIES_DATE, fmt_calendar_year_full_extended_range(output, value.calendar_year(state), *modifier))
+        }
+        Component::CalendarYearFullStandardRange(modifier) => of_group_in_range!(
+            V::SUPPLIES_DATE,
+            year,
+            standard_year(value.calendar_year(state)),
+            fmt_calendar_year_full_standard_range(output, year, *modifier)
+        ),
+        Component::CalendarYearCenturyExtendedRange(modifier) => {
+            if V::SUPPLIES_DATE {
+                let year = value.calendar_year(state);
+                let century = extended_century(year);
+                Ok(fmt_calendar_year_century_extended_range(output, century, year.is_negative(), *modifier))
+            } else {
+                Err(Format::InsufficientTypeInformation)
+            }
+        }
+        Component::CalendarYearCenturyStandardRange(modifier) => {
+            if V::SUPPLIES_DATE {
+                let year = value.calendar_year(state);
+                match standard_century(year) {
+                    Ok(century) => Ok(fmt_calendar_year_century_standard_range(output, century, year.is_negative(), *modifier)),
+                    Err(refusal) => Err(refusal),
+                }
+            } else {
+                Err(Format::InsufficientTypeInformation)
+            }
+        }
+        Component::CalendarYearLastTwo(modifier) => {
+            of_group!(V::SUPPLIES_DATE, fmt_calendar_year_last_two(output, last_two(value.calendar_year(state)), *modifier))
+        }
+        Component::IsoYearFullExtendedRange(modifier) => {
+            of_group!(V::SUPPLIES_DATE, fmt_iso_year_full_extended_range(output, value.iso_year(state), *modifier))
+        }
+        Component::IsoYearFullStandardRange(modifier) => of_group_in_range!(
+            V::SUPPLIES_DATE,
+            year,
+            standard_year(value.iso_year(state)),
+            fmt_iso_year_full_standard_range(output, year, *modifier)
+        ),
+        Component::IsoYearCenturyExtendedRange(modifier) => {
+            if V::SUPPLIES_DATE {
+                let year = value.iso_year(state);
+                let century = extended_century(year);
+                Ok(fmt_iso_year_century_extended_range(output, century, year.is_negative(), *modifier))
+            } else {
+                Err(Format::InsufficientTypeInformation)
+            }
+        }
+        Component::IsoYearCenturyStandardRange(modifier) => {
+            if V::SUPPLIES_DATE {
+                let year = value.iso_year(state);
+                match standard_century(year) {
+                    Ok(century) => Ok(fmt_iso_year_century_standard_range(output, century, year.is_negative(), *modifier)),
+                    Err(refusal) => Err(refusal),
+                }
+            } else {
+                Err(Format::InsufficientTypeInformation)
+            }
+        }
+        Component::IsoYearLastTwo(modifier) => {
+            of_group!(V::SUPPLIES_DATE, fmt_iso_year_last_two(output, last_two(value.iso_year(state)), *modifier))
+        }
+        Component::Hour12(modifier) => {
+            of_group!(V::SUPPLIES_TIME, fmt_hour_12(output, value.hour(state), *modifier))
+        }
+        Component::Hour24(modifier) => {
+            of_group!(V::SUPPLIES_TIME, fmt_hour_24(output, value.hour(state), *modifier))
+        }
+        Component::Minute(modifier) => {
+            of_group!(V::SUPPLIES_TIME, fmt_minute(output, value.minute(state), *modifier))
+        }
+        Component::Period(modifier) => {
+            of_group!(V::SUPPLIES_TIME, fmt_period(output, value.period(state), *modifier))
+        }
+        Component::Second(modifier) => {
+            of_group!(V::SUPPLIES_TIME, fmt_second(output, value.second(state), *modifier))
+        }
+        Component::Subsecond(modifier) => {
+            of_group!(V::SUPPLIES_TIME, fmt_subsecond(output, value.nanosecond(state), *modifier))
+        }
+        Component::OffsetHour(modifier) => {
+            if V::SUPPLIES_OFFSET {
+                let is_negative = value.offset_is_negative(state);
+                Ok(fmt_offset_hour(output, is_negative, value.offset_hour(state), *modifier))
+            } else {
+                Err(Format::InsufficientTypeInformation)
+            }
+        }
+        Component::OffsetMinute(modifier) => {
+            of_group!(V::SUPPLIES_OFFSET, fmt_offset_minute(output, value.offset_minute(state), *modifier))
+        }
+        Component::OffsetSecond(modifier) => {
+            of_group!(V::SUPPLIES_OFFSET, fmt_offset_second(output, value.offset_second(state), *modifier))
+        }
+        Component::UnixTimestampSecond(modifier) => {
+            of_group!(V::SUPPLIES_TIMESTAMP, fmt_unix_timestamp_second(output, value.unix_timestamp_seconds(state), *modifier))
+        }
+        Component::UnixTimestampMillisecond(modifier) => {
+            of_group!(V::SUPPLIES_TIMESTAMP, fmt_unix_timestamp_millisecond(output, value.unix_timestamp_milliseconds(state), *modifier))
+        }
+        Component::Ignore(_) | Component::End(_) => Ok(0),
+    }
+}

@@ -1,0 +1,15 @@
+//! The formatter: the text of a value by a description, appended to a vector of bytes.
+#![tactic(auto)]
+
+mod component;
+mod error;
+mod formattable;
+mod metadata;
+pub mod writers;
+
+pub use component::component_write_into;
+pub use error::Format;
+pub use formattable::Formattable;
+pub use metadata::{ComputeMetadata, Metadata};
+pub use time_below::{ComponentRange, Period, Time, format_description};
+pub use time_provide::ComponentProvider;

@@ -1,0 +1,43 @@
+//! The seconds and milliseconds since 1970-01-01T00:00:00 UTC.
+ghost use Rattle.std.specs.Prelude.{length};
+ghost use Rattle.time_fmt.specs.Room.{HasRoom, Writes};
+ghost use Rattle.time_fmt.specs.Text.{timestamp_text};
+
+use crate::writers::digits::{fmt_sign, format_u64_pad_none};
+use time_below::format_description::modifier;
+
+/// Appends the seconds by all their digits.
+#[inline]
+pub fn fmt_unix_timestamp_second(
+    output: &mut Vec<u8>,
+    seconds: i64,
+    modifier: modifier::UnixTimestampSecond,
+) -> usize
+    requires room { HasRoom output.old (length (timestamp_text modifier.sign_is_mandatory seconds)) }
+    ensures writes { Writes output.old output.new result (timestamp_text modifier.sign_is_mandatory seconds) }
+{
+    format_signed(output, seconds, modifier.sign_is_mandatory)
+}
+
+/// Appends the milliseconds by all their digits.
+#[inline]
+pub fn fmt_unix_timestamp_millisecond(
+    output: &mut Vec<u8>,
+    milliseconds: i64,
+    modifier: modifier::UnixTimestampMillisecond,
+) -> usize
+    requires room { HasRoom output.old (length (timestamp_text modifier.sign_is_mandatory milliseconds)) }
+    ensures writes { Writes output.old output.new result (timestamp_text modifier.sign_is_mandatory milliseconds) }
+{
+    format_signed(output, milliseconds, modifier.sign_is_mandatory)
+}
+
+// The sign, and all digits.
+#[tactic(auto, using(crate::proofs::TextLemmas::signed_parts))]
+fn format_signed(output: &mut Vec<u8>, number: i64, sign_is_mandatory: bool) -> usize
+    requires room { HasRoom output.old (length (timestamp_text sign_is_mandatory number)) }
+    ensures writes { Writes output.old output.new result (timestamp_text sign_is_mandatory number) }
+{
+    let sign = fmt_sign(output, number < 0, sign_is_mandatory);
+    sign + format_u64_pad_none(output, number.unsigned_abs())
+}

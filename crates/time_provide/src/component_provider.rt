@@ -1,0 +1,226 @@
+//! The components of a value.
+ghost use Rattle.std.specs.Prelude.{◌≡◌, ◌≤◌, ◌<◌, Bool, IsTrue, IfSome, is_some, unsigned_abs};
+ghost use Rattle.std.specs.Int.{IsInRange};
+ghost use Rattle.time_below.specs.Facts.{Facts, DateFacts};
+ghost use Rattle.time_below.specs.Moment.{Moment, milliseconds};
+ghost use Rattle.time_below.specs.Month.{month_number};
+ghost use Rattle.time_below.specs.Offset.{Offset, is_negative, is_utc};
+ghost use Rattle.time_below.specs.TimeOfDay.{TimeOfDay, period_of};
+ghost use Rattle.time_below.specs.Weekday.{days_from_monday};
+
+use crate::ranges::{
+    Day, Hours, IsoWeekNumber, Minutes, MondayBasedWeek, Nanoseconds, OffsetHours, OffsetMinutes,
+    OffsetSeconds, Ordinal, Seconds, SundayBasedWeek, Year,
+};
+use std::default::Default;
+use time_below::{Month, Period, Weekday};
+
+/// Gives the components of a value, group by group.
+///
+/// A method may keep in the state what it computed. It may be called where the value supplies its
+/// group and the state agrees with the value, and the state agrees afterwards.
+pub trait ComponentProvider {
+    /// What earlier calls for the same value computed.
+    type State: Default;
+
+    /// The components of the value.
+    ghost facts: { Self → Facts };
+
+    /// The state holds nothing but components of the value.
+    ghost agrees: { Self.State → Self → Type 0 };
+
+    ghost SUPPLIES_DATE: { Bool };
+
+    /// Whether the value has a date.
+    const SUPPLIES_DATE: bool;
+
+    ghost SUPPLIES_TIME: { Bool };
+
+    /// Whether the value has a time of day.
+    const SUPPLIES_TIME: bool;
+
+    ghost SUPPLIES_OFFSET: { Bool };
+
+    /// Whether the value has an offset from UTC.
+    const SUPPLIES_OFFSET: bool;
+
+    ghost SUPPLIES_TIMESTAMP: { Bool };
+
+    /// Whether the value is a moment.
+    const SUPPLIES_TIMESTAMP: bool;
+
+    /// The day of the month.
+    fn day(&self, state: &mut Self::State) -> Day
+        requires supplied { IsTrue SUPPLIES_DATE }
+        requires agrees { agrees state.old self.now }
+        ensures value { IfSome (facts self.now).date (λ d. result ≡ d.day) }
+        ensures range { IsInRange 1 31 result }
+        ensures agrees { agrees state.new self.now };
+
+    /// The month.
+    fn month(&self, state: &mut Self::State) -> Month
+        requires supplied { IsTrue SUPPLIES_DATE }
+        requires agrees { agrees state.old self.now }
+        ensures value { IfSome (facts self.now).date (λ d. month_number result ≡ d.month) }
+        ensures agrees { agrees state.new self.now };
+
+    /// The day of the year.
+    fn ordinal(&self, state: &mut Self::State) -> Ordinal
+        requires supplied { IsTrue SUPPLIES_DATE }
+        requires agrees { agrees state.old self.now }
+        ensures value { IfSome (facts self.now).date (λ d. result ≡ d.ordinal) }
+        ensures range { IsInRange 1 366 result }
+        ensures agrees { agrees state.new self.now };
+
+    /// The day of the week.
+    fn weekday(&self, state: &mut Self::State) -> Weekday
+        requires supplied { IsTrue SUPPLIES_DATE }
+        requires agrees { agrees state.old self.now }
+        ensures value { IfSome (facts self.now).date (λ d. days_from_monday result ≡ d.weekday) }
+        ensures agrees { agrees state.new self.now };
+
+    /// The week of the week calendar.
+    fn iso_week_number(&self, state: &mut Self::State) -> IsoWeekNumber
+        requires supplied { IsTrue SUPPLIES_DATE }
+        requires agrees { agrees state.old self.now }
+        ensures value { IfSome (facts self.now).date (λ d. result ≡ d.iso_week) }
+        ensures range { IsInRange 1 53 result }
+        ensures agrees { agrees state.new self.now };
+
+    /// The week of the year, by its Mondays.
+    fn monday_based_week(&self, state: &mut Self::State) -> MondayBasedWeek
+        requires supplied { IsTrue SUPPLIES_DATE }
+        requires agrees { agrees state.old self.now }
+        ensures value { IfSome (facts self.now).date (λ d. result ≡ d.monday_based_week) }
+        ensures range { result ≤ 53 }
+        ensures agrees { agrees state.new self.now };
+
+    /// The week of the year, by its Sundays.
+    fn sunday_based_week(&self, state: &mut Self::State) -> SundayBasedWeek
+        requires supplied { IsTrue SUPPLIES_DATE }
+        requires agrees { agrees state.old self.now }
+        ensures value { IfSome (facts self.now).date (λ d. result ≡ d.sunday_based_week) }
+        ensures range { result ≤ 53 }
+        ensures agrees { agrees state.new self.now };
+
+    /// The year.
+    fn calendar_year(&self, state: &mut Self::State) -> Year
+        requires supplied { IsTrue SUPPLIES_DATE }
+        requires agrees { agrees state.old self.now }
+        ensures value { IfSome (facts self.now).date (λ d. result ≡ d.year) }
+        ensures range { unsigned_abs result ≤ 999_999 }
+        ensures agrees { agrees state.new self.now };
+
+    /// The year of the week calendar.
+    fn iso_year(&self, state: &mut Self::State) -> Year
+        requires supplied { IsTrue SUPPLIES_DATE }
+        requires agrees { agrees state.old self.now }
+        ensures value { IfSome (facts self.now).date (λ d. result ≡ d.iso_year) }
+        ensures range { unsigned_abs result ≤ 999_999 }
+        ensures agrees { agrees state.new self.now };
+
+    /// The hour of the day.
+    fn hour(&self, state: &mut Self::State) -> Hours
+        requires supplied { IsTrue SUPPLIES_TIME }
+        requires agrees { agrees state.old self.now }
+        ensures value { IfSome (facts self.now).time (λ t. result ≡ t.hour) }
+        ensures range { result ≤ 23 }
+        ensures agrees { agrees state.new self.now };
+
+    /// The minute of the hour.
+    fn minute(&self, state: &mut Self::State) -> Minutes
+        requires supplied { IsTrue SUPPLIES_TIME }
+        requires agrees { agrees state.old self.now }
+        ensures value { IfSome (facts self.now).time (λ t. result ≡ t.minute) }
+        ensures range { result ≤ 59 }
+        ensures agrees { agrees state.new self.now };
+
+    /// The half of the day.
+    fn period(&self, state: &mut Self::State) -> Period
+        requires supplied { IsTrue SUPPLIES_TIME }
+        requires agrees { agrees state.old self.now }
+        ensures value { IfSome (facts self.now).time (λ t. result ≡ period_of t) }
+        ensures agrees { agrees state.new self.now };
+
+    /// The second of the minute.
+    fn second(&self, state: &mut Self::State) -> Seconds
+        requires supplied { IsTrue SUPPLIES_TIME }
+        requires agrees { agrees state.old self.now }
+        ensures value { IfSome (facts self.now).time (λ t. result ≡ t.second) }
+        ensures range { result ≤ 59 }
+        ensures agrees { agrees state.new self.now };
+
+    /// The nanosecond of the second.
+    fn nanosecond(&self, state: &mut Self::State) -> Nanoseconds
+        requires supplied { IsTrue SUPPLIES_TIME }
+        requires agrees { agrees state.old self.now }
+        ensures value { IfSome (facts self.now).time (λ t. result ≡ t.nanosecond) }
+        ensures range { result ≤ 999_999_999 }
+        ensures agrees { agrees state.new self.now };
+
+    /// Whether some part of the offset is below zero.
+    fn offset_is_negative(&self, state: &mut Self::State) -> bool
+        requires supplied { IsTrue SUPPLIES_OFFSET }
+        requires agrees { agrees state.old self.now }
+        ensures value { IfSome (facts self.now).offset (λ o. result ≡ is_negative o) }
+        ensures agrees { agrees state.new self.now };
+
+    /// Whether all parts of the offset are zero.
+    fn offset_is_utc(&self, state: &mut Self::State) -> bool
+        requires supplied { IsTrue SUPPLIES_OFFSET }
+        requires agrees { agrees state.old self.now }
+        ensures value { IfSome (facts self.now).offset (λ o. result ≡ is_utc o) }
+        ensures agrees { agrees state.new self.now };
+
+    /// The hour of the offset, with its sign.
+    fn offset_hour(&self, state: &mut Self::State) -> OffsetHours
+        requires supplied { IsTrue SUPPLIES_OFFSET }
+        requires agrees { agrees state.old self.now }
+        ensures value { IfSome (facts self.now).offset (λ o. result ≡ o.hours) }
+        ensures range { unsigned_abs result ≤ 25 }
+        ensures agrees { agrees state.new self.now };
+
+    /// The minute of the offset, with its sign.
+    fn offset_minute(&self, state: &mut Self::State) -> OffsetMinutes
+        requires supplied { IsTrue SUPPLIES_OFFSET }
+        requires agrees { agrees state.old self.now }
+        ensures value { IfSome (facts self.now).offset (λ o. result ≡ o.minutes) }
+        ensures range { unsigned_abs result ≤ 59 }
+        ensures agrees { agrees state.new self.now };
+
+    /// The second of the offset, with its sign.
+    fn offset_second(&self, state: &mut Self::State) -> OffsetSeconds
+        requires supplied { IsTrue SUPPLIES_OFFSET }
+        requires agrees { agrees state.old self.now }
+        ensures value { IfSome (facts self.now).offset (λ o. result ≡ o.seconds) }
+        ensures range { unsigned_abs result ≤ 59 }
+        ensures agrees { agrees state.new self.now };
+
+    /// The seconds since 1970-01-01T00:00:00 UTC.
+    fn unix_timestamp_seconds(&self, state: &mut Self::State) -> i64
+        requires supplied { IsTrue SUPPLIES_TIMESTAMP }
+        requires agrees { agrees state.old self.now }
+        ensures value { IfSome (facts self.now).stamp (λ s. result ≡ s.seconds) }
+        ensures range { unsigned_abs result < 100_000_000_000_000 }
+        ensures agrees { agrees state.new self.now };
+
+    /// The milliseconds since 1970-01-01T00:00:00 UTC, toward zero.
+    fn unix_timestamp_milliseconds(&self, state: &mut Self::State) -> i64
+        requires supplied { IsTrue SUPPLIES_TIMESTAMP }
+        requires agrees { agrees state.old self.now }
+        ensures value { IfSome (facts self.now).stamp (λ s. result ≡ milliseconds s) }
+        ensures range { unsigned_abs result < 100_000_000_000_000_000 }
+        ensures agrees { agrees state.new self.now };
+
+    // The groups that are there are those that the constants name.
+    ghost supplies_date: { (value : Self) → is_some (facts value).date ≡ SUPPLIES_DATE };
+
+    ghost supplies_time: { (value : Self) → is_some (facts value).time ≡ SUPPLIES_TIME };
+
+    ghost supplies_offset: { (value : Self) → is_some (facts value).offset ≡ SUPPLIES_OFFSET };
+
+    ghost supplies_timestamp: { (value : Self) → is_some (facts value).stamp ≡ SUPPLIES_TIMESTAMP };
+
+    // A fresh state agrees with every value.
+    ghost fresh: { (state : Self.State) (value : Self) → Self.State.is_default state → agrees state value };
+}

@@ -1,0 +1,10 @@
+//! What a value supplies to a description, method by method. No call takes memory.
+#![tactic(auto)]
+
+pub mod component_provider;
+mod date_state;
+mod providers;
+pub mod ranges;
+
+pub use component_provider::ComponentProvider;
+pub use date_state::DateState;
