@@ -1,38 +1,8 @@
 -- What a line is answered by.
-use Rattle.std.specs.Prelude.{ℕ, ℤ, pos, ◌≡◌, ◌≢◌, ◌^◌, ◌-◌, ◌⊎◌, ◌||◌, Bool, Option, Some, None, List, [], ◌∷◌, ◌++◌, length, min, codes, decimal, int_lt, if◌then◌else◌}
-use Rattle.time_show.specs.declared.command.Command.{Command}
-use Rattle.time_show.specs.declared.command.Command.TheVariants.{Time}
-use Rattle.time_show.specs.Command.{command_of}
-use Rattle.time_show.specs.Outcome.{Outcome, Refusal, insufficient, invalid_component, out_of_range}
-
--- what a line asks for: no command, a value that there is not, for a number out of its component's range,
--- or a value by a description of this width
-pub data Asked : Type 0 where
-  no_command : Asked
-  no_value : List ℕ → Asked
-  formatted : ℕ → Outcome → Asked
-
--- the number is not one of 0 to this greatest
-unfoldable pub is_outside : ℕ → ℤ → Bool
-is_outside greatest number = int_lt number (pos 0) || int_lt (pos greatest) number
-
--- the outcome of a time of day
-abbrev pub time_outcome : Outcome
-time_outcome = record { bytes = codes "00:00:00.0"; refusal = None }
-
--- a time of day, the ranges tested in the order of the fields
-abbrev pub asked_time : ℤ → ℤ → ℤ → ℤ → Asked
-asked_time hour minute second nanosecond =
-    if is_outside 23 hour then no_value (codes "hour")
-    else (if is_outside 59 minute then no_value (codes "minute")
-    else (if is_outside 59 second then no_value (codes "second")
-    else (if is_outside 999999999 nanosecond then no_value (codes "nanosecond")
-    else formatted 18 time_outcome)))
-
--- what a command asks for
-abbrev pub asked_by : Option Command → Asked
-asked_by None = no_command
-asked_by (Some (Time hour minute second nanosecond)) = asked_time hour minute second nanosecond
+use Rattle.std.specs.Prelude.{ℕ, ◌≡◌, ◌≢◌, ◌^◌, ◌-◌, ◌⊎◌, Option, Some, None, List, [], ◌∷◌, ◌++◌, length, min, codes, decimal}
+use Rattle.time_below.specs.ComponentRange.{RangeRefusal}
+use Rattle.time_fmt.specs.Outcome.{Outcome, Refusal, insufficient, invalid_component, out_of_range}
+use Rattle.time_show.specs.Asked.{Asked, no_command, no_value, formatted, asked_of}
 
 -- `ok COUNT WIDTH TEXT`
 abbrev pub ok_text : ℕ → ℕ → List ℕ → List ℕ
@@ -49,7 +19,7 @@ bad_line_text = codes "bad line\n"
 abbrev pub refusal_name : Refusal → List ℕ
 refusal_name insufficient = codes "insufficient"
 refusal_name (invalid_component name) = name
-refusal_name (out_of_range name conditional) = name
+refusal_name (out_of_range range) = range.name
 
 -- the text of an outcome by a description of this width
 abbrev pub outcome_text : ℕ → Outcome → List ℕ
@@ -58,16 +28,19 @@ outcome_text width outcome = elim outcome.refusal [
   | Some refusal ↦ refused_text (length outcome.bytes) (refusal_name refusal)
 ]
 
+abbrev pub out_of_memory_name : List ℕ
+out_of_memory_name = codes "out-of-memory"
+
 -- With ample memory the answer is this text, and for want of memory a value may be refused.
 abbrev pub Answers : Asked → List ℕ → Type 0
 Answers no_command text = text ≡ bad_line_text
 Answers (no_value name) text = text ≡ refused_text 0 name
 Answers (formatted width outcome) text =
-    (text ≡ outcome_text width outcome) ⊎ (text ≡ refused_text 0 (codes "out-of-memory"))
+    (text ≡ outcome_text width outcome) ⊎ (text ≡ refused_text 0 out_of_memory_name)
 
 -- the text answers the line
 abbrev pub IsAnswer : List ℕ → List ℕ → Type 0
-IsAnswer line text = Answers (asked_by (command_of line)) text
+IsAnswer line text = Answers (asked_of line) text
 
 -- the text is an answer to each line, one after another
 abbrev pub AreAnswers : List (List ℕ) → List ℕ → Type 0

@@ -1,10 +1,10 @@
 pub mod Lines
 pub mod Kept
 pub mod Fields
-pub mod Outcome
-pub mod Formatted
 pub mod Command
+pub mod Asked
 pub mod Answer
+pub mod Component
 pub mod Reply
 pub mod Written
 pub mod Progress

@@ -4,11 +4,12 @@
 mod bytes;
 mod command;
 mod fields;
-mod formatter;
 mod line_buffer;
 mod output;
 mod reply;
 mod run;
+#[cfg(test)]
+mod tests;
 
 use std::process::ExitCode;
 

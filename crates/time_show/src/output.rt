@@ -6,9 +6,9 @@ ghost use Rattle.time_show.specs.Written.{Accepts, CutsOff};
 ghost use Rattle.time_show.specs.Reply.{reply_text};
 
 use crate::reply::Reply;
-use itoa::Buffer;
 use std::io::Write;
 use std::marker::Model;
+use time_digits::u64_pad_none;
 
 /// How many bytes may wait until they are written.
 const OUTPUT_LIMIT: usize = 4096;
@@ -145,17 +145,15 @@ impl OutputBuffer {
     {
         match reply {
             Reply::Formatted { count, width, text } => {
-                let mut count_digits = Buffer::new();
-                let mut width_digits = Buffer::new();
-                let count_text = count_digits.format(*count);
-                let width_text = width_digits.format(*width);
+                let count = u64_pad_none(*count as u64);
+                let width = u64_pad_none(*width as u64);
                 self.append_all(
                     output,
                     &[
                         b"ok ",
-                        count_text.as_bytes(),
+                        count.as_str().as_bytes(),
                         b" ",
-                        width_text.as_bytes(),
+                        width.as_str().as_bytes(),
                         b" ",
                         text.as_slice(),
                         b"\n",
@@ -163,13 +161,12 @@ impl OutputBuffer {
                 )
             }
             Reply::Refused { written, name } => {
-                let mut written_digits = Buffer::new();
-                let written_text = written_digits.format(*written);
+                let written = u64_pad_none(*written as u64);
                 self.append_all(
                     output,
                     &[
                         b"refused ",
-                        written_text.as_bytes(),
+                        written.as_str().as_bytes(),
                         b" ",
                         name.as_bytes(),
                         b"\n",

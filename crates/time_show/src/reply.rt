@@ -1,12 +1,20 @@
-//! What a line is answered by: the only part that a new command touches, beside its fields.
-ghost use Rattle.std.specs.Prelude.{◌≡◌, ◌≤◌, ◌<◌, ◌+◌, pos, ◌≤ℤ◌, unsigned_abs, ℕ, List, length};
-ghost use Rattle.time_show.specs.Answer.{IsAnswer, Answers, asked_by, asked_time, formatted, is_outside, refused_text, time_outcome};
-ghost use Rattle.time_show.specs.Formatted.{error_name};
-ghost use Rattle.time_show.specs.Reply.{reply_text};
+//! What a line is answered by. A new command adds its part here, and no other module changes but the one
+//! that reads commands.
+ghost use Rattle.std.specs.Prelude.{◌≡◌, ◌≤◌, length, Vec};
+ghost use Rattle.time_below.specs.TimeOfDay.{TimeOfDay};
+ghost use Rattle.time_show.specs.Answer.{IsAnswer, Answers};
+ghost use Rattle.time_show.specs.Asked.{asked_time, formatted, formatted_time};
+ghost use Rattle.time_show.specs.Component.{number_in_byte, number_in_word};
+ghost use Rattle.time_show.specs.Reply.{reply_text, error_name};
 
 use crate::command::{Command, command_in};
-use crate::formatter::{Format, format_into};
 use std::alloc::Global;
+use std::default::Default;
+use time_fmt::format_description::modifier::{
+    Hour24, Minute, Padding, Second, Subsecond, SubsecondDigits,
+};
+use time_fmt::format_description::{BorrowedFormatItem, Component};
+use time_fmt::{ComponentProvider, Format, Formattable, Time};
 
 /// The answer to a line.
 #[derive(Drop)]
@@ -18,28 +26,13 @@ pub enum Reply {
         text: Vec<u8>,
     },
     /// A refusal by its name, with the number of bytes that were written before it.
-    Refused {
-        written: usize,
-        name: &'static str,
-    },
+    Refused { written: usize, name: &'static str },
     /// The line is no command.
     BadLine,
 }
 
-/// The name of a refusal.
-fn error_name(error: &Format) -> &'static str
-    ensures { result.now ≡ error_name error.now }
-{
-    match error {
-        Format::InsufficientTypeInformation => "insufficient",
-        Format::InvalidComponent(name) => name,
-        Format::ComponentRange(name) => name,
-        Format::OutOfMemory => "out-of-memory",
-    }
-}
-
 impl Reply {
-    /// A number of bytes that its text does not exceed: three numbers' digits, a name and the words of an answer.
+    /// A number of bytes that its text does not exceed: a text or a name, two numbers and the words of an answer.
     pub fn most_bytes(&self) -> usize {
         match self {
             Reply::Formatted { text, .. } => text.len().saturating_add(64),
@@ -49,17 +42,33 @@ impl Reply {
     }
 }
 
-/// The reply to a value by a description.
-fn formatted_reply(alloc: Global) -> Reply
-    ensures { Answers (formatted 18 time_outcome) (reply_text result) }
+/// The name of a refusal.
+fn error_name(error: &Format) -> &'static str
+    ensures { result.now ≡ error_name error.now }
 {
+    match error {
+        Format::InsufficientTypeInformation => "insufficient",
+        Format::InvalidComponent(component) => component,
+        Format::ComponentRange(range) => range.name(),
+        Format::OutOfMemory => "out-of-memory",
+    }
+}
+
+/// The reply to a value by a description.
+fn formatted_reply<D: Formattable, V: ComponentProvider>(
+    alloc: Global,
+    description: &D,
+    value: &V,
+) -> Reply
+where
+    V::State: Drop,
+    ensures { Answers (formatted (D.width_of description.now) (D.outcome_of description.now (V.facts value.now))) (reply_text result) }
+{
+    let width = description.compute_metadata().max_bytes_needed;
+    let mut state = Default::default();
     let mut text = Vec::new(alloc);
-    match format_into(&mut text) {
-        Ok(count) => Reply::Formatted {
-            count,
-            width: 18,
-            text,
-        },
+    match description.format_into(&mut text, value, &mut state) {
+        Ok(count) => Reply::Formatted { count, width, text },
         Err(error) => Reply::Refused {
             written: text.len(),
             name: error_name(&error),
@@ -67,39 +76,53 @@ fn formatted_reply(alloc: Global) -> Reply
     }
 }
 
-/// The reply where a number leaves the range of this component.
-fn refused(name: &'static str) -> Reply
-    ensures { reply_text result ≡ refused_text 0 name.entry.now }
+/// The reply to a time: hour, minute and second in two digits each, and the decimals of the second.
+fn formatted_time(alloc: Global, time: Time) -> Reply
+    ensures { Answers (formatted_time time) (reply_text result) }
 {
-    Reply::Refused { written: 0, name }
+    let items = [
+        BorrowedFormatItem::Component(Component::Hour24(Hour24 { padding: Padding::Zero })),
+        BorrowedFormatItem::StringLiteral(":"),
+        BorrowedFormatItem::Component(Component::Minute(Minute { padding: Padding::Zero })),
+        BorrowedFormatItem::StringLiteral(":"),
+        BorrowedFormatItem::Component(Component::Second(Second { padding: Padding::Zero })),
+        BorrowedFormatItem::StringLiteral("."),
+        BorrowedFormatItem::Component(Component::Subsecond(Subsecond { digits: SubsecondDigits::OneOrMore })),
+    ];
+    formatted_reply(alloc, &BorrowedFormatItem::Compound(&items), &time)
 }
 
-/// Whether the number is not one of 0 to the greatest.
-#[tactic(auto, unfolding(crate::specs::Answer::is_outside))]
-fn is_outside(greatest: i32, number: i32) -> bool
-    requires { pos 0 ≤ℤ greatest }
-    ensures { result ≡ is_outside (unsigned_abs greatest) number }
+/// The number, or for one that a byte does not hold 255, which is outside the range of every component.
+fn number_in_byte(number: i32) -> u8
+    ensures { result ≡ number_in_byte number }
 {
-    number < 0 || greatest < number
+    u8::try_from(number).unwrap_or(u8::MAX)
+}
+
+/// The number, or for a negative one the greatest `u32`, which is outside the range of every component.
+fn number_in_word(number: i32) -> u32
+    ensures { result ≡ number_in_word number }
+{
+    u32::try_from(number).unwrap_or(u32::MAX)
 }
 
 /// The reply to the command `time`. The ranges are tested in the order of the fields.
 fn time_reply(alloc: Global, hour: i32, minute: i32, second: i32, nanosecond: i32) -> Reply
     ensures { Answers (asked_time hour minute second nanosecond) (reply_text result) }
 {
-    if is_outside(23, hour) {
-        return refused("hour");
+    let time = Time::from_hms_nano(
+        number_in_byte(hour),
+        number_in_byte(minute),
+        number_in_byte(second),
+        number_in_word(nanosecond),
+    );
+    match time {
+        Ok(time) => formatted_time(alloc, time),
+        Err(range) => Reply::Refused {
+            written: 0,
+            name: range.name(),
+        },
     }
-    if is_outside(59, minute) {
-        return refused("minute");
-    }
-    if is_outside(59, second) {
-        return refused("second");
-    }
-    if is_outside(999_999_999, nanosecond) {
-        return refused("nanosecond");
-    }
-    formatted_reply(alloc)
 }
 
 /// Answers a line of at most 128 bytes.
@@ -109,13 +132,11 @@ pub fn reply_to(alloc: Global, line: &[u8]) -> Reply
 {
     match command_in(line) {
         None => Reply::BadLine,
-        Some(
-            Command::Time {
-                hour,
-                minute,
-                second,
-                nanosecond,
-            },
-        ) => time_reply(alloc, hour, minute, second, nanosecond),
+        Some(Command::Time {
+            hour,
+            minute,
+            second,
+            nanosecond,
+        }) => time_reply(alloc, hour, minute, second, nanosecond),
     }
 }
