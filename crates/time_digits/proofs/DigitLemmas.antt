@@ -1,15 +1,15 @@
 -- Decimal texts: a number's text is that of its first digits, and then its last ones.
-use Rattle.std.proofs.Common.{◌≡◌, ℕ, zero, suc, ◌+◌, ◌-◌, ◌*◌, ◌/◌, ◌%◌, ◌^◌, ◌<◌, ◌≤◌, List, [], ◌∷◌, ◌++◌, length, replicate, refl, sym, ap, ap₂, ◌∙◌, arith, length-append, append_assoc, decimal, IsAscii, ⊎_elim}
+use Rattle.std.proofs.Common.{◌≡◌, ℕ, zero, suc, ◌+◌, ◌-◌, ◌*◌, ◌/◌, ◌%◌, ◌^◌, ◌<◌, ◌≤◌, [], ◌∷◌, ◌++◌, length, replicate, refl, sym, ap, ap₂, ◌∙◌, arith, length-append, append_assoc, decimal, IsAscii, ⊎_elim}
 use Rattle.std.proofs.Math.Nat.{pow-suc, pow-succ', one-le-pow, div-le_self, div-div-eq-div-mul}
 use Rattle.std.proofs.Math.Arith.{mod-mul}
 use Rattle.std.proofs.lemmas.Fmt.{decimal_digit, decimal_step, decimal_step_wide, decimal_nonempty, length-decimal-le, IsAscii-from_digits}
 use Rattle.std.proofs.lemmas.Int.Digits.{digits_push}
 use Rattle.std.proofs.lemmas.Str.{digit_value_digit}
-use Rattle.std.proofs.lemmas.List.{append-nil, length-replicate, replicate-append-replicate}
+use Rattle.std.proofs.lemmas.List.{append-nil, replicate-append-replicate}
 use Rattle.std.proofs.lemmas.Nat.{le-div}
 use Rattle.std.proofs.lemmas.Bool.{cases_lt}
 use Rattle.std.specs.Str.Parse.{AllDigits}
-use Rattle.time_digits.specs.Digits.{fixed, padded, zero_padded, space_padded}
+use Rattle.time_digits.specs.Digits.{fixed, padded, zero_padded}
 
 -- ---- fixed digits
 
@@ -85,11 +85,6 @@ length-decimal k n low high fits = omega (arith, decimal_longer k n low fits, le
 
 -- ---- padded text
 
-pub length-padded : (fill k n : ℕ) → length (decimal n) ≤ k → length (padded fill k n) ≡ k
-unfolding padded
-length-padded fill k n h =
-    omega (arith, length-append (replicate {A = ℕ} (k - length (decimal n)) fill) (decimal n), length-replicate (k - length (decimal n)) fill)
-
 -- a number that has all the places needs no padding
 pub padded_whole : (fill k n : ℕ) → k ≤ length (decimal n) → padded fill k n ≡ decimal n
 unfolding padded
@@ -142,31 +137,7 @@ zero_padded_is (suc k) n low high =
     rw j at split ∙ ap (λ bs. bs ++ fixed 1 n) (zero_padded_is k (n / 10) rest (omega arith)))
     (cases_lt n 10)
 
--- ---- small numbers
-
-pub length-digit : (n : ℕ) → n < 10 → length (decimal n) ≡ 1
-length-digit n h = ap length (decimal_digit n h)
-
--- how many bytes the text has at most, by the number
-pub length-decimal_below : (k n : ℕ) → 0 < k → n < 10 ^ k → n < 2 ^ 64 → length (decimal n) ≤ k
-length-decimal_below k n some h fits = length-decimal-le k n some h fits
-
-pub length-decimal_two : (n : ℕ) → n < 100 → length (decimal n) ≤ 2
-length-decimal_two n h = length-decimal_below 2 n (omega arith) h (omega arith)
-
-pub some_digit : (n : ℕ) → n < 2 ^ 64 → 1 ≤ length (decimal n)
-some_digit n h = omega (arith, decimal_nonempty n h)
-
--- where 10 ^ k is the greatest power of ten within n
-pub length-decimal_at : (k n : ℕ) → 10 ^ k ≤ n → n < 10 * 10 ^ k → n < 2 ^ 64 → length (decimal n) ≡ k + 1
-length-decimal_at k n low high fits =
-    let p : 10 ^ suc k ≡ 10 ^ k * 10 = pow-suc 10 k in
-    omega (arith, length-decimal k n low (omega arith) fits)
-
-pub length-decimal_zero : (n : ℕ) → n ≡ 0 → length (decimal n) ≡ 1
-length-decimal_zero n e = length-digit n (omega arith)
-
-pub ruleset count_facts = (length-decimal_at, length-decimal_zero)
+-- ---- one digit
 
 -- a digit is its own text
 pub decimal_one : (n : ℕ) → n < 10 → decimal n ≡ fixed 1 n
@@ -174,7 +145,3 @@ unfolding fixed
 decimal_one n h = let m : n % 10 ≡ n = omega arith in rw (decimal_digit n h, m) refl
 
 pub ruleset decimal_recursion = (decimal_digit, decimal_step_wide)
-
--- a number of 64 bits has at most twenty digits
-pub length-decimal_word : (n : ℕ) → n < 2 ^ 64 → length (decimal n) ≤ 20
-length-decimal_word n h = length-decimal-le 20 n (omega arith) (omega arith) h

@@ -1,10 +1,11 @@
 -- Texts in pieces: what stands before the last digits, and then these.
-use Rattle.std.proofs.Common.{◌≡◌, ℕ, zero, suc, ◌+◌, ◌-◌, ◌*◌, ◌/◌, ◌%◌, ◌^◌, ◌<◌, ◌≤◌, List, [], ◌∷◌, ◌++◌, length, replicate, refl, sym, ap, ap₂, ◌∙◌, arith, length-append, append_assoc, get_or, decimal}
+use Rattle.std.proofs.Common.{◌≡◌, ℕ, suc, ◌+◌, ◌-◌, ◌/◌, ◌%◌, ◌^◌, ◌<◌, ◌≤◌, List, [], ◌∷◌, ◌++◌, length, refl, sym, ap, ap₂, ◌∙◌, arith, length-append, append_assoc, get_or, decimal}
 use Rattle.std.proofs.Math.Nat.{one-le-pow, div-le_self}
 use Rattle.std.proofs.lemmas.List.{append-nil}
 use Rattle.std.specs.Borrow.{Bor}
 use Rattle.time_digits.specs.Digits.{fixed, padded, zero_padded, space_padded, joined, piece_lengths}
-use Rattle.time_digits.proofs.DigitLemmas.{fixed-append, fixed-mod, decimal-split, decimal_longer, length-digit, length-decimal_below, length-decimal_two, some_digit, length-fixed, length-padded, padded_whole, padded_short, padded-split, zero_padded_is}
+use Rattle.time_digits.proofs.DigitLemmas.{fixed-append, fixed-mod, decimal-split, decimal_longer, length-fixed, padded_whole, padded_short, padded-split, zero_padded_is}
+use Rattle.time_digits.proofs.LengthLemmas.{some_digit, length-digit, length-decimal_two, length-decimal_three, length-decimal_four, length-padded}
 
 -- the last k places of n, with zeros
 last_zero_padded : (k n : ℕ) → n < 2 ^ 64 → zero_padded (suc k) (n % 10 ^ suc k) ≡ fixed (suc k) n
@@ -52,13 +53,10 @@ three_spaced_low n h =
 pub three_whole : (n : ℕ) → 100 ≤ n → n < 2 ^ 64 → zero_padded 3 n ≡ decimal n
 three_whole n low h = padded_whole 48 3 n (omega (arith, decimal_longer 2 n low h))
 
-pub length-three : (n : ℕ) → n < 1000 → length (decimal n) ≤ 3
-length-three n h = length-decimal_below 3 n (omega arith) h (omega arith)
-
 pub length-three_whole : (n : ℕ) → 100 ≤ n → n < 1000 → length (decimal n) ≡ 3
-length-three_whole n low h = omega (arith, length-three n h, decimal_longer 2 n low (omega arith))
+length-three_whole n low h = omega (arith, length-decimal_three n h, decimal_longer 2 n low (omega arith))
 
-pub ruleset three_places = (three_zero_padded, three_spaced, three_spaced_low, three_whole, length-three, length-three_whole, length-decimal_two, some_digit, length-padded)
+pub ruleset three_places = (three_zero_padded, three_spaced, three_spaced_low, three_whole, length-decimal_three, length-three_whole, length-decimal_two, some_digit, length-padded)
 
 -- ---- four places
 
@@ -76,13 +74,10 @@ four_spaced_low n h =
 pub four_whole : (n : ℕ) → 1000 ≤ n → n < 2 ^ 64 → zero_padded 4 n ≡ decimal n
 four_whole n low h = padded_whole 48 4 n (omega (arith, decimal_longer 3 n low h))
 
-pub length-four : (n : ℕ) → n < 10_000 → length (decimal n) ≤ 4
-length-four n h = length-decimal_below 4 n (omega arith) h (omega arith)
-
 pub length-four_whole : (n : ℕ) → 1000 ≤ n → n < 10_000 → length (decimal n) ≡ 4
-length-four_whole n low h = omega (arith, length-four n h, decimal_longer 3 n low (omega arith))
+length-four_whole n low h = omega (arith, length-decimal_four n h, decimal_longer 3 n low (omega arith))
 
-pub ruleset four_places = (four_zero_padded, four_spaced, four_spaced_low, four_whole, length-four, length-four_whole, length-decimal_two, some_digit, length-padded)
+pub ruleset four_places = (four_zero_padded, four_spaced, four_spaced_low, four_whole, length-decimal_four, length-four_whole, length-decimal_two, some_digit, length-padded)
 
 -- ---- five places and more, the last four of them in two pieces
 
@@ -112,7 +107,7 @@ length-before_four n low h =
     omega (arith, ap length (decimal-split 4 n low h), length-append (decimal (n / 10_000)) (fixed 4 n), length-fixed 4 n)
 
 pub length-before_none : (n : ℕ) → n < 10_000 → length (decimal n) - 4 ≡ 0
-length-before_none n h = omega (arith, length-four n h)
+length-before_none n h = omega (arith, length-decimal_four n h)
 
 -- ---- pieces that are taken over from another list of pieces
 

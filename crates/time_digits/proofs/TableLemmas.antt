@@ -1,5 +1,5 @@
 -- Constant tables, and that their entries are what the definitions say.
-use Rattle.std.proofs.Common.{◌≡◌, ℕ, ◌+◌, ◌-◌, ◌*◌, ◌/◌, ◌%◌, ◌<◌, ◌≤◌, List, [], ◌∷◌, length-append, take, drop, map, nat_lt, true, get_or, refl, sym, ap, ◌∙◌, arith, decimal, IsAscii, IsTrue, IsCharBoundary, length}
+use Rattle.std.proofs.Common.{◌≡◌, ℕ, ◌+◌, ◌*◌, ◌<◌, ◌≤◌, List, [], take, drop, map, nat_lt, true, get_or, refl, sym, ap, ◌∙◌, arith, decimal, IsAscii, IsTrue, IsCharBoundary, length}
 use Rattle.std.proofs.lemmas.List.FromFn.{get_or-map-range_with_len}
 use Rattle.std.proofs.lemmas.Str.Ascii.{IsAscii-from_all}
 use Rattle.std.proofs.lemmas.Str.{IsCharBoundary-from_ascii}
@@ -9,7 +9,8 @@ use Rattle.std.proofs.lemmas.List.Elements.{All-weaker}
 use Rattle.std.specs.List.{range_with_len, list_all}
 use Rattle.std.specs.Fmt.{digits}
 use Rattle.time_digits.specs.Digits.{is_ascii, padded, zero_padded, space_padded}
-use Rattle.time_digits.proofs.DigitLemmas.{padded_whole, decimal_longer, length-digit, length-decimal_two, some_digit, length-padded}
+use Rattle.time_digits.proofs.DigitLemmas.{padded_whole, decimal_longer}
+use Rattle.time_digits.proofs.LengthLemmas.{some_digit, length-digit, length-decimal_two, length-padded}
 use Rattle.time_digits.specs.declared.tables.TheConstants.{SINGLE_DIGITS, ZERO_PADDED_PAIRS, SPACE_PADDED_PAIRS}
 
 -- two functions that agree on a list of all numbers below n agree at each

@@ -15,12 +15,8 @@ impl DigitCount for u8 {
     ghost number = { λ n. n };
 
     #[inline]
-    #[tactic(auto, using(crate::proofs::DigitLemmas::count_facts))]
     fn num_digits(self) -> u8 {
-        match self.checked_ilog10() {
-            Some(k) => k as u8 + 1,
-            None => 1,
-        }
+        u32::from(self).num_digits()
     }
 }
 
@@ -28,12 +24,8 @@ impl DigitCount for u16 {
     ghost number = { λ n. n };
 
     #[inline]
-    #[tactic(auto, using(crate::proofs::DigitLemmas::count_facts))]
     fn num_digits(self) -> u8 {
-        match self.checked_ilog10() {
-            Some(k) => k as u8 + 1,
-            None => 1,
-        }
+        u32::from(self).num_digits()
     }
 }
 
@@ -41,7 +33,7 @@ impl DigitCount for u32 {
     ghost number = { λ n. n };
 
     #[inline]
-    #[tactic(auto, using(crate::proofs::DigitLemmas::count_facts))]
+    #[tactic(auto, using(crate::proofs::LengthLemmas::count_facts))]
     fn num_digits(self) -> u8 {
         match self.checked_ilog10() {
             Some(k) => k as u8 + 1,

@@ -10,6 +10,26 @@ use crate::ranged::{ru8, ru16, ru32};
 use crate::stack_str::{StackStr, StackTrailingStr};
 use crate::tables::{SINGLE_DIGITS, SPACE_PADDED_PAIRS, ZERO_PADDED_PAIRS, piece_of};
 
+/// Writes `value` in two places, with a zero where it is below 10, from the byte `offset` on.
+#[inline]
+#[tactic(auto, using(crate::proofs::WriteLemmas::written))]
+pub fn write_two_digits(buf: &mut [u8], offset: usize, value: ru8<0, 99>)
+    requires room { offset + 2 ≤ length buf.old }
+    ensures { buf.new ≡ take offset buf.old ++ fixed 2 value ++ drop (offset + 2) buf.old }
+{
+    buf[offset..offset + 2].copy_from_slice(two_digits_zero_padded(value).as_bytes());
+}
+
+/// Writes the digit `value` to the byte `offset`.
+#[inline]
+#[tactic(auto, using(crate::proofs::WriteLemmas::written))]
+pub fn write_one_digit(buf: &mut [u8], offset: usize, value: ru8<0, 9>)
+    requires room { offset + 1 ≤ length buf.old }
+    ensures { buf.new ≡ take offset buf.old ++ fixed 1 value ++ drop (offset + 1) buf.old }
+{
+    buf[offset..offset + 1].copy_from_slice(single_digit(value).as_bytes());
+}
+
 /// The quotient and the remainder of `n` by 100.
 #[inline]
 pub fn div_100(n: ru16<0, 9_999>) -> [ru8<0, 99>; 2]
@@ -38,7 +58,7 @@ pub fn single_digit(n: ru8<0, 9>) -> &'static str
 pub fn one_to_two_digits_no_padding(n: ru8<0, 99>) -> &'static str
     ensures text { result.now ≡ decimal n }
     ensures some { 1 ≤ length result.now }
-    ensures len { length result.now ≤ 2 }
+    ensures most { length result.now ≤ 2 }
 {
     let number = n.get() as usize;
     if number < 10 {
@@ -75,7 +95,7 @@ pub fn one_to_three_digits_no_padding(n: ru16<0, 999>) -> [&'static str; 2]
     ensures text { joined result ≡ decimal n }
     ensures pieces { let l = length (decimal n) in piece_lengths result ≡ (l - 2) ∷ min l 2 ∷ [] }
     ensures some { 1 ≤ length (joined result) }
-    ensures len { length (joined result) ≤ 3 }
+    ensures most { length (joined result) ≤ 3 }
 {
     match n.narrow::<0, 99>() {
         Some(small) => [
@@ -123,7 +143,7 @@ pub fn one_to_four_digits_no_padding(n: ru16<0, 9_999>) -> [&'static str; 2]
     ensures text { joined result ≡ decimal n }
     ensures pieces { let l = length (decimal n) in piece_lengths result ≡ (l - 2) ∷ min l 2 ∷ [] }
     ensures some { 1 ≤ length (joined result) }
-    ensures len { length (joined result) ≤ 4 }
+    ensures most { length (joined result) ≤ 4 }
 {
     match n.narrow::<0, 999>() {
         Some(small) => one_to_three_digits_no_padding(small),
@@ -167,7 +187,7 @@ pub fn four_to_six_digits(n: ru32<0, 999_999>) -> [&'static str; 3]
     ensures text { joined result ≡ zero_padded 4 n }
     ensures pieces { piece_lengths result ≡ (length (decimal n) - 4) ∷ 2 ∷ 2 ∷ [] }
     ensures least { 4 ≤ length (joined result) }
-    ensures len { length (joined result) ≤ 6 }
+    ensures most { length (joined result) ≤ 6 }
 {
     let number = n.get();
     let [second, third] = last_four_digits(number);
@@ -231,32 +251,12 @@ fn last_four_digits(number: u32) -> [&'static str; 2]
     four_digits_zero_padded(ru16::new((number % 10_000) as u16).unwrap())
 }
 
-/// Writes `value` in two places, with a zero where it is below 10, from the byte `offset` on.
-#[inline]
-#[tactic(auto, using(crate::proofs::WriteLemmas::written))]
-pub fn write_two_digits(buf: &mut [u8], offset: usize, value: ru8<0, 99>)
-    requires room { offset + 2 ≤ length buf.old }
-    ensures { buf.new ≡ take offset buf.old ++ fixed 2 value ++ drop (offset + 2) buf.old }
-{
-    buf[offset..offset + 2].copy_from_slice(two_digits_zero_padded(value).as_bytes());
-}
-
-/// Writes the digit `value` to the byte `offset`.
-#[inline]
-#[tactic(auto, using(crate::proofs::WriteLemmas::written))]
-pub fn write_one_digit(buf: &mut [u8], offset: usize, value: ru8<0, 9>)
-    requires room { offset + 1 ≤ length buf.old }
-    ensures { buf.new ≡ take offset buf.old ++ fixed 1 value ++ drop (offset + 1) buf.old }
-{
-    buf[offset..offset + 1].copy_from_slice(single_digit(value).as_bytes());
-}
-
 /// The nine digits of a number of nanoseconds without the zeros at their end, at least one digit.
 #[inline]
 pub fn truncated_subsecond_from_nanos(n: ru32<0, 999_999_999>) -> StackStr<9>
     ensures text { shown result ≡ trimmed_fraction n }
     ensures some { 1 ≤ length (shown result) }
-    ensures len { length (shown result) ≤ 9 }
+    ensures most { length (shown result) ≤ 9 }
 {
     let bytes = nine_digits(n);
     let mut len = 9;
@@ -285,7 +285,7 @@ fn nine_digits(n: ru32<0, 999_999_999>) -> [u8; 9]
 pub fn u64_pad_none(value: u64) -> StackTrailingStr<20>
     ensures text { shown_end result ≡ decimal value }
     ensures some { 1 ≤ length (shown_end result) }
-    ensures len { length (shown_end result) ≤ 20 }
+    ensures most { length (shown_end result) ≤ 20 }
 {
     let mut bytes = [b'0'; 20];
     let mut start = 20;

@@ -95,7 +95,7 @@ fn last_two(year: Year) -> LastTwo
 ///
 /// Answers the number of bytes appended, or the refusal of the component, which has no bytes.
 #[inline]
-#[tactic(auto, using(crate::proofs::TextLemmas::text_lengths))]
+#[tactic(auto, using(crate::proofs::TextLemmas::text_lengths, crate::proofs::DateTextLemmas::date_text_lengths))]
 pub fn component_write_into<V: ComponentProvider>(
     component: &Component,
     output: &mut Vec<u8>,
@@ -110,43 +110,82 @@ pub fn component_write_into<V: ComponentProvider>(
 {
     match component {
         Component::Day(modifier) => {
-            of_group!(V::SUPPLIES_DATE, fmt_day(output, value.day(state), *modifier))
+            of_group!(
+                V::SUPPLIES_DATE,
+                fmt_day(output, value.day(state), *modifier)
+            )
         }
         Component::MonthShort(modifier) => {
-            of_group!(V::SUPPLIES_DATE, fmt_month_short(output, value.month(state), *modifier))
+            of_group!(
+                V::SUPPLIES_DATE,
+                fmt_month_short(output, value.month(state), *modifier)
+            )
         }
         Component::MonthLong(modifier) => {
-            of_group!(V::SUPPLIES_DATE, fmt_month_long(output, value.month(state), *modifier))
+            of_group!(
+                V::SUPPLIES_DATE,
+                fmt_month_long(output, value.month(state), *modifier)
+            )
         }
         Component::MonthNumerical(modifier) => {
-            of_group!(V::SUPPLIES_DATE, fmt_month_numerical(output, value.month(state), *modifier))
+            of_group!(
+                V::SUPPLIES_DATE,
+                fmt_month_numerical(output, value.month(state), *modifier)
+            )
         }
         Component::Ordinal(modifier) => {
-            of_group!(V::SUPPLIES_DATE, fmt_ordinal(output, value.ordinal(state), *modifier))
+            of_group!(
+                V::SUPPLIES_DATE,
+                fmt_ordinal(output, value.ordinal(state), *modifier)
+            )
         }
         Component::WeekdayShort(modifier) => {
-            of_group!(V::SUPPLIES_DATE, fmt_weekday_short(output, value.weekday(state), *modifier))
+            of_group!(
+                V::SUPPLIES_DATE,
+                fmt_weekday_short(output, value.weekday(state), *modifier)
+            )
         }
         Component::WeekdayLong(modifier) => {
-            of_group!(V::SUPPLIES_DATE, fmt_weekday_long(output, value.weekday(state), *modifier))
+            of_group!(
+                V::SUPPLIES_DATE,
+                fmt_weekday_long(output, value.weekday(state), *modifier)
+            )
         }
         Component::WeekdaySunday(modifier) => {
-            of_group!(V::SUPPLIES_DATE, fmt_weekday_sunday(output, value.weekday(state), *modifier))
+            of_group!(
+                V::SUPPLIES_DATE,
+                fmt_weekday_sunday(output, value.weekday(state), *modifier)
+            )
         }
         Component::WeekdayMonday(modifier) => {
-            of_group!(V::SUPPLIES_DATE, fmt_weekday_monday(output, value.weekday(state), *modifier))
+            of_group!(
+                V::SUPPLIES_DATE,
+                fmt_weekday_monday(output, value.weekday(state), *modifier)
+            )
         }
         Component::WeekNumberIso(modifier) => {
-            of_group!(V::SUPPLIES_DATE, fmt_week_number_iso(output, value.iso_week_number(state), *modifier))
+            of_group!(
+                V::SUPPLIES_DATE,
+                fmt_week_number_iso(output, value.iso_week_number(state), *modifier)
+            )
         }
         Component::WeekNumberSunday(modifier) => {
-            of_group!(V::SUPPLIES_DATE, fmt_week_number_sunday(output, value.sunday_based_week(state), *modifier))
+            of_group!(
+                V::SUPPLIES_DATE,
+                fmt_week_number_sunday(output, value.sunday_based_week(state), *modifier)
+            )
         }
         Component::WeekNumberMonday(modifier) => {
-            of_group!(V::SUPPLIES_DATE, fmt_week_number_monday(output, value.monday_based_week(state), *modifier))
+            of_group!(
+                V::SUPPLIES_DATE,
+                fmt_week_number_monday(output, value.monday_based_week(state), *modifier)
+            )
         }
         Component::CalendarYearFullExtendedRange(modifier) => {
-            of_group!(V::SUPPLIES_DATE, fmt_calendar_year_full_extended_range(output, value.calendar_year(state), *modifier))
+            of_group!(
+                V::SUPPLIES_DATE,
+                fmt_calendar_year_full_extended_range(output, value.calendar_year(state), *modifier)
+            )
         }
         Component::CalendarYearFullStandardRange(modifier) => of_group_in_range!(
             V::SUPPLIES_DATE,
@@ -158,7 +197,12 @@ pub fn component_write_into<V: ComponentProvider>(
             if V::SUPPLIES_DATE {
                 let year = value.calendar_year(state);
                 let century = extended_century(year);
-                Ok(fmt_calendar_year_century_extended_range(output, century, year.is_negative(), *modifier))
+                Ok(fmt_calendar_year_century_extended_range(
+                    output,
+                    century,
+                    year.is_negative(),
+                    *modifier,
+                ))
             } else {
                 Err(Format::InsufficientTypeInformation)
             }
@@ -167,7 +211,12 @@ pub fn component_write_into<V: ComponentProvider>(
             if V::SUPPLIES_DATE {
                 let year = value.calendar_year(state);
                 match standard_century(year) {
-                    Ok(century) => Ok(fmt_calendar_year_century_standard_range(output, century, year.is_negative(), *modifier)),
+                    Ok(century) => Ok(fmt_calendar_year_century_standard_range(
+                        output,
+                        century,
+                        year.is_negative(),
+                        *modifier,
+                    )),
                     Err(refusal) => Err(refusal),
                 }
             } else {
@@ -175,10 +224,16 @@ pub fn component_write_into<V: ComponentProvider>(
             }
         }
         Component::CalendarYearLastTwo(modifier) => {
-            of_group!(V::SUPPLIES_DATE, fmt_calendar_year_last_two(output, last_two(value.calendar_year(state)), *modifier))
+            of_group!(
+                V::SUPPLIES_DATE,
+                fmt_calendar_year_last_two(output, last_two(value.calendar_year(state)), *modifier)
+            )
         }
         Component::IsoYearFullExtendedRange(modifier) => {
-            of_group!(V::SUPPLIES_DATE, fmt_iso_year_full_extended_range(output, value.iso_year(state), *modifier))
+            of_group!(
+                V::SUPPLIES_DATE,
+                fmt_iso_year_full_extended_range(output, value.iso_year(state), *modifier)
+            )
         }
         Component::IsoYearFullStandardRange(modifier) => of_group_in_range!(
             V::SUPPLIES_DATE,
@@ -190,7 +245,12 @@ pub fn component_write_into<V: ComponentProvider>(
             if V::SUPPLIES_DATE {
                 let year = value.iso_year(state);
                 let century = extended_century(year);
-                Ok(fmt_iso_year_century_extended_range(output, century, year.is_negative(), *modifier))
+                Ok(fmt_iso_year_century_extended_range(
+                    output,
+                    century,
+                    year.is_negative(),
+                    *modifier,
+                ))
             } else {
                 Err(Format::InsufficientTypeInformation)
             }
@@ -199,7 +259,12 @@ pub fn component_write_into<V: ComponentProvider>(
             if V::SUPPLIES_DATE {
                 let year = value.iso_year(state);
                 match standard_century(year) {
-                    Ok(century) => Ok(fmt_iso_year_century_standard_range(output, century, year.is_negative(), *modifier)),
+                    Ok(century) => Ok(fmt_iso_year_century_standard_range(
+                        output,
+                        century,
+                        year.is_negative(),
+                        *modifier,
+                    )),
                     Err(refusal) => Err(refusal),
                 }
             } else {
@@ -207,25 +272,46 @@ pub fn component_write_into<V: ComponentProvider>(
             }
         }
         Component::IsoYearLastTwo(modifier) => {
-            of_group!(V::SUPPLIES_DATE, fmt_iso_year_last_two(output, last_two(value.iso_year(state)), *modifier))
+            of_group!(
+                V::SUPPLIES_DATE,
+                fmt_iso_year_last_two(output, last_two(value.iso_year(state)), *modifier)
+            )
         }
         Component::Hour12(modifier) => {
-            of_group!(V::SUPPLIES_TIME, fmt_hour_12(output, value.hour(state), *modifier))
+            of_group!(
+                V::SUPPLIES_TIME,
+                fmt_hour_12(output, value.hour(state), *modifier)
+            )
         }
         Component::Hour24(modifier) => {
-            of_group!(V::SUPPLIES_TIME, fmt_hour_24(output, value.hour(state), *modifier))
+            of_group!(
+                V::SUPPLIES_TIME,
+                fmt_hour_24(output, value.hour(state), *modifier)
+            )
         }
         Component::Minute(modifier) => {
-            of_group!(V::SUPPLIES_TIME, fmt_minute(output, value.minute(state), *modifier))
+            of_group!(
+                V::SUPPLIES_TIME,
+                fmt_minute(output, value.minute(state), *modifier)
+            )
         }
         Component::Period(modifier) => {
-            of_group!(V::SUPPLIES_TIME, fmt_period(output, value.period(state), *modifier))
+            of_group!(
+                V::SUPPLIES_TIME,
+                fmt_period(output, value.period(state), *modifier)
+            )
         }
         Component::Second(modifier) => {
-            of_group!(V::SUPPLIES_TIME, fmt_second(output, value.second(state), *modifier))
+            of_group!(
+                V::SUPPLIES_TIME,
+                fmt_second(output, value.second(state), *modifier)
+            )
         }
         Component::Subsecond(modifier) => {
-            of_group!(V::SUPPLIES_TIME, fmt_subsecond(output, value.nanosecond(state), *modifier))
+            of_group!(
+                V::SUPPLIES_TIME,
+                fmt_subsecond(output, value.nanosecond(state), *modifier)
+            )
         }
         Component::OffsetHour(modifier) => {
             if V::SUPPLIES_OFFSET {
@@ -236,16 +322,32 @@ pub fn component_write_into<V: ComponentProvider>(
             }
         }
         Component::OffsetMinute(modifier) => {
-            of_group!(V::SUPPLIES_OFFSET, fmt_offset_minute(output, value.offset_minute(state), *modifier))
+            of_group!(
+                V::SUPPLIES_OFFSET,
+                fmt_offset_minute(output, value.offset_minute(state), *modifier)
+            )
         }
         Component::OffsetSecond(modifier) => {
-            of_group!(V::SUPPLIES_OFFSET, fmt_offset_second(output, value.offset_second(state), *modifier))
+            of_group!(
+                V::SUPPLIES_OFFSET,
+                fmt_offset_second(output, value.offset_second(state), *modifier)
+            )
         }
         Component::UnixTimestampSecond(modifier) => {
-            of_group!(V::SUPPLIES_TIMESTAMP, fmt_unix_timestamp_second(output, value.unix_timestamp_seconds(state), *modifier))
+            of_group!(
+                V::SUPPLIES_TIMESTAMP,
+                fmt_unix_timestamp_second(output, value.unix_timestamp_seconds(state), *modifier)
+            )
         }
         Component::UnixTimestampMillisecond(modifier) => {
-            of_group!(V::SUPPLIES_TIMESTAMP, fmt_unix_timestamp_millisecond(output, value.unix_timestamp_milliseconds(state), *modifier))
+            of_group!(
+                V::SUPPLIES_TIMESTAMP,
+                fmt_unix_timestamp_millisecond(
+                    output,
+                    value.unix_timestamp_milliseconds(state),
+                    *modifier
+                )
+            )
         }
         Component::Ignore(_) | Component::End(_) => Ok(0),
     }

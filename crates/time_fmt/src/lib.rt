@@ -5,6 +5,8 @@ mod component;
 mod error;
 mod formattable;
 mod metadata;
+#[cfg(test)]
+mod tests;
 pub mod writers;
 
 pub use component::component_write_into;

@@ -1,8 +1,30 @@
 //! Texts appended to a vector that has room for them. No writer takes memory.
+mod date;
 mod digits;
+mod offset;
 mod plain;
 mod time;
+mod timestamp;
+mod year;
 
-pub use digits::{format_single_digit, format_two_digits};
+pub use date::{
+    fmt_day, fmt_month_long, fmt_month_numerical, fmt_month_short, fmt_ordinal,
+    fmt_week_number_iso, fmt_week_number_monday, fmt_week_number_sunday, fmt_weekday_long,
+    fmt_weekday_monday, fmt_weekday_short, fmt_weekday_sunday,
+};
+pub use digits::{
+    fmt_sign, format_five_digits_pad_zero, format_four_digits, format_four_digits_pad_zero,
+    format_int_padded, format_single_digit, format_six_digits_pad_zero, format_three_digits,
+    format_two_digits, format_u64_pad_none,
+};
+pub use offset::{fmt_offset_hour, fmt_offset_minute, fmt_offset_second};
 pub use plain::{write, write_bytes, write_if, write_if_else, write_many};
 pub use time::{fmt_hour_12, fmt_hour_24, fmt_minute, fmt_period, fmt_second, fmt_subsecond};
+pub use timestamp::{fmt_unix_timestamp_millisecond, fmt_unix_timestamp_second};
+pub use year::{
+    fmt_calendar_year_century_extended_range, fmt_calendar_year_century_standard_range,
+    fmt_calendar_year_full_extended_range, fmt_calendar_year_full_standard_range,
+    fmt_calendar_year_last_two, fmt_iso_year_century_extended_range,
+    fmt_iso_year_century_standard_range, fmt_iso_year_full_extended_range,
+    fmt_iso_year_full_standard_range, fmt_iso_year_last_two,
+};

@@ -2,9 +2,7 @@
 #![tactic(auto)]
 
 pub mod component_provider;
-mod date_state;
 mod providers;
 pub mod ranges;
 
 pub use component_provider::ComponentProvider;
-pub use date_state::DateState;

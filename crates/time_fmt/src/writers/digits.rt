@@ -1,14 +1,31 @@
-//! Numbers of a few digits.
-ghost use Rattle.std.specs.Prelude.{length, decimal};
+//! Numbers, and the signs before them.
+ghost use Rattle.std.specs.Prelude.{◌≤◌, length, decimal, replicate};
+ghost use Rattle.time_digits.specs.Digits.{zero_padded};
 ghost use Rattle.time_fmt.specs.Room.{HasRoom, Writes};
-ghost use Rattle.time_fmt.specs.Text.{padded_text};
+ghost use Rattle.time_fmt.specs.Text.{padded_text, sign_text};
 
-use crate::writers::plain::write;
+use crate::writers::plain::{write, write_if, write_many};
 use time_below::format_description::modifier::Padding;
 use time_digits::num_fmt::{
-    one_to_two_digits_no_padding, single_digit, two_digits_space_padded, two_digits_zero_padded,
+    five_digits_zero_padded, four_digits_space_padded, four_digits_zero_padded,
+    one_to_four_digits_no_padding, one_to_three_digits_no_padding, one_to_two_digits_no_padding,
+    single_digit, six_digits_zero_padded, three_digits_space_padded, three_digits_zero_padded,
+    two_digits_space_padded, two_digits_zero_padded, u64_pad_none,
 };
-use time_digits::ru8;
+use time_digits::{ru8, ru16, ru32};
+
+/// Appends a minus, or a plus where it is wanted.
+#[inline]
+pub fn fmt_sign(output: &mut Vec<u8>, is_negative: bool, sign_is_mandatory: bool) -> usize
+    requires room { HasRoom output.old (length (sign_text is_negative sign_is_mandatory)) }
+    ensures writes { Writes output.old output.new result (sign_text is_negative sign_is_mandatory) }
+{
+    if is_negative {
+        write(output, "-")
+    } else {
+        write_if(output, sign_is_mandatory, "+")
+    }
+}
 
 /// Appends one digit.
 #[inline]
@@ -30,4 +47,90 @@ pub fn format_two_digits(output: &mut Vec<u8>, value: ru8<0, 99>, padding: Paddi
         Padding::Space => write(output, two_digits_space_padded(value)),
         Padding::None => write(output, one_to_two_digits_no_padding(value)),
     }
+}
+
+/// Appends a number of at most three digits, in three places.
+#[inline]
+pub fn format_three_digits(output: &mut Vec<u8>, value: ru16<0, 999>, padding: Padding) -> usize
+    requires room { HasRoom output.old (length (padded_text padding 3 value)) }
+    ensures writes { Writes output.old output.new result (padded_text padding 3 value) }
+{
+    match padding {
+        Padding::Zero => write_many(output, &three_digits_zero_padded(value)),
+        Padding::Space => write_many(output, &three_digits_space_padded(value)),
+        Padding::None => write_many(output, &one_to_three_digits_no_padding(value)),
+    }
+}
+
+/// Appends a number of at most four digits, in four places.
+#[inline]
+pub fn format_four_digits(output: &mut Vec<u8>, value: ru16<0, 9_999>, padding: Padding) -> usize
+    requires room { HasRoom output.old (length (padded_text padding 4 value)) }
+    ensures writes { Writes output.old output.new result (padded_text padding 4 value) }
+{
+    match padding {
+        Padding::Zero => format_four_digits_pad_zero(output, value),
+        Padding::Space => write_many(output, &four_digits_space_padded(value)),
+        Padding::None => write_many(output, &one_to_four_digits_no_padding(value)),
+    }
+}
+
+/// Appends a number in four places, with zeros in front.
+#[inline]
+pub fn format_four_digits_pad_zero(output: &mut Vec<u8>, value: ru16<0, 9_999>) -> usize
+    requires room { HasRoom output.old (length (zero_padded 4 value)) }
+    ensures writes { Writes output.old output.new result (zero_padded 4 value) }
+{
+    write_many(output, &four_digits_zero_padded(value))
+}
+
+/// Appends a number in five places, with zeros in front.
+#[inline]
+pub fn format_five_digits_pad_zero(output: &mut Vec<u8>, value: ru32<0, 99_999>) -> usize
+    requires room { HasRoom output.old (length (zero_padded 5 value)) }
+    ensures writes { Writes output.old output.new result (zero_padded 5 value) }
+{
+    write_many(output, &five_digits_zero_padded(value))
+}
+
+/// Appends a number in six places, with zeros in front.
+#[inline]
+pub fn format_six_digits_pad_zero(output: &mut Vec<u8>, value: ru32<0, 999_999>) -> usize
+    requires room { HasRoom output.old (length (zero_padded 6 value)) }
+    ensures writes { Writes output.old output.new result (zero_padded 6 value) }
+{
+    write_many(output, &six_digits_zero_padded(value))
+}
+
+/// Appends all digits of a number, and nothing before them.
+#[inline]
+pub fn format_u64_pad_none(output: &mut Vec<u8>, value: u64) -> usize
+    requires room { HasRoom output.old (length (decimal value)) }
+    ensures writes { Writes output.old output.new result (decimal value) }
+{
+    write(output, u64_pad_none(value).as_str())
+}
+
+/// Appends a number in `width` places, with zeros in front, where it has no more digits than that.
+#[inline]
+#[tactic(auto, using(crate::proofs::TextLemmas::zeros_before))]
+pub fn format_int_padded(output: &mut Vec<u8>, value: u64, width: u8) -> usize
+    requires digits { length (decimal value) ≤ width }
+    requires room { HasRoom output.old (length (zero_padded width value)) }
+    ensures writes { Writes output.old output.new result (zero_padded width value) }
+{
+    let digits = u64_pad_none(value);
+    let zeros = write_zeros(output, width as usize - digits.len());
+    zeros + write(output, digits.as_str())
+}
+
+// Appends so many zeros.
+fn write_zeros(output: &mut Vec<u8>, count: usize) -> usize
+    requires room { HasRoom output.old count }
+    ensures writes { Writes output.old output.new result (replicate count 48) }
+{
+    for _ in 0..count {
+        write(output, "0");
+    }
+    count
 }

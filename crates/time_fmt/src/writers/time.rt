@@ -1,16 +1,19 @@
 //! The components of a time of day.
-ghost use Rattle.std.specs.Prelude.{◌≡◌, length};
+ghost use Rattle.std.specs.Prelude.{◌<◌, length};
 ghost use Rattle.time_fmt.specs.Room.{HasRoom, Writes};
 ghost use Rattle.time_digits.specs.Digits.{fixed};
 ghost use Rattle.time_fmt.specs.Text.{padded_text, hour_12, period_text, subsecond_text};
 
-use crate::writers::digits::format_two_digits;
-use crate::writers::plain::{write, write_bytes};
+use crate::writers::digits::{
+    format_five_digits_pad_zero, format_four_digits_pad_zero, format_single_digit,
+    format_six_digits_pad_zero, format_three_digits, format_two_digits,
+};
+use crate::writers::plain::{write, write_many};
 use time_below::Period;
 use time_below::format_description::modifier;
-use time_below::format_description::modifier::SubsecondDigits;
+use time_below::format_description::modifier::{Padding, SubsecondDigits};
 use time_digits::num_fmt::{subsecond_from_nanos, truncated_subsecond_from_nanos};
-use time_digits::ru8;
+use time_digits::{ru8, ru16, ru32};
 use time_provide::ranges::{Hours, Minutes, Nanoseconds, Seconds};
 
 /// Appends the hour of the 12-hour clock, 1 to 12, in two places.
@@ -67,6 +70,7 @@ pub fn fmt_second(output: &mut Vec<u8>, second: Seconds, modifier: modifier::Sec
 
 /// Appends the first decimals of the second, or as many as are needed.
 #[inline]
+#[tactic(auto, using(crate::proofs::DecimalLemmas::first_decimals))]
 pub fn fmt_subsecond(
     output: &mut Vec<u8>,
     nanosecond: Nanoseconds,
@@ -75,33 +79,56 @@ pub fn fmt_subsecond(
     requires room { HasRoom output.old (length (subsecond_text modifier.digits nanosecond)) }
     ensures writes { Writes output.old output.new result (subsecond_text modifier.digits nanosecond) }
 {
-    let decimals = nine_decimals(nanosecond);
+    let number = nanosecond.get();
     match modifier.digits {
-        SubsecondDigits::One => write_bytes(output, &decimals[..1]),
-        SubsecondDigits::Two => write_bytes(output, &decimals[..2]),
-        SubsecondDigits::Three => write_bytes(output, &decimals[..3]),
-        SubsecondDigits::Four => write_bytes(output, &decimals[..4]),
-        SubsecondDigits::Five => write_bytes(output, &decimals[..5]),
-        SubsecondDigits::Six => write_bytes(output, &decimals[..6]),
-        SubsecondDigits::Seven => write_bytes(output, &decimals[..7]),
-        SubsecondDigits::Eight => write_bytes(output, &decimals[..8]),
-        SubsecondDigits::Nine => write_bytes(output, &decimals),
+        SubsecondDigits::One => {
+            format_single_digit(output, ru8::new((number / 100_000_000) as u8).unwrap())
+        }
+        SubsecondDigits::Two => {
+            let first = ru8::new((number / 10_000_000) as u8).unwrap();
+            format_two_digits(output, first, Padding::Zero)
+        }
+        SubsecondDigits::Three => {
+            let first = ru16::new((number / 1_000_000) as u16).unwrap();
+            format_three_digits(output, first, Padding::Zero)
+        }
+        SubsecondDigits::Four => {
+            format_four_digits_pad_zero(output, ru16::new((number / 100_000) as u16).unwrap())
+        }
+        SubsecondDigits::Five => {
+            format_five_digits_pad_zero(output, ru32::new(number / 10_000).unwrap())
+        }
+        SubsecondDigits::Six => {
+            format_six_digits_pad_zero(output, ru32::new(number / 1_000).unwrap())
+        }
+        SubsecondDigits::Seven => format_seven_digits(output, number / 100),
+        SubsecondDigits::Eight => format_eight_digits(output, number / 10),
+        SubsecondDigits::Nine => write_many(output, &subsecond_from_nanos(nanosecond)),
         SubsecondDigits::OneOrMore => {
             write(output, truncated_subsecond_from_nanos(nanosecond).as_str())
         }
     }
 }
 
-// The nine decimals of the second.
-fn nine_decimals(nanosecond: Nanoseconds) -> [u8; 9]
-    ensures { result ≡ fixed 9 nanosecond }
+// Appends a number in seven places, with zeros in front.
+#[tactic(auto, using(crate::proofs::DecimalLemmas::two_parts))]
+fn format_seven_digits(output: &mut Vec<u8>, number: u32) -> usize
+    requires digits { number < 10_000_000 }
+    requires room { HasRoom output.old 7 }
+    ensures writes { Writes output.old output.new result (fixed 7 number) }
 {
-    let [first, second, third, fourth, fifth] = subsecond_from_nanos(nanosecond);
-    let mut decimals = [b'0'; 9];
-    decimals[..1].copy_from_slice(first.as_bytes());
-    decimals[1..3].copy_from_slice(second.as_bytes());
-    decimals[3..5].copy_from_slice(third.as_bytes());
-    decimals[5..7].copy_from_slice(fourth.as_bytes());
-    decimals[7..].copy_from_slice(fifth.as_bytes());
-    decimals
+    let first = format_single_digit(output, ru8::new((number / 1_000_000) as u8).unwrap());
+    first + format_six_digits_pad_zero(output, ru32::new(number % 1_000_000).unwrap())
+}
+
+// Appends a number in eight places, with zeros in front.
+#[tactic(auto, using(crate::proofs::DecimalLemmas::two_parts))]
+fn format_eight_digits(output: &mut Vec<u8>, number: u32) -> usize
+    requires digits { number < 100_000_000 }
+    requires room { HasRoom output.old 8 }
+    ensures writes { Writes output.old output.new result (fixed 8 number) }
+{
+    let first = ru8::new((number / 1_000_000) as u8).unwrap();
+    let count = format_two_digits(output, first, Padding::Zero);
+    count + format_six_digits_pad_zero(output, ru32::new(number % 1_000_000).unwrap())
 }

@@ -1,4 +1,4 @@
-use Rattle.std.proofs.Common.{◌≡◌, ◌≢◌, ◌-◌, ◌≤◌, ◌⊎◌, length, take, arith, get_or, IsAscii, ◌∙◌, ap, sym, inl, inr}
+use Rattle.std.proofs.Common.{◌≡◌, ◌≢◌, ◌-◌, ◌≤◌, ◌⊎◌, length, take, arith, get_or, IsAscii, ◌∙◌, ap, inl, inr}
 use Rattle.time_digits.specs.Fraction.{trimmed_fraction}
 use Rattle.time_digits.proofs.DigitLemmas.{length-fixed}
 use Rattle.time_digits.proofs.FractionLemmas.{trimmed_start, trimmed_shorter, trimmed_end, IsAscii-trimmed_fraction}

@@ -1,7 +1,7 @@
 use Rattle.std.proofs.Common.{◌-◌, ◌+◌, ◌%◌, length-set, arith, decimal, refl, drop, set, IsAscii, ◌∙◌}
 use Rattle.std.proofs.lemmas.List.{append-nil}
 use Rattle.std.proofs.lemmas.Fmt.{IsAscii-decimal, decimal_nonempty}
-use Rattle.time_digits.proofs.DigitLemmas.{length-decimal_word}
+use Rattle.time_digits.proofs.LengthLemmas.{length-decimal_word}
 use Rattle.time_digits.proofs.WriteLemmas.{decimal_shorter, digit_written, first_written}
 use Rattle.time_digits.proofs.num_fmt.u64_pad_none.Goals as goal
 

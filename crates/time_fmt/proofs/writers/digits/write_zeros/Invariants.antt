@@ -1,0 +1,11 @@
+use Rattle.std.proofs.Common.{◌≡◌, ◌+◌, ◌≤◌, ◌++◌, replicate, vec_len, vec_capacity}
+use Rattle.time_fmt.proofs.writers.digits.write_zeros.Given as goal
+
+-- so many zeros stand behind what was there, and all of them have room
+abbrev pub invariant-loop : goal.invariant-loop
+invariant-loop l = record {
+  bytes : l.output.items ≡ l.fn.output.items ++ replicate l.counter 48;
+  grown : vec_len l.output ≡ vec_len l.fn.output + l.counter;
+  room : vec_len l.fn.output + l.count ≤ vec_capacity l.output;
+  capacity : vec_capacity l.fn.output ≤ vec_capacity l.output;
+}

@@ -1,0 +1,61 @@
+//! The texts, counts and widths of worked rows, and what happens where memory is refused.
+mod memory;
+mod times;
+
+use crate::{ComponentProvider, ComputeMetadata, Format, Formattable, Time};
+use std::alloc::Global;
+use std::process::Abort;
+use time_below::format_description::{BorrowedFormatItem, Component, modifier};
+
+/// The time of these parts.
+fn time(rt: &impl Abort, hour: u8, minute: u8, second: u8, nanosecond: u32) -> Time {
+    let Ok(time) = Time::from_hms_nano(hour, minute, second, nanosecond) else {
+        panic!(rt; "no time");
+    };
+    time
+}
+
+/// Formats the value with a fresh state into an empty vector, and compares the text, the count and
+/// the width.
+fn assert_text<V: ComponentProvider>(
+    rt: &impl Abort,
+    alloc: Global,
+    item: &BorrowedFormatItem<'_>,
+    value: &V,
+    text: &str,
+    width: usize,
+)
+where
+    V::State: Drop,
+{
+    let mut output = Vec::new(alloc);
+    let mut state = V::State::default();
+    let Ok(count) = item.format_into(&mut output, value, &mut state) else {
+        panic!(rt; "refused: {text}");
+    };
+    assert_eq!(rt; output.as_slice(), text.as_bytes());
+    assert_eq!(rt; count, text.len());
+    assert_eq!(rt; item.compute_metadata().max_bytes_needed, width);
+}
+
+/// The same of one component.
+fn assert_component<V: ComponentProvider>(
+    rt: &impl Abort,
+    alloc: Global,
+    component: Component,
+    value: &V,
+    text: &str,
+    width: usize,
+)
+where
+    V::State: Drop,
+{
+    assert_text(
+        rt,
+        alloc,
+        &BorrowedFormatItem::Component(component),
+        value,
+        text,
+        width,
+    );
+}

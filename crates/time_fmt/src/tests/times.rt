@@ -1,0 +1,185 @@
+//! Times of day.
+use super::{assert_component, assert_text, time};
+use crate::{Format, Formattable};
+use time_below::format_description::modifier::{Padding, SubsecondDigits};
+use time_below::format_description::{BorrowedFormatItem, Component, modifier};
+
+const HOUR: BorrowedFormatItem<'static> = BorrowedFormatItem::Component(Component::Hour24(
+    modifier::Hour24 {
+        padding: Padding::Zero,
+    },
+));
+
+const MINUTE: BorrowedFormatItem<'static> = BorrowedFormatItem::Component(Component::Minute(
+    modifier::Minute {
+        padding: Padding::Zero,
+    },
+));
+
+const SECOND: BorrowedFormatItem<'static> = BorrowedFormatItem::Component(Component::Second(
+    modifier::Second {
+        padding: Padding::Zero,
+    },
+));
+
+#[test]
+fn hours_of_the_12_hour_clock(rt: HostRuntime) {
+    for (hour, text) in [(0, "12"), (12, "12"), (13, "1")] {
+        assert_component(
+            &rt,
+            rt.alloc(),
+            Component::Hour12(modifier::Hour12 {
+                padding: Padding::None,
+            }),
+            &time(&rt, hour, 0, 0, 0),
+            text,
+            2,
+        );
+    }
+}
+
+#[test]
+fn halves_of_the_day(rt: HostRuntime) {
+    for (hour, is_uppercase, text) in [
+        (12, true, "PM"),
+        (11, true, "AM"),
+        (23, false, "pm"),
+        (0, false, "am"),
+    ] {
+        assert_component(
+            &rt,
+            rt.alloc(),
+            Component::Period(modifier::Period {
+                is_uppercase,
+                case_sensitive: true,
+            }),
+            &time(&rt, hour, 0, 0, 0),
+            text,
+            2,
+        );
+    }
+}
+
+#[test]
+fn decimals_of_the_second(rt: HostRuntime) {
+    for (digits, text, width) in [
+        (SubsecondDigits::One, "1", 1),
+        (SubsecondDigits::Two, "12", 2),
+        (SubsecondDigits::Three, "120", 3),
+        (SubsecondDigits::Four, "1200", 4),
+        (SubsecondDigits::Five, "12000", 5),
+        (SubsecondDigits::Six, "120000", 6),
+        (SubsecondDigits::Seven, "1200000", 7),
+        (SubsecondDigits::Eight, "12000000", 8),
+        (SubsecondDigits::Nine, "120000000", 9),
+        (SubsecondDigits::OneOrMore, "12", 9),
+    ] {
+        assert_component(
+            &rt,
+            rt.alloc(),
+            Component::Subsecond(modifier::Subsecond { digits }),
+            &time(&rt, 0, 0, 0, 120_000_000),
+            text,
+            width,
+        );
+    }
+}
+
+#[test]
+fn paddings_of_two_places(rt: HostRuntime) {
+    for (padding, text) in [
+        (Padding::Zero, "05"),
+        (Padding::Space, " 5"),
+        (Padding::None, "5"),
+    ] {
+        assert_component(
+            &rt,
+            rt.alloc(),
+            Component::Second(modifier::Second { padding }),
+            &time(&rt, 0, 0, 5, 0),
+            text,
+            2,
+        );
+    }
+}
+
+#[test]
+fn trees_of_each_kind(rt: HostRuntime) {
+    let value = time(&rt, 9, 55, 6, 120_000_000);
+    let clock = [
+        HOUR,
+        BorrowedFormatItem::StringLiteral(":"),
+        MINUTE,
+        BorrowedFormatItem::Literal(b":"),
+        SECOND,
+    ];
+    assert_text(
+        &rt,
+        rt.alloc(),
+        &BorrowedFormatItem::Compound(&clock),
+        &value,
+        "09:55:06",
+        8,
+    );
+    assert_text(
+        &rt,
+        rt.alloc(),
+        &BorrowedFormatItem::First(&[MINUTE, SECOND]),
+        &value,
+        "55",
+        2,
+    );
+    assert_text(
+        &rt,
+        rt.alloc(),
+        &BorrowedFormatItem::First(&[]),
+        &value,
+        "",
+        0,
+    );
+    assert_text(
+        &rt,
+        rt.alloc(),
+        &BorrowedFormatItem::Compound(&[]),
+        &value,
+        "",
+        0,
+    );
+    assert_text(
+        &rt,
+        rt.alloc(),
+        &BorrowedFormatItem::Optional(&SECOND),
+        &value,
+        "06",
+        2,
+    );
+    assert_component(
+        &rt,
+        rt.alloc(),
+        Component::Ignore(modifier::Ignore { count: 3 }),
+        &value,
+        "",
+        0,
+    );
+    assert_component(
+        &rt,
+        rt.alloc(),
+        Component::End(modifier::End {
+            trailing_input: modifier::TrailingInput::Discard,
+        }),
+        &value,
+        "",
+        0,
+    );
+}
+
+#[test]
+fn a_second_text_stands_behind_the_first(rt: HostRuntime) {
+    let value = time(&rt, 9, 55, 6, 0);
+    let mut output = Vec::new(rt.alloc());
+    let first = HOUR.format_into(&mut output, &value, &mut ());
+    let second = MINUTE.format_into(&mut output, &value, &mut ());
+    assert!(rt; matches!(&first, Ok(2)));
+    assert!(rt; matches!(&second, Ok(2)));
+    assert_eq!(rt; output.as_slice(), b"0955".as_slice());
+}
