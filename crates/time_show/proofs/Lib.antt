@@ -3,3 +3,4 @@ pub mod LinesLemmas
 pub mod FieldsLemmas
 pub mod ReplyLemmas
 pub mod ProgressLemmas
+pub mod PartsLemmas

@@ -1,5 +1,6 @@
 -- The answer of the formatter, and the answer to a line.
-use Rattle.std.proofs.Common.{ℕ, ℤ, pos, negsuc, ◌≡◌, ◌≢◌, ◌⊎◌, ◌++◌, ◌+◌, ◌-◌, ◌<◌, ◌≤◌, ◌^◌, min, List, [], ◌∷◌, length, vec_len, Vec, Option, Some, None, Result, Ok, Err, inl, inr, refl, ap, sym, ◌∙◌, lit<, arith, rules}
+use Rattle.std.proofs.Common.{ℕ, ℤ, pos, negsuc, ◌≡◌, ◌≢◌, ◌⊎◌, ◌++◌, ◌+◌, ◌-◌, ◌<◌, ◌≤◌, ◌^◌, min, List, [], ◌∷◌, length, vec_len, Vec, Option, Some, None, Result, Ok, Err, inl, inr, refl, ap, sym, ◌∙◌, lit<, arith, rules, w32, to_z, of_z, FitsSigned}
+use Rattle.std.proofs.lemmas.Int.{to_z-of_z}
 use Rattle.std.proofs.lemmas.Bool.{cases_lt}
 use Rattle.std.proofs.lemmas.Grind.{common_steps}
 use Rattle.std.specs.Global.{Global}
@@ -95,6 +96,10 @@ first_outside t =
     then (if nat_lt t.minute 60 then (if nat_lt t.second 60 then codes "nanosecond" else codes "second") else codes "minute")
     else codes "hour"
 
+-- a signed argument, as a call has it
+pub passed : (f : ℤ → ℕ) (x : ℤ) (r : ℕ) → FitsSigned w32 x → r ≡ f (to_z w32 (of_z w32 x)) → r ≡ f x
+passed f x r fits e = grind (arith, to_z-of_z)
+
 -- the numbers of a time ask for it
 pub time-asked : (h m s n : ℤ) → IsTimeOfDay (time_of h m s n) → asked_time h m s n ≡ formatted_time (time_of h m s n)
 time-asked h m s n t =
@@ -115,3 +120,28 @@ no-time-asked h m s n none = elim (cases_lt (number_in_byte h) 24) [
     ])
   ])
 ]
+
+-- the same, where the parts are given by their values
+abbrev pub time_with : ℕ → ℕ → ℕ → ℕ → TimeOfDay
+time_with hour minute second nanosecond = record { hour = hour; minute = minute; second = second; nanosecond = nanosecond }
+
+pub time-asked-with : (h m s n : ℤ) (hour minute second nanosecond : ℕ) →
+    hour ≡ number_in_byte h → minute ≡ number_in_byte m → second ≡ number_in_byte s → nanosecond ≡ number_in_word n →
+    IsTimeOfDay (time_with hour minute second nanosecond) → asked_time h m s n ≡ formatted_time (time_with hour minute second nanosecond)
+time-asked-with h m s n hour minute second nanosecond eh em es en t =
+    rw (eh, em, es, en) (time-asked h m s n (rw (eh, em, es, en) at t))
+
+pub no-time-asked-with : (h m s n : ℤ) (hour minute second nanosecond : ℕ) →
+    hour ≡ number_in_byte h → minute ≡ number_in_byte m → second ≡ number_in_byte s → nanosecond ≡ number_in_word n →
+    (IsTimeOfDay (time_with hour minute second nanosecond) → ⊥) →
+    asked_time h m s n ≡ no_value (first_outside (time_with hour minute second nanosecond))
+no-time-asked-with h m s n hour minute second nanosecond eh em es en none =
+    no-time-asked h m s n (λ t. none (rw (eh, em, es, en) t)) ∙ rw (eh, em, es)
+
+-- the answer to a time is the answer to its numbers
+pub time-answered : (h m s n : ℤ) (hour minute second nanosecond : ℕ) (t : TimeOfDay) (text : List ℕ) →
+    hour ≡ number_in_byte h → minute ≡ number_in_byte m → second ≡ number_in_byte s → nanosecond ≡ number_in_word n →
+    t ≡ time_with hour minute second nanosecond → IsTimeOfDay (time_with hour minute second nanosecond) →
+    Answers (formatted_time t) text → Answers (asked_time h m s n) text
+time-answered h m s n hour minute second nanosecond t text eh em es en is in_range answers =
+    rw (time-asked-with h m s n hour minute second nanosecond eh em es en in_range) (rw is at answers)

@@ -33,10 +33,10 @@ with_component name (Some n) asked = asked n
 -- the hour, the minute and the second in two digits each, and the decimals of the second, at least one
 abbrev pub time_tree : Tree
 time_tree = all_of (trees (
-  of_component (component.Hour24 (record { padding = Zero })) ∷ text_literal (codes ":")
-  ∷ of_component (component.Minute (record { padding = Zero })) ∷ text_literal (codes ":")
-  ∷ of_component (component.Second (record { padding = Zero })) ∷ text_literal (codes ".")
-  ∷ of_component (component.Subsecond (record { digits = OneOrMore })) ∷ []))
+    of_component (component.Hour24 (record { padding = Zero })) ∷ text_literal (codes ":")
+    ∷ of_component (component.Minute (record { padding = Zero })) ∷ text_literal (codes ":")
+    ∷ of_component (component.Second (record { padding = Zero })) ∷ text_literal (codes ".")
+    ∷ of_component (component.Subsecond (record { digits = OneOrMore })) ∷ []))
 
 -- a time by this description
 abbrev pub formatted_time : TimeOfDay → Asked

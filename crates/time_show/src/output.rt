@@ -1,8 +1,7 @@
 //! The answers on their way out: they are assembled in a fixed buffer, and go out together.
-ghost use Rattle.std.specs.Prelude.{◌≡◌, ◌+◌, ◌≤◌, ◌<◌, ℕ, List, [], ◌++◌, length, take, OnOk, OnErr};
+ghost use Rattle.std.specs.Prelude.{◌≡◌, ◌+◌, ◌≤◌, ◌<◌, ℕ, List, [], ◌++◌, length, min, take, OnOk, OnErr};
 ghost use Rattle.std.specs.Io.KnownBytes.{Appends};
-ghost use Rattle.std.specs.List.{flat_map};
-ghost use Rattle.time_show.specs.Written.{Accepts, CutsOff};
+ghost use Rattle.time_show.specs.Written.{Accepts, CutsOff, joined};
 ghost use Rattle.time_show.specs.Reply.{reply_text};
 
 use crate::reply::Reply;
@@ -31,6 +30,17 @@ fn write_bytes<W: Write>(output: &mut W, bytes: &[u8]) -> Result<(), WriteFailed
         }
     }
     Ok(())
+}
+
+/// The number of bytes of the parts, at most the greatest `usize`.
+fn joined_len(parts: &[&[u8]]) -> usize
+    ensures { result ≡ min (length (joined parts.now)) usize.MAX }
+{
+    let mut total = 0usize;
+    for part in parts {
+        total = total.saturating_add(part.len());
+    }
+    total
 }
 
 /// The bytes that wait until they are written. It asks for no memory.
@@ -113,10 +123,20 @@ impl OutputBuffer {
         Ok(())
     }
 
-    /// Accepts the parts, one after another.
+    /// Accepts the parts, one after another. Where they do not fit beside what waits, that goes out first,
+    /// so that they go out by one write if the buffer holds them and the writer takes them whole.
     fn append_all<W: Write>(&mut self, output: &mut W, parts: &[&[u8]]) -> Result<(), WriteFailed>
-        ensures ok { OnOk result (Accepts (W.contents output.old) (W.contents output.new) self.old self.new (flat_map (λ part. part.now) parts.now)) }
-        ensures err { OnErr result (CutsOff (W.contents output.old) (W.contents output.new) self.old (flat_map (λ part. part.now) parts.now)) }
+        ensures ok { OnOk result (Accepts (W.contents output.old) (W.contents output.new) self.old self.new (joined parts.now)) }
+        ensures err { OnErr result (CutsOff (W.contents output.old) (W.contents output.new) self.old (joined parts.now)) }
+    {
+        self.make_room(output, joined_len(parts))?;
+        self.append_each(output, parts)
+    }
+
+    /// Accepts the parts, one after another.
+    fn append_each<W: Write>(&mut self, output: &mut W, parts: &[&[u8]]) -> Result<(), WriteFailed>
+        ensures ok { OnOk result (Accepts (W.contents output.old) (W.contents output.new) self.old self.new (joined parts.now)) }
+        ensures err { OnErr result (CutsOff (W.contents output.old) (W.contents output.new) self.old (joined parts.now)) }
     {
         for part in parts {
             self.append(output, part)?;
@@ -124,22 +144,12 @@ impl OutputBuffer {
         Ok(())
     }
 
-    /// Accepts the reply. Where it may not fit beside what waits, that goes out first,
-    /// so that a reply goes out by one write if the writer takes it whole.
+    /// Accepts the text of the reply.
     pub fn append_reply<W: Write>(
         &mut self,
         output: &mut W,
         reply: &Reply,
     ) -> Result<(), WriteFailed>
-        ensures ok { OnOk result (Accepts (W.contents output.old) (W.contents output.new) self.old self.new (reply_text reply.now)) }
-        ensures err { OnErr result (CutsOff (W.contents output.old) (W.contents output.new) self.old (reply_text reply.now)) }
-    {
-        self.make_room(output, reply.most_bytes())?;
-        self.append_parts(output, reply)
-    }
-
-    /// Accepts the parts of the reply.
-    fn append_parts<W: Write>(&mut self, output: &mut W, reply: &Reply) -> Result<(), WriteFailed>
         ensures ok { OnOk result (Accepts (W.contents output.old) (W.contents output.new) self.old self.new (reply_text reply.now)) }
         ensures err { OnErr result (CutsOff (W.contents output.old) (W.contents output.new) self.old (reply_text reply.now)) }
     {

@@ -1,9 +1,9 @@
 //! What a line is answered by. A new command adds its part here, and no other module changes but the one
 //! that reads commands.
-ghost use Rattle.std.specs.Prelude.{◌≡◌, ◌≤◌, length, Vec};
-ghost use Rattle.time_below.specs.TimeOfDay.{TimeOfDay};
+ghost use Rattle.std.specs.Prelude.{◌≡◌, ◌≤◌, length, map};
 ghost use Rattle.time_show.specs.Answer.{IsAnswer, Answers};
-ghost use Rattle.time_show.specs.Asked.{asked_time, formatted, formatted_time};
+ghost use Rattle.time_show.specs.Asked.{asked_time, formatted, formatted_time, time_tree};
+ghost use Rattle.time_below.specs.Tree.{all_of, borrowed_tree, trees};
 ghost use Rattle.time_show.specs.Component.{number_in_byte, number_in_word};
 ghost use Rattle.time_show.specs.Reply.{reply_text, error_name};
 
@@ -26,20 +26,12 @@ pub enum Reply {
         text: Vec<u8>,
     },
     /// A refusal by its name, with the number of bytes that were written before it.
-    Refused { written: usize, name: &'static str },
+    Refused {
+        written: usize,
+        name: &'static str,
+    },
     /// The line is no command.
     BadLine,
-}
-
-impl Reply {
-    /// A number of bytes that its text does not exceed: a text or a name, two numbers and the words of an answer.
-    pub fn most_bytes(&self) -> usize {
-        match self {
-            Reply::Formatted { text, .. } => text.len().saturating_add(64),
-            Reply::Refused { name, .. } => name.len().saturating_add(64),
-            Reply::BadLine => 16,
-        }
-    }
 }
 
 /// The name of a refusal.
@@ -76,20 +68,43 @@ where
     }
 }
 
-/// The reply to a time: hour, minute and second in two digits each, and the decimals of the second.
+/// The description of a time: hour, minute and second in two digits each, and the decimals of the second.
+fn time_items() -> [BorrowedFormatItem<'static>; 7]
+    ensures { all_of (trees (map borrowed_tree result)) ≡ time_tree }
+{
+    let hour = Component::Hour24(Hour24 {
+        padding: Padding::Zero,
+    });
+    let minute = Component::Minute(Minute {
+        padding: Padding::Zero,
+    });
+    let second = Component::Second(Second {
+        padding: Padding::Zero,
+    });
+    let subsecond = Component::Subsecond(Subsecond {
+        digits: SubsecondDigits::OneOrMore,
+    });
+    [
+        BorrowedFormatItem::Component(hour),
+        BorrowedFormatItem::StringLiteral(":"),
+        BorrowedFormatItem::Component(minute),
+        BorrowedFormatItem::StringLiteral(":"),
+        BorrowedFormatItem::Component(second),
+        BorrowedFormatItem::StringLiteral("."),
+        BorrowedFormatItem::Component(subsecond),
+    ]
+}
+
+/// The reply to a time.
 fn formatted_time(alloc: Global, time: Time) -> Reply
     ensures { Answers (formatted_time time) (reply_text result) }
 {
-    let items = [
-        BorrowedFormatItem::Component(Component::Hour24(Hour24 { padding: Padding::Zero })),
-        BorrowedFormatItem::StringLiteral(":"),
-        BorrowedFormatItem::Component(Component::Minute(Minute { padding: Padding::Zero })),
-        BorrowedFormatItem::StringLiteral(":"),
-        BorrowedFormatItem::Component(Component::Second(Second { padding: Padding::Zero })),
-        BorrowedFormatItem::StringLiteral("."),
-        BorrowedFormatItem::Component(Component::Subsecond(Subsecond { digits: SubsecondDigits::OneOrMore })),
-    ];
-    formatted_reply(alloc, &BorrowedFormatItem::Compound(&items), &time)
+    let items = time_items();
+    formatted_reply(
+        alloc,
+        &BorrowedFormatItem::Compound(items.as_slice()),
+        &time,
+    )
 }
 
 /// The number, or for one that a byte does not hold 255, which is outside the range of every component.
@@ -132,11 +147,13 @@ pub fn reply_to(alloc: Global, line: &[u8]) -> Reply
 {
     match command_in(line) {
         None => Reply::BadLine,
-        Some(Command::Time {
-            hour,
-            minute,
-            second,
-            nanosecond,
-        }) => time_reply(alloc, hour, minute, second, nanosecond),
+        Some(
+            Command::Time {
+                hour,
+                minute,
+                second,
+                nanosecond,
+            },
+        ) => time_reply(alloc, hour, minute, second, nanosecond),
     }
 }

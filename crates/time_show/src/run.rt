@@ -106,9 +106,9 @@ fn answer_last<W: Write>(
     ensures err { OnErr result (EndsWrong line.now (W.contents output.old) (W.contents output.new)) }
 {
     if !line.is_empty() {
-        let mut answers = OutputBuffer::new();
-        answer_line(alloc, line, &mut answers, output)?;
-        answers.flush(output)?;
+        let mut answer = OutputBuffer::new();
+        answer_line(alloc, line, &mut answer, output)?;
+        answer.flush(output)?;
     }
     Ok(())
 }

@@ -159,7 +159,11 @@ fn answers_a_good_line_after_a_long_one(rt: HostRuntime) -> Result<(), Fail> {
         let mut source = input.as_slice();
         let mut output = Vec::new(rt.alloc());
         assert_eq!(rt; run(rt.alloc(), &mut source, &mut output), Ok(()));
-        assert_eq!(rt; output.as_slice(), b"bad line\nok 10 18 00:00:00.0\n".as_slice(), "at {length}");
+        assert_eq!(rt;
+            output.as_slice(),
+            b"bad line\nok 10 18 00:00:00.0\n".as_slice(),
+            "at {length}"
+        );
     }
     Ok(())
 }
@@ -198,7 +202,10 @@ fn writes_before_each_read(rt: HostRuntime) -> Result<(), Fail> {
         calls: 1,
     };
     let mut sink = Sink::new(rt.alloc(), 100, 2);
-    assert_eq!(rt; run(rt.alloc(), &mut source, &mut sink), Err(ShowError::Read));
+    assert_eq!(rt;
+        run(rt.alloc(), &mut source, &mut sink),
+        Err(ShowError::Read)
+    );
     assert_eq!(rt; sink.bytes.as_slice(), b"ok 10 18 00:00:00.0\n".as_slice());
     Ok(())
 }
@@ -216,7 +223,11 @@ fn fails_at_each_read(rt: HostRuntime) -> Result<(), Fail> {
         let outcome = run(rt.alloc(), &mut source, &mut output);
         assert_eq!(rt; outcome, Err(ShowError::Read), "at {calls}");
         assert_eq!(rt; status(&outcome), 1);
-        assert_eq!(rt; output.as_slice(), answers(rt.alloc(), count)?.as_slice(), "at {calls}");
+        assert_eq!(rt;
+            output.as_slice(),
+            answers(rt.alloc(), count)?.as_slice(),
+            "at {calls}"
+        );
     }
     Ok(())
 }
@@ -232,7 +243,11 @@ fn fails_at_each_write(rt: HostRuntime) -> Result<(), Fail> {
             let outcome = run(rt.alloc(), &mut source, &mut sink);
             assert_eq!(rt; outcome, Err(ShowError::Write), "at {calls}");
             assert_eq!(rt; status(&outcome), 1);
-            assert_eq!(rt; sink.bytes.as_slice(), &all.as_slice()[..calls], "at {calls}");
+            assert_eq!(rt;
+                sink.bytes.as_slice(),
+                &all.as_slice()[..calls],
+                "at {calls}"
+            );
         }
     }
     Ok(())
@@ -313,7 +328,10 @@ fn answer_all(alloc: Global, input: &[u8]) -> Result<Vec<u8>, ShowError>
 
 #[test]
 fn answers_known_bytes(rt: HostRuntime) -> Result<(), Fail> {
-    assert_eq!(rt; answer_all(rt.alloc(), b"time 0 0 0 0").map(|text| text.len()), Ok(20));
+    assert_eq!(rt;
+        answer_all(rt.alloc(), b"time 0 0 0 0").map(|text| text.len()),
+        Ok(20)
+    );
     Ok(())
 }
 
