@@ -11,9 +11,12 @@ days_of_years n = 365 * n + n / 4 - n / 100 + n / 400
 
 -- the closed form over the years that are past
 abbrev past_days : ℤ → ℤ
-past_days p = pos 365 *ℤ p +ℤ int_div_euclid p (pos 4) -ℤ int_div_euclid p (pos 100) +ℤ int_div_euclid p (pos 400)
+past_days p =
+    pos 365 *ℤ p +ℤ int_div_euclid p (pos 4) -ℤ int_div_euclid p (pos 100) +ℤ int_div_euclid p
+    (pos 400)
 
-past_days-shift : (p : ℤ) (n : ℕ) → p +ℤ pos 1_000_000 ≡ pos n → past_days p +ℤ pos 365_242_500 ≡ pos (days_of_years n)
+past_days-shift : (p : ℤ) (n : ℕ) → p +ℤ pos 1_000_000 ≡ pos n
+    → past_days p +ℤ pos 365_242_500 ≡ pos (days_of_years n)
 past_days-shift (pos a) n e =
     let h : n ≡ a + 1_000_000 = omega (arith, ints) in
     rw h (omega (arith, ints))
@@ -21,11 +24,14 @@ past_days-shift (negsuc a) n e =
     let h : n + suc a ≡ 1_000_000 = omega (arith, ints) in
     omega (arith, ints)
 
-pub day_number_from_start : (d : OrdinalDate) (n : ℕ) → d.year +ℤ pos 999_999 ≡ pos n → 1 ≤ d.ordinal → day_number d +ℤ pos 365_242_500 ≡ pos (days_of_years n + d.ordinal - 1)
-day_number_from_start d n e one = omega (arith, ints, past_days-shift (d.year -ℤ pos 1) n (omega (arith, ints)))
+pub day_number_from_start : (d : OrdinalDate) (n : ℕ) → d.year +ℤ pos 999_999 ≡ pos n
+    → 1 ≤ d.ordinal → day_number d +ℤ pos 365_242_500 ≡ pos (days_of_years n + d.ordinal - 1)
+day_number_from_start d n e one =
+    omega (arith, ints, past_days-shift (d.year -ℤ pos 1) n (omega (arith, ints)))
 
 -- the days before the start are whole weeks
-pub weekday_from_start : (z : ℤ) (n : ℕ) → pos n ≡ z +ℤ pos 365_242_500 → unsigned_abs (int_rem_euclid z (pos 7)) ≡ n % 7
+pub weekday_from_start : (z : ℤ) (n : ℕ) → pos n ≡ z +ℤ pos 365_242_500
+    → unsigned_abs (int_rem_euclid z (pos 7)) ≡ n % 7
 weekday_from_start (pos a) n e =
     let h : n ≡ a + 365_242_500 = omega (arith, ints) in
     rw h (omega arith)
@@ -50,35 +56,52 @@ years_at n = 100 * ((4 * n + 3) / 146_097) + ((4 * n + 3) % 146_097 / 4 * 4 + 3)
 abbrev pub place_at : ℕ → ℕ
 place_at n = ((4 * n + 3) % 146_097 / 4 * 4 + 3) % 1461 / 4
 
-pub same_date : (y x : ℤ) (o p : ℕ) → y ≡ x → o ≡ p → ◌≡◌ {A = OrdinalDate} (record { year = y; ordinal = o }) (record { year = x; ordinal = p })
+pub same_date : (y x : ℤ) (o p : ℕ) → y ≡ x → o ≡ p
+    → ◌≡◌ {A = OrdinalDate} (record { year = y; ordinal = o }) (record { year = x; ordinal = p })
 same_date y x o p e f = rw (e, f) refl
 
 -- the date of a day number, by the days from the start
-pub date_at_shifted : (z : ℤ) (n : ℕ) → z +ℤ pos 365_242_500 ≡ pos n → date_at z ≡ record { year = pos (years_at n) -ℤ pos 999_999; ordinal = place_at n + 1 }
+pub date_at_shifted : (z : ℤ) (n : ℕ) → z +ℤ pos 365_242_500 ≡ pos n
+    → date_at z ≡ record { year = pos (years_at n) -ℤ pos 999_999; ordinal = place_at n + 1 }
 unfolding date_at
 date_at_shifted z n e =
     let parts = cycle-parts (pos 4 *ℤ z +ℤ pos 3) (4 * n + 3) (omega (arith, ints)) in
-    let day : 4 * (unsigned_abs (int_rem_euclid (pos 4 *ℤ z +ℤ pos 3) (pos 146_097)) / 4) + 3 ≡ (4 * n + 3) % 146_097 / 4 * 4 + 3 = omega arith in
+    let day : 4 * (unsigned_abs (int_rem_euclid (pos 4 *ℤ z +ℤ pos 3) (pos 146_097)) / 4) + 3 ≡ (4 * n + 3) % 146_097 / 4 * 4 + 3 =
+    omega arith in
     same_date _ _ _ _ (rw day (omega (arith, ints))) (rw day refl)
 
-pub date_at_from_start : (n : ℕ) → date_at (pos n -ℤ pos 365_242_500) ≡ record { year = pos (years_at n) -ℤ pos 999_999; ordinal = place_at n + 1 }
+pub date_at_from_start : (n : ℕ)
+    → date_at (pos n -ℤ pos 365_242_500) ≡ record { year = pos (years_at n) -ℤ pos 999_999; ordinal = place_at n + 1 }
 date_at_from_start n = date_at_shifted (pos n -ℤ pos 365_242_500) n (omega (arith, ints))
 
 -- the Thursday of the week, by the days from the start
-pub thursday_from_start : (d : OrdinalDate) (n : ℕ) → pos n ≡ day_number d +ℤ pos 365_242_500 → date_at (pos (n - n % 7 + 3) -ℤ pos 365_242_500) ≡ thursday_of d
+pub thursday_from_start : (d : OrdinalDate) (n : ℕ) → pos n ≡ day_number d +ℤ pos 365_242_500
+    → date_at (pos (n - n % 7 + 3) -ℤ pos 365_242_500) ≡ thursday_of d
 thursday_from_start d n e =
-    let same : pos (n - n % 7 + 3) -ℤ pos 365_242_500 ≡ day_number d +ℤ pos 3 -ℤ pos (weekday_of d) = omega (arith, ints, weekday_from_start (day_number d) n e) in
+    let same : pos (n - n % 7 + 3) -ℤ pos 365_242_500 ≡ day_number d +ℤ pos 3 -ℤ pos (weekday_of d) =
+    omega (arith, ints, weekday_from_start (day_number d) n e) in
     ap date_at same
 
 pub ruleset thursday_facts = (thursday_from_start, to_z-of_z)
 
-pub utc_day : (s : ℤ) (n : ℕ) → s +ℤ pos 31_619_087_596_800 ≡ pos n → pos (n / 86_400) -ℤ pos 365_242_500 ≡ int_div_euclid s (pos 86_400) +ℤ pos 719_162
-utc_day (pos a) n e = let h : n ≡ a + 31_619_087_596_800 = omega (arith, ints) in omega (arith, ints)
-utc_day (negsuc a) n e = let h : n + suc a ≡ 31_619_087_596_800 = omega (arith, ints) in omega (arith, ints)
+pub utc_day : (s : ℤ) (n : ℕ) → s +ℤ pos 31_619_087_596_800 ≡ pos n
+    → pos (n / 86_400) -ℤ pos 365_242_500 ≡ int_div_euclid s (pos 86_400) +ℤ pos 719_162
+utc_day (pos a) n e =
+    let h : n ≡ a + 31_619_087_596_800 = omega (arith, ints) in
+    omega (arith, ints)
+utc_day (negsuc a) n e =
+    let h : n + suc a ≡ 31_619_087_596_800 = omega (arith, ints) in
+    omega (arith, ints)
 
-pub utc_date_from_start : (s : ℤ) (n : ℕ) → s +ℤ pos 31_619_087_596_800 ≡ pos n → date_at (pos (n / 86_400) -ℤ pos 365_242_500) ≡ utc_date s
+pub utc_date_from_start : (s : ℤ) (n : ℕ) → s +ℤ pos 31_619_087_596_800 ≡ pos n
+    → date_at (pos (n / 86_400) -ℤ pos 365_242_500) ≡ utc_date s
 utc_date_from_start s n e = ap date_at (utc_day s n e)
 
-pub second_from_start : (s : ℤ) (n : ℕ) → s +ℤ pos 31_619_087_596_800 ≡ pos n → second_of_day s ≡ n % 86_400
-second_from_start (pos a) n e = let h : n ≡ a + 31_619_087_596_800 = omega (arith, ints) in rw h (omega arith)
-second_from_start (negsuc a) n e = let h : n + suc a ≡ 31_619_087_596_800 = omega (arith, ints) in omega arith
+pub second_from_start : (s : ℤ) (n : ℕ) → s +ℤ pos 31_619_087_596_800 ≡ pos n
+    → second_of_day s ≡ n % 86_400
+second_from_start (pos a) n e =
+    let h : n ≡ a + 31_619_087_596_800 = omega (arith, ints) in
+    rw h (omega arith)
+second_from_start (negsuc a) n e =
+    let h : n + suc a ≡ 31_619_087_596_800 = omega (arith, ints) in
+    omega arith

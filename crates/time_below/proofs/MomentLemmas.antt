@@ -1,22 +1,23 @@
 -- The UTC date and time of a moment, and its milliseconds.
-use Rattle.std.proofs.Common.{◌≡◌, ℕ, zero, suc, ◌+◌, ◌-◌, ◌*◌, ◌/◌, ◌%◌, ◌<◌, ◌≤◌, refl, sym, ap, ◌∙◌, arith, ℤ, pos, negsuc, neg_ℤ, ◌+ℤ◌, ◌-ℤ◌, ◌*ℤ◌, ◌<ℤ◌, unsigned_abs}
+use Rattle.std.proofs.Common.{◌≡◌, ℕ, ◌+◌, ◌*◌, ◌/◌, ◌%◌, ◌<◌, refl, sym, ap, ◌∙◌, arith, ℤ, pos, negsuc, ◌+ℤ◌, ◌-ℤ◌, ◌*ℤ◌, unsigned_abs}
 use Rattle.std.proofs.lemmas.Int.{ints}
-use Rattle.std.specs.Prelude.{int_div}
-use Rattle.std.specs.Int.{int_div_euclid, int_rem_euclid}
+use Rattle.std.specs.Int.{int_div_euclid}
 use Rattle.time_below.specs.Calendar.{OrdinalDate, IsDate, IsDayNumber, day_number, date_at}
 use Rattle.time_below.specs.TimeOfDay.{TimeOfDay, IsTimeOfDay, seconds_from_midnight, time_at}
 use Rattle.time_below.specs.Offset.{Offset, AreOffsetParts, IsOffset, offset_seconds}
-use Rattle.time_below.specs.Moment.{Moment, DateAndTime, OffsetDateAndTime, IsMoment, IsTimestampSecond, IsNearTimestampSecond, unix_seconds, local_unix_seconds, utc_date, utc_time, utc_date_and_time, second_of_day, milliseconds}
+use Rattle.time_below.specs.Moment.{Moment, DateAndTime, OffsetDateAndTime, IsMoment, IsTimestampSecond, IsNearTimestampSecond, unix_seconds, local_unix_seconds, utc_date, utc_time, utc_date_and_time, second_of_day}
 use Rattle.time_below.proofs.CalendarLemmas.{utc_day, second_from_start}
 use Rattle.time_below.proofs.YearLemmas.{IsDayNumber-day_number, IsDate-date_at, date_at-day_number, day_number_back, days_from_start, days_before_end, is_day_number}
 
 -- the seconds from -999999-01-01
 
-seconds_from_start : (s : ℤ) → IsTimestampSecond s → s +ℤ pos 31_619_087_596_800 ≡ pos (unsigned_abs (s +ℤ pos 31_619_087_596_800))
+seconds_from_start : (s : ℤ) → IsTimestampSecond s
+    → s +ℤ pos 31_619_087_596_800 ≡ pos (unsigned_abs (s +ℤ pos 31_619_087_596_800))
 seconds_from_start (pos a) h = refl
 seconds_from_start (negsuc a) h = omega (arith, ints)
 
-seconds_before_end : (s : ℤ) (n : ℕ) → IsTimestampSecond s → s +ℤ pos 31_619_087_596_800 ≡ pos n → n < 63_113_872_377_600
+seconds_before_end : (s : ℤ) (n : ℕ) → IsTimestampSecond s → s +ℤ pos 31_619_087_596_800 ≡ pos n
+    → n < 63_113_872_377_600
 seconds_before_end s n h e = omega (arith, ints)
 
 -- the day number of a second
@@ -30,12 +31,14 @@ day_within : (s : ℤ) → IsTimestampSecond s → IsDayNumber (day_of_second s)
 day_within s h =
     let n = unsigned_abs (s +ℤ pos 31_619_087_596_800) in
     let e = seconds_from_start s h in
-    is_day_number (day_of_second s) (n / 86_400) (day_shifted _ (n / 86_400) (utc_day s n e)) (omega (arith, seconds_before_end s n h e))
+    is_day_number (day_of_second s) (n / 86_400) (day_shifted _ (n / 86_400) (utc_day s n e))
+    (omega (arith, seconds_before_end s n h e))
 
 pub IsDate-utc_date : (m : Moment) → IsMoment m → IsDate (utc_date m.seconds)
 IsDate-utc_date m h = IsDate-date_at (day_of_second m.seconds) (day_within m.seconds h.0)
 
-time_within : (passed nanosecond : ℕ) → passed < 86_400 → nanosecond < 1_000_000_000 → IsTimeOfDay (time_at passed nanosecond)
+time_within : (passed nanosecond : ℕ) → passed < 86_400 → nanosecond < 1_000_000_000
+    → IsTimeOfDay (time_at passed nanosecond)
 time_within passed nanosecond h k = (omega arith, omega arith, omega arith, k)
 
 second_within : (s : ℤ) → IsTimestampSecond s → second_of_day s < 86_400
@@ -44,19 +47,24 @@ second_within s h =
     omega (arith, second_from_start s n (seconds_from_start s h))
 
 pub IsTimeOfDay-utc_time : (m : Moment) → IsMoment m → IsTimeOfDay (utc_time m)
-IsTimeOfDay-utc_time m h = time_within (second_of_day m.seconds) m.nanosecond (second_within m.seconds h.0) h.1
+IsTimeOfDay-utc_time m h =
+    time_within (second_of_day m.seconds) m.nanosecond (second_within m.seconds h.0) h.1
 
-seconds_of_time_at : (passed nanosecond : ℕ) → seconds_from_midnight (time_at passed nanosecond) ≡ passed
+seconds_of_time_at : (passed nanosecond : ℕ)
+    → seconds_from_midnight (time_at passed nanosecond) ≡ passed
 seconds_of_time_at passed nanosecond = omega arith
 
-joined : (s d z : ℤ) (n r p : ℕ) → s +ℤ pos 31_619_087_596_800 ≡ pos n → d ≡ z → pos (n / 86_400) -ℤ pos 365_242_500 ≡ z → r ≡ n % 86_400 → p ≡ r → (d -ℤ pos 719_162) *ℤ pos 86_400 +ℤ pos p ≡ s
+joined : (s d z : ℤ) (n r p : ℕ) → s +ℤ pos 31_619_087_596_800 ≡ pos n → d ≡ z
+    → pos (n / 86_400) -ℤ pos 365_242_500 ≡ z → r ≡ n % 86_400 → p ≡ r
+    → (d -ℤ pos 719_162) *ℤ pos 86_400 +ℤ pos p ≡ s
 joined s d z n r p e same day rest parts = omega (arith, ints)
 
 pub unix_seconds-utc : (m : Moment) → IsMoment m → unix_seconds (utc_date_and_time m) ≡ m.seconds
 unix_seconds-utc m h =
     let n = unsigned_abs (m.seconds +ℤ pos 31_619_087_596_800) in
     let e = seconds_from_start m.seconds h.0 in
-    joined m.seconds (day_number (utc_date m.seconds)) (day_of_second m.seconds) n (second_of_day m.seconds) _ e
+    joined m.seconds (day_number (utc_date m.seconds)) (day_of_second m.seconds) n
+    (second_of_day m.seconds) _ e
     (day_number_back (day_of_second m.seconds) (day_within m.seconds h.0))
     (utc_day m.seconds n e)
     (second_from_start m.seconds n e)
@@ -64,39 +72,48 @@ unix_seconds-utc m h =
 
 -- a date and a time in UTC have one moment
 
-parts_of : (k p : ℕ) → p < 86_400 → ((k * 86_400 + p) / 86_400 ≡ k) × ((k * 86_400 + p) % 86_400 ≡ p)
+parts_of : (k p : ℕ) → p < 86_400
+    → ((k * 86_400 + p) / 86_400 ≡ k) × ((k * 86_400 + p) % 86_400 ≡ p)
 parts_of k p h = (omega arith, omega arith)
 
-same_time : (h a m b s c n : ℕ) → h ≡ a → m ≡ b → s ≡ c → ◌≡◌ {A = TimeOfDay} (record { hour = h; minute = m; second = s; nanosecond = n }) (record { hour = a; minute = b; second = c; nanosecond = n })
+same_time : (h a m b s c n : ℕ) → h ≡ a → m ≡ b → s ≡ c
+    → ◌≡◌ {A = TimeOfDay} (record { hour = h; minute = m; second = s; nanosecond = n }) (record { hour = a; minute = b; second = c; nanosecond = n })
 same_time h a m b s c n hours minutes seconds = rw (hours, minutes, seconds) refl
 
-time_at-seconds_from_midnight : (t : TimeOfDay) → IsTimeOfDay t → time_at (seconds_from_midnight t) t.nanosecond ≡ t
+time_at-seconds_from_midnight : (t : TimeOfDay) → IsTimeOfDay t
+    → time_at (seconds_from_midnight t) t.nanosecond ≡ t
 time_at-seconds_from_midnight t h =
     same_time _ t.hour _ t.minute _ t.second t.nanosecond (omega arith) (omega arith) (omega arith)
 
 within_day : (t : TimeOfDay) → IsTimeOfDay t → seconds_from_midnight t < 86_400
 within_day t h = omega arith
 
-unix_shifted : (d : ℤ) (k p : ℕ) → d +ℤ pos 365_242_500 ≡ pos k → (d -ℤ pos 719_162) *ℤ pos 86_400 +ℤ pos p +ℤ pos 31_619_087_596_800 ≡ pos (k * 86_400 + p)
+unix_shifted : (d : ℤ) (k p : ℕ) → d +ℤ pos 365_242_500 ≡ pos k
+    → (d -ℤ pos 719_162) *ℤ pos 86_400 +ℤ pos p +ℤ pos 31_619_087_596_800 ≡ pos (k * 86_400 + p)
 unix_shifted d k p e = omega (arith, ints)
 
-is_timestamp_second : (s : ℤ) (k p : ℕ) → s +ℤ pos 31_619_087_596_800 ≡ pos (k * 86_400 + p) → k < 730_484_634 → p < 86_400 → IsTimestampSecond s
+is_timestamp_second : (s : ℤ) (k p : ℕ) → s +ℤ pos 31_619_087_596_800 ≡ pos (k * 86_400 + p)
+    → k < 730_484_634 → p < 86_400 → IsTimestampSecond s
 is_timestamp_second s k p e h r = (omega (arith, ints), omega (arith, ints))
 
-pub IsTimestampSecond-unix_seconds : (t : DateAndTime) → IsDate t.date → IsTimeOfDay t.time → IsTimestampSecond (unix_seconds t)
+pub IsTimestampSecond-unix_seconds : (t : DateAndTime) → IsDate t.date → IsTimeOfDay t.time
+    → IsTimestampSecond (unix_seconds t)
 IsTimestampSecond-unix_seconds t h r =
     let d = day_number t.date in
     let number = IsDayNumber-day_number t.date h in
     let k = unsigned_abs (d +ℤ pos 365_242_500) in
     let e = days_from_start d number in
     let p = seconds_from_midnight t.time in
-    is_timestamp_second (unix_seconds t) k p (unix_shifted d k p e) (days_before_end d k number e) (within_day t.time r)
+    is_timestamp_second (unix_seconds t) k p (unix_shifted d k p e) (days_before_end d k number e)
+    (within_day t.time r)
 
-same_day : (z d : ℤ) (n k : ℕ) → pos n -ℤ pos 365_242_500 ≡ z → n ≡ k → d +ℤ pos 365_242_500 ≡ pos k → z ≡ d
+same_day : (z d : ℤ) (n k : ℕ) → pos n -ℤ pos 365_242_500 ≡ z → n ≡ k
+    → d +ℤ pos 365_242_500 ≡ pos k → z ≡ d
 same_day z d n k e same f = omega (arith, ints)
 
 -- the day and the second of the day of a date and a time
-day_back : (t : DateAndTime) → IsDate t.date → IsTimeOfDay t.time → (utc_date (unix_seconds t) ≡ t.date) × (second_of_day (unix_seconds t) ≡ seconds_from_midnight t.time)
+day_back : (t : DateAndTime) → IsDate t.date → IsTimeOfDay t.time
+    → (utc_date (unix_seconds t) ≡ t.date) × (second_of_day (unix_seconds t) ≡ seconds_from_midnight t.time)
 day_back t h r =
     let d = day_number t.date in
     let k = unsigned_abs (d +ℤ pos 365_242_500) in
@@ -104,29 +121,38 @@ day_back t h r =
     let p = seconds_from_midnight t.time in
     let shifted = unix_shifted d k p e in
     let parts = parts_of k p (within_day t.time r) in
-    let same = same_day (day_of_second (unix_seconds t)) d _ k (utc_day (unix_seconds t) (k * 86_400 + p) shifted) parts.0 e in
+    let same =
+    same_day (day_of_second (unix_seconds t)) d _ k (utc_day (unix_seconds t) (k * 86_400 + p) shifted) parts.0 e in
     (ap date_at same ∙ date_at-day_number t.date h, second_from_start (unix_seconds t) (k * 86_400 + p) shifted ∙ parts.1)
 
-same_date_and_time : (d e : OrdinalDate) (t u : TimeOfDay) → d ≡ e → t ≡ u → ◌≡◌ {A = DateAndTime} (record { date = d; time = t }) (record { date = e; time = u })
+same_date_and_time : (d e : OrdinalDate) (t u : TimeOfDay) → d ≡ e → t ≡ u
+    → ◌≡◌ {A = DateAndTime} (record { date = d; time = t }) (record { date = e; time = u })
 same_date_and_time d e t u same alike = rw (same, alike) refl
 
-pub only_utc : (m : Moment) (t : DateAndTime) → IsDate t.date → IsTimeOfDay t.time → unix_seconds t ≡ m.seconds → t.time.nanosecond ≡ m.nanosecond → t ≡ utc_date_and_time m
+pub only_utc : (m : Moment) (t : DateAndTime) → IsDate t.date → IsTimeOfDay t.time
+    → unix_seconds t ≡ m.seconds → t.time.nanosecond ≡ m.nanosecond → t ≡ utc_date_and_time m
 only_utc m t h r seconds nanosecond =
     let back = day_back t h r in
     let date = sym (ap utc_date seconds) ∙ back.0 in
     let passed = sym (ap second_of_day seconds) ∙ back.1 in
-    let time = ap (λ p. time_at p m.nanosecond) passed ∙ ap (time_at (seconds_from_midnight t.time)) (sym nanosecond) ∙ time_at-seconds_from_midnight t.time r in
+    let time =
+    ap (λ p. time_at p m.nanosecond) passed
+    ∙ ap (time_at (seconds_from_midnight t.time)) (sym nanosecond)
+    ∙ time_at-seconds_from_midnight t.time r in
     sym (same_date_and_time (utc_date m.seconds) t.date (utc_time m) t.time date time)
 
 -- a local date and time
 
-offset_within : (o : Offset) → AreOffsetParts o.hours o.minutes o.seconds → unsigned_abs (offset_seconds o) < 93_600
+offset_within : (o : Offset) → AreOffsetParts o.hours o.minutes o.seconds
+    → unsigned_abs (offset_seconds o) < 93_600
 offset_within o h = omega (arith, ints)
 
 near : (s o : ℤ) → IsTimestampSecond s → unsigned_abs o < 93_600 → IsNearTimestampSecond (s -ℤ o)
 near s o h k = (omega (arith, ints), omega (arith, ints))
 
-pub IsNearTimestampSecond-local_unix_seconds : (t : OffsetDateAndTime) → IsDate t.date → IsTimeOfDay t.time → IsOffset t.offset → IsNearTimestampSecond (local_unix_seconds t)
+pub IsNearTimestampSecond-local_unix_seconds : (t : OffsetDateAndTime) → IsDate t.date
+    → IsTimeOfDay t.time → IsOffset t.offset → IsNearTimestampSecond (local_unix_seconds t)
 IsNearTimestampSecond-local_unix_seconds t h r o =
     let same : DateAndTime = record { date = t.date; time = t.time } in
-    near (unix_seconds same) (offset_seconds t.offset) (IsTimestampSecond-unix_seconds same h r) (offset_within t.offset o.0)
+    near (unix_seconds same) (offset_seconds t.offset) (IsTimestampSecond-unix_seconds same h r)
+    (offset_within t.offset o.0)

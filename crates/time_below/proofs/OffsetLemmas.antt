@@ -25,7 +25,8 @@ both_below y z a b e f =
     (λ h. absurd (omega (arith, ints, negated a)), λ h. omega (arith, ints, negated b))
 
 -- what holds for each sign of a part
-by_sign : (P : Type 0) (lead : ℤ) → (pos 0 <ℤ lead → P) → (lead <ℤ pos 0 → P) → (lead ≡ pos 0 → P) → P
+by_sign : (P : Type 0) (lead : ℤ) → (pos 0 <ℤ lead → P) → (lead <ℤ pos 0 → P)
+    → (lead ≡ pos 0 → P) → P
 by_sign P lead above below at_zero =
     by_lt_z (pos 0) lead above
     (λ h. by_lt_z lead (pos 0) below (λ k. at_zero (omega (arith, ints))))
@@ -36,7 +37,8 @@ no_other_sign lead x =
     (λ h. omega (arith, ints, like_positive lead x h), λ h. omega (arith, ints, like_negative lead x h, negated (unsigned_abs x)))
 
 -- nor have two parts that take the sign of a third
-no_other_sign_among : (h m s : ℤ) → HasNoOtherSign (signed_like h m) (signed_like h (signed_like m s))
+no_other_sign_among : (h m s : ℤ)
+    → HasNoOtherSign (signed_like h m) (signed_like h (signed_like m s))
 no_other_sign_among h m s =
     by_sign (HasNoOtherSign (signed_like h m) (signed_like h (signed_like m s))) h
     (λ k. both_above _ _ (unsigned_abs m) (unsigned_abs (signed_like m s)) (like_positive h m k) (like_positive h (signed_like m s) k))
@@ -61,5 +63,6 @@ IsOffset-settled h m s parts =
     let seconds = size_kept h (signed_like m s) ∙ size_kept m s in
     ((parts.0, omega (arith, minutes, parts.1), omega (arith, seconds, parts.2)), no_other_sign h m, no_other_sign h (signed_like m s), no_other_sign_among h m s)
 
-pub IsOffset-parts : (h m s x y : ℤ) → x ≡ signed_like h m → y ≡ signed_like h (signed_like m s) → AreOffsetParts h m s → IsOffset (record { hours = h; minutes = x; seconds = y })
+pub IsOffset-parts : (h m s x y : ℤ) → x ≡ signed_like h m → y ≡ signed_like h (signed_like m s)
+    → AreOffsetParts h m s → IsOffset (record { hours = h; minutes = x; seconds = y })
 IsOffset-parts h m s x y e f parts = rw (e, f) (IsOffset-settled h m s parts)

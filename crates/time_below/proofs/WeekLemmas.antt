@@ -10,7 +10,8 @@ use Rattle.time_below.proofs.YearLemmas.{years_from_start, days_from_start, days
 abbrev thursday_number : ℤ → ℤ
 thursday_number z = z +ℤ pos 3 -ℤ pos (unsigned_abs (int_rem_euclid z (pos 7)))
 
-thursday_shifted : (z : ℤ) (n : ℕ) → z +ℤ pos 365_242_500 ≡ pos n → thursday_number z +ℤ pos 365_242_500 ≡ pos (n - n % 7 + 3)
+thursday_shifted : (z : ℤ) (n : ℕ) → z +ℤ pos 365_242_500 ≡ pos n
+    → thursday_number z +ℤ pos 365_242_500 ≡ pos (n - n % 7 + 3)
 thursday_shifted z n e = omega (arith, ints, weekday_from_start z n (sym e))
 
 -- the Thursday of the first week and that of the last are in range
@@ -18,11 +19,13 @@ thursday_within : (z : ℤ) → IsDayNumber z → IsDayNumber (thursday_number z
 thursday_within z h =
     let n = unsigned_abs (z +ℤ pos 365_242_500) in
     let e = days_from_start z h in
-    is_day_number (thursday_number z) (n - n % 7 + 3) (thursday_shifted z n e) (omega (arith, days_before_end z n h e))
+    is_day_number (thursday_number z) (n - n % 7 + 3) (thursday_shifted z n e)
+    (omega (arith, days_before_end z n h e))
 
 IsDate-thursday_of : (d : OrdinalDate) → IsDate d → IsDate (thursday_of d)
 IsDate-thursday_of d h =
-    IsDate-date_at (thursday_number (day_number d)) (thursday_within (day_number d) (IsDayNumber-day_number d h))
+    IsDate-date_at (thursday_number (day_number d))
+    (thursday_within (day_number d) (IsDayNumber-day_number d h))
 
 pub iso_year_of_date : (d : OrdinalDate) → IsDate d → IsYear (iso_year_of d)
 iso_year_of_date d h = (IsDate-thursday_of d h).0
@@ -34,26 +37,33 @@ pub iso_week_of_date : (d : OrdinalDate) → IsDate d → IsInRange 1 53 (iso_we
 iso_week_of_date d h = week_of_ordinal (thursday_of d) (IsDate-thursday_of d h)
 
 -- two days with one weekday, whose Thursdays are in one week of one year, are one
-same_week : (m n o p a b : ℕ) → m ≡ n → (o - 1) / 7 + 1 ≡ (p - 1) / 7 + 1 → 1 ≤ o → 1 ≤ p → a % 7 ≡ b % 7
+same_week : (m n o p a b : ℕ) → m ≡ n → (o - 1) / 7 + 1 ≡ (p - 1) / 7 + 1 → 1 ≤ o → 1 ≤ p
+    → a % 7 ≡ b % 7
     → a - a % 7 + 3 ≡ days_of_years m + o - 1
     → b - b % 7 + 3 ≡ days_of_years n + p - 1
     → a ≡ b
 same_week m n o p a b year week one two day first second = omega (arith, ap days_of_years year)
 
-same_number : (y z : ℤ) (a b : ℕ) → y +ℤ pos 365_242_500 ≡ pos a → z +ℤ pos 365_242_500 ≡ pos b → a ≡ b → y ≡ z
+same_number : (y z : ℤ) (a b : ℕ) → y +ℤ pos 365_242_500 ≡ pos a → z +ℤ pos 365_242_500 ≡ pos b
+    → a ≡ b → y ≡ z
 same_number y z a b p q e = omega (arith, ints)
 
 same_pos : (a b : ℕ) → pos a ≡ pos b → a ≡ b
 same_pos a b e = ap unsigned_abs e
 
 -- the Thursday of a day, counted from the start both ways
-thursday_counted : (d : OrdinalDate) (n m : ℕ) → IsDate d → day_number d +ℤ pos 365_242_500 ≡ pos n → (thursday_of d).year +ℤ pos 999_999 ≡ pos m → n - n % 7 + 3 ≡ days_of_years m + (thursday_of d).ordinal - 1
+thursday_counted : (d : OrdinalDate) (n m : ℕ) → IsDate d
+    → day_number d +ℤ pos 365_242_500 ≡ pos n → (thursday_of d).year +ℤ pos 999_999 ≡ pos m
+    → n - n % 7 + 3 ≡ days_of_years m + (thursday_of d).ordinal - 1
 thursday_counted d n m h e y =
-    let back = day_number_back (thursday_number (day_number d)) (thursday_within (day_number d) (IsDayNumber-day_number d h)) in
+    let back =
+    day_number_back (thursday_number (day_number d)) (thursday_within (day_number d) (IsDayNumber-day_number d h)) in
     let there = day_number_from_start (thursday_of d) m y (IsDate-thursday_of d h).1.0 in
-    same_pos _ _ (sym (thursday_shifted (day_number d) n e) ∙ sym (ap (λ z. z +ℤ pos 365_242_500) back) ∙ there)
+    same_pos _ _
+    (sym (thursday_shifted (day_number d) n e) ∙ sym (ap (λ z. z +ℤ pos 365_242_500) back) ∙ there)
 
-pub same_week_day : (d e : OrdinalDate) → IsDate d → IsDate e → iso_year_of d ≡ iso_year_of e → iso_week_of d ≡ iso_week_of e → weekday_of d ≡ weekday_of e → d ≡ e
+pub same_week_day : (d e : OrdinalDate) → IsDate d → IsDate e → iso_year_of d ≡ iso_year_of e
+    → iso_week_of d ≡ iso_week_of e → weekday_of d ≡ weekday_of e → d ≡ e
 same_week_day d e h k year week day =
     let a = unsigned_abs (day_number d +ℤ pos 365_242_500) in
     let b = unsigned_abs (day_number e +ℤ pos 365_242_500) in
@@ -63,9 +73,13 @@ same_week_day d e h k year week day =
     let q = days_from_start (day_number e) (IsDayNumber-day_number e k) in
     let u = years_from_start (thursday_of d).year (IsDate-thursday_of d h).0 in
     let v = years_from_start (thursday_of e).year (IsDate-thursday_of e k).0 in
-    let rests : a % 7 ≡ b % 7 = sym (weekday_from_start (day_number d) a (sym p)) ∙ day ∙ weekday_from_start (day_number e) b (sym q) in
+    let rests : a % 7 ≡ b % 7 =
+    sym (weekday_from_start (day_number d) a (sym p))
+    ∙ day
+    ∙ weekday_from_start (day_number e) b (sym q) in
     let same : a ≡ b =
-    same_week m n (thursday_of d).ordinal (thursday_of e).ordinal a b (ap (λ y. unsigned_abs (y +ℤ pos 999_999)) year) week
+    same_week m n (thursday_of d).ordinal (thursday_of e).ordinal a b
+    (ap (λ y. unsigned_abs (y +ℤ pos 999_999)) year) week
     (IsDate-thursday_of d h).1.0
     (IsDate-thursday_of e k).1.0
     rests

@@ -1,4 +1,4 @@
--- The proleptic Gregorian calendar and the week calendar (ISO 8601-1:2019, Gregorian and week calendar).
+-- The proleptic Gregorian calendar, and the week calendar of ISO 8601-1:2019.
 use Rattle.std.specs.Prelude.{ℕ, zero, suc, ◌+◌, ◌-◌, ◌*◌, ◌/◌, ◌%◌, ◌≤◌, Bool, not, ◌&&◌, ◌||◌, ◌==◌, nat_lt, if◌then◌else◌, ℤ, pos, neg_ℤ, ◌+ℤ◌, ◌-ℤ◌, ◌*ℤ◌, ◌≤ℤ◌, unsigned_abs}
 use Rattle.std.specs.Int.{IsInRange, int_div_euclid, int_rem_euclid}
 
@@ -55,13 +55,17 @@ day_number d = days_before_year d.year +ℤ pos d.ordinal -ℤ pos 1
 abbrev pub IsDayNumber : ℤ → Type 0
 IsDayNumber n = (neg_ℤ (pos 365_242_500) ≤ℤ n) × (n ≤ℤ pos 365_242_133)
 
--- the date of a day number
+-- the date of a day number: 400 years have 146,097 days, four years 1461. Laws pin it down: each date is
+-- the one of its day number, and each day number that of its date
 unfoldable pub date_at : ℤ → OrdinalDate
 date_at number =
     let quarters = pos 4 *ℤ number +ℤ pos 3 in
     let day_of_century = unsigned_abs (int_rem_euclid quarters (pos 146_097)) / 4 in
     let rest = 4 * day_of_century + 3 in
-    record { year = pos 100 *ℤ int_div_euclid quarters (pos 146_097) +ℤ pos (rest / 1461 + 1); ordinal = rest % 1461 / 4 + 1 }
+    record {
+      year = pos 100 *ℤ int_div_euclid quarters (pos 146_097) +ℤ pos (rest / 1461 + 1);
+      ordinal = rest % 1461 / 4 + 1;
+    }
 
 -- the day after: the next of the year, or the first of the next year
 abbrev pub next_day : OrdinalDate → OrdinalDate

@@ -1,5 +1,6 @@
 pub mod Calendar
 pub mod ComponentRange
+pub mod Conversion
 pub mod Facts
 pub mod Moment
 pub mod Month

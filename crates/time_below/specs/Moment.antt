@@ -1,5 +1,5 @@
 -- Moments, counted from 1970-01-01T00:00:00 UTC, and dates with a time of day.
-use Rattle.std.specs.Prelude.{ℕ, ◌+◌, ◌/◌, ◌<◌, ℤ, pos, neg_ℤ, ◌+ℤ◌, ◌-ℤ◌, ◌*ℤ◌, ◌≤ℤ◌, ◌<ℤ◌, unsigned_abs, int_div}
+use Rattle.std.specs.Prelude.{ℕ, ◌<◌, ℤ, pos, neg_ℤ, ◌+ℤ◌, ◌-ℤ◌, ◌*ℤ◌, ◌≤ℤ◌, ◌<ℤ◌, unsigned_abs, int_div}
 use Rattle.std.specs.Int.{int_div_euclid, int_rem_euclid}
 use Rattle.time_below.specs.Calendar.{OrdinalDate, day_number, date_at}
 use Rattle.time_below.specs.TimeOfDay.{TimeOfDay, seconds_from_midnight, time_at}
@@ -40,7 +40,8 @@ unix_seconds t =
 
 -- the same of a local date and time: a place with a positive offset is ahead of UTC
 abbrev pub local_unix_seconds : OffsetDateAndTime → ℤ
-local_unix_seconds t = unix_seconds (record { date = t.date; time = t.time }) -ℤ offset_seconds t.offset
+local_unix_seconds t =
+    unix_seconds (record { date = t.date; time = t.time }) -ℤ offset_seconds t.offset
 
 -- the UTC date of so many seconds since 1970-01-01
 abbrev pub utc_date : ℤ → OrdinalDate

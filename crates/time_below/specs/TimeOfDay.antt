@@ -24,4 +24,9 @@ seconds_from_midnight t = 3600 * t.hour + 60 * t.minute + t.second
 -- the time so many whole seconds after midnight
 abbrev pub time_at : ℕ → ℕ → TimeOfDay
 time_at passed nanosecond =
-    record { hour = passed / 3600; minute = passed % 3600 / 60; second = passed % 60; nanosecond = nanosecond }
+    record {
+      hour = passed / 3600;
+      minute = passed % 3600 / 60;
+      second = passed % 60;
+      nanosecond = nanosecond;
+    }

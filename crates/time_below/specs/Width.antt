@@ -2,6 +2,14 @@
 use Rattle.std.specs.Prelude.{ℕ, ◌+◌, length, Bool, true, false, ◌&&◌}
 use Rattle.time_below.specs.declared.format_description.component.Component.{Component}
 use Rattle.time_below.specs.declared.format_description.component.Component.TheVariants as component
+use Rattle.time_below.specs.declared.format_description.modifier.MonthRepr.{MonthRepr}
+use Rattle.time_below.specs.declared.format_description.modifier.MonthRepr.TheVariants as month
+use Rattle.time_below.specs.declared.format_description.modifier.WeekdayRepr.{WeekdayRepr}
+use Rattle.time_below.specs.declared.format_description.modifier.WeekdayRepr.TheVariants as weekday
+use Rattle.time_below.specs.declared.format_description.modifier.YearRepr.{YearRepr}
+use Rattle.time_below.specs.declared.format_description.modifier.YearRepr.TheVariants as year
+use Rattle.time_below.specs.declared.format_description.modifier.UnixTimestampPrecision.{UnixTimestampPrecision}
+use Rattle.time_below.specs.declared.format_description.modifier.UnixTimestampPrecision.TheVariants as precision
 use Rattle.time_below.specs.declared.format_description.modifier.SubsecondDigits.{SubsecondDigits}
 use Rattle.time_below.specs.declared.format_description.modifier.SubsecondDigits.TheVariants as digits
 use Rattle.time_below.specs.Tree.{Tree, Trees, byte_literal, text_literal, of_component, all_of, first_of, nothing, end, more}
@@ -19,7 +27,31 @@ subsecond_width digits.Eight = 8
 subsecond_width digits.Nine = 9
 subsecond_width digits.OneOrMore = 9
 
--- the longest text of a component, which some value reaches whatever its choices are
+-- of the deprecated components
+
+abbrev pub month_width : MonthRepr → ℕ
+month_width month.Numerical = 2
+month_width month.Long = 9
+month_width month.Short = 3
+
+abbrev pub weekday_width : WeekdayRepr → ℕ
+weekday_width weekday.Short = 3
+weekday_width weekday.Long = 9
+weekday_width weekday.Sunday = 1
+weekday_width weekday.Monday = 1
+
+abbrev pub unix_timestamp_width : UnixTimestampPrecision → ℕ
+unix_timestamp_width precision.Second = 15
+unix_timestamp_width precision.Millisecond = 18
+
+-- whatever the range is, so that a year of the standard range does not reach it
+abbrev pub year_width : YearRepr → ℕ
+year_width year.Full = 7
+year_width year.Century = 5
+year_width year.LastTwo = 2
+
+-- the longest text of a component, which some value reaches whatever its choices are; the deprecated
+-- ones stand last
 abbrev pub component_width : Component → ℕ
 component_width (component.Day m) = 2
 component_width (component.MonthShort m) = 3
@@ -56,6 +88,12 @@ component_width (component.UnixTimestampSecond m) = 15
 component_width (component.UnixTimestampMillisecond m) = 18
 component_width (component.Ignore m) = 0
 component_width (component.End m) = 0
+component_width (component.Month m) = month_width m.repr
+component_width (component.Weekday m) = weekday_width m.repr
+component_width (component.WeekNumber m) = 2
+component_width (component.Hour m) = 2
+component_width (component.UnixTimestamp m) = unix_timestamp_width m.precision
+component_width (component.Year m) = year_width m.repr
 
 -- a list has the sum of its items, a first its first item alone; no bound stops the sum
 abbrev mutual

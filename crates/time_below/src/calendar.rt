@@ -1,15 +1,20 @@
 //! The lengths of years and months.
-ghost use Rattle.std.specs.Prelude.{◌≡◌, ◌-◌, ◌≤◌, if◌then◌else◌};
+ghost use Rattle.std.specs.Prelude.{◌≡◌, ◌+◌, ◌-◌, ◌*◌, ◌/◌, ◌≤◌, if◌then◌else◌};
 ghost use Rattle.std.specs.Int.{IsInRange};
 ghost use Rattle.time_below.specs.Calendar.{is_leap_year, days_in_year, days_in_month, days_of_months, last_begun};
 
 // The days before each month of a common year.
 const CUMULATIVE_DAYS: [u16; 12] = [0, 31, 59, 90, 120, 151, 181, 212, 243, 273, 304, 334];
 
+// A year that 25 divides is one of 100 where 4 divides it, and one of 400 where 16 does.
 pub fn is_leap_year(year: i32) -> bool
     ensures { result ≡ is_leap_year year }
 {
-    year % 4 == 0 && year % 100 != 0 || year % 400 == 0
+    if year % 25 == 0 {
+        year % 16 == 0
+    } else {
+        year % 4 == 0
+    }
 }
 
 pub fn days_in_year(year: i32) -> u16
@@ -41,8 +46,21 @@ pub fn days_before_month(is_leap: bool, month: u8) -> u16
     if is_leap && month > 2 { days + 1 } else { days }
 }
 
+// The month and the day of the month, counted on from 1 January or from 1 March. From there five
+// months have 31, 30, 31, 30 and 31 days, and so again, so that products give both.
+fn month_and_day_on(days: u16) -> (u8, u8)
+    requires { IsInRange 1 306 days }
+    ensures month { result.0 ≡ (days * 268 + 8031) / 8192 }
+    ensures day { result.1 ≡ days - (result.0 * 3917 - 3866) / 128 }
+    ensures month_range { IsInRange 1 10 result.0 }
+{
+    let month = (days as u32 * 268 + 8031) / 8192;
+    let day = days as u32 - (month * 3917 - 3866) / 128;
+    (month as u8, day as u8)
+}
+
 // The month of a day of the year, and the day of that month.
-#[tactic(auto, using(crate::proofs::MonthLemmas::month_steps))]
+#[tactic(auto, using(crate::proofs::ProductLemmas::month_facts))]
 pub fn month_and_day(is_leap: bool, ordinal: u16) -> (u8, u8)
     requires { IsInRange 1 (if is_leap then 366 else 365) ordinal }
     ensures month { result.0 ≡ last_begun is_leap 12 ordinal }
@@ -51,9 +69,10 @@ pub fn month_and_day(is_leap: bool, ordinal: u16) -> (u8, u8)
     ensures day_range { IsInRange 1 (days_in_month is_leap result.0) result.1 }
     ensures day_limit { result.1 ≤ 31 }
 {
-    let mut month = 12;
-    while days_before_month(is_leap, month) >= ordinal {
-        month -= 1;
+    let february_end = if is_leap { 60 } else { 59 };
+    if ordinal <= february_end {
+        return month_and_day_on(ordinal);
     }
-    (month, (ordinal - days_before_month(is_leap, month)) as u8)
+    let (month, day) = month_and_day_on(ordinal - february_end);
+    (month + 2, day)
 }

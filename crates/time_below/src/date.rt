@@ -41,7 +41,8 @@ impl Date {
     /// Refuses the year, then the day, whose range the year and the month set.
     #[tactic(auto, using(crate::proofs::MonthLemmas::month_within))]
     pub fn from_calendar_date(year: i32, month: Month, day: u8) -> Result<Date, ComponentRange>
-        ensures accepted { IsOk result ↔ (IsYear year × IsDayOfMonth year (month_number month) day) }
+        ensures accepted { IsOk result
+            ↔ (IsYear year × IsDayOfMonth year (month_number month) day) }
         ensures value { IfOk result (λ d. d ≡ date_of year (month_number month) day) }
         ensures refusal { IfErr result (λ e. range_refusal e
             ≡ (if nat_le (unsigned_abs year) 999_999 then conditional_range (codes "day")

@@ -17,8 +17,10 @@ pub fn one_date_for_each_day()
 /// Day 0 is Monday 0001-01-01, and the day after a date has the next number and the next weekday.
 pub fn days_follow_one_another()
     ensures begin { day_number (record { year = pos 1; ordinal = 1 }) ≡ pos 0 }
-    ensures number { (d : OrdinalDate) → IsDate d → day_number (next_day d) ≡ day_number d +ℤ pos 1 }
-    ensures weekday { (d : OrdinalDate) → IsDate d → weekday_of (next_day d) ≡ (weekday_of d + 1) % 7 }
+    ensures number { (d : OrdinalDate) → IsDate d
+        → day_number (next_day d) ≡ day_number d +ℤ pos 1 }
+    ensures weekday { (d : OrdinalDate) → IsDate d
+        → weekday_of (next_day d) ≡ (weekday_of d + 1) % 7 }
 {}
 
 /// Each date is that of its month and its day of the month, and of no others.

@@ -1,4 +1,7 @@
 //! The ranges and texts that no clause states.
+mod dates;
+mod moments;
+
 use crate::format_description::{Component, component_width, modifier};
 use crate::{ComponentRange, Time};
 use modifier::{Padding, SubsecondDigits};

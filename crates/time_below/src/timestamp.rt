@@ -1,5 +1,5 @@
 //! Moments counted in seconds.
-ghost use Rattle.std.specs.Prelude.{◌≡◌, ◌↔◌, ◌<◌, IsOk, IfOk, IfErr, codes, pos, ◌+ℤ◌};
+ghost use Rattle.std.specs.Prelude.{◌≡◌, ◌↔◌, ◌<◌, IsOk, IfOk, IfErr, codes, pos, ◌+ℤ◌, unsigned_abs};
 ghost use Rattle.time_below.specs.Moment.{IsMoment, IsTimestampSecond, utc_date, utc_time, milliseconds};
 ghost use Rattle.time_below.specs.ComponentRange.{range_refusal, unconditional_range};
 
@@ -39,7 +39,8 @@ impl Timestamp {
     pub fn new(seconds: i64, nanosecond: u32) -> Result<Timestamp, ComponentRange>
         ensures accepted { IsOk result
             ↔ IsMoment (record { seconds = seconds; nanosecond = nanosecond }) }
-        ensures value { IfOk result (λ t. t ≡ record { seconds = seconds; nanosecond = nanosecond }) }
+        ensures value { IfOk result (λ t. t
+            ≡ record { seconds = seconds; nanosecond = nanosecond }) }
         ensures seconds { IfErr result (λ e. ¬ (IsTimestampSecond seconds)
             → range_refusal e ≡ unconditional_range (codes "seconds")) }
         ensures nanosecond { IfErr result (λ e. IsTimestampSecond seconds
@@ -89,9 +90,10 @@ impl Timestamp {
         self.seconds
     }
 
-    /// The milliseconds since 1970-01-01T00:00:00 UTC, rounded toward zero.
+    /// The milliseconds since 1970-01-01T00:00:00 UTC, rounded toward zero, at most 17 digits.
     pub fn as_milliseconds(self) -> i64
-        ensures { result ≡ milliseconds self }
+        ensures value { result ≡ milliseconds self }
+        ensures range { unsigned_abs result < 100_000_000_000_000_000 }
     {
         if self.seconds >= 0 {
             self.seconds * 1000 + (self.nanosecond / 1_000_000) as i64

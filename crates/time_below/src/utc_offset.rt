@@ -22,7 +22,9 @@ impl Model for UtcOffset {
 
     ghost view = { λ o. record { hours = o.hours; minutes = o.minutes; seconds = o.seconds } };
 
-    ghost invariant = { λ o. IsOffset (record { hours = o.hours; minutes = o.minutes; seconds = o.seconds }) };
+    ghost invariant = { λ o. IsOffset (
+        record { hours = o.hours; minutes = o.minutes; seconds = o.seconds }
+        ) };
 
     ghost inverse = { λ o. record { hours = o.hours; minutes = o.minutes; seconds = o.seconds } };
 }

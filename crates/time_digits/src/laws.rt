@@ -2,16 +2,17 @@
 ghost use Rattle.std.specs.Prelude.{◌≡◌, ℕ, ◌+◌, ◌/◌, ◌%◌, ◌^◌, ◌<◌, ◌≤◌, [], ◌∷◌, ◌++◌, decimal};
 ghost use Rattle.time_digits.specs.Fraction.{IsOnlyTrimmedFraction};
 
-/// The decimal text of a number is one digit below 10, else the text of the tenth part of the number,
-/// without its fraction, and then the last digit.
+/// The decimal text of a number of at most 64 digits is one digit below 10, else the text of the
+/// number's quotient by 10 and then its last digit.
 #[tactic(auto, using(crate::proofs::DigitLemmas::decimal_recursion))]
 pub fn decimal_by_last_digit()
     ensures one { (n : ℕ) → n < 10 → decimal n ≡ (48 + n) ∷ [] }
-    ensures more { (n : ℕ) → 10 ≤ n → n < 10 ^ 64 → decimal n ≡ decimal (n / 10) ++ (48 + n % 10) ∷ [] }
+    ensures more { (n : ℕ) → 10 ≤ n → n < 10 ^ 64
+        → decimal n ≡ decimal (n / 10) ++ (48 + n % 10) ∷ [] }
 {}
 
 /// For each number from 0 to 999,999,999 the trimmed fraction is the shortest list of one to nine
-/// digits that, filled with zeros to nine, is the nine digits of the number; and it is the only one.
+/// digits that, filled with zeros to nine, is the nine digits of the number; no other list is.
 #[tactic(auto, using(crate::proofs::FractionLemmas::only_trimmed_fraction))]
 pub fn trimmed_fraction_is_shortest()
     ensures { (n : ℕ) → n < 1_000_000_000 → IsOnlyTrimmedFraction n }

@@ -1,7 +1,7 @@
 -- How long the texts of a date are, and where nothing is filled in before a number.
-use Rattle.std.proofs.Common.{◌≡◌, ℕ, ◌+◌, ◌-◌, ◌%◌, ◌^◌, ◌<◌, ◌≤◌, Bool, true, false, ◌||◌, nat_lt, List, ◌++◌, length, replicate, take, decimal, refl, sym, ◌∙◌, arith, ℤ, pos, unsigned_abs, length-append}
+use Rattle.std.proofs.Common.{◌≡◌, ℕ, ◌+◌, ◌%◌, ◌^◌, ◌<◌, ◌≤◌, Bool, true, false, ◌||◌, nat_lt, List, ◌++◌, length, take, decimal, refl, sym, ◌∙◌, arith, ℤ, pos, unsigned_abs, length-append}
 use Rattle.std.proofs.lemmas.Fmt.{length-decimal-le}
-use Rattle.std.proofs.Math.ListN.{length-replicate, length-take}
+use Rattle.std.proofs.Math.ListN.{length-take}
 use Rattle.std.specs.Prelude.{int_lt}
 use Rattle.time_below.specs.declared.format_description.modifier.Padding.{Padding}
 use Rattle.time_below.specs.declared.format_description.modifier.Padding.TheVariants as padding
@@ -11,11 +11,12 @@ use Rattle.time_below.specs.declared.weekday.Weekday.{Weekday}
 use Rattle.time_below.specs.declared.weekday.Weekday.TheVariants.{Monday, Tuesday, Wednesday, Thursday, Friday, Saturday, Sunday}
 use Rattle.time_below.specs.Month.{month_number}
 use Rattle.time_below.specs.Weekday.{days_from_monday}
-use Rattle.time_digits.specs.Digits.{padded, zero_padded}
+use Rattle.time_digits.specs.Digits.{zero_padded}
 use Rattle.time_digits.proofs.DigitLemmas.{decimal_longer, padded_whole}
+use Rattle.time_digits.proofs.LengthLemmas.{length-padded-le}
 use Rattle.time_fmt.specs.DateText.{month_name, weekday_name, short_name, indexed, from_sunday, extended_year_text, standard_year_text, extended_century_text, standard_century_text}
 use Rattle.time_fmt.specs.Text.{padded_text, sign_text}
-use Rattle.time_fmt.proofs.TextLemmas.{length-sign_text, two_places}
+use Rattle.time_fmt.proofs.TextLemmas.{length-sign_text, length-padded_text, two_places}
 
 -- ---- numbers that fill their places
 
@@ -37,18 +38,13 @@ whole_century padding.None n low high = refl
 -- ---- lengths of numbers
 
 -- no more bytes than the places and the digits
-padded_within : (fill places most n : ℕ) → places ≤ most → length (decimal n) ≤ most → length (padded fill places n) ≤ most
-unfolding padded
-padded_within fill places most n h d =
-    omega (arith, length-append (replicate (places - length (decimal n)) fill) (decimal n), length-replicate {A = ℕ} (places - length (decimal n)) fill)
-
 padded_text_within : (p : Padding) (places most n : ℕ) → places ≤ most → length (decimal n) ≤ most → length (padded_text p places n) ≤ most
-padded_text_within padding.Space places most n h d = padded_within 32 places most n h d
-padded_text_within padding.Zero places most n h d = padded_within 48 places most n h d
+padded_text_within padding.Space places most n h d = length-padded-le 32 places n most h d
+padded_text_within padding.Zero places most n h d = length-padded-le 48 places n most h d
 padded_text_within padding.None places most n h d = d
 
 pub three_places : (p : Padding) (n : ℕ) → n < 1000 → length (padded_text p 3 n) ≤ 3
-three_places p n h = padded_text_within p 3 3 n (omega arith) (length-decimal-le 3 n (omega arith) (omega arith) (omega arith))
+three_places p n h = length-padded_text p 3 n (length-decimal-le 3 n (omega arith) (omega arith) (omega arith))
 
 -- ---- lengths of years and centuries
 
@@ -121,5 +117,15 @@ length-monday_digit one_indexed w = length-indexed one_indexed (days_from_monday
 
 pub length-sunday_digit : (one_indexed : Bool) (w : Weekday) → length (decimal (indexed one_indexed (from_sunday (days_from_monday w)))) ≤ 1
 length-sunday_digit one_indexed w = length-indexed one_indexed (from_sunday (days_from_monday w)) (omega (arith, days_in_week w))
+
+pub ruleset name_lengths = (length-month_name, length-weekday_name, length-short_name, two_places)
+
+pub ruleset weekday_digit_lengths = (length-monday_digit, length-sunday_digit)
+
+pub ruleset year_lengths = (length-extended_year_text, length-standard_year_text)
+
+pub ruleset century_lengths = (length-extended_century_text, length-standard_century_text)
+
+pub ruleset day_lengths = (two_places, three_places)
 
 pub ruleset date_text_lengths = (two_places, three_places, length-extended_year_text, length-standard_year_text, length-extended_century_text, length-standard_century_text, length-month_name, length-weekday_name, length-short_name, length-monday_digit, length-sunday_digit)

@@ -1,8 +1,16 @@
 -- The first decimals of the second are the digits of a smaller number.
 use Rattle.std.proofs.Common.{◌≡◌, ℕ, ◌+◌, ◌-◌, ◌*◌, ◌/◌, ◌%◌, ◌^◌, ◌<◌, ◌≤◌, List, ◌++◌, length, take, decimal, sym, ap, ◌∙◌, refl, arith, length-append, append_assoc}
+use Rattle.std.proofs.lemmas.Fmt.{length-decimal-le}
 use Rattle.std.proofs.lemmas.List.{take-append-le, take_all}
+use Rattle.std.proofs.Math.ListN.{length-take}
+use Rattle.time_below.specs.declared.format_description.modifier.SubsecondDigits.{SubsecondDigits}
+use Rattle.time_below.specs.declared.format_description.modifier.SubsecondDigits.TheVariants as digits
+use Rattle.time_below.specs.Width.{subsecond_width}
 use Rattle.time_digits.specs.Digits.{fixed, zero_padded}
 use Rattle.time_digits.proofs.DigitLemmas.{fixed-append, fixed-mod, length-fixed, zero_padded_is, decimal_one}
+use Rattle.time_digits.proofs.LengthLemmas.{length-digit, length-padded}
+use Rattle.time_digits.proofs.FractionLemmas.{length-trimmed_fraction}
+use Rattle.time_fmt.specs.Text.{subsecond_text}
 
 take_front : (xs ys : List ℕ) (k : ℕ) → length xs ≡ k → take k (xs ++ ys) ≡ xs
 take_front xs ys k h = let le : k ≤ length xs = omega arith in take-append-le k xs ys le ∙ take_all k xs (omega arith)
@@ -11,46 +19,67 @@ take_front xs ys k h = let le : k ≤ length xs = omega arith in take-append-le 
 pub take-fixed : (j k n : ℕ) → take j (fixed (j + k) n) ≡ fixed j (n / 10 ^ k)
 take-fixed j k n = rw (fixed-append j k n) (take_front (fixed j (n / 10 ^ k)) (fixed k n) j (length-fixed j (n / 10 ^ k)))
 
-one_decimal : (n : ℕ) → n < 1_000_000_000 → take 1 (fixed 9 n) ≡ decimal (n / 100_000_000)
+pub one_decimal : (n : ℕ) → n < 1_000_000_000 → take 1 (fixed 9 n) ≡ decimal (n / 100_000_000)
 one_decimal n h = take-fixed 1 8 n ∙ sym (decimal_one (n / 100_000_000) (omega arith))
 
-two_decimals : (n : ℕ) → n < 1_000_000_000 → take 2 (fixed 9 n) ≡ zero_padded 2 (n / 10_000_000)
+pub two_decimals : (n : ℕ) → n < 1_000_000_000 → take 2 (fixed 9 n) ≡ zero_padded 2 (n / 10_000_000)
 two_decimals n h = take-fixed 2 7 n ∙ sym (zero_padded_is 1 (n / 10_000_000) (omega arith) (omega arith))
 
-three_decimals : (n : ℕ) → n < 1_000_000_000 → take 3 (fixed 9 n) ≡ zero_padded 3 (n / 1_000_000)
+pub three_decimals : (n : ℕ) → n < 1_000_000_000 → take 3 (fixed 9 n) ≡ zero_padded 3 (n / 1_000_000)
 three_decimals n h = take-fixed 3 6 n ∙ sym (zero_padded_is 2 (n / 1_000_000) (omega arith) (omega arith))
 
-four_decimals : (n : ℕ) → n < 1_000_000_000 → take 4 (fixed 9 n) ≡ zero_padded 4 (n / 100_000)
+pub four_decimals : (n : ℕ) → n < 1_000_000_000 → take 4 (fixed 9 n) ≡ zero_padded 4 (n / 100_000)
 four_decimals n h = take-fixed 4 5 n ∙ sym (zero_padded_is 3 (n / 100_000) (omega arith) (omega arith))
 
-five_decimals : (n : ℕ) → n < 1_000_000_000 → take 5 (fixed 9 n) ≡ zero_padded 5 (n / 10_000)
+pub five_decimals : (n : ℕ) → n < 1_000_000_000 → take 5 (fixed 9 n) ≡ zero_padded 5 (n / 10_000)
 five_decimals n h = take-fixed 5 4 n ∙ sym (zero_padded_is 4 (n / 10_000) (omega arith) (omega arith))
 
-six_decimals : (n : ℕ) → n < 1_000_000_000 → take 6 (fixed 9 n) ≡ zero_padded 6 (n / 1_000)
+pub six_decimals : (n : ℕ) → n < 1_000_000_000 → take 6 (fixed 9 n) ≡ zero_padded 6 (n / 1_000)
 six_decimals n h = take-fixed 6 3 n ∙ sym (zero_padded_is 5 (n / 1_000) (omega arith) (omega arith))
 
-seven_decimals : (n : ℕ) → take 7 (fixed 9 n) ≡ fixed 7 (n / 100)
+pub seven_decimals : (n : ℕ) → take 7 (fixed 9 n) ≡ fixed 7 (n / 100)
 seven_decimals n = take-fixed 7 2 n
 
-eight_decimals : (n : ℕ) → take 8 (fixed 9 n) ≡ fixed 8 (n / 10)
+pub eight_decimals : (n : ℕ) → take 8 (fixed 9 n) ≡ fixed 8 (n / 10)
 eight_decimals n = take-fixed 8 1 n
 
-nine_decimals : (n : ℕ) → take 9 (fixed 9 n) ≡ fixed 9 n
+pub nine_decimals : (n : ℕ) → take 9 (fixed 9 n) ≡ fixed 9 n
 nine_decimals n = take_all 9 (fixed 9 n) (omega (arith, length-fixed 9 n))
 
 pub ruleset first_decimals = (one_decimal, two_decimals, three_decimals, four_decimals, five_decimals, six_decimals, seven_decimals, eight_decimals, nine_decimals, length-fixed)
 
 -- a number by its first digits and its last six
-seven_parts : (n : ℕ) → n < 10_000_000 → decimal (n / 1_000_000) ++ zero_padded 6 (n % 1_000_000) ≡ fixed 7 n
+pub seven_parts : (n : ℕ) → n < 10_000_000 → decimal (n / 1_000_000) ++ zero_padded 6 (n % 1_000_000) ≡ fixed 7 n
 seven_parts n h =
     let first = decimal_one (n / 1_000_000) (omega arith) in
     let last = zero_padded_is 5 (n % 1_000_000) (omega arith) (omega arith) ∙ fixed-mod 6 n in
     ap (λ xs. xs ++ zero_padded 6 (n % 1_000_000)) first ∙ ap (λ ys. fixed 1 (n / 1_000_000) ++ ys) last ∙ sym (fixed-append 1 6 n)
 
-eight_parts : (n : ℕ) → n < 100_000_000 → zero_padded 2 (n / 1_000_000) ++ zero_padded 6 (n % 1_000_000) ≡ fixed 8 n
+pub eight_parts : (n : ℕ) → n < 100_000_000 → zero_padded 2 (n / 1_000_000) ++ zero_padded 6 (n % 1_000_000) ≡ fixed 8 n
 eight_parts n h =
     let first = zero_padded_is 1 (n / 1_000_000) (omega arith) (omega arith) in
     let last = zero_padded_is 5 (n % 1_000_000) (omega arith) (omega arith) ∙ fixed-mod 6 n in
     ap (λ xs. xs ++ zero_padded 6 (n % 1_000_000)) first ∙ ap (λ ys. fixed 2 (n / 1_000_000) ++ ys) last ∙ sym (fixed-append 2 6 n)
 
-pub ruleset two_parts = (seven_parts, eight_parts, length-fixed, length-append, append_assoc)
+pub length-two_zeros : (n : ℕ) → n < 100 → length (zero_padded 2 n) ≡ 2
+length-two_zeros n h = length-padded 48 2 n (length-decimal-le 2 n (omega arith) (omega arith) (omega arith))
+
+pub length-six_zeros : (n : ℕ) → n < 1_000_000 → length (zero_padded 6 n) ≡ 6
+length-six_zeros n h = length-padded 48 6 n (length-decimal-le 6 n (omega arith) (omega arith) (omega arith))
+
+pub ruleset two_parts = (seven_parts, eight_parts, length-digit, length-two_zeros, length-six_zeros, length-append, append_assoc)
+
+-- the decimals have no more bytes than their width
+pub length-subsecond_text : (d : SubsecondDigits) (n : ℕ) → length (subsecond_text d n) ≤ subsecond_width d
+length-subsecond_text digits.One n = omega (arith, length-take 1 (fixed 9 n))
+length-subsecond_text digits.Two n = omega (arith, length-take 2 (fixed 9 n))
+length-subsecond_text digits.Three n = omega (arith, length-take 3 (fixed 9 n))
+length-subsecond_text digits.Four n = omega (arith, length-take 4 (fixed 9 n))
+length-subsecond_text digits.Five n = omega (arith, length-take 5 (fixed 9 n))
+length-subsecond_text digits.Six n = omega (arith, length-take 6 (fixed 9 n))
+length-subsecond_text digits.Seven n = omega (arith, length-take 7 (fixed 9 n))
+length-subsecond_text digits.Eight n = omega (arith, length-take 8 (fixed 9 n))
+length-subsecond_text digits.Nine n = omega (arith, length-take 9 (fixed 9 n))
+length-subsecond_text digits.OneOrMore n = length-trimmed_fraction n
+
+pub ruleset decimal_lengths = (length-subsecond_text, length-take)

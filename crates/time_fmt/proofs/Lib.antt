@@ -1,5 +1,10 @@
 pub mod BorrowedTrees
+pub mod ConversionLemmas
 pub mod DateTextLemmas
-pub mod Engine
-pub mod TextLemmas
 pub mod DecimalLemmas
+pub mod Engine
+pub mod LawLemmas
+pub mod NumberLemmas
+pub mod OwnedTrees
+pub mod TextLemmas
+pub mod V3Trees

@@ -9,7 +9,7 @@ use Rattle.time_below.specs.declared.format_description.modifier.SubsecondDigits
 use Rattle.time_below.specs.declared.format_description.modifier.SubsecondDigits.TheVariants as digits
 use Rattle.time_below.specs.Width.{subsecond_width}
 use Rattle.time_digits.specs.Digits.{fixed, padded, zero_padded}
-use Rattle.time_digits.proofs.DigitLemmas.{length-padded, length-fixed}
+use Rattle.time_digits.proofs.LengthLemmas.{length-padded}
 use Rattle.time_fmt.specs.Text.{padded_text, sign_text, offset_hour_text, timestamp_text, subsecond_text}
 
 -- a text in so many places has no more bytes, where the number has no more digits

@@ -1,8 +1,9 @@
 //! The engine for one component.
-ghost use Rattle.std.specs.Prelude.{◌≡◌, ◌↔◌, ◌+◌, ◌/◌, ◌%◌, ◌≤◌, IsOk, IfOk, IfErr, codes, unsigned_abs, vec_len};
+ghost use Rattle.std.specs.Prelude.{◌≡◌, ◌↔◌, ◌+◌, ◌/◌, ◌%◌, ◌≤◌, IsTrue, IsOk, IfOk, IfErr, codes, unsigned_abs, vec_len};
+ghost use Rattle.time_below.specs.Conversion.{is_current};
 ghost use Rattle.time_below.specs.ComponentRange.{conditional_range};
 ghost use Rattle.time_below.specs.Width.{component_width};
-ghost use Rattle.time_fmt.specs.Description.{component_outcome, century_of};
+ghost use Rattle.time_fmt.specs.Description.{component_outcome, current_outcome, century_of};
 ghost use Rattle.time_fmt.specs.Outcome.{Appends, Names, out_of_range};
 ghost use Rattle.time_fmt.specs.Room.{HasRoom};
 
@@ -93,9 +94,10 @@ fn last_two(year: Year) -> LastTwo
 
 /// Appends the text of the component where there is room for its width. Takes no memory.
 ///
-/// Answers the number of bytes appended, or the refusal of the component, which has no bytes.
+/// A deprecated component has the text of the current one. Answers the number of bytes appended, or
+/// the refusal of the component, which has no bytes.
 #[inline]
-#[tactic(auto, using(crate::proofs::TextLemmas::text_lengths, crate::proofs::DateTextLemmas::date_text_lengths))]
+#[tactic(auto, using(crate::proofs::ConversionLemmas::width_of_current))]
 pub fn component_write_into<V: ComponentProvider>(
     component: &Component,
     output: &mut Vec<u8>,
@@ -105,6 +107,26 @@ pub fn component_write_into<V: ComponentProvider>(
     requires room { HasRoom output.old (component_width component.now) }
     requires agrees { V.agrees state.old value.now }
     ensures appends { Appends output.old output.new result (component_outcome component.now (V.facts value.now)) }
+    ensures within { vec_len output.new ≤ vec_len output.old + component_width component.now }
+    ensures agrees { V.agrees state.new value.now }
+{
+    let current = component.current();
+    current_write_into(&current, output, value, state)
+}
+
+/// The same of a component that is not deprecated.
+#[inline]
+#[tactic(auto, using(crate::proofs::TextLemmas::text_lengths, crate::proofs::DateTextLemmas::date_text_lengths, crate::proofs::DecimalLemmas::decimal_lengths))]
+fn current_write_into<V: ComponentProvider>(
+    component: &Component,
+    output: &mut Vec<u8>,
+    value: &V,
+    state: &mut V::State,
+) -> Result<usize, Format>
+    requires current { IsTrue (is_current component.now) }
+    requires room { HasRoom output.old (component_width component.now) }
+    requires agrees { V.agrees state.old value.now }
+    ensures appends { Appends output.old output.new result (current_outcome component.now (V.facts value.now)) }
     ensures within { vec_len output.new ≤ vec_len output.old + component_width component.now }
     ensures agrees { V.agrees state.new value.now }
 {
@@ -350,5 +372,11 @@ pub fn component_write_into<V: ComponentProvider>(
             )
         }
         Component::Ignore(_) | Component::End(_) => Ok(0),
+        Component::Month(_)
+        | Component::Weekday(_)
+        | Component::WeekNumber(_)
+        | Component::Hour(_)
+        | Component::UnixTimestamp(_)
+        | Component::Year(_) => unreachable!(),
     }
 }

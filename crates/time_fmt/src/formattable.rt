@@ -1,14 +1,22 @@
 //! Descriptions of a text.
-ghost use Rattle.std.specs.Prelude.{◌≡◌, ◌≢◌, ℕ, ◌+◌, ◌<◌, ◌≤◌, vec_len, vec_capacity};
+ghost use Rattle.std.specs.Prelude.{◌≡◌, ◌≢◌, ℕ, ◌+◌, ◌<◌, ◌≤◌, None, IsOk, OnOk, IfOk, IfErr, IsSomeAnd, IsUtf8, string_bytes, vec_len, vec_capacity};
 ghost use Rattle.time_below.specs.Facts.{Facts};
-ghost use Rattle.time_fmt.specs.Outcome.{Outcome, Appends};
+ghost use Rattle.time_fmt.specs.Outcome.{Outcome, Names, Appends};
+ghost use Rattle.time_fmt.specs.Lossy.{lossy_text, IsRefusedOrText};
 ghost use Rattle.time_fmt.specs.Room.{HasRoom};
 
 mod borrowed;
+mod lists;
+mod owned;
+mod v3;
 
 use crate::error::Format;
 use crate::metadata::ComputeMetadata;
+use bstr::ByteVec;
+pub use lists::{BorrowedItems, OwnedItems};
+use std::alloc::Global;
 use time_provide::ComponentProvider;
+pub use v3::v3_write_into;
 
 /// A description, by which any value is formatted.
 pub trait Formattable: ComputeMetadata {
@@ -61,5 +69,47 @@ pub trait Formattable: ComputeMetadata {
             return Err(Format::OutOfMemory);
         }
         self.write_into(output, value, state)
+    }
+
+    /// The text of the value, after one reservation; bytes that are no UTF-8, which only byte
+    /// literals make, are read as a whole with U+FFFD for what is no character.
+    ///
+    /// Where the reservation is refused, or the width has reached the greatest `usize`, or memory is
+    /// refused for the reading of bytes that are no UTF-8, the answer is the want of memory.
+    fn format<V: ComponentProvider>(
+        &self,
+        alloc: Global,
+        value: &V,
+        state: &mut V::State,
+    ) -> Result<String, Format>
+        requires agrees { V.agrees state.old value.now }
+        ensures text { IfOk result (λ text. string_bytes text ≡ lossy_text (outcome_of self.now (V.facts value.now)).bytes) }
+        ensures complete { OnOk result ((outcome_of self.now (V.facts value.now)).refusal ≡ None) }
+        ensures named { IfErr result (λ e. e ≢ Format.OutOfMemory
+            → IsSomeAnd (outcome_of self.now (V.facts value.now)).refusal (Names e)) }
+        ensures agrees { V.agrees state.new value.now }
+
+        // The want of memory leaves the state, where the outcome has a refusal or its bytes are text.
+        ensures same_state { result ≡ Err Format.OutOfMemory
+            → IsRefusedOrText (outcome_of self.now (V.facts value.now)) → state.new ≡ state.old }
+        ensures nothing_needed { Self.width_of self.now ≡ 0 → result ≢ Err Format.OutOfMemory }
+    {
+        let mut output = Vec::new(alloc);
+        match self.format_into(&mut output, value, state) {
+            Ok(_) => into_text(output),
+            Err(refusal) => Err(refusal),
+        }
+    }
+}
+
+/// The bytes as a text, with U+FFFD for what is no character; a text takes no memory.
+fn into_text(bytes: Vec<u8>) -> Result<String, Format>
+    ensures text { IfOk result (λ text. string_bytes text ≡ lossy_text bytes.items) }
+    ensures succeeds { IsUtf8 bytes.items → IsOk result }
+    ensures memory { IfErr result (λ e. e ≡ Format.OutOfMemory) }
+{
+    match bytes.into_string_lossy() {
+        Ok(text) => Ok(text),
+        Err(_) => Err(Format::OutOfMemory),
     }
 }

@@ -4,6 +4,7 @@
 mod component;
 mod error;
 mod formattable;
+pub mod laws;
 mod metadata;
 #[cfg(test)]
 mod tests;
@@ -11,7 +12,7 @@ pub mod writers;
 
 pub use component::component_write_into;
 pub use error::Format;
-pub use formattable::Formattable;
+pub use formattable::{BorrowedItems, Formattable, OwnedItems, v3_write_into};
 pub use metadata::{ComputeMetadata, Metadata};
 pub use time_below::{ComponentRange, Period, Time, format_description};
 pub use time_provide::ComponentProvider;

@@ -1,9 +1,9 @@
 //! What is known of a text before it is written.
-ghost use Rattle.std.specs.Prelude.{◌≡◌, ℕ, Bool, min, true, ◌+◌, ◌&&◌};
-ghost use Rattle.time_below.specs.Tree.{borrowed_tree};
+ghost use Rattle.std.specs.Prelude.{◌≡◌, ℕ, Bool, fold, min, true};
 ghost use Rattle.time_below.specs.Width.{component_width};
 
 use std::default::Default;
+use std::iter::Sum;
 use std::ops::Add;
 use time_below::format_description::{Component, component_width};
 
@@ -18,9 +18,9 @@ pub struct Metadata {
 
 /// No bytes, which are a text.
 impl Default for Metadata {
-    ghost use Rattle.time_fmt.specs.declared.metadata.Metadata.{Metadata};
+    ghost use Rattle.time_fmt.specs.Metadata.{of_nothing};
 
-    ghost is_default = { λ m. m ≡ record { max_bytes_needed = 0; guaranteed_utf8 = true } };
+    ghost is_default = { λ m. m ≡ of_nothing };
 
     fn default() -> Metadata {
         Metadata {
@@ -34,18 +34,26 @@ impl Default for Metadata {
 impl Add for Metadata {
     type Output = Metadata;
 
-    ghost use Rattle.time_fmt.specs.declared.metadata.Metadata.{Metadata};
+    ghost use Rattle.time_fmt.specs.Metadata.{of_both};
 
-    ghost add_gives = { λ a b sum. sum ≡ record {
-      max_bytes_needed = min (a.max_bytes_needed + b.max_bytes_needed) 18446744073709551615;
-      guaranteed_utf8 = a.guaranteed_utf8 && b.guaranteed_utf8;
-    } };
+    ghost add_gives = { λ a b sum. sum ≡ of_both a b };
 
     fn add(self, other: Metadata) -> Metadata {
         Metadata {
             max_bytes_needed: self.max_bytes_needed.saturating_add(other.max_bytes_needed),
             guaranteed_utf8: self.guaranteed_utf8 && other.guaranteed_utf8,
         }
+    }
+}
+
+/// Texts one after another, from none on.
+impl Sum<Metadata> for Metadata {
+    ghost use Rattle.time_fmt.specs.Metadata.{of_nothing, of_both};
+
+    ghost sum_gives = { λ all sum. sum ≡ fold of_both of_nothing all };
+
+    fn sum<I: Iterator<Item = Metadata>>(iter: I) -> Metadata {
+        iter.fold(Metadata::default(), |sum, metadata| sum + metadata)
     }
 }
 

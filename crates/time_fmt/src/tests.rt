@@ -1,6 +1,9 @@
 //! The texts, counts and widths of worked rows, and what happens where memory is refused.
+mod dates;
 mod memory;
+mod moments;
 mod times;
+mod trees;
 
 use crate::{ComponentProvider, ComputeMetadata, Format, Formattable, Time};
 use std::alloc::Global;
@@ -17,10 +20,10 @@ fn time(rt: &impl Abort, hour: u8, minute: u8, second: u8, nanosecond: u32) -> T
 
 /// Formats the value with a fresh state into an empty vector, and compares the text, the count and
 /// the width.
-fn assert_text<V: ComponentProvider>(
+fn assert_text<D: Formattable, V: ComponentProvider>(
     rt: &impl Abort,
     alloc: Global,
-    item: &BorrowedFormatItem<'_>,
+    item: &D,
     value: &V,
     text: &str,
     width: usize,

@@ -2,7 +2,13 @@
 #![tactic(auto)]
 
 pub mod component_provider;
+mod date_state;
 mod providers;
 pub mod ranges;
+#[cfg(test)]
+mod tests;
+mod timestamp_state;
 
 pub use component_provider::ComponentProvider;
+pub use date_state::DateState;
+pub use timestamp_state::TimestampState;

@@ -1,9 +1,16 @@
 //! A component of a description.
-ghost use Rattle.std.specs.Prelude.{◌≡◌};
-ghost use Rattle.time_below.specs.Width.{component_width, subsecond_width};
+ghost use Rattle.std.specs.Prelude.{◌≡◌, IsTrue};
+ghost use Rattle.time_below.specs.Conversion.{current_component, is_current};
+ghost use Rattle.time_below.specs.Width.{component_width, subsecond_width, month_width, weekday_width, unix_timestamp_width, year_width};
 
+use crate::format_description::conversion::{
+    current_hour, current_month, current_unix_timestamp, current_week_number, current_weekday,
+    current_year,
+};
 use crate::format_description::modifier;
-use crate::format_description::modifier::SubsecondDigits;
+use crate::format_description::modifier::{
+    MonthRepr, SubsecondDigits, UnixTimestampPrecision, WeekdayRepr, YearRepr,
+};
 
 /// A part of a text that is taken from a value.
 #[derive(Clone, Copy)]
@@ -43,6 +50,36 @@ pub enum Component {
     UnixTimestampMillisecond(modifier::UnixTimestampMillisecond),
     Ignore(modifier::Ignore),
     End(modifier::End),
+    /// Deprecated: `MonthNumerical`, `MonthLong` or `MonthShort`.
+    Month(modifier::Month),
+    /// Deprecated: `WeekdayShort`, `WeekdayLong`, `WeekdaySunday` or `WeekdayMonday`.
+    Weekday(modifier::Weekday),
+    /// Deprecated: `WeekNumberIso`, `WeekNumberSunday` or `WeekNumberMonday`.
+    WeekNumber(modifier::WeekNumber),
+    /// Deprecated: `Hour12` or `Hour24`.
+    Hour(modifier::Hour),
+    /// Deprecated: `UnixTimestampSecond` or `UnixTimestampMillisecond`.
+    UnixTimestamp(modifier::UnixTimestamp),
+    /// Deprecated: a `CalendarYear` or an `IsoYear` of the same part and range.
+    Year(modifier::Year),
+}
+
+impl Component {
+    /// The current component in the place of a deprecated one; any other is itself.
+    pub fn current(self) -> Component
+        ensures converted { result ≡ current_component self }
+        ensures current { IsTrue (is_current result) }
+    {
+        match self {
+            Component::Month(modifier) => current_month(modifier),
+            Component::Weekday(modifier) => current_weekday(modifier),
+            Component::WeekNumber(modifier) => current_week_number(modifier),
+            Component::Hour(modifier) => current_hour(modifier),
+            Component::UnixTimestamp(modifier) => current_unix_timestamp(modifier),
+            Component::Year(modifier) => current_year(modifier),
+            other => other,
+        }
+    }
 }
 
 /// The most bytes that the text of the component has, whatever the value.
@@ -64,7 +101,9 @@ pub fn component_width(component: &Component) -> usize
         | Component::Period(_)
         | Component::Second(_)
         | Component::OffsetMinute(_)
-        | Component::OffsetSecond(_) => 2,
+        | Component::OffsetSecond(_)
+        | Component::WeekNumber(_)
+        | Component::Hour(_) => 2,
         Component::MonthShort(_)
         | Component::Ordinal(_)
         | Component::WeekdayShort(_)
@@ -81,6 +120,10 @@ pub fn component_width(component: &Component) -> usize
         Component::UnixTimestampMillisecond(_) => 18,
         Component::Subsecond(modifier) => subsecond_width(modifier.digits),
         Component::Ignore(_) | Component::End(_) => 0,
+        Component::Month(modifier) => month_width(modifier.repr),
+        Component::Weekday(modifier) => weekday_width(modifier.repr),
+        Component::UnixTimestamp(modifier) => unix_timestamp_width(modifier.precision),
+        Component::Year(modifier) => year_width(modifier.repr),
     }
 }
 
@@ -97,5 +140,44 @@ fn subsecond_width(digits: SubsecondDigits) -> usize
         SubsecondDigits::Seven => 7,
         SubsecondDigits::Eight => 8,
         SubsecondDigits::Nine | SubsecondDigits::OneOrMore => 9,
+    }
+}
+
+fn month_width(repr: MonthRepr) -> usize
+    ensures { result ≡ month_width repr }
+{
+    match repr {
+        MonthRepr::Numerical => 2,
+        MonthRepr::Short => 3,
+        MonthRepr::Long => 9,
+    }
+}
+
+fn weekday_width(repr: WeekdayRepr) -> usize
+    ensures { result ≡ weekday_width repr }
+{
+    match repr {
+        WeekdayRepr::Sunday | WeekdayRepr::Monday => 1,
+        WeekdayRepr::Short => 3,
+        WeekdayRepr::Long => 9,
+    }
+}
+
+fn unix_timestamp_width(precision: UnixTimestampPrecision) -> usize
+    ensures { result ≡ unix_timestamp_width precision }
+{
+    match precision {
+        UnixTimestampPrecision::Second => 15,
+        UnixTimestampPrecision::Millisecond => 18,
+    }
+}
+
+fn year_width(repr: YearRepr) -> usize
+    ensures { result ≡ year_width repr }
+{
+    match repr {
+        YearRepr::LastTwo => 2,
+        YearRepr::Century => 5,
+        YearRepr::Full => 7,
     }
 }

@@ -271,3 +271,121 @@ pub struct Ignore {
 pub struct End {
     pub trailing_input: TrailingInput,
 }
+
+/// How a month is written.
+#[derive(Clone, Copy)]
+pub enum MonthRepr {
+    /// By its number, 1 to 12.
+    Numerical,
+    /// By its name.
+    Long,
+    /// By the first three letters of its name.
+    Short,
+}
+
+/// How a weekday is written.
+#[derive(Clone, Copy)]
+pub enum WeekdayRepr {
+    /// By the first three letters of its name.
+    Short,
+    /// By its name.
+    Long,
+    /// By a digit, from Sunday on.
+    Sunday,
+    /// By a digit, from Monday on.
+    Monday,
+}
+
+/// Which weeks of the year are counted.
+#[derive(Clone, Copy)]
+pub enum WeekNumberRepr {
+    /// Those of the week calendar.
+    Iso,
+    /// Those that begin on a Sunday.
+    Sunday,
+    /// Those that begin on a Monday.
+    Monday,
+}
+
+/// What of a year is written.
+#[derive(Clone, Copy)]
+pub enum YearRepr {
+    /// The whole year.
+    Full,
+    /// The year without its last two digits.
+    Century,
+    /// The last two digits.
+    LastTwo,
+}
+
+/// How great a year may be.
+#[derive(Clone, Copy)]
+pub enum YearRange {
+    /// From -9999 to 9999.
+    Standard,
+    /// Whatever its size.
+    Extended,
+}
+
+/// The unit in which a moment is counted.
+#[derive(Clone, Copy)]
+pub enum UnixTimestampPrecision {
+    Second,
+    Millisecond,
+}
+
+/// Deprecated: a month, by its number or its name.
+#[derive(Clone, Copy)]
+pub struct Month {
+    /// Of the number alone.
+    pub padding: Padding,
+    pub repr: MonthRepr,
+    /// For parsers alone.
+    pub case_sensitive: bool,
+}
+
+/// Deprecated: a weekday, by its name or a digit.
+#[derive(Clone, Copy)]
+pub struct Weekday {
+    pub repr: WeekdayRepr,
+    /// Whether the first day is 1, and not 0.
+    pub one_indexed: bool,
+    /// For parsers alone.
+    pub case_sensitive: bool,
+}
+
+/// Deprecated: a week of the year.
+#[derive(Clone, Copy)]
+pub struct WeekNumber {
+    pub padding: Padding,
+    pub repr: WeekNumberRepr,
+}
+
+/// Deprecated: an hour of the day.
+#[derive(Clone, Copy)]
+pub struct Hour {
+    pub padding: Padding,
+    /// Whether the hour is that of the 12-hour clock, 1 to 12, and not 0 to 23.
+    pub is_12_hour_clock: bool,
+}
+
+/// Deprecated: the time since 1970-01-01T00:00:00 UTC.
+#[derive(Clone, Copy)]
+pub struct UnixTimestamp {
+    pub precision: UnixTimestampPrecision,
+    /// Whether a sign is also written where it is a plus.
+    pub sign_is_mandatory: bool,
+}
+
+/// Deprecated: a year, or a part of one.
+#[derive(Clone, Copy)]
+pub struct Year {
+    pub padding: Padding,
+    pub repr: YearRepr,
+    /// Of no effect on the last two digits.
+    pub range: YearRange,
+    /// Whether the year is that of the week calendar.
+    pub iso_week_based: bool,
+    /// Whether a sign is also written where it is a plus.
+    pub sign_is_mandatory: bool,
+}

@@ -15,7 +15,7 @@ use time_below::format_description::BorrowedFormatItem;
 use time_provide::ComponentProvider;
 
 #[cycle(metadata)]
-fn metadata_of_items(items: &[BorrowedFormatItem<'_>]) -> Metadata
+pub(super) fn metadata_of_items(items: &[BorrowedFormatItem<'_>]) -> Metadata
     ensures width { result.max_bytes_needed ≡ min (trees_width (trees (map borrowed_tree items.now))) usize.MAX }
     ensures text { result.guaranteed_utf8 ≡ are_guaranteed_text (trees (map borrowed_tree items.now)) }
 {
@@ -70,7 +70,7 @@ impl ComputeMetadata for BorrowedFormatItem<'_> {
 
 /// Writes the items in order, up to the first that is refused.
 #[cycle(engine)]
-fn write_items<V: ComponentProvider>(
+pub(super) fn write_items<V: ComponentProvider>(
     items: &[BorrowedFormatItem<'_>],
     output: &mut Vec<u8>,
     value: &V,

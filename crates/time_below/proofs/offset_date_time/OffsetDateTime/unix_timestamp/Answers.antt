@@ -5,7 +5,8 @@ use Rattle.time_below.proofs.offset_date_time.OffsetDateTime.unix_timestamp.Goal
 
 -- the difference as the code holds it
 abbrev held : ℤ → ℤ → ℤ
-held s o = to_z w64 (of_z w64 (to_z w64 (of_z w64 s) -ℤ to_z w64 (of_z w64 (to_z w32 (of_z w32 o)))))
+held s o =
+    to_z w64 (of_z w64 (to_z w64 (of_z w64 s) -ℤ to_z w64 (of_z w64 (to_z w32 (of_z w32 o)))))
 
 held_is : (s o : ℤ) → IsTimestampSecond s → unsigned_abs o < 93_600 → held s o ≡ s -ℤ o
 held_is s o h k = omega (arith, ints)
@@ -23,4 +24,5 @@ returns-clause-value c =
 
 pub returns-clause-range : goal.returns-clause-range
 returns-clause-range c =
-    near c.unix_timestamp.result c.whole_seconds.result c.unix_timestamp.ensures.range c.whole_seconds.ensures.range
+    near c.unix_timestamp.result c.whole_seconds.result c.unix_timestamp.ensures.range
+    c.whole_seconds.ensures.range

@@ -15,5 +15,9 @@ invariant_of-result c =
     let seconds_fit : FitsSigned w8 c.signed_like-seconds.result = search rules in
     let inner = to_z-of_z w8 c.signed_like.result inner_fits ∙ c.signed_like.ensures.value in
     let minutes = to_z-of_z w8 c.signed_like-2.result minutes_fit ∙ c.signed_like-2.ensures.value in
-    let seconds = to_z-of_z w8 c.signed_like-seconds.result seconds_fit ∙ c.signed_like-seconds.ensures.value ∙ ap (signed_like (held c.args.hours)) inner in
-    IsOffset-parts (held c.args.hours) (held c.args.minutes) (held c.args.seconds) _ _ minutes seconds (omega arith, omega arith, omega arith)
+    let seconds =
+    to_z-of_z w8 c.signed_like-seconds.result seconds_fit
+    ∙ c.signed_like-seconds.ensures.value
+    ∙ ap (signed_like (held c.args.hours)) inner in
+    IsOffset-parts (held c.args.hours) (held c.args.minutes) (held c.args.seconds) _ _ minutes
+    seconds (omega arith, omega arith, omega arith)

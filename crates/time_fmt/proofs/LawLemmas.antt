@@ -1,0 +1,137 @@
+-- The laws of descriptions.
+use Rattle.std.proofs.Common.{◌≡◌, ℕ, ◌+◌, ◌≤◌, min, Bool, true, false, ◌&&◌, List, [], ◌++◌, Option, Some, None, refl, sym, ap, ap₂, ◌∙◌, arith, append_assoc, append-nil}
+use Rattle.time_below.specs.Conversion.{current_component, current_month, current_weekday, current_week_number, current_hour, current_unix_timestamp, current_year}
+use Rattle.time_below.specs.declared.format_description.component.Component.{Component}
+use Rattle.time_below.specs.declared.format_description.component.Component.TheVariants as component
+use Rattle.time_below.specs.declared.format_description.modifier.Month.{Month}
+use Rattle.time_below.specs.declared.format_description.modifier.MonthRepr.{MonthRepr}
+use Rattle.time_below.specs.declared.format_description.modifier.MonthRepr.TheVariants as month
+use Rattle.time_below.specs.declared.format_description.modifier.Weekday.{Weekday}
+use Rattle.time_below.specs.declared.format_description.modifier.WeekdayRepr.{WeekdayRepr}
+use Rattle.time_below.specs.declared.format_description.modifier.WeekdayRepr.TheVariants as weekday
+use Rattle.time_below.specs.declared.format_description.modifier.WeekNumber.{WeekNumber}
+use Rattle.time_below.specs.declared.format_description.modifier.WeekNumberRepr.{WeekNumberRepr}
+use Rattle.time_below.specs.declared.format_description.modifier.WeekNumberRepr.TheVariants as week
+use Rattle.time_below.specs.declared.format_description.modifier.Hour.{Hour}
+use Rattle.time_below.specs.declared.format_description.modifier.UnixTimestamp.{UnixTimestamp}
+use Rattle.time_below.specs.declared.format_description.modifier.UnixTimestampPrecision.{UnixTimestampPrecision}
+use Rattle.time_below.specs.declared.format_description.modifier.UnixTimestampPrecision.TheVariants as precision
+use Rattle.time_below.specs.declared.format_description.modifier.Year.{Year}
+use Rattle.time_below.specs.declared.format_description.modifier.YearRepr.{YearRepr}
+use Rattle.time_below.specs.declared.format_description.modifier.YearRepr.TheVariants as year
+use Rattle.time_below.specs.declared.format_description.modifier.YearRange.{YearRange}
+use Rattle.time_below.specs.declared.format_description.modifier.YearRange.TheVariants as range
+use Rattle.time_below.specs.Facts.{Facts}
+use Rattle.time_below.specs.Tree.{Tree, Trees, byte_literal, text_literal, of_component, all_of, first_of, nothing, end, more, unmarked, all_unmarked}
+use Rattle.time_fmt.specs.declared.metadata.Metadata.{Metadata}
+use Rattle.time_fmt.specs.Description.{tree_outcome, trees_outcome, current_outcome}
+use Rattle.time_fmt.specs.Metadata.{of_nothing, of_both}
+use Rattle.time_fmt.specs.Outcome.{Outcome, Refusal, done, join}
+
+-- ---- what is converted stays
+
+kept_month : (r : MonthRepr) (m : Month) → current_component (current_month r m) ≡ current_month r m
+kept_month month.Numerical m = refl
+kept_month month.Long m = refl
+kept_month month.Short m = refl
+
+kept_weekday : (r : WeekdayRepr) (m : Weekday) → current_component (current_weekday r m) ≡ current_weekday r m
+kept_weekday weekday.Short m = refl
+kept_weekday weekday.Long m = refl
+kept_weekday weekday.Sunday m = refl
+kept_weekday weekday.Monday m = refl
+
+kept_week_number : (r : WeekNumberRepr) (m : WeekNumber) → current_component (current_week_number r m) ≡ current_week_number r m
+kept_week_number week.Iso m = refl
+kept_week_number week.Sunday m = refl
+kept_week_number week.Monday m = refl
+
+kept_hour : (b : Bool) (m : Hour) → current_component (current_hour b m) ≡ current_hour b m
+kept_hour true m = refl
+kept_hour false m = refl
+
+kept_unix_timestamp : (p : UnixTimestampPrecision) (m : UnixTimestamp) → current_component (current_unix_timestamp p m) ≡ current_unix_timestamp p m
+kept_unix_timestamp precision.Second m = refl
+kept_unix_timestamp precision.Millisecond m = refl
+
+kept_year : (week_based : Bool) (r : YearRepr) (size : YearRange) (m : Year) → current_component (current_year week_based r size m) ≡ current_year week_based r size m
+kept_year true year.Full range.Extended m = refl
+kept_year true year.Full range.Standard m = refl
+kept_year true year.Century range.Extended m = refl
+kept_year true year.Century range.Standard m = refl
+kept_year true year.LastTwo size m = refl
+kept_year false year.Full range.Extended m = refl
+kept_year false year.Full range.Standard m = refl
+kept_year false year.Century range.Extended m = refl
+kept_year false year.Century range.Standard m = refl
+kept_year false year.LastTwo size m = refl
+
+kept : (c : Component) → current_component (current_component c) ≡ current_component c
+kept (component.Month m) = kept_month m.repr m
+kept (component.Weekday m) = kept_weekday m.repr m
+kept (component.WeekNumber m) = kept_week_number m.repr m
+kept (component.Hour m) = kept_hour m.is_12_hour_clock m
+kept (component.UnixTimestamp m) = kept_unix_timestamp m.precision m
+kept (component.Year m) = kept_year m.iso_week_based m.repr m.range m
+kept c = refl
+
+-- ---- the outcome of a tree is that of its unmarked tree
+
+mutual
+  pub outcome-unmarked : (t : Tree) (f : Facts) → tree_outcome (unmarked t) f ≡ tree_outcome t f
+  outcome-unmarked (byte_literal bytes) f = refl
+  outcome-unmarked (text_literal text) f = refl
+  outcome-unmarked (of_component c) f = ap (λ d. current_outcome d f) (kept c)
+  outcome-unmarked (all_of ts) f = outcomes-unmarked ts f
+  outcome-unmarked (first_of end) f = refl
+  outcome-unmarked (first_of (more t ts)) f = outcome-unmarked t f
+  outcome-unmarked nothing f = refl
+
+  pub outcomes-unmarked : (ts : Trees) (f : Facts) → trees_outcome (all_unmarked ts) f ≡ trees_outcome ts f
+  outcomes-unmarked end f = refl
+  outcomes-unmarked (more t ts) f = ap₂ join (outcome-unmarked t f) (outcomes-unmarked ts f)
+
+pub equal_outcomes : (s t : Tree) (f : Facts) → unmarked s ≡ unmarked t → tree_outcome s f ≡ tree_outcome t f
+equal_outcomes s t f e = sym (outcome-unmarked s f) ∙ ap (λ u. tree_outcome u f) e ∙ outcome-unmarked t f
+
+-- ---- one outcome after another
+
+join_cases : (x y z : List ℕ) (p q : Option Refusal) (c : Outcome) →
+    join (join (record { bytes = x; refusal = p }) (record { bytes = y; refusal = q })) c ≡ join (record { bytes = x; refusal = p }) (join (record { bytes = y; refusal = q }) c)
+join_cases x y z None None c = ap (λ (bytes : List ℕ). record { bytes = bytes; refusal = c.refusal }) (append_assoc x y c.bytes)
+join_cases x y z None (Some r) c = refl
+join_cases x y z (Some r) q c = refl
+
+pub join_assoc : (a b c : Outcome) → join (join a b) c ≡ join a (join b c)
+join_assoc a b c = join_cases a.bytes b.bytes [] a.refusal b.refusal c
+
+nothing_after : (x : List ℕ) (p : Option Refusal) → join (record { bytes = x; refusal = p }) (done []) ≡ record { bytes = x; refusal = p }
+nothing_after x None = ap (λ (bytes : List ℕ). record { bytes = bytes; refusal = None }) (append-nil x)
+nothing_after x (Some r) = refl
+
+pub join-nothing : (a : Outcome) → join a (done []) ≡ a
+join-nothing a = nothing_after a.bytes a.refusal
+
+-- ---- what is known of texts
+
+and_assoc : (a b c : Bool) → ((a && b) && c) ≡ (a && (b && c))
+and_assoc true b c = refl
+and_assoc false b c = refl
+
+and_comm : (a b : Bool) → (a && b) ≡ (b && a)
+and_comm true true = refl
+and_comm true false = refl
+and_comm false true = refl
+and_comm false false = refl
+
+same_metadata : (m n : ℕ) (p q : Bool) → m ≡ n → p ≡ q → ◌≡◌ {A = Metadata} (record { max_bytes_needed = m; guaranteed_utf8 = p }) (record { max_bytes_needed = n; guaranteed_utf8 = q })
+same_metadata m n p q e f = rw (e, f) refl
+
+pub of_both_assoc : (a b c : Metadata) → of_both (of_both a b) c ≡ of_both a (of_both b c)
+of_both_assoc a b c = same_metadata _ _ _ _ (omega arith) (and_assoc a.guaranteed_utf8 b.guaranteed_utf8 c.guaranteed_utf8)
+
+pub of_both_comm : (a b : Metadata) → of_both a b ≡ of_both b a
+of_both_comm a b = same_metadata _ _ _ _ (omega arith) (and_comm a.guaranteed_utf8 b.guaranteed_utf8)
+
+pub of_both-nothing : (a : Metadata) → a.max_bytes_needed ≤ 18446744073709551615 → of_both of_nothing a ≡ a
+of_both-nothing a h = same_metadata _ _ _ _ (omega arith) refl

@@ -1,0 +1,26 @@
+-- How long the texts of numbers of a known size are.
+use Rattle.std.proofs.Common.{◌≡◌, ℕ, ◌^◌, ◌<◌, ◌≤◌, length, decimal, arith}
+use Rattle.std.proofs.lemmas.Fmt.{length-decimal-le}
+use Rattle.time_below.specs.declared.format_description.modifier.Padding.{Padding}
+use Rattle.time_digits.specs.Digits.{zero_padded}
+use Rattle.time_digits.proofs.LengthLemmas.{length-decimal_word}
+use Rattle.time_fmt.specs.Text.{padded_text}
+use Rattle.time_fmt.proofs.TextLemmas.{places_of, length-padded_text, two_places, length-sign_text}
+
+pub four_digits : (n : ℕ) → n < 10_000 → length (decimal n) ≤ 4
+four_digits n h = length-decimal-le 4 n (omega arith) (omega arith) (omega arith)
+
+pub four_places : (p : Padding) (n : ℕ) → n < 10_000 → length (padded_text p 4 n) ≤ 4
+four_places p n h = length-padded_text p 4 n (four_digits n h)
+
+-- zeros fill all the places
+pub four_zeros : (n : ℕ) → n < 10_000 → length (zero_padded 4 n) ≡ 4
+four_zeros n h = places_of 4 n (four_digits n h)
+
+pub five_zeros : (n : ℕ) → n < 100_000 → length (zero_padded 5 n) ≡ 5
+five_zeros n h = places_of 5 n (length-decimal-le 5 n (omega arith) (omega arith) (omega arith))
+
+pub six_zeros : (n : ℕ) → n < 1_000_000 → length (zero_padded 6 n) ≡ 6
+six_zeros n h = places_of 6 n (length-decimal-le 6 n (omega arith) (omega arith) (omega arith))
+
+pub ruleset number_lengths = (two_places, four_digits, four_places, places_of, four_zeros, five_zeros, six_zeros, length-decimal_word, length-sign_text)

@@ -1,0 +1,13 @@
+-- The first of a list of descriptions of the third version.
+use Rattle.std.proofs.Common.{◌≡◌, ap, List, [], ◌∷◌, map, Some}
+use Rattle.std.specs.Prelude.{slice_get}
+use Rattle.time_below.specs.Facts.{Facts}
+use Rattle.time_below.specs.Tree.{trees, first_of, v3_tree}
+use Rattle.time_below.specs.declared.format_description.format_description_v3.FormatDescriptionV3Inner.{FormatDescriptionV3Inner}
+use Rattle.time_fmt.specs.Description.{tree_outcome}
+
+-- the first of a list that begins with x has the outcome of x
+pub outcome_of_first : (items : List FormatDescriptionV3Inner) (x : FormatDescriptionV3Inner) (f : Facts) → slice_get items 0 ≡ Some x
+    → tree_outcome (first_of (trees (map v3_tree items))) f ≡ tree_outcome (v3_tree x) f
+outcome_of_first [] x f h = cc
+outcome_of_first (y ∷ ys) x f h = let e : y ≡ x = cc in ap (λ z. tree_outcome (v3_tree z) f) e

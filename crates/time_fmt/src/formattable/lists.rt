@@ -1,0 +1,65 @@
+//! Lists of items, which mean what a compound of the same items means.
+ghost use Rattle.std.specs.Prelude.{map};
+ghost use Rattle.time_below.specs.Tree.{borrowed_tree, owned_tree, trees};
+ghost use Rattle.time_below.specs.Width.{trees_width, are_guaranteed_text};
+ghost use Rattle.time_fmt.specs.Description.{trees_outcome};
+
+use crate::error::Format;
+use crate::formattable::{Formattable, borrowed, owned};
+use crate::metadata::{ComputeMetadata, Metadata};
+use time_below::format_description::{BorrowedFormatItem, OwnedFormatItem};
+use time_provide::ComponentProvider;
+
+/// Borrowed items in order.
+#[derive(Clone, Copy)]
+pub struct BorrowedItems<'a>(pub &'a [BorrowedFormatItem<'a>]);
+
+impl ComputeMetadata for BorrowedItems<'_> {
+    ghost width_of = { λ items. trees_width (trees (map borrowed_tree items.0.now)) };
+
+    ghost is_guaranteed = { λ items. are_guaranteed_text (trees (map borrowed_tree items.0.now)) };
+
+    fn compute_metadata(&self) -> Metadata {
+        borrowed::metadata_of_items(self.0)
+    }
+}
+
+impl Formattable for BorrowedItems<'_> {
+    ghost outcome_of = { λ items. trees_outcome (trees (map borrowed_tree items.0.now)) };
+
+    fn write_into<V: ComponentProvider>(
+        &self,
+        output: &mut Vec<u8>,
+        value: &V,
+        state: &mut V::State,
+    ) -> Result<usize, Format> {
+        borrowed::write_items(self.0, output, value, state)
+    }
+}
+
+/// Owned items in order.
+#[derive(Clone, Copy)]
+pub struct OwnedItems<'a>(pub &'a [OwnedFormatItem]);
+
+impl ComputeMetadata for OwnedItems<'_> {
+    ghost width_of = { λ items. trees_width (trees (map owned_tree items.0.now)) };
+
+    ghost is_guaranteed = { λ items. are_guaranteed_text (trees (map owned_tree items.0.now)) };
+
+    fn compute_metadata(&self) -> Metadata {
+        owned::metadata_of_items(self.0)
+    }
+}
+
+impl Formattable for OwnedItems<'_> {
+    ghost outcome_of = { λ items. trees_outcome (trees (map owned_tree items.0.now)) };
+
+    fn write_into<V: ComponentProvider>(
+        &self,
+        output: &mut Vec<u8>,
+        value: &V,
+        state: &mut V::State,
+    ) -> Result<usize, Format> {
+        owned::write_items(self.0, output, value, state)
+    }
+}

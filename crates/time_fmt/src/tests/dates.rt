@@ -1,0 +1,238 @@
+//! Dates.
+use super::{assert_component, assert_text, time};
+use crate::{ComputeMetadata, Format, Formattable};
+use std::process::Abort;
+use time_below::format_description::modifier::Padding;
+use time_below::format_description::{BorrowedFormatItem, Component, modifier};
+use time_below::{Date, Month, PlainDateTime};
+use time_provide::DateState;
+
+fn date(rt: &impl Abort, year: i32, month: Month, day: u8) -> Date {
+    let Ok(date) = Date::from_calendar_date(year, month, day) else {
+        panic!(rt; "no date");
+    };
+    date
+}
+
+const DAY: BorrowedFormatItem<'static> = BorrowedFormatItem::Component(Component::Day(
+    modifier::Day {
+        padding: Padding::Zero,
+    },
+));
+
+#[test]
+fn parts_of_a_wednesday(rt: HostRuntime) {
+    let day = date(&rt, 1997, Month::November, 12);
+    let value = PlainDateTime::new(day, time(&rt, 9, 55, 6, 0));
+    let padding = Padding::Zero;
+    for (component, text, width) in [
+        (Component::Day(modifier::Day { padding }), "12", 2),
+        (
+            Component::MonthShort(modifier::MonthShort {
+                case_sensitive: true,
+            }),
+            "Nov",
+            3,
+        ),
+        (
+            Component::MonthLong(modifier::MonthLong {
+                case_sensitive: false,
+            }),
+            "November",
+            9,
+        ),
+        (
+            Component::MonthNumerical(modifier::MonthNumerical { padding }),
+            "11",
+            2,
+        ),
+        (Component::Ordinal(modifier::Ordinal { padding }), "316", 3),
+        (
+            Component::WeekdayShort(modifier::WeekdayShort {
+                case_sensitive: true,
+            }),
+            "Wed",
+            3,
+        ),
+        (
+            Component::WeekdayLong(modifier::WeekdayLong {
+                case_sensitive: true,
+            }),
+            "Wednesday",
+            9,
+        ),
+        (
+            Component::WeekdaySunday(modifier::WeekdaySunday { one_indexed: true }),
+            "4",
+            1,
+        ),
+        (
+            Component::WeekdayMonday(modifier::WeekdayMonday { one_indexed: false }),
+            "2",
+            1,
+        ),
+        (
+            Component::WeekNumberSunday(modifier::WeekNumberSunday { padding }),
+            "45",
+            2,
+        ),
+        (
+            Component::WeekNumberMonday(modifier::WeekNumberMonday { padding }),
+            "45",
+            2,
+        ),
+        (
+            Component::WeekNumberIso(modifier::WeekNumberIso { padding }),
+            "46",
+            2,
+        ),
+        (Component::Hour24(modifier::Hour24 { padding }), "09", 2),
+    ] {
+        assert_component(&rt, rt.alloc(), component, &value, text, width);
+    }
+}
+
+#[test]
+fn years_by_all_their_digits(rt: HostRuntime) {
+    for (year, padding, text) in [
+        (-44, Padding::Space, "-  44"),
+        (12_345, Padding::Zero, "+12345"),
+        (5, Padding::Zero, "0005"),
+        (5, Padding::None, "5"),
+        (999_999, Padding::None, "+999999"),
+        (-999_999, Padding::Zero, "-999999"),
+    ] {
+        let value = date(&rt, year, Month::June, 15);
+        let sign_is_mandatory = false;
+        let full = Component::CalendarYearFullExtendedRange(
+            modifier::CalendarYearFullExtendedRange {
+                padding,
+                sign_is_mandatory,
+            },
+        );
+        assert_component(&rt, rt.alloc(), full, &value, text, 7);
+        let iso = Component::IsoYearFullExtendedRange(modifier::IsoYearFullExtendedRange {
+            padding,
+            sign_is_mandatory,
+        });
+        assert_component(&rt, rt.alloc(), iso, &value, text, 7);
+    }
+}
+
+#[test]
+fn centuries_and_last_digits(rt: HostRuntime) {
+    let padding = Padding::Zero;
+    for (year, sign_is_mandatory, century, standard) in [
+        (-50, false, "-00", "-00"),
+        (50, true, "+00", "+00"),
+        (1997, false, "19", "19"),
+        (9_999, true, "+99", "+99"),
+    ] {
+        let value = date(&rt, year, Month::June, 15);
+        let extended = Component::CalendarYearCenturyExtendedRange(
+            modifier::CalendarYearCenturyExtendedRange {
+                padding,
+                sign_is_mandatory,
+            },
+        );
+        assert_component(&rt, rt.alloc(), extended, &value, century, 5);
+        let narrow = Component::IsoYearCenturyStandardRange(
+            modifier::IsoYearCenturyStandardRange {
+                padding,
+                sign_is_mandatory,
+            },
+        );
+        assert_component(&rt, rt.alloc(), narrow, &value, standard, 3);
+    }
+    let greatest = date(&rt, 999_999, Month::December, 31);
+    let extended = Component::CalendarYearCenturyExtendedRange(
+        modifier::CalendarYearCenturyExtendedRange {
+            padding,
+            sign_is_mandatory: false,
+        },
+    );
+    assert_component(&rt, rt.alloc(), extended, &greatest, "+9999", 5);
+    let ancient = date(&rt, -50, Month::June, 15);
+    let last_two = Component::CalendarYearLastTwo(modifier::CalendarYearLastTwo { padding });
+    assert_component(&rt, rt.alloc(), last_two, &ancient, "50", 2);
+    let iso = Component::IsoYearLastTwo(modifier::IsoYearLastTwo { padding });
+    assert_component(&rt, rt.alloc(), iso, &ancient, "50", 2);
+}
+
+#[test]
+fn standard_ranges_refuse_what_is_outside(rt: HostRuntime) {
+    let value = date(&rt, 10_000, Month::January, 1);
+    let padding = Padding::Zero;
+    let sign_is_mandatory = false;
+    for component in [
+        Component::CalendarYearFullStandardRange(modifier::CalendarYearFullStandardRange {
+            padding,
+            sign_is_mandatory,
+        }),
+        Component::CalendarYearCenturyStandardRange(modifier::CalendarYearCenturyStandardRange {
+            padding,
+            sign_is_mandatory,
+        }),
+    ] {
+        let item = BorrowedFormatItem::Component(component);
+        let mut output = Vec::new(rt.alloc());
+        let mut state = DateState::default();
+        match item.format_into(&mut output, &value, &mut state) {
+            Err(Format::ComponentRange(refusal)) => {
+                assert_eq!(rt; refusal.name(), "year");
+                assert!(rt; refusal.is_conditional());
+            }
+            _ => panic!(rt; "not refused"),
+        }
+        assert!(rt; output.is_empty());
+        // the same state serves the next call
+        let written = DAY.format_into(&mut output, &value, &mut state);
+        assert!(rt; matches!(&written, Ok(2)));
+        assert_eq!(rt; output.as_slice(), b"01".as_slice());
+    }
+}
+
+#[test]
+fn bytes_before_a_refusal_stay(rt: HostRuntime) {
+    let value = date(&rt, 1997, Month::November, 12);
+    let items = [
+        BorrowedFormatItem::StringLiteral("on "),
+        DAY,
+        BorrowedFormatItem::StringLiteral(" at "),
+        BorrowedFormatItem::Component(Component::Hour24(modifier::Hour24 {
+            padding: Padding::Zero,
+        })),
+    ];
+    let item = BorrowedFormatItem::Compound(&items);
+    assert_eq!(rt; item.compute_metadata().max_bytes_needed, 11);
+    let mut output = Vec::new(rt.alloc());
+    let pushed = output.push(b'x');
+    assert!(rt; pushed.is_ok());
+    let refused = item.format_into(&mut output, &value, &mut DateState::default());
+    assert!(rt; matches!(&refused, Err(Format::InsufficientTypeInformation)));
+    assert_eq!(rt; output.as_slice(), b"xon 12 at ".as_slice());
+}
+
+#[test]
+fn trees_over_a_date(rt: HostRuntime) {
+    let value = date(&rt, 1997, Month::November, 12);
+    let month = BorrowedFormatItem::Component(Component::MonthLong(modifier::MonthLong {
+        case_sensitive: true,
+    }));
+    assert_text(
+        &rt,
+        rt.alloc(),
+        &BorrowedFormatItem::Optional(&DAY),
+        &value,
+        "12",
+        2,
+    );
+    assert_text(
+        &rt,
+        rt.alloc(),
+        &BorrowedFormatItem::First(&[DAY, month]),
+        &value,
+        "12",
+        2,
+    );
+}

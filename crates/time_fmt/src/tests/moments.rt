@@ -1,0 +1,108 @@
+//! Offsets, moments and timestamps.
+use super::{assert_component, time};
+use time_below::format_description::modifier::Padding;
+use time_below::format_description::{Component, modifier};
+use time_below::{Date, Month, OffsetDateTime, Timestamp, UtcDateTime, UtcOffset};
+
+/// The seconds and the milliseconds.
+fn stamps(sign_is_mandatory: bool) -> [Component; 2] {
+    [
+        Component::UnixTimestampSecond(modifier::UnixTimestampSecond { sign_is_mandatory }),
+        Component::UnixTimestampMillisecond(modifier::UnixTimestampMillisecond {
+            sign_is_mandatory,
+        }),
+    ]
+}
+
+#[test]
+fn timestamps_at_the_ends_and_around_zero(rt: HostRuntime) {
+    for (seconds, nanosecond, sign_is_mandatory, second, millisecond) in [
+        (
+            -31_619_087_596_800,
+            0,
+            false,
+            "-31619087596800",
+            "-31619087596800000",
+        ),
+        (
+            31_494_784_780_799,
+            999_999_999,
+            true,
+            "+31494784780799",
+            "+31494784780799999",
+        ),
+        (-1, 999_500_000, false, "-1", "0"),
+        (0, 0, true, "+0", "+0"),
+    ] {
+        let Ok(value) = Timestamp::new(seconds, nanosecond) else {
+            panic!(rt; "no timestamp");
+        };
+        let [whole, thousandths] = stamps(sign_is_mandatory);
+        assert_component(&rt, rt.alloc(), whole, &value, second, 15);
+        assert_component(&rt, rt.alloc(), thousandths, &value, millisecond, 18);
+        let hour = Component::Hour24(modifier::Hour24 {
+            padding: Padding::Zero,
+        });
+        let text = if seconds < -1 || seconds == 0 {
+            "00"
+        } else {
+            "23"
+        };
+        assert_component(&rt, rt.alloc(), hour, &value, text, 2);
+    }
+}
+
+#[test]
+fn a_moment_just_before_1970(rt: HostRuntime) {
+    let Ok(date) = Date::from_calendar_date(1969, Month::December, 31) else {
+        panic!(rt; "no date");
+    };
+    let value = UtcDateTime::new(date, time(&rt, 23, 59, 59, 999_500_000));
+    let [second, millisecond] = stamps(false);
+    assert_component(&rt, rt.alloc(), second, &value, "-1", 15);
+    assert_component(&rt, rt.alloc(), millisecond, &value, "0", 18);
+    let offset = Component::OffsetHour(modifier::OffsetHour {
+        padding: Padding::Zero,
+        sign_is_mandatory: true,
+    });
+    assert_component(&rt, rt.alloc(), offset, &value, "+00", 3);
+}
+
+#[test]
+fn offsets_keep_their_sign(rt: HostRuntime) {
+    let padding = Padding::Zero;
+    for (parts, hour, minute, second) in [
+        ((0, -30, 0), "-00", "30", "00"),
+        ((-6, 0, 0), "-06", "00", "00"),
+        ((25, 59, 59), "25", "59", "59"),
+        ((0, 0, -1), "-00", "00", "01"),
+    ] {
+        let Ok(value) = UtcOffset::from_hms(parts.0, parts.1, parts.2) else {
+            panic!(rt; "no offset");
+        };
+        let sign_is_mandatory = false;
+        let hours = Component::OffsetHour(modifier::OffsetHour {
+            padding,
+            sign_is_mandatory,
+        });
+        assert_component(&rt, rt.alloc(), hours, &value, hour, 3);
+        let minutes = Component::OffsetMinute(modifier::OffsetMinute { padding });
+        assert_component(&rt, rt.alloc(), minutes, &value, minute, 2);
+        let seconds = Component::OffsetSecond(modifier::OffsetSecond { padding });
+        assert_component(&rt, rt.alloc(), seconds, &value, second, 2);
+    }
+}
+
+#[test]
+fn an_offset_ahead_of_utc_is_an_earlier_moment(rt: HostRuntime) {
+    let Ok(date) = Date::from_calendar_date(1970, Month::January, 1) else {
+        panic!(rt; "no date");
+    };
+    let Ok(offset) = UtcOffset::from_hms(1, 0, 0) else {
+        panic!(rt; "no offset");
+    };
+    let value = OffsetDateTime::new_in_offset(date, time(&rt, 0, 0, 0, 0), offset);
+    let [second, millisecond] = stamps(false);
+    assert_component(&rt, rt.alloc(), second, &value, "-3600", 15);
+    assert_component(&rt, rt.alloc(), millisecond, &value, "-3600000", 18);
+}

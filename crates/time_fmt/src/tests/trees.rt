@@ -1,0 +1,211 @@
+//! Descriptions of each kind, deprecated components, and texts.
+use super::{assert_component, assert_text, time};
+use crate::{
+    BorrowedItems, ComputeMetadata, Format, Formattable, Metadata, OwnedItems, component_write_into,
+    v3_write_into,
+};
+use std::process::Abort;
+use std::test::Fail;
+use time_below::format_description::modifier::{
+    MonthRepr, Padding, UnixTimestampPrecision, WeekNumberRepr, WeekdayRepr, YearRange, YearRepr,
+};
+use time_below::format_description::{
+    BorrowedFormatItem, Component, FormatDescriptionV3, FormatDescriptionV3Inner, OwnedFormatItem,
+    modifier,
+};
+use time_below::{Date, Month, PlainDateTime};
+use time_provide::DateState;
+
+const DAY: Component = Component::Day(modifier::Day {
+    padding: Padding::Zero,
+});
+
+const MONTH: Component = Component::MonthNumerical(modifier::MonthNumerical {
+    padding: Padding::Zero,
+});
+
+const MONTH_NAME: modifier::MonthLong = modifier::MonthLong {
+    case_sensitive: true,
+};
+
+/// 1997-11-12 9:55:06.
+fn wednesday(rt: &impl Abort) -> PlainDateTime {
+    let Ok(date) = Date::from_calendar_date(1997, Month::November, 12) else {
+        panic!(rt; "no date");
+    };
+    PlainDateTime::new(date, time(rt, 9, 55, 6, 0))
+}
+
+#[test]
+fn borrowed_and_owned_lists_write_the_same(rt: HostRuntime) -> Result<(), Fail> {
+    let value = wednesday(&rt);
+    let borrowed = [
+        BorrowedFormatItem::Component(DAY),
+        BorrowedFormatItem::StringLiteral("/"),
+        BorrowedFormatItem::Component(MONTH),
+    ];
+    assert_text(&rt, rt.alloc(), &BorrowedItems(&borrowed), &value, "12/11", 5);
+    assert_text(&rt, rt.alloc(), &BorrowedFormatItem::Compound(&borrowed), &value, "12/11", 5);
+    let owned = vec![in rt.alloc();
+        OwnedFormatItem::Component(DAY),
+        OwnedFormatItem::StringLiteral(String::from_str(rt.alloc(), "/")?),
+        OwnedFormatItem::Component(MONTH)
+    ]?;
+    assert_text(&rt, rt.alloc(), &OwnedItems(owned.as_slice()), &value, "12/11", 5);
+    assert_text(&rt, rt.alloc(), &OwnedFormatItem::Compound(owned), &value, "12/11", 5);
+    Ok(())
+}
+
+#[test]
+fn descriptions_of_the_third_version(rt: HostRuntime) -> Result<(), Fail> {
+    let value = wednesday(&rt);
+    let items = [
+        FormatDescriptionV3Inner::from(DAY),
+        FormatDescriptionV3Inner::BorrowedLiteral("/"),
+        FormatDescriptionV3Inner::from(MONTH),
+    ];
+    let borrowed = FormatDescriptionV3::new(FormatDescriptionV3Inner::BorrowedCompound(&items));
+    assert_text(&rt, rt.alloc(), &borrowed, &value, "12/11", 5);
+    let first = FormatDescriptionV3::new(FormatDescriptionV3Inner::BorrowedFirst(&items));
+    assert_text(&rt, rt.alloc(), &first, &value, "12", 2);
+    let owned = vec![in rt.alloc();
+        FormatDescriptionV3Inner::from(DAY),
+        FormatDescriptionV3Inner::OwnedLiteral(String::from_str(rt.alloc(), "/")?),
+        FormatDescriptionV3Inner::from(MONTH)
+    ]?;
+    let owned = FormatDescriptionV3::new(FormatDescriptionV3Inner::OwnedCompound(owned));
+    assert_text(&rt, rt.alloc(), &owned, &value, "12/11", 5);
+    Ok(())
+}
+
+#[test]
+fn optional_items_of_the_third_version(rt: HostRuntime) -> Result<(), Fail> {
+    let value = wednesday(&rt);
+    let day = FormatDescriptionV3Inner::from(DAY);
+    for (format, text, width) in [(false, "", 0), (true, "12", 2)] {
+        let item = FormatDescriptionV3Inner::BorrowedOptional { format, item: &day };
+        assert_text(&rt, rt.alloc(), &FormatDescriptionV3::new(item), &value, text, width);
+    }
+    for (format, text, width) in [(false, "", 0), (true, "November", 9)] {
+        let item = FormatDescriptionV3Inner::OwnedOptional {
+            format,
+            item: Box::new(rt.alloc(), FormatDescriptionV3Inner::MonthLong(MONTH_NAME))?,
+        };
+        assert_text(&rt, rt.alloc(), &FormatDescriptionV3::new(item), &value, text, width);
+    }
+    Ok(())
+}
+
+#[test]
+fn deprecated_components_have_the_text_of_the_current_ones(rt: HostRuntime) {
+    let value = wednesday(&rt);
+    let padding = Padding::Zero;
+    for (component, text, width) in [
+        (
+            Component::Month(modifier::Month {
+                padding,
+                repr: MonthRepr::Long,
+                case_sensitive: true,
+            }),
+            "November",
+            9,
+        ),
+        (
+            Component::Weekday(modifier::Weekday {
+                repr: WeekdayRepr::Sunday,
+                one_indexed: true,
+                case_sensitive: true,
+            }),
+            "4",
+            1,
+        ),
+        (
+            Component::WeekNumber(modifier::WeekNumber {
+                padding,
+                repr: WeekNumberRepr::Iso,
+            }),
+            "46",
+            2,
+        ),
+        (
+            Component::Hour(modifier::Hour {
+                padding,
+                is_12_hour_clock: false,
+            }),
+            "09",
+            2,
+        ),
+        (
+            Component::Year(modifier::Year {
+                padding,
+                repr: YearRepr::Full,
+                range: YearRange::Standard,
+                iso_week_based: false,
+                sign_is_mandatory: false,
+            }),
+            "1997",
+            7,
+        ),
+    ] {
+        assert_component(&rt, rt.alloc(), component, &value, text, width);
+    }
+    let midnight = time(&rt, 0, 0, 0, 0);
+    let hour = Component::Hour(modifier::Hour {
+        padding,
+        is_12_hour_clock: true,
+    });
+    assert_component(&rt, rt.alloc(), hour, &midnight, "12", 2);
+}
+
+#[test]
+fn a_deprecated_year_may_be_out_of_range(rt: HostRuntime) {
+    let Ok(value) = Date::from_calendar_date(10_000, Month::January, 1) else {
+        panic!(rt; "no date");
+    };
+    let item = BorrowedFormatItem::Component(Component::Year(modifier::Year {
+        padding: Padding::Zero,
+        repr: YearRepr::Century,
+        range: YearRange::Standard,
+        iso_week_based: false,
+        sign_is_mandatory: false,
+    }));
+    assert_eq!(rt; item.compute_metadata().max_bytes_needed, 5);
+    let mut output = Vec::new(rt.alloc());
+    let refused = item.format_into(&mut output, &value, &mut DateState::default());
+    assert!(rt; matches!(&refused, Err(Format::ComponentRange(_))));
+    assert!(rt; output.is_empty());
+}
+
+#[test]
+fn texts_are_read_lossily_as_a_whole(rt: HostRuntime) -> Result<(), Fail> {
+    let value = time(&rt, 0, 0, 0, 0);
+    let letter = [
+        BorrowedFormatItem::Literal(b"\xc3"),
+        BorrowedFormatItem::Literal(b"\xa9"),
+    ];
+    for (item, text) in [
+        (BorrowedFormatItem::Compound(&letter), "\u{e9}"),
+        (BorrowedFormatItem::Literal(b"\xc3"), "\u{fffd}"),
+        (BorrowedFormatItem::Compound(&[]), ""),
+        (BorrowedFormatItem::First(&[]), ""),
+    ] {
+        let Ok(formatted) = item.format(rt.alloc(), &value, &mut ()) else {
+            panic!(rt; "refused: {text}");
+        };
+        assert_eq!(rt; formatted.as_str(), text);
+    }
+    Ok(())
+}
+
+#[test]
+fn sums_of_metadata(rt: HostRuntime) {
+    let sum: Metadata = [3, 0, 4]
+        .iter()
+        .map(|width| Metadata {
+            max_bytes_needed: *width,
+            guaranteed_utf8: true,
+        })
+        .sum();
+    assert_eq!(rt; sum.max_bytes_needed, 7);
+    assert!(rt; sum.guaranteed_utf8);
+}

@@ -1,0 +1,45 @@
+//! What the methods of a moment computed before.
+ghost use Rattle.std.specs.Prelude.{◌≡◌};
+ghost use Rattle.time_below.specs.Moment.{utc_date, utc_time};
+ghost use Rattle.time_provide.specs.Agreement.{AgreesWithMoment};
+
+use crate::date_state::DateState;
+use time_below::{Date, Time, Timestamp};
+
+/// The date and the time of a moment in UTC, each perhaps absent, and what that date keeps.
+#[derive(Debug, Default, Drop)]
+pub struct TimestampState {
+    pub(crate) date: Option<Date>,
+    pub(crate) time: Option<Time>,
+    pub(crate) date_state: DateState,
+}
+
+impl TimestampState {
+    // The date in UTC, which is kept.
+    pub(crate) fn date(&mut self, moment: Timestamp) -> Date
+        requires { AgreesWithMoment self.old moment }
+        ensures value { result ≡ utc_date moment.seconds }
+        ensures agrees { AgreesWithMoment self.new moment }
+    {
+        if let Some(date) = self.date {
+            return date;
+        }
+        let date = moment.date();
+        self.date = Some(date);
+        date
+    }
+
+    // The time of day in UTC, which is kept.
+    pub(crate) fn time(&mut self, moment: Timestamp) -> Time
+        requires { AgreesWithMoment self.old moment }
+        ensures value { result ≡ utc_time moment }
+        ensures agrees { AgreesWithMoment self.new moment }
+    {
+        if let Some(time) = self.time {
+            return time;
+        }
+        let time = moment.time();
+        self.time = Some(time);
+        time
+    }
+}
