@@ -1,0 +1,59 @@
+-- The fields of a line, and the numbers that digits spell.
+use Rattle.std.proofs.Common.{ℕ, ◌≡◌, ◌+◌, ◌-◌, ◌*◌, ◌<◌, ◌≤◌, ◌==◌, T, Bool, true, false, ◌&&◌, List, [], ◌∷◌, ◌++◌, length, take, drop, get_or, Option, Some, None, inl, inr, refl, ap, sym, ◌∙◌, lit≤, arith, rules}
+use Rattle.std.proofs.lemmas.Grind.{common_steps}
+use Rattle.std.proofs.lemmas.Int.Digits.{digits_value_more}
+use Rattle.std.proofs.lemmas.List.Splits.{slice_split_first, slice_split_none}
+use Rattle.std.proofs.lemmas.Str.{digit_value_digit}
+use Rattle.std.proofs.lemmas.Str.Parse.{IsDigitsTest, IsNumeralModel, numerals_by_value, digit_at, digits_value_short, digits_value-take-le}
+use Rattle.std.specs.Char.{is_ascii_digit, digit_value}
+use Rattle.std.specs.List.{slice_split, list_all, position, position_or_len, onto_first}
+use Rattle.std.specs.Option.{MatchOption}
+use Rattle.std.specs.Str.Parse.{digits_value, AllDigits}
+use Rattle.time_show.specs.Fields.{is_natural}
+
+-- where nothing is found there is one part
+parts-none : (p : ℕ → Bool) (xs : List ℕ) → length xs ≤ position_or_len p xs → slice_split p xs ≡ xs ∷ []
+parts-none p [] h = refl
+parts-none p (x ∷ xs) h = grind (arith, parts-none p xs)
+
+-- the parts round the first place that is found
+pub parts-found : (p : ℕ → Bool) (xs : List ℕ) (place : Option ℕ) → place ≡ position p xs →
+    MatchOption place (slice_split p xs ≡ xs ∷ []) (λ i. (i < length xs) × (slice_split p xs ≡ take i xs ∷ slice_split p (drop (i + 1) xs)))
+parts-found p xs None e = grind (arith, parts-none p xs)
+parts-found p xs (Some i) e = grind (arith, slice_split_first p xs 0)
+
+natural-length : (ds : List ℕ) → is_natural ds ≡ true → length ds ≤ 9
+natural-length ds h = grind arith
+
+natural-digits : (ds : List ℕ) → is_natural ds ≡ true → list_all is_ascii_digit ds ≡ true
+natural-digits ds h = grind arith
+
+tells_natural : IsDigitsTest (λ ds. list_all is_ascii_digit ds ≡ true)
+tells_natural = search rules
+
+numerals : IsNumeralModel (λ ds. list_all is_ascii_digit ds ≡ true) (digits_value 10)
+numerals = numerals_by_value _ tells_natural
+
+value-below : (ds : List ℕ) (i : ℕ) → is_natural ds ≡ true → digits_value 10 (take i ds) < 1000000000
+value-below ds i h = omega (arith, digits_value-take-le 10 ds i (lit≤ tt), digits_value_short numerals ds 9 (natural-digits ds h) (natural-length ds h))
+
+-- One more digit of a number that is spelled.
+pub record NextDigit (ds : List ℕ) (i : ℕ) : Type 0 where
+  pub is_digit : 48 ≤ get_or ds i 0
+  pub value : digits_value 10 (take (i + 1) ds) ≡ digits_value 10 (take i ds) * 10 + (get_or ds i 0 - 48)
+  pub small : digits_value 10 (take (i + 1) ds) < 1000000000
+
+pub next_digit : (ds : List ℕ) (i : ℕ) → is_natural ds ≡ true → i < length ds → NextDigit ds i
+next_digit ds i h lt =
+    let digits : AllDigits 10 ds = numerals.to ds (natural-digits ds h) in
+    let range = digit_at ds i digits lt in
+    let is : digit_value (get_or ds i 0) + 48 ≡ get_or ds i 0 = digit_value_digit (get_or ds i 0) range in
+    let more = digits_value_more 10 ds i lt in
+    record {
+      is_digit = omega arith;
+      value = omega arith;
+      small = value-below ds (i + 1) h;
+    }
+
+pub value-small : (ds : List ℕ) → is_natural ds ≡ true → digits_value 10 ds < 1000000000
+value-small ds h = digits_value_short numerals ds 9 (natural-digits ds h) (natural-length ds h)

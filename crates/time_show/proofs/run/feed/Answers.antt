@@ -1,0 +1,69 @@
+use Rattle.std.proofs.Common.{ℕ, List, [], ◌∷◌, ◌++◌, ◌≡◌, ◌+◌, ◌-◌, ◌<◌, length, take, drop, Option, Some, None, refl, ap, ◌∙◌, append_assoc, append-nil, arith}
+use Rattle.std.proofs.lemmas.Grind.{common_steps, pieces}
+use Rattle.std.proofs.lemmas.Result.{err_from_is_err_and}
+use Rattle.time_show.specs.Kept.{kept_with}
+use Rattle.time_show.specs.Lines.{IsOneLine}
+use Rattle.time_show.specs.Progress.{AcceptsAnswer, CutsAnswerOff, AnswersOn, CutsAnswersOff}
+use Rattle.time_show.proofs.LinesLemmas.{EndsAt, line-found}
+use Rattle.time_show.proofs.ProgressLemmas.{AnswersOn-none, AnswersOn-then, AnswersOn-kept, AnswersOn-line, CutsAnswersOff-line, CutsAnswersOff-after}
+use Rattle.time_show.proofs.run.feed.Goals as goal
+
+-- the end of a list, as a slice gives it
+to-end : (i : ℕ) (xs : List ℕ) → take (length xs - i) (drop i xs) ≡ drop i xs
+to-end i xs = grind (arith, common_steps, pieces)
+
+-- the bytes of a line and its line feed, taken from what is left
+next-line : (bytes fed rest : List ℕ) (end : ℕ) → bytes ≡ fed ++ rest → EndsAt rest end →
+    bytes ≡ (fed ++ (take end rest ++ 10 ∷ [])) ++ drop (end + 1) rest
+next-line bytes fed rest end whole ends =
+    whole ∙ ap (λ more. fed ++ more) ends.whole
+    ∙ rw (append_assoc fed (take end rest ++ 10 ∷ []) (drop (end + 1) rest), append_assoc (take end rest) (10 ∷ []) (drop (end + 1) rest))
+
+-- one more line is answered
+step : (bytes fed rest : List ℕ) (end : ℕ) (k0 k1 k2 k3 h0 h1 h2 : Option (List ℕ)) (w0 w1 w2 : List ℕ) →
+    bytes ≡ fed ++ rest → EndsAt rest end → k2 ≡ kept_with k1 (take end rest) → k3 ≡ Some [] →
+    AnswersOn fed k0 k1 h0 h1 w0 w1 → AcceptsAnswer k2 h1 h2 w1 w2 →
+    (fed : List ℕ) × (bytes ≡ fed ++ take (length rest - (end + 1)) (drop (end + 1) rest)) × AnswersOn fed k0 k3 h0 h2 w0 w2
+step bytes fed rest end k0 k1 k2 k3 h0 h1 h2 w0 w1 w2 whole ends kept empty on accepts = (
+  fed ++ (take end rest ++ 10 ∷ []),
+  rw (to-end (end + 1) rest) (next-line bytes fed rest end whole ends),
+  rw empty (AnswersOn-then fed (take end rest ++ 10 ∷ []) k0 k1 (Some []) h0 h1 h2 w0 w1 w2 on
+      (AnswersOn-line (take end rest) k1 h1 h2 w1 w2 ends.front (rw kept at accepts))),
+)
+
+-- the answer to one more line is cut off
+stop : (bytes fed rest : List ℕ) (end : ℕ) (k0 k1 k2 h0 h1 h2 : Option (List ℕ)) (w0 w1 : List ℕ) →
+    bytes ≡ fed ++ rest → EndsAt rest end → k2 ≡ kept_with k1 (take end rest) →
+    AnswersOn fed k0 k1 h0 h1 w0 w1 → CutsAnswerOff k2 h1 h2 w1 → CutsAnswersOff bytes k0 h0 h2 w0
+stop bytes fed rest end k0 k1 k2 h0 h1 h2 w0 w1 whole ends kept on cuts =
+    rw (whole ∙ ap (λ more. fed ++ more) ends.whole)
+    (CutsAnswersOff-after fed (take end rest ++ 10 ∷ drop (end + 1) rest) k0 k1 h0 h1 h2 w0 w1 on
+    (CutsAnswersOff-line (take end rest) (drop (end + 1) rest) k1 h1 h2 w1 ends.front (rw kept at cuts)))
+
+-- the rest has no line feed
+finish : (bytes fed rest : List ℕ) (k0 k1 k2 h0 h1 : Option (List ℕ)) (w0 w1 : List ℕ) →
+    bytes ≡ fed ++ rest → IsOneLine rest → k2 ≡ kept_with k1 rest → AnswersOn fed k0 k1 h0 h1 w0 w1 → AnswersOn bytes k0 k2 h0 h1 w0 w1
+finish bytes fed rest k0 k1 k2 h0 h1 w0 w1 whole one kept on =
+    rw (whole, kept) (AnswersOn-then fed rest k0 k1 (kept_with k1 rest) h0 h1 h1 w0 w1 w1 on (AnswersOn-kept rest k1 h1 w1 one))
+
+pub loop-end-init : goal.loop-end-init
+loop-end-init g c = ([], refl, AnswersOn-none _ _ _)
+
+pub loop-end-preserved : goal.loop-end-preserved
+loop-end-preserved g c =
+    let i = c.loop-end.invariant in
+    let ends : EndsAt c.loop-end.rest.now c.in-Some.end = line-found c.loop-end.rest.now (Some c.in-Some.end) c.in-Some.ensures in
+    step _ i.0 c.loop-end.rest.now c.in-Some.end _ _ _ _ _ _ _ _ _ _ i.1 ends c.extend.ensures c.clear.ensures i.2 c.in_ok-answer_line.ensures.ok
+
+pub returns-clause-ok : goal.returns-clause-ok
+returns-clause-ok g c =
+    let i = c.loop-end.invariant in
+    let one : IsOneLine c.loop-end.rest.now = line-found c.loop-end.rest.now None c.in_default.ensures in
+    finish _ i.0 c.loop-end.rest.now _ _ _ _ _ _ _ i.1 one c.extend-2.ensures i.2
+
+pub returns-in_err-answer_line-clause-err : goal.returns-in_err-answer_line-clause-err
+returns-in_err-answer_line-clause-err g c =
+    let p = err_from_is_err_and c.from_residual.result c.from_residual.ensures.1 in
+    let i = c.loop-end.invariant in
+    let ends : EndsAt c.loop-end.rest.now c.in-Some.end = line-found c.loop-end.rest.now (Some c.in-Some.end) c.in-Some.ensures in
+    rw p.1 (stop _ i.0 c.loop-end.rest.now c.in-Some.end _ _ _ _ _ _ _ _ i.1 ends c.extend.ensures i.2 c.in_err-answer_line.ensures.err)

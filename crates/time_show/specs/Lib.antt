@@ -1,0 +1,11 @@
+pub mod Lines
+pub mod Kept
+pub mod Fields
+pub mod Command
+pub mod Asked
+pub mod Answer
+pub mod Component
+pub mod Reply
+pub mod Written
+pub mod Progress
+pub mod Show

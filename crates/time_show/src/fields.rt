@@ -1,0 +1,117 @@
+//! The fields of a line, and the numbers that they spell.
+ghost use Rattle.std.specs.Prelude.{◌≡◌, ℕ, List, [], ◌∷◌, ◌<◌, length, pos, ◌≤ℤ◌, ◌<ℤ◌, option_map, IsTrue, IfSome, MatchOption, Some, None};
+ghost use Rattle.time_show.specs.Fields.{fields_of, is_natural, natural_of, number_of, numbers_of, exactly};
+ghost use Rattle.std.specs.Char.{is_ascii_digit};
+ghost use Rattle.std.specs.List.{list_all};
+ghost use Rattle.std.specs.Str.Parse.{digits_value};
+
+use crate::bytes::place_of;
+use std::marker::Model;
+
+/// The fields that are left of a line. Exactly one space stands between two fields.
+#[derive(Drop)]
+pub struct Fields<'a> {
+    rest: Option<&'a [u8]>,
+}
+
+impl<'a> Model for Fields<'a> {
+    ghost use Rattle.std.specs.Prelude.{List, ℕ};
+
+    ghost Value = { List (List ℕ) };
+
+    ghost use Rattle.time_show.specs.Fields.{fields_left};
+
+    ghost view = { λ f. fields_left f.rest };
+}
+
+impl<'a> Fields<'a> {
+    /// The fields of the line.
+    pub fn new(line: &'a [u8]) -> Self
+        ensures { result ≡ fields_of line.now }
+    {
+        Fields { rest: Some(line) }
+    }
+
+    /// Takes the first field, if one is left.
+    pub fn next(&mut self) -> Option<&'a [u8]>
+        ensures { MatchOption result ((self.old ≡ []) × (self.new ≡ [])) (λ field. self.old ≡ field.now ∷ self.new) }
+    {
+        let rest = self.rest?;
+        match place_of(b' ', rest) {
+            None => {
+                self.rest = None;
+                Some(rest)
+            }
+            Some(end) => {
+                self.rest = Some(&rest[end + 1..]);
+                Some(&rest[..end])
+            }
+        }
+    }
+}
+
+/// Whether each byte is a decimal digit.
+fn are_digits(text: &[u8]) -> bool
+    ensures { result ≡ list_all is_ascii_digit text.now }
+{
+    text.iter().all(|byte| byte.is_ascii_digit())
+}
+
+/// Whether the text is one to nine decimal digits.
+fn is_natural(text: &[u8]) -> bool
+    ensures { result ≡ is_natural text.now }
+{
+    if text.is_empty() || text.len() > 9 {
+        return false;
+    }
+    are_digits(text)
+}
+
+/// The number that one to nine decimal digits spell.
+fn digits_value(digits: &[u8]) -> u32
+    requires { IsTrue (is_natural digits.now) }
+    ensures value { result ≡ digits_value 10 digits.now }
+    ensures small { result < 1000000000 }
+{
+    let mut value = 0;
+    for digit in digits {
+        value = value * 10 + u32::from(*digit - b'0');
+    }
+    value
+}
+
+/// The number that one to nine decimal digits spell, and nothing for any other text.
+fn natural(text: &[u8]) -> Option<i32>
+    ensures value { result ≡ option_map pos (natural_of text.now) }
+    ensures small { IfSome result (λ n. (pos 0 ≤ℤ n) × (n <ℤ pos 1000000000)) }
+{
+    if !is_natural(text) {
+        return None;
+    }
+    Some(digits_value(text) as i32)
+}
+
+/// The number that a field spells: perhaps a minus sign, and one to nine decimal digits.
+pub fn number(field: &[u8]) -> Option<i32>
+    ensures { result ≡ number_of field.now }
+{
+    match field {
+        [b'-', digits @ ..] => natural(digits).map(|value| -value),
+        _ => natural(field),
+    }
+}
+
+/// The numbers that the fields spell, if they are `N` numbers.
+pub fn numbers<const N: usize>(fields: Fields<'_>) -> Option<[i32; N]>
+    ensures { result ≡ exactly N (numbers_of fields.entry) }
+{
+    let mut fields = fields;
+    let mut numbers = [0; N];
+    for i in 0..N {
+        numbers[i] = number(fields.next()?)?;
+    }
+    match fields.next() {
+        None => Some(numbers),
+        Some(_) => None,
+    }
+}

@@ -1,0 +1,189 @@
+//! The answers on their way out: they are assembled in a fixed buffer, and go out together.
+ghost use Rattle.std.specs.Prelude.{◌≡◌, ◌+◌, ◌≤◌, ◌<◌, ℕ, List, [], ◌++◌, length, min, take, OnOk, OnErr};
+ghost use Rattle.std.specs.Io.KnownBytes.{Appends};
+ghost use Rattle.time_show.specs.Written.{Accepts, CutsOff, joined};
+ghost use Rattle.time_show.specs.Reply.{reply_text};
+
+use crate::reply::Reply;
+use std::io::Write;
+use std::marker::Model;
+use time_digits::u64_pad_none;
+
+/// How many bytes may wait until they are written.
+const OUTPUT_LIMIT: usize = 4096;
+
+/// A write failed or took no byte.
+#[derive(Clone, Copy)]
+pub struct WriteFailed;
+
+/// Writes all the bytes. A write that takes no byte fails.
+fn write_bytes<W: Write>(output: &mut W, bytes: &[u8]) -> Result<(), WriteFailed>
+    ensures ok { OnOk result (Appends (W.contents output.old) (W.contents output.new) bytes.now) }
+    ensures err { OnErr result (CutsOff (W.contents output.old) (W.contents output.new) bytes.now []) }
+{
+    let mut done = 0;
+    while done < bytes.len() {
+        match output.write(&bytes[done..]) {
+            Ok(0) => return Err(WriteFailed),
+            Ok(count) => done += count,
+            Err(_) => return Err(WriteFailed),
+        }
+    }
+    Ok(())
+}
+
+/// The number of bytes of the parts, at most the greatest `usize`.
+fn joined_len(parts: &[&[u8]]) -> usize
+    ensures { result ≡ min (length (joined parts.now)) usize.MAX }
+{
+    let mut total = 0usize;
+    for part in parts {
+        total = total.saturating_add(part.len());
+    }
+    total
+}
+
+/// The bytes that wait until they are written. It asks for no memory.
+#[derive(Drop)]
+pub struct OutputBuffer {
+    bytes: [u8; 4096],
+    len: usize,
+}
+
+impl Model for OutputBuffer {
+    ghost Value = { List ℕ };
+
+    ghost view = { λ b. take b.len b.bytes };
+
+    ghost invariant = { λ b. b.len ≤ 4096 };
+}
+
+impl OutputBuffer {
+    /// A buffer in which nothing waits.
+    pub fn new() -> Self
+        ensures { result ≡ [] }
+    {
+        OutputBuffer {
+            bytes: [0; 4096],
+            len: 0,
+        }
+    }
+
+    /// How many more bytes may wait.
+    fn room(&self) -> usize
+        ensures { result + length self.now ≡ 4096 }
+    {
+        OUTPUT_LIMIT - self.len
+    }
+
+    /// Lets the bytes wait.
+    fn push(&mut self, bytes: &[u8])
+        requires room { length self.old + length bytes.now ≤ 4096 }
+        ensures { self.new ≡ self.old ++ bytes.now }
+    {
+        let end = self.len + bytes.len();
+        self.bytes[self.len..end].copy_from_slice(bytes);
+        self.len = end;
+    }
+
+    /// Writes what waits. After an error nothing is said of what waits.
+    pub fn flush<W: Write>(&mut self, output: &mut W) -> Result<(), WriteFailed>
+        ensures empty { OnOk result (self.new ≡ []) }
+        ensures ok { OnOk result (Appends (W.contents output.old) (W.contents output.new) self.old) }
+        ensures err { OnErr result (CutsOff (W.contents output.old) (W.contents output.new) self.old []) }
+    {
+        write_bytes(output, &self.bytes[..self.len])?;
+        self.len = 0;
+        Ok(())
+    }
+
+    /// Writes what waits, where it leaves no room for `most` bytes.
+    fn make_room<W: Write>(&mut self, output: &mut W, most: usize) -> Result<(), WriteFailed>
+        ensures room { OnOk result (4096 < length self.new + most → self.new ≡ []) }
+        ensures ok { OnOk result (Accepts (W.contents output.old) (W.contents output.new) self.old self.new []) }
+        ensures err { OnErr result (CutsOff (W.contents output.old) (W.contents output.new) self.old []) }
+    {
+        if most > self.room() {
+            self.flush(output)?;
+        }
+        Ok(())
+    }
+
+    /// Accepts the bytes. Where there is no room for them, what waits goes out first.
+    fn append<W: Write>(&mut self, output: &mut W, bytes: &[u8]) -> Result<(), WriteFailed>
+        ensures ok { OnOk result (Accepts (W.contents output.old) (W.contents output.new) self.old self.new bytes.now) }
+        ensures err { OnErr result (CutsOff (W.contents output.old) (W.contents output.new) self.old bytes.now) }
+    {
+        self.make_room(output, bytes.len())?;
+        if bytes.len() > self.room() {
+            write_bytes(output, bytes)?;
+            return Ok(());
+        }
+        self.push(bytes);
+        Ok(())
+    }
+
+    /// Accepts the parts, one after another. Where they do not fit beside what waits, that goes out first,
+    /// so that they go out by one write if the buffer holds them and the writer takes them whole.
+    fn append_all<W: Write>(&mut self, output: &mut W, parts: &[&[u8]]) -> Result<(), WriteFailed>
+        ensures ok { OnOk result (Accepts (W.contents output.old) (W.contents output.new) self.old self.new (joined parts.now)) }
+        ensures err { OnErr result (CutsOff (W.contents output.old) (W.contents output.new) self.old (joined parts.now)) }
+    {
+        self.make_room(output, joined_len(parts))?;
+        self.append_each(output, parts)
+    }
+
+    /// Accepts the parts, one after another.
+    fn append_each<W: Write>(&mut self, output: &mut W, parts: &[&[u8]]) -> Result<(), WriteFailed>
+        ensures ok { OnOk result (Accepts (W.contents output.old) (W.contents output.new) self.old self.new (joined parts.now)) }
+        ensures err { OnErr result (CutsOff (W.contents output.old) (W.contents output.new) self.old (joined parts.now)) }
+    {
+        for part in parts {
+            self.append(output, part)?;
+        }
+        Ok(())
+    }
+
+    /// Accepts the text of the reply.
+    pub fn append_reply<W: Write>(
+        &mut self,
+        output: &mut W,
+        reply: &Reply,
+    ) -> Result<(), WriteFailed>
+        ensures ok { OnOk result (Accepts (W.contents output.old) (W.contents output.new) self.old self.new (reply_text reply.now)) }
+        ensures err { OnErr result (CutsOff (W.contents output.old) (W.contents output.new) self.old (reply_text reply.now)) }
+    {
+        match reply {
+            Reply::Formatted { count, width, text } => {
+                let count = u64_pad_none(*count as u64);
+                let width = u64_pad_none(*width as u64);
+                self.append_all(
+                    output,
+                    &[
+                        b"ok ",
+                        count.as_str().as_bytes(),
+                        b" ",
+                        width.as_str().as_bytes(),
+                        b" ",
+                        text.as_slice(),
+                        b"\n",
+                    ],
+                )
+            }
+            Reply::Refused { written, name } => {
+                let written = u64_pad_none(*written as u64);
+                self.append_all(
+                    output,
+                    &[
+                        b"refused ",
+                        written.as_str().as_bytes(),
+                        b" ",
+                        name.as_bytes(),
+                        b"\n",
+                    ],
+                )
+            }
+            Reply::BadLine => self.append(output, b"bad line\n"),
+        }
+    }
+}

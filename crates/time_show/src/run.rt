@@ -1,0 +1,146 @@
+//! Lines in, answers out.
+ghost use Rattle.std.specs.Prelude.{is_ok, if◌then◌else◌, ◌≡◌, ◌≢◌, ◌≤◌, ◌<◌, ℕ, List, [], ◌∷◌, ◌++◌, length, take, OnOk, OnErr, MatchOption};
+ghost use Rattle.std.specs.Io.KnownBytes.{IsAtEnd, Appends};
+ghost use Rattle.time_show.specs.Answer.{IsAnswer};
+ghost use Rattle.time_show.specs.Kept.{kept_of};
+ghost use Rattle.time_show.specs.Reply.{reply_text};
+ghost use Rattle.time_show.specs.Progress.{AcceptsAnswer, CutsAnswerOff, AnswersOn, CutsAnswersOff, GoesOn, GoesWrong, EndsWell, EndsWrong};
+ghost use Rattle.time_show.specs.Show.{Ran};
+
+use crate::bytes::place_of;
+use crate::line_buffer::LineBuffer;
+use crate::output::{OutputBuffer, WriteFailed};
+use crate::reply::{Reply, reply_to};
+use std::alloc::Global;
+use std::io::{Read, Write};
+
+/// Why a run ended before the end of its input.
+#[derive(Clone, Copy, Debug, PartialEq, Eq)]
+pub enum ShowError {
+    /// A read failed.
+    Read,
+    /// A write failed, or took no byte.
+    Write,
+}
+
+impl From<WriteFailed> for ShowError {
+    ghost use Rattle.time_show.specs.declared.run.ShowError.TheVariants.{Write};
+    ghost use Rattle.std.specs.Prelude.{◌≡◌};
+
+    ghost from_gives = { λ _ e. e ≡ Write };
+
+    fn from(_error: WriteFailed) -> ShowError {
+        ShowError::Write
+    }
+}
+
+/// The reply to the line in the buffer.
+fn reply_for(alloc: Global, line: &LineBuffer) -> Reply
+    ensures { (whole : List ℕ) → line.now ≡ kept_of whole → IsAnswer whole (reply_text result) }
+{
+    match line.line() {
+        None => Reply::BadLine,
+        Some(line) => reply_to(alloc, line),
+    }
+}
+
+/// Answers the line in the buffer.
+fn answer_line<W: Write>(
+    alloc: Global,
+    line: &LineBuffer,
+    answers: &mut OutputBuffer,
+    output: &mut W,
+) -> Result<(), WriteFailed>
+    ensures ok { OnOk result (AcceptsAnswer line.now (W.contents output.old) (W.contents output.new) answers.old answers.new) }
+    ensures err { OnErr result (CutsAnswerOff line.now (W.contents output.old) (W.contents output.new) answers.old) }
+{
+    let reply = reply_for(alloc, line);
+    answers.append_reply(output, &reply)
+}
+
+/// Takes the next bytes of the input, and answers each line that they end.
+fn feed<W: Write>(
+    alloc: Global,
+    line: &mut LineBuffer,
+    bytes: &[u8],
+    answers: &mut OutputBuffer,
+    output: &mut W,
+) -> Result<(), WriteFailed>
+    ensures ok { OnOk result (AnswersOn bytes.now line.old line.new (W.contents output.old) (W.contents output.new) answers.old answers.new) }
+    ensures err { OnErr result (CutsAnswersOff bytes.now line.old (W.contents output.old) (W.contents output.new) answers.old) }
+{
+    let mut rest = bytes;
+    while let Some(end) = place_of(b'\n', rest) {
+        line.extend(&rest[..end]);
+        answer_line(alloc, line, answers, output)?;
+        line.clear();
+        rest = &rest[end + 1..];
+    }
+    line.extend(rest);
+    Ok(())
+}
+
+/// Takes a block of the input: when it is done, the answer to each line that it ends went out.
+fn answer_block<W: Write>(
+    alloc: Global,
+    line: &mut LineBuffer,
+    block: &[u8],
+    output: &mut W,
+) -> Result<(), WriteFailed>
+    ensures ok { OnOk result (GoesOn block.now line.old line.new (W.contents output.old) (W.contents output.new)) }
+    ensures err { OnErr result (GoesWrong block.now line.old (W.contents output.old) (W.contents output.new)) }
+{
+    let mut answers = OutputBuffer::new();
+    feed(alloc, line, block, &mut answers, output)?;
+    answers.flush(output)?;
+    Ok(())
+}
+
+/// Answers a last line that has no line feed, if it is not empty.
+fn answer_last<W: Write>(
+    alloc: Global,
+    line: &LineBuffer,
+    output: &mut W,
+) -> Result<(), WriteFailed>
+    ensures ok { OnOk result (EndsWell line.now (W.contents output.old) (W.contents output.new)) }
+    ensures err { OnErr result (EndsWrong line.now (W.contents output.old) (W.contents output.new)) }
+{
+    if !line.is_empty() {
+        let mut answer = OutputBuffer::new();
+        answer_line(alloc, line, &mut answer, output)?;
+        answer.flush(output)?;
+    }
+    Ok(())
+}
+
+/// Answers each line of the input, up to its end. All answers that are due are written before
+/// the next read. A run takes memory for the text of one answer at a time, and for nothing else.
+pub fn run<R: Read, W: Write>(alloc: Global, input: &mut R, output: &mut W) -> Result<(), ShowError>
+    ensures end { OnOk result (IsAtEnd (R.remaining input.new)) }
+    ensures ran { Ran result (R.remaining input.old) (R.remaining input.new) (W.contents output.old) (W.contents output.new) }
+{
+    let mut line = LineBuffer::new();
+    let mut block = [0u8; 8192];
+    for _ in 0..u64::MAX {
+        let count = match input.read(&mut block) {
+            Ok(count) => count,
+            Err(_) => return Err(ShowError::Read),
+        };
+        if count == 0 {
+            answer_last(alloc, &line, output)?;
+            return Ok(());
+        }
+        answer_block(alloc, &mut line, &block[..count], output)?;
+    }
+    Err(ShowError::Read)
+}
+
+/// The exit status of a run: 0 for one that came to the end of its input, else 1.
+pub fn status(outcome: &Result<(), ShowError>) -> u8
+    ensures { result ≡ (if is_ok outcome.now then 0 else 1) }
+{
+    match outcome {
+        Ok(()) => 0,
+        Err(_) => 1,
+    }
+}
