@@ -34,7 +34,8 @@ impl<'a> Fields<'a> {
 
     /// Takes the first field, if one is left.
     pub fn next(&mut self) -> Option<&'a [u8]>
-        ensures { MatchOption result ((self.old ≡ []) × (self.new ≡ [])) (λ field. self.old ≡ field.now ∷ self.new) }
+        ensures { MatchOption result ((self.old ≡ []) × (self.new ≡ []))
+            (λ field. self.old ≡ field.now ∷ self.new) }
     {
         let rest = self.rest?;
         match place_of(b' ', rest) {

@@ -65,7 +65,8 @@ impl LineBuffer {
 
     /// The line, if it is not too long.
     pub fn line(&self) -> Option<&[u8]>
-        ensures { MatchOption result (self.now ≡ None) (λ line. (self.now ≡ Some line.now) × (length line.now ≤ 128)) }
+        ensures { MatchOption result (self.now ≡ None)
+            (λ line. (self.now ≡ Some line.now) × (length line.now ≤ 128)) }
     {
         if self.is_too_long {
             None

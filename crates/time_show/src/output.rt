@@ -19,7 +19,8 @@ pub struct WriteFailed;
 /// Writes all the bytes. A write that takes no byte fails.
 fn write_bytes<W: Write>(output: &mut W, bytes: &[u8]) -> Result<(), WriteFailed>
     ensures ok { OnOk result (Appends (W.contents output.old) (W.contents output.new) bytes.now) }
-    ensures err { OnErr result (CutsOff (W.contents output.old) (W.contents output.new) bytes.now []) }
+    ensures err { OnErr result
+        (CutsOff (W.contents output.old) (W.contents output.new) bytes.now []) }
 {
     let mut done = 0;
     while done < bytes.len() {
@@ -89,8 +90,10 @@ impl OutputBuffer {
     /// Writes what waits. After an error nothing is said of what waits.
     pub fn flush<W: Write>(&mut self, output: &mut W) -> Result<(), WriteFailed>
         ensures empty { OnOk result (self.new ≡ []) }
-        ensures ok { OnOk result (Appends (W.contents output.old) (W.contents output.new) self.old) }
-        ensures err { OnErr result (CutsOff (W.contents output.old) (W.contents output.new) self.old []) }
+        ensures ok { OnOk result
+            (Appends (W.contents output.old) (W.contents output.new) self.old) }
+        ensures err { OnErr result
+            (CutsOff (W.contents output.old) (W.contents output.new) self.old []) }
     {
         write_bytes(output, &self.bytes[..self.len])?;
         self.len = 0;
@@ -100,8 +103,10 @@ impl OutputBuffer {
     /// Writes what waits, where it leaves no room for `most` bytes.
     fn make_room<W: Write>(&mut self, output: &mut W, most: usize) -> Result<(), WriteFailed>
         ensures room { OnOk result (4096 < length self.new + most → self.new ≡ []) }
-        ensures ok { OnOk result (Accepts (W.contents output.old) (W.contents output.new) self.old self.new []) }
-        ensures err { OnErr result (CutsOff (W.contents output.old) (W.contents output.new) self.old []) }
+        ensures ok { OnOk result
+            (Accepts (W.contents output.old) (W.contents output.new) self.old self.new []) }
+        ensures err { OnErr result
+            (CutsOff (W.contents output.old) (W.contents output.new) self.old []) }
     {
         if most > self.room() {
             self.flush(output)?;
@@ -111,8 +116,10 @@ impl OutputBuffer {
 
     /// Accepts the bytes. Where there is no room for them, what waits goes out first.
     fn append<W: Write>(&mut self, output: &mut W, bytes: &[u8]) -> Result<(), WriteFailed>
-        ensures ok { OnOk result (Accepts (W.contents output.old) (W.contents output.new) self.old self.new bytes.now) }
-        ensures err { OnErr result (CutsOff (W.contents output.old) (W.contents output.new) self.old bytes.now) }
+        ensures ok { OnOk result
+            (Accepts (W.contents output.old) (W.contents output.new) self.old self.new bytes.now) }
+        ensures err { OnErr result
+            (CutsOff (W.contents output.old) (W.contents output.new) self.old bytes.now) }
     {
         self.make_room(output, bytes.len())?;
         if bytes.len() > self.room() {
@@ -126,8 +133,11 @@ impl OutputBuffer {
     /// Accepts the parts, one after another. Where they do not fit beside what waits, that goes out first,
     /// so that they go out by one write if the buffer holds them and the writer takes them whole.
     fn append_all<W: Write>(&mut self, output: &mut W, parts: &[&[u8]]) -> Result<(), WriteFailed>
-        ensures ok { OnOk result (Accepts (W.contents output.old) (W.contents output.new) self.old self.new (joined parts.now)) }
-        ensures err { OnErr result (CutsOff (W.contents output.old) (W.contents output.new) self.old (joined parts.now)) }
+        ensures ok { OnOk result
+            (Accepts
+            (W.contents output.old) (W.contents output.new) self.old self.new (joined parts.now)) }
+        ensures err { OnErr result
+            (CutsOff (W.contents output.old) (W.contents output.new) self.old (joined parts.now)) }
     {
         self.make_room(output, joined_len(parts))?;
         self.append_each(output, parts)
@@ -135,8 +145,11 @@ impl OutputBuffer {
 
     /// Accepts the parts, one after another.
     fn append_each<W: Write>(&mut self, output: &mut W, parts: &[&[u8]]) -> Result<(), WriteFailed>
-        ensures ok { OnOk result (Accepts (W.contents output.old) (W.contents output.new) self.old self.new (joined parts.now)) }
-        ensures err { OnErr result (CutsOff (W.contents output.old) (W.contents output.new) self.old (joined parts.now)) }
+        ensures ok { OnOk result
+            (Accepts
+            (W.contents output.old) (W.contents output.new) self.old self.new (joined parts.now)) }
+        ensures err { OnErr result
+            (CutsOff (W.contents output.old) (W.contents output.new) self.old (joined parts.now)) }
     {
         for part in parts {
             self.append(output, part)?;
@@ -150,8 +163,12 @@ impl OutputBuffer {
         output: &mut W,
         reply: &Reply,
     ) -> Result<(), WriteFailed>
-        ensures ok { OnOk result (Accepts (W.contents output.old) (W.contents output.new) self.old self.new (reply_text reply.now)) }
-        ensures err { OnErr result (CutsOff (W.contents output.old) (W.contents output.new) self.old (reply_text reply.now)) }
+        ensures ok { OnOk result
+            (Accepts
+            (W.contents output.old) (W.contents output.new) self.old self.new (reply_text reply.now)) }
+        ensures err { OnErr result
+            (CutsOff
+            (W.contents output.old) (W.contents output.new) self.old (reply_text reply.now)) }
     {
         match reply {
             Reply::Formatted { count, width, text } => {

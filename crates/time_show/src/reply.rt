@@ -54,7 +54,9 @@ fn formatted_reply<D: Formattable, V: ComponentProvider>(
 ) -> Reply
 where
     V::State: Drop,
-    ensures { Answers (formatted (D.width_of description.now) (D.outcome_of description.now (V.facts value.now))) (reply_text result) }
+    ensures { Answers
+        (formatted (D.width_of description.now) (D.outcome_of description.now (V.facts value.now)))
+        (reply_text result) }
 {
     let width = description.compute_metadata().max_bytes_needed;
     let mut state = Default::default();

@@ -51,8 +51,11 @@ fn answer_line<W: Write>(
     answers: &mut OutputBuffer,
     output: &mut W,
 ) -> Result<(), WriteFailed>
-    ensures ok { OnOk result (AcceptsAnswer line.now (W.contents output.old) (W.contents output.new) answers.old answers.new) }
-    ensures err { OnErr result (CutsAnswerOff line.now (W.contents output.old) (W.contents output.new) answers.old) }
+    ensures ok { OnOk result
+        (AcceptsAnswer line.now
+        (W.contents output.old) (W.contents output.new) answers.old answers.new) }
+    ensures err { OnErr result
+        (CutsAnswerOff line.now (W.contents output.old) (W.contents output.new) answers.old) }
 {
     let reply = reply_for(alloc, line);
     answers.append_reply(output, &reply)
@@ -66,8 +69,12 @@ fn feed<W: Write>(
     answers: &mut OutputBuffer,
     output: &mut W,
 ) -> Result<(), WriteFailed>
-    ensures ok { OnOk result (AnswersOn bytes.now line.old line.new (W.contents output.old) (W.contents output.new) answers.old answers.new) }
-    ensures err { OnErr result (CutsAnswersOff bytes.now line.old (W.contents output.old) (W.contents output.new) answers.old) }
+    ensures ok { OnOk result
+        (AnswersOn bytes.now line.old line.new
+        (W.contents output.old) (W.contents output.new) answers.old answers.new) }
+    ensures err { OnErr result
+        (CutsAnswersOff bytes.now line.old
+        (W.contents output.old) (W.contents output.new) answers.old) }
 {
     let mut rest = bytes;
     while let Some(end) = place_of(b'\n', rest) {
@@ -87,8 +94,10 @@ fn answer_block<W: Write>(
     block: &[u8],
     output: &mut W,
 ) -> Result<(), WriteFailed>
-    ensures ok { OnOk result (GoesOn block.now line.old line.new (W.contents output.old) (W.contents output.new)) }
-    ensures err { OnErr result (GoesWrong block.now line.old (W.contents output.old) (W.contents output.new)) }
+    ensures ok { OnOk result
+        (GoesOn block.now line.old line.new (W.contents output.old) (W.contents output.new)) }
+    ensures err { OnErr result
+        (GoesWrong block.now line.old (W.contents output.old) (W.contents output.new)) }
 {
     let mut answers = OutputBuffer::new();
     feed(alloc, line, block, &mut answers, output)?;
@@ -103,7 +112,8 @@ fn answer_last<W: Write>(
     output: &mut W,
 ) -> Result<(), WriteFailed>
     ensures ok { OnOk result (EndsWell line.now (W.contents output.old) (W.contents output.new)) }
-    ensures err { OnErr result (EndsWrong line.now (W.contents output.old) (W.contents output.new)) }
+    ensures err { OnErr result
+        (EndsWrong line.now (W.contents output.old) (W.contents output.new)) }
 {
     if !line.is_empty() {
         let mut answer = OutputBuffer::new();
@@ -117,7 +127,9 @@ fn answer_last<W: Write>(
 /// the next read. A run takes memory for the text of one answer at a time, and for nothing else.
 pub fn run<R: Read, W: Write>(alloc: Global, input: &mut R, output: &mut W) -> Result<(), ShowError>
     ensures end { OnOk result (IsAtEnd (R.remaining input.new)) }
-    ensures ran { Ran result (R.remaining input.old) (R.remaining input.new) (W.contents output.old) (W.contents output.new) }
+    ensures ran { Ran result
+        (R.remaining input.old) (R.remaining input.new)
+        (W.contents output.old) (W.contents output.new) }
 {
     let mut line = LineBuffer::new();
     let mut block = [0u8; 8192];
