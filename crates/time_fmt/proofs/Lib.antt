@@ -3,6 +3,7 @@ pub mod ConversionLemmas
 pub mod DateTextLemmas
 pub mod DecimalLemmas
 pub mod Engine
+pub mod GuaranteeLemmas
 pub mod LawLemmas
 pub mod NumberLemmas
 pub mod OwnedTrees

@@ -1,4 +1,5 @@
 //! Laws of descriptions: the contract of each function is the law, and its body does nothing.
+ghost use Rattle.time_fmt.specs.Guarantee.{GuaranteedTextIsUtf8};
 ghost use Rattle.time_fmt.specs.Laws.{EqualTreesHaveEqualOutcomes, FirstIsItsFirstItem, ListIsItsItemsInOrder, OutcomesAreAMonoid, MetadataIsACommutativeMonoid};
 
 /// Two descriptions, of whichever types, whose trees are equal once bytes are read as texts and
@@ -25,4 +26,10 @@ pub fn outcomes_are_a_monoid()
 /// What is known of texts may be added in any order.
 pub fn metadata_is_a_commutative_monoid()
     ensures { MetadataIsACommutativeMonoid }
+{}
+
+/// Where a description has the text guarantee, all bytes that it gives are UTF-8, also those before a
+/// refusal.
+pub fn guaranteed_text_is_utf8()
+    ensures { GuaranteedTextIsUtf8 }
 {}

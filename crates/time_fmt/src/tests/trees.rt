@@ -84,52 +84,59 @@ fn borrowed_and_owned_lists_write_the_same(rt: HostRuntime) -> Result<(), Fail> 
     Ok(())
 }
 
+// What is lent to a description lives as long as its own parts, so it is leaked here.
 #[test]
-fn descriptions_of_the_third_version(rt: HostRuntime) -> Result<(), Fail> {
+fn borrowed_descriptions_of_the_third_version(rt: HostRuntime) -> Result<(), Fail> {
     let value = wednesday(&rt);
-    let items = [
+    let list = vec![in rt.alloc();
         FormatDescriptionV3Inner::from(DAY),
         FormatDescriptionV3Inner::BorrowedLiteral("/"),
         FormatDescriptionV3Inner::from(MONTH),
-    ];
-    let borrowed = FormatDescriptionV3::new(FormatDescriptionV3Inner::BorrowedCompound(&items));
-    assert_text(&rt, rt.alloc(), &borrowed, &value, "12/11", 5);
-    let first = FormatDescriptionV3::new(FormatDescriptionV3Inner::BorrowedFirst(&items));
+    ]?;
+    let items: &'static [FormatDescriptionV3Inner<'static>] = list.leak();
+    let compound = FormatDescriptionV3::new(FormatDescriptionV3Inner::BorrowedCompound(items));
+    assert_text(&rt, rt.alloc(), &compound, &value, "12/11", 5);
+    let first = FormatDescriptionV3::new(FormatDescriptionV3Inner::BorrowedFirst(items));
     assert_text(&rt, rt.alloc(), &first, &value, "12", 2);
-    let owned = vec![in rt.alloc();
+    Ok(())
+}
+
+#[test]
+fn owned_descriptions_of_the_third_version(rt: HostRuntime) -> Result<(), Fail> {
+    let value = wednesday(&rt);
+    let list = vec![in rt.alloc();
         FormatDescriptionV3Inner::from(DAY),
         FormatDescriptionV3Inner::OwnedLiteral(String::from_str(rt.alloc(), "/")?),
         FormatDescriptionV3Inner::from(MONTH),
     ]?;
-    let owned = FormatDescriptionV3::new(FormatDescriptionV3Inner::OwnedCompound(owned));
-    assert_text(&rt, rt.alloc(), &owned, &value, "12/11", 5);
+    let compound = FormatDescriptionV3::new(FormatDescriptionV3Inner::OwnedCompound(list));
+    assert_text(&rt, rt.alloc(), &compound, &value, "12/11", 5);
     Ok(())
 }
 
 #[test]
 fn optional_items_of_the_third_version(rt: HostRuntime) -> Result<(), Fail> {
     let value = wednesday(&rt);
-    let day = FormatDescriptionV3Inner::from(DAY);
+    let lent = Box::new(rt.alloc(), FormatDescriptionV3Inner::from(DAY))?;
+    let item: &'static FormatDescriptionV3Inner<'static> = Box::leak(lent);
     for (format, text, width) in [(false, "", 0), (true, "12", 2)] {
-        let item = FormatDescriptionV3Inner::BorrowedOptional { format, item: &day };
+        let optional = FormatDescriptionV3Inner::BorrowedOptional { format, item };
         assert_text(
             &rt,
             rt.alloc(),
-            &FormatDescriptionV3::new(item),
+            &FormatDescriptionV3::new(optional),
             &value,
             text,
             width,
         );
     }
     for (format, text, width) in [(false, "", 0), (true, "November", 9)] {
-        let item = FormatDescriptionV3Inner::OwnedOptional {
-            format,
-            item: Box::new(rt.alloc(), FormatDescriptionV3Inner::MonthLong(MONTH_NAME))?,
-        };
+        let item = Box::new(rt.alloc(), FormatDescriptionV3Inner::MonthLong(MONTH_NAME))?;
+        let optional = FormatDescriptionV3Inner::OwnedOptional { format, item };
         assert_text(
             &rt,
             rt.alloc(),
-            &FormatDescriptionV3::new(item),
+            &FormatDescriptionV3::new(optional),
             &value,
             text,
             width,

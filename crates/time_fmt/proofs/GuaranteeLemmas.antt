@@ -1,0 +1,174 @@
+-- Texts of components are ASCII, and so the outcomes of guaranteed texts are UTF-8.
+use Rattle.std.proofs.Common.{◌≡◌, ℕ, zero, suc, ◌+◌, ◌-◌, ◌/◌, ◌%◌, ◌^◌, ◌<◌, ◌≤◌, Bool, true, false, ◌&&◌, nat_lt, List, [], ◌∷◌, ◌++◌, take, decimal, IsAscii, IsUtf8, IsTrue, IfSome, Option, Some, None, if◌then◌else◌, refl, arith, rules, ℤ, pos, unsigned_abs}
+use Rattle.std.specs.Prelude.{codes, int_lt, slice_index_or, ◌||◌, nat_le}
+use Rattle.std.specs.List.{list_all}
+use Rattle.std.proofs.lemmas.Bool.{ltb-true}
+use Rattle.std.proofs.lemmas.Fmt.{IsAscii-decimal}
+use Rattle.std.proofs.lemmas.List.Elements.{All-weaker}
+use Rattle.std.proofs.lemmas.List.Sums.{AllPass-from_list_all}
+use Rattle.std.proofs.lemmas.Str.{IsAscii-append, IsAscii-take, IsUtf8-append, IsUtf8-from_ascii}
+use Rattle.std.proofs.lemmas.Str.Ascii.{IsAscii-from_all, IsAscii-nil}
+use Rattle.time_below.specs.Conversion.{current_component}
+use Rattle.time_below.specs.declared.period.Period.{Period}
+use Rattle.time_below.specs.declared.period.Period.TheVariants.{Am, Pm}
+use Rattle.time_below.specs.declared.format_description.component.Component.{Component}
+use Rattle.time_below.specs.declared.format_description.component.Component.TheVariants as component
+use Rattle.time_below.specs.declared.format_description.modifier.Padding.{Padding}
+use Rattle.time_below.specs.declared.format_description.modifier.Padding.TheVariants as padding
+use Rattle.time_below.specs.declared.format_description.modifier.SubsecondDigits.{SubsecondDigits}
+use Rattle.time_below.specs.declared.format_description.modifier.SubsecondDigits.TheVariants as digits
+use Rattle.time_below.specs.Facts.{Facts, DateFacts}
+use Rattle.time_below.specs.Moment.{Moment, milliseconds}
+use Rattle.time_below.specs.Offset.{Offset, is_negative}
+use Rattle.time_below.specs.TimeOfDay.{TimeOfDay, period_of}
+use Rattle.time_below.specs.Tree.{Tree, Trees, byte_literal, text_literal, of_component, all_of, first_of, nothing, end, more}
+use Rattle.time_below.specs.Width.{is_guaranteed_text, are_guaranteed_text}
+use Rattle.time_digits.specs.Digits.{fixed}
+use Rattle.time_digits.proofs.DigitLemmas.{IsAscii-fixed}
+use Rattle.time_digits.proofs.FractionLemmas.{IsAscii-trimmed_fraction}
+use Rattle.time_digits.proofs.LengthLemmas.{IsAscii-padded}
+use Rattle.time_fmt.specs.DateText.{month_names, month_name, weekday_names, weekday_name, short_name, indexed, from_sunday, extended_year_text, standard_year_text, extended_century_text, standard_century_text}
+use Rattle.time_fmt.specs.Description.{of_group, in_standard_range, century_of, current_outcome, component_outcome, tree_outcome, trees_outcome}
+use Rattle.time_fmt.specs.Guarantee.{HasTexts, HaveTexts, DateFits, TimeFits, OffsetFits, MomentFits, FactsFit, IsWord, AreWords}
+use Rattle.time_fmt.specs.Outcome.{Outcome, Refusal, done, refused, join, out_of_range}
+use Rattle.time_below.specs.ComponentRange.{conditional_range}
+use Rattle.time_fmt.specs.Text.{padded_text, sign_text, hour_12, period_text, subsecond_text, offset_hour_text, timestamp_text}
+
+-- ---- texts
+
+ascii_test : (bs : List ℕ) → list_all (λ b. nat_lt b 128) bs ≡ true → IsAscii bs
+ascii_test bs h =
+    IsAscii-from_all bs (All-weaker (λ b. IsTrue (nat_lt b 128)) (λ b. b < 128) (λ b. ltb-true b 128) bs (AllPass-from_list_all (λ b. nat_lt b 128) bs h))
+
+IsAscii-padded_text : (p : Padding) (places n : ℕ) → n < 2 ^ 64 → IsAscii (padded_text p places n)
+IsAscii-padded_text padding.Space places n h = IsAscii-padded 32 places n (omega arith) h
+IsAscii-padded_text padding.Zero places n h = IsAscii-padded 48 places n (omega arith) h
+IsAscii-padded_text padding.None places n h = IsAscii-decimal n h
+
+IsAscii-sign_text : (is_negative is_wanted : Bool) → IsAscii (sign_text is_negative is_wanted)
+IsAscii-sign_text true is_wanted = ascii_test (codes "-") refl
+IsAscii-sign_text false true = ascii_test (codes "+") refl
+IsAscii-sign_text false false = IsAscii-nil
+
+signed : (n w : Bool) (p : Padding) (places m : ℕ) → m < 2 ^ 64 → IsAscii (sign_text n w ++ padded_text p places m)
+signed n w p places m h = IsAscii-append (sign_text n w) (padded_text p places m) (IsAscii-sign_text n w) (IsAscii-padded_text p places m h)
+
+abbrev AreAscii : List (List ℕ) → Type 0
+AreAscii [] = Unit {0}
+AreAscii (name ∷ names) = IsAscii name × AreAscii names
+
+name_at : (names : List (List ℕ)) (i : ℕ) → AreAscii names → IsAscii (slice_index_or names i [])
+name_at [] i h = IsAscii-nil
+name_at (name ∷ names) zero h = h.0
+name_at (name ∷ names) (suc i) h = name_at names i h.1
+
+ascii_months : AreAscii month_names
+ascii_months = (ascii_test (codes "January") refl, (ascii_test (codes "February") refl, (ascii_test (codes "March") refl, (ascii_test (codes "April") refl, (ascii_test (codes "May") refl, (ascii_test (codes "June") refl, (ascii_test (codes "July") refl, (ascii_test (codes "August") refl, (ascii_test (codes "September") refl, (ascii_test (codes "October") refl, (ascii_test (codes "November") refl, (ascii_test (codes "December") refl, tt))))))))))))
+
+IsAscii-month_name : (m : ℕ) → IsAscii (month_name m)
+IsAscii-month_name m = name_at month_names (m - 1) ascii_months
+
+ascii_weekdays : AreAscii weekday_names
+ascii_weekdays = (ascii_test (codes "Monday") refl, (ascii_test (codes "Tuesday") refl, (ascii_test (codes "Wednesday") refl, (ascii_test (codes "Thursday") refl, (ascii_test (codes "Friday") refl, (ascii_test (codes "Saturday") refl, (ascii_test (codes "Sunday") refl, tt)))))))
+
+IsAscii-weekday_name : (w : ℕ) → IsAscii (weekday_name w)
+IsAscii-weekday_name w = name_at weekday_names w ascii_weekdays
+
+IsAscii-indexed : (one_indexed : Bool) (days : ℕ) → days < 7 → IsAscii (decimal (indexed one_indexed days))
+IsAscii-indexed true days h = IsAscii-decimal (days + 1) (omega arith)
+IsAscii-indexed false days h = IsAscii-decimal days (omega arith)
+
+IsAscii-period_text : (p : Period) (is_uppercase : Bool) → IsAscii (period_text p is_uppercase)
+IsAscii-period_text Am true = ascii_test (codes "AM") refl
+IsAscii-period_text Am false = ascii_test (codes "am") refl
+IsAscii-period_text Pm true = ascii_test (codes "PM") refl
+IsAscii-period_text Pm false = ascii_test (codes "pm") refl
+
+IsAscii-subsecond_text : (d : SubsecondDigits) (n : ℕ) → IsAscii (subsecond_text d n)
+IsAscii-subsecond_text digits.OneOrMore n = IsAscii-trimmed_fraction n
+IsAscii-subsecond_text digits.One n = IsAscii-take (fixed 9 n) 1 (IsAscii-fixed 9 n)
+IsAscii-subsecond_text digits.Two n = IsAscii-take (fixed 9 n) 2 (IsAscii-fixed 9 n)
+IsAscii-subsecond_text digits.Three n = IsAscii-take (fixed 9 n) 3 (IsAscii-fixed 9 n)
+IsAscii-subsecond_text digits.Four n = IsAscii-take (fixed 9 n) 4 (IsAscii-fixed 9 n)
+IsAscii-subsecond_text digits.Five n = IsAscii-take (fixed 9 n) 5 (IsAscii-fixed 9 n)
+IsAscii-subsecond_text digits.Six n = IsAscii-take (fixed 9 n) 6 (IsAscii-fixed 9 n)
+IsAscii-subsecond_text digits.Seven n = IsAscii-take (fixed 9 n) 7 (IsAscii-fixed 9 n)
+IsAscii-subsecond_text digits.Eight n = IsAscii-take (fixed 9 n) 8 (IsAscii-fixed 9 n)
+IsAscii-subsecond_text digits.Nine n = IsAscii-take (fixed 9 n) 9 (IsAscii-fixed 9 n)
+
+IsAscii-timestamp_text : (s : Bool) (n : ℤ) → unsigned_abs n < 2 ^ 64 → IsAscii (timestamp_text s n)
+IsAscii-timestamp_text s n h = IsAscii-append (sign_text (int_lt n (pos 0)) s) (decimal (unsigned_abs n)) (IsAscii-sign_text (int_lt n (pos 0)) s) (IsAscii-decimal (unsigned_abs n) h)
+
+-- ---- components
+
+ascii_of_group : {G : Type 0} (group : Option G) (fits : G → Type 0) (outcome : G → Outcome) → IfSome group fits → ((g : G) → fits g → IsAscii (outcome g).bytes) → IsAscii (of_group group outcome).bytes
+ascii_of_group None fits outcome h each = IsAscii-nil
+ascii_of_group (Some g) fits outcome h each = each g h
+
+ascii_in_range : (greatest magnitude : ℕ) (text : List ℕ) → IsAscii text → IsAscii (in_standard_range greatest magnitude text).bytes
+ascii_in_range greatest magnitude text h =
+    elim (nat_le magnitude greatest) as (λ b. IsAscii (if b then done text else refused (out_of_range (conditional_range (codes "year")))).bytes) [ true ↦ h | false ↦ IsAscii-nil ]
+
+ascii_current : (c : Component) (f : Facts) → FactsFit f → IsAscii (current_outcome c f).bytes
+ascii_current (component.Day m) f h = ascii_of_group f.date DateFits _ h.date (λ d fit. IsAscii-padded_text m.padding 2 d.day fit.day)
+ascii_current (component.MonthShort m) f h = ascii_of_group f.date DateFits _ h.date (λ d fit. IsAscii-take (month_name d.month) 3 (IsAscii-month_name d.month))
+ascii_current (component.MonthLong m) f h = ascii_of_group f.date DateFits _ h.date (λ d fit. IsAscii-month_name d.month)
+ascii_current (component.MonthNumerical m) f h = ascii_of_group f.date DateFits _ h.date (λ d fit. IsAscii-padded_text m.padding 2 d.month fit.month)
+ascii_current (component.Ordinal m) f h = ascii_of_group f.date DateFits _ h.date (λ d fit. IsAscii-padded_text m.padding 3 d.ordinal fit.ordinal)
+ascii_current (component.WeekdayShort m) f h = ascii_of_group f.date DateFits _ h.date (λ d fit. IsAscii-take (weekday_name d.weekday) 3 (IsAscii-weekday_name d.weekday))
+ascii_current (component.WeekdayLong m) f h = ascii_of_group f.date DateFits _ h.date (λ d fit. IsAscii-weekday_name d.weekday)
+ascii_current (component.WeekdaySunday m) f h = ascii_of_group f.date DateFits _ h.date (λ d fit. IsAscii-indexed m.one_indexed (from_sunday d.weekday) (omega arith))
+ascii_current (component.WeekdayMonday m) f h = ascii_of_group f.date DateFits _ h.date (λ d fit. IsAscii-indexed m.one_indexed d.weekday fit.weekday)
+ascii_current (component.WeekNumberIso m) f h = ascii_of_group f.date DateFits _ h.date (λ d fit. IsAscii-padded_text m.padding 2 d.iso_week fit.iso_week)
+ascii_current (component.WeekNumberSunday m) f h = ascii_of_group f.date DateFits _ h.date (λ d fit. IsAscii-padded_text m.padding 2 d.sunday_based_week fit.sunday_based_week)
+ascii_current (component.WeekNumberMonday m) f h = ascii_of_group f.date DateFits _ h.date (λ d fit. IsAscii-padded_text m.padding 2 d.monday_based_week fit.monday_based_week)
+ascii_current (component.CalendarYearFullExtendedRange m) f h = ascii_of_group f.date DateFits _ h.date (λ d fit. signed (int_lt d.year (pos 0)) (m.sign_is_mandatory || int_lt (pos 9_999) d.year) m.padding 4 (unsigned_abs d.year) fit.year)
+ascii_current (component.CalendarYearFullStandardRange m) f h = ascii_of_group f.date DateFits _ h.date (λ d fit. ascii_in_range 9_999 (unsigned_abs d.year) _ (signed (int_lt d.year (pos 0)) m.sign_is_mandatory m.padding 4 (unsigned_abs d.year) fit.year))
+ascii_current (component.CalendarYearCenturyExtendedRange m) f h = ascii_of_group f.date DateFits _ h.date (λ d fit. signed (int_lt d.year (pos 0)) (m.sign_is_mandatory || nat_lt 99 (century_of d.year)) m.padding 2 (century_of d.year) (omega (arith, fit.year)))
+ascii_current (component.CalendarYearCenturyStandardRange m) f h = ascii_of_group f.date DateFits _ h.date (λ d fit. ascii_in_range 99 (century_of d.year) _ (signed (int_lt d.year (pos 0)) m.sign_is_mandatory m.padding 2 (century_of d.year) (omega (arith, fit.year))))
+ascii_current (component.CalendarYearLastTwo m) f h = ascii_of_group f.date DateFits _ h.date (λ d fit. IsAscii-padded_text m.padding 2 ((unsigned_abs d.year) % 100) (omega arith))
+ascii_current (component.IsoYearFullExtendedRange m) f h = ascii_of_group f.date DateFits _ h.date (λ d fit. signed (int_lt d.iso_year (pos 0)) (m.sign_is_mandatory || int_lt (pos 9_999) d.iso_year) m.padding 4 (unsigned_abs d.iso_year) fit.iso_year)
+ascii_current (component.IsoYearFullStandardRange m) f h = ascii_of_group f.date DateFits _ h.date (λ d fit. ascii_in_range 9_999 (unsigned_abs d.iso_year) _ (signed (int_lt d.iso_year (pos 0)) m.sign_is_mandatory m.padding 4 (unsigned_abs d.iso_year) fit.iso_year))
+ascii_current (component.IsoYearCenturyExtendedRange m) f h = ascii_of_group f.date DateFits _ h.date (λ d fit. signed (int_lt d.iso_year (pos 0)) (m.sign_is_mandatory || nat_lt 99 (century_of d.iso_year)) m.padding 2 (century_of d.iso_year) (omega (arith, fit.iso_year)))
+ascii_current (component.IsoYearCenturyStandardRange m) f h = ascii_of_group f.date DateFits _ h.date (λ d fit. ascii_in_range 99 (century_of d.iso_year) _ (signed (int_lt d.iso_year (pos 0)) m.sign_is_mandatory m.padding 2 (century_of d.iso_year) (omega (arith, fit.iso_year))))
+ascii_current (component.IsoYearLastTwo m) f h = ascii_of_group f.date DateFits _ h.date (λ d fit. IsAscii-padded_text m.padding 2 ((unsigned_abs d.iso_year) % 100) (omega arith))
+ascii_current (component.Hour12 m) f h = ascii_of_group f.time TimeFits _ h.time (λ t fit. IsAscii-padded_text m.padding 2 (hour_12 t.hour) (omega arith))
+ascii_current (component.Hour24 m) f h = ascii_of_group f.time TimeFits _ h.time (λ t fit. IsAscii-padded_text m.padding 2 t.hour fit.hour)
+ascii_current (component.Minute m) f h = ascii_of_group f.time TimeFits _ h.time (λ t fit. IsAscii-padded_text m.padding 2 t.minute fit.minute)
+ascii_current (component.Period m) f h = ascii_of_group f.time TimeFits _ h.time (λ t fit. IsAscii-period_text (period_of t) m.is_uppercase)
+ascii_current (component.Second m) f h = ascii_of_group f.time TimeFits _ h.time (λ t fit. IsAscii-padded_text m.padding 2 t.second fit.second)
+ascii_current (component.Subsecond m) f h = ascii_of_group f.time TimeFits _ h.time (λ t fit. IsAscii-subsecond_text m.digits t.nanosecond)
+ascii_current (component.OffsetHour m) f h = ascii_of_group f.offset OffsetFits _ h.offset (λ o fit. signed (is_negative o) m.sign_is_mandatory m.padding 2 (unsigned_abs o.hours) fit.hours)
+ascii_current (component.OffsetMinute m) f h = ascii_of_group f.offset OffsetFits _ h.offset (λ o fit. IsAscii-padded_text m.padding 2 (unsigned_abs o.minutes) fit.minutes)
+ascii_current (component.OffsetSecond m) f h = ascii_of_group f.offset OffsetFits _ h.offset (λ o fit. IsAscii-padded_text m.padding 2 (unsigned_abs o.seconds) fit.seconds)
+ascii_current (component.UnixTimestampSecond m) f h = ascii_of_group f.stamp MomentFits _ h.stamp (λ s fit. IsAscii-timestamp_text m.sign_is_mandatory s.seconds fit.seconds)
+ascii_current (component.UnixTimestampMillisecond m) f h = ascii_of_group f.stamp MomentFits _ h.stamp (λ s fit. IsAscii-timestamp_text m.sign_is_mandatory (milliseconds s) fit.milliseconds)
+ascii_current c f h = IsAscii-nil
+
+-- ---- trees
+
+joined_utf8 : (a b : Outcome) → IsUtf8 a.bytes → IsUtf8 b.bytes → IsUtf8 (join a b).bytes
+joined_utf8 a b p q = elim a.refusal as (λ r. IsUtf8 (join (record { bytes = a.bytes; refusal = r }) b).bytes) [ None ↦ IsUtf8-append a.bytes b.bytes p q | Some r ↦ p ]
+
+both_true : (a b : Bool) → IsTrue (a && b) → IsTrue a × IsTrue b
+both_true true b h = (refl, h)
+both_true false b h = let no : ⊥ = cc in absurd no
+
+empty_utf8 : IsUtf8 []
+empty_utf8 = IsUtf8-from_ascii [] IsAscii-nil
+
+mutual
+  pub guaranteed_utf8 : (t : Tree) (f : Facts) → HasTexts t → FactsFit f → IsTrue (is_guaranteed_text t) → IsUtf8 (tree_outcome t f).bytes
+  guaranteed_utf8 (byte_literal bytes) f texts fit h = let no : ⊥ = cc in absurd no
+  guaranteed_utf8 (text_literal text) f texts fit h = texts
+  guaranteed_utf8 (of_component c) f texts fit h = IsUtf8-from_ascii (component_outcome c f).bytes (ascii_current (current_component c) f fit)
+  guaranteed_utf8 (all_of ts) f texts fit h = all_guaranteed_utf8 ts f texts fit h
+  guaranteed_utf8 (first_of end) f texts fit h = empty_utf8
+  guaranteed_utf8 (first_of (more t ts)) f texts fit h = guaranteed_utf8 t f texts.0 fit h
+  guaranteed_utf8 nothing f texts fit h = empty_utf8
+
+  pub all_guaranteed_utf8 : (ts : Trees) (f : Facts) → HaveTexts ts → FactsFit f → IsTrue (are_guaranteed_text ts) → IsUtf8 (trees_outcome ts f).bytes
+  all_guaranteed_utf8 end f texts fit h = empty_utf8
+  all_guaranteed_utf8 (more t ts) f texts fit h =
+      let both = both_true (is_guaranteed_text t) (are_guaranteed_text ts) h in
+      joined_utf8 (tree_outcome t f) (trees_outcome ts f) (guaranteed_utf8 t f texts.0 fit both.0) (all_guaranteed_utf8 ts f texts.1 fit both.1)
