@@ -1,5 +1,5 @@
 -- The laws of descriptions.
-use Rattle.std.proofs.Common.{◌≡◌, ℕ, ◌+◌, ◌≤◌, min, Bool, true, false, ◌&&◌, List, [], ◌++◌, Option, Some, None, refl, sym, ap, ap₂, ◌∙◌, arith, append_assoc, append-nil}
+use Rattle.std.proofs.Common.{◌≡◌, Bool, true, false, refl, sym, ap, ap₂, ◌∙◌}
 use Rattle.time_below.specs.Conversion.{current_component, current_month, current_weekday, current_week_number, current_hour, current_unix_timestamp, current_year}
 use Rattle.time_below.specs.declared.format_description.component.Component.{Component}
 use Rattle.time_below.specs.declared.format_description.component.Component.TheVariants as component
@@ -23,10 +23,8 @@ use Rattle.time_below.specs.declared.format_description.modifier.YearRange.{Year
 use Rattle.time_below.specs.declared.format_description.modifier.YearRange.TheVariants as range
 use Rattle.time_below.specs.Facts.{Facts}
 use Rattle.time_below.specs.Tree.{Tree, Trees, byte_literal, text_literal, of_component, all_of, first_of, nothing, end, more, unmarked, all_unmarked}
-use Rattle.time_fmt.specs.declared.metadata.Metadata.{Metadata}
 use Rattle.time_fmt.specs.Description.{tree_outcome, trees_outcome, current_outcome}
-use Rattle.time_fmt.specs.Metadata.{of_nothing, of_both}
-use Rattle.time_fmt.specs.Outcome.{Outcome, Refusal, done, join}
+use Rattle.time_fmt.specs.Outcome.{join}
 
 -- ---- what is converted stays
 
@@ -93,45 +91,3 @@ mutual
 
 pub equal_outcomes : (s t : Tree) (f : Facts) → unmarked s ≡ unmarked t → tree_outcome s f ≡ tree_outcome t f
 equal_outcomes s t f e = sym (outcome-unmarked s f) ∙ ap (λ u. tree_outcome u f) e ∙ outcome-unmarked t f
-
--- ---- one outcome after another
-
-join_cases : (x y z : List ℕ) (p q : Option Refusal) (c : Outcome) →
-    join (join (record { bytes = x; refusal = p }) (record { bytes = y; refusal = q })) c ≡ join (record { bytes = x; refusal = p }) (join (record { bytes = y; refusal = q }) c)
-join_cases x y z None None c = ap (λ (bytes : List ℕ). record { bytes = bytes; refusal = c.refusal }) (append_assoc x y c.bytes)
-join_cases x y z None (Some r) c = refl
-join_cases x y z (Some r) q c = refl
-
-pub join_assoc : (a b c : Outcome) → join (join a b) c ≡ join a (join b c)
-join_assoc a b c = join_cases a.bytes b.bytes [] a.refusal b.refusal c
-
-nothing_after : (x : List ℕ) (p : Option Refusal) → join (record { bytes = x; refusal = p }) (done []) ≡ record { bytes = x; refusal = p }
-nothing_after x None = ap (λ (bytes : List ℕ). record { bytes = bytes; refusal = None }) (append-nil x)
-nothing_after x (Some r) = refl
-
-pub join-nothing : (a : Outcome) → join a (done []) ≡ a
-join-nothing a = nothing_after a.bytes a.refusal
-
--- ---- what is known of texts
-
-and_assoc : (a b c : Bool) → ((a && b) && c) ≡ (a && (b && c))
-and_assoc true b c = refl
-and_assoc false b c = refl
-
-and_comm : (a b : Bool) → (a && b) ≡ (b && a)
-and_comm true true = refl
-and_comm true false = refl
-and_comm false true = refl
-and_comm false false = refl
-
-same_metadata : (m n : ℕ) (p q : Bool) → m ≡ n → p ≡ q → ◌≡◌ {A = Metadata} (record { max_bytes_needed = m; guaranteed_utf8 = p }) (record { max_bytes_needed = n; guaranteed_utf8 = q })
-same_metadata m n p q e f = rw (e, f) refl
-
-pub of_both_assoc : (a b c : Metadata) → of_both (of_both a b) c ≡ of_both a (of_both b c)
-of_both_assoc a b c = same_metadata _ _ _ _ (omega arith) (and_assoc a.guaranteed_utf8 b.guaranteed_utf8 c.guaranteed_utf8)
-
-pub of_both_comm : (a b : Metadata) → of_both a b ≡ of_both b a
-of_both_comm a b = same_metadata _ _ _ _ (omega arith) (and_comm a.guaranteed_utf8 b.guaranteed_utf8)
-
-pub of_both-nothing : (a : Metadata) → a.max_bytes_needed ≤ 18446744073709551615 → of_both of_nothing a ≡ a
-of_both-nothing a h = same_metadata _ _ _ _ (omega arith) refl

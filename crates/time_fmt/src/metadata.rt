@@ -53,7 +53,11 @@ impl Sum<Metadata> for Metadata {
     ghost sum_gives = { λ all sum. sum ≡ fold of_both of_nothing all };
 
     fn sum<I: Iterator<Item = Metadata>>(iter: I) -> Metadata {
-        iter.fold(Metadata::default(), |sum, metadata| sum + metadata)
+        let mut sum = Metadata::default();
+        for metadata in iter {
+            sum = sum + metadata;
+        }
+        sum
     }
 }
 

@@ -1,6 +1,6 @@
 //! The current component in the place of each deprecated one.
 ghost use Rattle.std.specs.Prelude.{◌≡◌, IsTrue};
-ghost use Rattle.time_below.specs.Conversion.{current_month, current_weekday, current_week_number, current_hour, current_unix_timestamp, current_year, is_current};
+ghost use Rattle.time_below.specs.Conversion.{current_component, is_current};
 
 #[cfg(test)]
 mod tests;
@@ -12,7 +12,7 @@ use crate::format_description::{Component, modifier};
 
 /// By the number or the name, as is chosen.
 pub(crate) fn current_month(modifier: modifier::Month) -> Component
-    ensures converted { result ≡ current_month modifier.repr modifier }
+    ensures converted { result ≡ current_component (Component.Month modifier) }
     ensures current { IsTrue (is_current result) }
 {
     match modifier.repr {
@@ -30,7 +30,7 @@ pub(crate) fn current_month(modifier: modifier::Month) -> Component
 
 /// By the name or a digit, as is chosen.
 pub(crate) fn current_weekday(modifier: modifier::Weekday) -> Component
-    ensures converted { result ≡ current_weekday modifier.repr modifier }
+    ensures converted { result ≡ current_component (Component.Weekday modifier) }
     ensures current { IsTrue (is_current result) }
 {
     match modifier.repr {
@@ -51,7 +51,7 @@ pub(crate) fn current_weekday(modifier: modifier::Weekday) -> Component
 
 /// By the weeks that are chosen.
 pub(crate) fn current_week_number(modifier: modifier::WeekNumber) -> Component
-    ensures converted { result ≡ current_week_number modifier.repr modifier }
+    ensures converted { result ≡ current_component (Component.WeekNumber modifier) }
     ensures current { IsTrue (is_current result) }
 {
     match modifier.repr {
@@ -69,7 +69,7 @@ pub(crate) fn current_week_number(modifier: modifier::WeekNumber) -> Component
 
 /// Of the clock that is chosen.
 pub(crate) fn current_hour(modifier: modifier::Hour) -> Component
-    ensures converted { result ≡ current_hour modifier.is_12_hour_clock modifier }
+    ensures converted { result ≡ current_component (Component.Hour modifier) }
     ensures current { IsTrue (is_current result) }
 {
     match modifier.is_12_hour_clock {
@@ -84,7 +84,7 @@ pub(crate) fn current_hour(modifier: modifier::Hour) -> Component
 
 /// In the unit that is chosen.
 pub(crate) fn current_unix_timestamp(modifier: modifier::UnixTimestamp) -> Component
-    ensures converted { result ≡ current_unix_timestamp modifier.precision modifier }
+    ensures converted { result ≡ current_component (Component.UnixTimestamp modifier) }
     ensures current { IsTrue (is_current result) }
 {
     match modifier.precision {
@@ -103,7 +103,7 @@ pub(crate) fn current_unix_timestamp(modifier: modifier::UnixTimestamp) -> Compo
 
 /// Of the calendar, the part and the range that are chosen.
 pub(crate) fn current_year(modifier: modifier::Year) -> Component
-    ensures converted { result ≡ current_year modifier.iso_week_based modifier.repr modifier.range modifier }
+    ensures converted { result ≡ current_component (Component.Year modifier) }
     ensures current { IsTrue (is_current result) }
 {
     match (modifier.iso_week_based, modifier.repr, modifier.range) {

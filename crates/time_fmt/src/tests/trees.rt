@@ -1,8 +1,8 @@
 //! Descriptions of each kind, deprecated components, and texts.
 use super::{assert_component, assert_text, time};
 use crate::{
-    BorrowedItems, ComputeMetadata, Format, Formattable, Metadata, OwnedItems, component_write_into,
-    v3_write_into,
+    BorrowedItems, ComputeMetadata, Format, Formattable, Metadata, OwnedItems,
+    component_write_into, v3_write_into,
 };
 use std::process::Abort;
 use std::test::Fail;
@@ -44,15 +44,43 @@ fn borrowed_and_owned_lists_write_the_same(rt: HostRuntime) -> Result<(), Fail> 
         BorrowedFormatItem::StringLiteral("/"),
         BorrowedFormatItem::Component(MONTH),
     ];
-    assert_text(&rt, rt.alloc(), &BorrowedItems(&borrowed), &value, "12/11", 5);
-    assert_text(&rt, rt.alloc(), &BorrowedFormatItem::Compound(&borrowed), &value, "12/11", 5);
+    assert_text(
+        &rt,
+        rt.alloc(),
+        &BorrowedItems(&borrowed),
+        &value,
+        "12/11",
+        5,
+    );
+    assert_text(
+        &rt,
+        rt.alloc(),
+        &BorrowedFormatItem::Compound(&borrowed),
+        &value,
+        "12/11",
+        5,
+    );
     let owned = vec![in rt.alloc();
         OwnedFormatItem::Component(DAY),
         OwnedFormatItem::StringLiteral(String::from_str(rt.alloc(), "/")?),
-        OwnedFormatItem::Component(MONTH)
+        OwnedFormatItem::Component(MONTH),
     ]?;
-    assert_text(&rt, rt.alloc(), &OwnedItems(owned.as_slice()), &value, "12/11", 5);
-    assert_text(&rt, rt.alloc(), &OwnedFormatItem::Compound(owned), &value, "12/11", 5);
+    assert_text(
+        &rt,
+        rt.alloc(),
+        &OwnedItems(owned.as_slice()),
+        &value,
+        "12/11",
+        5,
+    );
+    assert_text(
+        &rt,
+        rt.alloc(),
+        &OwnedFormatItem::Compound(owned),
+        &value,
+        "12/11",
+        5,
+    );
     Ok(())
 }
 
@@ -71,7 +99,7 @@ fn descriptions_of_the_third_version(rt: HostRuntime) -> Result<(), Fail> {
     let owned = vec![in rt.alloc();
         FormatDescriptionV3Inner::from(DAY),
         FormatDescriptionV3Inner::OwnedLiteral(String::from_str(rt.alloc(), "/")?),
-        FormatDescriptionV3Inner::from(MONTH)
+        FormatDescriptionV3Inner::from(MONTH),
     ]?;
     let owned = FormatDescriptionV3::new(FormatDescriptionV3Inner::OwnedCompound(owned));
     assert_text(&rt, rt.alloc(), &owned, &value, "12/11", 5);
@@ -84,14 +112,28 @@ fn optional_items_of_the_third_version(rt: HostRuntime) -> Result<(), Fail> {
     let day = FormatDescriptionV3Inner::from(DAY);
     for (format, text, width) in [(false, "", 0), (true, "12", 2)] {
         let item = FormatDescriptionV3Inner::BorrowedOptional { format, item: &day };
-        assert_text(&rt, rt.alloc(), &FormatDescriptionV3::new(item), &value, text, width);
+        assert_text(
+            &rt,
+            rt.alloc(),
+            &FormatDescriptionV3::new(item),
+            &value,
+            text,
+            width,
+        );
     }
     for (format, text, width) in [(false, "", 0), (true, "November", 9)] {
         let item = FormatDescriptionV3Inner::OwnedOptional {
             format,
             item: Box::new(rt.alloc(), FormatDescriptionV3Inner::MonthLong(MONTH_NAME))?,
         };
-        assert_text(&rt, rt.alloc(), &FormatDescriptionV3::new(item), &value, text, width);
+        assert_text(
+            &rt,
+            rt.alloc(),
+            &FormatDescriptionV3::new(item),
+            &value,
+            text,
+            width,
+        );
     }
     Ok(())
 }

@@ -1,7 +1,8 @@
-use Rattle.std.proofs.Common.{◌≡◌, sym, ◌∙◌, ap, drop, map, ◌+◌}
+use Rattle.std.proofs.Common.{arith, ◌≡◌, sym, ◌∙◌, ap, drop, map, ◌+◌}
 use Rattle.std.proofs.lemmas.List.{at_drop_more}
 use Rattle.time_below.specs.Tree.{v3_tree, trees}
-use Rattle.time_below.specs.Width.{trees_width}
+use Rattle.time_below.specs.Width.{tree_width, trees_width}
+use Rattle.time_below.proofs.TreeLemmas.{v3_tree_component}
 use Rattle.time_fmt.specs.Description.{tree_outcome, trees_outcome}
 use Rattle.time_fmt.specs.Outcome.{join}
 use Rattle.time_fmt.proofs.V3Trees.{outcome_of_first}
@@ -22,3 +23,20 @@ write_items-returns-in-Err-clause-appends g t c =
     at_drop_more (λ xs. trees_outcome (trees (map v3_tree xs)) f) c.args.items.now at item c.loop-item-test.true
     ∙ ap (λ x. join (tree_outcome (v3_tree x) f) others) (sym c.item-item.is) in
     refused_along _ _ _ _ _ _ (tree_outcome (v3_tree item) f) others c.loop-item.invariant next c.in-Err.ensures.appends
+
+pub v3_write_into-component_write_into-requires : goal.v3_write_into-component_write_into-requires
+v3_write_into-component_write_into-requires g t c =
+    let whole = v3_tree_component c.args.item.now c.in-Some.component (sym c.in-Some.ensures) in
+    record {
+      room = omega (arith, c.requires.room, ap tree_width whole);
+      agrees = c.requires.agrees;
+    }
+
+pub v3_write_into-returns-in-Some : goal.v3_write_into-returns-in-Some
+v3_write_into-returns-in-Some g t c =
+    let whole = v3_tree_component c.args.item.now c.in-Some.component (sym c.in-Some.ensures) in
+    record {
+      appends = rw whole c.component_write_into.ensures.appends;
+      within = omega (arith, c.component_write_into.ensures.within, ap tree_width whole);
+      agrees = c.component_write_into.ensures.agrees;
+    }
