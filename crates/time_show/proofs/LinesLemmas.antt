@@ -1,5 +1,5 @@
 -- More bytes of a text, and its lines.
-use Rattle.std.proofs.Common.{ℕ, suc, ◌+◌, ◌<◌, ◌≤◌, ◌==◌, ◌≡◌, ◌≢◌, ◌++◌, List, [], ◌∷◌, length, take, drop, get_or, Option, Some, None, true, false, inl, inr, refl, ap, sym, ◌∙◌, add-one, append-nil, append_assoc, arith, rules}
+use Rattle.std.proofs.Common.{ℕ, suc, ◌+◌, ◌<◌, ◌≤◌, ◌==◌, ◌≡◌, ◌≢◌, ◌++◌, List, [], ◌∷◌, length, take, drop, get_or, Option, Some, None, true, inl, inr, refl, ap, sym, ◌∙◌, add-one, append-nil, append_assoc, arith}
 use Rattle.std.proofs.Math.Seq.{drop-cons}
 use Rattle.std.proofs.lemmas.List.{take_all, take-append-drop}
 use Rattle.std.proofs.lemmas.List.Quantifiers.{position-Some}

@@ -1,17 +1,16 @@
 -- The answer of the formatter, and the answer to a line.
-use Rattle.std.proofs.Common.{ℕ, ℤ, pos, negsuc, ◌≡◌, ◌≢◌, ◌⊎◌, ◌++◌, ◌+◌, ◌-◌, ◌<◌, ◌≤◌, ◌^◌, min, List, [], ◌∷◌, length, vec_len, Vec, Option, Some, None, Result, Ok, Err, inl, inr, refl, ap, sym, ◌∙◌, lit<, arith, rules, w32, to_z, of_z, FitsSigned}
+use Rattle.std.proofs.Common.{ℕ, ℤ, pos, negsuc, ◌≡◌, ◌≢◌, ◌+◌, ◌-◌, ◌<◌, ◌≤◌, ◌^◌, min, List, [], length, vec_len, Vec, Option, Some, None, Result, Ok, Err, inl, inr, refl, ap, ◌∙◌, lit<, arith, w32, to_z, of_z, FitsSigned}
 use Rattle.std.proofs.lemmas.Int.{to_z-of_z}
 use Rattle.std.proofs.lemmas.Bool.{cases_lt}
-use Rattle.std.proofs.lemmas.Grind.{common_steps}
 use Rattle.std.specs.Global.{Global}
 use Rattle.std.specs.Prelude.{codes, nat_lt, IsSomeAnd, if◌then◌else◌}
-use Rattle.time_below.specs.ComponentRange.{RangeRefusal, range_refusal}
+use Rattle.time_below.specs.ComponentRange.{RangeRefusal}
 use Rattle.time_below.specs.TimeOfDay.{TimeOfDay, IsTimeOfDay}
 use Rattle.time_fmt.specs.Outcome.{Outcome, Refusal, insufficient, invalid_component, out_of_range, Names, Appends}
 use Rattle.time_fmt.specs.declared.error.Format.{Format}
 use Rattle.time_fmt.specs.declared.error.Format.TheVariants as error
 use Rattle.time_show.specs.Answer.{Answers, ok_text, refused_text, refusal_name, outcome_text}
-use Rattle.time_show.specs.Asked.{Asked, no_value, formatted, formatted_time, in_range, asked_time}
+use Rattle.time_show.specs.Asked.{no_value, formatted, formatted_time, in_range, asked_time}
 use Rattle.time_show.specs.Component.{number_in_byte, number_in_word}
 use Rattle.time_show.specs.Reply.{error_name}
 

@@ -1,6 +1,5 @@
 -- What a line is answered by.
-use Rattle.std.specs.Prelude.{ℕ, ◌≡◌, ◌≢◌, ◌^◌, ◌-◌, ◌⊎◌, Option, Some, None, List, [], ◌∷◌, ◌++◌, length, min, codes, decimal}
-use Rattle.time_below.specs.ComponentRange.{RangeRefusal}
+use Rattle.std.specs.Prelude.{ℕ, ◌≡◌, ◌≢◌, ◌^◌, ◌-◌, ◌⊎◌, Some, None, List, [], ◌∷◌, ◌++◌, length, min, codes, decimal}
 use Rattle.time_fmt.specs.Outcome.{Outcome, Refusal, insufficient, invalid_component, out_of_range}
 use Rattle.time_show.specs.Asked.{Asked, no_command, no_value, formatted, asked_of}
 

@@ -1,5 +1,5 @@
 -- A run that has not come to the end of its input.
-use Rattle.std.specs.Prelude.{ℕ, ◌≡◌, ◌++◌, List, [], Option}
+use Rattle.std.specs.Prelude.{ℕ, ◌≡◌, ◌++◌, List, Option}
 use Rattle.std.specs.Io.KnownBytes.{Appends}
 use Rattle.time_show.specs.Lines.{last_line_of, lines_of, whole_lines_of, unended_of}
 use Rattle.time_show.specs.Kept.{kept_of}

@@ -4,7 +4,7 @@ ghost use Rattle.time_show.specs.Kept.{kept_with};
 
 use std::marker::Model;
 
-/// The greatest length of a line, in bytes and without its end: a longer one is answered by `bad line`.
+/// The greatest length of a line, in bytes and without its end. A longer one is a bad line.
 pub const LINE_LIMIT: usize = 128;
 
 /// The bytes of a line so far, or the fact that they are too many. It asks for no memory.

@@ -1,4 +1,8 @@
-//! Answers the lines of standard input: each asks for a value in a format, and is answered by one line.
+//! Answers the lines of standard input, each by one line.
+//!
+//! A line asks for a value in a format by a command, as `time 9 55 6 120000000`. The answer is
+//! `ok COUNT WIDTH TEXT`, with the number of bytes of the text and the most that it could have,
+//! `refused WRITTEN NAME`, or `bad line`.
 #![tactic(auto)]
 
 mod bytes;

@@ -130,12 +130,12 @@ impl OutputBuffer {
         Ok(())
     }
 
-    /// Accepts the parts, one after another. Where they do not fit beside what waits, that goes out first,
-    /// so that they go out by one write if the buffer holds them and the writer takes them whole.
+    /// Accepts the parts, one after another. Where they do not fit beside what waits, that goes out
+    /// first: so they go out by one write if the buffer holds them and the writer takes them whole.
     fn append_all<W: Write>(&mut self, output: &mut W, parts: &[&[u8]]) -> Result<(), WriteFailed>
         ensures ok { OnOk result
-            (Accepts
-            (W.contents output.old) (W.contents output.new) self.old self.new (joined parts.now)) }
+            (Accepts (W.contents output.old) (W.contents output.new) self.old self.new
+            (joined parts.now)) }
         ensures err { OnErr result
             (CutsOff (W.contents output.old) (W.contents output.new) self.old (joined parts.now)) }
     {
@@ -146,8 +146,8 @@ impl OutputBuffer {
     /// Accepts the parts, one after another.
     fn append_each<W: Write>(&mut self, output: &mut W, parts: &[&[u8]]) -> Result<(), WriteFailed>
         ensures ok { OnOk result
-            (Accepts
-            (W.contents output.old) (W.contents output.new) self.old self.new (joined parts.now)) }
+            (Accepts (W.contents output.old) (W.contents output.new) self.old self.new
+            (joined parts.now)) }
         ensures err { OnErr result
             (CutsOff (W.contents output.old) (W.contents output.new) self.old (joined parts.now)) }
     {
@@ -164,11 +164,11 @@ impl OutputBuffer {
         reply: &Reply,
     ) -> Result<(), WriteFailed>
         ensures ok { OnOk result
-            (Accepts
-            (W.contents output.old) (W.contents output.new) self.old self.new (reply_text reply.now)) }
+            (Accepts (W.contents output.old) (W.contents output.new) self.old self.new
+            (reply_text reply.now)) }
         ensures err { OnErr result
-            (CutsOff
-            (W.contents output.old) (W.contents output.new) self.old (reply_text reply.now)) }
+            (CutsOff (W.contents output.old) (W.contents output.new) self.old
+            (reply_text reply.now)) }
     {
         match reply {
             Reply::Formatted { count, width, text } => {

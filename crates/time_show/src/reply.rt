@@ -1,5 +1,4 @@
-//! What a line is answered by. A new command adds its part here, and no other module changes but the one
-//! that reads commands.
+//! What a line is answered by. A new command adds its part here and to the module of commands.
 ghost use Rattle.std.specs.Prelude.{◌≡◌, ◌≤◌, length, map};
 ghost use Rattle.time_show.specs.Answer.{IsAnswer, Answers};
 ghost use Rattle.time_show.specs.Asked.{asked_time, formatted, formatted_time, time_tree};
@@ -19,7 +18,8 @@ use time_fmt::{ComponentProvider, Format, Formattable, Time};
 /// The answer to a line.
 #[derive(Drop)]
 pub enum Reply {
-    /// A value's text, with the number of its bytes as the formatter counted them and the description's width.
+    /// A value's text, the number of its bytes as the formatter counted them, and the description's
+    /// width.
     Formatted {
         count: usize,
         width: usize,
@@ -70,7 +70,7 @@ where
     }
 }
 
-/// The description of a time: hour, minute and second in two digits each, and the decimals of the second.
+/// The description of a time: hour, minute and second in two digits each, then the decimals.
 fn time_items() -> [BorrowedFormatItem<'static>; 7]
     ensures { all_of (trees (map borrowed_tree result)) ≡ time_tree }
 {
@@ -109,14 +109,14 @@ fn formatted_time(alloc: Global, time: Time) -> Reply
     )
 }
 
-/// The number, or for one that a byte does not hold 255, which is outside the range of every component.
+/// The number, or 255 for one that a byte does not hold: no component's range has it.
 fn number_in_byte(number: i32) -> u8
     ensures { result ≡ number_in_byte number }
 {
     u8::try_from(number).unwrap_or(u8::MAX)
 }
 
-/// The number, or for a negative one the greatest `u32`, which is outside the range of every component.
+/// The number, or the greatest `u32` for a negative one: no component's range has it.
 fn number_in_word(number: i32) -> u32
     ensures { result ≡ number_in_word number }
 {

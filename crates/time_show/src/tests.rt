@@ -39,7 +39,7 @@ impl Read for Source<'_> {
     }
 }
 
-/// Takes at most `step` bytes at a call, and fails once `calls` have been made, or takes no byte then.
+/// Takes at most `step` bytes at a call. Once `calls` have been made it fails, or takes no byte.
 #[derive(Drop)]
 struct Sink {
     bytes: Vec<u8>,
@@ -184,8 +184,7 @@ fn answers_many_lines(rt: HostRuntime) -> Result<(), Fail> {
     Ok(())
 }
 
-/// The greatest number of writes that a run of so many reads needs: each answer goes out by one write,
-/// and the answers to one block go out together.
+/// The answers to one block go out by one write, and before the next read.
 #[test]
 fn writes_before_each_read(rt: HostRuntime) -> Result<(), Fail> {
     let mut source = Source {

@@ -1,6 +1,5 @@
-use Rattle.std.proofs.Common.{◌≡◌, ◌<◌, length, take, arith}
+use Rattle.std.proofs.Common.{◌≡◌, take, arith}
 use Rattle.std.proofs.lemmas.List.{take_all}
-use Rattle.std.specs.Str.Parse.{digits_value}
 use Rattle.time_show.proofs.FieldsLemmas.{NextDigit, next_digit, value-small}
 use Rattle.time_show.proofs.fields.digits_value.Goals as goal
 

@@ -1,5 +1,4 @@
-use Rattle.std.proofs.Common.{ℕ, Bor, List, [], ◌≡◌, ◌+◌, length, take, get_or, min, arith}
-use Rattle.time_show.specs.Written.{joined}
+use Rattle.std.proofs.Common.{ℕ, Bor, List, [], arith}
 use Rattle.time_show.proofs.PartsLemmas.{length-joined-more}
 use Rattle.time_show.proofs.output.joined_len.Goals as goal
 

@@ -1,4 +1,3 @@
-use Rattle.std.proofs.Common.{ℕ, List, [], ◌≡◌}
 use Rattle.time_show.proofs.ReplyLemmas.{error-answers, text-answers}
 use Rattle.time_show.proofs.reply.formatted_reply.Goals as goal
 

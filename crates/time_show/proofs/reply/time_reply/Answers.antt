@@ -1,4 +1,4 @@
-use Rattle.std.proofs.Common.{ℕ, ◌≡◌, refl, ap, ◌∙◌}
+use Rattle.std.proofs.Common.{refl, ap, ◌∙◌}
 use Rattle.time_below.specs.ComponentRange.{RangeRefusal}
 use Rattle.time_show.specs.Answer.{refused_text}
 use Rattle.time_show.specs.Component.{number_in_byte, number_in_word}

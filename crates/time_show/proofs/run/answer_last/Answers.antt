@@ -1,4 +1,4 @@
-use Rattle.std.proofs.Common.{[], Some, ◌≡◌, ◌≢◌, rules}
+use Rattle.std.proofs.Common.{[], Some, ◌≢◌, rules}
 use Rattle.std.proofs.lemmas.Result.{err_from_is_err_and}
 use Rattle.time_show.proofs.ProgressLemmas.{EndsWell-answered, EndsWrong-cut, EndsWrong-flushed}
 use Rattle.time_show.proofs.run.answer_last.Goals as goal

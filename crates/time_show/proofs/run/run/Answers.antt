@@ -1,4 +1,4 @@
-use Rattle.std.proofs.Common.{[], take, ◌≡◌}
+use Rattle.std.proofs.Common.{take}
 use Rattle.std.proofs.lemmas.Result.{err_from_is_err_and}
 use Rattle.time_show.proofs.ProgressLemmas.{Ran-wrong, Ran-ended, Ran-half_ended}
 use Rattle.time_show.proofs.run.run.Goals as goal

@@ -1,6 +1,5 @@
-use Rattle.std.proofs.Common.{ℕ, List, [], ◌∷◌, ◌≡◌, ◌==◌, ◌+◌, ◌-◌, ◌<◌, length, take, drop, Some, None, ap, arith}
+use Rattle.std.proofs.Common.{ℕ, List, ◌≡◌, ◌==◌, ◌+◌, ◌-◌, length, take, drop, Some, None, ap, arith}
 use Rattle.std.proofs.lemmas.Grind.{common_steps, pieces}
-use Rattle.std.specs.List.{slice_split}
 use Rattle.time_show.proofs.FieldsLemmas.{parts-found}
 use Rattle.time_show.specs.Fields.{fields_of, fields_left}
 use Rattle.time_show.proofs.fields.Fields.next.Goals as goal

@@ -1,6 +1,6 @@
-use Rattle.std.proofs.Common.{ℕ, List, [], ◌++◌, ◌≡◌, ◌<◌, ◌+◌, length, arith, append-nil}
+use Rattle.std.proofs.Common.{[], ◌≡◌, arith}
 use Rattle.std.proofs.lemmas.Result.{err_from_is_err_and}
-use Rattle.time_show.specs.Written.{Accepts, CutsOff}
+use Rattle.time_show.specs.Written.{Accepts}
 use Rattle.time_show.proofs.WrittenLemmas.{Accepts-then, Accepts-written, CutsOff-more, CutsOff-after, CutsOff-written}
 use Rattle.time_show.proofs.output.OutputBuffer.append.Goals as goal
 
