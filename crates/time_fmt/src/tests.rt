@@ -18,8 +18,8 @@ fn time(rt: &impl Abort, hour: u8, minute: u8, second: u8, nanosecond: u32) -> T
     time
 }
 
-/// Formats the value with a fresh state into an empty vector, and compares the text, the count and
-/// the width.
+/// Formats the value with a fresh state into an empty vector, and as a text, and compares the texts,
+/// the count and the width.
 fn assert_text<D: Formattable, V: ComponentProvider>(
     rt: &impl Abort,
     alloc: Global,
@@ -39,6 +39,10 @@ where
     assert_eq!(rt; output.as_slice(), text.as_bytes());
     assert_eq!(rt; count, text.len());
     assert_eq!(rt; item.compute_metadata().max_bytes_needed, width);
+    let Ok(formatted) = item.format(alloc, value, &mut state) else {
+        panic!(rt; "no text: {text}");
+    };
+    assert_eq!(rt; formatted.as_str(), text);
 }
 
 /// The same of one component.

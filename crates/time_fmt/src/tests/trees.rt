@@ -247,6 +247,22 @@ fn texts_are_read_lossily_as_a_whole(rt: HostRuntime) -> Result<(), Fail> {
 }
 
 #[test]
+fn engines_write_where_there_is_room(rt: HostRuntime) -> Result<(), Fail> {
+    let value = time(&rt, 9, 55, 6, 0);
+    let mut output = Vec::with_capacity(rt.alloc(), 16)?;
+    let hour = Component::Hour24(modifier::Hour24 {
+        padding: Padding::Zero,
+    });
+    let first = component_write_into(&hour, &mut output, &value, &mut ());
+    assert!(rt; matches!(&first, Ok(2)));
+    let colon = FormatDescriptionV3Inner::BorrowedLiteral(":");
+    let second = v3_write_into(&colon, &mut output, &value, &mut ());
+    assert!(rt; matches!(&second, Ok(1)));
+    assert_eq!(rt; output.as_slice(), b"09:".as_slice());
+    Ok(())
+}
+
+#[test]
 fn sums_of_metadata(rt: HostRuntime) {
     let sum: Metadata = [3, 0, 4]
         .iter()
