@@ -1,19 +1,32 @@
 //! Reservations that are refused, and memory that is there.
 use super::time;
 use crate::{ComputeMetadata, Format, Formattable, Metadata};
+use std::alloc::{AllocError, Global};
 use std::test::Fail;
 use time_below::format_description::{BorrowedFormatItem, Component, modifier};
+
+// So many items alike. They are leaked, since what is lent to a tree lives as long as its parts.
+fn sixty_four(
+    alloc: Global,
+    item: BorrowedFormatItem<'static>,
+) -> Result<BorrowedFormatItem<'static>, AllocError> {
+    let mut items = Vec::new(alloc);
+    for _ in 0..64 {
+        items.push(item)?;
+    }
+    Ok(BorrowedFormatItem::Compound(items.leak()))
+}
 
 /// A tree of 2^46 bytes, of which no machine here has that many: four levels of 64 items over one
 /// literal of 4 MiB.
 #[test]
 fn a_reservation_that_is_refused_changes_nothing(rt: HostRuntime) -> Result<(), Fail> {
     let bytes = vec![in rt.alloc(); b'x'; 4_194_304]?;
-    let literals = [BorrowedFormatItem::Literal(bytes.as_slice()); 64];
-    let second = [BorrowedFormatItem::Compound(&literals); 64];
-    let third = [BorrowedFormatItem::Compound(&second); 64];
-    let fourth = [BorrowedFormatItem::Compound(&third); 64];
-    let tree = BorrowedFormatItem::Compound(&fourth);
+    let literal = BorrowedFormatItem::Literal(bytes.leak());
+    let second = sixty_four(rt.alloc(), literal)?;
+    let third = sixty_four(rt.alloc(), second)?;
+    let fourth = sixty_four(rt.alloc(), third)?;
+    let tree = sixty_four(rt.alloc(), fourth)?;
     assert_eq!(rt;
         tree.compute_metadata().max_bytes_needed,
         70_368_744_177_664

@@ -104,7 +104,7 @@ fn paddings_of_two_places(rt: HostRuntime) {
 }
 
 #[test]
-fn trees_of_each_kind(rt: HostRuntime) {
+fn a_compound_is_its_items_in_order(rt: HostRuntime) {
     let value = time(&rt, 9, 55, 6, 120_000_000);
     let clock = [
         HOUR,
@@ -121,14 +121,39 @@ fn trees_of_each_kind(rt: HostRuntime) {
         "09:55:06",
         8,
     );
+}
+
+#[test]
+fn a_first_is_its_first_item(rt: HostRuntime) {
+    let value = time(&rt, 9, 55, 6, 0);
+    let items = [MINUTE, SECOND];
     assert_text(
         &rt,
         rt.alloc(),
-        &BorrowedFormatItem::First(&[MINUTE, SECOND]),
+        &BorrowedFormatItem::First(&items),
         &value,
         "55",
         2,
     );
+}
+
+#[test]
+fn an_optional_item_is_written(rt: HostRuntime) {
+    let value = time(&rt, 9, 55, 6, 0);
+    let second = SECOND;
+    assert_text(
+        &rt,
+        rt.alloc(),
+        &BorrowedFormatItem::Optional(&second),
+        &value,
+        "06",
+        2,
+    );
+}
+
+#[test]
+fn an_empty_first_writes_nothing(rt: HostRuntime) {
+    let value = time(&rt, 9, 55, 6, 0);
     assert_text(
         &rt,
         rt.alloc(),
@@ -137,6 +162,11 @@ fn trees_of_each_kind(rt: HostRuntime) {
         "",
         0,
     );
+}
+
+#[test]
+fn an_empty_compound_writes_nothing(rt: HostRuntime) {
+    let value = time(&rt, 9, 55, 6, 0);
     assert_text(
         &rt,
         rt.alloc(),
@@ -145,32 +175,19 @@ fn trees_of_each_kind(rt: HostRuntime) {
         "",
         0,
     );
-    assert_text(
-        &rt,
-        rt.alloc(),
-        &BorrowedFormatItem::Optional(&SECOND),
-        &value,
-        "06",
-        2,
-    );
-    assert_component(
-        &rt,
-        rt.alloc(),
+}
+
+#[test]
+fn marks_for_parsers_write_nothing(rt: HostRuntime) {
+    let value = time(&rt, 9, 55, 6, 0);
+    for component in [
         Component::Ignore(modifier::Ignore { count: 3 }),
-        &value,
-        "",
-        0,
-    );
-    assert_component(
-        &rt,
-        rt.alloc(),
         Component::End(modifier::End {
             trailing_input: modifier::TrailingInput::Discard,
         }),
-        &value,
-        "",
-        0,
-    );
+    ] {
+        assert_component(&rt, rt.alloc(), component, &value, "", 0);
+    }
 }
 
 #[test]
