@@ -236,3 +236,202 @@ fn trees_over_a_date(rt: HostRuntime) {
         2,
     );
 }
+
+#[test]
+fn paddings_of_two_and_three_places(rt: HostRuntime) {
+    let value = date(&rt, 2005, Month::February, 3);
+    for (padding, day, month, ordinal, week) in [
+        (Padding::Zero, "03", "02", "034", "05"),
+        (Padding::Space, " 3", " 2", " 34", " 5"),
+        (Padding::None, "3", "2", "34", "5"),
+    ] {
+        for (component, text, width) in [
+            (Component::Day(modifier::Day { padding }), day, 2),
+            (
+                Component::MonthNumerical(modifier::MonthNumerical { padding }),
+                month,
+                2,
+            ),
+            (
+                Component::Ordinal(modifier::Ordinal { padding }),
+                ordinal,
+                3,
+            ),
+            (
+                Component::WeekNumberIso(modifier::WeekNumberIso { padding }),
+                week,
+                2,
+            ),
+            (
+                Component::WeekNumberSunday(modifier::WeekNumberSunday { padding }),
+                week,
+                2,
+            ),
+            (
+                Component::WeekNumberMonday(modifier::WeekNumberMonday { padding }),
+                week,
+                2,
+            ),
+            (
+                Component::CalendarYearLastTwo(modifier::CalendarYearLastTwo { padding }),
+                week,
+                2,
+            ),
+            (
+                Component::IsoYearLastTwo(modifier::IsoYearLastTwo { padding }),
+                week,
+                2,
+            ),
+        ] {
+            assert_component(&rt, rt.alloc(), component, &value, text, width);
+        }
+    }
+}
+
+/// A year, a padding, whether a sign is mandatory, and the texts of the year and of its century.
+const FORMS: [(i32, Padding, bool, &str, &str); 9] = [
+    (505, Padding::Zero, false, "0505", "05"),
+    (505, Padding::Space, false, " 505", " 5"),
+    (505, Padding::None, false, "505", "5"),
+    (505, Padding::Zero, true, "+0505", "+05"),
+    (505, Padding::Space, true, "+ 505", "+ 5"),
+    (505, Padding::None, true, "+505", "+5"),
+    (-505, Padding::Zero, false, "-0505", "-05"),
+    (-505, Padding::Space, true, "- 505", "- 5"),
+    (-505, Padding::None, false, "-505", "-5"),
+];
+
+#[test]
+fn forms_of_calendar_years(rt: HostRuntime) {
+    for (year, padding, sign_is_mandatory, full, century) in FORMS {
+        let value = date(&rt, year, Month::June, 15);
+        for (component, text, width) in [
+            (
+                Component::CalendarYearFullExtendedRange(modifier::CalendarYearFullExtendedRange {
+                    padding,
+                    sign_is_mandatory,
+                }),
+                full,
+                7,
+            ),
+            (
+                Component::CalendarYearFullStandardRange(modifier::CalendarYearFullStandardRange {
+                    padding,
+                    sign_is_mandatory,
+                }),
+                full,
+                5,
+            ),
+            (
+                Component::CalendarYearCenturyExtendedRange(
+                    modifier::CalendarYearCenturyExtendedRange {
+                        padding,
+                        sign_is_mandatory,
+                    },
+                ),
+                century,
+                5,
+            ),
+            (
+                Component::CalendarYearCenturyStandardRange(
+                    modifier::CalendarYearCenturyStandardRange {
+                        padding,
+                        sign_is_mandatory,
+                    },
+                ),
+                century,
+                3,
+            ),
+        ] {
+            assert_component(&rt, rt.alloc(), component, &value, text, width);
+        }
+    }
+}
+
+#[test]
+fn forms_of_years_of_the_week_calendar(rt: HostRuntime) {
+    for (year, padding, sign_is_mandatory, full, century) in FORMS {
+        let value = date(&rt, year, Month::June, 15);
+        for (component, text, width) in [
+            (
+                Component::IsoYearFullExtendedRange(modifier::IsoYearFullExtendedRange {
+                    padding,
+                    sign_is_mandatory,
+                }),
+                full,
+                7,
+            ),
+            (
+                Component::IsoYearFullStandardRange(modifier::IsoYearFullStandardRange {
+                    padding,
+                    sign_is_mandatory,
+                }),
+                full,
+                5,
+            ),
+            (
+                Component::IsoYearCenturyExtendedRange(modifier::IsoYearCenturyExtendedRange {
+                    padding,
+                    sign_is_mandatory,
+                }),
+                century,
+                5,
+            ),
+            (
+                Component::IsoYearCenturyStandardRange(modifier::IsoYearCenturyStandardRange {
+                    padding,
+                    sign_is_mandatory,
+                }),
+                century,
+                3,
+            ),
+        ] {
+            assert_component(&rt, rt.alloc(), component, &value, text, width);
+        }
+    }
+}
+
+#[test]
+fn all_months_and_weekdays_have_their_names(rt: HostRuntime) {
+    // the year 2001 begins on a Monday
+    for (month, name) in [
+        (Month::January, "January"),
+        (Month::February, "February"),
+        (Month::March, "March"),
+        (Month::April, "April"),
+        (Month::May, "May"),
+        (Month::June, "June"),
+        (Month::July, "July"),
+        (Month::August, "August"),
+        (Month::September, "September"),
+        (Month::October, "October"),
+        (Month::November, "November"),
+        (Month::December, "December"),
+    ] {
+        let long = Component::MonthLong(modifier::MonthLong {
+            case_sensitive: true,
+        });
+        assert_component(&rt, rt.alloc(), long, &date(&rt, 2001, month, 1), name, 9);
+    }
+    for (day, name) in [
+        (1, "Monday"),
+        (2, "Tuesday"),
+        (3, "Wednesday"),
+        (4, "Thursday"),
+        (5, "Friday"),
+        (6, "Saturday"),
+        (7, "Sunday"),
+    ] {
+        let long = Component::WeekdayLong(modifier::WeekdayLong {
+            case_sensitive: true,
+        });
+        assert_component(
+            &rt,
+            rt.alloc(),
+            long,
+            &date(&rt, 2001, Month::January, day),
+            name,
+            9,
+        );
+    }
+}
