@@ -1,7 +1,7 @@
 //! Trees of descriptions of the third version.
-ghost use Rattle.std.specs.Prelude.{◌+◌, ◌≤◌, true, map, vec_len};
+ghost use Rattle.std.specs.Prelude.{◌+◌, ◌≤◌, map, vec_len};
 ghost use Rattle.time_below.specs.Tree.{v3_tree, trees, first_of};
-ghost use Rattle.time_below.specs.Width.{tree_width, trees_width};
+ghost use Rattle.time_below.specs.Width.{tree_width, trees_width, is_guaranteed_text};
 ghost use Rattle.time_fmt.specs.Description.{tree_outcome, trees_outcome};
 ghost use Rattle.time_fmt.specs.Outcome.{Appends};
 ghost use Rattle.time_fmt.specs.Room.{HasRoom};
@@ -17,9 +17,10 @@ use time_provide::ComponentProvider;
 impl ComputeMetadata for FormatDescriptionV3<'_> {
     ghost width_of = { λ description. tree_width (v3_tree description) };
 
-    // A description of the third version has no byte literals.
-    ghost is_guaranteed = { λ _. true };
+    ghost is_guaranteed = { λ description. is_guaranteed_text (v3_tree description) };
 
+    // A description of the third version has no byte literals.
+    #[tactic(auto, using(crate::proofs::V3Trees::v3_is_text))]
     fn compute_metadata(&self) -> Metadata {
         Metadata {
             max_bytes_needed: self.max_bytes_needed(),

@@ -208,9 +208,14 @@ fn bytes_before_a_refusal_stay(rt: HostRuntime) {
     let mut output = Vec::new(rt.alloc());
     let pushed = output.push(b'x');
     assert!(rt; pushed.is_ok());
-    let refused = item.format_into(&mut output, &value, &mut DateState::default());
+    let mut state = DateState::default();
+    let refused = item.format_into(&mut output, &value, &mut state);
     assert!(rt; matches!(&refused, Err(Format::InsufficientTypeInformation)));
     assert_eq!(rt; output.as_slice(), b"xon 12 at ".as_slice());
+    // the state and the output serve the next call
+    let written = DAY.format_into(&mut output, &value, &mut state);
+    assert!(rt; matches!(&written, Ok(2)));
+    assert_eq!(rt; output.as_slice(), b"xon 12 at 12".as_slice());
 }
 
 #[test]

@@ -1,50 +1,100 @@
 //! Reservations that are refused, and memory that is there.
 use super::time;
-use crate::{ComputeMetadata, Format, Formattable, Metadata};
+use crate::{BorrowedItems, ComputeMetadata, Format, Formattable, Metadata};
 use std::alloc::{AllocError, Global};
+use std::process::Abort;
 use std::test::Fail;
-use time_below::format_description::{BorrowedFormatItem, Component, modifier};
+use time_below::format_description::{
+    BorrowedFormatItem, Component, FormatDescriptionV3, FormatDescriptionV3Inner, modifier,
+};
 
-// So many items alike. They are leaked, since what is lent to a tree lives as long as its parts.
-fn sixty_four(
-    alloc: Global,
-    item: BorrowedFormatItem<'static>,
-) -> Result<BorrowedFormatItem<'static>, AllocError> {
+type Lent = &'static [BorrowedFormatItem<'static>];
+
+type LentV3 = &'static [FormatDescriptionV3Inner<'static>];
+
+// Four levels of 64 items over one literal of 4 MiB have 2^46 bytes, of which no machine here has
+// that many. All are leaked, since what is lent to a tree lives as long as its parts.
+const LITERAL: usize = 4_194_304;
+
+const WIDTH: usize = 70_368_744_177_664;
+
+fn sixty_four(alloc: Global, item: BorrowedFormatItem<'static>) -> Result<Lent, AllocError> {
     let mut items = Vec::new(alloc);
     for _ in 0..64 {
         items.push(item)?;
     }
-    Ok(BorrowedFormatItem::Compound(items.leak()))
+    Ok(items.leak())
 }
 
-/// A tree of 2^46 bytes, of which no machine here has that many: four levels of 64 items over one
-/// literal of 4 MiB.
-#[test]
-fn a_reservation_that_is_refused_changes_nothing(rt: HostRuntime) -> Result<(), Fail> {
-    let bytes = vec![in rt.alloc(); b'x'; 4_194_304]?;
-    let literal = BorrowedFormatItem::Literal(bytes.leak());
-    let second = sixty_four(rt.alloc(), literal)?;
-    let third = sixty_four(rt.alloc(), second)?;
-    let fourth = sixty_four(rt.alloc(), third)?;
-    let tree = sixty_four(rt.alloc(), fourth)?;
-    assert_eq!(rt;
-        tree.compute_metadata().max_bytes_needed,
-        70_368_744_177_664
-    );
-    let value = time(&rt, 9, 55, 6, 0);
-    let mut output = Vec::new(rt.alloc());
+fn too_wide(alloc: Global) -> Result<Lent, AllocError> {
+    let bytes = vec![in alloc; b'x'; LITERAL]?;
+    let mut items = sixty_four(alloc, BorrowedFormatItem::Literal(bytes.leak()))?;
+    for _ in 0..3 {
+        items = sixty_four(alloc, BorrowedFormatItem::Compound(items))?;
+    }
+    Ok(items)
+}
+
+fn sixty_four_v3(alloc: Global, lent: LentV3) -> Result<LentV3, AllocError> {
+    let mut items = Vec::new(alloc);
+    for _ in 0..64 {
+        items.push(FormatDescriptionV3Inner::BorrowedCompound(lent))?;
+    }
+    Ok(items.leak())
+}
+
+fn too_wide_v3(alloc: Global) -> Result<LentV3, AllocError> {
+    let mut text = String::new(alloc);
+    for _ in 0..LITERAL {
+        text.push('x')?;
+    }
+    let literal = FormatDescriptionV3Inner::OwnedLiteral(text);
+    let first: LentV3 = vec![in alloc; literal]?.leak();
+    let second = sixty_four_v3(alloc, first)?;
+    let third = sixty_four_v3(alloc, second)?;
+    let fourth = sixty_four_v3(alloc, third)?;
+    sixty_four_v3(alloc, fourth)
+}
+
+/// The want of memory changes nothing, and the next call writes what it is asked for.
+fn assert_refused<D: Formattable>(
+    rt: &impl Abort,
+    alloc: Global,
+    item: &D,
+) -> Result<(), AllocError> {
+    assert_eq!(rt; item.compute_metadata().max_bytes_needed, WIDTH);
+    let value = time(rt, 9, 55, 6, 0);
+    let mut output = Vec::new(alloc);
     output.extend_from_slice(b"before")?;
     let capacity = output.capacity();
-    let refused = tree.format_into(&mut output, &value, &mut ());
+    let refused = item.format_into(&mut output, &value, &mut ());
     assert!(rt; matches!(&refused, Err(Format::OutOfMemory)));
     assert_eq!(rt; output.as_slice(), b"before".as_slice());
     assert_eq!(rt; output.capacity(), capacity);
+    let text = item.format(alloc, &value, &mut ());
+    assert!(rt; matches!(&text, Err(Format::OutOfMemory)));
     let hour = BorrowedFormatItem::Component(Component::Hour12(modifier::Hour12 {
         padding: modifier::Padding::Space,
     }));
     let written = hour.format_into(&mut output, &value, &mut ());
     assert!(rt; matches!(&written, Ok(2)));
     assert_eq!(rt; output.as_slice(), b"before 9".as_slice());
+    Ok(())
+}
+
+#[test]
+fn a_refused_reservation_of_a_borrowed_tree_changes_nothing(rt: HostRuntime) -> Result<(), Fail> {
+    let items = too_wide(rt.alloc())?;
+    assert_refused(&rt, rt.alloc(), &BorrowedFormatItem::Compound(items))?;
+    assert_refused(&rt, rt.alloc(), &BorrowedItems(items))?;
+    Ok(())
+}
+
+#[test]
+fn a_refused_reservation_of_the_third_version_changes_nothing(rt: HostRuntime) -> Result<(), Fail> {
+    let items = too_wide_v3(rt.alloc())?;
+    let tree = FormatDescriptionV3::new(FormatDescriptionV3Inner::BorrowedCompound(items));
+    assert_refused(&rt, rt.alloc(), &tree)?;
     Ok(())
 }
 

@@ -32,6 +32,7 @@ fn timestamps_at_the_ends_and_around_zero(rt: HostRuntime) {
             "+31494784780799999",
         ),
         (-1, 999_500_000, false, "-1", "0"),
+        (-1, 999_500_000, true, "-1", "+0"),
         (0, 0, true, "+0", "+0"),
     ] {
         let Ok(value) = Timestamp::new(seconds, nanosecond) else {
@@ -90,6 +91,68 @@ fn offsets_keep_their_sign(rt: HostRuntime) {
         assert_component(&rt, rt.alloc(), minutes, &value, minute, 2);
         let seconds = Component::OffsetSecond(modifier::OffsetSecond { padding });
         assert_component(&rt, rt.alloc(), seconds, &value, second, 2);
+    }
+}
+
+/// A sign, a padding, whether a sign is mandatory, and the texts of the parts.
+const FORMS: [(i8, Padding, bool, &str, &str, &str); 9] = [
+    (1, Padding::Zero, false, "05", "07", "09"),
+    (1, Padding::Space, false, " 5", " 7", " 9"),
+    (1, Padding::None, false, "5", "7", "9"),
+    (1, Padding::Zero, true, "+05", "07", "09"),
+    (1, Padding::Space, true, "+ 5", " 7", " 9"),
+    (1, Padding::None, true, "+5", "7", "9"),
+    (-1, Padding::Zero, false, "-05", "07", "09"),
+    (-1, Padding::Space, true, "- 5", " 7", " 9"),
+    (-1, Padding::None, false, "-5", "7", "9"),
+];
+
+#[test]
+fn forms_of_offsets(rt: HostRuntime) {
+    for (sign, padding, sign_is_mandatory, hour, minute, second) in FORMS {
+        let parts = if sign < 0 { (-5, -7, -9) } else { (5, 7, 9) };
+        let Ok(value) = UtcOffset::from_hms(parts.0, parts.1, parts.2) else {
+            panic!(rt; "no offset");
+        };
+        for (component, text, width) in [
+            (
+                Component::OffsetHour(modifier::OffsetHour {
+                    padding,
+                    sign_is_mandatory,
+                }),
+                hour,
+                3,
+            ),
+            (
+                Component::OffsetMinute(modifier::OffsetMinute { padding }),
+                minute,
+                2,
+            ),
+            (
+                Component::OffsetSecond(modifier::OffsetSecond { padding }),
+                second,
+                2,
+            ),
+        ] {
+            assert_component(&rt, rt.alloc(), component, &value, text, width);
+        }
+    }
+}
+
+#[test]
+fn signs_of_timestamps(rt: HostRuntime) {
+    for (seconds, sign_is_mandatory, second, millisecond) in [
+        (90, false, "90", "90000"),
+        (90, true, "+90", "+90000"),
+        (-90, false, "-90", "-90000"),
+        (-90, true, "-90", "-90000"),
+    ] {
+        let Ok(value) = Timestamp::new(seconds, 0) else {
+            panic!(rt; "no timestamp");
+        };
+        let [whole, thousandths] = stamps(sign_is_mandatory);
+        assert_component(&rt, rt.alloc(), whole, &value, second, 15);
+        assert_component(&rt, rt.alloc(), thousandths, &value, millisecond, 18);
     }
 }
 

@@ -7,433 +7,224 @@ use crate::format_description::{
     modifier,
 };
 
+/// The component becomes one like this pattern, and has this width itself.
+macro_rules! assert_current {
+    ($rt:ident; $component:expr, $pattern:pat, $width:expr) => {{
+        let component = $component;
+        assert!($rt; matches!(component.current(), $pattern));
+        assert_eq!($rt; component_width(&component), $width);
+    }};
+}
+
+const PADDING: Padding = Padding::Space;
+
+fn month(repr: MonthRepr) -> Component {
+    Component::Month(modifier::Month {
+        padding: PADDING,
+        repr,
+        case_sensitive: false,
+    })
+}
+
+fn weekday(repr: WeekdayRepr) -> Component {
+    Component::Weekday(modifier::Weekday {
+        repr,
+        one_indexed: false,
+        case_sensitive: false,
+    })
+}
+
+fn week_number(repr: WeekNumberRepr) -> Component {
+    Component::WeekNumber(modifier::WeekNumber {
+        padding: PADDING,
+        repr,
+    })
+}
+
+fn hour(is_12_hour_clock: bool) -> Component {
+    Component::Hour(modifier::Hour {
+        padding: PADDING,
+        is_12_hour_clock,
+    })
+}
+
+fn unix_timestamp(precision: UnixTimestampPrecision) -> Component {
+    Component::UnixTimestamp(modifier::UnixTimestamp {
+        precision,
+        sign_is_mandatory: true,
+    })
+}
+
+fn year(repr: YearRepr, range: YearRange, iso_week_based: bool) -> Component {
+    Component::Year(modifier::Year {
+        padding: PADDING,
+        repr,
+        range,
+        iso_week_based,
+        sign_is_mandatory: true,
+    })
+}
+
 #[test]
 fn deprecated_months(rt: HostRuntime) {
-    let component = Component::Month(modifier::Month {
-        padding: Padding::Space,
-        repr: MonthRepr::Numerical,
-        case_sensitive: false,
-    });
-    assert!(rt;
-        matches!(
-            component.current(),
-            Component::MonthNumerical(modifier::MonthNumerical {
-                padding: Padding::Space
-            })
-        )
-    );
-    assert_eq!(rt; component_width(&component), 2);
-    let component = Component::Month(modifier::Month {
-        padding: Padding::Space,
-        repr: MonthRepr::Long,
-        case_sensitive: false,
-    });
-    assert!(rt;
-        matches!(
-            component.current(),
-            Component::MonthLong(modifier::MonthLong {
-                case_sensitive: false
-            })
-        )
-    );
-    assert_eq!(rt; component_width(&component), 9);
-    let component = Component::Month(modifier::Month {
-        padding: Padding::Space,
-        repr: MonthRepr::Short,
-        case_sensitive: false,
-    });
-    assert!(rt;
-        matches!(
-            component.current(),
-            Component::MonthShort(modifier::MonthShort {
-                case_sensitive: false
-            })
-        )
-    );
-    assert_eq!(rt; component_width(&component), 3);
+    assert_current!(rt;
+        month(MonthRepr::Numerical),
+        Component::MonthNumerical(modifier::MonthNumerical { padding: Padding::Space }),
+        2);
+    assert_current!(rt;
+        month(MonthRepr::Long),
+        Component::MonthLong(modifier::MonthLong { case_sensitive: false }),
+        9);
+    assert_current!(rt;
+        month(MonthRepr::Short),
+        Component::MonthShort(modifier::MonthShort { case_sensitive: false }),
+        3);
 }
 
 #[test]
 fn deprecated_weekdays(rt: HostRuntime) {
-    let component = Component::Weekday(modifier::Weekday {
-        repr: WeekdayRepr::Short,
-        one_indexed: false,
-        case_sensitive: false,
-    });
-    assert!(rt;
-        matches!(
-            component.current(),
-            Component::WeekdayShort(modifier::WeekdayShort {
-                case_sensitive: false
-            })
-        )
-    );
-    assert_eq!(rt; component_width(&component), 3);
-    let component = Component::Weekday(modifier::Weekday {
-        repr: WeekdayRepr::Long,
-        one_indexed: false,
-        case_sensitive: false,
-    });
-    assert!(rt;
-        matches!(
-            component.current(),
-            Component::WeekdayLong(modifier::WeekdayLong {
-                case_sensitive: false
-            })
-        )
-    );
-    assert_eq!(rt; component_width(&component), 9);
-    let component = Component::Weekday(modifier::Weekday {
-        repr: WeekdayRepr::Sunday,
-        one_indexed: false,
-        case_sensitive: false,
-    });
-    assert!(rt;
-        matches!(
-            component.current(),
-            Component::WeekdaySunday(modifier::WeekdaySunday { one_indexed: false })
-        )
-    );
-    assert_eq!(rt; component_width(&component), 1);
-    let component = Component::Weekday(modifier::Weekday {
-        repr: WeekdayRepr::Monday,
-        one_indexed: false,
-        case_sensitive: false,
-    });
-    assert!(rt;
-        matches!(
-            component.current(),
-            Component::WeekdayMonday(modifier::WeekdayMonday { one_indexed: false })
-        )
-    );
-    assert_eq!(rt; component_width(&component), 1);
+    assert_current!(rt;
+        weekday(WeekdayRepr::Short),
+        Component::WeekdayShort(modifier::WeekdayShort { case_sensitive: false }),
+        3);
+    assert_current!(rt;
+        weekday(WeekdayRepr::Long),
+        Component::WeekdayLong(modifier::WeekdayLong { case_sensitive: false }),
+        9);
+    assert_current!(rt;
+        weekday(WeekdayRepr::Sunday),
+        Component::WeekdaySunday(modifier::WeekdaySunday { one_indexed: false }),
+        1);
+    assert_current!(rt;
+        weekday(WeekdayRepr::Monday),
+        Component::WeekdayMonday(modifier::WeekdayMonday { one_indexed: false }),
+        1);
 }
 
 #[test]
-fn deprecated_weeks(rt: HostRuntime) {
-    let component = Component::WeekNumber(modifier::WeekNumber {
-        padding: Padding::Space,
-        repr: WeekNumberRepr::Iso,
-    });
-    assert!(rt;
-        matches!(
-            component.current(),
-            Component::WeekNumberIso(modifier::WeekNumberIso {
-                padding: Padding::Space
-            })
-        )
-    );
-    assert_eq!(rt; component_width(&component), 2);
-    let component = Component::WeekNumber(modifier::WeekNumber {
-        padding: Padding::Space,
-        repr: WeekNumberRepr::Sunday,
-    });
-    assert!(rt;
-        matches!(
-            component.current(),
-            Component::WeekNumberSunday(modifier::WeekNumberSunday {
-                padding: Padding::Space
-            })
-        )
-    );
-    assert_eq!(rt; component_width(&component), 2);
-    let component = Component::WeekNumber(modifier::WeekNumber {
-        padding: Padding::Space,
-        repr: WeekNumberRepr::Monday,
-    });
-    assert!(rt;
-        matches!(
-            component.current(),
-            Component::WeekNumberMonday(modifier::WeekNumberMonday {
-                padding: Padding::Space
-            })
-        )
-    );
-    assert_eq!(rt; component_width(&component), 2);
+fn deprecated_week_numbers(rt: HostRuntime) {
+    assert_current!(rt;
+        week_number(WeekNumberRepr::Iso),
+        Component::WeekNumberIso(modifier::WeekNumberIso { padding: Padding::Space }),
+        2);
+    assert_current!(rt;
+        week_number(WeekNumberRepr::Sunday),
+        Component::WeekNumberSunday(modifier::WeekNumberSunday { padding: Padding::Space }),
+        2);
+    assert_current!(rt;
+        week_number(WeekNumberRepr::Monday),
+        Component::WeekNumberMonday(modifier::WeekNumberMonday { padding: Padding::Space }),
+        2);
 }
 
 #[test]
 fn deprecated_hours(rt: HostRuntime) {
-    let component = Component::Hour(modifier::Hour {
-        padding: Padding::Space,
-        is_12_hour_clock: true,
-    });
-    assert!(rt;
-        matches!(
-            component.current(),
-            Component::Hour12(modifier::Hour12 {
-                padding: Padding::Space
-            })
-        )
-    );
-    assert_eq!(rt; component_width(&component), 2);
-    let component = Component::Hour(modifier::Hour {
-        padding: Padding::Space,
-        is_12_hour_clock: false,
-    });
-    assert!(rt;
-        matches!(
-            component.current(),
-            Component::Hour24(modifier::Hour24 {
-                padding: Padding::Space
-            })
-        )
-    );
-    assert_eq!(rt; component_width(&component), 2);
+    assert_current!(rt;
+        hour(true),
+        Component::Hour12(modifier::Hour12 { padding: Padding::Space }),
+        2);
+    assert_current!(rt;
+        hour(false),
+        Component::Hour24(modifier::Hour24 { padding: Padding::Space }),
+        2);
 }
 
 #[test]
 fn deprecated_timestamps(rt: HostRuntime) {
-    let component = Component::UnixTimestamp(modifier::UnixTimestamp {
-        precision: UnixTimestampPrecision::Second,
-        sign_is_mandatory: false,
-    });
-    assert!(rt;
-        matches!(
-            component.current(),
-            Component::UnixTimestampSecond(modifier::UnixTimestampSecond {
-                sign_is_mandatory: false
-            })
-        )
-    );
-    assert_eq!(rt; component_width(&component), 15);
-    let component = Component::UnixTimestamp(modifier::UnixTimestamp {
-        precision: UnixTimestampPrecision::Millisecond,
-        sign_is_mandatory: false,
-    });
-    assert!(rt;
-        matches!(
-            component.current(),
-            Component::UnixTimestampMillisecond(modifier::UnixTimestampMillisecond {
-                sign_is_mandatory: false
-            })
-        )
-    );
-    assert_eq!(rt; component_width(&component), 18);
+    assert_current!(rt;
+        unix_timestamp(UnixTimestampPrecision::Second),
+        Component::UnixTimestampSecond(modifier::UnixTimestampSecond { sign_is_mandatory: true }),
+        15);
+    assert_current!(rt;
+        unix_timestamp(UnixTimestampPrecision::Millisecond),
+        Component::UnixTimestampMillisecond(modifier::UnixTimestampMillisecond {
+            sign_is_mandatory: true
+        }),
+        18);
 }
 
 #[test]
-fn deprecated_calendar_years(rt: HostRuntime) {
-    let component = Component::Year(modifier::Year {
-        padding: Padding::Space,
-        repr: YearRepr::Full,
-        range: YearRange::Extended,
-        iso_week_based: false,
-        sign_is_mandatory: false,
-    });
-    assert!(rt;
-        matches!(
-            component.current(),
-            Component::CalendarYearFullExtendedRange(modifier::CalendarYearFullExtendedRange {
-                padding: Padding::Space,
-                sign_is_mandatory: false
-            })
-        )
-    );
-    assert_eq!(rt; component_width(&component), 7);
-    let component = Component::Year(modifier::Year {
-        padding: Padding::Space,
-        repr: YearRepr::Full,
-        range: YearRange::Standard,
-        iso_week_based: false,
-        sign_is_mandatory: false,
-    });
-    assert!(rt;
-        matches!(
-            component.current(),
-            Component::CalendarYearFullStandardRange(modifier::CalendarYearFullStandardRange {
-                padding: Padding::Space,
-                sign_is_mandatory: false
-            })
-        )
-    );
-    assert_eq!(rt; component_width(&component), 7);
-    let component = Component::Year(modifier::Year {
-        padding: Padding::Space,
-        repr: YearRepr::Century,
-        range: YearRange::Extended,
-        iso_week_based: false,
-        sign_is_mandatory: false,
-    });
-    assert!(rt;
-        matches!(
-            component.current(),
-            Component::CalendarYearCenturyExtendedRange(
-                modifier::CalendarYearCenturyExtendedRange {
-                    padding: Padding::Space,
-                    sign_is_mandatory: false
-                }
-            )
-        )
-    );
-    assert_eq!(rt; component_width(&component), 5);
-    let component = Component::Year(modifier::Year {
-        padding: Padding::Space,
-        repr: YearRepr::Century,
-        range: YearRange::Standard,
-        iso_week_based: false,
-        sign_is_mandatory: false,
-    });
-    assert!(rt;
-        matches!(
-            component.current(),
-            Component::CalendarYearCenturyStandardRange(
-                modifier::CalendarYearCenturyStandardRange {
-                    padding: Padding::Space,
-                    sign_is_mandatory: false
-                }
-            )
-        )
-    );
-    assert_eq!(rt; component_width(&component), 5);
-    let component = Component::Year(modifier::Year {
-        padding: Padding::Space,
-        repr: YearRepr::LastTwo,
-        range: YearRange::Extended,
-        iso_week_based: false,
-        sign_is_mandatory: false,
-    });
-    assert!(rt;
-        matches!(
-            component.current(),
+fn deprecated_years_of_the_calendar(rt: HostRuntime) {
+    assert_current!(rt;
+        year(YearRepr::Full, YearRange::Extended, false),
+        Component::CalendarYearFullExtendedRange(modifier::CalendarYearFullExtendedRange {
+            padding: Padding::Space,
+            sign_is_mandatory: true
+        }),
+        7);
+    assert_current!(rt;
+        year(YearRepr::Full, YearRange::Standard, false),
+        Component::CalendarYearFullStandardRange(modifier::CalendarYearFullStandardRange {
+            padding: Padding::Space,
+            sign_is_mandatory: true
+        }),
+        7);
+    assert_current!(rt;
+        year(YearRepr::Century, YearRange::Extended, false),
+        Component::CalendarYearCenturyExtendedRange(modifier::CalendarYearCenturyExtendedRange {
+            padding: Padding::Space,
+            sign_is_mandatory: true
+        }),
+        5);
+    assert_current!(rt;
+        year(YearRepr::Century, YearRange::Standard, false),
+        Component::CalendarYearCenturyStandardRange(modifier::CalendarYearCenturyStandardRange {
+            padding: Padding::Space,
+            sign_is_mandatory: true
+        }),
+        5);
+    for range in [YearRange::Extended, YearRange::Standard] {
+        assert_current!(rt;
+            year(YearRepr::LastTwo, range, false),
             Component::CalendarYearLastTwo(modifier::CalendarYearLastTwo {
                 padding: Padding::Space
-            })
-        )
-    );
-    assert_eq!(rt; component_width(&component), 2);
-    let component = Component::Year(modifier::Year {
-        padding: Padding::Space,
-        repr: YearRepr::LastTwo,
-        range: YearRange::Standard,
-        iso_week_based: false,
-        sign_is_mandatory: false,
-    });
-    assert!(rt;
-        matches!(
-            component.current(),
-            Component::CalendarYearLastTwo(modifier::CalendarYearLastTwo {
-                padding: Padding::Space
-            })
-        )
-    );
-    assert_eq!(rt; component_width(&component), 2);
+            }),
+            2);
+    }
 }
 
 #[test]
-fn deprecated_years_of_weeks(rt: HostRuntime) {
-    let component = Component::Year(modifier::Year {
-        padding: Padding::Space,
-        repr: YearRepr::Full,
-        range: YearRange::Extended,
-        iso_week_based: true,
-        sign_is_mandatory: false,
-    });
-    assert!(rt;
-        matches!(
-            component.current(),
-            Component::IsoYearFullExtendedRange(modifier::IsoYearFullExtendedRange {
-                padding: Padding::Space,
-                sign_is_mandatory: false
-            })
-        )
-    );
-    assert_eq!(rt; component_width(&component), 7);
-    let component = Component::Year(modifier::Year {
-        padding: Padding::Space,
-        repr: YearRepr::Full,
-        range: YearRange::Standard,
-        iso_week_based: true,
-        sign_is_mandatory: false,
-    });
-    assert!(rt;
-        matches!(
-            component.current(),
-            Component::IsoYearFullStandardRange(modifier::IsoYearFullStandardRange {
-                padding: Padding::Space,
-                sign_is_mandatory: false
-            })
-        )
-    );
-    assert_eq!(rt; component_width(&component), 7);
-    let component = Component::Year(modifier::Year {
-        padding: Padding::Space,
-        repr: YearRepr::Century,
-        range: YearRange::Extended,
-        iso_week_based: true,
-        sign_is_mandatory: false,
-    });
-    assert!(rt;
-        matches!(
-            component.current(),
-            Component::IsoYearCenturyExtendedRange(modifier::IsoYearCenturyExtendedRange {
-                padding: Padding::Space,
-                sign_is_mandatory: false
-            })
-        )
-    );
-    assert_eq!(rt; component_width(&component), 5);
-    let component = Component::Year(modifier::Year {
-        padding: Padding::Space,
-        repr: YearRepr::Century,
-        range: YearRange::Standard,
-        iso_week_based: true,
-        sign_is_mandatory: false,
-    });
-    assert!(rt;
-        matches!(
-            component.current(),
-            Component::IsoYearCenturyStandardRange(modifier::IsoYearCenturyStandardRange {
-                padding: Padding::Space,
-                sign_is_mandatory: false
-            })
-        )
-    );
-    assert_eq!(rt; component_width(&component), 5);
-    let component = Component::Year(modifier::Year {
-        padding: Padding::Space,
-        repr: YearRepr::LastTwo,
-        range: YearRange::Extended,
-        iso_week_based: true,
-        sign_is_mandatory: false,
-    });
-    assert!(rt;
-        matches!(
-            component.current(),
-            Component::IsoYearLastTwo(modifier::IsoYearLastTwo {
-                padding: Padding::Space
-            })
-        )
-    );
-    assert_eq!(rt; component_width(&component), 2);
-    let component = Component::Year(modifier::Year {
-        padding: Padding::Space,
-        repr: YearRepr::LastTwo,
-        range: YearRange::Standard,
-        iso_week_based: true,
-        sign_is_mandatory: false,
-    });
-    assert!(rt;
-        matches!(
-            component.current(),
-            Component::IsoYearLastTwo(modifier::IsoYearLastTwo {
-                padding: Padding::Space
-            })
-        )
-    );
-    assert_eq!(rt; component_width(&component), 2);
+fn deprecated_years_of_the_week_calendar(rt: HostRuntime) {
+    assert_current!(rt;
+        year(YearRepr::Full, YearRange::Extended, true),
+        Component::IsoYearFullExtendedRange(modifier::IsoYearFullExtendedRange {
+            padding: Padding::Space,
+            sign_is_mandatory: true
+        }),
+        7);
+    assert_current!(rt;
+        year(YearRepr::Full, YearRange::Standard, true),
+        Component::IsoYearFullStandardRange(modifier::IsoYearFullStandardRange {
+            padding: Padding::Space,
+            sign_is_mandatory: true
+        }),
+        7);
+    assert_current!(rt;
+        year(YearRepr::Century, YearRange::Extended, true),
+        Component::IsoYearCenturyExtendedRange(modifier::IsoYearCenturyExtendedRange {
+            padding: Padding::Space,
+            sign_is_mandatory: true
+        }),
+        5);
+    assert_current!(rt;
+        year(YearRepr::Century, YearRange::Standard, true),
+        Component::IsoYearCenturyStandardRange(modifier::IsoYearCenturyStandardRange {
+            padding: Padding::Space,
+            sign_is_mandatory: true
+        }),
+        5);
+    for range in [YearRange::Extended, YearRange::Standard] {
+        assert_current!(rt;
+            year(YearRepr::LastTwo, range, true),
+            Component::IsoYearLastTwo(modifier::IsoYearLastTwo { padding: Padding::Space }),
+            2);
+    }
 }
 
 #[test]
 fn deprecated_components_as_descriptions(rt: HostRuntime) {
-    let component = Component::Year(modifier::Year {
-        padding: Padding::Zero,
-        repr: YearRepr::Century,
-        range: YearRange::Standard,
-        iso_week_based: false,
-        sign_is_mandatory: false,
-    });
-    let description = FormatDescriptionV3::new(FormatDescriptionV3Inner::from(component));
+    let century = year(YearRepr::Century, YearRange::Standard, false);
+    let description = FormatDescriptionV3::new(FormatDescriptionV3Inner::from(century));
     assert!(rt;
         matches!(
             component_of(description.inner()),
