@@ -1,5 +1,5 @@
 -- The current component is no wider than the deprecated one.
-use Rattle.std.proofs.Common.{ℕ, ◌≤◌, Bool, true, false, arith}
+use Rattle.std.proofs.Common.{◌≤◌, Bool, true, false, arith}
 use Rattle.time_below.specs.Conversion.{current_component, current_month, current_weekday, current_week_number, current_hour, current_unix_timestamp, current_year}
 use Rattle.time_below.specs.Width.{component_width, month_width, weekday_width, unix_timestamp_width, year_width}
 use Rattle.time_below.specs.declared.format_description.component.Component.{Component}

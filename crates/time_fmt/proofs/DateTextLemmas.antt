@@ -1,5 +1,5 @@
 -- How long the texts of a date are, and where nothing is filled in before a number.
-use Rattle.std.proofs.Common.{◌≡◌, ℕ, ◌+◌, ◌%◌, ◌^◌, ◌<◌, ◌≤◌, Bool, true, false, ◌||◌, nat_lt, List, ◌++◌, length, take, decimal, refl, sym, ◌∙◌, arith, ℤ, pos, unsigned_abs, length-append}
+use Rattle.std.proofs.Common.{◌≡◌, ℕ, ◌+◌, ◌^◌, ◌<◌, ◌≤◌, Bool, true, false, ◌||◌, nat_lt, List, ◌++◌, length, decimal, refl, sym, ◌∙◌, arith, ℤ, pos, unsigned_abs, length-append}
 use Rattle.std.proofs.lemmas.Fmt.{length-decimal-le}
 use Rattle.std.proofs.Math.ListN.{length-take}
 use Rattle.std.specs.Prelude.{int_lt}

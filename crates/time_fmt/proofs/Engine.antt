@@ -1,5 +1,5 @@
 -- Items one after another: what is written so far, and then the outcome of what is left, is the outcome of all.
-use Rattle.std.proofs.Common.{◌≡◌, ap, sym, ◌∙◌, refl, arith, ℕ, ◌+◌, ◌≤◌, List, ◌++◌, length, Option, Some, None, Result, Ok, Err, IsSomeAnd, vec_len, vec_capacity, Vec}
+use Rattle.std.proofs.Common.{◌≡◌, ap, sym, ◌∙◌, refl, arith, ℕ, ◌+◌, ◌≤◌, ◌++◌, length, Option, Some, None, Err, IsSomeAnd, vec_len, vec_capacity, Vec}
 use Rattle.std.specs.Global.{Global}
 use Rattle.time_fmt.specs.declared.error.Format.{Format}
 use Rattle.time_fmt.specs.Outcome.{Outcome, Refusal, Names, Appends, join}

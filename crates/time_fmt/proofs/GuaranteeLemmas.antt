@@ -1,5 +1,5 @@
 -- Texts of components are ASCII, and so the outcomes of guaranteed texts are UTF-8.
-use Rattle.std.proofs.Common.{◌≡◌, ℕ, zero, suc, ◌+◌, ◌-◌, ◌/◌, ◌%◌, ◌^◌, ◌<◌, ◌≤◌, Bool, true, false, ◌&&◌, nat_lt, List, [], ◌∷◌, ◌++◌, take, decimal, IsAscii, IsUtf8, IsTrue, IfSome, Option, Some, None, if◌then◌else◌, refl, arith, rules, ℤ, pos, unsigned_abs}
+use Rattle.std.proofs.Common.{◌≡◌, ℕ, zero, suc, ◌+◌, ◌-◌, ◌%◌, ◌^◌, ◌<◌, Bool, true, false, ◌&&◌, nat_lt, List, [], ◌∷◌, ◌++◌, decimal, IsAscii, IsUtf8, IsTrue, IfSome, Option, Some, None, if◌then◌else◌, refl, arith, ℤ, pos, unsigned_abs}
 use Rattle.std.specs.Prelude.{codes, int_lt, slice_index_or, ◌||◌, nat_le}
 use Rattle.std.specs.List.{list_all}
 use Rattle.std.proofs.lemmas.Bool.{ltb-true}
@@ -17,22 +17,22 @@ use Rattle.time_below.specs.declared.format_description.modifier.Padding.{Paddin
 use Rattle.time_below.specs.declared.format_description.modifier.Padding.TheVariants as padding
 use Rattle.time_below.specs.declared.format_description.modifier.SubsecondDigits.{SubsecondDigits}
 use Rattle.time_below.specs.declared.format_description.modifier.SubsecondDigits.TheVariants as digits
-use Rattle.time_below.specs.Facts.{Facts, DateFacts}
-use Rattle.time_below.specs.Moment.{Moment, milliseconds}
-use Rattle.time_below.specs.Offset.{Offset, is_negative}
-use Rattle.time_below.specs.TimeOfDay.{TimeOfDay, period_of}
+use Rattle.time_below.specs.Facts.{Facts}
+use Rattle.time_below.specs.Moment.{milliseconds}
+use Rattle.time_below.specs.Offset.{is_negative}
+use Rattle.time_below.specs.TimeOfDay.{period_of}
 use Rattle.time_below.specs.Tree.{Tree, Trees, byte_literal, text_literal, of_component, all_of, first_of, nothing, end, more}
 use Rattle.time_below.specs.Width.{is_guaranteed_text, are_guaranteed_text}
 use Rattle.time_digits.specs.Digits.{fixed}
 use Rattle.time_digits.proofs.DigitLemmas.{IsAscii-fixed}
 use Rattle.time_digits.proofs.FractionLemmas.{IsAscii-trimmed_fraction}
 use Rattle.time_digits.proofs.LengthLemmas.{IsAscii-padded}
-use Rattle.time_fmt.specs.DateText.{month_names, month_name, weekday_names, weekday_name, short_name, indexed, from_sunday, extended_year_text, standard_year_text, extended_century_text, standard_century_text}
+use Rattle.time_fmt.specs.DateText.{month_names, month_name, weekday_names, weekday_name, indexed, from_sunday}
 use Rattle.time_fmt.specs.Description.{of_group, in_standard_range, century_of, current_outcome, component_outcome, tree_outcome, trees_outcome}
-use Rattle.time_fmt.specs.Guarantee.{HasTexts, HaveTexts, DateFits, TimeFits, OffsetFits, MomentFits, FactsFit, IsWord, AreWords}
-use Rattle.time_fmt.specs.Outcome.{Outcome, Refusal, done, refused, join, out_of_range}
+use Rattle.time_fmt.specs.Guarantee.{HasTexts, HaveTexts, DateFits, TimeFits, OffsetFits, MomentFits, FactsFit}
+use Rattle.time_fmt.specs.Outcome.{Outcome, done, refused, join, out_of_range}
 use Rattle.time_below.specs.ComponentRange.{conditional_range}
-use Rattle.time_fmt.specs.Text.{padded_text, sign_text, hour_12, period_text, subsecond_text, offset_hour_text, timestamp_text}
+use Rattle.time_fmt.specs.Text.{padded_text, sign_text, hour_12, period_text, subsecond_text, timestamp_text}
 
 -- ---- texts
 

@@ -1,5 +1,5 @@
 -- How long the texts of numbers of a known size are.
-use Rattle.std.proofs.Common.{◌≡◌, ℕ, ◌^◌, ◌<◌, ◌≤◌, length, decimal, arith}
+use Rattle.std.proofs.Common.{◌≡◌, ℕ, ◌<◌, ◌≤◌, length, decimal, arith}
 use Rattle.std.proofs.lemmas.Fmt.{length-decimal-le}
 use Rattle.time_below.specs.declared.format_description.modifier.Padding.{Padding}
 use Rattle.time_digits.specs.Digits.{zero_padded}

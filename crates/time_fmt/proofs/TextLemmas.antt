@@ -5,12 +5,9 @@ use Rattle.std.proofs.lemmas.Fmt.{length-decimal-le}
 use Rattle.std.proofs.lemmas.List.{length-replicate}
 use Rattle.time_below.specs.declared.format_description.modifier.Padding.{Padding}
 use Rattle.time_below.specs.declared.format_description.modifier.Padding.TheVariants as padding
-use Rattle.time_below.specs.declared.format_description.modifier.SubsecondDigits.{SubsecondDigits}
-use Rattle.time_below.specs.declared.format_description.modifier.SubsecondDigits.TheVariants as digits
-use Rattle.time_below.specs.Width.{subsecond_width}
-use Rattle.time_digits.specs.Digits.{fixed, padded, zero_padded}
+use Rattle.time_digits.specs.Digits.{padded, zero_padded}
 use Rattle.time_digits.proofs.LengthLemmas.{length-padded}
-use Rattle.time_fmt.specs.Text.{padded_text, sign_text, offset_hour_text, timestamp_text, subsecond_text}
+use Rattle.time_fmt.specs.Text.{padded_text, sign_text, offset_hour_text, timestamp_text}
 
 -- a text in so many places has no more bytes, where the number has no more digits
 pub length-padded_text : (p : Padding) (places n : ℕ) → length (decimal n) ≤ places → length (padded_text p places n) ≤ places

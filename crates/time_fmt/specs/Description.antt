@@ -4,10 +4,10 @@ use Rattle.time_below.specs.ComponentRange.{conditional_range}
 use Rattle.time_below.specs.Conversion.{current_component}
 use Rattle.time_below.specs.declared.format_description.component.Component.{Component}
 use Rattle.time_below.specs.declared.format_description.component.Component.TheVariants as component
-use Rattle.time_below.specs.Facts.{Facts, DateFacts}
-use Rattle.time_below.specs.Moment.{Moment, milliseconds}
-use Rattle.time_below.specs.Offset.{Offset, is_negative}
-use Rattle.time_below.specs.TimeOfDay.{TimeOfDay, period_of}
+use Rattle.time_below.specs.Facts.{Facts}
+use Rattle.time_below.specs.Moment.{milliseconds}
+use Rattle.time_below.specs.Offset.{is_negative}
+use Rattle.time_below.specs.TimeOfDay.{period_of}
 use Rattle.time_below.specs.Tree.{Tree, Trees, byte_literal, text_literal, of_component, all_of, first_of, nothing, end, more}
 use Rattle.time_fmt.specs.DateText.{month_name, weekday_name, short_name, indexed, from_sunday, extended_year_text, standard_year_text, extended_century_text, standard_century_text}
 use Rattle.time_fmt.specs.Outcome.{Outcome, done, refused, join, insufficient, out_of_range}

@@ -1,8 +1,7 @@
 -- Laws of descriptions and of what is known of their texts.
-use Rattle.std.specs.Prelude.{◌≡◌, ◌≤◌, ℕ, IsTrue, Option, Some, None, List, []}
-use Rattle.time_below.specs.declared.format_description.component.Component.TheVariants as component
+use Rattle.std.specs.Prelude.{◌≡◌, ◌≤◌, []}
 use Rattle.time_below.specs.Facts.{Facts}
-use Rattle.time_below.specs.Tree.{Tree, Trees, all_of, first_of, of_component, nothing, end, more, unmarked}
+use Rattle.time_below.specs.Tree.{Tree, Trees, all_of, first_of, end, more, unmarked}
 use Rattle.time_fmt.specs.declared.metadata.Metadata.{Metadata}
 use Rattle.time_fmt.specs.Description.{tree_outcome}
 use Rattle.time_fmt.specs.Metadata.{of_nothing, of_both}

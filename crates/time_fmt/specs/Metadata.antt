@@ -1,5 +1,5 @@
 -- What is known of a text, and of one text after another.
-use Rattle.std.specs.Prelude.{ℕ, ◌+◌, min, Bool, true, ◌&&◌}
+use Rattle.std.specs.Prelude.{◌+◌, min, true, ◌&&◌}
 use Rattle.time_fmt.specs.declared.metadata.Metadata.{Metadata}
 
 -- no bytes, which are a text

@@ -1,7 +1,6 @@
 use Rattle.std.proofs.Common.{◌≡◌, sym, ◌∙◌, ap, drop, map, ◌+◌}
 use Rattle.std.proofs.lemmas.List.{at_drop_more}
 use Rattle.time_below.specs.Tree.{owned_tree, trees}
-use Rattle.time_below.specs.Width.{trees_width}
 use Rattle.time_fmt.specs.Description.{tree_outcome, trees_outcome}
 use Rattle.time_fmt.specs.Outcome.{join}
 use Rattle.time_fmt.proofs.OwnedTrees.{outcome_of_first}

@@ -1,7 +1,7 @@
 use Rattle.std.proofs.Common.{arith, ◌≡◌, sym, ◌∙◌, ap, drop, map, ◌+◌}
 use Rattle.std.proofs.lemmas.List.{at_drop_more}
 use Rattle.time_below.specs.Tree.{v3_tree, trees}
-use Rattle.time_below.specs.Width.{tree_width, trees_width}
+use Rattle.time_below.specs.Width.{tree_width}
 use Rattle.time_below.proofs.TreeLemmas.{v3_tree_component}
 use Rattle.time_fmt.specs.Description.{tree_outcome, trees_outcome}
 use Rattle.time_fmt.specs.Outcome.{join}
