@@ -26,36 +26,12 @@ use time_digits::{ri8, ri16, ru8};
 use time_provide::ComponentProvider;
 use time_provide::ranges::{ExtendedCentury, LastTwo, StandardCentury, StandardYear, Year};
 
-/// What is written if the value supplies the group, else the refusal.
-macro_rules! of_group {
-    ($supplied:expr, $written:expr) => {
-        if $supplied {
-            Ok($written)
-        } else {
-            Err(Format::InsufficientTypeInformation)
-        }
-    };
-}
-
-/// The same of a number that may be outside the range of its component.
-macro_rules! of_group_in_range {
-    ($supplied:expr, $number:ident, $checked:expr, $written:expr) => {
-        if $supplied {
-            match $checked {
-                Ok($number) => Ok($written),
-                Err(refusal) => Err(refusal),
-            }
-        } else {
-            Err(Format::InsufficientTypeInformation)
-        }
-    };
-}
-
 /// The year, if it has at most four digits.
 fn standard_year(year: Year) -> Result<StandardYear, Format>
     ensures accepted { IsOk result ↔ (unsigned_abs year ≤ 9_999) }
     ensures value { IfOk result (λ y. y ≡ year) }
-    ensures refusal { IfErr result (λ e. Names e (out_of_range (conditional_range (codes "year")))) }
+    ensures refusal { IfErr result
+        (λ e. Names e (out_of_range (conditional_range (codes "year")))) }
 {
     let number = year.get();
     if number.unsigned_abs() > 9_999 {
@@ -76,7 +52,8 @@ fn extended_century(year: Year) -> ExtendedCentury
 fn standard_century(year: Year) -> Result<StandardCentury, Format>
     ensures accepted { IsOk result ↔ (century_of year ≤ 99) }
     ensures value { IfOk result (λ c. unsigned_abs c ≡ century_of year) }
-    ensures refusal { IfErr result (λ e. Names e (out_of_range (conditional_range (codes "year")))) }
+    ensures refusal { IfErr result
+        (λ e. Names e (out_of_range (conditional_range (codes "year")))) }
 {
     let century = year.get() / 100;
     if century.unsigned_abs() > 99 {
@@ -106,7 +83,8 @@ pub fn component_write_into<V: ComponentProvider>(
 ) -> Result<usize, Format>
     requires room { HasRoom output.old (component_width component.now) }
     requires agrees { V.agrees state.old value.now }
-    ensures appends { Appends output.old output.new result (component_outcome component.now (V.facts value.now)) }
+    ensures appends { Appends output.old output.new result
+        (component_outcome component.now (V.facts value.now)) }
     ensures within { vec_len output.new ≤ vec_len output.old + component_width component.now }
     ensures agrees { V.agrees state.new value.now }
 {
@@ -126,250 +104,148 @@ fn current_write_into<V: ComponentProvider>(
     requires current { IsTrue (is_current component.now) }
     requires room { HasRoom output.old (component_width component.now) }
     requires agrees { V.agrees state.old value.now }
-    ensures appends { Appends output.old output.new result (current_outcome component.now (V.facts value.now)) }
+    ensures appends { Appends output.old output.new result
+        (current_outcome component.now (V.facts value.now)) }
     ensures within { vec_len output.new ≤ vec_len output.old + component_width component.now }
     ensures agrees { V.agrees state.new value.now }
 {
     match component {
-        Component::Day(modifier) => {
-            of_group!(
-                V::SUPPLIES_DATE,
-                fmt_day(output, value.day(state), *modifier)
-            )
+        Component::Day(modifier) if V::SUPPLIES_DATE => {
+            Ok(fmt_day(output, value.day(state), *modifier))
         }
-        Component::MonthShort(modifier) => {
-            of_group!(
-                V::SUPPLIES_DATE,
-                fmt_month_short(output, value.month(state), *modifier)
-            )
+        Component::MonthShort(modifier) if V::SUPPLIES_DATE => {
+            Ok(fmt_month_short(output, value.month(state), *modifier))
         }
-        Component::MonthLong(modifier) => {
-            of_group!(
-                V::SUPPLIES_DATE,
-                fmt_month_long(output, value.month(state), *modifier)
-            )
+        Component::MonthLong(modifier) if V::SUPPLIES_DATE => {
+            Ok(fmt_month_long(output, value.month(state), *modifier))
         }
-        Component::MonthNumerical(modifier) => {
-            of_group!(
-                V::SUPPLIES_DATE,
-                fmt_month_numerical(output, value.month(state), *modifier)
-            )
+        Component::MonthNumerical(modifier) if V::SUPPLIES_DATE => {
+            Ok(fmt_month_numerical(output, value.month(state), *modifier))
         }
-        Component::Ordinal(modifier) => {
-            of_group!(
-                V::SUPPLIES_DATE,
-                fmt_ordinal(output, value.ordinal(state), *modifier)
-            )
+        Component::Ordinal(modifier) if V::SUPPLIES_DATE => {
+            Ok(fmt_ordinal(output, value.ordinal(state), *modifier))
         }
-        Component::WeekdayShort(modifier) => {
-            of_group!(
-                V::SUPPLIES_DATE,
-                fmt_weekday_short(output, value.weekday(state), *modifier)
-            )
+        Component::WeekdayShort(modifier) if V::SUPPLIES_DATE => {
+            Ok(fmt_weekday_short(output, value.weekday(state), *modifier))
         }
-        Component::WeekdayLong(modifier) => {
-            of_group!(
-                V::SUPPLIES_DATE,
-                fmt_weekday_long(output, value.weekday(state), *modifier)
-            )
+        Component::WeekdayLong(modifier) if V::SUPPLIES_DATE => {
+            Ok(fmt_weekday_long(output, value.weekday(state), *modifier))
         }
-        Component::WeekdaySunday(modifier) => {
-            of_group!(
-                V::SUPPLIES_DATE,
-                fmt_weekday_sunday(output, value.weekday(state), *modifier)
-            )
+        Component::WeekdaySunday(modifier) if V::SUPPLIES_DATE => {
+            Ok(fmt_weekday_sunday(output, value.weekday(state), *modifier))
         }
-        Component::WeekdayMonday(modifier) => {
-            of_group!(
-                V::SUPPLIES_DATE,
-                fmt_weekday_monday(output, value.weekday(state), *modifier)
-            )
+        Component::WeekdayMonday(modifier) if V::SUPPLIES_DATE => {
+            Ok(fmt_weekday_monday(output, value.weekday(state), *modifier))
         }
-        Component::WeekNumberIso(modifier) => {
-            of_group!(
-                V::SUPPLIES_DATE,
-                fmt_week_number_iso(output, value.iso_week_number(state), *modifier)
-            )
+        Component::WeekNumberIso(modifier) if V::SUPPLIES_DATE => {
+            Ok(fmt_week_number_iso(output, value.iso_week_number(state), *modifier))
         }
-        Component::WeekNumberSunday(modifier) => {
-            of_group!(
-                V::SUPPLIES_DATE,
-                fmt_week_number_sunday(output, value.sunday_based_week(state), *modifier)
-            )
+        Component::WeekNumberSunday(modifier) if V::SUPPLIES_DATE => {
+            Ok(fmt_week_number_sunday(output, value.sunday_based_week(state), *modifier))
         }
-        Component::WeekNumberMonday(modifier) => {
-            of_group!(
-                V::SUPPLIES_DATE,
-                fmt_week_number_monday(output, value.monday_based_week(state), *modifier)
-            )
+        Component::WeekNumberMonday(modifier) if V::SUPPLIES_DATE => {
+            Ok(fmt_week_number_monday(output, value.monday_based_week(state), *modifier))
         }
-        Component::CalendarYearFullExtendedRange(modifier) => {
-            of_group!(
-                V::SUPPLIES_DATE,
-                fmt_calendar_year_full_extended_range(output, value.calendar_year(state), *modifier)
-            )
+        Component::CalendarYearFullExtendedRange(modifier) if V::SUPPLIES_DATE => {
+            Ok(fmt_calendar_year_full_extended_range(output, value.calendar_year(state), *modifier))
         }
-        Component::CalendarYearFullStandardRange(modifier) => of_group_in_range!(
-            V::SUPPLIES_DATE,
-            year,
-            standard_year(value.calendar_year(state)),
-            fmt_calendar_year_full_standard_range(output, year, *modifier)
-        ),
-        Component::CalendarYearCenturyExtendedRange(modifier) => {
-            if V::SUPPLIES_DATE {
-                let year = value.calendar_year(state);
-                let century = extended_century(year);
-                Ok(fmt_calendar_year_century_extended_range(
+        Component::CalendarYearFullStandardRange(modifier) if V::SUPPLIES_DATE => {
+            match standard_year(value.calendar_year(state)) {
+                Ok(year) => Ok(fmt_calendar_year_full_standard_range(output, year, *modifier)),
+                Err(refusal) => Err(refusal),
+            }
+        }
+        Component::CalendarYearCenturyExtendedRange(modifier) if V::SUPPLIES_DATE => {
+            let year = value.calendar_year(state);
+            let century = extended_century(year);
+            Ok(fmt_calendar_year_century_extended_range(
+                output,
+                century,
+                year.is_negative(),
+                *modifier,
+            ))
+        }
+        Component::CalendarYearCenturyStandardRange(modifier) if V::SUPPLIES_DATE => {
+            let year = value.calendar_year(state);
+            match standard_century(year) {
+                Ok(century) => Ok(fmt_calendar_year_century_standard_range(
                     output,
                     century,
                     year.is_negative(),
                     *modifier,
-                ))
-            } else {
-                Err(Format::InsufficientTypeInformation)
+                )),
+                Err(refusal) => Err(refusal),
             }
         }
-        Component::CalendarYearCenturyStandardRange(modifier) => {
-            if V::SUPPLIES_DATE {
-                let year = value.calendar_year(state);
-                match standard_century(year) {
-                    Ok(century) => Ok(fmt_calendar_year_century_standard_range(
-                        output,
-                        century,
-                        year.is_negative(),
-                        *modifier,
-                    )),
-                    Err(refusal) => Err(refusal),
-                }
-            } else {
-                Err(Format::InsufficientTypeInformation)
+        Component::CalendarYearLastTwo(modifier) if V::SUPPLIES_DATE => {
+            Ok(fmt_calendar_year_last_two(output, last_two(value.calendar_year(state)), *modifier))
+        }
+        Component::IsoYearFullExtendedRange(modifier) if V::SUPPLIES_DATE => {
+            Ok(fmt_iso_year_full_extended_range(output, value.iso_year(state), *modifier))
+        }
+        Component::IsoYearFullStandardRange(modifier) if V::SUPPLIES_DATE => {
+            match standard_year(value.iso_year(state)) {
+                Ok(year) => Ok(fmt_iso_year_full_standard_range(output, year, *modifier)),
+                Err(refusal) => Err(refusal),
             }
         }
-        Component::CalendarYearLastTwo(modifier) => {
-            of_group!(
-                V::SUPPLIES_DATE,
-                fmt_calendar_year_last_two(output, last_two(value.calendar_year(state)), *modifier)
-            )
+        Component::IsoYearCenturyExtendedRange(modifier) if V::SUPPLIES_DATE => {
+            let year = value.iso_year(state);
+            let century = extended_century(year);
+            Ok(fmt_iso_year_century_extended_range(output, century, year.is_negative(), *modifier))
         }
-        Component::IsoYearFullExtendedRange(modifier) => {
-            of_group!(
-                V::SUPPLIES_DATE,
-                fmt_iso_year_full_extended_range(output, value.iso_year(state), *modifier)
-            )
-        }
-        Component::IsoYearFullStandardRange(modifier) => of_group_in_range!(
-            V::SUPPLIES_DATE,
-            year,
-            standard_year(value.iso_year(state)),
-            fmt_iso_year_full_standard_range(output, year, *modifier)
-        ),
-        Component::IsoYearCenturyExtendedRange(modifier) => {
-            if V::SUPPLIES_DATE {
-                let year = value.iso_year(state);
-                let century = extended_century(year);
-                Ok(fmt_iso_year_century_extended_range(
+        Component::IsoYearCenturyStandardRange(modifier) if V::SUPPLIES_DATE => {
+            let year = value.iso_year(state);
+            match standard_century(year) {
+                Ok(century) => Ok(fmt_iso_year_century_standard_range(
                     output,
                     century,
                     year.is_negative(),
                     *modifier,
-                ))
-            } else {
-                Err(Format::InsufficientTypeInformation)
+                )),
+                Err(refusal) => Err(refusal),
             }
         }
-        Component::IsoYearCenturyStandardRange(modifier) => {
-            if V::SUPPLIES_DATE {
-                let year = value.iso_year(state);
-                match standard_century(year) {
-                    Ok(century) => Ok(fmt_iso_year_century_standard_range(
-                        output,
-                        century,
-                        year.is_negative(),
-                        *modifier,
-                    )),
-                    Err(refusal) => Err(refusal),
-                }
-            } else {
-                Err(Format::InsufficientTypeInformation)
-            }
+        Component::IsoYearLastTwo(modifier) if V::SUPPLIES_DATE => {
+            Ok(fmt_iso_year_last_two(output, last_two(value.iso_year(state)), *modifier))
         }
-        Component::IsoYearLastTwo(modifier) => {
-            of_group!(
-                V::SUPPLIES_DATE,
-                fmt_iso_year_last_two(output, last_two(value.iso_year(state)), *modifier)
-            )
+        Component::Hour12(modifier) if V::SUPPLIES_TIME => {
+            Ok(fmt_hour_12(output, value.hour(state), *modifier))
         }
-        Component::Hour12(modifier) => {
-            of_group!(
-                V::SUPPLIES_TIME,
-                fmt_hour_12(output, value.hour(state), *modifier)
-            )
+        Component::Hour24(modifier) if V::SUPPLIES_TIME => {
+            Ok(fmt_hour_24(output, value.hour(state), *modifier))
         }
-        Component::Hour24(modifier) => {
-            of_group!(
-                V::SUPPLIES_TIME,
-                fmt_hour_24(output, value.hour(state), *modifier)
-            )
+        Component::Minute(modifier) if V::SUPPLIES_TIME => {
+            Ok(fmt_minute(output, value.minute(state), *modifier))
         }
-        Component::Minute(modifier) => {
-            of_group!(
-                V::SUPPLIES_TIME,
-                fmt_minute(output, value.minute(state), *modifier)
-            )
+        Component::Period(modifier) if V::SUPPLIES_TIME => {
+            Ok(fmt_period(output, value.period(state), *modifier))
         }
-        Component::Period(modifier) => {
-            of_group!(
-                V::SUPPLIES_TIME,
-                fmt_period(output, value.period(state), *modifier)
-            )
+        Component::Second(modifier) if V::SUPPLIES_TIME => {
+            Ok(fmt_second(output, value.second(state), *modifier))
         }
-        Component::Second(modifier) => {
-            of_group!(
-                V::SUPPLIES_TIME,
-                fmt_second(output, value.second(state), *modifier)
-            )
+        Component::Subsecond(modifier) if V::SUPPLIES_TIME => {
+            Ok(fmt_subsecond(output, value.nanosecond(state), *modifier))
         }
-        Component::Subsecond(modifier) => {
-            of_group!(
-                V::SUPPLIES_TIME,
-                fmt_subsecond(output, value.nanosecond(state), *modifier)
-            )
+        Component::OffsetHour(modifier) if V::SUPPLIES_OFFSET => {
+            let is_negative = value.offset_is_negative(state);
+            Ok(fmt_offset_hour(output, is_negative, value.offset_hour(state), *modifier))
         }
-        Component::OffsetHour(modifier) => {
-            if V::SUPPLIES_OFFSET {
-                let is_negative = value.offset_is_negative(state);
-                Ok(fmt_offset_hour(output, is_negative, value.offset_hour(state), *modifier))
-            } else {
-                Err(Format::InsufficientTypeInformation)
-            }
+        Component::OffsetMinute(modifier) if V::SUPPLIES_OFFSET => {
+            Ok(fmt_offset_minute(output, value.offset_minute(state), *modifier))
         }
-        Component::OffsetMinute(modifier) => {
-            of_group!(
-                V::SUPPLIES_OFFSET,
-                fmt_offset_minute(output, value.offset_minute(state), *modifier)
-            )
+        Component::OffsetSecond(modifier) if V::SUPPLIES_OFFSET => {
+            Ok(fmt_offset_second(output, value.offset_second(state), *modifier))
         }
-        Component::OffsetSecond(modifier) => {
-            of_group!(
-                V::SUPPLIES_OFFSET,
-                fmt_offset_second(output, value.offset_second(state), *modifier)
-            )
+        Component::UnixTimestampSecond(modifier) if V::SUPPLIES_TIMESTAMP => {
+            Ok(fmt_unix_timestamp_second(output, value.unix_timestamp_seconds(state), *modifier))
         }
-        Component::UnixTimestampSecond(modifier) => {
-            of_group!(
-                V::SUPPLIES_TIMESTAMP,
-                fmt_unix_timestamp_second(output, value.unix_timestamp_seconds(state), *modifier)
-            )
-        }
-        Component::UnixTimestampMillisecond(modifier) => {
-            of_group!(
-                V::SUPPLIES_TIMESTAMP,
-                fmt_unix_timestamp_millisecond(
-                    output,
-                    value.unix_timestamp_milliseconds(state),
-                    *modifier
-                )
-            )
+        Component::UnixTimestampMillisecond(modifier) if V::SUPPLIES_TIMESTAMP => {
+            Ok(fmt_unix_timestamp_millisecond(
+                output,
+                value.unix_timestamp_milliseconds(state),
+                *modifier,
+            ))
         }
         Component::Ignore(_) | Component::End(_) => Ok(0),
         Component::Month(_)
@@ -378,5 +254,7 @@ fn current_write_into<V: ComponentProvider>(
         | Component::Hour(_)
         | Component::UnixTimestamp(_)
         | Component::Year(_) => unreachable!(),
+        // The value does not supply the group of any other.
+        _ => Err(Format::InsufficientTypeInformation),
     }
 }

@@ -36,7 +36,8 @@ pub trait Formattable: ComputeMetadata {
         requires room { HasRoom output.old (Self.width_of self.now) }
         requires width { Self.width_of self.now < usize.MAX }
         requires agrees { V.agrees state.old value.now }
-        ensures appends { Appends output.old output.new result (outcome_of self.now (V.facts value.now)) }
+        ensures appends { Appends output.old output.new result
+            (outcome_of self.now (V.facts value.now)) }
         ensures within { vec_len output.new ≤ vec_len output.old + Self.width_of self.now }
         ensures agrees { V.agrees state.new value.now };
 
@@ -59,9 +60,11 @@ pub trait Formattable: ComputeMetadata {
 
         // The want of memory changes nothing, and where there is room it is never answered.
         ensures unchanged { result ≡ Err Format.OutOfMemory → output.new.items ≡ output.old.items }
-        ensures same_capacity { result ≡ Err Format.OutOfMemory → vec_capacity output.new ≡ vec_capacity output.old }
+        ensures same_capacity { result ≡ Err Format.OutOfMemory
+            → vec_capacity output.new ≡ vec_capacity output.old }
         ensures same_state { result ≡ Err Format.OutOfMemory → state.new ≡ state.old }
-        ensures room { HasRoom output.old (Self.width_of self.now) → Self.width_of self.now < usize.MAX
+        ensures room { HasRoom output.old (Self.width_of self.now)
+            → Self.width_of self.now < usize.MAX
             → result ≢ Err Format.OutOfMemory }
     {
         let width = self.compute_metadata().max_bytes_needed;
@@ -83,7 +86,8 @@ pub trait Formattable: ComputeMetadata {
         state: &mut V::State,
     ) -> Result<String, Format>
         requires agrees { V.agrees state.old value.now }
-        ensures text { IfOk result (λ text. string_bytes text ≡ lossy_text (outcome_of self.now (V.facts value.now)).bytes) }
+        ensures text { IfOk result (λ text. string_bytes text
+            ≡ lossy_text (outcome_of self.now (V.facts value.now)).bytes) }
         ensures complete { OnOk result ((outcome_of self.now (V.facts value.now)).refusal ≡ None) }
         ensures named { IfErr result (λ e. e ≢ Format.OutOfMemory
             → IsSomeAnd (outcome_of self.now (V.facts value.now)).refusal (Names e)) }

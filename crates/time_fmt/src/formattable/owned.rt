@@ -16,7 +16,8 @@ use time_provide::ComponentProvider;
 
 #[cycle(owned_metadata)]
 pub(super) fn metadata_of_items(items: &[OwnedFormatItem]) -> Metadata
-    ensures width { result.max_bytes_needed ≡ min (trees_width (trees (map owned_tree items.now))) usize.MAX }
+    ensures width { result.max_bytes_needed
+        ≡ min (trees_width (trees (map owned_tree items.now))) usize.MAX }
     ensures text { result.guaranteed_utf8 ≡ are_guaranteed_text (trees (map owned_tree items.now)) }
 {
     let mut sum = Metadata::default();
@@ -28,8 +29,10 @@ pub(super) fn metadata_of_items(items: &[OwnedFormatItem]) -> Metadata
 
 #[cycle(owned_metadata)]
 fn metadata_of_first(items: &[OwnedFormatItem]) -> Metadata
-    ensures width { result.max_bytes_needed ≡ min (tree_width (first_of (trees (map owned_tree items.now)))) usize.MAX }
-    ensures text { result.guaranteed_utf8 ≡ is_guaranteed_text (first_of (trees (map owned_tree items.now))) }
+    ensures width { result.max_bytes_needed
+        ≡ min (tree_width (first_of (trees (map owned_tree items.now)))) usize.MAX }
+    ensures text { result.guaranteed_utf8
+        ≡ is_guaranteed_text (first_of (trees (map owned_tree items.now))) }
 {
     match items {
         [] => Metadata::default(),
@@ -78,8 +81,10 @@ pub(super) fn write_items<V: ComponentProvider>(
 ) -> Result<usize, Format>
     requires room { HasRoom output.old (trees_width (trees (map owned_tree items.now))) }
     requires agrees { V.agrees state.old value.now }
-    ensures appends { Appends output.old output.new result (trees_outcome (trees (map owned_tree items.now)) (V.facts value.now)) }
-    ensures within { vec_len output.new ≤ vec_len output.old + trees_width (trees (map owned_tree items.now)) }
+    ensures appends { Appends output.old output.new result
+        (trees_outcome (trees (map owned_tree items.now)) (V.facts value.now)) }
+    ensures within { vec_len output.new
+        ≤ vec_len output.old + trees_width (trees (map owned_tree items.now)) }
     ensures agrees { V.agrees state.new value.now }
 {
     let mut sum = 0usize;
@@ -102,8 +107,10 @@ fn write_first<V: ComponentProvider>(
 ) -> Result<usize, Format>
     requires room { HasRoom output.old (tree_width (first_of (trees (map owned_tree items.now)))) }
     requires agrees { V.agrees state.old value.now }
-    ensures appends { Appends output.old output.new result (tree_outcome (first_of (trees (map owned_tree items.now))) (V.facts value.now)) }
-    ensures within { vec_len output.new ≤ vec_len output.old + tree_width (first_of (trees (map owned_tree items.now))) }
+    ensures appends { Appends output.old output.new result
+        (tree_outcome (first_of (trees (map owned_tree items.now))) (V.facts value.now)) }
+    ensures within { vec_len output.new
+        ≤ vec_len output.old + tree_width (first_of (trees (map owned_tree items.now))) }
     ensures agrees { V.agrees state.new value.now }
 {
     match items.first() {
@@ -121,7 +128,8 @@ fn write_item<V: ComponentProvider>(
 ) -> Result<usize, Format>
     requires room { HasRoom output.old (tree_width (owned_tree item.now)) }
     requires agrees { V.agrees state.old value.now }
-    ensures appends { Appends output.old output.new result (tree_outcome (owned_tree item.now) (V.facts value.now)) }
+    ensures appends { Appends output.old output.new result
+        (tree_outcome (owned_tree item.now) (V.facts value.now)) }
     ensures within { vec_len output.new ≤ vec_len output.old + tree_width (owned_tree item.now) }
     ensures agrees { V.agrees state.new value.now }
 {

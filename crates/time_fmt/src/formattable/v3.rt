@@ -39,8 +39,10 @@ fn write_items<V: ComponentProvider>(
 ) -> Result<usize, Format>
     requires room { HasRoom output.old (trees_width (trees (map v3_tree items.now))) }
     requires agrees { V.agrees state.old value.now }
-    ensures appends { Appends output.old output.new result (trees_outcome (trees (map v3_tree items.now)) (V.facts value.now)) }
-    ensures within { vec_len output.new ≤ vec_len output.old + trees_width (trees (map v3_tree items.now)) }
+    ensures appends { Appends output.old output.new result
+        (trees_outcome (trees (map v3_tree items.now)) (V.facts value.now)) }
+    ensures within { vec_len output.new
+        ≤ vec_len output.old + trees_width (trees (map v3_tree items.now)) }
     ensures agrees { V.agrees state.new value.now }
 {
     let mut sum = 0usize;
@@ -63,8 +65,10 @@ fn write_first<V: ComponentProvider>(
 ) -> Result<usize, Format>
     requires room { HasRoom output.old (tree_width (first_of (trees (map v3_tree items.now)))) }
     requires agrees { V.agrees state.old value.now }
-    ensures appends { Appends output.old output.new result (tree_outcome (first_of (trees (map v3_tree items.now))) (V.facts value.now)) }
-    ensures within { vec_len output.new ≤ vec_len output.old + tree_width (first_of (trees (map v3_tree items.now))) }
+    ensures appends { Appends output.old output.new result
+        (tree_outcome (first_of (trees (map v3_tree items.now))) (V.facts value.now)) }
+    ensures within { vec_len output.new
+        ≤ vec_len output.old + tree_width (first_of (trees (map v3_tree items.now))) }
     ensures agrees { V.agrees state.new value.now }
 {
     match items.first() {
@@ -85,7 +89,8 @@ pub fn v3_write_into<V: ComponentProvider>(
 ) -> Result<usize, Format>
     requires room { HasRoom output.old (tree_width (v3_tree item.now)) }
     requires agrees { V.agrees state.old value.now }
-    ensures appends { Appends output.old output.new result (tree_outcome (v3_tree item.now) (V.facts value.now)) }
+    ensures appends { Appends output.old output.new result
+        (tree_outcome (v3_tree item.now) (V.facts value.now)) }
     ensures within { vec_len output.new ≤ vec_len output.old + tree_width (v3_tree item.now) }
     ensures agrees { V.agrees state.new value.now }
 {

@@ -16,8 +16,10 @@ pub fn fmt_offset_hour(
     hour: OffsetHours,
     modifier: modifier::OffsetHour,
 ) -> usize
-    requires room { HasRoom output.old (length (offset_hour_text modifier.padding modifier.sign_is_mandatory is_negative hour)) }
-    ensures writes { Writes output.old output.new result (offset_hour_text modifier.padding modifier.sign_is_mandatory is_negative hour) }
+    requires room { HasRoom output.old
+        (length (offset_hour_text modifier.padding modifier.sign_is_mandatory is_negative hour)) }
+    ensures writes { Writes output.old output.new result
+        (offset_hour_text modifier.padding modifier.sign_is_mandatory is_negative hour) }
 {
     let sign = fmt_sign(output, is_negative, modifier.sign_is_mandatory);
     sign + format_two_digits(output, hour.abs().expand(), modifier.padding)
@@ -30,8 +32,10 @@ pub fn fmt_offset_minute(
     minute: OffsetMinutes,
     modifier: modifier::OffsetMinute,
 ) -> usize
-    requires room { HasRoom output.old (length (padded_text modifier.padding 2 (unsigned_abs minute))) }
-    ensures writes { Writes output.old output.new result (padded_text modifier.padding 2 (unsigned_abs minute)) }
+    requires room { HasRoom output.old
+        (length (padded_text modifier.padding 2 (unsigned_abs minute))) }
+    ensures writes { Writes output.old output.new result
+        (padded_text modifier.padding 2 (unsigned_abs minute)) }
 {
     format_two_digits(output, minute.abs().expand(), modifier.padding)
 }
@@ -43,8 +47,10 @@ pub fn fmt_offset_second(
     second: OffsetSeconds,
     modifier: modifier::OffsetSecond,
 ) -> usize
-    requires room { HasRoom output.old (length (padded_text modifier.padding 2 (unsigned_abs second))) }
-    ensures writes { Writes output.old output.new result (padded_text modifier.padding 2 (unsigned_abs second)) }
+    requires room { HasRoom output.old
+        (length (padded_text modifier.padding 2 (unsigned_abs second))) }
+    ensures writes { Writes output.old output.new result
+        (padded_text modifier.padding 2 (unsigned_abs second)) }
 {
     format_two_digits(output, second.abs().expand(), modifier.padding)
 }

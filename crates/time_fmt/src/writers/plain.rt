@@ -48,7 +48,8 @@ pub fn write_if(output: &mut Vec<u8>, is_wanted: bool, text: &str) -> usize
 #[inline]
 pub fn write_if_else(output: &mut Vec<u8>, is_wanted: bool, text: &str, other: &str) -> usize
     requires room { HasRoom output.old (length (if is_wanted then text.now else other.now)) }
-    ensures writes { Writes output.old output.new result (if is_wanted then text.now else other.now) }
+    ensures writes { Writes output.old output.new result
+        (if is_wanted then text.now else other.now) }
 {
     write(output, if is_wanted { text } else { other })
 }

@@ -20,7 +20,8 @@ use time_provide::ranges::{Hours, Minutes, Nanoseconds, Seconds};
 #[inline]
 pub fn fmt_hour_12(output: &mut Vec<u8>, hour: Hours, modifier: modifier::Hour12) -> usize
     requires room { HasRoom output.old (length (padded_text modifier.padding 2 (hour_12 hour))) }
-    ensures writes { Writes output.old output.new result (padded_text modifier.padding 2 (hour_12 hour)) }
+    ensures writes { Writes output.old output.new result
+        (padded_text modifier.padding 2 (hour_12 hour)) }
 {
     let on_the_dial = (hour.get() + 11) % 12 + 1;
     format_two_digits(output, ru8::new(on_the_dial).unwrap(), modifier.padding)
@@ -48,7 +49,8 @@ pub fn fmt_minute(output: &mut Vec<u8>, minute: Minutes, modifier: modifier::Min
 #[inline]
 pub fn fmt_period(output: &mut Vec<u8>, period: Period, modifier: modifier::Period) -> usize
     requires room { HasRoom output.old (length (period_text period modifier.is_uppercase)) }
-    ensures writes { Writes output.old output.new result (period_text period modifier.is_uppercase) }
+    ensures writes { Writes output.old output.new result
+        (period_text period modifier.is_uppercase) }
 {
     let text = match (period, modifier.is_uppercase) {
         (Period::Am, true) => "AM",
@@ -77,7 +79,8 @@ pub fn fmt_subsecond(
     modifier: modifier::Subsecond,
 ) -> usize
     requires room { HasRoom output.old (length (subsecond_text modifier.digits nanosecond)) }
-    ensures writes { Writes output.old output.new result (subsecond_text modifier.digits nanosecond) }
+    ensures writes { Writes output.old output.new result
+        (subsecond_text modifier.digits nanosecond) }
 {
     let number = nanosecond.get();
     match modifier.digits {

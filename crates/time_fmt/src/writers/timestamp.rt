@@ -13,8 +13,10 @@ pub fn fmt_unix_timestamp_second(
     seconds: i64,
     modifier: modifier::UnixTimestampSecond,
 ) -> usize
-    requires room { HasRoom output.old (length (timestamp_text modifier.sign_is_mandatory seconds)) }
-    ensures writes { Writes output.old output.new result (timestamp_text modifier.sign_is_mandatory seconds) }
+    requires room { HasRoom output.old
+        (length (timestamp_text modifier.sign_is_mandatory seconds)) }
+    ensures writes { Writes output.old output.new result
+        (timestamp_text modifier.sign_is_mandatory seconds) }
 {
     format_signed(output, seconds, modifier.sign_is_mandatory)
 }
@@ -26,8 +28,10 @@ pub fn fmt_unix_timestamp_millisecond(
     milliseconds: i64,
     modifier: modifier::UnixTimestampMillisecond,
 ) -> usize
-    requires room { HasRoom output.old (length (timestamp_text modifier.sign_is_mandatory milliseconds)) }
-    ensures writes { Writes output.old output.new result (timestamp_text modifier.sign_is_mandatory milliseconds) }
+    requires room { HasRoom output.old
+        (length (timestamp_text modifier.sign_is_mandatory milliseconds)) }
+    ensures writes { Writes output.old output.new result
+        (timestamp_text modifier.sign_is_mandatory milliseconds) }
 {
     format_signed(output, milliseconds, modifier.sign_is_mandatory)
 }
