@@ -37,10 +37,7 @@ impl<const N: usize> StackStr<N> {
     pub fn as_str(&self) -> &str
         ensures { result.now ≡ shown self.now }
     {
-        match std::str::from_utf8(&self.bytes[..self.len]) {
-            Ok(text) => text,
-            Err(_) => unreachable!(),
-        }
+        unsafe { std::str::from_utf8_unchecked(&self.bytes[..self.len]) }
     }
 }
 
@@ -81,10 +78,7 @@ impl<const N: usize> StackTrailingStr<N> {
         ensures { result.now ≡ shown_end self.now }
     {
         let bytes = &self.bytes[..];
-        match std::str::from_utf8(&bytes[self.start..]) {
-            Ok(text) => text,
-            Err(_) => unreachable!(),
-        }
+        unsafe { std::str::from_utf8_unchecked(&bytes[self.start..]) }
     }
 }
 

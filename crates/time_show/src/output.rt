@@ -87,9 +87,10 @@ impl OutputBuffer {
         self.len = end;
     }
 
-    /// Writes what waits. After an error nothing is said of what waits.
+    /// Writes what waits, and empties the buffer. After an error the buffer is as it was.
     pub fn flush<W: Write>(&mut self, output: &mut W) -> Result<(), WriteFailed>
         ensures empty { OnOk result (self.new ≡ []) }
+        ensures kept { OnErr result (self.new ≡ self.old) }
         ensures ok { OnOk result
             (Appends (W.contents output.old) (W.contents output.new) self.old) }
         ensures err { OnErr result
