@@ -8,6 +8,7 @@
 mod bytes;
 mod command;
 mod fields;
+mod laws;
 mod line_buffer;
 mod output;
 mod reply;

@@ -1,8 +1,9 @@
 //! The program's lines, and the run over readers and writers that fail.
 ghost use Rattle.std.specs.Prelude.{ℕ, List, ◌≤◌, IfOk};
 ghost use Rattle.time_show.specs.Answer.{AreAnswers};
-ghost use Rattle.time_show.specs.Lines.{lines_of, LinesSpell};
+ghost use Rattle.time_show.specs.Lines.{lines_of};
 
+use crate::laws::lines_spell_their_text;
 use crate::run::{ShowError, run, status};
 use std::alloc::Global;
 use std::io;
@@ -333,11 +334,6 @@ fn answers_known_bytes(rt: HostRuntime) -> Result<(), Fail> {
     );
     Ok(())
 }
-
-/// A law of the definitions, and no work.
-fn lines_spell_their_text()
-    ensures { (bytes : List ℕ) → LinesSpell bytes }
-{}
 
 #[test]
 fn laws_hold() {

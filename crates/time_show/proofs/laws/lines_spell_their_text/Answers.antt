@@ -1,5 +1,5 @@
 use Rattle.time_show.proofs.LinesLemmas.{LinesSpell-holds}
-use Rattle.time_show.proofs.tests.lines_spell_their_text.Goals as goal
+use Rattle.time_show.proofs.laws.lines_spell_their_text.Goals as goal
 
 pub returns : goal.returns
 returns c = LinesSpell-holds
