@@ -1,11 +1,12 @@
 //! Reservations that are refused, and memory that is there.
 use super::time;
-use crate::{BorrowedItems, ComputeMetadata, Format, Formattable, Metadata};
+use crate::{BorrowedItems, ComputeMetadata, Format, Formattable, Metadata, OwnedItems};
 use std::alloc::{AllocError, Global};
 use std::process::Abort;
 use std::test::Fail;
 use time_below::format_description::{
-    BorrowedFormatItem, Component, FormatDescriptionV3, FormatDescriptionV3Inner, modifier,
+    BorrowedFormatItem, Component, FormatDescriptionV3, FormatDescriptionV3Inner, OwnedFormatItem,
+    modifier,
 };
 
 type Lent = &'static [BorrowedFormatItem<'static>];
@@ -56,23 +57,45 @@ fn too_wide_v3(alloc: Global) -> Result<LentV3, AllocError> {
     sixty_four_v3(alloc, fourth)
 }
 
-/// The want of memory changes nothing, and the next call writes what it is asked for.
+/// All addresses that are left, in pieces of 16 GiB down to 4 MiB, of which no byte is written.
+fn all_that_is_left(alloc: Global) -> Result<Vec<Vec<u8>>, AllocError> {
+    let mut taken = Vec::with_capacity(alloc, 65_536)?;
+    for bits in [34, 32, 30, 28, 26, 24, 22] {
+        for _ in 0..65_536 {
+            let Ok(piece) = Vec::with_capacity(alloc, 1usize << bits) else {
+                break;
+            };
+            taken.push(piece)?;
+        }
+    }
+    Ok(taken)
+}
+
+/// The want of memory changes nothing, and the next call writes what it is asked for. For a width
+/// that a machine could hold, nothing is left meanwhile.
 fn assert_refused<D: Formattable>(
     rt: &impl Abort,
     alloc: Global,
     item: &D,
+    width: usize,
 ) -> Result<(), AllocError> {
-    assert_eq!(rt; item.compute_metadata().max_bytes_needed, WIDTH);
+    assert_eq!(rt; item.compute_metadata().max_bytes_needed, width);
     let value = time(rt, 9, 55, 6, 0);
     let mut output = Vec::new(alloc);
     output.extend_from_slice(b"before")?;
     let capacity = output.capacity();
+    let taken = if width < WIDTH {
+        all_that_is_left(alloc)?
+    } else {
+        Vec::new(alloc)
+    };
     let refused = item.format_into(&mut output, &value, &mut ());
+    let text = item.format(alloc, &value, &mut ());
+    drop(taken);
     assert!(rt; matches!(&refused, Err(Format::OutOfMemory)));
+    assert!(rt; matches!(&text, Err(Format::OutOfMemory)));
     assert_eq!(rt; output.as_slice(), b"before".as_slice());
     assert_eq!(rt; output.capacity(), capacity);
-    let text = item.format(alloc, &value, &mut ());
-    assert!(rt; matches!(&text, Err(Format::OutOfMemory)));
     let hour = BorrowedFormatItem::Component(Component::Hour12(modifier::Hour12 {
         padding: modifier::Padding::Space,
     }));
@@ -85,8 +108,8 @@ fn assert_refused<D: Formattable>(
 #[test]
 fn a_refused_reservation_of_a_borrowed_tree_changes_nothing(rt: HostRuntime) -> Result<(), Fail> {
     let items = too_wide(rt.alloc())?;
-    assert_refused(&rt, rt.alloc(), &BorrowedFormatItem::Compound(items))?;
-    assert_refused(&rt, rt.alloc(), &BorrowedItems(items))?;
+    assert_refused(&rt, rt.alloc(), &BorrowedFormatItem::Compound(items), WIDTH)?;
+    assert_refused(&rt, rt.alloc(), &BorrowedItems(items), WIDTH)?;
     Ok(())
 }
 
@@ -94,7 +117,22 @@ fn a_refused_reservation_of_a_borrowed_tree_changes_nothing(rt: HostRuntime) -> 
 fn a_refused_reservation_of_the_third_version_changes_nothing(rt: HostRuntime) -> Result<(), Fail> {
     let items = too_wide_v3(rt.alloc())?;
     let tree = FormatDescriptionV3::new(FormatDescriptionV3Inner::BorrowedCompound(items));
-    assert_refused(&rt, rt.alloc(), &tree)?;
+    assert_refused(&rt, rt.alloc(), &tree, WIDTH)?;
+    Ok(())
+}
+
+// An owned tree shares nothing, so it cannot be as wide.
+#[test]
+fn a_refused_reservation_of_an_owned_tree_changes_nothing(rt: HostRuntime) -> Result<(), Fail> {
+    let bytes = vec![in rt.alloc(); b'x'; 2 * LITERAL]?;
+    let items = vec![in rt.alloc(); OwnedFormatItem::Literal(bytes)]?;
+    assert_refused(&rt, rt.alloc(), &OwnedItems(items.as_slice()), 2 * LITERAL)?;
+    assert_refused(
+        &rt,
+        rt.alloc(),
+        &OwnedFormatItem::Compound(items),
+        2 * LITERAL,
+    )?;
     Ok(())
 }
 
