@@ -2,8 +2,11 @@
 use Rattle.std.proofs.Common.{◌≡◌, ap, sym, ◌∙◌, List, map, Bor, Bool, if◌then◌else◌, Some, Vec}
 use Rattle.std.specs.Global.{Global}
 use Rattle.std.specs.declared.boxed.Box.{Box}
-use Rattle.time_below.specs.Tree.{Tree, trees, all_of, first_of, nothing, of_component, owned_tree, owned_layer, v3_tree, v3_component, v3_layer, layer_component, optional_component}
+use Rattle.time_below.specs.Tree.{Tree, trees, all_of, first_of, nothing, of_component, borrowed_tree, borrowed_layer, owned_tree, owned_layer, v3_tree, v3_component, v3_layer, layer_component, optional_component}
 use Rattle.time_below.specs.declared.format_description.component.Component.{Component}
+use Rattle.time_below.specs.declared.format_description.borrowed_format_item.BorrowedFormatItem.{BorrowedFormatItem, fold-roll-BorrowedFormatItem}
+use Rattle.time_below.specs.declared.format_description.borrowed_format_item.BorrowedFormatItem.TheVariants as borrowed_item
+use Rattle.time_below.specs.declared.format_description.borrowed_format_item.BorrowedFormatItem.TheOpen as open_borrowed
 use Rattle.time_below.specs.declared.format_description.owned_format_item.OwnedFormatItem.{OwnedFormatItem, fold-roll-OwnedFormatItem}
 use Rattle.time_below.specs.declared.format_description.owned_format_item.OwnedFormatItem.TheVariants as owned_item
 use Rattle.time_below.specs.declared.format_description.owned_format_item.OwnedFormatItem.TheOpen as open_owned
@@ -11,6 +14,23 @@ use Rattle.time_below.specs.declared.format_description.format_description_v3.Fo
 use Rattle.time_below.specs.declared.format_description.format_description_v3.FormatDescriptionV3Inner.{FormatDescriptionV3Inner, FormatDescriptionV3Inner-F, out-FormatDescriptionV3Inner, fold_out-FormatDescriptionV3Inner, fold-roll-FormatDescriptionV3Inner}
 use Rattle.time_below.specs.declared.format_description.format_description_v3.FormatDescriptionV3Inner.TheVariants as v3_item
 use Rattle.time_below.specs.declared.format_description.format_description_v3.FormatDescriptionV3Inner.TheOpen as open_v3
+
+pub borrowed_compound : (items : Bor (List BorrowedFormatItem)) → borrowed_tree (borrowed_item.Compound items) ≡ all_of (trees (map borrowed_tree items.now))
+borrowed_compound items =
+    ap borrowed_tree (sym (borrowed_item.rolls-Compound items))
+    ∙ fold-roll-BorrowedFormatItem Tree borrowed_layer (open_borrowed.Compound items)
+
+pub borrowed_first : (items : Bor (List BorrowedFormatItem)) → borrowed_tree (borrowed_item.First items) ≡ first_of (trees (map borrowed_tree items.now))
+borrowed_first items =
+    ap borrowed_tree (sym (borrowed_item.rolls-First items))
+    ∙ fold-roll-BorrowedFormatItem Tree borrowed_layer (open_borrowed.First items)
+
+pub borrowed_optional : (item : Bor BorrowedFormatItem) → borrowed_tree (borrowed_item.Optional item) ≡ borrowed_tree item.now
+borrowed_optional item =
+    ap borrowed_tree (sym (borrowed_item.rolls-Optional item))
+    ∙ fold-roll-BorrowedFormatItem Tree borrowed_layer (open_borrowed.Optional item)
+
+pub ruleset borrowed_trees = (borrowed_compound, borrowed_first, borrowed_optional)
 
 pub owned_compound : (items : Vec OwnedFormatItem Global) → owned_tree (owned_item.Compound items) ≡ all_of (trees (map owned_tree items.items))
 owned_compound items =
