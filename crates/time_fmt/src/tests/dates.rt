@@ -440,3 +440,32 @@ fn all_months_and_weekdays_have_their_names(rt: HostRuntime) {
         );
     }
 }
+
+/// Appends a date such as `22 November 2026`, as the front page of the repository shows.
+fn append_date(line: &mut Vec<u8>, date: &Date) -> Result<usize, Format> {
+    let items = [
+        BorrowedFormatItem::Component(Component::Day(modifier::Day {
+            padding: Padding::None,
+        })),
+        BorrowedFormatItem::StringLiteral(" "),
+        BorrowedFormatItem::Component(Component::MonthLong(modifier::MonthLong {
+            case_sensitive: true,
+        })),
+        BorrowedFormatItem::StringLiteral(" "),
+        BorrowedFormatItem::Component(Component::CalendarYearFullStandardRange(
+            modifier::CalendarYearFullStandardRange {
+                padding: Padding::Zero,
+                sign_is_mandatory: false,
+            },
+        )),
+    ];
+    BorrowedFormatItem::Compound(&items).format_into(line, date, &mut DateState::default())
+}
+
+#[test]
+fn a_date_in_words(rt: HostRuntime) {
+    let mut line = Vec::new(rt.alloc());
+    let written = append_date(&mut line, &date(&rt, 2026, Month::November, 22));
+    assert!(rt; matches!(&written, Ok(16)));
+    assert_eq!(rt; line.as_slice(), b"22 November 2026".as_slice());
+}
