@@ -1,4 +1,5 @@
-//! Laws of descriptions: the contract of each function is the law, and its body does nothing.
+//! Laws of descriptions and values: the contract of each function is the law. Its body does nothing,
+//! or calls the methods whose contracts the law needs.
 ghost use Rattle.std.specs.Prelude.{IfSome, IsTrue};
 ghost use Rattle.time_fmt.specs.Guarantee.{GuaranteedTextIsUtf8, FactsFit, DateFits, TimeFits, OffsetFits, MomentFits};
 ghost use Rattle.time_fmt.specs.Laws.{EqualTreesHaveEqualOutcomes, FirstIsItsFirstItem, ListIsItsItemsInOrder, OutcomesAreAMonoid, MetadataIsACommutativeMonoid};
@@ -37,7 +38,8 @@ pub fn guaranteed_text_is_utf8()
     ensures { GuaranteedTextIsUtf8 }
 {}
 
-/// The numbers of every value's components have at most 64 bits, as the text guarantee asks.
+/// The numbers of every value's components have at most 64 bits, as the text guarantee asks. The
+/// range of each method shows it of its component.
 pub fn components_fit<V: ComponentProvider>(value: &V, state: &mut V::State)
     requires agrees { V.agrees state.old value.now }
     ensures fit { FactsFit (V.facts value.now) }
@@ -57,6 +59,7 @@ pub fn components_fit<V: ComponentProvider>(value: &V, state: &mut V::State)
     }
 }
 
+// The same of the components of a date.
 fn date_fits<V: ComponentProvider>(value: &V, state: &mut V::State)
     requires supplied { IsTrue V.SUPPLIES_DATE }
     requires agrees { V.agrees state.old value.now }
@@ -74,6 +77,7 @@ fn date_fits<V: ComponentProvider>(value: &V, state: &mut V::State)
     value.sunday_based_week(state);
 }
 
+// The same of the components of a time of day.
 fn time_fits<V: ComponentProvider>(value: &V, state: &mut V::State)
     requires supplied { IsTrue V.SUPPLIES_TIME }
     requires agrees { V.agrees state.old value.now }
@@ -85,6 +89,7 @@ fn time_fits<V: ComponentProvider>(value: &V, state: &mut V::State)
     value.second(state);
 }
 
+// The same of the components of an offset.
 fn offset_fits<V: ComponentProvider>(value: &V, state: &mut V::State)
     requires supplied { IsTrue V.SUPPLIES_OFFSET }
     requires agrees { V.agrees state.old value.now }
@@ -96,6 +101,7 @@ fn offset_fits<V: ComponentProvider>(value: &V, state: &mut V::State)
     value.offset_second(state);
 }
 
+// The same of the components of a timestamp.
 fn stamp_fits<V: ComponentProvider>(value: &V, state: &mut V::State)
     requires supplied { IsTrue V.SUPPLIES_TIMESTAMP }
     requires agrees { V.agrees state.old value.now }

@@ -1,5 +1,4 @@
 //! Reservations that are refused, and memory that is there.
-use super::time;
 use crate::{BorrowedItems, ComputeMetadata, Format, Formattable, Metadata, OwnedItems};
 use std::alloc::{AllocError, Global};
 use std::process::Abort;
@@ -8,6 +7,8 @@ use time_below::format_description::{
     BorrowedFormatItem, Component, FormatDescriptionV3, FormatDescriptionV3Inner, OwnedFormatItem,
     modifier,
 };
+use time_below::{Date, Month};
+use time_provide::DateState;
 
 type Lent = &'static [BorrowedFormatItem<'static>];
 
@@ -80,7 +81,10 @@ fn assert_refused<D: Formattable>(
     width: usize,
 ) -> Result<(), AllocError> {
     assert_eq!(rt; item.compute_metadata().max_bytes_needed, width);
-    let value = time(rt, 9, 55, 6, 0);
+    let Ok(value) = Date::from_calendar_date(1997, Month::November, 12) else {
+        panic!(rt; "no date");
+    };
+    let mut state = DateState::default();
     let mut output = Vec::new(alloc);
     output.extend_from_slice(b"before")?;
     let capacity = output.capacity();
@@ -89,19 +93,20 @@ fn assert_refused<D: Formattable>(
     } else {
         Vec::new(alloc)
     };
-    let refused = item.format_into(&mut output, &value, &mut ());
-    let text = item.format(alloc, &value, &mut ());
+    let refused = item.format_into(&mut output, &value, &mut state);
+    let text = item.format(alloc, &value, &mut state);
     drop(taken);
     assert!(rt; matches!(&refused, Err(Format::OutOfMemory)));
     assert!(rt; matches!(&text, Err(Format::OutOfMemory)));
     assert_eq!(rt; output.as_slice(), b"before".as_slice());
     assert_eq!(rt; output.capacity(), capacity);
-    let hour = BorrowedFormatItem::Component(Component::Hour12(modifier::Hour12 {
-        padding: modifier::Padding::Space,
+    assert_eq!(rt; state, DateState::default());
+    let day = BorrowedFormatItem::Component(Component::Day(modifier::Day {
+        padding: modifier::Padding::Zero,
     }));
-    let written = hour.format_into(&mut output, &value, &mut ());
+    let written = day.format_into(&mut output, &value, &mut state);
     assert!(rt; matches!(&written, Ok(2)));
-    assert_eq!(rt; output.as_slice(), b"before 9".as_slice());
+    assert_eq!(rt; output.as_slice(), b"before12".as_slice());
     Ok(())
 }
 

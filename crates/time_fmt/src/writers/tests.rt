@@ -1,4 +1,4 @@
-//! Worked rows of numbers: paddings and signs.
+//! Worked rows of numbers, their paddings and signs, and texts as they are.
 ghost use Rattle.std.specs.Prelude.{IfOk};
 ghost use Rattle.time_fmt.specs.Room.{HasRoom};
 
@@ -143,6 +143,34 @@ fn signs(rt: HostRuntime) -> Result<(), Fail> {
         let mut output = empty(&rt)?;
         let count = fmt_sign(&mut output, is_negative, sign_is_mandatory);
         assert_written(&rt, &output, count, text);
+    }
+    Ok(())
+}
+
+#[test]
+fn bytes_and_texts_as_they_are(rt: HostRuntime) -> Result<(), Fail> {
+    let mut output = empty(&rt)?;
+    let count = write_bytes(&mut output, b"\xc3");
+    assert_eq!(rt; output.as_slice(), b"\xc3".as_slice());
+    assert_eq!(rt; count, 1);
+    let mut output = empty(&rt)?;
+    let count = write(&mut output, "T");
+    assert_written(&rt, &output, count, "T");
+    let mut output = empty(&rt)?;
+    let count = write_many(&mut output, &["1", "", "997"]);
+    assert_written(&rt, &output, count, "1997");
+    Ok(())
+}
+
+#[test]
+fn texts_that_are_wanted(rt: HostRuntime) -> Result<(), Fail> {
+    for (is_wanted, text, chosen) in [(true, "+", "AM"), (false, "", "PM")] {
+        let mut output = empty(&rt)?;
+        let count = write_if(&mut output, is_wanted, "+");
+        assert_written(&rt, &output, count, text);
+        let mut output = empty(&rt)?;
+        let count = write_if_else(&mut output, is_wanted, "AM", "PM");
+        assert_written(&rt, &output, count, chosen);
     }
     Ok(())
 }
