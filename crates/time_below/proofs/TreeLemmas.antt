@@ -1,17 +1,15 @@
 -- The trees of items that hold other items, variant by variant.
-use Rattle.std.proofs.Common.{◌≡◌, ap, sym, ◌∙◌, List, map, Bor, Bool, if◌then◌else◌, Some, Vec}
+use Rattle.std.proofs.Common.{◌≡◌, ap, sym, ◌∙◌, List, map, Bor, Bool, true, Vec}
 use Rattle.std.specs.Global.{Global}
 use Rattle.std.specs.declared.boxed.Box.{Box}
-use Rattle.time_below.specs.Tree.{Tree, trees, all_of, first_of, nothing, of_component, borrowed_tree, borrowed_layer, owned_tree, owned_layer, v3_tree, v3_component, v3_layer, layer_component, optional_component}
-use Rattle.time_below.specs.declared.format_description.component.Component.{Component}
+use Rattle.time_below.specs.Tree.{Tree, trees, all_of, first_of, optional, borrowed_tree, borrowed_layer, owned_tree, owned_layer, v3_tree, v3_layer}
 use Rattle.time_below.specs.declared.format_description.borrowed_format_item.BorrowedFormatItem.{BorrowedFormatItem, fold-roll-BorrowedFormatItem}
 use Rattle.time_below.specs.declared.format_description.borrowed_format_item.BorrowedFormatItem.TheVariants as borrowed_item
 use Rattle.time_below.specs.declared.format_description.borrowed_format_item.BorrowedFormatItem.TheOpen as open_borrowed
 use Rattle.time_below.specs.declared.format_description.owned_format_item.OwnedFormatItem.{OwnedFormatItem, fold-roll-OwnedFormatItem}
 use Rattle.time_below.specs.declared.format_description.owned_format_item.OwnedFormatItem.TheVariants as owned_item
 use Rattle.time_below.specs.declared.format_description.owned_format_item.OwnedFormatItem.TheOpen as open_owned
-use Rattle.time_below.specs.declared.format_description.format_description_v3.FormatDescriptionV3Inner as v3
-use Rattle.time_below.specs.declared.format_description.format_description_v3.FormatDescriptionV3Inner.{FormatDescriptionV3Inner, FormatDescriptionV3Inner-F, out-FormatDescriptionV3Inner, fold_out-FormatDescriptionV3Inner, fold-roll-FormatDescriptionV3Inner}
+use Rattle.time_below.specs.declared.format_description.format_description_v3.FormatDescriptionV3Inner.{FormatDescriptionV3Inner, fold-roll-FormatDescriptionV3Inner}
 use Rattle.time_below.specs.declared.format_description.format_description_v3.FormatDescriptionV3Inner.TheVariants as v3_item
 use Rattle.time_below.specs.declared.format_description.format_description_v3.FormatDescriptionV3Inner.TheOpen as open_v3
 
@@ -25,7 +23,7 @@ borrowed_first items =
     ap borrowed_tree (sym (borrowed_item.rolls-First items))
     ∙ fold-roll-BorrowedFormatItem Tree borrowed_layer (open_borrowed.First items)
 
-pub borrowed_optional : (item : Bor BorrowedFormatItem) → borrowed_tree (borrowed_item.Optional item) ≡ borrowed_tree item.now
+pub borrowed_optional : (item : Bor BorrowedFormatItem) → borrowed_tree (borrowed_item.Optional item) ≡ optional true (borrowed_tree item.now)
 borrowed_optional item =
     ap borrowed_tree (sym (borrowed_item.rolls-Optional item))
     ∙ fold-roll-BorrowedFormatItem Tree borrowed_layer (open_borrowed.Optional item)
@@ -42,7 +40,7 @@ owned_first items =
     ap owned_tree (sym (owned_item.rolls-First items))
     ∙ fold-roll-OwnedFormatItem Tree owned_layer (open_owned.First items)
 
-pub owned_optional : (item : Box OwnedFormatItem Global) → owned_tree (owned_item.Optional item) ≡ owned_tree item.value
+pub owned_optional : (item : Box OwnedFormatItem Global) → owned_tree (owned_item.Optional item) ≡ optional true (owned_tree item.value)
 owned_optional item =
     ap owned_tree (sym (owned_item.rolls-Optional item))
     ∙ fold-roll-OwnedFormatItem Tree owned_layer (open_owned.Optional item)
@@ -54,7 +52,7 @@ v3_borrowed_compound items =
     ap v3_tree (sym (v3_item.rolls-BorrowedCompound items))
     ∙ fold-roll-FormatDescriptionV3Inner Tree v3_layer (open_v3.BorrowedCompound items)
 
-pub v3_borrowed_optional : (format : Bool) (item : Bor FormatDescriptionV3Inner) → v3_tree (v3_item.BorrowedOptional format item) ≡ (if format then v3_tree item.now else nothing)
+pub v3_borrowed_optional : (format : Bool) (item : Bor FormatDescriptionV3Inner) → v3_tree (v3_item.BorrowedOptional format item) ≡ optional format (v3_tree item.now)
 v3_borrowed_optional format item =
     ap v3_tree (sym (v3_item.rolls-BorrowedOptional format item))
     ∙ fold-roll-FormatDescriptionV3Inner Tree v3_layer (open_v3.BorrowedOptional format item)
@@ -69,7 +67,7 @@ v3_owned_compound items =
     ap v3_tree (sym (v3_item.rolls-OwnedCompound items))
     ∙ fold-roll-FormatDescriptionV3Inner Tree v3_layer (open_v3.OwnedCompound items)
 
-pub v3_owned_optional : (format : Bool) (item : Box FormatDescriptionV3Inner Global) → v3_tree (v3_item.OwnedOptional format item) ≡ (if format then v3_tree item.value else nothing)
+pub v3_owned_optional : (format : Bool) (item : Box FormatDescriptionV3Inner Global) → v3_tree (v3_item.OwnedOptional format item) ≡ optional format (v3_tree item.value)
 v3_owned_optional format item =
     ap v3_tree (sym (v3_item.rolls-OwnedOptional format item))
     ∙ fold-roll-FormatDescriptionV3Inner Tree v3_layer (open_v3.OwnedOptional format item)
@@ -80,20 +78,3 @@ v3_owned_first items =
     ∙ fold-roll-FormatDescriptionV3Inner Tree v3_layer (open_v3.OwnedFirst items)
 
 pub ruleset v3_trees = (v3_borrowed_compound, v3_borrowed_optional, v3_borrowed_first, v3_owned_compound, v3_owned_optional, v3_owned_first)
-
--- the tree of a layer that is a component is that component
-layer_of_component : (layer : FormatDescriptionV3Inner-F FormatDescriptionV3Inner) (c : Component) → layer_component layer ≡ Some c
-    → v3_layer (v3.map-FormatDescriptionV3Inner FormatDescriptionV3Inner Tree v3_tree layer) ≡ of_component c
-layer_of_component (open_v3.BorrowedLiteral text) c h = cc
-layer_of_component (open_v3.BorrowedCompound ts) c h = cc
-layer_of_component (open_v3.BorrowedOptional format t) c h = cc
-layer_of_component (open_v3.BorrowedFirst ts) c h = cc
-layer_of_component (open_v3.OwnedLiteral text) c h = cc
-layer_of_component (open_v3.OwnedCompound ts) c h = cc
-layer_of_component (open_v3.OwnedOptional format t) c h = cc
-layer_of_component (open_v3.OwnedFirst ts) c h = cc
-layer_of_component layer c h = ap optional_component h
-
--- a description that is a component has the tree of that component
-pub v3_tree_component : (inner : FormatDescriptionV3Inner) (c : Component) → v3_component inner ≡ Some c → v3_tree inner ≡ of_component c
-v3_tree_component inner c h = fold_out-FormatDescriptionV3Inner Tree v3_layer inner ∙ layer_of_component (out-FormatDescriptionV3Inner inner) c h

@@ -2,6 +2,8 @@ pub mod Calendar
 pub mod ComponentRange
 pub mod Conversion
 pub mod Facts
+pub mod Group
+pub mod Metadata
 pub mod Moment
 pub mod Month
 pub mod Offset

@@ -3,12 +3,16 @@ mod borrowed_format_item;
 mod component;
 mod conversion;
 mod format_description_v3;
+mod layer;
+mod metadata;
 pub mod modifier;
 mod owned_format_item;
 #[cfg(test)]
 mod tests;
 
 pub use borrowed_format_item::BorrowedFormatItem;
-pub use component::{Component, component_width};
-pub use format_description_v3::{FormatDescriptionV3, FormatDescriptionV3Inner, component_of};
+pub use component::{Component, Group, component_width};
+pub use format_description_v3::{FormatDescriptionV3, FormatDescriptionV3Inner};
+pub use layer::{Layer, Node};
+pub use metadata::{Metadata, metadata_of_node, metadata_of_nodes};
 pub use owned_format_item::OwnedFormatItem;

@@ -21,7 +21,7 @@ use Rattle.time_below.specs.Facts.{Facts}
 use Rattle.time_below.specs.Moment.{milliseconds}
 use Rattle.time_below.specs.Offset.{is_negative}
 use Rattle.time_below.specs.TimeOfDay.{period_of}
-use Rattle.time_below.specs.Tree.{Tree, Trees, byte_literal, text_literal, of_component, all_of, first_of, nothing, end, more}
+use Rattle.time_below.specs.Tree.{Tree, Trees, byte_literal, text_literal, of_component, all_of, first_of, end, more}
 use Rattle.time_below.specs.Width.{is_guaranteed_text, are_guaranteed_text}
 use Rattle.time_digits.specs.Digits.{fixed}
 use Rattle.time_digits.proofs.DigitLemmas.{IsAscii-fixed}
@@ -165,7 +165,6 @@ mutual
   guaranteed_utf8 (all_of ts) f texts fit h = all_guaranteed_utf8 ts f texts fit h
   guaranteed_utf8 (first_of end) f texts fit h = empty_utf8
   guaranteed_utf8 (first_of (more t ts)) f texts fit h = guaranteed_utf8 t f texts.0 fit h
-  guaranteed_utf8 nothing f texts fit h = empty_utf8
 
   pub all_guaranteed_utf8 : (ts : Trees) (f : Facts) → HaveTexts ts → FactsFit f → IsTrue (are_guaranteed_text ts) → IsUtf8 (trees_outcome ts f).bytes
   all_guaranteed_utf8 end f texts fit h = empty_utf8

@@ -1,11 +1,9 @@
-pub mod BorrowedTrees
 pub mod ConversionLemmas
 pub mod DateTextLemmas
 pub mod DecimalLemmas
 pub mod Engine
+pub mod GroupLemmas
 pub mod GuaranteeLemmas
 pub mod LawLemmas
 pub mod NumberLemmas
-pub mod OwnedTrees
 pub mod TextLemmas
-pub mod V3Trees

@@ -1,17 +1,27 @@
 -- What a description gives for the components of a value.
-use Rattle.std.specs.Prelude.{ℕ, ◌/◌, ◌%◌, nat_le, codes, decimal, List, [], Option, Some, None, ℤ, pos, int_lt, unsigned_abs, if◌then◌else◌}
+use Rattle.std.specs.Prelude.{ℕ, Bool, true, ◌/◌, ◌%◌, nat_le, codes, decimal, List, [], Option, Some, None, ℤ, pos, int_lt, unsigned_abs, if◌then◌else◌}
 use Rattle.time_below.specs.ComponentRange.{conditional_range}
 use Rattle.time_below.specs.Conversion.{current_component}
 use Rattle.time_below.specs.declared.format_description.component.Component.{Component}
 use Rattle.time_below.specs.declared.format_description.component.Component.TheVariants as component
+use Rattle.time_below.specs.declared.format_description.component.Group.{Group}
+use Rattle.time_below.specs.declared.format_description.component.Group.TheVariants as group
 use Rattle.time_below.specs.Facts.{Facts}
 use Rattle.time_below.specs.Moment.{milliseconds}
 use Rattle.time_below.specs.Offset.{is_negative}
 use Rattle.time_below.specs.TimeOfDay.{period_of}
-use Rattle.time_below.specs.Tree.{Tree, Trees, byte_literal, text_literal, of_component, all_of, first_of, nothing, end, more}
+use Rattle.time_below.specs.Tree.{Tree, Trees, byte_literal, text_literal, of_component, all_of, first_of, end, more}
 use Rattle.time_fmt.specs.DateText.{month_name, weekday_name, short_name, indexed, from_sunday, extended_year_text, standard_year_text, extended_century_text, standard_century_text}
 use Rattle.time_fmt.specs.Outcome.{Outcome, done, refused, join, insufficient, out_of_range}
 use Rattle.time_fmt.specs.Text.{padded_text, hour_12, period_text, subsecond_text, offset_hour_text, timestamp_text}
+
+-- whether a value that has these parts has the part of such components
+abbrev pub is_supplied : Bool → Bool → Bool → Bool → Group → Bool
+is_supplied date time offset stamp group.Date = date
+is_supplied date time offset stamp group.Time = time
+is_supplied date time offset stamp group.Offset = offset
+is_supplied date time offset stamp group.Timestamp = stamp
+is_supplied date time offset stamp group.None = true
 
 -- what a group gives that the value supplies, or the refusal of one that it does not
 abbrev pub of_group : {G : Type 0} → Option G → (G → Outcome) → Outcome
@@ -79,7 +89,6 @@ abbrev mutual
   tree_outcome (all_of ts) f = trees_outcome ts f
   tree_outcome (first_of end) f = done []
   tree_outcome (first_of (more t ts)) f = tree_outcome t f
-  tree_outcome nothing f = done []
 
   pub trees_outcome : Trees → Facts → Outcome
   trees_outcome end f = done []

@@ -4,7 +4,7 @@ use Rattle.time_below.specs.Facts.{Facts, DateFacts}
 use Rattle.time_below.specs.Moment.{Moment, milliseconds}
 use Rattle.time_below.specs.Offset.{Offset}
 use Rattle.time_below.specs.TimeOfDay.{TimeOfDay}
-use Rattle.time_below.specs.Tree.{Tree, Trees, byte_literal, text_literal, of_component, all_of, first_of, nothing, end, more}
+use Rattle.time_below.specs.Tree.{Tree, Trees, byte_literal, text_literal, of_component, all_of, first_of, end, more}
 use Rattle.time_below.specs.Width.{is_guaranteed_text}
 use Rattle.time_fmt.specs.Description.{tree_outcome}
 
@@ -16,7 +16,6 @@ abbrev mutual
   HasTexts (of_component c) = Unit {0}
   HasTexts (all_of ts) = HaveTexts ts
   HasTexts (first_of ts) = HaveTexts ts
-  HasTexts nothing = Unit {0}
 
   pub HaveTexts : Trees → Type 0
   HaveTexts end = Unit {0}

@@ -2,9 +2,9 @@
 use Rattle.std.specs.Prelude.{◌≡◌, ◌≤◌, []}
 use Rattle.time_below.specs.Facts.{Facts}
 use Rattle.time_below.specs.Tree.{Tree, Trees, all_of, first_of, end, more, unmarked}
-use Rattle.time_fmt.specs.declared.metadata.Metadata.{Metadata}
+use Rattle.time_below.specs.declared.format_description.metadata.Metadata.{Metadata}
 use Rattle.time_fmt.specs.Description.{tree_outcome}
-use Rattle.time_fmt.specs.Metadata.{of_nothing, of_both}
+use Rattle.time_below.specs.Metadata.{of_nothing, of_both}
 use Rattle.time_fmt.specs.Outcome.{Outcome, done, join}
 
 -- trees that are equal once bytes are read as texts, and deprecated components as current ones

@@ -3,7 +3,6 @@ pub mod Description
 pub mod Guarantee
 pub mod Laws
 pub mod Lossy
-pub mod Metadata
 pub mod Outcome
 pub mod Room
 pub mod Text

@@ -3,7 +3,7 @@ ghost use Rattle.std.specs.Prelude.{◌≡◌, ◌↔◌, ◌+◌, ◌/◌, ◌%
 ghost use Rattle.time_below.specs.Conversion.{is_current};
 ghost use Rattle.time_below.specs.ComponentRange.{conditional_range};
 ghost use Rattle.time_below.specs.Width.{component_width};
-ghost use Rattle.time_fmt.specs.Description.{component_outcome, current_outcome, century_of};
+ghost use Rattle.time_fmt.specs.Description.{component_outcome, current_outcome, century_of, is_supplied};
 ghost use Rattle.time_fmt.specs.Outcome.{Appends, Names, out_of_range};
 ghost use Rattle.time_fmt.specs.Room.{HasRoom};
 
@@ -21,7 +21,7 @@ use crate::writers::{
     fmt_weekday_short, fmt_weekday_sunday,
 };
 use time_below::ComponentRange;
-use time_below::format_description::Component;
+use time_below::format_description::{Component, Group};
 use time_digits::{ri8, ri16, ru8};
 use time_provide::ComponentProvider;
 use time_provide::ranges::{ExtendedCentury, LastTwo, StandardCentury, StandardYear, Year};
@@ -69,6 +69,21 @@ fn last_two(year: Year) -> LastTwo
     ru8::new((year.get().unsigned_abs() % 100) as u8).unwrap()
 }
 
+/// Whether the value has the part that such components are taken from.
+#[inline]
+fn is_supplied<V: ComponentProvider>(group: Group) -> bool
+    ensures { result
+        ≡ is_supplied V.SUPPLIES_DATE V.SUPPLIES_TIME V.SUPPLIES_OFFSET V.SUPPLIES_TIMESTAMP group }
+{
+    match group {
+        Group::Date => V::SUPPLIES_DATE,
+        Group::Time => V::SUPPLIES_TIME,
+        Group::Offset => V::SUPPLIES_OFFSET,
+        Group::Timestamp => V::SUPPLIES_TIMESTAMP,
+        Group::None => true,
+    }
+}
+
 /// Appends the text of the component where there is room for its width. Takes no memory.
 ///
 /// A deprecated component has the text of the current one. Answers the number of bytes appended, or
@@ -76,175 +91,163 @@ fn last_two(year: Year) -> LastTwo
 #[inline]
 #[tactic(auto, using(crate::proofs::ConversionLemmas::width_of_current))]
 pub fn component_write_into<V: ComponentProvider>(
-    component: &Component,
+    component: Component,
     output: &mut Vec<u8>,
     value: &V,
     state: &mut V::State,
 ) -> Result<usize, Format>
-    requires room { HasRoom output.old (component_width component.now) }
+    requires room { HasRoom output.old (component_width component) }
     requires agrees { V.agrees state.old value.now }
     ensures appends { Appends output.old output.new result
-        (component_outcome component.now (V.facts value.now)) }
-    ensures within { vec_len output.new ≤ vec_len output.old + component_width component.now }
+        (component_outcome component (V.facts value.now)) }
+    ensures within { vec_len output.new ≤ vec_len output.old + component_width component }
     ensures agrees { V.agrees state.new value.now }
 {
-    let current = component.current();
-    current_write_into(&current, output, value, state)
+    current_write_into(component.current(), output, value, state)
 }
 
 /// The same of a component that is not deprecated.
 #[inline]
 #[tactic(auto, using(crate::proofs::TextLemmas::text_lengths, crate::proofs::DateTextLemmas::date_text_lengths, crate::proofs::DecimalLemmas::decimal_lengths))]
 fn current_write_into<V: ComponentProvider>(
-    component: &Component,
+    component: Component,
     output: &mut Vec<u8>,
     value: &V,
     state: &mut V::State,
 ) -> Result<usize, Format>
-    requires current { IsTrue (is_current component.now) }
-    requires room { HasRoom output.old (component_width component.now) }
+    requires current { IsTrue (is_current component) }
+    requires room { HasRoom output.old (component_width component) }
     requires agrees { V.agrees state.old value.now }
     ensures appends { Appends output.old output.new result
-        (current_outcome component.now (V.facts value.now)) }
-    ensures within { vec_len output.new ≤ vec_len output.old + component_width component.now }
+        (current_outcome component (V.facts value.now)) }
+    ensures within { vec_len output.new ≤ vec_len output.old + component_width component }
     ensures agrees { V.agrees state.new value.now }
 {
+    if !is_supplied::<V>(component.group()) {
+        return Err(Format::InsufficientTypeInformation);
+    }
     match component {
-        Component::Day(modifier) if V::SUPPLIES_DATE => {
-            Ok(fmt_day(output, value.day(state), *modifier))
+        Component::Day(modifier) => { Ok(fmt_day(output, value.day(state), modifier)) }
+        Component::MonthShort(modifier) => {
+            Ok(fmt_month_short(output, value.month(state), modifier))
         }
-        Component::MonthShort(modifier) if V::SUPPLIES_DATE => {
-            Ok(fmt_month_short(output, value.month(state), *modifier))
+        Component::MonthLong(modifier) => {
+            Ok(fmt_month_long(output, value.month(state), modifier))
         }
-        Component::MonthLong(modifier) if V::SUPPLIES_DATE => {
-            Ok(fmt_month_long(output, value.month(state), *modifier))
+        Component::MonthNumerical(modifier) => {
+            Ok(fmt_month_numerical(output, value.month(state), modifier))
         }
-        Component::MonthNumerical(modifier) if V::SUPPLIES_DATE => {
-            Ok(fmt_month_numerical(output, value.month(state), *modifier))
+        Component::Ordinal(modifier) => { Ok(fmt_ordinal(output, value.ordinal(state), modifier)) }
+        Component::WeekdayShort(modifier) => {
+            Ok(fmt_weekday_short(output, value.weekday(state), modifier))
         }
-        Component::Ordinal(modifier) if V::SUPPLIES_DATE => {
-            Ok(fmt_ordinal(output, value.ordinal(state), *modifier))
+        Component::WeekdayLong(modifier) => {
+            Ok(fmt_weekday_long(output, value.weekday(state), modifier))
         }
-        Component::WeekdayShort(modifier) if V::SUPPLIES_DATE => {
-            Ok(fmt_weekday_short(output, value.weekday(state), *modifier))
+        Component::WeekdaySunday(modifier) => {
+            Ok(fmt_weekday_sunday(output, value.weekday(state), modifier))
         }
-        Component::WeekdayLong(modifier) if V::SUPPLIES_DATE => {
-            Ok(fmt_weekday_long(output, value.weekday(state), *modifier))
+        Component::WeekdayMonday(modifier) => {
+            Ok(fmt_weekday_monday(output, value.weekday(state), modifier))
         }
-        Component::WeekdaySunday(modifier) if V::SUPPLIES_DATE => {
-            Ok(fmt_weekday_sunday(output, value.weekday(state), *modifier))
+        Component::WeekNumberIso(modifier) => {
+            Ok(fmt_week_number_iso(output, value.iso_week_number(state), modifier))
         }
-        Component::WeekdayMonday(modifier) if V::SUPPLIES_DATE => {
-            Ok(fmt_weekday_monday(output, value.weekday(state), *modifier))
+        Component::WeekNumberSunday(modifier) => {
+            Ok(fmt_week_number_sunday(output, value.sunday_based_week(state), modifier))
         }
-        Component::WeekNumberIso(modifier) if V::SUPPLIES_DATE => {
-            Ok(fmt_week_number_iso(output, value.iso_week_number(state), *modifier))
+        Component::WeekNumberMonday(modifier) => {
+            Ok(fmt_week_number_monday(output, value.monday_based_week(state), modifier))
         }
-        Component::WeekNumberSunday(modifier) if V::SUPPLIES_DATE => {
-            Ok(fmt_week_number_sunday(output, value.sunday_based_week(state), *modifier))
+        Component::CalendarYearFullExtendedRange(modifier) => {
+            Ok(fmt_calendar_year_full_extended_range(output, value.calendar_year(state), modifier))
         }
-        Component::WeekNumberMonday(modifier) if V::SUPPLIES_DATE => {
-            Ok(fmt_week_number_monday(output, value.monday_based_week(state), *modifier))
-        }
-        Component::CalendarYearFullExtendedRange(modifier) if V::SUPPLIES_DATE => {
-            Ok(fmt_calendar_year_full_extended_range(output, value.calendar_year(state), *modifier))
-        }
-        Component::CalendarYearFullStandardRange(modifier) if V::SUPPLIES_DATE => {
+        Component::CalendarYearFullStandardRange(modifier) => {
             match standard_year(value.calendar_year(state)) {
-                Ok(year) => Ok(fmt_calendar_year_full_standard_range(output, year, *modifier)),
+                Ok(year) => Ok(fmt_calendar_year_full_standard_range(output, year, modifier)),
                 Err(refusal) => Err(refusal),
             }
         }
-        Component::CalendarYearCenturyExtendedRange(modifier) if V::SUPPLIES_DATE => {
+        Component::CalendarYearCenturyExtendedRange(modifier) => {
             let year = value.calendar_year(state);
             let century = extended_century(year);
             Ok(fmt_calendar_year_century_extended_range(
                 output,
                 century,
                 year.is_negative(),
-                *modifier,
+                modifier,
             ))
         }
-        Component::CalendarYearCenturyStandardRange(modifier) if V::SUPPLIES_DATE => {
+        Component::CalendarYearCenturyStandardRange(modifier) => {
             let year = value.calendar_year(state);
             match standard_century(year) {
                 Ok(century) => Ok(fmt_calendar_year_century_standard_range(
                     output,
                     century,
                     year.is_negative(),
-                    *modifier,
+                    modifier,
                 )),
                 Err(refusal) => Err(refusal),
             }
         }
-        Component::CalendarYearLastTwo(modifier) if V::SUPPLIES_DATE => {
-            Ok(fmt_calendar_year_last_two(output, last_two(value.calendar_year(state)), *modifier))
+        Component::CalendarYearLastTwo(modifier) => {
+            Ok(fmt_calendar_year_last_two(output, last_two(value.calendar_year(state)), modifier))
         }
-        Component::IsoYearFullExtendedRange(modifier) if V::SUPPLIES_DATE => {
-            Ok(fmt_iso_year_full_extended_range(output, value.iso_year(state), *modifier))
+        Component::IsoYearFullExtendedRange(modifier) => {
+            Ok(fmt_iso_year_full_extended_range(output, value.iso_year(state), modifier))
         }
-        Component::IsoYearFullStandardRange(modifier) if V::SUPPLIES_DATE => {
+        Component::IsoYearFullStandardRange(modifier) => {
             match standard_year(value.iso_year(state)) {
-                Ok(year) => Ok(fmt_iso_year_full_standard_range(output, year, *modifier)),
+                Ok(year) => Ok(fmt_iso_year_full_standard_range(output, year, modifier)),
                 Err(refusal) => Err(refusal),
             }
         }
-        Component::IsoYearCenturyExtendedRange(modifier) if V::SUPPLIES_DATE => {
+        Component::IsoYearCenturyExtendedRange(modifier) => {
             let year = value.iso_year(state);
             let century = extended_century(year);
-            Ok(fmt_iso_year_century_extended_range(output, century, year.is_negative(), *modifier))
+            Ok(fmt_iso_year_century_extended_range(output, century, year.is_negative(), modifier))
         }
-        Component::IsoYearCenturyStandardRange(modifier) if V::SUPPLIES_DATE => {
+        Component::IsoYearCenturyStandardRange(modifier) => {
             let year = value.iso_year(state);
             match standard_century(year) {
                 Ok(century) => Ok(fmt_iso_year_century_standard_range(
                     output,
                     century,
                     year.is_negative(),
-                    *modifier,
+                    modifier,
                 )),
                 Err(refusal) => Err(refusal),
             }
         }
-        Component::IsoYearLastTwo(modifier) if V::SUPPLIES_DATE => {
-            Ok(fmt_iso_year_last_two(output, last_two(value.iso_year(state)), *modifier))
+        Component::IsoYearLastTwo(modifier) => {
+            Ok(fmt_iso_year_last_two(output, last_two(value.iso_year(state)), modifier))
         }
-        Component::Hour12(modifier) if V::SUPPLIES_TIME => {
-            Ok(fmt_hour_12(output, value.hour(state), *modifier))
+        Component::Hour12(modifier) => { Ok(fmt_hour_12(output, value.hour(state), modifier)) }
+        Component::Hour24(modifier) => { Ok(fmt_hour_24(output, value.hour(state), modifier)) }
+        Component::Minute(modifier) => { Ok(fmt_minute(output, value.minute(state), modifier)) }
+        Component::Period(modifier) => { Ok(fmt_period(output, value.period(state), modifier)) }
+        Component::Second(modifier) => { Ok(fmt_second(output, value.second(state), modifier)) }
+        Component::Subsecond(modifier) => {
+            Ok(fmt_subsecond(output, value.nanosecond(state), modifier))
         }
-        Component::Hour24(modifier) if V::SUPPLIES_TIME => {
-            Ok(fmt_hour_24(output, value.hour(state), *modifier))
-        }
-        Component::Minute(modifier) if V::SUPPLIES_TIME => {
-            Ok(fmt_minute(output, value.minute(state), *modifier))
-        }
-        Component::Period(modifier) if V::SUPPLIES_TIME => {
-            Ok(fmt_period(output, value.period(state), *modifier))
-        }
-        Component::Second(modifier) if V::SUPPLIES_TIME => {
-            Ok(fmt_second(output, value.second(state), *modifier))
-        }
-        Component::Subsecond(modifier) if V::SUPPLIES_TIME => {
-            Ok(fmt_subsecond(output, value.nanosecond(state), *modifier))
-        }
-        Component::OffsetHour(modifier) if V::SUPPLIES_OFFSET => {
+        Component::OffsetHour(modifier) => {
             let is_negative = value.offset_is_negative(state);
-            Ok(fmt_offset_hour(output, is_negative, value.offset_hour(state), *modifier))
+            Ok(fmt_offset_hour(output, is_negative, value.offset_hour(state), modifier))
         }
-        Component::OffsetMinute(modifier) if V::SUPPLIES_OFFSET => {
-            Ok(fmt_offset_minute(output, value.offset_minute(state), *modifier))
+        Component::OffsetMinute(modifier) => {
+            Ok(fmt_offset_minute(output, value.offset_minute(state), modifier))
         }
-        Component::OffsetSecond(modifier) if V::SUPPLIES_OFFSET => {
-            Ok(fmt_offset_second(output, value.offset_second(state), *modifier))
+        Component::OffsetSecond(modifier) => {
+            Ok(fmt_offset_second(output, value.offset_second(state), modifier))
         }
-        Component::UnixTimestampSecond(modifier) if V::SUPPLIES_TIMESTAMP => {
-            Ok(fmt_unix_timestamp_second(output, value.unix_timestamp_seconds(state), *modifier))
+        Component::UnixTimestampSecond(modifier) => {
+            Ok(fmt_unix_timestamp_second(output, value.unix_timestamp_seconds(state), modifier))
         }
-        Component::UnixTimestampMillisecond(modifier) if V::SUPPLIES_TIMESTAMP => {
+        Component::UnixTimestampMillisecond(modifier) => {
             Ok(fmt_unix_timestamp_millisecond(
                 output,
                 value.unix_timestamp_milliseconds(state),
-                *modifier,
+                modifier,
             ))
         }
         Component::Ignore(_) | Component::End(_) => Ok(0),
@@ -254,7 +257,5 @@ fn current_write_into<V: ComponentProvider>(
         | Component::Hour(_)
         | Component::UnixTimestamp(_)
         | Component::Year(_) => unreachable!(),
-        // The value does not supply the group of any other.
-        _ => Err(Format::InsufficientTypeInformation),
     }
 }

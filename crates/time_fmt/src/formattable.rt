@@ -5,10 +5,9 @@ ghost use Rattle.time_fmt.specs.Outcome.{Outcome, Names, Appends};
 ghost use Rattle.time_fmt.specs.Lossy.{lossy_text, IsRefusedOrText};
 ghost use Rattle.time_fmt.specs.Room.{HasRoom};
 
-mod borrowed;
+mod engine;
 mod lists;
-mod owned;
-mod v3;
+mod trees;
 
 use crate::error::Format;
 use crate::metadata::ComputeMetadata;
@@ -16,7 +15,7 @@ use bstr::ByteVec;
 pub use lists::{BorrowedItems, OwnedItems};
 use std::alloc::Global;
 use time_provide::ComponentProvider;
-pub use v3::v3_write_into;
+pub use trees::v3_write_into;
 
 /// A description, by which any value is formatted.
 pub trait Formattable: ComputeMetadata {

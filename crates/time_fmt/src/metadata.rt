@@ -1,65 +1,8 @@
 //! What is known of a text before it is written.
-ghost use Rattle.std.specs.Prelude.{◌≡◌, ℕ, Bool, fold, min, true};
+ghost use Rattle.std.specs.Prelude.{◌≡◌, ℕ, Bool, min, true};
 ghost use Rattle.time_below.specs.Width.{component_width};
 
-use std::default::Default;
-use std::iter::Sum;
-use std::ops::Add;
-use time_below::format_description::{Component, component_width};
-
-/// What is known of a text before it is written.
-#[derive(Clone, Copy, Debug)]
-pub struct Metadata {
-    /// The most bytes that the text may have, at most the greatest `usize`.
-    pub max_bytes_needed: usize,
-    /// Whether the text is sure to be UTF-8.
-    pub guaranteed_utf8: bool,
-}
-
-/// No bytes, which are a text.
-impl Default for Metadata {
-    ghost use Rattle.time_fmt.specs.Metadata.{of_nothing};
-
-    ghost is_default = { λ m. m ≡ of_nothing };
-
-    fn default() -> Metadata {
-        Metadata {
-            max_bytes_needed: 0,
-            guaranteed_utf8: true,
-        }
-    }
-}
-
-/// One text after another. The sum of the widths stops at the greatest `usize`.
-impl Add for Metadata {
-    type Output = Metadata;
-
-    ghost use Rattle.time_fmt.specs.Metadata.{of_both};
-
-    ghost add_gives = { λ a b sum. sum ≡ of_both a b };
-
-    fn add(self, other: Metadata) -> Metadata {
-        Metadata {
-            max_bytes_needed: self.max_bytes_needed.saturating_add(other.max_bytes_needed),
-            guaranteed_utf8: self.guaranteed_utf8 && other.guaranteed_utf8,
-        }
-    }
-}
-
-/// Texts one after another, from none on.
-impl Sum<Metadata> for Metadata {
-    ghost use Rattle.time_fmt.specs.Metadata.{of_nothing, of_both};
-
-    ghost sum_gives = { λ all sum. sum ≡ fold of_both of_nothing all };
-
-    fn sum<I: Iterator<Item = Metadata>>(iter: I) -> Metadata {
-        let mut sum = Metadata::default();
-        for metadata in iter {
-            sum = sum + metadata;
-        }
-        sum
-    }
-}
+use time_below::format_description::{Component, Metadata, component_width};
 
 /// Tells what is known of a text before it is written.
 pub trait ComputeMetadata {

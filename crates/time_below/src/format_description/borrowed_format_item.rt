@@ -1,5 +1,7 @@
 //! A description over borrowed parts.
-use crate::format_description::Component;
+ghost use Rattle.time_below.specs.Tree.{borrowed_tree};
+
+use crate::format_description::{Component, Layer, Node};
 
 /// A description whose parts are borrowed.
 #[derive(Clone, Copy)]
@@ -16,4 +18,20 @@ pub enum BorrowedFormatItem<'a> {
     Optional(&'a BorrowedFormatItem<'a>),
     /// Items of which a parser takes the first that fits. The first one alone is written.
     First(&'a [BorrowedFormatItem<'a>]),
+}
+
+impl Node for BorrowedFormatItem<'_> {
+    ghost tree = { borrowed_tree };
+
+    #[inline]
+    fn layer(&self) -> Layer<'_, Self> {
+        match self {
+            BorrowedFormatItem::Literal(bytes) => Layer::Bytes(bytes),
+            BorrowedFormatItem::StringLiteral(text) => Layer::Text(text),
+            BorrowedFormatItem::Component(component) => Layer::Component(*component),
+            BorrowedFormatItem::Compound(items) => Layer::All(items),
+            BorrowedFormatItem::Optional(item) => Layer::Optional(item),
+            BorrowedFormatItem::First(items) => Layer::First(items),
+        }
+    }
 }

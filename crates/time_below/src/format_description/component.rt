@@ -1,6 +1,7 @@
 //! A component of a description.
 ghost use Rattle.std.specs.Prelude.{◌≡◌, IsTrue};
 ghost use Rattle.time_below.specs.Conversion.{current_component, is_current};
+ghost use Rattle.time_below.specs.Group.{group_of};
 ghost use Rattle.time_below.specs.Width.{component_width, subsecond_width, month_width, weekday_width, unix_timestamp_width, year_width};
 
 use crate::format_description::conversion::{
@@ -64,8 +65,68 @@ pub enum Component {
     Year(modifier::Year),
 }
 
+/// The part of a value that a component is taken from.
+#[derive(Clone, Copy)]
+pub enum Group {
+    Date,
+    Time,
+    Offset,
+    Timestamp,
+    /// No part: the component has no text.
+    None,
+}
+
 impl Component {
+    /// The part of a value that the component is taken from.
+    pub fn group(self) -> Group
+        ensures { result ≡ group_of self }
+    {
+        match self {
+            Component::Day(_)
+            | Component::MonthShort(_)
+            | Component::MonthLong(_)
+            | Component::MonthNumerical(_)
+            | Component::Ordinal(_)
+            | Component::WeekdayShort(_)
+            | Component::WeekdayLong(_)
+            | Component::WeekdaySunday(_)
+            | Component::WeekdayMonday(_)
+            | Component::WeekNumberIso(_)
+            | Component::WeekNumberSunday(_)
+            | Component::WeekNumberMonday(_)
+            | Component::CalendarYearFullExtendedRange(_)
+            | Component::CalendarYearFullStandardRange(_)
+            | Component::CalendarYearCenturyExtendedRange(_)
+            | Component::CalendarYearCenturyStandardRange(_)
+            | Component::CalendarYearLastTwo(_)
+            | Component::IsoYearFullExtendedRange(_)
+            | Component::IsoYearFullStandardRange(_)
+            | Component::IsoYearCenturyExtendedRange(_)
+            | Component::IsoYearCenturyStandardRange(_)
+            | Component::IsoYearLastTwo(_)
+            | Component::Month(_)
+            | Component::Weekday(_)
+            | Component::WeekNumber(_)
+            | Component::Year(_) => Group::Date,
+            Component::Hour12(_)
+            | Component::Hour24(_)
+            | Component::Minute(_)
+            | Component::Period(_)
+            | Component::Second(_)
+            | Component::Subsecond(_)
+            | Component::Hour(_) => Group::Time,
+            Component::OffsetHour(_) | Component::OffsetMinute(_) | Component::OffsetSecond(_) => {
+                Group::Offset
+            }
+            Component::UnixTimestampSecond(_)
+            | Component::UnixTimestampMillisecond(_)
+            | Component::UnixTimestamp(_) => Group::Timestamp,
+            Component::Ignore(_) | Component::End(_) => Group::None,
+        }
+    }
+
     /// The current component in the place of a deprecated one; any other is itself.
+    #[inline(always)]
     pub fn current(self) -> Component
         ensures converted { result ≡ current_component self }
         ensures current { IsTrue (is_current result) }

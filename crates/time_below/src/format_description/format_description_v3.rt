@@ -1,10 +1,10 @@
 //! A description of the third version, over parts that are borrowed or its own.
-ghost use Rattle.std.specs.Prelude.{◌≡◌, min, map, Some};
+ghost use Rattle.std.specs.Prelude.{◌≡◌, min};
 ghost use Rattle.time_below.specs.Conversion.{current_component};
-ghost use Rattle.time_below.specs.Tree.{v3_tree, v3_component, trees, first_of};
-ghost use Rattle.time_below.specs.Width.{tree_width, trees_width};
+ghost use Rattle.time_below.specs.Tree.{v3_tree, of_component};
+ghost use Rattle.time_below.specs.Metadata.{tree_metadata};
 
-use crate::format_description::{Component, component_width, modifier};
+use crate::format_description::{Component, Layer, Metadata, Node, metadata_of_node, modifier};
 use std::marker::Model;
 
 /// A description of the third version.
@@ -71,77 +71,90 @@ pub enum FormatDescriptionV3Inner<'a> {
     OwnedFirst(Vec<FormatDescriptionV3Inner<'a>>),
 }
 
-/// The component that the description is, if it is one and not a text or made of other items.
-pub fn component_of(inner: &FormatDescriptionV3Inner<'_>) -> Option<Component>
-    ensures { result ≡ v3_component inner.now }
-{
-    Some(match inner {
-        FormatDescriptionV3Inner::Day(modifier) => Component::Day(*modifier),
-        FormatDescriptionV3Inner::MonthShort(modifier) => Component::MonthShort(*modifier),
-        FormatDescriptionV3Inner::MonthLong(modifier) => Component::MonthLong(*modifier),
-        FormatDescriptionV3Inner::MonthNumerical(modifier) => Component::MonthNumerical(*modifier),
-        FormatDescriptionV3Inner::Ordinal(modifier) => Component::Ordinal(*modifier),
-        FormatDescriptionV3Inner::WeekdayShort(modifier) => Component::WeekdayShort(*modifier),
-        FormatDescriptionV3Inner::WeekdayLong(modifier) => Component::WeekdayLong(*modifier),
-        FormatDescriptionV3Inner::WeekdaySunday(modifier) => Component::WeekdaySunday(*modifier),
-        FormatDescriptionV3Inner::WeekdayMonday(modifier) => Component::WeekdayMonday(*modifier),
-        FormatDescriptionV3Inner::WeekNumberIso(modifier) => Component::WeekNumberIso(*modifier),
-        FormatDescriptionV3Inner::WeekNumberSunday(modifier) => Component::WeekNumberSunday(
-            *modifier,
-        ),
-        FormatDescriptionV3Inner::WeekNumberMonday(modifier) => Component::WeekNumberMonday(
-            *modifier,
-        ),
-        FormatDescriptionV3Inner::CalendarYearFullExtendedRange(modifier) =>
-            Component::CalendarYearFullExtendedRange(*modifier),
-        FormatDescriptionV3Inner::CalendarYearFullStandardRange(modifier) =>
-            Component::CalendarYearFullStandardRange(*modifier),
-        FormatDescriptionV3Inner::CalendarYearCenturyExtendedRange(modifier) =>
-            Component::CalendarYearCenturyExtendedRange(*modifier),
-        FormatDescriptionV3Inner::CalendarYearCenturyStandardRange(modifier) =>
-            Component::CalendarYearCenturyStandardRange(*modifier),
-        FormatDescriptionV3Inner::CalendarYearLastTwo(modifier) => Component::CalendarYearLastTwo(
-            *modifier,
-        ),
-        FormatDescriptionV3Inner::IsoYearFullExtendedRange(modifier) =>
-            Component::IsoYearFullExtendedRange(*modifier),
-        FormatDescriptionV3Inner::IsoYearFullStandardRange(modifier) =>
-            Component::IsoYearFullStandardRange(*modifier),
-        FormatDescriptionV3Inner::IsoYearCenturyExtendedRange(modifier) =>
-            Component::IsoYearCenturyExtendedRange(*modifier),
-        FormatDescriptionV3Inner::IsoYearCenturyStandardRange(modifier) =>
-            Component::IsoYearCenturyStandardRange(*modifier),
-        FormatDescriptionV3Inner::IsoYearLastTwo(modifier) => Component::IsoYearLastTwo(*modifier),
-        FormatDescriptionV3Inner::Hour12(modifier) => Component::Hour12(*modifier),
-        FormatDescriptionV3Inner::Hour24(modifier) => Component::Hour24(*modifier),
-        FormatDescriptionV3Inner::Minute(modifier) => Component::Minute(*modifier),
-        FormatDescriptionV3Inner::Period(modifier) => Component::Period(*modifier),
-        FormatDescriptionV3Inner::Second(modifier) => Component::Second(*modifier),
-        FormatDescriptionV3Inner::Subsecond(modifier) => Component::Subsecond(*modifier),
-        FormatDescriptionV3Inner::OffsetHour(modifier) => Component::OffsetHour(*modifier),
-        FormatDescriptionV3Inner::OffsetMinute(modifier) => Component::OffsetMinute(*modifier),
-        FormatDescriptionV3Inner::OffsetSecond(modifier) => Component::OffsetSecond(*modifier),
-        FormatDescriptionV3Inner::UnixTimestampSecond(modifier) => Component::UnixTimestampSecond(
-            *modifier,
-        ),
-        FormatDescriptionV3Inner::UnixTimestampMillisecond(modifier) =>
-            Component::UnixTimestampMillisecond(*modifier),
-        FormatDescriptionV3Inner::Ignore(modifier) => Component::Ignore(*modifier),
-        FormatDescriptionV3Inner::End(modifier) => Component::End(*modifier),
-        FormatDescriptionV3Inner::BorrowedLiteral(_)
-        | FormatDescriptionV3Inner::BorrowedCompound(_)
-        | FormatDescriptionV3Inner::BorrowedOptional { .. }
-        | FormatDescriptionV3Inner::BorrowedFirst(_)
-        | FormatDescriptionV3Inner::OwnedLiteral(_)
-        | FormatDescriptionV3Inner::OwnedCompound(_)
-        | FormatDescriptionV3Inner::OwnedOptional { .. }
-        | FormatDescriptionV3Inner::OwnedFirst(_) => return None,
-    })
+impl Node for FormatDescriptionV3Inner<'_> {
+    ghost tree = { v3_tree };
+
+    #[inline(always)]
+    fn layer(&self) -> Layer<'_, Self> {
+        let component = match *self {
+            FormatDescriptionV3Inner::Day(modifier) => Component::Day(modifier),
+            FormatDescriptionV3Inner::MonthShort(modifier) => Component::MonthShort(modifier),
+            FormatDescriptionV3Inner::MonthLong(modifier) => Component::MonthLong(modifier),
+            FormatDescriptionV3Inner::MonthNumerical(modifier) => Component::MonthNumerical(
+                modifier,
+            ),
+            FormatDescriptionV3Inner::Ordinal(modifier) => Component::Ordinal(modifier),
+            FormatDescriptionV3Inner::WeekdayShort(modifier) => Component::WeekdayShort(modifier),
+            FormatDescriptionV3Inner::WeekdayLong(modifier) => Component::WeekdayLong(modifier),
+            FormatDescriptionV3Inner::WeekdaySunday(modifier) => Component::WeekdaySunday(modifier),
+            FormatDescriptionV3Inner::WeekdayMonday(modifier) => Component::WeekdayMonday(modifier),
+            FormatDescriptionV3Inner::WeekNumberIso(modifier) => Component::WeekNumberIso(modifier),
+            FormatDescriptionV3Inner::WeekNumberSunday(modifier) => Component::WeekNumberSunday(
+                modifier,
+            ),
+            FormatDescriptionV3Inner::WeekNumberMonday(modifier) => Component::WeekNumberMonday(
+                modifier,
+            ),
+            FormatDescriptionV3Inner::CalendarYearFullExtendedRange(modifier) =>
+                Component::CalendarYearFullExtendedRange(modifier),
+            FormatDescriptionV3Inner::CalendarYearFullStandardRange(modifier) =>
+                Component::CalendarYearFullStandardRange(modifier),
+            FormatDescriptionV3Inner::CalendarYearCenturyExtendedRange(modifier) =>
+                Component::CalendarYearCenturyExtendedRange(modifier),
+            FormatDescriptionV3Inner::CalendarYearCenturyStandardRange(modifier) =>
+                Component::CalendarYearCenturyStandardRange(modifier),
+            FormatDescriptionV3Inner::CalendarYearLastTwo(modifier) =>
+                Component::CalendarYearLastTwo(modifier),
+            FormatDescriptionV3Inner::IsoYearFullExtendedRange(modifier) =>
+                Component::IsoYearFullExtendedRange(modifier),
+            FormatDescriptionV3Inner::IsoYearFullStandardRange(modifier) =>
+                Component::IsoYearFullStandardRange(modifier),
+            FormatDescriptionV3Inner::IsoYearCenturyExtendedRange(modifier) =>
+                Component::IsoYearCenturyExtendedRange(modifier),
+            FormatDescriptionV3Inner::IsoYearCenturyStandardRange(modifier) =>
+                Component::IsoYearCenturyStandardRange(modifier),
+            FormatDescriptionV3Inner::IsoYearLastTwo(modifier) => Component::IsoYearLastTwo(
+                modifier,
+            ),
+            FormatDescriptionV3Inner::Hour12(modifier) => Component::Hour12(modifier),
+            FormatDescriptionV3Inner::Hour24(modifier) => Component::Hour24(modifier),
+            FormatDescriptionV3Inner::Minute(modifier) => Component::Minute(modifier),
+            FormatDescriptionV3Inner::Period(modifier) => Component::Period(modifier),
+            FormatDescriptionV3Inner::Second(modifier) => Component::Second(modifier),
+            FormatDescriptionV3Inner::Subsecond(modifier) => Component::Subsecond(modifier),
+            FormatDescriptionV3Inner::OffsetHour(modifier) => Component::OffsetHour(modifier),
+            FormatDescriptionV3Inner::OffsetMinute(modifier) => Component::OffsetMinute(modifier),
+            FormatDescriptionV3Inner::OffsetSecond(modifier) => Component::OffsetSecond(modifier),
+            FormatDescriptionV3Inner::UnixTimestampSecond(modifier) =>
+                Component::UnixTimestampSecond(modifier),
+            FormatDescriptionV3Inner::UnixTimestampMillisecond(modifier) =>
+                Component::UnixTimestampMillisecond(modifier),
+            FormatDescriptionV3Inner::Ignore(modifier) => Component::Ignore(modifier),
+            FormatDescriptionV3Inner::End(modifier) => Component::End(modifier),
+            FormatDescriptionV3Inner::BorrowedLiteral(ref text) => return Layer::Text(text),
+            FormatDescriptionV3Inner::OwnedLiteral(ref text) => return Layer::Text(text.as_str()),
+            FormatDescriptionV3Inner::BorrowedCompound(items) => return Layer::All(items),
+            FormatDescriptionV3Inner::OwnedCompound(ref items) => return Layer::All(items),
+            FormatDescriptionV3Inner::BorrowedOptional { format: false, .. }
+            | FormatDescriptionV3Inner::OwnedOptional { format: false, .. } => {
+                return Layer::Nothing;
+            }
+            FormatDescriptionV3Inner::BorrowedOptional { item, .. } => {
+                return Layer::Optional(item);
+            }
+            FormatDescriptionV3Inner::OwnedOptional { ref item, .. } => {
+                return Layer::Optional(item);
+            }
+            FormatDescriptionV3Inner::BorrowedFirst(items) => return Layer::First(items),
+            FormatDescriptionV3Inner::OwnedFirst(ref items) => return Layer::First(items),
+        };
+        Layer::Component(component)
+    }
 }
 
 /// A deprecated component becomes the current one in its place.
 impl From<Component> for FormatDescriptionV3Inner<'_> {
-    ghost from_gives = { λ component inner. v3_component inner ≡ Some (current_component component) };
+    ghost from_gives = { λ component inner. v3_tree inner ≡ of_component (current_component component) };
 
     fn from(component: Component) -> Self {
         match component.current() {
@@ -209,63 +222,19 @@ impl From<Component> for FormatDescriptionV3Inner<'_> {
     }
 }
 
-#[cycle(width)]
-fn width_of_items(items: &[FormatDescriptionV3Inner<'_>]) -> usize
-    ensures { result ≡ min (trees_width (trees (map v3_tree items.now))) usize.MAX }
-{
-    let mut sum = 0usize;
-    for item in items {
-        sum = sum.saturating_add(width_of_v3(item));
-    }
-    sum
-}
-
-#[cycle(width)]
-fn width_of_first(items: &[FormatDescriptionV3Inner<'_>]) -> usize
-    ensures { result ≡ min (tree_width (first_of (trees (map v3_tree items.now)))) usize.MAX }
-{
-    match items {
-        [] => 0,
-        [item, ..] => width_of_v3(item),
-    }
-}
-
-/// The most bytes that the text has, or the greatest `usize` where that is less.
-#[cycle(width)]
-fn width_of_v3(inner: &FormatDescriptionV3Inner<'_>) -> usize
-    ensures { result ≡ min (tree_width (v3_tree inner.now)) usize.MAX }
-{
-    match *inner {
-        FormatDescriptionV3Inner::BorrowedLiteral(ref text) => text.len(),
-        FormatDescriptionV3Inner::OwnedLiteral(ref text) => text.len(),
-        FormatDescriptionV3Inner::BorrowedCompound(items) => width_of_items(items),
-        FormatDescriptionV3Inner::OwnedCompound(ref items) => width_of_items(items),
-        FormatDescriptionV3Inner::BorrowedOptional { format: false, .. }
-        | FormatDescriptionV3Inner::OwnedOptional { format: false, .. } => 0,
-        FormatDescriptionV3Inner::BorrowedOptional { item, .. } => width_of_v3(item),
-        FormatDescriptionV3Inner::OwnedOptional { ref item, .. } => width_of_v3(item),
-        FormatDescriptionV3Inner::BorrowedFirst(items) => width_of_first(items),
-        FormatDescriptionV3Inner::OwnedFirst(ref items) => width_of_first(items),
-        _ => match component_of(inner) {
-            Some(component) => component_width(&component),
-            None => 0,
-        },
-    }
-}
-
-/// A description of the third version, with its width.
+/// A description of the third version, with what is known of its text.
 #[derive(Drop)]
 pub struct FormatDescriptionV3<'a> {
     inner: FormatDescriptionV3Inner<'a>,
-    max_bytes_needed: usize,
+    metadata: Metadata,
 }
 
 impl<'a> Model for FormatDescriptionV3<'a> {
     ghost use denote.Signature.{static_lft};
     ghost use Rattle.std.specs.Coded.{codes};
-    ghost use Rattle.std.specs.Prelude.{◌≡◌, min};
+    ghost use Rattle.std.specs.Prelude.{◌≡◌};
     ghost use Rattle.time_below.specs.Tree.{v3_tree};
-    ghost use Rattle.time_below.specs.Width.{tree_width};
+    ghost use Rattle.time_below.specs.Metadata.{tree_metadata};
     ghost use Rattle.time_below.specs.contracts.format_description.format_description_v3.FormatDescriptionV3Inner as plain;
     ghost use Rattle.time_below.specs.declared.format_description.format_description_v3.FormatDescriptionV3Inner.{FormatDescriptionV3Inner};
 
@@ -276,19 +245,16 @@ impl<'a> Model for FormatDescriptionV3<'a> {
     ghost view = { λ description. description.inner };
 
     ghost invariant = { λ description.
-        description.max_bytes_needed ≡ min (tree_width (v3_tree description.inner)) 18446744073709551615 };
+        description.metadata ≡ tree_metadata (v3_tree description.inner) };
 }
 
 impl<'a> FormatDescriptionV3<'a> {
-    /// The description with its width, which is computed here once.
+    /// The description with what is known of its text, which is computed here once.
     pub fn new(inner: FormatDescriptionV3Inner<'a>) -> Self
         ensures { result ≡ inner.entry }
     {
-        let max_bytes_needed = width_of_v3(&inner);
-        FormatDescriptionV3 {
-            inner,
-            max_bytes_needed,
-        }
+        let metadata = metadata_of_node(&inner);
+        FormatDescriptionV3 { inner, metadata }
     }
 
     /// The description itself.
@@ -298,10 +264,10 @@ impl<'a> FormatDescriptionV3<'a> {
         &self.inner
     }
 
-    /// The most bytes that the text has, or the greatest `usize` where that is less.
-    pub fn max_bytes_needed(&self) -> usize
-        ensures { result ≡ min (tree_width (v3_tree self.now)) usize.MAX }
+    /// What is known of the text.
+    pub fn metadata(&self) -> Metadata
+        ensures { result ≡ tree_metadata (v3_tree self.now) }
     {
-        self.max_bytes_needed
+        self.metadata
     }
 }

@@ -1,5 +1,7 @@
 //! A description over parts of its own.
-use crate::format_description::Component;
+ghost use Rattle.time_below.specs.Tree.{owned_tree};
+
+use crate::format_description::{Component, Layer, Node};
 
 /// A description that owns its parts.
 #[derive(Drop)]
@@ -16,4 +18,20 @@ pub enum OwnedFormatItem {
     Optional(Box<OwnedFormatItem>),
     /// Items of which a parser takes the first that fits. The first one alone is written.
     First(Vec<OwnedFormatItem>),
+}
+
+impl Node for OwnedFormatItem {
+    ghost tree = { owned_tree };
+
+    #[inline]
+    fn layer(&self) -> Layer<'_, Self> {
+        match self {
+            OwnedFormatItem::Literal(bytes) => Layer::Bytes(bytes),
+            OwnedFormatItem::StringLiteral(text) => Layer::Text(text),
+            OwnedFormatItem::Component(component) => Layer::Component(*component),
+            OwnedFormatItem::Compound(items) => Layer::All(items),
+            OwnedFormatItem::Optional(item) => Layer::Optional(item),
+            OwnedFormatItem::First(items) => Layer::First(items),
+        }
+    }
 }

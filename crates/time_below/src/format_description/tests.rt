@@ -1,8 +1,8 @@
 //! Descriptions of each kind, with the widths and conversions of the tables.
 use crate::format_description::modifier::{Padding, SubsecondDigits, TrailingInput};
 use crate::format_description::{
-    BorrowedFormatItem, Component, FormatDescriptionV3, FormatDescriptionV3Inner, OwnedFormatItem,
-    component_of, component_width, modifier,
+    BorrowedFormatItem, Component, FormatDescriptionV3, FormatDescriptionV3Inner, Layer, Node,
+    OwnedFormatItem, component_width, modifier,
 };
 use std::process::Abort;
 use std::test::Fail;
@@ -11,15 +11,15 @@ use std::test::Fail;
 fn check_width(rt: &impl Abort, component: Component, width: usize) {
     assert_eq!(rt; component_width(&component), width);
     let description = FormatDescriptionV3::new(FormatDescriptionV3Inner::from(component));
-    assert_eq!(rt; description.max_bytes_needed(), width);
-    assert!(rt; component_of(description.inner()).is_some());
+    assert_eq!(rt; description.metadata().max_bytes_needed, width);
+    assert!(rt; matches!(description.inner().layer(), Layer::Component(_)));
 }
 
 /// The stored width of a description that is no component.
 fn check_stored_width(rt: &impl Abort, inner: FormatDescriptionV3Inner<'_>, width: usize) {
     let description = FormatDescriptionV3::new(inner);
-    assert_eq!(rt; description.max_bytes_needed(), width);
-    assert!(rt; component_of(description.inner()).is_none());
+    assert_eq!(rt; description.metadata().max_bytes_needed, width);
+    assert!(rt; !matches!(description.inner().layer(), Layer::Component(_)));
 }
 
 fn month_name() -> Component {

@@ -5,9 +5,12 @@ ghost use Rattle.time_below.specs.Width.{trees_width, are_guaranteed_text};
 ghost use Rattle.time_fmt.specs.Description.{trees_outcome};
 
 use crate::error::Format;
-use crate::formattable::{Formattable, borrowed, owned};
-use crate::metadata::{ComputeMetadata, Metadata};
-use time_below::format_description::{BorrowedFormatItem, OwnedFormatItem};
+use crate::formattable::Formattable;
+use crate::formattable::engine::write_nodes;
+use crate::metadata::ComputeMetadata;
+use time_below::format_description::{
+    BorrowedFormatItem, Metadata, OwnedFormatItem, metadata_of_nodes,
+};
 use time_provide::ComponentProvider;
 
 /// Borrowed items in order.
@@ -20,7 +23,7 @@ impl ComputeMetadata for BorrowedItems<'_> {
     ghost is_guaranteed = { λ items. are_guaranteed_text (trees (map borrowed_tree items.0.now)) };
 
     fn compute_metadata(&self) -> Metadata {
-        borrowed::metadata_of_items(self.0)
+        metadata_of_nodes(self.0)
     }
 }
 
@@ -33,7 +36,7 @@ impl Formattable for BorrowedItems<'_> {
         value: &V,
         state: &mut V::State,
     ) -> Result<usize, Format> {
-        borrowed::write_items(self.0, output, value, state)
+        write_nodes(self.0, output, value, state)
     }
 }
 
@@ -47,7 +50,7 @@ impl ComputeMetadata for OwnedItems<'_> {
     ghost is_guaranteed = { λ items. are_guaranteed_text (trees (map owned_tree items.0.now)) };
 
     fn compute_metadata(&self) -> Metadata {
-        owned::metadata_of_items(self.0)
+        metadata_of_nodes(self.0)
     }
 }
 
@@ -60,6 +63,6 @@ impl Formattable for OwnedItems<'_> {
         value: &V,
         state: &mut V::State,
     ) -> Result<usize, Format> {
-        owned::write_items(self.0, output, value, state)
+        write_nodes(self.0, output, value, state)
     }
 }

@@ -3,7 +3,7 @@ use crate::format_description::modifier::{
     MonthRepr, Padding, UnixTimestampPrecision, WeekNumberRepr, WeekdayRepr, YearRange, YearRepr,
 };
 use crate::format_description::{
-    Component, FormatDescriptionV3, FormatDescriptionV3Inner, component_of, component_width,
+    Component, FormatDescriptionV3, FormatDescriptionV3Inner, Layer, Node, component_width,
     modifier,
 };
 
@@ -227,11 +227,11 @@ fn deprecated_components_as_descriptions(rt: HostRuntime) {
     let description = FormatDescriptionV3::new(FormatDescriptionV3Inner::from(century));
     assert!(rt;
         matches!(
-            component_of(description.inner()),
-            Some(Component::CalendarYearCenturyStandardRange(_))
+            description.inner().layer(),
+            Layer::Component(Component::CalendarYearCenturyStandardRange(_))
         )
     );
-    assert_eq!(rt; description.max_bytes_needed(), 3);
+    assert_eq!(rt; description.metadata().max_bytes_needed, 3);
     let day = Component::Day(modifier::Day {
         padding: Padding::Zero,
     });

@@ -1,6 +1,6 @@
 use Rattle.std.proofs.Common.{◌≡◌, fold}
-use Rattle.time_fmt.specs.Metadata.{of_nothing, of_both}
-use Rattle.time_fmt.proofs.metadata.MetadataSum.sum.Given as goal
+use Rattle.time_below.specs.Metadata.{of_nothing, of_both}
+use Rattle.time_below.proofs.format_description.metadata.MetadataSum.sum.Given as goal
 
 -- the sum so far
 abbrev pub invariant-loop-metadata : goal.invariant-loop-metadata

@@ -1,0 +1,34 @@
+//! One layer of a description, whichever type it is written in.
+ghost use Rattle.std.specs.Prelude.{◌≡◌};
+ghost use Rattle.time_below.specs.Tree.{Tree, layer_tree};
+
+use crate::format_description::Component;
+
+/// What stands at the head of a description, with the descriptions below it.
+#[derive_where(Clone, Copy)]
+pub enum Layer<'a, T> {
+    /// Bytes, which need not be UTF-8.
+    Bytes(&'a [u8]),
+    /// A text.
+    Text(&'a str),
+    /// A part of the value.
+    Component(Component),
+    /// Items in order.
+    All(&'a [T]),
+    /// Items of which the first one alone is written.
+    First(&'a [T]),
+    /// An item that a parser may leave out.
+    Optional(&'a T),
+    /// An item that is not written.
+    Nothing,
+}
+
+/// A description that shows itself layer by layer.
+pub trait Node: Sized {
+    /// What is described.
+    ghost tree: { Self → Tree };
+
+    /// The layer at the head.
+    fn layer(&self) -> Layer<'_, Self>
+        ensures { layer_tree tree result ≡ tree self.now };
+}

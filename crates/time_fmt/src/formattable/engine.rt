@@ -1,0 +1,70 @@
+//! The engine: one recursion for each kind of tree.
+ghost use Rattle.std.specs.Prelude.{◌+◌, ◌≤◌, map, vec_len};
+ghost use Rattle.time_below.specs.Tree.{trees};
+ghost use Rattle.time_below.specs.Width.{tree_width, trees_width};
+ghost use Rattle.time_fmt.specs.Description.{tree_outcome, trees_outcome};
+ghost use Rattle.time_fmt.specs.Outcome.{Appends};
+ghost use Rattle.time_fmt.specs.Room.{HasRoom};
+
+use crate::component::component_write_into;
+use crate::error::Format;
+use crate::writers::{write, write_bytes};
+use time_below::format_description::{Layer, Node};
+use time_provide::ComponentProvider;
+
+/// Writes the nodes in order, up to the first that is refused.
+#[cycle(engine)]
+pub(super) fn write_nodes<T: Node, V: ComponentProvider>(
+    nodes: &[T],
+    output: &mut Vec<u8>,
+    value: &V,
+    state: &mut V::State,
+) -> Result<usize, Format>
+    requires room { HasRoom output.old (trees_width (trees (map T.tree nodes.now))) }
+    requires agrees { V.agrees state.old value.now }
+    ensures appends { Appends output.old output.new result
+        (trees_outcome (trees (map T.tree nodes.now)) (V.facts value.now)) }
+    ensures within { vec_len output.new
+        ≤ vec_len output.old + trees_width (trees (map T.tree nodes.now)) }
+    ensures agrees { V.agrees state.new value.now }
+{
+    let mut sum = 0usize;
+    for node in nodes {
+        match write_node(node, output, value, state) {
+            Ok(count) => sum += count,
+            Err(refusal) => return Err(refusal),
+        }
+    }
+    Ok(sum)
+}
+
+/// Appends the text of the node where there is room for its width. Takes no memory.
+///
+/// Answers the number of bytes appended, or the refusal that ends the text.
+#[cycle(engine)]
+pub(super) fn write_node<T: Node, V: ComponentProvider>(
+    node: &T,
+    output: &mut Vec<u8>,
+    value: &V,
+    state: &mut V::State,
+) -> Result<usize, Format>
+    requires room { HasRoom output.old (tree_width (T.tree node.now)) }
+    requires agrees { V.agrees state.old value.now }
+    ensures appends { Appends output.old output.new result
+        (tree_outcome (T.tree node.now) (V.facts value.now)) }
+    ensures within { vec_len output.new ≤ vec_len output.old + tree_width (T.tree node.now) }
+    ensures agrees { V.agrees state.new value.now }
+{
+    match node.layer() {
+        Layer::Bytes(bytes) => Ok(write_bytes(output, bytes)),
+        Layer::Text(text) => Ok(write(output, text)),
+        Layer::Component(component) => component_write_into(component, output, value, state),
+        Layer::All(nodes) => write_nodes(nodes, output, value, state),
+        Layer::First(nodes) => match nodes.first() {
+            Some(node) => write_node(node, output, value, state),
+            None => Ok(0),
+        },
+        Layer::Optional(node) => write_node(node, output, value, state),
+        Layer::Nothing => Ok(0),
+    }
+}
