@@ -4,9 +4,10 @@ ghost use Rattle.std.specs.Int.{IsInRange};
 ghost use Rattle.time_below.specs.Facts.{Facts, DateFacts};
 ghost use Rattle.time_below.specs.Moment.{Moment, milliseconds};
 ghost use Rattle.time_below.specs.Month.{month_number};
-ghost use Rattle.time_below.specs.Offset.{Offset, is_negative, is_utc};
-ghost use Rattle.time_below.specs.TimeOfDay.{TimeOfDay, period_of};
+ghost use Rattle.time_below.specs.Offset.{Offset, IsOffset, is_negative, is_utc};
+ghost use Rattle.time_below.specs.TimeOfDay.{TimeOfDay, IsTimeOfDay, period_of};
 ghost use Rattle.time_below.specs.Weekday.{days_from_monday};
+ghost use Rattle.time_provide.specs.Real.{AreOfDate, IsNearMoment};
 
 use crate::ranges::{
     Day, Hours, IsoWeekNumber, Minutes, MondayBasedWeek, Nanoseconds, OffsetHours, OffsetMinutes,
@@ -19,6 +20,9 @@ use time_below::{Month, Period, Weekday};
 ///
 /// A method may keep in the state what it computed. It may be called where the value supplies its
 /// group and the state agrees with the value, and the state agrees afterwards.
+///
+/// A call also shows that the group is real: a date of the calendar with its own components, a time
+/// of day in its ranges, an offset in its ranges and of one sign, a moment in its range.
 pub trait ComponentProvider {
     /// What earlier calls for the same value computed.
     type State: Default;
@@ -55,6 +59,7 @@ pub trait ComponentProvider {
         requires agrees { agrees state.old self.now }
         ensures value { IfSome (facts self.now).date (λ d. result ≡ d.day) }
         ensures range { IsInRange 1 31 result }
+        ensures real { IfSome (facts self.now).date AreOfDate }
         ensures agrees { agrees state.new self.now };
 
     /// The month.
@@ -62,6 +67,7 @@ pub trait ComponentProvider {
         requires supplied { IsTrue SUPPLIES_DATE }
         requires agrees { agrees state.old self.now }
         ensures value { IfSome (facts self.now).date (λ d. month_number result ≡ d.month) }
+        ensures real { IfSome (facts self.now).date AreOfDate }
         ensures agrees { agrees state.new self.now };
 
     /// The day of the year.
@@ -70,6 +76,7 @@ pub trait ComponentProvider {
         requires agrees { agrees state.old self.now }
         ensures value { IfSome (facts self.now).date (λ d. result ≡ d.ordinal) }
         ensures range { IsInRange 1 366 result }
+        ensures real { IfSome (facts self.now).date AreOfDate }
         ensures agrees { agrees state.new self.now };
 
     /// The day of the week.
@@ -77,6 +84,7 @@ pub trait ComponentProvider {
         requires supplied { IsTrue SUPPLIES_DATE }
         requires agrees { agrees state.old self.now }
         ensures value { IfSome (facts self.now).date (λ d. days_from_monday result ≡ d.weekday) }
+        ensures real { IfSome (facts self.now).date AreOfDate }
         ensures agrees { agrees state.new self.now };
 
     /// The week of the week calendar.
@@ -85,6 +93,7 @@ pub trait ComponentProvider {
         requires agrees { agrees state.old self.now }
         ensures value { IfSome (facts self.now).date (λ d. result ≡ d.iso_week) }
         ensures range { IsInRange 1 53 result }
+        ensures real { IfSome (facts self.now).date AreOfDate }
         ensures agrees { agrees state.new self.now };
 
     /// The week of the year, by its Mondays.
@@ -93,6 +102,7 @@ pub trait ComponentProvider {
         requires agrees { agrees state.old self.now }
         ensures value { IfSome (facts self.now).date (λ d. result ≡ d.monday_based_week) }
         ensures range { result ≤ 53 }
+        ensures real { IfSome (facts self.now).date AreOfDate }
         ensures agrees { agrees state.new self.now };
 
     /// The week of the year, by its Sundays.
@@ -101,6 +111,7 @@ pub trait ComponentProvider {
         requires agrees { agrees state.old self.now }
         ensures value { IfSome (facts self.now).date (λ d. result ≡ d.sunday_based_week) }
         ensures range { result ≤ 53 }
+        ensures real { IfSome (facts self.now).date AreOfDate }
         ensures agrees { agrees state.new self.now };
 
     /// The year.
@@ -109,6 +120,7 @@ pub trait ComponentProvider {
         requires agrees { agrees state.old self.now }
         ensures value { IfSome (facts self.now).date (λ d. result ≡ d.year) }
         ensures range { unsigned_abs result ≤ 999_999 }
+        ensures real { IfSome (facts self.now).date AreOfDate }
         ensures agrees { agrees state.new self.now };
 
     /// The year of the week calendar.
@@ -117,6 +129,7 @@ pub trait ComponentProvider {
         requires agrees { agrees state.old self.now }
         ensures value { IfSome (facts self.now).date (λ d. result ≡ d.iso_year) }
         ensures range { unsigned_abs result ≤ 999_999 }
+        ensures real { IfSome (facts self.now).date AreOfDate }
         ensures agrees { agrees state.new self.now };
 
     /// The hour of the day.
@@ -125,6 +138,7 @@ pub trait ComponentProvider {
         requires agrees { agrees state.old self.now }
         ensures value { IfSome (facts self.now).time (λ t. result ≡ t.hour) }
         ensures range { result ≤ 23 }
+        ensures real { IfSome (facts self.now).time IsTimeOfDay }
         ensures agrees { agrees state.new self.now };
 
     /// The minute of the hour.
@@ -133,6 +147,7 @@ pub trait ComponentProvider {
         requires agrees { agrees state.old self.now }
         ensures value { IfSome (facts self.now).time (λ t. result ≡ t.minute) }
         ensures range { result ≤ 59 }
+        ensures real { IfSome (facts self.now).time IsTimeOfDay }
         ensures agrees { agrees state.new self.now };
 
     /// The half of the day.
@@ -140,6 +155,7 @@ pub trait ComponentProvider {
         requires supplied { IsTrue SUPPLIES_TIME }
         requires agrees { agrees state.old self.now }
         ensures value { IfSome (facts self.now).time (λ t. result ≡ period_of t) }
+        ensures real { IfSome (facts self.now).time IsTimeOfDay }
         ensures agrees { agrees state.new self.now };
 
     /// The second of the minute.
@@ -148,6 +164,7 @@ pub trait ComponentProvider {
         requires agrees { agrees state.old self.now }
         ensures value { IfSome (facts self.now).time (λ t. result ≡ t.second) }
         ensures range { result ≤ 59 }
+        ensures real { IfSome (facts self.now).time IsTimeOfDay }
         ensures agrees { agrees state.new self.now };
 
     /// The nanosecond of the second.
@@ -156,6 +173,7 @@ pub trait ComponentProvider {
         requires agrees { agrees state.old self.now }
         ensures value { IfSome (facts self.now).time (λ t. result ≡ t.nanosecond) }
         ensures range { result ≤ 999_999_999 }
+        ensures real { IfSome (facts self.now).time IsTimeOfDay }
         ensures agrees { agrees state.new self.now };
 
     /// Whether some part of the offset is below zero.
@@ -163,6 +181,7 @@ pub trait ComponentProvider {
         requires supplied { IsTrue SUPPLIES_OFFSET }
         requires agrees { agrees state.old self.now }
         ensures value { IfSome (facts self.now).offset (λ o. result ≡ is_negative o) }
+        ensures real { IfSome (facts self.now).offset IsOffset }
         ensures agrees { agrees state.new self.now };
 
     /// Whether all parts of the offset are zero.
@@ -170,6 +189,7 @@ pub trait ComponentProvider {
         requires supplied { IsTrue SUPPLIES_OFFSET }
         requires agrees { agrees state.old self.now }
         ensures value { IfSome (facts self.now).offset (λ o. result ≡ is_utc o) }
+        ensures real { IfSome (facts self.now).offset IsOffset }
         ensures agrees { agrees state.new self.now };
 
     /// The hour of the offset, with its sign.
@@ -178,6 +198,7 @@ pub trait ComponentProvider {
         requires agrees { agrees state.old self.now }
         ensures value { IfSome (facts self.now).offset (λ o. result ≡ o.hours) }
         ensures range { unsigned_abs result ≤ 25 }
+        ensures real { IfSome (facts self.now).offset IsOffset }
         ensures agrees { agrees state.new self.now };
 
     /// The minute of the offset, with its sign.
@@ -186,6 +207,7 @@ pub trait ComponentProvider {
         requires agrees { agrees state.old self.now }
         ensures value { IfSome (facts self.now).offset (λ o. result ≡ o.minutes) }
         ensures range { unsigned_abs result ≤ 59 }
+        ensures real { IfSome (facts self.now).offset IsOffset }
         ensures agrees { agrees state.new self.now };
 
     /// The second of the offset, with its sign.
@@ -194,6 +216,7 @@ pub trait ComponentProvider {
         requires agrees { agrees state.old self.now }
         ensures value { IfSome (facts self.now).offset (λ o. result ≡ o.seconds) }
         ensures range { unsigned_abs result ≤ 59 }
+        ensures real { IfSome (facts self.now).offset IsOffset }
         ensures agrees { agrees state.new self.now };
 
     /// The seconds since 1970-01-01T00:00:00 UTC.
@@ -202,6 +225,7 @@ pub trait ComponentProvider {
         requires agrees { agrees state.old self.now }
         ensures value { IfSome (facts self.now).stamp (λ s. result ≡ s.seconds) }
         ensures range { unsigned_abs result < 100_000_000_000_000 }
+        ensures real { IfSome (facts self.now).stamp IsNearMoment }
         ensures agrees { agrees state.new self.now };
 
     /// The milliseconds since 1970-01-01T00:00:00 UTC, toward zero.
@@ -210,6 +234,7 @@ pub trait ComponentProvider {
         requires agrees { agrees state.old self.now }
         ensures value { IfSome (facts self.now).stamp (λ s. result ≡ milliseconds s) }
         ensures range { unsigned_abs result < 100_000_000_000_000_000 }
+        ensures real { IfSome (facts self.now).stamp IsNearMoment }
         ensures agrees { agrees state.new self.now };
 
     // The groups that are there are those that the constants name.

@@ -114,6 +114,7 @@ impl ComponentProvider for OffsetDateTime {
     }
 
     fn unix_timestamp_seconds(&self, _state: &mut DateState) -> i64 {
+        let _in_range = self.time().as_hms_nano();
         self.unix_timestamp()
     }
 

@@ -115,6 +115,7 @@ impl ComponentProvider for UtcDateTime {
     }
 
     fn unix_timestamp_seconds(&self, _state: &mut DateState) -> i64 {
+        let _in_range = self.time().as_hms_nano();
         self.unix_timestamp()
     }
 
