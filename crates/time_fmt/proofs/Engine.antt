@@ -20,7 +20,7 @@ pub record Along (agrees : Type 0) (old now : Vec ℕ Global) (sum : ℕ) (f : F
   pub grown : vec_len old + sum ≡ vec_len now
   pub room : vec_len now + trees_width left ≤ vec_capacity now
   pub within : vec_len now + trees_width left ≤ vec_len old + trees_width all
-  pub capacity : vec_capacity old ≤ vec_capacity now
+  pub capacity : vec_capacity now ≡ vec_capacity old
 
 some_of : (P : Refusal → Type 0) (x : Option Refusal) → IsSomeAnd x P → (r : Refusal) × (x ≡ Some r)
 some_of P None h = absurd h
@@ -43,7 +43,7 @@ refused_along old mid new e f all left others t along next step =
       counted = tt;
       named = rw (along.refusal, same) step.named;
       grown = omega (arith, step.grown, along.grown, along.count, ap (λ (o : Outcome). length o.bytes) same);
-      capacity = omega (arith, step.capacity, along.capacity);
+      capacity = step.capacity ∙ along.capacity;
     }
 
 -- the first of a list that begins with x has the outcome of x

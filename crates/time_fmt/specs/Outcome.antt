@@ -1,5 +1,5 @@
 -- Outcomes: bytes, and perhaps a refusal after them.
-use Rattle.std.specs.Prelude.{ℕ, ◌≡◌, ◌≤◌, ◌+◌, List, [], ◌++◌, length, Option, Some, None, Result, IfOk, IfErr, IsSomeAnd, vec_len, vec_capacity, Vec}
+use Rattle.std.specs.Prelude.{ℕ, ◌≡◌, ◌+◌, List, [], ◌++◌, length, Option, Some, None, Result, IfOk, IfErr, IsSomeAnd, vec_len, vec_capacity, Vec}
 use Rattle.std.specs.Global.{Global}
 use Rattle.time_below.specs.ComponentRange.{RangeRefusal, range_refusal}
 use Rattle.time_fmt.specs.declared.error.Format.{Format}
@@ -36,10 +36,17 @@ join a b = elim a.refusal [
 ]
 
 -- The bytes of the outcome are appended, and the answer is their number, or names the refusal. The
--- room afterwards is at least the room before less the bytes appended, since no capacity is lost.
+-- capacity stays, so that the room afterwards is the room before less the bytes appended.
 pub record Appends (old new : Vec ℕ Global) (answer : Result ℕ Format) (o : Outcome) : Type 0 where
   pub appended : new.items ≡ old.items ++ o.bytes
   pub counted : IfOk answer (λ n. (o.refusal ≡ None) × (n ≡ length o.bytes))
   pub named : IfErr answer (λ e. IsSomeAnd o.refusal (Names e))
   pub grown : vec_len new ≡ vec_len old + length o.bytes
-  pub capacity : vec_capacity old ≤ vec_capacity new
+  pub capacity : vec_capacity new ≡ vec_capacity old
+
+-- the same, where the capacity may change
+pub record Adds (old new : Vec ℕ Global) (answer : Result ℕ Format) (o : Outcome) : Type 0 where
+  pub appended : new.items ≡ old.items ++ o.bytes
+  pub counted : IfOk answer (λ n. (o.refusal ≡ None) × (n ≡ length o.bytes))
+  pub named : IfErr answer (λ e. IsSomeAnd o.refusal (Names e))
+  pub grown : vec_len new ≡ vec_len old + length o.bytes

@@ -6,10 +6,10 @@ use Rattle.std.specs.Global.{Global}
 abbrev pub HasRoom : Vec ℕ Global → ℕ → Type 0
 HasRoom output width = vec_len output + width ≤ vec_capacity output
 
--- The text was appended, and the count is its length. The room afterwards is at least the room
--- before less the bytes appended, since no capacity is lost.
+-- The text was appended, and the count is its length. The capacity stays, so that the room afterwards
+-- is the room before less the bytes appended.
 pub record Writes (old new : Vec ℕ Global) (count : ℕ) (text : List ℕ) : Type 0 where
   pub appended : new.items ≡ old.items ++ text
   pub counted : count ≡ length text
   pub grown : vec_len new ≡ vec_len old + length text
-  pub capacity : vec_capacity old ≤ vec_capacity new
+  pub capacity : vec_capacity new ≡ vec_capacity old

@@ -1,7 +1,7 @@
 //! Descriptions of a text.
-ghost use Rattle.std.specs.Prelude.{◌≡◌, ◌≢◌, ℕ, ◌+◌, ◌<◌, ◌≤◌, None, IsOk, OnOk, IfOk, IfErr, IsSomeAnd, IsUtf8, string_bytes, vec_len, vec_capacity};
+ghost use Rattle.std.specs.Prelude.{◌≡◌, ◌≢◌, ℕ, ◌+◌, ◌*◌, ◌<◌, ◌≤◌, max, None, IsOk, OnOk, OnErr, IfOk, IfErr, IsSomeAnd, IsUtf8, string_bytes, vec_len, vec_capacity};
 ghost use Rattle.time_below.specs.Facts.{Facts};
-ghost use Rattle.time_fmt.specs.Outcome.{Outcome, Names, Appends};
+ghost use Rattle.time_fmt.specs.Outcome.{Outcome, Names, Appends, Adds};
 ghost use Rattle.time_fmt.specs.Lossy.{lossy_text, IsRefusedOrText};
 ghost use Rattle.time_fmt.specs.Room.{HasRoom};
 
@@ -13,7 +13,7 @@ use crate::error::Format;
 use crate::metadata::ComputeMetadata;
 use bstr::ByteVec;
 pub use lists::{BorrowedItems, OwnedItems};
-use std::alloc::Global;
+use std::alloc::{AllocError, Global};
 use time_provide::ComponentProvider;
 pub use trees::v3_write_into;
 
@@ -40,7 +40,8 @@ pub trait Formattable: ComputeMetadata {
         ensures within { vec_len output.new ≤ vec_len output.old + Self.width_of self.now }
         ensures agrees { V.agrees state.new value.now };
 
-    /// Appends the text of the value, after one reservation where the room is missing.
+    /// Appends the text of the value, after one reservation where the room is missing, of the width
+    /// or of twice the capacity, whichever is more.
     ///
     /// Answers the number of bytes appended, or the refusal that ends the text; what was appended
     /// before it stays. Where the reservation is refused, or the width has reached the greatest
@@ -53,9 +54,15 @@ pub trait Formattable: ComputeMetadata {
     ) -> Result<usize, Format>
         requires agrees { V.agrees state.old value.now }
         ensures appends { result ≢ Err Format.OutOfMemory
-            → Appends output.old output.new result (outcome_of self.now (V.facts value.now)) }
+            → Adds output.old output.new result (outcome_of self.now (V.facts value.now)) }
         ensures within { vec_len output.new ≤ vec_len output.old + Self.width_of self.now }
         ensures agrees { V.agrees state.new value.now }
+
+        // Where there is room the capacity stays, and else it grows to what is needed or is doubled.
+        ensures in_place { HasRoom output.old (Self.width_of self.now)
+            → vec_capacity output.new ≡ vec_capacity output.old }
+        ensures bounded { vec_capacity output.new ≤ max (2 * vec_capacity output.old)
+            (vec_len output.old + Self.width_of self.now) }
 
         // The want of memory changes nothing, and where there is room it is never answered.
         ensures unchanged { result ≡ Err Format.OutOfMemory → output.new.items ≡ output.old.items }
@@ -67,7 +74,7 @@ pub trait Formattable: ComputeMetadata {
             → result ≢ Err Format.OutOfMemory }
     {
         let width = self.compute_metadata().max_bytes_needed;
-        if width == usize::MAX || output.reserve(width).is_err() {
+        if width == usize::MAX || make_room(output, width).is_err() {
             return Err(Format::OutOfMemory);
         }
         self.write_into(output, value, state)
@@ -103,6 +110,26 @@ pub trait Formattable: ComputeMetadata {
             Err(refusal) => Err(refusal),
         }
     }
+}
+
+/// Makes room for so many bytes where it is missing, by one reservation, which at least doubles the
+/// capacity.
+#[inline]
+fn make_room(output: &mut Vec<u8>, width: usize) -> Result<(), AllocError>
+    ensures items { output.new.items ≡ output.old.items }
+    ensures len { vec_len output.new ≡ vec_len output.old }
+    ensures room { OnOk result (HasRoom output.new width) }
+    ensures in_place { HasRoom output.old width
+        → IsOk result × (vec_capacity output.new ≡ vec_capacity output.old) }
+    ensures bounded { vec_capacity output.new ≤ max (2 * vec_capacity output.old)
+        (vec_len output.old + width) }
+    ensures refused { OnErr result (vec_capacity output.new ≡ vec_capacity output.old) }
+{
+    let (len, capacity) = (output.len(), output.capacity());
+    if width <= capacity - len {
+        return Ok(());
+    }
+    output.reserve_exact(width.max(capacity.saturating_add(capacity - len)))
 }
 
 /// The bytes as a text, with U+FFFD for what is no character; a text takes no memory.

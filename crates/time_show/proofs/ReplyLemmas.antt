@@ -6,7 +6,7 @@ use Rattle.std.specs.Global.{Global}
 use Rattle.std.specs.Prelude.{codes, nat_lt, IsSomeAnd, if◌then◌else◌}
 use Rattle.time_below.specs.ComponentRange.{RangeRefusal}
 use Rattle.time_below.specs.TimeOfDay.{TimeOfDay, IsTimeOfDay}
-use Rattle.time_fmt.specs.Outcome.{Outcome, Refusal, insufficient, invalid_component, out_of_range, Names, Appends}
+use Rattle.time_fmt.specs.Outcome.{Outcome, Refusal, insufficient, invalid_component, out_of_range, Names, Adds}
 use Rattle.time_fmt.specs.declared.error.Format.{Format}
 use Rattle.time_fmt.specs.declared.error.Format.TheVariants as error
 use Rattle.time_show.specs.Answer.{Answers, ok_text, refused_text, refusal_name, outcome_text}
@@ -37,7 +37,7 @@ len-items v = omega (arith, v.ok)
 
 -- the answer to an error that names the outcome's refusal
 named-answer : (width : ℕ) (o : Outcome) (e : Format) (old new : Vec ℕ Global) → old.items ≡ [] →
-    Appends old new (Err e) o → refused_text (vec_len new) (error_name e) ≡ outcome_text width o
+    Adds old new (Err e) o → refused_text (vec_len new) (error_name e) ≡ outcome_text width o
 named-answer width o e old new empty a =
     let names : (r : Refusal) × (o.refusal ≡ Some r) × Names e r = some-and o.refusal (Names e) a.named in
     rw (len-items new, a.appended, empty, names.1, names-same e names.0 names.2)
@@ -47,7 +47,7 @@ failed e = Err e
 
 -- an error in place of a text answers a value
 pub error-answers : (width : ℕ) (o : Outcome) (e : Format) (old new : Vec ℕ Global) → old.items ≡ [] →
-    (failed e ≢ failed error.OutOfMemory → Appends old new (Err e) o) →
+    (failed e ≢ failed error.OutOfMemory → Adds old new (Err e) o) →
     (failed e ≡ failed error.OutOfMemory → new.items ≡ old.items) →
     Answers (formatted width o) (refused_text (vec_len new) (error_name e))
 error-answers width o error.OutOfMemory old new empty appends same = inr (rw (len-items new, same refl, empty))
@@ -60,7 +60,7 @@ error-answers width o (error.ComponentRange range) old new empty appends same =
 
 -- a text answers a value
 pub text-answers : (width count : ℕ) (o : Outcome) (old new : Vec ℕ Global) → old.items ≡ [] →
-    Appends old new (Ok count) o → Answers (formatted width o) (ok_text count (min width (2 ^ 64 - 1)) new.items)
+    Adds old new (Ok count) o → Answers (formatted width o) (ok_text count (min width (2 ^ 64 - 1)) new.items)
 text-answers width count o old new empty a = inl (rw (a.counted.0, a.counted.1, a.appended, empty))
 
 -- A number in its type is in a component's range exactly where the number of the line is.

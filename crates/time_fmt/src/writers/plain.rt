@@ -1,7 +1,9 @@
 //! Bytes and texts as they are.
-ghost use Rattle.std.specs.Prelude.{length, [], if◌then◌else◌};
+ghost use Rattle.std.specs.Prelude.{◌≡◌, ◌+◌, ◌++◌, length, [], if◌then◌else◌, vec_len, vec_capacity};
 ghost use Rattle.time_digits.specs.Digits.{joined};
 ghost use Rattle.time_fmt.specs.Room.{HasRoom, Writes};
+
+use std::mem::replace;
 
 /// Appends the bytes, and answers their number.
 #[inline]
@@ -9,8 +11,66 @@ pub fn write_bytes(output: &mut Vec<u8>, bytes: &[u8]) -> usize
     requires room { HasRoom output.old (length bytes.now) }
     ensures writes { Writes output.old output.new result bytes.now }
 {
-    let _ = output.extend_from_slice(bytes);
+    match bytes {
+        [] => {}
+        [a] => output.push_reserved(*a),
+        [a, b] => {
+            output.push_reserved(*a);
+            output.push_reserved(*b);
+        }
+        _ => write_in_blocks(output, bytes),
+    }
     bytes.len()
+}
+
+/// Appends the bytes, eight at a time. `extend_from_slice` has no clause that the capacity stays. The
+/// vector is taken out meanwhile, so that the compiler sees that its block does not move, and makes one
+/// store of eight.
+fn write_in_blocks(output: &mut Vec<u8>, bytes: &[u8])
+    requires room { HasRoom output.old (length bytes.now) }
+    ensures appended { output.new.items ≡ output.old.items ++ bytes.now }
+    ensures grown { vec_len output.new ≡ vec_len output.old + length bytes.now }
+    ensures capacity { vec_capacity output.new ≡ vec_capacity output.old }
+{
+    let alloc = *output.allocator();
+    let mut taken = replace(output, Vec::new(alloc));
+    let mut rest = bytes;
+    while let [a, b, c, d, e, f, g, h, more @ ..] = rest {
+        let (a, b, c, d, e, f, g, h) = (*a, *b, *c, *d, *e, *f, *g, *h);
+        taken.push_reserved(a);
+        taken.push_reserved(b);
+        taken.push_reserved(c);
+        taken.push_reserved(d);
+        taken.push_reserved(e);
+        taken.push_reserved(f);
+        taken.push_reserved(g);
+        taken.push_reserved(h);
+        rest = more;
+    }
+    if let [a, b, c, d, more @ ..] = rest {
+        let (a, b, c, d) = (*a, *b, *c, *d);
+        taken.push_reserved(a);
+        taken.push_reserved(b);
+        taken.push_reserved(c);
+        taken.push_reserved(d);
+        rest = more;
+    }
+    match rest {
+        [a] => taken.push_reserved(*a),
+        [a, b] => {
+            let (a, b) = (*a, *b);
+            taken.push_reserved(a);
+            taken.push_reserved(b);
+        }
+        [a, b, c] => {
+            let (a, b, c) = (*a, *b, *c);
+            taken.push_reserved(a);
+            taken.push_reserved(b);
+            taken.push_reserved(c);
+        }
+        _ => {}
+    }
+    *output = taken;
 }
 
 /// Appends the text, and answers the number of its bytes.

@@ -7,5 +7,5 @@ invariant-loop l = record {
   bytes : l.output.items ≡ l.fn.output.items ++ replicate l.counter 48;
   grown : vec_len l.output ≡ vec_len l.fn.output + l.counter;
   room : vec_len l.fn.output + l.count ≤ vec_capacity l.output;
-  capacity : vec_capacity l.fn.output ≤ vec_capacity l.output;
+  capacity : vec_capacity l.output ≡ vec_capacity l.fn.output;
 }

@@ -11,5 +11,5 @@ invariant-loop-text l =
       count : l.sum + length left ≡ length (joined l.texts);
       grown : vec_len l.fn.output + l.sum ≡ vec_len l.output;
       room : vec_len l.output + length left ≤ vec_capacity l.output;
-      capacity : vec_capacity l.fn.output ≤ vec_capacity l.output;
+      capacity : vec_capacity l.output ≡ vec_capacity l.fn.output;
     }
