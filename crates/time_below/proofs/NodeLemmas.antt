@@ -1,33 +1,30 @@
--- Trees of nodes: how large they are, what is left of a list of them, and what is known of their texts.
+-- Nodes one after another: what is left of a list of them, and what is known of their texts.
 use Rattle.std.proofs.Common.{◌≡◌, refl, ap, sym, ◌∙◌, arith, ℕ, ◌+◌, ◌<◌, ◌≤◌, min, Bool, true, false, ◌&&◌, List, map, drop, length}
 use Rattle.std.specs.Prelude.{slice_index_or}
 use Rattle.std.proofs.lemmas.List.{at_drop_more}
 use Rattle.time_below.specs.Metadata.{of_both, tree_metadata}
-use Rattle.time_below.specs.Tree.{Tree, Trees, byte_literal, text_literal, of_component, all_of, first_of, end, more, trees}
+use Rattle.time_below.specs.Size.{sizes}
+use Rattle.time_below.specs.Tree.{Tree, Trees, more, trees}
 use Rattle.time_below.specs.Width.{tree_width, trees_width, are_guaranteed_text}
 use Rattle.time_below.specs.declared.format_description.metadata.Metadata.{Metadata}
-
--- the measure of a recursion over a tree: each item is smaller than its list, and a list than its tree
-abbrev mutual
-  pub tree_size : Tree → ℕ
-  tree_size (byte_literal bytes) = 0
-  tree_size (text_literal text) = 0
-  tree_size (of_component c) = 0
-  tree_size (all_of ts) = trees_size ts + 1
-  tree_size (first_of ts) = trees_size ts + 1
-
-  pub trees_size : Trees → ℕ
-  trees_size end = 0
-  trees_size (more t ts) = tree_size t + trees_size ts + 1
 
 -- what is left of a list begins with the node at its index
 pub next_of : {A : Type 0} (tree : A → Tree) (nodes : List A) (i : ℕ) (x : A) → i < length nodes → x ≡ slice_index_or nodes i x
     → trees (map tree (drop i nodes)) ≡ more (tree x) (trees (map tree (drop (i + 1) nodes)))
 next_of tree nodes i x h is = at_drop_more (λ xs. trees (map tree xs)) nodes i x h ∙ ap (λ y. more (tree y) (trees (map tree (drop (i + 1) nodes)))) (sym is)
 
+-- and what is left is larger by that node
+pub larger_by : {A : Type 0} (size : A → ℕ) (nodes : List A) (i : ℕ) (x : A) → i < length nodes → x ≡ slice_index_or nodes i x
+    → sizes (map size (drop i nodes)) ≡ size x + sizes (map size (drop (i + 1) nodes)) + 1
+larger_by size nodes i x h is = at_drop_more (λ xs. sizes (map size xs)) nodes i x h ∙ ap (λ y. size y + sizes (map size (drop (i + 1) nodes)) + 1) (sym is)
+
+pub smaller_rest : {A : Type 0} (size : A → ℕ) (nodes : List A) (i : ℕ) (x : A) → i < length nodes → x ≡ slice_index_or nodes i x
+    → sizes (map size (drop (i + 1) nodes)) ≤ sizes (map size (drop i nodes))
+smaller_rest size nodes i x h is = omega (arith, larger_by size nodes i x h is)
+
 -- the sum so far and that of what is left make the sum of all
-pub record Summed (sum : Metadata) (all left : Trees) : Type 0 where
-  pub size : trees_size left ≤ trees_size all
+pub record Summed (sum : Metadata) (all left : Trees) (all_size left_size : ℕ) : Type 0 where
+  pub size : left_size ≤ all_size
   pub fits : sum.max_bytes_needed ≤ 18446744073709551615
   pub width : min (sum.max_bytes_needed + trees_width left) 18446744073709551615 ≡ min (trees_width all) 18446744073709551615
   pub text : (sum.guaranteed_utf8 && are_guaranteed_text left) ≡ are_guaranteed_text all
@@ -37,13 +34,14 @@ and_assoc true b c = refl
 and_assoc false b c = refl
 
 -- one more
-pub summed_more : (all left rest : Trees) (t : Tree) (sum item new : Metadata) → Summed sum all left → left ≡ more t rest
-    → item ≡ tree_metadata t → new ≡ of_both sum item → Summed new all rest
-summed_more all left rest t sum item new along next of_item is =
+pub summed_more : {all_size left_size rest_size : ℕ} (all left rest : Trees) (t : Tree) (sum item new : Metadata)
+    → Summed sum all left all_size left_size → left ≡ more t rest → rest_size ≤ left_size
+    → item ≡ tree_metadata t → new ≡ of_both sum item → Summed new all rest all_size rest_size
+summed_more all left rest t sum item new along next smaller of_item is =
     let w : item.max_bytes_needed ≡ min (tree_width t) 18446744073709551615 = ap (λ (m : Metadata). m.max_bytes_needed) of_item in
     let s : new.max_bytes_needed ≡ min (sum.max_bytes_needed + item.max_bytes_needed) 18446744073709551615 = ap (λ (m : Metadata). m.max_bytes_needed) is in
     record {
-      size = omega (arith, along.size, ap trees_size next);
+      size = omega (arith, along.size, smaller);
       fits = omega arith;
       width = omega (arith, along.fits, along.width, ap trees_width next);
       text =

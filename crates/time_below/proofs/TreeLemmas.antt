@@ -1,8 +1,8 @@
 -- The trees of items that hold other items, variant by variant.
-use Rattle.std.proofs.Common.{◌≡◌, ap, sym, ◌∙◌, List, map, Bor, Bool, true, Vec}
+use Rattle.std.proofs.Common.{◌≡◌, ap, sym, ◌∙◌, List, map, Bor, Bool, if◌then◌else◌, Vec}
 use Rattle.std.specs.Global.{Global}
 use Rattle.std.specs.declared.boxed.Box.{Box}
-use Rattle.time_below.specs.Tree.{Tree, trees, all_of, first_of, optional, borrowed_tree, borrowed_layer, owned_tree, owned_layer, v3_tree, v3_layer}
+use Rattle.time_below.specs.Tree.{Tree, trees, all_of, first_of, nothing, borrowed_tree, borrowed_layer, owned_tree, owned_layer, v3_tree, v3_layer}
 use Rattle.time_below.specs.declared.format_description.borrowed_format_item.BorrowedFormatItem.{BorrowedFormatItem, fold-roll-BorrowedFormatItem}
 use Rattle.time_below.specs.declared.format_description.borrowed_format_item.BorrowedFormatItem.TheVariants as borrowed_item
 use Rattle.time_below.specs.declared.format_description.borrowed_format_item.BorrowedFormatItem.TheOpen as open_borrowed
@@ -23,7 +23,7 @@ borrowed_first items =
     ap borrowed_tree (sym (borrowed_item.rolls-First items))
     ∙ fold-roll-BorrowedFormatItem Tree borrowed_layer (open_borrowed.First items)
 
-pub borrowed_optional : (item : Bor BorrowedFormatItem) → borrowed_tree (borrowed_item.Optional item) ≡ optional true (borrowed_tree item.now)
+pub borrowed_optional : (item : Bor BorrowedFormatItem) → borrowed_tree (borrowed_item.Optional item) ≡ borrowed_tree item.now
 borrowed_optional item =
     ap borrowed_tree (sym (borrowed_item.rolls-Optional item))
     ∙ fold-roll-BorrowedFormatItem Tree borrowed_layer (open_borrowed.Optional item)
@@ -40,7 +40,7 @@ owned_first items =
     ap owned_tree (sym (owned_item.rolls-First items))
     ∙ fold-roll-OwnedFormatItem Tree owned_layer (open_owned.First items)
 
-pub owned_optional : (item : Box OwnedFormatItem Global) → owned_tree (owned_item.Optional item) ≡ optional true (owned_tree item.value)
+pub owned_optional : (item : Box OwnedFormatItem Global) → owned_tree (owned_item.Optional item) ≡ owned_tree item.value
 owned_optional item =
     ap owned_tree (sym (owned_item.rolls-Optional item))
     ∙ fold-roll-OwnedFormatItem Tree owned_layer (open_owned.Optional item)
@@ -52,7 +52,7 @@ v3_borrowed_compound items =
     ap v3_tree (sym (v3_item.rolls-BorrowedCompound items))
     ∙ fold-roll-FormatDescriptionV3Inner Tree v3_layer (open_v3.BorrowedCompound items)
 
-pub v3_borrowed_optional : (format : Bool) (item : Bor FormatDescriptionV3Inner) → v3_tree (v3_item.BorrowedOptional format item) ≡ optional format (v3_tree item.now)
+pub v3_borrowed_optional : (format : Bool) (item : Bor FormatDescriptionV3Inner) → v3_tree (v3_item.BorrowedOptional format item) ≡ (if format then v3_tree item.now else nothing)
 v3_borrowed_optional format item =
     ap v3_tree (sym (v3_item.rolls-BorrowedOptional format item))
     ∙ fold-roll-FormatDescriptionV3Inner Tree v3_layer (open_v3.BorrowedOptional format item)
@@ -67,7 +67,7 @@ v3_owned_compound items =
     ap v3_tree (sym (v3_item.rolls-OwnedCompound items))
     ∙ fold-roll-FormatDescriptionV3Inner Tree v3_layer (open_v3.OwnedCompound items)
 
-pub v3_owned_optional : (format : Bool) (item : Box FormatDescriptionV3Inner Global) → v3_tree (v3_item.OwnedOptional format item) ≡ optional format (v3_tree item.value)
+pub v3_owned_optional : (format : Bool) (item : Box FormatDescriptionV3Inner Global) → v3_tree (v3_item.OwnedOptional format item) ≡ (if format then v3_tree item.value else nothing)
 v3_owned_optional format item =
     ap v3_tree (sym (v3_item.rolls-OwnedOptional format item))
     ∙ fold-roll-FormatDescriptionV3Inner Tree v3_layer (open_v3.OwnedOptional format item)

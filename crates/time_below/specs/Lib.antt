@@ -7,6 +7,7 @@ pub mod Metadata
 pub mod Moment
 pub mod Month
 pub mod Offset
+pub mod Size
 pub mod TimeOfDay
 pub mod Tree
 pub mod Weekday

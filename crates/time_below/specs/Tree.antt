@@ -1,5 +1,5 @@
 -- Descriptions, whichever type they are written in.
-use Rattle.std.specs.Prelude.{ℕ, Bool, true, List, [], ◌∷◌, map, if◌then◌else◌, string_bytes}
+use Rattle.std.specs.Prelude.{ℕ, List, [], ◌∷◌, map, if◌then◌else◌, string_bytes}
 use Rattle.time_below.specs.Conversion.{current_component}
 use Rattle.time_below.specs.declared.format_description.component.Component.{Component}
 use Rattle.time_below.specs.declared.format_description.component.Component.TheVariants as component
@@ -9,7 +9,7 @@ use Rattle.time_below.specs.declared.format_description.borrowed_format_item.Bor
 use Rattle.time_below.specs.declared.format_description.owned_format_item.OwnedFormatItem as owned
 use Rattle.time_below.specs.declared.format_description.format_description_v3.FormatDescriptionV3Inner as v3
 
--- a literal, a component, all of a list of trees, or the first of one
+-- a literal, a component, all of a list of trees, the first of one, or nothing
 mutual
   pub data Tree : Type 0 where
     byte_literal : List ℕ → Tree
@@ -17,6 +17,7 @@ mutual
     of_component : Component → Tree
     all_of : Trees → Tree
     first_of : Trees → Tree
+    nothing : Tree
 
   pub data Trees : Type 0 where
     end : Trees
@@ -26,10 +27,6 @@ abbrev pub trees : List Tree → Trees
 trees [] = end
 trees (t ∷ ts) = more t (trees ts)
 
--- an optional item is the first of it alone, or of none where it is not written
-abbrev pub optional : Bool → Tree → Tree
-optional is_written t = if is_written then first_of (more t end) else first_of end
-
 -- the tree of a layer, whose items have trees
 abbrev pub layer_tree : {A : Type 0} → (A → Tree) → Layer A → Tree
 layer_tree tree (layer.Bytes bytes) = byte_literal bytes.now
@@ -37,8 +34,8 @@ layer_tree tree (layer.Text text) = text_literal text.now
 layer_tree tree (layer.Component c) = of_component c
 layer_tree tree (layer.All items) = all_of (trees (map tree items.now))
 layer_tree tree (layer.First items) = first_of (trees (map tree items.now))
-layer_tree tree (layer.Optional item) = optional true (tree item.now)
-layer_tree tree layer.Nothing = first_of end
+layer_tree tree (layer.Optional item) = tree item.now
+layer_tree tree layer.Nothing = nothing
 
 -- one layer of a borrowed item, whose children are translated: an optional item is always there
 abbrev pub borrowed_layer : borrowed.BorrowedFormatItem-F Tree → Tree
@@ -46,7 +43,7 @@ borrowed_layer (borrowed.TheOpen.Literal bytes) = byte_literal bytes.now
 borrowed_layer (borrowed.TheOpen.StringLiteral text) = text_literal text.now
 borrowed_layer (borrowed.TheOpen.Component c) = of_component c
 borrowed_layer (borrowed.TheOpen.Compound ts) = all_of (trees ts.now)
-borrowed_layer (borrowed.TheOpen.Optional t) = optional true t.now
+borrowed_layer (borrowed.TheOpen.Optional t) = t.now
 borrowed_layer (borrowed.TheOpen.First ts) = first_of (trees ts.now)
 
 abbrev pub borrowed_tree : borrowed.BorrowedFormatItem → Tree
@@ -58,7 +55,7 @@ owned_layer (owned.TheOpen.Literal bytes) = byte_literal bytes.items
 owned_layer (owned.TheOpen.StringLiteral text) = text_literal (string_bytes text)
 owned_layer (owned.TheOpen.Component c) = of_component c
 owned_layer (owned.TheOpen.Compound ts) = all_of (trees ts.items)
-owned_layer (owned.TheOpen.Optional t) = optional true t.value
+owned_layer (owned.TheOpen.Optional t) = t.value
 owned_layer (owned.TheOpen.First ts) = first_of (trees ts.items)
 
 abbrev pub owned_tree : owned.OwnedFormatItem → Tree
@@ -68,11 +65,11 @@ owned_tree = owned.fold-OwnedFormatItem Tree owned_layer
 abbrev pub v3_layer : v3.FormatDescriptionV3Inner-F Tree → Tree
 v3_layer (v3.TheOpen.BorrowedLiteral text) = text_literal text.now
 v3_layer (v3.TheOpen.BorrowedCompound ts) = all_of (trees ts.now)
-v3_layer (v3.TheOpen.BorrowedOptional format t) = optional format t.now
+v3_layer (v3.TheOpen.BorrowedOptional format t) = if format then t.now else nothing
 v3_layer (v3.TheOpen.BorrowedFirst ts) = first_of (trees ts.now)
 v3_layer (v3.TheOpen.OwnedLiteral text) = text_literal (string_bytes text)
 v3_layer (v3.TheOpen.OwnedCompound ts) = all_of (trees ts.items)
-v3_layer (v3.TheOpen.OwnedOptional format t) = optional format t.value
+v3_layer (v3.TheOpen.OwnedOptional format t) = if format then t.value else nothing
 v3_layer (v3.TheOpen.OwnedFirst ts) = first_of (trees ts.items)
 v3_layer (v3.TheOpen.Day m) = of_component (component.Day m)
 v3_layer (v3.TheOpen.MonthShort m) = of_component (component.MonthShort m)
@@ -113,16 +110,15 @@ v3_layer (v3.TheOpen.End m) = of_component (component.End m)
 abbrev pub v3_tree : v3.FormatDescriptionV3Inner → Tree
 v3_tree = v3.fold-FormatDescriptionV3Inner Tree v3_layer
 
--- byte literals read as texts, current components in the place of deprecated ones, and a first item in
--- the place of its list
+-- byte literals read as texts, and current components in the place of deprecated ones
 abbrev mutual
   pub unmarked : Tree → Tree
   unmarked (byte_literal bytes) = text_literal bytes
   unmarked (text_literal text) = text_literal text
   unmarked (of_component c) = of_component (current_component c)
   unmarked (all_of ts) = all_of (all_unmarked ts)
-  unmarked (first_of end) = first_of end
-  unmarked (first_of (more t ts)) = unmarked t
+  unmarked (first_of ts) = first_of (all_unmarked ts)
+  unmarked nothing = nothing
 
   pub all_unmarked : Trees → Trees
   all_unmarked end = end

@@ -12,7 +12,7 @@ use Rattle.time_below.specs.declared.format_description.modifier.UnixTimestampPr
 use Rattle.time_below.specs.declared.format_description.modifier.UnixTimestampPrecision.TheVariants as precision
 use Rattle.time_below.specs.declared.format_description.modifier.SubsecondDigits.{SubsecondDigits}
 use Rattle.time_below.specs.declared.format_description.modifier.SubsecondDigits.TheVariants as digits
-use Rattle.time_below.specs.Tree.{Tree, Trees, byte_literal, text_literal, of_component, all_of, first_of, end, more}
+use Rattle.time_below.specs.Tree.{Tree, Trees, byte_literal, text_literal, of_component, all_of, first_of, nothing, end, more}
 
 -- the decimals that are chosen, or all nine
 abbrev pub subsecond_width : SubsecondDigits → ℕ
@@ -104,6 +104,7 @@ abbrev mutual
   tree_width (all_of ts) = trees_width ts
   tree_width (first_of end) = 0
   tree_width (first_of (more t ts)) = tree_width t
+  tree_width nothing = 0
 
   pub trees_width : Trees → ℕ
   trees_width end = 0
@@ -118,6 +119,7 @@ abbrev mutual
   is_guaranteed_text (all_of ts) = are_guaranteed_text ts
   is_guaranteed_text (first_of end) = true
   is_guaranteed_text (first_of (more t ts)) = is_guaranteed_text t
+  is_guaranteed_text nothing = true
 
   pub are_guaranteed_text : Trees → Bool
   are_guaranteed_text end = true

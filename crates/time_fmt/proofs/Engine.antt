@@ -1,19 +1,21 @@
 -- Nodes one after another: what is written so far, and then the outcome of what is left, is the outcome of all.
-use Rattle.std.proofs.Common.{◌≡◌, ap, sym, ◌∙◌, refl, arith, ℕ, ◌+◌, ◌≤◌, ◌++◌, List, [], ◌∷◌, map, length, Option, Some, None, Err, IsSomeAnd, vec_len, vec_capacity, Vec}
+use Rattle.std.proofs.Common.{◌≡◌, ap, sym, ◌∙◌, refl, arith, ℕ, ◌+◌, ◌<◌, ◌≤◌, ◌++◌, List, [], ◌∷◌, map, drop, length, append_assoc, length-append, subst, Option, Some, None, Ok, Err, IsSomeAnd, vec_len, vec_capacity, Vec}
 use Rattle.std.specs.Prelude.{slice_get}
 use Rattle.std.specs.Global.{Global}
+use Rattle.std.proofs.lemmas.List.{at_drop_all}
 use Rattle.time_below.specs.Facts.{Facts}
-use Rattle.time_below.specs.Tree.{Tree, Trees, trees, first_of, more}
-use Rattle.time_below.specs.Width.{trees_width}
-use Rattle.time_below.proofs.NodeLemmas.{trees_size}
+use Rattle.time_below.specs.Tree.{Tree, Trees, trees, first_of, end, more}
+use Rattle.time_below.specs.Width.{tree_width, trees_width, is_guaranteed_text, are_guaranteed_text}
 use Rattle.time_fmt.specs.declared.error.Format.{Format}
 use Rattle.time_fmt.specs.Description.{tree_outcome, trees_outcome}
+use Rattle.time_fmt.specs.Guarantee.{IsTextIf}
 use Rattle.time_fmt.specs.Outcome.{Outcome, Refusal, Names, Appends, join}
+use Rattle.time_fmt.proofs.GuaranteeLemmas.{text_more, text_stops, empty_utf8}
 
 -- so far a list was written without a refusal: its rest is the rest of the outcome, and has room
-pub record Along (agrees : Type 0) (old now : Vec ℕ Global) (sum : ℕ) (f : Facts) (all left : Trees) : Type 0 where
+pub record Along (agrees : Type 0) (old now : Vec ℕ Global) (sum : ℕ) (f : Facts) (all left : Trees) (all_size left_size : ℕ) : Type 0 where
   pub state : agrees
-  pub size : trees_size left ≤ trees_size all
+  pub size : left_size ≤ all_size
   pub bytes : old.items ++ (trees_outcome all f).bytes ≡ now.items ++ (trees_outcome left f).bytes
   pub refusal : (trees_outcome all f).refusal ≡ (trees_outcome left f).refusal
   pub count : sum + length (trees_outcome left f).bytes ≡ length (trees_outcome all f).bytes
@@ -21,6 +23,7 @@ pub record Along (agrees : Type 0) (old now : Vec ℕ Global) (sum : ℕ) (f : F
   pub room : vec_len now + trees_width left ≤ vec_capacity now
   pub within : vec_len now + trees_width left ≤ vec_len old + trees_width all
   pub capacity : vec_capacity now ≡ vec_capacity old
+  pub text : IsTextIf (are_guaranteed_text left) (trees_outcome left f) → IsTextIf (are_guaranteed_text all) (trees_outcome all f)
 
 some_of : (P : Refusal → Type 0) (x : Option Refusal) → IsSomeAnd x P → (r : Refusal) × (x ≡ Some r)
 some_of P None h = absurd h
@@ -31,8 +34,8 @@ join_refused : (a b : Outcome) (r : Refusal) → a.refusal ≡ Some r → join a
 join_refused a b r h = rw h refl
 
 -- what was written before a node that is refused, and what the node wrote, is what the list writes
-pub refused_along : {agrees : Type 0} {sum : ℕ} (old mid new : Vec ℕ Global) (e : Format) (f : Facts) (all left others : Trees) (t : Tree) →
-    Along agrees old mid sum f all left → left ≡ more t others → Appends mid new (Err e) (tree_outcome t f) → Appends old new (Err e) (trees_outcome all f)
+pub refused_along : {agrees : Type 0} {sum all_size left_size : ℕ} (old mid new : Vec ℕ Global) (e : Format) (f : Facts) (all left others : Trees) (t : Tree) →
+    Along agrees old mid sum f all left all_size left_size → left ≡ more t others → Appends mid new (Err e) (tree_outcome t f) → Appends old new (Err e) (trees_outcome all f)
 refused_along old mid new e f all left others t along next step =
     let first = tree_outcome t f in
     let r = some_of (Names e) first.refusal step.named in
@@ -46,8 +49,67 @@ refused_along old mid new e f all left others t along next step =
       capacity = step.capacity ∙ along.capacity;
     }
 
+-- the text so far, and that of a node that is refused, make the text of the list
+pub text_refused : {agrees : Type 0} {sum all_size left_size : ℕ} (old mid new : Vec ℕ Global) (e : Format) (f : Facts) (all left others : Trees) (t : Tree) →
+    Along agrees old mid sum f all left all_size left_size → left ≡ more t others → Appends mid new (Err e) (tree_outcome t f)
+    → IsTextIf (is_guaranteed_text t) (tree_outcome t f) → IsTextIf (are_guaranteed_text all) (trees_outcome all f)
+text_refused old mid new e f all left others t along next step first =
+    let r = some_of (Names e) (tree_outcome t f).refusal step.named in
+    let stops = text_stops t others f first (join_refused (tree_outcome t f) (trees_outcome others f) r.0 r.1) in
+    let P : Trees → Type 0 = λ ts. IsTextIf (are_guaranteed_text ts) (trees_outcome ts f) in
+    along.text (subst P (sym next) stops)
+
+join_done : (a b : Outcome) → a.refusal ≡ None → join a b ≡ record { bytes = a.bytes ++ b.bytes; refusal = b.refusal }
+join_done a b h = rw h refl
+
+-- what was written before a node, and what the node wrote, is followed by what is left
+pub written_along : {agrees agrees_after : Type 0} {sum count all_size left_size rest_size : ℕ} (old mid new : Vec ℕ Global) (f : Facts) (all left others : Trees) (t : Tree) →
+    Along agrees old mid sum f all left all_size left_size → left ≡ more t others → rest_size ≤ left_size → Appends mid new (Ok count) (tree_outcome t f)
+    → vec_len new ≤ vec_len mid + tree_width t → agrees_after → IsTextIf (is_guaranteed_text t) (tree_outcome t f)
+    → Along agrees_after old new (sum + count) f all others all_size rest_size
+written_along old mid new f all left others t along next smaller step within agrees first =
+    let a = tree_outcome t f in
+    let b = trees_outcome others f in
+    let e : trees_outcome left f ≡ record { bytes = a.bytes ++ b.bytes; refusal = b.refusal } = ap (λ ts. trees_outcome ts f) next ∙ join_done a b step.counted.0 in
+    let bytes : (trees_outcome left f).bytes ≡ a.bytes ++ b.bytes = ap (λ (o : Outcome). o.bytes) e in
+    let length : length (trees_outcome left f).bytes ≡ length a.bytes + length b.bytes = ap length bytes ∙ length-append a.bytes b.bytes in
+    let width : trees_width left ≡ tree_width t + trees_width others = ap trees_width next in
+    let P : Trees → Type 0 = λ ts. IsTextIf (are_guaranteed_text ts) (trees_outcome ts f) in
+    record {
+      state = agrees;
+      size = omega (arith, along.size, smaller);
+      bytes =
+          along.bytes ∙ ap (λ bs. mid.items ++ bs) bytes ∙ sym (append_assoc mid.items a.bytes b.bytes)
+          ∙ ap (λ bs. bs ++ b.bytes) (sym step.appended);
+      refusal = along.refusal ∙ ap (λ (o : Outcome). o.refusal) e;
+      count = omega (arith, along.count, length, step.counted.1);
+      grown = omega (arith, along.grown, step.grown, step.counted.1);
+      room = omega (arith, along.room, width, step.capacity, within);
+      within = omega (arith, along.within, width, within);
+      capacity = step.capacity ∙ along.capacity;
+      text = λ rest. along.text (subst P (sym next) (text_more t others f first rest));
+    }
+
+-- at the end of a list nothing is left
+pub text_at_end : {A : Type 0} (tree : A → Tree) (nodes : List A) (i : ℕ) (f : Facts) → length nodes ≤ i
+    → (IsTextIf (are_guaranteed_text (trees (map tree (drop i nodes)))) (trees_outcome (trees (map tree (drop i nodes))) f) → IsTextIf (are_guaranteed_text (trees (map tree nodes))) (trees_outcome (trees (map tree nodes)) f))
+    → IsTextIf (are_guaranteed_text (trees (map tree nodes))) (trees_outcome (trees (map tree nodes)) f)
+text_at_end tree nodes i f past so_far =
+    let P : Trees → Type 0 = λ ts. IsTextIf (are_guaranteed_text ts) (trees_outcome ts f) in
+    let none : trees (map tree (drop i nodes)) ≡ end = at_drop_all (λ xs. trees (map tree xs)) nodes i past in
+    so_far (subst P (sym none) (λ _. empty_utf8))
+
 -- the first of a list that begins with x has the outcome of x
 pub outcome_of_first : {A : Type 0} (tree : A → Tree) (nodes : List A) (x : A) (f : Facts) → slice_get nodes 0 ≡ Some x
     → tree_outcome (first_of (trees (map tree nodes))) f ≡ tree_outcome (tree x) f
 outcome_of_first tree [] x f h = cc
 outcome_of_first tree (y ∷ ys) x f h = let e : y ≡ x = cc in ap (λ z. tree_outcome (tree z) f) e
+
+-- and it is a text if x is one
+pub text_of_first : {A : Type 0} (tree : A → Tree) (nodes : List A) (x : A) (f : Facts) → slice_get nodes 0 ≡ Some x
+    → IsTextIf (is_guaranteed_text (tree x)) (tree_outcome (tree x) f) → IsTextIf (is_guaranteed_text (first_of (trees (map tree nodes)))) (tree_outcome (first_of (trees (map tree nodes))) f)
+text_of_first tree [] x f h text = let no : ⊥ = cc in absurd no
+text_of_first {A} tree (y ∷ ys) x f h text =
+    let e : y ≡ x = cc in
+    let P : A → Type 0 = λ z. IsTextIf (is_guaranteed_text (tree z)) (tree_outcome (tree z) f) in
+    subst P (sym e) text

@@ -1,4 +1,4 @@
--- Texts of components are ASCII, and so the outcomes of guaranteed texts are UTF-8.
+-- Texts of components are ASCII, and texts one after another are UTF-8 where each of them is.
 use Rattle.std.proofs.Common.{◌≡◌, ℕ, zero, suc, ◌+◌, ◌-◌, ◌%◌, ◌^◌, ◌<◌, Bool, true, false, ◌&&◌, nat_lt, List, [], ◌∷◌, ◌++◌, decimal, IsAscii, IsUtf8, IsTrue, IfSome, Option, Some, None, if◌then◌else◌, refl, arith, ℤ, pos, unsigned_abs}
 use Rattle.std.specs.Prelude.{codes, int_lt, slice_index_or, ◌||◌, nat_le}
 use Rattle.std.specs.List.{list_all}
@@ -18,10 +18,11 @@ use Rattle.time_below.specs.declared.format_description.modifier.Padding.TheVari
 use Rattle.time_below.specs.declared.format_description.modifier.SubsecondDigits.{SubsecondDigits}
 use Rattle.time_below.specs.declared.format_description.modifier.SubsecondDigits.TheVariants as digits
 use Rattle.time_below.specs.Facts.{Facts}
+use Rattle.time_below.specs.Group.{group_of}
 use Rattle.time_below.specs.Moment.{milliseconds}
 use Rattle.time_below.specs.Offset.{is_negative}
 use Rattle.time_below.specs.TimeOfDay.{period_of}
-use Rattle.time_below.specs.Tree.{Tree, Trees, byte_literal, text_literal, of_component, all_of, first_of, end, more}
+use Rattle.time_below.specs.Tree.{Tree, Trees, more}
 use Rattle.time_below.specs.Width.{is_guaranteed_text, are_guaranteed_text}
 use Rattle.time_digits.specs.Digits.{fixed}
 use Rattle.time_digits.proofs.DigitLemmas.{IsAscii-fixed}
@@ -29,7 +30,8 @@ use Rattle.time_digits.proofs.FractionLemmas.{IsAscii-trimmed_fraction}
 use Rattle.time_digits.proofs.LengthLemmas.{IsAscii-padded}
 use Rattle.time_fmt.specs.DateText.{month_names, month_name, weekday_names, weekday_name, indexed, from_sunday}
 use Rattle.time_fmt.specs.Description.{of_group, in_standard_range, century_of, current_outcome, component_outcome, tree_outcome, trees_outcome}
-use Rattle.time_fmt.specs.Guarantee.{HasTexts, HaveTexts, DateFits, TimeFits, OffsetFits, MomentFits, FactsFit}
+use Rattle.time_fmt.specs.Guarantee.{IsRealPart, IsTextIf}
+use Rattle.time_fmt.proofs.RealLemmas.{DateFits, TimeFits, OffsetFits, MomentFits, date_fits, time_fits, offset_fits, moment_fits}
 use Rattle.time_fmt.specs.Outcome.{Outcome, done, refused, join, out_of_range}
 use Rattle.time_below.specs.ComponentRange.{conditional_range}
 use Rattle.time_fmt.specs.Text.{padded_text, sign_text, hour_12, period_text, subsecond_text, timestamp_text}
@@ -101,6 +103,11 @@ IsAscii-timestamp_text s n h = IsAscii-append (sign_text (int_lt n (pos 0)) s) (
 
 -- ---- components
 
+-- what holds of the group that is there
+fits : {G : Type 0} {P Q : G → Type 0} (group : Option G) → ((g : G) → P g → Q g) → IfSome group P → IfSome group Q
+fits None each h = h
+fits (Some g) each h = each g h
+
 ascii_of_group : {G : Type 0} (group : Option G) (fits : G → Type 0) (outcome : G → Outcome) → IfSome group fits → ((g : G) → fits g → IsAscii (outcome g).bytes) → IsAscii (of_group group outcome).bytes
 ascii_of_group None fits outcome h each = IsAscii-nil
 ascii_of_group (Some g) fits outcome h each = each g h
@@ -109,43 +116,44 @@ ascii_in_range : (greatest magnitude : ℕ) (text : List ℕ) → IsAscii text �
 ascii_in_range greatest magnitude text h =
     elim (nat_le magnitude greatest) as (λ b. IsAscii (if b then done text else refused (out_of_range (conditional_range (codes "year")))).bytes) [ true ↦ h | false ↦ IsAscii-nil ]
 
-ascii_current : (c : Component) (f : Facts) → FactsFit f → IsAscii (current_outcome c f).bytes
-ascii_current (component.Day m) f h = ascii_of_group f.date DateFits _ h.date (λ d fit. IsAscii-padded_text m.padding 2 d.day fit.day)
-ascii_current (component.MonthShort m) f h = ascii_of_group f.date DateFits _ h.date (λ d fit. IsAscii-take (month_name d.month) 3 (IsAscii-month_name d.month))
-ascii_current (component.MonthLong m) f h = ascii_of_group f.date DateFits _ h.date (λ d fit. IsAscii-month_name d.month)
-ascii_current (component.MonthNumerical m) f h = ascii_of_group f.date DateFits _ h.date (λ d fit. IsAscii-padded_text m.padding 2 d.month fit.month)
-ascii_current (component.Ordinal m) f h = ascii_of_group f.date DateFits _ h.date (λ d fit. IsAscii-padded_text m.padding 3 d.ordinal fit.ordinal)
-ascii_current (component.WeekdayShort m) f h = ascii_of_group f.date DateFits _ h.date (λ d fit. IsAscii-take (weekday_name d.weekday) 3 (IsAscii-weekday_name d.weekday))
-ascii_current (component.WeekdayLong m) f h = ascii_of_group f.date DateFits _ h.date (λ d fit. IsAscii-weekday_name d.weekday)
-ascii_current (component.WeekdaySunday m) f h = ascii_of_group f.date DateFits _ h.date (λ d fit. IsAscii-indexed m.one_indexed (from_sunday d.weekday) (omega arith))
-ascii_current (component.WeekdayMonday m) f h = ascii_of_group f.date DateFits _ h.date (λ d fit. IsAscii-indexed m.one_indexed d.weekday fit.weekday)
-ascii_current (component.WeekNumberIso m) f h = ascii_of_group f.date DateFits _ h.date (λ d fit. IsAscii-padded_text m.padding 2 d.iso_week fit.iso_week)
-ascii_current (component.WeekNumberSunday m) f h = ascii_of_group f.date DateFits _ h.date (λ d fit. IsAscii-padded_text m.padding 2 d.sunday_based_week fit.sunday_based_week)
-ascii_current (component.WeekNumberMonday m) f h = ascii_of_group f.date DateFits _ h.date (λ d fit. IsAscii-padded_text m.padding 2 d.monday_based_week fit.monday_based_week)
-ascii_current (component.CalendarYearFullExtendedRange m) f h = ascii_of_group f.date DateFits _ h.date (λ d fit. signed (int_lt d.year (pos 0)) (m.sign_is_mandatory || int_lt (pos 9_999) d.year) m.padding 4 (unsigned_abs d.year) fit.year)
-ascii_current (component.CalendarYearFullStandardRange m) f h = ascii_of_group f.date DateFits _ h.date (λ d fit. ascii_in_range 9_999 (unsigned_abs d.year) _ (signed (int_lt d.year (pos 0)) m.sign_is_mandatory m.padding 4 (unsigned_abs d.year) fit.year))
-ascii_current (component.CalendarYearCenturyExtendedRange m) f h = ascii_of_group f.date DateFits _ h.date (λ d fit. signed (int_lt d.year (pos 0)) (m.sign_is_mandatory || nat_lt 99 (century_of d.year)) m.padding 2 (century_of d.year) (omega (arith, fit.year)))
-ascii_current (component.CalendarYearCenturyStandardRange m) f h = ascii_of_group f.date DateFits _ h.date (λ d fit. ascii_in_range 99 (century_of d.year) _ (signed (int_lt d.year (pos 0)) m.sign_is_mandatory m.padding 2 (century_of d.year) (omega (arith, fit.year))))
-ascii_current (component.CalendarYearLastTwo m) f h = ascii_of_group f.date DateFits _ h.date (λ d fit. IsAscii-padded_text m.padding 2 ((unsigned_abs d.year) % 100) (omega arith))
-ascii_current (component.IsoYearFullExtendedRange m) f h = ascii_of_group f.date DateFits _ h.date (λ d fit. signed (int_lt d.iso_year (pos 0)) (m.sign_is_mandatory || int_lt (pos 9_999) d.iso_year) m.padding 4 (unsigned_abs d.iso_year) fit.iso_year)
-ascii_current (component.IsoYearFullStandardRange m) f h = ascii_of_group f.date DateFits _ h.date (λ d fit. ascii_in_range 9_999 (unsigned_abs d.iso_year) _ (signed (int_lt d.iso_year (pos 0)) m.sign_is_mandatory m.padding 4 (unsigned_abs d.iso_year) fit.iso_year))
-ascii_current (component.IsoYearCenturyExtendedRange m) f h = ascii_of_group f.date DateFits _ h.date (λ d fit. signed (int_lt d.iso_year (pos 0)) (m.sign_is_mandatory || nat_lt 99 (century_of d.iso_year)) m.padding 2 (century_of d.iso_year) (omega (arith, fit.iso_year)))
-ascii_current (component.IsoYearCenturyStandardRange m) f h = ascii_of_group f.date DateFits _ h.date (λ d fit. ascii_in_range 99 (century_of d.iso_year) _ (signed (int_lt d.iso_year (pos 0)) m.sign_is_mandatory m.padding 2 (century_of d.iso_year) (omega (arith, fit.iso_year))))
-ascii_current (component.IsoYearLastTwo m) f h = ascii_of_group f.date DateFits _ h.date (λ d fit. IsAscii-padded_text m.padding 2 ((unsigned_abs d.iso_year) % 100) (omega arith))
-ascii_current (component.Hour12 m) f h = ascii_of_group f.time TimeFits _ h.time (λ t fit. IsAscii-padded_text m.padding 2 (hour_12 t.hour) (omega arith))
-ascii_current (component.Hour24 m) f h = ascii_of_group f.time TimeFits _ h.time (λ t fit. IsAscii-padded_text m.padding 2 t.hour fit.hour)
-ascii_current (component.Minute m) f h = ascii_of_group f.time TimeFits _ h.time (λ t fit. IsAscii-padded_text m.padding 2 t.minute fit.minute)
-ascii_current (component.Period m) f h = ascii_of_group f.time TimeFits _ h.time (λ t fit. IsAscii-period_text (period_of t) m.is_uppercase)
-ascii_current (component.Second m) f h = ascii_of_group f.time TimeFits _ h.time (λ t fit. IsAscii-padded_text m.padding 2 t.second fit.second)
-ascii_current (component.Subsecond m) f h = ascii_of_group f.time TimeFits _ h.time (λ t fit. IsAscii-subsecond_text m.digits t.nanosecond)
-ascii_current (component.OffsetHour m) f h = ascii_of_group f.offset OffsetFits _ h.offset (λ o fit. signed (is_negative o) m.sign_is_mandatory m.padding 2 (unsigned_abs o.hours) fit.hours)
-ascii_current (component.OffsetMinute m) f h = ascii_of_group f.offset OffsetFits _ h.offset (λ o fit. IsAscii-padded_text m.padding 2 (unsigned_abs o.minutes) fit.minutes)
-ascii_current (component.OffsetSecond m) f h = ascii_of_group f.offset OffsetFits _ h.offset (λ o fit. IsAscii-padded_text m.padding 2 (unsigned_abs o.seconds) fit.seconds)
-ascii_current (component.UnixTimestampSecond m) f h = ascii_of_group f.stamp MomentFits _ h.stamp (λ s fit. IsAscii-timestamp_text m.sign_is_mandatory s.seconds fit.seconds)
-ascii_current (component.UnixTimestampMillisecond m) f h = ascii_of_group f.stamp MomentFits _ h.stamp (λ s fit. IsAscii-timestamp_text m.sign_is_mandatory (milliseconds s) fit.milliseconds)
+-- the text of a component is ASCII where the part that it is taken from is a real one
+pub ascii_current : (c : Component) (f : Facts) → IsRealPart (group_of c) f → IsAscii (current_outcome c f).bytes
+ascii_current (component.Day m) f h = ascii_of_group f.date DateFits _ (fits f.date date_fits h) (λ d fit. IsAscii-padded_text m.padding 2 d.day fit.day)
+ascii_current (component.MonthShort m) f h = ascii_of_group f.date DateFits _ (fits f.date date_fits h) (λ d fit. IsAscii-take (month_name d.month) 3 (IsAscii-month_name d.month))
+ascii_current (component.MonthLong m) f h = ascii_of_group f.date DateFits _ (fits f.date date_fits h) (λ d fit. IsAscii-month_name d.month)
+ascii_current (component.MonthNumerical m) f h = ascii_of_group f.date DateFits _ (fits f.date date_fits h) (λ d fit. IsAscii-padded_text m.padding 2 d.month fit.month)
+ascii_current (component.Ordinal m) f h = ascii_of_group f.date DateFits _ (fits f.date date_fits h) (λ d fit. IsAscii-padded_text m.padding 3 d.ordinal fit.ordinal)
+ascii_current (component.WeekdayShort m) f h = ascii_of_group f.date DateFits _ (fits f.date date_fits h) (λ d fit. IsAscii-take (weekday_name d.weekday) 3 (IsAscii-weekday_name d.weekday))
+ascii_current (component.WeekdayLong m) f h = ascii_of_group f.date DateFits _ (fits f.date date_fits h) (λ d fit. IsAscii-weekday_name d.weekday)
+ascii_current (component.WeekdaySunday m) f h = ascii_of_group f.date DateFits _ (fits f.date date_fits h) (λ d fit. IsAscii-indexed m.one_indexed (from_sunday d.weekday) (omega arith))
+ascii_current (component.WeekdayMonday m) f h = ascii_of_group f.date DateFits _ (fits f.date date_fits h) (λ d fit. IsAscii-indexed m.one_indexed d.weekday fit.weekday)
+ascii_current (component.WeekNumberIso m) f h = ascii_of_group f.date DateFits _ (fits f.date date_fits h) (λ d fit. IsAscii-padded_text m.padding 2 d.iso_week fit.iso_week)
+ascii_current (component.WeekNumberSunday m) f h = ascii_of_group f.date DateFits _ (fits f.date date_fits h) (λ d fit. IsAscii-padded_text m.padding 2 d.sunday_based_week fit.sunday_based_week)
+ascii_current (component.WeekNumberMonday m) f h = ascii_of_group f.date DateFits _ (fits f.date date_fits h) (λ d fit. IsAscii-padded_text m.padding 2 d.monday_based_week fit.monday_based_week)
+ascii_current (component.CalendarYearFullExtendedRange m) f h = ascii_of_group f.date DateFits _ (fits f.date date_fits h) (λ d fit. signed (int_lt d.year (pos 0)) (m.sign_is_mandatory || int_lt (pos 9_999) d.year) m.padding 4 (unsigned_abs d.year) fit.year)
+ascii_current (component.CalendarYearFullStandardRange m) f h = ascii_of_group f.date DateFits _ (fits f.date date_fits h) (λ d fit. ascii_in_range 9_999 (unsigned_abs d.year) _ (signed (int_lt d.year (pos 0)) m.sign_is_mandatory m.padding 4 (unsigned_abs d.year) fit.year))
+ascii_current (component.CalendarYearCenturyExtendedRange m) f h = ascii_of_group f.date DateFits _ (fits f.date date_fits h) (λ d fit. signed (int_lt d.year (pos 0)) (m.sign_is_mandatory || nat_lt 99 (century_of d.year)) m.padding 2 (century_of d.year) (omega (arith, fit.year)))
+ascii_current (component.CalendarYearCenturyStandardRange m) f h = ascii_of_group f.date DateFits _ (fits f.date date_fits h) (λ d fit. ascii_in_range 99 (century_of d.year) _ (signed (int_lt d.year (pos 0)) m.sign_is_mandatory m.padding 2 (century_of d.year) (omega (arith, fit.year))))
+ascii_current (component.CalendarYearLastTwo m) f h = ascii_of_group f.date DateFits _ (fits f.date date_fits h) (λ d fit. IsAscii-padded_text m.padding 2 ((unsigned_abs d.year) % 100) (omega arith))
+ascii_current (component.IsoYearFullExtendedRange m) f h = ascii_of_group f.date DateFits _ (fits f.date date_fits h) (λ d fit. signed (int_lt d.iso_year (pos 0)) (m.sign_is_mandatory || int_lt (pos 9_999) d.iso_year) m.padding 4 (unsigned_abs d.iso_year) fit.iso_year)
+ascii_current (component.IsoYearFullStandardRange m) f h = ascii_of_group f.date DateFits _ (fits f.date date_fits h) (λ d fit. ascii_in_range 9_999 (unsigned_abs d.iso_year) _ (signed (int_lt d.iso_year (pos 0)) m.sign_is_mandatory m.padding 4 (unsigned_abs d.iso_year) fit.iso_year))
+ascii_current (component.IsoYearCenturyExtendedRange m) f h = ascii_of_group f.date DateFits _ (fits f.date date_fits h) (λ d fit. signed (int_lt d.iso_year (pos 0)) (m.sign_is_mandatory || nat_lt 99 (century_of d.iso_year)) m.padding 2 (century_of d.iso_year) (omega (arith, fit.iso_year)))
+ascii_current (component.IsoYearCenturyStandardRange m) f h = ascii_of_group f.date DateFits _ (fits f.date date_fits h) (λ d fit. ascii_in_range 99 (century_of d.iso_year) _ (signed (int_lt d.iso_year (pos 0)) m.sign_is_mandatory m.padding 2 (century_of d.iso_year) (omega (arith, fit.iso_year))))
+ascii_current (component.IsoYearLastTwo m) f h = ascii_of_group f.date DateFits _ (fits f.date date_fits h) (λ d fit. IsAscii-padded_text m.padding 2 ((unsigned_abs d.iso_year) % 100) (omega arith))
+ascii_current (component.Hour12 m) f h = ascii_of_group f.time TimeFits _ (fits f.time time_fits h) (λ t fit. IsAscii-padded_text m.padding 2 (hour_12 t.hour) (omega arith))
+ascii_current (component.Hour24 m) f h = ascii_of_group f.time TimeFits _ (fits f.time time_fits h) (λ t fit. IsAscii-padded_text m.padding 2 t.hour fit.hour)
+ascii_current (component.Minute m) f h = ascii_of_group f.time TimeFits _ (fits f.time time_fits h) (λ t fit. IsAscii-padded_text m.padding 2 t.minute fit.minute)
+ascii_current (component.Period m) f h = ascii_of_group f.time TimeFits _ (fits f.time time_fits h) (λ t fit. IsAscii-period_text (period_of t) m.is_uppercase)
+ascii_current (component.Second m) f h = ascii_of_group f.time TimeFits _ (fits f.time time_fits h) (λ t fit. IsAscii-padded_text m.padding 2 t.second fit.second)
+ascii_current (component.Subsecond m) f h = ascii_of_group f.time TimeFits _ (fits f.time time_fits h) (λ t fit. IsAscii-subsecond_text m.digits t.nanosecond)
+ascii_current (component.OffsetHour m) f h = ascii_of_group f.offset OffsetFits _ (fits f.offset offset_fits h) (λ o fit. signed (is_negative o) m.sign_is_mandatory m.padding 2 (unsigned_abs o.hours) fit.hours)
+ascii_current (component.OffsetMinute m) f h = ascii_of_group f.offset OffsetFits _ (fits f.offset offset_fits h) (λ o fit. IsAscii-padded_text m.padding 2 (unsigned_abs o.minutes) fit.minutes)
+ascii_current (component.OffsetSecond m) f h = ascii_of_group f.offset OffsetFits _ (fits f.offset offset_fits h) (λ o fit. IsAscii-padded_text m.padding 2 (unsigned_abs o.seconds) fit.seconds)
+ascii_current (component.UnixTimestampSecond m) f h = ascii_of_group f.stamp MomentFits _ (fits f.stamp moment_fits h) (λ s fit. IsAscii-timestamp_text m.sign_is_mandatory s.seconds fit.seconds)
+ascii_current (component.UnixTimestampMillisecond m) f h = ascii_of_group f.stamp MomentFits _ (fits f.stamp moment_fits h) (λ s fit. IsAscii-timestamp_text m.sign_is_mandatory (milliseconds s) fit.milliseconds)
 ascii_current c f h = IsAscii-nil
 
--- ---- trees
+-- ---- outcomes one after another
 
 joined_utf8 : (a b : Outcome) → IsUtf8 a.bytes → IsUtf8 b.bytes → IsUtf8 (join a b).bytes
 joined_utf8 a b p q = elim a.refusal as (λ r. IsUtf8 (join (record { bytes = a.bytes; refusal = r }) b).bytes) [ None ↦ IsUtf8-append a.bytes b.bytes p q | Some r ↦ p ]
@@ -154,20 +162,21 @@ both_true : (a b : Bool) → IsTrue (a && b) → IsTrue a × IsTrue b
 both_true true b h = (refl, h)
 both_true false b h = let no : ⊥ = cc in absurd no
 
-empty_utf8 : IsUtf8 []
+pub empty_utf8 : IsUtf8 []
 empty_utf8 = IsUtf8-from_ascii [] IsAscii-nil
 
-mutual
-  pub guaranteed_utf8 : (t : Tree) (f : Facts) → HasTexts t → FactsFit f → IsTrue (is_guaranteed_text t) → IsUtf8 (tree_outcome t f).bytes
-  guaranteed_utf8 (byte_literal bytes) f texts fit h = let no : ⊥ = cc in absurd no
-  guaranteed_utf8 (text_literal text) f texts fit h = texts
-  guaranteed_utf8 (of_component c) f texts fit h = IsUtf8-from_ascii (component_outcome c f).bytes (ascii_current (current_component c) f fit)
-  guaranteed_utf8 (all_of ts) f texts fit h = all_guaranteed_utf8 ts f texts fit h
-  guaranteed_utf8 (first_of end) f texts fit h = empty_utf8
-  guaranteed_utf8 (first_of (more t ts)) f texts fit h = guaranteed_utf8 t f texts.0 fit h
+-- a component has a text
+pub text_of_component : (c : Component) (f : Facts) → IsRealPart (group_of (current_component c)) f → IsUtf8 (component_outcome c f).bytes
+text_of_component c f h = IsUtf8-from_ascii (component_outcome c f).bytes (ascii_current (current_component c) f h)
 
-  pub all_guaranteed_utf8 : (ts : Trees) (f : Facts) → HaveTexts ts → FactsFit f → IsTrue (are_guaranteed_text ts) → IsUtf8 (trees_outcome ts f).bytes
-  all_guaranteed_utf8 end f texts fit h = empty_utf8
-  all_guaranteed_utf8 (more t ts) f texts fit h =
-      let both = both_true (is_guaranteed_text t) (are_guaranteed_text ts) h in
-      joined_utf8 (tree_outcome t f) (trees_outcome ts f) (guaranteed_utf8 t f texts.0 fit both.0) (all_guaranteed_utf8 ts f texts.1 fit both.1)
+-- a list has a text if its first tree has one, and so have the others
+pub text_more : (t : Tree) (ts : Trees) (f : Facts) → IsTextIf (is_guaranteed_text t) (tree_outcome t f) → IsTextIf (are_guaranteed_text ts) (trees_outcome ts f)
+    → IsTextIf (are_guaranteed_text (more t ts)) (trees_outcome (more t ts) f)
+text_more t ts f first others h =
+    let both = both_true (is_guaranteed_text t) (are_guaranteed_text ts) h in
+    joined_utf8 (tree_outcome t f) (trees_outcome ts f) (first both.0) (others both.1)
+
+-- of a list that stops at its first tree the others do not count
+pub text_stops : (t : Tree) (ts : Trees) (f : Facts) → IsTextIf (is_guaranteed_text t) (tree_outcome t f) → join (tree_outcome t f) (trees_outcome ts f) ≡ tree_outcome t f
+    → IsTextIf (are_guaranteed_text (more t ts)) (trees_outcome (more t ts) f)
+text_stops t ts f first stops h = rw stops (first (both_true (is_guaranteed_text t) (are_guaranteed_text ts) h).0)

@@ -22,7 +22,7 @@ use Rattle.time_below.specs.declared.format_description.modifier.YearRepr.TheVar
 use Rattle.time_below.specs.declared.format_description.modifier.YearRange.{YearRange}
 use Rattle.time_below.specs.declared.format_description.modifier.YearRange.TheVariants as range
 use Rattle.time_below.specs.Facts.{Facts}
-use Rattle.time_below.specs.Tree.{Tree, Trees, byte_literal, text_literal, of_component, all_of, first_of, end, more, unmarked, all_unmarked}
+use Rattle.time_below.specs.Tree.{Tree, Trees, byte_literal, text_literal, of_component, all_of, first_of, nothing, end, more, unmarked, all_unmarked}
 use Rattle.time_fmt.specs.Description.{tree_outcome, trees_outcome, current_outcome}
 use Rattle.time_fmt.specs.Outcome.{join}
 
@@ -83,6 +83,7 @@ mutual
   outcome-unmarked (all_of ts) f = outcomes-unmarked ts f
   outcome-unmarked (first_of end) f = refl
   outcome-unmarked (first_of (more t ts)) f = outcome-unmarked t f
+  outcome-unmarked nothing f = refl
 
   pub outcomes-unmarked : (ts : Trees) (f : Facts) → trees_outcome (all_unmarked ts) f ≡ trees_outcome ts f
   outcomes-unmarked end f = refl

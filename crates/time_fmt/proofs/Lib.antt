@@ -4,6 +4,7 @@ pub mod DecimalLemmas
 pub mod Engine
 pub mod GroupLemmas
 pub mod GuaranteeLemmas
+pub mod RealLemmas
 pub mod LawLemmas
 pub mod NumberLemmas
 pub mod TextLemmas

@@ -10,7 +10,7 @@ use Rattle.time_below.specs.Facts.{Facts}
 use Rattle.time_below.specs.Moment.{milliseconds}
 use Rattle.time_below.specs.Offset.{is_negative}
 use Rattle.time_below.specs.TimeOfDay.{period_of}
-use Rattle.time_below.specs.Tree.{Tree, Trees, byte_literal, text_literal, of_component, all_of, first_of, end, more}
+use Rattle.time_below.specs.Tree.{Tree, Trees, byte_literal, text_literal, of_component, all_of, first_of, nothing, end, more}
 use Rattle.time_fmt.specs.DateText.{month_name, weekday_name, short_name, indexed, from_sunday, extended_year_text, standard_year_text, extended_century_text, standard_century_text}
 use Rattle.time_fmt.specs.Outcome.{Outcome, done, refused, join, insufficient, out_of_range}
 use Rattle.time_fmt.specs.Text.{padded_text, hour_12, period_text, subsecond_text, offset_hour_text, timestamp_text}
@@ -89,6 +89,7 @@ abbrev mutual
   tree_outcome (all_of ts) f = trees_outcome ts f
   tree_outcome (first_of end) f = done []
   tree_outcome (first_of (more t ts)) f = tree_outcome t f
+  tree_outcome nothing f = done []
 
   pub trees_outcome : Trees → Facts → Outcome
   trees_outcome end f = done []

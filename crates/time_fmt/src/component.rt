@@ -1,9 +1,11 @@
 //! The engine for one component.
-ghost use Rattle.std.specs.Prelude.{◌≡◌, ◌↔◌, ◌+◌, ◌/◌, ◌%◌, ◌≤◌, IsTrue, IsOk, IfOk, IfErr, codes, unsigned_abs, vec_len};
+ghost use Rattle.std.specs.Prelude.{◌≡◌, ◌↔◌, ◌+◌, ◌/◌, ◌%◌, ◌≤◌, IsTrue, IsUtf8, IsOk, IfOk, IfErr, codes, unsigned_abs, vec_len};
 ghost use Rattle.time_below.specs.Conversion.{is_current};
 ghost use Rattle.time_below.specs.ComponentRange.{conditional_range};
+ghost use Rattle.time_below.specs.Group.{group_of};
 ghost use Rattle.time_below.specs.Width.{component_width};
 ghost use Rattle.time_fmt.specs.Description.{component_outcome, current_outcome, century_of, is_supplied};
+ghost use Rattle.time_fmt.specs.Guarantee.{IsRealPart};
 ghost use Rattle.time_fmt.specs.Outcome.{Appends, Names, out_of_range};
 ghost use Rattle.time_fmt.specs.Room.{HasRoom};
 
@@ -91,16 +93,17 @@ fn is_supplied<V: ComponentProvider>(group: Group) -> bool
 #[inline]
 #[tactic(auto, using(crate::proofs::ConversionLemmas::width_of_current))]
 pub fn component_write_into<V: ComponentProvider>(
-    component: Component,
+    component: &Component,
     output: &mut Vec<u8>,
     value: &V,
     state: &mut V::State,
 ) -> Result<usize, Format>
-    requires room { HasRoom output.old (component_width component) }
+    requires room { HasRoom output.old (component_width component.now) }
     requires agrees { V.agrees state.old value.now }
     ensures appends { Appends output.old output.new result
-        (component_outcome component (V.facts value.now)) }
-    ensures within { vec_len output.new ≤ vec_len output.old + component_width component }
+        (component_outcome component.now (V.facts value.now)) }
+    ensures within { vec_len output.new ≤ vec_len output.old + component_width component.now }
+    ensures text { IsUtf8 (component_outcome component.now (V.facts value.now)).bytes }
     ensures agrees { V.agrees state.new value.now }
 {
     current_write_into(component.current(), output, value, state)
@@ -121,6 +124,7 @@ fn current_write_into<V: ComponentProvider>(
     ensures appends { Appends output.old output.new result
         (current_outcome component (V.facts value.now)) }
     ensures within { vec_len output.new ≤ vec_len output.old + component_width component }
+    ensures real { IsRealPart (group_of component) (V.facts value.now) }
     ensures agrees { V.agrees state.new value.now }
 {
     if !is_supplied::<V>(component.group()) {

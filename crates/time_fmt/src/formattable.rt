@@ -1,7 +1,8 @@
 //! Descriptions of a text.
-ghost use Rattle.std.specs.Prelude.{◌≡◌, ◌≢◌, ℕ, ◌+◌, ◌*◌, ◌<◌, ◌≤◌, max, None, IsOk, OnOk, OnErr, IfOk, IfErr, IsSomeAnd, IsUtf8, string_bytes, vec_len, vec_capacity};
+ghost use Rattle.std.specs.Prelude.{◌≡◌, ◌≢◌, ℕ, ◌+◌, ◌*◌, ◌<◌, ◌≤◌, max, None, IsOk, OnOk, OnErr, IfOk, IfErr, IsSomeAnd, IsTrue, IsUtf8, string_bytes, vec_len, vec_capacity};
 ghost use Rattle.time_below.specs.Facts.{Facts};
 ghost use Rattle.time_fmt.specs.Outcome.{Outcome, Names, Appends, Adds};
+ghost use Rattle.time_fmt.specs.Guarantee.{IsTextIf};
 ghost use Rattle.time_fmt.specs.Lossy.{lossy_text, IsRefusedOrText};
 ghost use Rattle.time_fmt.specs.Room.{HasRoom};
 
@@ -38,6 +39,8 @@ pub trait Formattable: ComputeMetadata {
         ensures appends { Appends output.old output.new result
             (outcome_of self.now (V.facts value.now)) }
         ensures within { vec_len output.new ≤ vec_len output.old + Self.width_of self.now }
+        ensures text { IsTextIf (Self.is_guaranteed self.now)
+            (outcome_of self.now (V.facts value.now)) }
         ensures agrees { V.agrees state.new value.now };
 
     /// Appends the text of the value, after one reservation where the room is missing, of the width
@@ -56,6 +59,8 @@ pub trait Formattable: ComputeMetadata {
         ensures appends { result ≢ Err Format.OutOfMemory
             → Adds output.old output.new result (outcome_of self.now (V.facts value.now)) }
         ensures within { vec_len output.new ≤ vec_len output.old + Self.width_of self.now }
+        ensures text { result ≢ Err Format.OutOfMemory
+            → IsTextIf (Self.is_guaranteed self.now) (outcome_of self.now (V.facts value.now)) }
         ensures agrees { V.agrees state.new value.now }
 
         // Where there is room the capacity stays, and else it grows to what is needed or is doubled.
@@ -69,6 +74,7 @@ pub trait Formattable: ComputeMetadata {
         ensures same_capacity { result ≡ Err Format.OutOfMemory
             → vec_capacity output.new ≡ vec_capacity output.old }
         ensures same_state { result ≡ Err Format.OutOfMemory → state.new ≡ state.old }
+        ensures too_wide { usize.MAX ≤ Self.width_of self.now → result ≡ Err Format.OutOfMemory }
         ensures room { HasRoom output.old (Self.width_of self.now)
             → Self.width_of self.now < usize.MAX
             → result ≢ Err Format.OutOfMemory }
@@ -94,6 +100,10 @@ pub trait Formattable: ComputeMetadata {
         requires agrees { V.agrees state.old value.now }
         ensures text { IfOk result (λ text. string_bytes text
             ≡ lossy_text (outcome_of self.now (V.facts value.now)).bytes) }
+        ensures valid { IfOk result (λ text. IsUtf8 (outcome_of self.now (V.facts value.now)).bytes
+            → string_bytes text ≡ (outcome_of self.now (V.facts value.now)).bytes) }
+        ensures exact { IfOk result (λ text. IsTrue (Self.is_guaranteed self.now)
+            → string_bytes text ≡ (outcome_of self.now (V.facts value.now)).bytes) }
         ensures complete { OnOk result ((outcome_of self.now (V.facts value.now)).refusal ≡ None) }
         ensures named { IfErr result (λ e. e ≢ Format.OutOfMemory
             → IsSomeAnd (outcome_of self.now (V.facts value.now)).refusal (Names e)) }
@@ -102,6 +112,7 @@ pub trait Formattable: ComputeMetadata {
         // The want of memory leaves the state, where the outcome has a refusal or its bytes are text.
         ensures same_state { result ≡ Err Format.OutOfMemory
             → IsRefusedOrText (outcome_of self.now (V.facts value.now)) → state.new ≡ state.old }
+        ensures too_wide { usize.MAX ≤ Self.width_of self.now → result ≡ Err Format.OutOfMemory }
         ensures nothing_needed { Self.width_of self.now ≡ 0 → result ≢ Err Format.OutOfMemory }
     {
         let mut output = Vec::new(alloc);
@@ -135,6 +146,7 @@ fn make_room(output: &mut Vec<u8>, width: usize) -> Result<(), AllocError>
 /// The bytes as a text, with U+FFFD for what is no character; a text takes no memory.
 fn into_text(bytes: Vec<u8>) -> Result<String, Format>
     ensures text { IfOk result (λ text. string_bytes text ≡ lossy_text bytes.items) }
+    ensures exact { IfOk result (λ text. IsUtf8 bytes.items → string_bytes text ≡ bytes.items) }
     ensures succeeds { IsUtf8 bytes.items → IsOk result }
     ensures memory { IfErr result (λ e. e ≡ Format.OutOfMemory) }
 {

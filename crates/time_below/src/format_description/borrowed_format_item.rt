@@ -1,4 +1,5 @@
 //! A description over borrowed parts.
+ghost use Rattle.time_below.specs.Size.{borrowed_size};
 ghost use Rattle.time_below.specs.Tree.{borrowed_tree};
 
 use crate::format_description::{Component, Layer, Node};
@@ -22,6 +23,8 @@ pub enum BorrowedFormatItem<'a> {
 
 impl Node for BorrowedFormatItem<'_> {
     ghost tree = { borrowed_tree };
+
+    ghost size = { borrowed_size };
 
     #[inline]
     fn layer(&self) -> Layer<'_, Self> {

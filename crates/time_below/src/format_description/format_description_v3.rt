@@ -1,8 +1,10 @@
 //! A description of the third version, over parts that are borrowed or its own.
 ghost use Rattle.std.specs.Prelude.{◌≡◌, min};
 ghost use Rattle.time_below.specs.Conversion.{current_component};
+ghost use Rattle.time_below.specs.Size.{v3_size};
 ghost use Rattle.time_below.specs.Tree.{v3_tree, of_component};
 ghost use Rattle.time_below.specs.Metadata.{tree_metadata};
+ghost use Rattle.time_below.specs.Width.{tree_width};
 
 use crate::format_description::{Component, Layer, Metadata, Node, metadata_of_node, modifier};
 use std::marker::Model;
@@ -73,6 +75,8 @@ pub enum FormatDescriptionV3Inner<'a> {
 
 impl Node for FormatDescriptionV3Inner<'_> {
     ghost tree = { v3_tree };
+
+    ghost size = { v3_size };
 
     #[inline(always)]
     fn layer(&self) -> Layer<'_, Self> {
@@ -262,6 +266,13 @@ impl<'a> FormatDescriptionV3<'a> {
         ensures { result.now ≡ self.now }
     {
         &self.inner
+    }
+
+    /// The most bytes that the text may have, at most the greatest `usize`.
+    pub fn max_bytes_needed(&self) -> usize
+        ensures { result ≡ min (tree_width (v3_tree self.now)) usize.MAX }
+    {
+        self.metadata.max_bytes_needed
     }
 
     /// What is known of the text.

@@ -1,5 +1,6 @@
 //! One layer of a description, whichever type it is written in.
-ghost use Rattle.std.specs.Prelude.{◌≡◌};
+ghost use Rattle.std.specs.Prelude.{ℕ, ◌≡◌, ◌<◌};
+ghost use Rattle.time_below.specs.Size.{size_below};
 ghost use Rattle.time_below.specs.Tree.{Tree, layer_tree};
 
 use crate::format_description::Component;
@@ -28,7 +29,11 @@ pub trait Node: Sized {
     /// What is described.
     ghost tree: { Self → Tree };
 
-    /// The layer at the head.
+    /// How large it is.
+    ghost size: { Self → ℕ };
+
+    /// The layer at the head. What stands below it is smaller.
     fn layer(&self) -> Layer<'_, Self>
-        ensures { layer_tree tree result ≡ tree self.now };
+        ensures tree { layer_tree tree result ≡ tree self.now }
+        ensures smaller { size_below size result < size self.now };
 }

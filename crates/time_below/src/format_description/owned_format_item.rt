@@ -1,4 +1,5 @@
 //! A description over parts of its own.
+ghost use Rattle.time_below.specs.Size.{owned_size};
 ghost use Rattle.time_below.specs.Tree.{owned_tree};
 
 use crate::format_description::{Component, Layer, Node};
@@ -22,6 +23,8 @@ pub enum OwnedFormatItem {
 
 impl Node for OwnedFormatItem {
     ghost tree = { owned_tree };
+
+    ghost size = { owned_size };
 
     #[inline]
     fn layer(&self) -> Layer<'_, Self> {

@@ -11,14 +11,14 @@ use std::test::Fail;
 fn check_width(rt: &impl Abort, component: Component, width: usize) {
     assert_eq!(rt; component_width(&component), width);
     let description = FormatDescriptionV3::new(FormatDescriptionV3Inner::from(component));
-    assert_eq!(rt; description.metadata().max_bytes_needed, width);
+    assert_eq!(rt; description.max_bytes_needed(), width);
     assert!(rt; matches!(description.inner().layer(), Layer::Component(_)));
 }
 
 /// The stored width of a description that is no component.
 fn check_stored_width(rt: &impl Abort, inner: FormatDescriptionV3Inner<'_>, width: usize) {
     let description = FormatDescriptionV3::new(inner);
-    assert_eq!(rt; description.metadata().max_bytes_needed, width);
+    assert_eq!(rt; description.max_bytes_needed(), width);
     assert!(rt; !matches!(description.inner().layer(), Layer::Component(_)));
 }
 

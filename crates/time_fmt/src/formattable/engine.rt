@@ -1,8 +1,9 @@
 //! The engine: one recursion for each kind of tree.
 ghost use Rattle.std.specs.Prelude.{◌+◌, ◌≤◌, map, vec_len};
 ghost use Rattle.time_below.specs.Tree.{trees};
-ghost use Rattle.time_below.specs.Width.{tree_width, trees_width};
+ghost use Rattle.time_below.specs.Width.{tree_width, trees_width, is_guaranteed_text, are_guaranteed_text};
 ghost use Rattle.time_fmt.specs.Description.{tree_outcome, trees_outcome};
+ghost use Rattle.time_fmt.specs.Guarantee.{IsTextIf};
 ghost use Rattle.time_fmt.specs.Outcome.{Appends};
 ghost use Rattle.time_fmt.specs.Room.{HasRoom};
 
@@ -26,6 +27,8 @@ pub(super) fn write_nodes<T: Node, V: ComponentProvider>(
         (trees_outcome (trees (map T.tree nodes.now)) (V.facts value.now)) }
     ensures within { vec_len output.new
         ≤ vec_len output.old + trees_width (trees (map T.tree nodes.now)) }
+    ensures text { IsTextIf (are_guaranteed_text (trees (map T.tree nodes.now)))
+        (trees_outcome (trees (map T.tree nodes.now)) (V.facts value.now)) }
     ensures agrees { V.agrees state.new value.now }
 {
     let mut sum = 0usize;
@@ -53,12 +56,14 @@ pub(super) fn write_node<T: Node, V: ComponentProvider>(
     ensures appends { Appends output.old output.new result
         (tree_outcome (T.tree node.now) (V.facts value.now)) }
     ensures within { vec_len output.new ≤ vec_len output.old + tree_width (T.tree node.now) }
+    ensures text { IsTextIf (is_guaranteed_text (T.tree node.now))
+        (tree_outcome (T.tree node.now) (V.facts value.now)) }
     ensures agrees { V.agrees state.new value.now }
 {
     match node.layer() {
         Layer::Bytes(bytes) => Ok(write_bytes(output, bytes)),
         Layer::Text(text) => Ok(write(output, text)),
-        Layer::Component(component) => component_write_into(component, output, value, state),
+        Layer::Component(component) => component_write_into(&component, output, value, state),
         Layer::All(nodes) => write_nodes(nodes, output, value, state),
         Layer::First(nodes) => match nodes.first() {
             Some(node) => write_node(node, output, value, state),

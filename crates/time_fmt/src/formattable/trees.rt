@@ -3,6 +3,7 @@ ghost use Rattle.std.specs.Prelude.{◌+◌, ◌≤◌, vec_len};
 ghost use Rattle.time_below.specs.Tree.{borrowed_tree, owned_tree, v3_tree};
 ghost use Rattle.time_below.specs.Width.{tree_width, is_guaranteed_text};
 ghost use Rattle.time_fmt.specs.Description.{tree_outcome};
+ghost use Rattle.time_fmt.specs.Guarantee.{IsTextIf};
 ghost use Rattle.time_fmt.specs.Outcome.{Appends};
 ghost use Rattle.time_fmt.specs.Room.{HasRoom};
 
@@ -99,6 +100,8 @@ pub fn v3_write_into<V: ComponentProvider>(
     ensures appends { Appends output.old output.new result
         (tree_outcome (v3_tree item.now) (V.facts value.now)) }
     ensures within { vec_len output.new ≤ vec_len output.old + tree_width (v3_tree item.now) }
+    ensures text { IsTextIf (is_guaranteed_text (v3_tree item.now))
+        (tree_outcome (v3_tree item.now) (V.facts value.now)) }
     ensures agrees { V.agrees state.new value.now }
 {
     write_node(item, output, value, state)

@@ -1,6 +1,5 @@
 //! Offsets, moments and timestamps.
 use super::{assert_component, time};
-use crate::laws::components_fit;
 use time_below::format_description::modifier::Padding;
 use time_below::format_description::{Component, modifier};
 use time_below::{Date, Month, OffsetDateTime, Timestamp, UtcDateTime, UtcOffset};
@@ -170,15 +169,4 @@ fn an_offset_ahead_of_utc_is_an_earlier_moment(rt: HostRuntime) {
     let [second, millisecond] = stamps(false);
     assert_component(&rt, rt.alloc(), second, &value, "-3600", 15);
     assert_component(&rt, rt.alloc(), millisecond, &value, "-3600000", 18);
-}
-
-#[test]
-fn components_fit_64_bits(rt: HostRuntime) {
-    let Ok(value) = Timestamp::new(-31_619_087_596_800, 0) else {
-        panic!(rt; "no timestamp");
-    };
-    let mut state = TimestampState::default();
-    components_fit(&value, &mut state);
-    let [second, _] = stamps(false);
-    assert_component(&rt, rt.alloc(), second, &value, "-31619087596800", 15);
 }

@@ -253,7 +253,7 @@ fn engines_write_where_there_is_room(rt: HostRuntime) -> Result<(), Fail> {
     let hour = Component::Hour24(modifier::Hour24 {
         padding: Padding::Zero,
     });
-    let first = component_write_into(hour, &mut output, &value, &mut ());
+    let first = component_write_into(&hour, &mut output, &value, &mut ());
     assert!(rt; matches!(&first, Ok(2)));
     let colon = FormatDescriptionV3Inner::BorrowedLiteral(":");
     let second = v3_write_into(&colon, &mut output, &value, &mut ());
