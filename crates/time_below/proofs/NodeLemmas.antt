@@ -2,7 +2,7 @@
 use Rattle.std.proofs.Common.{◌≡◌, refl, ap, sym, ◌∙◌, arith, ℕ, ◌+◌, ◌<◌, ◌≤◌, min, Bool, true, false, ◌&&◌, List, map, drop, length}
 use Rattle.std.specs.Prelude.{slice_index_or}
 use Rattle.std.proofs.lemmas.List.{at_drop_more}
-use Rattle.time_below.specs.Metadata.{of_both, tree_metadata}
+use Rattle.time_below.specs.Metadata.{greatest_usize, of_both, tree_metadata}
 use Rattle.time_below.specs.Size.{sizes}
 use Rattle.time_below.specs.Tree.{Tree, Trees, more, trees}
 use Rattle.time_below.specs.Width.{tree_width, trees_width, are_guaranteed_text}
@@ -25,8 +25,8 @@ smaller_rest size nodes i x h is = omega (arith, larger_by size nodes i x h is)
 -- the sum so far and that of what is left make the sum of all
 pub record Summed (sum : Metadata) (all left : Trees) (all_size left_size : ℕ) : Type 0 where
   pub size : left_size ≤ all_size
-  pub fits : sum.max_bytes_needed ≤ 18446744073709551615
-  pub width : min (sum.max_bytes_needed + trees_width left) 18446744073709551615 ≡ min (trees_width all) 18446744073709551615
+  pub fits : sum.max_bytes_needed ≤ greatest_usize
+  pub width : min (sum.max_bytes_needed + trees_width left) greatest_usize ≡ min (trees_width all) greatest_usize
   pub text : (sum.guaranteed_utf8 && are_guaranteed_text left) ≡ are_guaranteed_text all
 
 and_assoc : (a b c : Bool) → ((a && b) && c) ≡ (a && (b && c))
@@ -38,8 +38,8 @@ pub summed_more : {all_size left_size rest_size : ℕ} (all left rest : Trees) (
     → Summed sum all left all_size left_size → left ≡ more t rest → rest_size ≤ left_size
     → item ≡ tree_metadata t → new ≡ of_both sum item → Summed new all rest all_size rest_size
 summed_more all left rest t sum item new along next smaller of_item is =
-    let w : item.max_bytes_needed ≡ min (tree_width t) 18446744073709551615 = ap (λ (m : Metadata). m.max_bytes_needed) of_item in
-    let s : new.max_bytes_needed ≡ min (sum.max_bytes_needed + item.max_bytes_needed) 18446744073709551615 = ap (λ (m : Metadata). m.max_bytes_needed) is in
+    let w : item.max_bytes_needed ≡ min (tree_width t) greatest_usize = ap (λ (m : Metadata). m.max_bytes_needed) of_item in
+    let s : new.max_bytes_needed ≡ min (sum.max_bytes_needed + item.max_bytes_needed) greatest_usize = ap (λ (m : Metadata). m.max_bytes_needed) is in
     record {
       size = omega (arith, along.size, smaller);
       fits = omega arith;

@@ -4,6 +4,7 @@
 mod calendar;
 mod component_range;
 mod date;
+mod different_variant;
 pub mod format_description;
 pub mod laws;
 mod month;
@@ -20,6 +21,7 @@ mod weekday;
 
 pub use component_range::ComponentRange;
 pub use date::Date;
+pub use different_variant::DifferentVariant;
 pub use month::Month;
 pub use offset_date_time::OffsetDateTime;
 pub use period::Period;

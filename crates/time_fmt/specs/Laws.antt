@@ -4,7 +4,7 @@ use Rattle.time_below.specs.Facts.{Facts}
 use Rattle.time_below.specs.Tree.{Tree, Trees, all_of, first_of, end, more, unmarked}
 use Rattle.time_below.specs.declared.format_description.metadata.Metadata.{Metadata}
 use Rattle.time_fmt.specs.Description.{tree_outcome}
-use Rattle.time_below.specs.Metadata.{of_nothing, of_both}
+use Rattle.time_below.specs.Metadata.{greatest_usize, of_nothing, of_both}
 use Rattle.time_fmt.specs.Outcome.{Outcome, done, join}
 
 -- trees that are equal once bytes are read as texts, and deprecated components as current ones
@@ -31,7 +31,7 @@ OutcomesAreAMonoid =
 
 -- what is known of texts is added in any order
 abbrev pub IsWidth : Metadata → Type 0
-IsWidth m = m.max_bytes_needed ≤ 18446744073709551615
+IsWidth m = m.max_bytes_needed ≤ greatest_usize
 
 abbrev pub MetadataIsACommutativeMonoid : Type 0
 MetadataIsACommutativeMonoid =

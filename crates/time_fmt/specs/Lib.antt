@@ -1,5 +1,6 @@
 pub mod DateText
 pub mod Description
+pub mod Errors
 pub mod Guarantee
 pub mod Laws
 pub mod Lossy

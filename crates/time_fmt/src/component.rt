@@ -1,14 +1,18 @@
 //! The engine for one component.
-ghost use Rattle.std.specs.Prelude.{◌≡◌, ◌↔◌, ◌+◌, ◌/◌, ◌%◌, ◌≤◌, IsTrue, IsUtf8, IsOk, IfOk, IfErr, codes, unsigned_abs, vec_len};
+ghost use Rattle.std.specs.Prelude.{◌≡◌, ◌+◌, ◌≤◌, IsTrue, IsUtf8, vec_len};
 ghost use Rattle.time_below.specs.Conversion.{is_current};
-ghost use Rattle.time_below.specs.ComponentRange.{conditional_range};
 ghost use Rattle.time_below.specs.Group.{group_of};
 ghost use Rattle.time_below.specs.Width.{component_width};
-ghost use Rattle.time_fmt.specs.Description.{component_outcome, current_outcome, century_of, is_supplied};
+ghost use Rattle.time_fmt.specs.Description.{component_outcome, current_outcome};
 ghost use Rattle.time_fmt.specs.Guarantee.{IsRealPart};
-ghost use Rattle.time_fmt.specs.Outcome.{Appends, Names, out_of_range};
+ghost use Rattle.time_fmt.specs.Outcome.{Appends};
 ghost use Rattle.time_fmt.specs.Room.{HasRoom};
 
+mod group;
+mod year;
+
+use crate::component::group::is_supplied;
+use crate::component::year::{extended_century, last_two, standard_century, standard_year};
 use crate::error::Format;
 use crate::writers::{
     fmt_calendar_year_century_extended_range, fmt_calendar_year_century_standard_range,
@@ -22,69 +26,8 @@ use crate::writers::{
     fmt_week_number_monday, fmt_week_number_sunday, fmt_weekday_long, fmt_weekday_monday,
     fmt_weekday_short, fmt_weekday_sunday,
 };
-use time_below::ComponentRange;
-use time_below::format_description::{Component, Group};
-use time_digits::{ri8, ri16, ru8};
+use time_below::format_description::Component;
 use time_provide::ComponentProvider;
-use time_provide::ranges::{ExtendedCentury, LastTwo, StandardCentury, StandardYear, Year};
-
-/// The year, if it has at most four digits.
-fn standard_year(year: Year) -> Result<StandardYear, Format>
-    ensures accepted { IsOk result ↔ (unsigned_abs year ≤ 9_999) }
-    ensures value { IfOk result (λ y. y ≡ year) }
-    ensures refusal { IfErr result
-        (λ e. Names e (out_of_range (conditional_range (codes "year")))) }
-{
-    let number = year.get();
-    if number.unsigned_abs() > 9_999 {
-        return Err(Format::ComponentRange(ComponentRange::conditional("year")));
-    }
-    Ok(ri16::new(number as i16).unwrap())
-}
-
-/// The year without its last two digits, toward zero.
-fn extended_century(year: Year) -> ExtendedCentury
-    ensures value { unsigned_abs result ≡ century_of year }
-    ensures range { unsigned_abs result ≤ 9_999 }
-{
-    ri16::new((year.get() / 100) as i16).unwrap()
-}
-
-/// The century of the year, if it has at most two digits.
-fn standard_century(year: Year) -> Result<StandardCentury, Format>
-    ensures accepted { IsOk result ↔ (century_of year ≤ 99) }
-    ensures value { IfOk result (λ c. unsigned_abs c ≡ century_of year) }
-    ensures refusal { IfErr result
-        (λ e. Names e (out_of_range (conditional_range (codes "year")))) }
-{
-    let century = year.get() / 100;
-    if century.unsigned_abs() > 99 {
-        return Err(Format::ComponentRange(ComponentRange::conditional("year")));
-    }
-    Ok(ri8::new(century as i8).unwrap())
-}
-
-/// The last two digits of the year.
-fn last_two(year: Year) -> LastTwo
-    ensures { result ≡ unsigned_abs year % 100 }
-{
-    ru8::new((year.get().unsigned_abs() % 100) as u8).unwrap()
-}
-
-/// Whether the value has the part that such components are taken from.
-#[inline]
-fn is_supplied<V: ComponentProvider>(group: Group) -> bool
-    ensures { result
-        ≡ is_supplied V.SUPPLIES_DATE V.SUPPLIES_TIME V.SUPPLIES_OFFSET V.SUPPLIES_TIMESTAMP group }
-{
-    match group {
-        Group::Date => V::SUPPLIES_DATE,
-        Group::Time => V::SUPPLIES_TIME,
-        Group::Offset => V::SUPPLIES_OFFSET,
-        Group::Timestamp => V::SUPPLIES_TIMESTAMP,
-        Group::None => true,
-    }
-}
 
 /// Appends the text of the component where there is room for its width. Takes no memory.
 ///

@@ -11,9 +11,8 @@ mod tests;
 pub mod writers;
 
 pub use component::component_write_into;
-pub use error::Format;
+pub use error::{Error, Format};
 pub use formattable::{BorrowedItems, Formattable, OwnedItems, v3_write_into};
 pub use metadata::ComputeMetadata;
 pub use time_below::format_description::Metadata;
-pub use time_below::{ComponentRange, Period, Time, format_description};
-pub use time_provide::ComponentProvider;
+pub use time_provide::{ComponentProvider, DateState, TimestampState};

@@ -1,14 +1,16 @@
 //! The texts, counts and widths of worked rows, and what happens where memory is refused.
 mod dates;
+mod errors;
 mod memory;
 mod moments;
 mod times;
 mod trees;
 
-use crate::{ComponentProvider, ComputeMetadata, Format, Formattable, Time};
+use crate::{ComponentProvider, ComputeMetadata, Format, Formattable};
 use std::alloc::Global;
 use std::process::Abort;
 use time_below::format_description::{BorrowedFormatItem, Component, modifier};
+use time_below::{Date, Month, OffsetDateTime, Time, UtcOffset};
 
 /// The time of these parts.
 fn time(rt: &impl Abort, hour: u8, minute: u8, second: u8, nanosecond: u32) -> Time {
@@ -16,6 +18,17 @@ fn time(rt: &impl Abort, hour: u8, minute: u8, second: u8, nanosecond: u32) -> T
         panic!(rt; "no time");
     };
     time
+}
+
+/// 1997-11-12 9:55:06 -6:00, a Wednesday.
+fn wednesday(rt: &impl Abort) -> OffsetDateTime {
+    let Ok(date) = Date::from_calendar_date(1997, Month::November, 12) else {
+        panic!(rt; "no date");
+    };
+    let Ok(offset) = UtcOffset::from_hms(-6, 0, 0) else {
+        panic!(rt; "no offset");
+    };
+    OffsetDateTime::new_in_offset(date, time(rt, 9, 55, 6, 0), offset)
 }
 
 /// Formats the value with a fresh state into an empty vector, and as a text, and compares the texts,

@@ -1,5 +1,5 @@
 //! Dates.
-use super::{assert_component, assert_text, time};
+use super::{assert_component, assert_text, wednesday};
 use crate::{ComputeMetadata, Format, Formattable};
 use std::process::Abort;
 use time_below::format_description::modifier::Padding;
@@ -22,8 +22,7 @@ const DAY: BorrowedFormatItem<'static> = BorrowedFormatItem::Component(Component
 
 #[test]
 fn parts_of_a_wednesday(rt: HostRuntime) {
-    let day = date(&rt, 1997, Month::November, 12);
-    let value = PlainDateTime::new(day, time(&rt, 9, 55, 6, 0));
+    let value = wednesday(&rt);
     let padding = Padding::Zero;
     for (component, text, width) in [
         (Component::Day(modifier::Day { padding }), "12", 2),
@@ -86,7 +85,39 @@ fn parts_of_a_wednesday(rt: HostRuntime) {
             "46",
             2,
         ),
+    ] {
+        assert_component(&rt, rt.alloc(), component, &value, text, width);
+    }
+}
+
+#[test]
+fn time_and_offset_of_a_wednesday(rt: HostRuntime) {
+    let value = wednesday(&rt);
+    let padding = Padding::Zero;
+    for (component, text, width) in [
         (Component::Hour24(modifier::Hour24 { padding }), "09", 2),
+        (Component::Minute(modifier::Minute { padding }), "55", 2),
+        (Component::Second(modifier::Second { padding }), "06", 2),
+        (
+            Component::OffsetHour(modifier::OffsetHour {
+                padding,
+                sign_is_mandatory: false,
+            }),
+            "-06",
+            3,
+        ),
+        (
+            Component::OffsetMinute(modifier::OffsetMinute { padding }),
+            "00",
+            2,
+        ),
+        (
+            Component::UnixTimestampSecond(modifier::UnixTimestampSecond {
+                sign_is_mandatory: false,
+            }),
+            "879350106",
+            15,
+        ),
     ] {
         assert_component(&rt, rt.alloc(), component, &value, text, width);
     }

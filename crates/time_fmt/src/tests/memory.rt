@@ -14,15 +14,18 @@ type Lent = &'static [BorrowedFormatItem<'static>];
 
 type LentV3 = &'static [FormatDescriptionV3Inner<'static>];
 
-// Four levels of 64 items over one literal of 4 MiB have 2^46 bytes, of which no machine here has
+// Four levels of 32 items over one literal of 64 MiB have 2^46 bytes, of which no machine here has
 // that many. All are leaked, since what is lent to a tree lives as long as its parts.
-const LITERAL: usize = 4_194_304;
+const LITERAL: usize = 67_108_864;
+
+// Of what owns its parts nothing is shared: its width is what it holds.
+const OWNED_LITERAL: usize = 8_388_608;
 
 const WIDTH: usize = 70_368_744_177_664;
 
-fn sixty_four(alloc: Global, item: BorrowedFormatItem<'static>) -> Result<Lent, AllocError> {
+fn thirty_two(alloc: Global, item: BorrowedFormatItem<'static>) -> Result<Lent, AllocError> {
     let mut items = Vec::new(alloc);
-    for _ in 0..64 {
+    for _ in 0..32 {
         items.push(item)?;
     }
     Ok(items.leak())
@@ -30,32 +33,29 @@ fn sixty_four(alloc: Global, item: BorrowedFormatItem<'static>) -> Result<Lent, 
 
 fn too_wide(alloc: Global) -> Result<Lent, AllocError> {
     let bytes = vec![in alloc; b'x'; LITERAL]?;
-    let mut items = sixty_four(alloc, BorrowedFormatItem::Literal(bytes.leak()))?;
+    let mut items = thirty_two(alloc, BorrowedFormatItem::Literal(bytes.leak()))?;
     for _ in 0..3 {
-        items = sixty_four(alloc, BorrowedFormatItem::Compound(items))?;
+        items = thirty_two(alloc, BorrowedFormatItem::Compound(items))?;
     }
     Ok(items)
 }
 
-fn sixty_four_v3(alloc: Global, lent: LentV3) -> Result<LentV3, AllocError> {
+fn thirty_two_v3(alloc: Global, lent: LentV3) -> Result<LentV3, AllocError> {
     let mut items = Vec::new(alloc);
-    for _ in 0..64 {
+    for _ in 0..32 {
         items.push(FormatDescriptionV3Inner::BorrowedCompound(lent))?;
     }
     Ok(items.leak())
 }
 
-fn too_wide_v3(alloc: Global) -> Result<LentV3, AllocError> {
-    let mut text = String::new(alloc);
-    for _ in 0..LITERAL {
-        text.push('x')?;
-    }
+fn too_wide_v3(alloc: Global) -> Result<LentV3, Fail> {
+    let text = String::from_utf8(vec![in alloc; b'x'; LITERAL]?)?;
     let literal = FormatDescriptionV3Inner::OwnedLiteral(text);
     let first: LentV3 = vec![in alloc; literal]?.leak();
-    let second = sixty_four_v3(alloc, first)?;
-    let third = sixty_four_v3(alloc, second)?;
-    let fourth = sixty_four_v3(alloc, third)?;
-    sixty_four_v3(alloc, fourth)
+    let second = thirty_two_v3(alloc, first)?;
+    let third = thirty_two_v3(alloc, second)?;
+    let fourth = thirty_two_v3(alloc, third)?;
+    Ok(thirty_two_v3(alloc, fourth)?)
 }
 
 /// All addresses that are left, in pieces of 16 GiB down to 4 MiB, of which no byte is written.
@@ -129,14 +129,19 @@ fn a_refused_reservation_of_the_third_version_changes_nothing(rt: HostRuntime) -
 // An owned tree shares nothing, so it cannot be as wide.
 #[test]
 fn a_refused_reservation_of_an_owned_tree_changes_nothing(rt: HostRuntime) -> Result<(), Fail> {
-    let bytes = vec![in rt.alloc(); b'x'; 2 * LITERAL]?;
+    let bytes = vec![in rt.alloc(); b'x'; OWNED_LITERAL]?;
     let items = vec![in rt.alloc(); OwnedFormatItem::Literal(bytes)]?;
-    assert_refused(&rt, rt.alloc(), &OwnedItems(items.as_slice()), 2 * LITERAL)?;
+    assert_refused(
+        &rt,
+        rt.alloc(),
+        &OwnedItems(items.as_slice()),
+        OWNED_LITERAL,
+    )?;
     assert_refused(
         &rt,
         rt.alloc(),
         &OwnedFormatItem::Compound(items),
-        2 * LITERAL,
+        OWNED_LITERAL,
     )?;
     Ok(())
 }

@@ -1,10 +1,9 @@
 //! Descriptions of each kind, deprecated components, and texts.
-use super::{assert_component, assert_text, time};
+use super::{assert_component, assert_text, time, wednesday};
 use crate::{
     BorrowedItems, ComputeMetadata, Format, Formattable, Metadata, OwnedItems,
     component_write_into, v3_write_into,
 };
-use std::process::Abort;
 use std::test::Fail;
 use time_below::format_description::modifier::{
     MonthRepr, Padding, UnixTimestampPrecision, WeekNumberRepr, WeekdayRepr, YearRange, YearRepr,
@@ -13,7 +12,7 @@ use time_below::format_description::{
     BorrowedFormatItem, Component, FormatDescriptionV3, FormatDescriptionV3Inner, OwnedFormatItem,
     modifier,
 };
-use time_below::{Date, Month, PlainDateTime};
+use time_below::{Date, Month};
 use time_provide::DateState;
 
 const DAY: Component = Component::Day(modifier::Day {
@@ -27,14 +26,6 @@ const MONTH: Component = Component::MonthNumerical(modifier::MonthNumerical {
 const MONTH_NAME: modifier::MonthLong = modifier::MonthLong {
     case_sensitive: true,
 };
-
-/// 1997-11-12 9:55:06.
-fn wednesday(rt: &impl Abort) -> PlainDateTime {
-    let Ok(date) = Date::from_calendar_date(1997, Month::November, 12) else {
-        panic!(rt; "no date");
-    };
-    PlainDateTime::new(date, time(rt, 9, 55, 6, 0))
-}
 
 #[test]
 fn borrowed_and_owned_lists_write_the_same(rt: HostRuntime) -> Result<(), Fail> {
@@ -142,6 +133,67 @@ fn optional_items_of_the_third_version(rt: HostRuntime) -> Result<(), Fail> {
             width,
         );
     }
+    Ok(())
+}
+
+#[test]
+fn owned_items_are_written_as_borrowed_ones(rt: HostRuntime) -> Result<(), Fail> {
+    let value = wednesday(&rt);
+    let item = Box::new(rt.alloc(), OwnedFormatItem::Component(DAY))?;
+    let optional = OwnedFormatItem::Optional(item);
+    assert_text(&rt, rt.alloc(), &optional, &value, "12", 2);
+    let items = vec![in rt.alloc();
+        OwnedFormatItem::Component(DAY),
+        OwnedFormatItem::Component(MONTH),
+    ]?;
+    let first = OwnedFormatItem::First(items);
+    assert_text(&rt, rt.alloc(), &first, &value, "12", 2);
+    let items = vec![in rt.alloc();
+        FormatDescriptionV3Inner::from(MONTH),
+        FormatDescriptionV3Inner::from(DAY),
+    ]?;
+    let first = FormatDescriptionV3::new(FormatDescriptionV3Inner::OwnedFirst(items));
+    assert_text(&rt, rt.alloc(), &first, &value, "11", 2);
+    Ok(())
+}
+
+#[test]
+fn a_text_of_more_than_64_bytes(rt: HostRuntime) {
+    let value = wednesday(&rt);
+    let line = "The gate was opened at nine, and the last of the visitors had left it by ";
+    let items = [
+        BorrowedFormatItem::StringLiteral(line),
+        BorrowedFormatItem::Component(DAY),
+    ];
+    let text = "The gate was opened at nine, and the last of the visitors had left it by 12";
+    assert_text(&rt, rt.alloc(), &BorrowedItems(&items), &value, text, 75);
+}
+
+#[test]
+fn byte_literals_have_no_text_guarantee(rt: HostRuntime) {
+    let bytes = [BorrowedFormatItem::Literal(b"a")];
+    assert!(rt; !BorrowedItems(&bytes).compute_metadata().guaranteed_utf8);
+    let text = [
+        BorrowedFormatItem::StringLiteral("a"),
+        BorrowedFormatItem::First(&[]),
+        BorrowedFormatItem::Component(DAY),
+    ];
+    assert!(rt; BorrowedItems(&text).compute_metadata().guaranteed_utf8);
+}
+
+#[test]
+fn write_into_takes_the_room_that_there_is(rt: HostRuntime) -> Result<(), Fail> {
+    let value = time(&rt, 9, 55, 6, 0);
+    let mut output = Vec::with_capacity(rt.alloc(), 5)?;
+    let text = BorrowedFormatItem::StringLiteral("at ");
+    let first = text.write_into(&mut output, &value, &mut ());
+    assert!(rt; matches!(&first, Ok(3)));
+    let minute = BorrowedFormatItem::Component(Component::Minute(modifier::Minute {
+        padding: Padding::Zero,
+    }));
+    let second = minute.write_into(&mut output, &value, &mut ());
+    assert!(rt; matches!(&second, Ok(2)));
+    assert_eq!(rt; output.as_slice(), b"at 55".as_slice());
     Ok(())
 }
 
