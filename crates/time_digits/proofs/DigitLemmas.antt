@@ -18,6 +18,11 @@ pub fixed_step : (k n : ℕ) → fixed (suc k) n ≡ fixed k (n / 10) ++ (48 + n
 unfolding fixed
 fixed_step k n = refl
 
+-- one digit
+pub fixed-one : (n : ℕ) → fixed 1 n ≡ (48 + n % 10) ∷ []
+unfolding fixed
+fixed-one n = refl
+
 pub length-fixed : (k n : ℕ) → length (fixed k n) ≡ k
 unfolding fixed
 length-fixed zero n = refl

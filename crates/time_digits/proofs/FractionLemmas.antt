@@ -1,13 +1,12 @@
 -- Decimals without the zeros at their end.
-use Rattle.std.proofs.Common.{◌≡◌, ◌≢◌, ℕ, zero, suc, ◌+◌, ◌-◌, ◌<◌, ◌≤◌, ◌==◌, ◌&&◌, ◌⊎◌, true, false, List, [], ◌∷◌, ◌++◌, length, take, replicate, get_or, refl, sym, ap, ◌∙◌, arith, ⊎_elim, IsAscii}
+use Rattle.std.proofs.Common.{◌≡◌, ℕ, zero, suc, ◌+◌, ◌-◌, ◌/◌, ◌%◌, ◌≤◌, ◌==◌, ◌&&◌, true, false, List, [], ◌∷◌, ◌++◌, length, take, drop, replicate, refl, sym, ap, ◌∙◌, arith, ⊎_elim, IsAscii}
 use Rattle.std.specs.Str.Parse.{AllDigits}
-use Rattle.std.proofs.lemmas.Bool.{cases_Bool, cases_lt, and_parts, eqb-true, false_from_ne_true}
-use Rattle.std.proofs.Math.Bool.{and-false}
+use Rattle.std.proofs.lemmas.Bool.{cases_Bool, and_parts, eqb-true}
 use Rattle.std.proofs.lemmas.Fmt.{IsAscii-from_digits}
-use Rattle.std.proofs.lemmas.List.{append_cancel_right, take_more, take_all, length-take-le}
+use Rattle.std.proofs.lemmas.List.{append_cancel_right, take_at}
 use Rattle.time_digits.specs.Digits.{fixed}
-use Rattle.time_digits.specs.Fraction.{are_zeros, without_last_zeros, trimmed, trimmed_fraction, IsTrimmedFraction, IsOnlyTrimmedFraction}
-use Rattle.time_digits.proofs.DigitLemmas.{length-fixed, fixed_digits}
+use Rattle.time_digits.specs.Fraction.{are_zeros, without_last_zeros, trimmed, trimmed_fraction, last_zeros, IsTrimmedFraction, IsOnlyTrimmedFraction}
+use Rattle.time_digits.proofs.DigitLemmas.{length-fixed, fixed_digits, fixed-one, fixed-append}
 
 -- ---- zeros
 
@@ -19,10 +18,6 @@ are_zeros-append : (ds : List ℕ) (k : ℕ) → are_zeros (ds ++ replicate k 48
 are_zeros-append [] k = are_zeros-replicate k
 are_zeros-append (d ∷ ds) k = ap (λ b. (d == 48) && b) (are_zeros-append ds k)
 
-are_zeros_last : (ds : List ℕ) (d : ℕ) → (d == 48) ≡ false → are_zeros (ds ++ d ∷ []) ≡ false
-are_zeros_last [] d e = rw e refl
-are_zeros_last (x ∷ xs) d e = ap (λ b. (x == 48) && b) (are_zeros_last xs d e) ∙ and-false (x == 48)
-
 zeros_are : (ds : List ℕ) → are_zeros ds ≡ true → ds ≡ replicate (length ds) 48
 zeros_are [] e = refl
 zeros_are (d ∷ ds) e =
@@ -31,10 +26,10 @@ zeros_are (d ∷ ds) e =
 
 -- ---- texts without the zeros at their end
 
-zeros_none : (d : ℕ) (ds : List ℕ) → are_zeros (d ∷ ds) ≡ true → without_last_zeros (d ∷ ds) ≡ []
+pub zeros_none : (d : ℕ) (ds : List ℕ) → are_zeros (d ∷ ds) ≡ true → without_last_zeros (d ∷ ds) ≡ []
 zeros_none d ds e = rw e refl
 
-not_zeros : (d : ℕ) (ds : List ℕ) → are_zeros (d ∷ ds) ≡ false → without_last_zeros (d ∷ ds) ≡ d ∷ without_last_zeros ds
+pub not_zeros : (d : ℕ) (ds : List ℕ) → are_zeros (d ∷ ds) ≡ false → without_last_zeros (d ∷ ds) ≡ d ∷ without_last_zeros ds
 not_zeros d ds e = rw e refl
 
 without_last_zeros-replicate : (k : ℕ) → without_last_zeros (replicate k 48) ≡ []
@@ -46,12 +41,7 @@ without_last_zeros-append : (ds : List ℕ) (k : ℕ) → without_last_zeros (ds
 without_last_zeros-append [] k = without_last_zeros-replicate k
 without_last_zeros-append (d ∷ ds) k = rw (are_zeros-append (d ∷ ds) k, without_last_zeros-append ds k) refl
 
--- a text that ends in another digit stays as it is
-without_last_zeros_kept : (ds : List ℕ) (d : ℕ) → (d == 48) ≡ false → without_last_zeros (ds ++ d ∷ []) ≡ ds ++ d ∷ []
-without_last_zeros_kept [] d e = rw e refl
-without_last_zeros_kept (x ∷ xs) d e = not_zeros x (xs ++ d ∷ []) (are_zeros_last (x ∷ xs) d e) ∙ ap (λ bs. x ∷ bs) (without_last_zeros_kept xs d e)
-
-length-without_last_zeros : (ds : List ℕ) → length (without_last_zeros ds) ≤ length ds
+pub length-without_last_zeros : (ds : List ℕ) → length (without_last_zeros ds) ≤ length ds
 length-without_last_zeros [] = omega arith
 length-without_last_zeros (d ∷ ds) =
     ⊎_elim (λ (e : are_zeros (d ∷ ds) ≡ true). rw (zeros_none d ds e) (omega arith))
@@ -94,15 +84,6 @@ trimmed_filled (d ∷ ds) =
     let count : suc (length ds) - suc (length (without_last_zeros ds)) ≡ length ds - length (without_last_zeros ds) = omega arith in
     rw count (ap (λ bs. d ∷ bs) (filled ds))
 
-trimmed_kept : (ds : List ℕ) (d : ℕ) → (1 ≤ length ds) → (d == 48) ≡ false → trimmed (ds ++ d ∷ []) ≡ ds ++ d ∷ []
-trimmed_kept [] d some e = absurd (omega arith)
-trimmed_kept (x ∷ xs) d some e = ap (λ bs. x ∷ bs) (without_last_zeros_kept xs d e)
-
-trimmed_one : (ds : List ℕ) → length ds ≡ 1 → trimmed ds ≡ ds
-trimmed_one [] e = cc
-trimmed_one (d ∷ []) e = refl
-trimmed_one (d ∷ x ∷ xs) e = absurd (omega arith)
-
 -- ---- the trimmed fraction of a number
 
 pub trimmed_fraction_is : (n : ℕ) → IsTrimmedFraction (trimmed_fraction n) n
@@ -139,37 +120,36 @@ length-trimmed_fraction n = (trimmed_fraction_is n).fraction.most
 pub IsAscii-trimmed_fraction : (n : ℕ) → IsAscii (trimmed_fraction n)
 IsAscii-trimmed_fraction n = IsAscii-from_digits (trimmed_fraction n) (trimmed_fraction_is n).fraction.digits
 
--- ---- the zeros dropped one by one
+-- ---- the zeros dropped all at once
 
-other_digit : (d : ℕ) → d ≢ 48 → (d == 48) ≡ false
-other_digit d h = false_from_ne_true (d == 48) (λ e. h (eqb-true d 48 e))
+pub last_zeros-le : (ds : List ℕ) → last_zeros ds ≤ length ds
+unfolding last_zeros
+last_zeros-le ds = omega arith
 
-take_last : (ds : List ℕ) (k : ℕ) → 1 ≤ k → k ≤ length ds → take k ds ≡ take (k - 1) ds ++ get_or ds (k - 1) 0 ∷ []
-take_last ds k some within =
-    let e : k - 1 + 1 ≡ k = omega arith in
-    rw e at (take_more ds (k - 1) 0 (omega arith))
+-- a text without its last zeros is as many bytes shorter as there are
+without_last_zeros-take : (ds : List ℕ) → without_last_zeros ds ≡ take (length ds - last_zeros ds) ds
+unfolding last_zeros
+without_last_zeros-take ds =
+    let kept = without_last_zeros ds in
+    let count : length ds - (length ds - length kept) ≡ length kept = omega (arith, length-without_last_zeros ds) in
+    rw count (sym (rw filled at (take_at kept (replicate (length ds - length kept) 48) (length kept) refl)))
 
-pub trimmed_start : (ds : List ℕ) (n : ℕ) → ds ≡ fixed 9 n → trimmed (take 9 ds) ≡ trimmed_fraction n
+trimmed-take : (d : ℕ) (ds : List ℕ) → trimmed (d ∷ ds) ≡ take (suc (length ds) - last_zeros ds) (d ∷ ds)
+trimmed-take d ds =
+    let count : suc (length ds) - last_zeros ds ≡ suc (length ds - last_zeros ds) = omega (arith, last_zeros-le ds) in
+    rw count (ap (λ bs. d ∷ bs) (without_last_zeros-take ds))
+
+fixed-nine : (n : ℕ) → fixed 9 n ≡ (48 + n / 100_000_000 % 10) ∷ fixed 8 n
+fixed-nine n = fixed-append 1 8 n ∙ ap (λ bs. bs ++ fixed 8 n) (fixed-one (n / 100_000_000))
+
+-- the last eight of nine digits
+pub last_of_nine : (n : ℕ) (bs : List ℕ) → bs ≡ fixed 9 n → drop (length bs - 8) bs ≡ fixed 8 n
+last_of_nine n bs digits =
+    let one : length bs - 8 ≡ 1 = omega (arith, ap length digits, length-fixed 9 n) in
+    rw one (ap (drop 1) (digits ∙ fixed-nine n))
+
+-- of the nine digits of a number, the zeros that end the last eight are dropped
+pub trimmed_fraction-take : (n : ℕ) → trimmed_fraction n ≡ take (9 - last_zeros (fixed 8 n)) (fixed 9 n)
 unfolding trimmed_fraction
-trimmed_start ds n e =
-    let nine = length-fixed 9 n in
-    ap (λ bs. trimmed (take 9 bs)) e ∙ ap trimmed (take_all 9 (fixed 9 n) (omega arith))
-
--- a zero that is not the first digit may go
-pub trimmed_shorter : (ds text : List ℕ) (k : ℕ) → 1 < k → k ≤ length ds → get_or ds (k - 1) 0 ≡ 48 → trimmed (take k ds) ≡ text → trimmed (take (k - 1) ds) ≡ text
-trimmed_shorter ds text k some within zero_last so_far =
-    let front = take (k - 1) ds in
-    let last : take k ds ≡ front ++ 48 ∷ [] = rw zero_last at (take_last ds k (omega arith) within) in
-    sym (trimmed-append front 1 (omega (arith, length-take-le (k - 1) ds (omega arith)))) ∙ ap trimmed (sym last) ∙ so_far
-
--- what is left without such a zero is the trimmed text
-pub trimmed_end : (ds text : List ℕ) (k : ℕ) → 1 ≤ k → k ≤ length ds → (k ≤ 1) ⊎ (get_or ds (k - 1) 0 ≢ 48) → trimmed (take k ds) ≡ text → take k ds ≡ text
-trimmed_end ds text k some within ends so_far =
-    ⊎_elim (λ (more : 1 < k).
-    let front = take (k - 1) ds in
-    let d = get_or ds (k - 1) 0 in
-    let other : d ≢ 48 = ⊎_elim (λ (one : k ≤ 1). absurd (omega arith)) (λ (h : d ≢ 48). h) ends in
-    let last = take_last ds k some within in
-    last ∙ sym (trimmed_kept front d (omega (arith, length-take-le (k - 1) ds (omega arith))) (other_digit d other)) ∙ ap trimmed (sym last) ∙ so_far)
-    (λ (one : k ≤ 1). sym (trimmed_one (take k ds) (omega (arith, length-take-le k ds within))) ∙ so_far)
-    (cases_lt 1 k)
+trimmed_fraction-take n =
+    rw (fixed-nine n) (rw (length-fixed 8 n) at (trimmed-take (48 + n / 100_000_000 % 10) (fixed 8 n)))

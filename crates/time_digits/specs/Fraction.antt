@@ -13,7 +13,11 @@ abbrev pub without_last_zeros : List ℕ → List ℕ
 without_last_zeros [] = []
 without_last_zeros (d ∷ ds) = if are_zeros (d ∷ ds) then [] else d ∷ without_last_zeros ds
 
--- the same, but for the first byte, which stays
+-- how many zeros end a text
+unfoldable pub last_zeros : List ℕ → ℕ
+last_zeros ds = length ds - length (without_last_zeros ds)
+
+-- without its last zeros, but for the first byte, which stays
 abbrev pub trimmed : List ℕ → List ℕ
 trimmed [] = []
 trimmed (d ∷ ds) = d ∷ without_last_zeros ds

@@ -2,13 +2,24 @@
 //!
 //! A text in several pieces is read by joining them, the first piece first.
 ghost use Rattle.std.specs.Prelude.{◌≡◌, ◌+◌, ◌-◌, ◌/◌, ◌%◌, ◌≤◌, [], ◌∷◌, ◌++◌, length, take, drop, min, decimal};
+ghost use Rattle.std.specs.Int.{w64, to_le_bytes};
+ghost use Rattle.std.specs.Str.Parse.{AllDigits};
 ghost use Rattle.time_digits.specs.Digits.{fixed, zero_padded, space_padded, joined, piece_lengths};
-ghost use Rattle.time_digits.specs.Fraction.{trimmed_fraction};
+ghost use Rattle.time_digits.specs.Fraction.{trimmed_fraction, last_zeros};
 ghost use Rattle.time_digits.specs.Shown.{shown, shown_end};
 
 use crate::ranged::{ru8, ru16, ru32};
 use crate::stack_str::{StackStr, StackTrailingStr};
 use crate::tables::{SINGLE_DIGITS, SPACE_PADDED_PAIRS, ZERO_PADDED_PAIRS, piece_of};
+
+/// The factor by which `div_100` multiplies, a little more than 2 ^ 19 / 100.
+pub const DIV_100_FACTOR: u32 = 5243;
+
+/// How many bits `div_100` then shifts the product right.
+pub const DIV_100_SHIFT: u32 = 19;
+
+// The word whose eight bytes are the digit 0.
+const EIGHT_ZEROS: u64 = 0x3030_3030_3030_3030;
 
 /// Writes `value` in two places, with a zero where it is below 10, from the byte `offset` on.
 #[inline]
@@ -32,14 +43,14 @@ pub fn write_one_digit(buf: &mut [u8], offset: usize, value: ru8<0, 9>)
 
 /// The quotient and the remainder of `n` by 100.
 #[inline]
+#[tactic(auto, using(crate::proofs::DivisionLemmas::quotient_by_5243))]
 pub fn div_100(n: ru16<0, 9_999>) -> [ru8<0, 99>; 2]
     ensures { result ≡ n / 100 ∷ n % 100 ∷ [] }
 {
-    let number = n.get();
-    [
-        ru8::new((number / 100) as u8).unwrap(),
-        ru8::new((number % 100) as u8).unwrap(),
-    ]
+    let number = u32::from(n.get());
+    let high = (number * DIV_100_FACTOR) >> DIV_100_SHIFT;
+    let low = number - 100 * high;
+    [ru8::new(high as u8).unwrap(), ru8::new(low as u8).unwrap()]
 }
 
 /// The digit `n`.
@@ -251,6 +262,18 @@ fn last_four_digits(number: u32) -> [&'static str; 2]
     four_digits_zero_padded(ru16::new((number % 10_000) as u16).unwrap())
 }
 
+/// How many of the eight digits of `word`, its bytes in little-endian order, are zeros at their
+/// end; from 0 to 8.
+#[inline]
+#[tactic(auto, using(crate::proofs::WordLemmas::word_facts))]
+pub fn zeros_to_drop(word: u64) -> u32
+    requires digits { AllDigits 10 (to_le_bytes w64 word) }
+    ensures value { result ≡ last_zeros (to_le_bytes w64 word) }
+    ensures most { result ≤ 8 }
+{
+    (word ^ EIGHT_ZEROS).leading_zeros() / u8::BITS
+}
+
 /// The nine digits of a number of nanoseconds without the zeros at their end, at least one digit.
 #[inline]
 pub fn truncated_subsecond_from_nanos(n: ru32<0, 999_999_999>) -> StackStr<9>
@@ -259,24 +282,30 @@ pub fn truncated_subsecond_from_nanos(n: ru32<0, 999_999_999>) -> StackStr<9>
     ensures most { length (shown result) ≤ 9 }
 {
     let bytes = nine_digits(n);
-    let mut len = 9;
-    while len > 1 && bytes[len - 1] == b'0' {
-        len -= 1;
-    }
-    StackStr::new(bytes, len)
+    let last_eight = *bytes.last_chunk::<8>().unwrap();
+    let dropped = zeros_to_drop(u64::from_le_bytes(last_eight));
+    StackStr::new(bytes, 9 - dropped as usize)
 }
 
-// The nine digits of a number of nanoseconds, the last one first.
+// The nine digits of a number of nanoseconds.
 #[inline]
 fn nine_digits(n: ru32<0, 999_999_999>) -> [u8; 9]
     ensures { result ≡ fixed 9 n }
 {
+    let number = n.get();
+    let first_five = number / 10_000;
     let mut bytes = [b'0'; 9];
-    let mut rest = n.get();
-    for place in (0..9).rev() {
-        bytes[place] = b'0' + (rest % 10) as u8;
-        rest /= 10;
-    }
+    write_one_digit(
+        &mut bytes,
+        0,
+        ru8::new((first_five / 10_000) as u8).unwrap(),
+    );
+    write_four_digits(
+        &mut bytes,
+        1,
+        ru16::new((first_five % 10_000) as u16).unwrap(),
+    );
+    write_four_digits(&mut bytes, 5, ru16::new((number % 10_000) as u16).unwrap());
     bytes
 }
 
@@ -290,14 +319,38 @@ pub fn u64_pad_none(value: u64) -> StackTrailingStr<20>
     let mut bytes = [b'0'; 20];
     let mut start = 20;
     let mut rest = value;
-    while rest > 9 {
-        start -= 1;
-        bytes[start] = b'0' + (rest % 10) as u8;
-        rest /= 10;
+    while rest > 999 {
+        start -= 4;
+        write_four_digits(
+            &mut bytes,
+            start,
+            ru16::new((rest % 10_000) as u16).unwrap(),
+        );
+        rest /= 10_000;
     }
-    start -= 1;
-    bytes[start] = b'0' + rest as u8;
+    if rest > 9 {
+        start -= 2;
+        let [first, pair] = div_100(ru16::new(rest as u16).unwrap());
+        write_two_digits(&mut bytes, start, pair);
+        rest = first.get() as u64;
+    }
+    if rest != 0 || value == 0 {
+        start -= 1;
+        write_one_digit(&mut bytes, start, ru8::new(rest as u8).unwrap());
+    }
     StackTrailingStr::new(bytes, start)
+}
+
+// Writes `value` in four places, with zeros in front, from the byte `offset` on.
+#[inline]
+#[tactic(auto, using(crate::proofs::WriteLemmas::four_written))]
+fn write_four_digits(buf: &mut [u8], offset: usize, value: ru16<0, 9_999>)
+    requires room { offset + 4 ≤ length buf.old }
+    ensures { buf.new ≡ take offset buf.old ++ fixed 4 value ++ drop (offset + 4) buf.old }
+{
+    let [high, low] = div_100(value);
+    write_two_digits(buf, offset, high);
+    write_two_digits(buf, offset + 2, low);
 }
 
 #[cfg(test)]

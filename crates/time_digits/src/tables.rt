@@ -1,20 +1,22 @@
-//! The constant texts that the texts of small numbers are borrowed from.
+//! The constant texts that the texts of all numbers of one and two digits are borrowed from.
 ghost use Rattle.std.specs.Prelude.{◌≡◌, ◌+◌, ◌≤◌, length, take, drop, IsTrue};
 ghost use Rattle.time_digits.specs.Digits.{is_ascii};
 
-/// The digits 0 to 9.
-pub(crate) const SINGLE_DIGITS: &str = "0123456789";
+/// The digits 0 to 9, in 10 bytes; the digit `n` stands at the place `n`.
+pub const SINGLE_DIGITS: &str = "0123456789";
 
-/// The numbers 0 to 99 in two places each, with zeros.
-pub(crate) const ZERO_PADDED_PAIRS: &str = "\
+/// The numbers 0 to 99 in two places each, with a zero in front of those below 10, in 200 bytes;
+/// the number `n` stands at the place `2 * n`.
+pub const ZERO_PADDED_PAIRS: &str = "\
 0001020304050607080910111213141516171819\
 2021222324252627282930313233343536373839\
 4041424344454647484950515253545556575859\
 6061626364656667686970717273747576777879\
 8081828384858687888990919293949596979899";
 
-/// The numbers 0 to 99 in two places each, with spaces.
-pub(crate) const SPACE_PADDED_PAIRS: &str = " 0 1 2 3 4 5 6 7 8 9\
+/// The numbers 0 to 99 in two places each, with a space in front of those below 10, in 200 bytes;
+/// the number `n` stands at the place `2 * n`.
+pub const SPACE_PADDED_PAIRS: &str = " 0 1 2 3 4 5 6 7 8 9\
 10111213141516171819\
 2021222324252627282930313233343536373839\
 4041424344454647484950515253545556575859\

@@ -44,6 +44,40 @@ fn quotients(rt: HostRuntime) {
 }
 
 #[test]
+fn quotients_of_all_numbers(rt: HostRuntime) {
+    for n in 0..10_000u16 {
+        let [high, low] = div_100(four(&rt, n));
+        assert_eq!(rt; u16::from(high.get()), n / 100);
+        assert_eq!(rt; u16::from(low.get()), n % 100);
+    }
+}
+
+#[test]
+fn the_first_wrong_quotient(rt: HostRuntime) {
+    let product = 43_699 * DIV_100_FACTOR;
+    assert_eq!(rt; product, 229_113_857);
+    assert_eq!(rt; product >> DIV_100_SHIFT, 437);
+}
+
+#[test]
+fn pairs_of_the_tables(rt: HostRuntime) {
+    assert_eq!(rt; SINGLE_DIGITS.len(), 10);
+    assert_eq!(rt; ZERO_PADDED_PAIRS.len(), 200);
+    assert_eq!(rt; SPACE_PADDED_PAIRS.len(), 200);
+    for n in 0..100u8 {
+        let place = 2 * n as usize;
+        assert_eq!(rt;
+            two_digits_zero_padded(pair(&rt, n)).as_bytes(),
+            &ZERO_PADDED_PAIRS.as_bytes()[place..place + 2]
+        );
+        assert_eq!(rt;
+            two_digits_space_padded(pair(&rt, n)).as_bytes(),
+            &SPACE_PADDED_PAIRS.as_bytes()[place..place + 2]
+        );
+    }
+}
+
+#[test]
 fn one_and_two_digits(rt: HostRuntime) {
     for (n, want) in [(0, "0"), (1, "1"), (9, "9")] {
         assert_eq!(rt; single_digit(digit(&rt, n)), want);
@@ -145,6 +179,19 @@ fn nanoseconds(rt: HostRuntime) {
 }
 
 #[test]
+fn last_zeros_of_a_word(rt: HostRuntime) {
+    for (text, want) in [
+        (b"00000000", 8),
+        (b"00000001", 0),
+        (b"10000000", 7),
+        (b"20000000", 7),
+        (b"12345678", 0),
+    ] {
+        assert_eq!(rt; zeros_to_drop(u64::from_le_bytes(*text)), want);
+    }
+}
+
+#[test]
 fn trimmed_nanoseconds(rt: HostRuntime) {
     for (n, want) in [
         (0, "0"),
@@ -178,6 +225,7 @@ fn whole_numbers(rt: HostRuntime) {
         (1_000, "1000"),
         (9_999, "9999"),
         (10_000, "10000"),
+        (99_999, "99999"),
         (100_000_007, "100000007"),
         (10_000_000_000_000_000, "10000000000000000"),
         (u64::MAX, "18446744073709551615"),

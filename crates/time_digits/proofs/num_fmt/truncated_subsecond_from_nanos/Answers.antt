@@ -1,41 +1,35 @@
-use Rattle.std.proofs.Common.{◌≡◌, ◌≢◌, ◌-◌, ◌≤◌, ◌⊎◌, length, take, arith, get_or, IsAscii, ◌∙◌, ap, inl, inr}
+use Rattle.std.proofs.Common.{◌≡◌, ◌-◌, ◌∙◌, take, sym, subst, arith, IsAscii, List, ℕ}
+use Rattle.std.specs.Int.{w64, to_le_bytes}
+use Rattle.std.specs.Str.Parse.{AllDigits}
+use Rattle.time_digits.specs.Digits.{fixed}
 use Rattle.time_digits.specs.Fraction.{trimmed_fraction}
-use Rattle.time_digits.proofs.DigitLemmas.{length-fixed}
-use Rattle.time_digits.proofs.FractionLemmas.{trimmed_start, trimmed_shorter, trimmed_end, IsAscii-trimmed_fraction}
+use Rattle.time_digits.proofs.DigitLemmas.{fixed_digits}
+use Rattle.time_digits.proofs.FractionLemmas.{last_of_nine, trimmed_fraction-take, IsAscii-trimmed_fraction}
+use Rattle.time_digits.proofs.WordLemmas.{digits_of_word}
 use Rattle.time_digits.proofs.num_fmt.truncated_subsecond_from_nanos.Goals as goal
-use Rattle.time_digits.proofs.num_fmt.truncated_subsecond_from_nanos.Goals.{then-loop-len-test+else-bytes-len-eq48, else-loop-len-test}
+use Rattle.time_digits.proofs.num_fmt.truncated_subsecond_from_nanos.Goals.{After-from_le_bytes, After-zeros_to_drop-dropped}
 
-pub loop-len-init : goal.loop-len-init
-loop-len-init c = record {
-  some = omega arith;
-  within = omega arith;
-  text = trimmed_start c.nine_digits-bytes.result c.args.n c.nine_digits-bytes.ensures;
-}
+-- the word holds the last eight digits
+last_eight : (c : After-from_le_bytes) → to_le_bytes w64 c.from_le_bytes.result ≡ fixed 8 c.args.n
+last_eight c =
+    let chunk = rw c.unwrap-last_eight.ensures at c.last_chunk.ensures.cases in
+    let digits = chunk.1.same ∙ last_of_nine c.args.n c.nine_digits-bytes.result c.nine_digits-bytes.ensures in
+    digits_of_word c.unwrap-last_eight.result.now c.args.n c.from_le_bytes.result digits c.from_le_bytes.ensures
 
-pub loop-len-preserved : goal.loop-len-preserved
-loop-len-preserved c =
-    let bytes = c.nine_digits-bytes.result in
-    let l = c.loop-len in
-    let nine : length bytes ≡ 9 = ap length c.nine_digits-bytes.ensures ∙ length-fixed 9 c.args.n in record {
-      some = omega arith;
-      within = omega arith;
-      text = trimmed_shorter bytes (trimmed_fraction c.args.n) l.len (omega arith) (omega arith) c.if-bytes-len-eq48.true l.invariant.text;
-    }
+pub zeros_to_drop-dropped-requires : goal.zeros_to_drop-dropped-requires
+zeros_to_drop-dropped-requires c =
+    let P : List ℕ → Type 0 = AllDigits 10 in
+    record { digits = subst P (sym (last_eight c)) (fixed_digits 8 c.args.n) }
 
--- where no zero is left to drop, what is left is the trimmed fraction
-left : (c : goal.Left-loop-len) → take c.loop-len.len c.nine_digits-bytes.result ≡ trimmed_fraction c.args.n
-left c =
-    let bytes = c.nine_digits-bytes.result in
-    let l = c.loop-len in
-    let nine : length bytes ≡ 9 = ap length c.nine_digits-bytes.ensures ∙ length-fixed 9 c.args.n in
-    let ends : (l.len ≤ 1) ⊎ (get_or bytes (l.len - 1) 0 ≢ 48) =
-    elim c.loop-len-test.branch [ then-loop-len-test+else-bytes-len-eq48 w ↦ inr w.if-bytes-len-eq48.false | else-loop-len-test w ↦ inl w.loop-len-test.false ] in
-    trimmed_end bytes (trimmed_fraction c.args.n) l.len (omega arith) (omega arith) ends l.invariant.text
+-- what is kept is the trimmed fraction
+kept : (c : After-zeros_to_drop-dropped) → take (9 - c.zeros_to_drop-dropped.result) c.nine_digits-bytes.result ≡ trimmed_fraction c.args.n
+kept c = rw (c.nine_digits-bytes.ensures, c.zeros_to_drop-dropped.ensures.value, last_eight c.before) (sym (trimmed_fraction-take c.args.n))
 
 pub new-requires : goal.new-requires
 new-requires c =
-    let ascii : IsAscii (take c.loop-len.len c.nine_digits-bytes.result) = rw (left c) (IsAscii-trimmed_fraction c.args.n) in
+    let after = (goal.at.new-requires c).After-zeros_to_drop-dropped in
+    let ascii : IsAscii (take (9 - c.zeros_to_drop-dropped.result) c.nine_digits-bytes.result) = rw (kept after) (IsAscii-trimmed_fraction c.args.n) in
     (omega arith, (omega arith, (omega arith, ascii)))
 
 pub returns-clause-text : goal.returns-clause-text
-returns-clause-text c = c.new.ensures ∙ left c.before
+returns-clause-text c = c.new.ensures ∙ kept (goal.at.returns-clause-text c).After-zeros_to_drop-dropped
