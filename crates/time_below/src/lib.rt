@@ -6,6 +6,7 @@ mod component_range;
 mod date;
 pub mod format_description;
 pub mod laws;
+pub mod moment;
 mod month;
 mod offset_date_time;
 mod period;
