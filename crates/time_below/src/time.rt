@@ -6,6 +6,9 @@ ghost use Rattle.time_below.specs.ComponentRange.{range_refusal, unconditional_r
 use crate::component_range::ComponentRange;
 use std::marker::Model;
 
+// The seconds of a day.
+pub(crate) const DAY_SECONDS: u32 = 86_400;
+
 /// A time of day to the nanosecond, without leap seconds.
 #[derive(Debug, Clone, Copy)]
 pub struct Time {
@@ -87,7 +90,7 @@ impl Time {
 
     // The time so many seconds after midnight.
     pub(crate) fn from_seconds(passed: u32, nanosecond: u32) -> Time
-        requires day { passed < 86_400 }
+        requires day { passed < DAY_SECONDS }
         requires second { nanosecond < 1_000_000_000 }
         ensures { result ≡ time_at passed nanosecond }
     {
@@ -102,7 +105,7 @@ impl Time {
     // The whole seconds from midnight to the time.
     pub(crate) fn seconds_from_midnight(self) -> u32
         ensures value { result ≡ seconds_from_midnight self }
-        ensures range { result < 86_400 }
+        ensures range { result < DAY_SECONDS }
     {
         self.hour as u32 * 3600 + self.minute as u32 * 60 + self.second as u32
     }
