@@ -20,21 +20,22 @@ const LITERAL: usize = 4_194_304;
 
 const WIDTH: usize = 70_368_744_177_664;
 
-fn sixty_four(alloc: Global, item: BorrowedFormatItem<'static>) -> Result<Lent, AllocError> {
+fn sixty_four(alloc: Global, lent: Lent) -> Result<Lent, AllocError> {
     let mut items = Vec::new(alloc);
     for _ in 0..64 {
-        items.push(item)?;
+        items.push(BorrowedFormatItem::Compound(lent))?;
     }
     Ok(items.leak())
 }
 
 fn too_wide(alloc: Global) -> Result<Lent, AllocError> {
     let bytes = vec![in alloc; b'x'; LITERAL]?;
-    let mut items = sixty_four(alloc, BorrowedFormatItem::Literal(bytes.leak()))?;
-    for _ in 0..3 {
-        items = sixty_four(alloc, BorrowedFormatItem::Compound(items))?;
-    }
-    Ok(items)
+    let literal = BorrowedFormatItem::Literal(bytes.leak());
+    let first: Lent = vec![in alloc; literal]?.leak();
+    let second = sixty_four(alloc, first)?;
+    let third = sixty_four(alloc, second)?;
+    let fourth = sixty_four(alloc, third)?;
+    sixty_four(alloc, fourth)
 }
 
 fn sixty_four_v3(alloc: Global, lent: LentV3) -> Result<LentV3, AllocError> {
