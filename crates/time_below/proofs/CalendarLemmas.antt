@@ -15,6 +15,7 @@ past_days p =
     pos 365 *ℤ p +ℤ int_div_euclid p (pos 4) -ℤ int_div_euclid p (pos 100) +ℤ int_div_euclid p
     (pos 400)
 
+-- the days of the years that are past, moved to the start 1,000,000 years earlier
 past_days-shift : (p : ℤ) (n : ℕ) → p +ℤ pos 1_000_000 ≡ pos n
     → past_days p +ℤ pos days_before ≡ pos (days_of_years n)
 past_days-shift (pos a) n e =
@@ -24,6 +25,7 @@ past_days-shift (negsuc a) n e =
     let h : n + suc a ≡ 1_000_000 = omega (arith, ints) in
     omega (arith, ints)
 
+-- the day number of a date, by the days from the start
 pub day_number_from_start : (d : OrdinalDate) (n : ℕ) → d.year +ℤ pos greatest_year ≡ pos n
     → 1 ≤ d.ordinal → day_number d +ℤ pos days_before ≡ pos (days_of_years n + d.ordinal - 1)
 day_number_from_start d n e one =
@@ -53,9 +55,11 @@ cycle-parts (negsuc a) n e =
 abbrev pub years_at : ℕ → ℕ
 years_at n = 100 * ((4 * n + 3) / 146_097) + ((4 * n + 3) % 146_097 / 4 * 4 + 3) / 1461
 
+-- the place of a day in its year, from 0
 abbrev pub place_at : ℕ → ℕ
 place_at n = ((4 * n + 3) % 146_097 / 4 * 4 + 3) % 1461 / 4
 
+-- equal parts make equal dates
 pub same_date : (y x : ℤ) (o p : ℕ) → y ≡ x → o ≡ p
     → ◌≡◌ {A = OrdinalDate} (record { year = y; ordinal = o }) (record { year = x; ordinal = p })
 same_date y x o p e f = rw (e, f) refl
@@ -70,6 +74,7 @@ date_at_shifted z n e =
     omega arith in
     same_date _ _ _ _ (rw day (omega (arith, ints))) (rw day refl)
 
+-- the date of so many days from the start
 pub date_at_from_start : (n : ℕ)
     → date_at (pos n -ℤ pos days_before) ≡ record { year = pos (years_at n) -ℤ pos greatest_year; ordinal = place_at n + 1 }
 date_at_from_start n = date_at_shifted (pos n -ℤ pos days_before) n (omega (arith, ints))
@@ -84,6 +89,7 @@ thursday_from_start d n e =
 
 pub ruleset thursday_facts = (thursday_from_start, to_z-of_z)
 
+-- the UTC day of a second is that of the whole days from the start
 pub utc_day : (s : ℤ) (n : ℕ) → s +ℤ pos seconds_before ≡ pos n
     → pos (n / day_seconds) -ℤ pos days_before ≡ int_div_euclid s (pos day_seconds) +ℤ pos unix_day
 utc_day (pos a) n e =
@@ -93,10 +99,12 @@ utc_day (negsuc a) n e =
     let h : n + suc a ≡ seconds_before = omega (arith, ints) in
     omega (arith, ints)
 
+-- and so is its date
 pub utc_date_from_start : (s : ℤ) (n : ℕ) → s +ℤ pos seconds_before ≡ pos n
     → date_at (pos (n / day_seconds) -ℤ pos days_before) ≡ utc_date s
 utc_date_from_start s n e = ap date_at (utc_day s n e)
 
+-- the second of the UTC day is the rest of those days
 pub second_from_start : (s : ℤ) (n : ℕ) → s +ℤ pos seconds_before ≡ pos n
     → second_of_day s ≡ n % day_seconds
 second_from_start (pos a) n e =

@@ -107,6 +107,7 @@ alike lead x y sign size at_zero =
     (λ h. below_is y (unsigned_abs x) (sign.1 h) size ∙ sym (like_negative lead x h))
     (λ h. at_zero h ∙ sym (like_zero lead x h))
 
+-- equal parts make equal offsets
 same_parts : (h m s x y z : ℤ) → x ≡ h → y ≡ m → z ≡ s
     → ◌≡◌ {A = Offset} (record { hours = x; minutes = y; seconds = z }) (record { hours = h; minutes = m; seconds = s })
 same_parts h m s x y z hours minutes seconds = rw (hours, minutes, seconds) refl

@@ -10,6 +10,7 @@ use Rattle.time_below.proofs.YearLemmas.{years_from_start, days_from_start, days
 abbrev thursday_number : ℤ → ℤ
 thursday_number z = z +ℤ pos 3 -ℤ pos (unsigned_abs (int_rem_euclid z (pos 7)))
 
+-- the Thursday of a week, by the days from the start
 thursday_shifted : (z : ℤ) (n : ℕ) → z +ℤ pos days_before ≡ pos n
     → thursday_number z +ℤ pos days_before ≡ pos (n - n % 7 + 3)
 thursday_shifted z n e = omega (arith, ints, weekday_from_start z n (sym e))
@@ -22,17 +23,21 @@ thursday_within z h =
     is_day_number (thursday_number z) (n - n % 7 + 3) (thursday_shifted z n e)
     (omega (arith, days_before_end z n h e))
 
+-- the Thursday of the week of a date is one of the calendar
 IsDate-thursday_of : (d : OrdinalDate) → IsDate d → IsDate (thursday_of d)
 IsDate-thursday_of d h =
     IsDate-date_at (thursday_number (day_number d))
     (thursday_within (day_number d) (IsDayNumber-day_number d h))
 
+-- the year of the week calendar is one of the calendar
 pub iso_year_of_date : (d : OrdinalDate) → IsDate d → IsYear (iso_year_of d)
 iso_year_of_date d h = (IsDate-thursday_of d h).0
 
+-- a day of the year lies in one of 53 weeks
 week_of_ordinal : (d : OrdinalDate) → IsDate d → IsInRange 1 53 ((d.ordinal - 1) / 7 + 1)
 week_of_ordinal d h = (omega arith, grind arith)
 
+-- the week of the week calendar is 1 to 53
 pub iso_week_of_date : (d : OrdinalDate) → IsDate d → IsInRange 1 53 (iso_week_of d)
 iso_week_of_date d h = week_of_ordinal (thursday_of d) (IsDate-thursday_of d h)
 
@@ -44,10 +49,12 @@ same_week : (m n o p a b : ℕ) → m ≡ n → (o - 1) / 7 + 1 ≡ (p - 1) / 7 
     → a ≡ b
 same_week m n o p a b year week one two day first second = omega (arith, ap days_of_years year)
 
+-- one count from the start is one day number
 same_number : (y z : ℤ) (a b : ℕ) → y +ℤ pos days_before ≡ pos a → z +ℤ pos days_before ≡ pos b
     → a ≡ b → y ≡ z
 same_number y z a b p q e = omega (arith, ints)
 
+-- equal numbers as integers are equal
 same_pos : (a b : ℕ) → pos a ≡ pos b → a ≡ b
 same_pos a b e = ap unsigned_abs e
 
@@ -62,6 +69,7 @@ thursday_counted d n m h e y =
     same_pos _ _
     (sym (thursday_shifted (day_number d) n e) ∙ sym (ap (λ z. z +ℤ pos days_before) back) ∙ there)
 
+-- one year, week and weekday of the week calendar is one date
 pub same_week_day : (d e : OrdinalDate) → IsDate d → IsDate e → iso_year_of d ≡ iso_year_of e
     → iso_week_of d ≡ iso_week_of e → weekday_of d ≡ weekday_of e → d ≡ e
 same_week_day d e h k year week day =

@@ -24,6 +24,7 @@ abbrev pub is_leap_year : ℤ → Bool
 is_leap_year y =
     (unsigned_abs y % 4 == 0) && not (unsigned_abs y % 100 == 0) || (unsigned_abs y % 400 == 0)
 
+-- a leap year has one day more
 abbrev pub days_in_year : ℤ → ℕ
 days_in_year y = if is_leap_year y then 366 else 365
 

@@ -13,10 +13,11 @@ day_seconds = 86_400
 abbrev pub unix_day : ℕ
 unix_day = 719_162
 
--- the seconds from -999999-01-01T00:00:00 to 1970, and those of all years
+-- the seconds from -999999-01-01T00:00:00 to 1970
 abbrev pub seconds_before : ℕ
 seconds_before = 31_619_087_596_800
 
+-- the seconds of the years -999,999 to 999,999
 abbrev pub seconds_in_all : ℕ
 seconds_in_all = 63_113_872_377_600
 

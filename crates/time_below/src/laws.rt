@@ -57,8 +57,8 @@ pub fn one_date_and_time_for_each_moment()
         → IsTimestampSecond (unix_seconds t) }
 {}
 
-/// Three parts of an offset have one offset to which they settle: each part keeps its size, the first
-/// that is not zero keeps its sign, and no part has the other sign.
+/// Three parts of an offset settle to one offset: each part keeps its size, the first that is not
+/// zero keeps its sign, and no part has the other sign.
 pub fn one_sign_for_each_offset()
     ensures settled { (h m s : ℤ) → Settles h m s (settled h m s) }
     ensures only { (h m s : ℤ) (o : Offset) → Settles h m s o → o ≡ settled h m s }

@@ -23,11 +23,14 @@ impl Model for Time {
 
     ghost Value = { TimeOfDay };
 
-    ghost view = { λ t. record { hour = t.hour; minute = t.minute; second = t.second; nanosecond = t.nanosecond } };
+    ghost view = { λ t.
+        record { hour = t.hour; minute = t.minute; second = t.second; nanosecond = t.nanosecond } };
 
-    ghost invariant = { λ t. IsTimeOfDay (record { hour = t.hour; minute = t.minute; second = t.second; nanosecond = t.nanosecond }) };
+    ghost invariant = { λ t. IsTimeOfDay (
+        record { hour = t.hour; minute = t.minute; second = t.second; nanosecond = t.nanosecond }) };
 
-    ghost inverse = { λ t. record { hour = t.hour; minute = t.minute; second = t.second; nanosecond = t.nanosecond } };
+    ghost inverse = { λ t.
+        record { hour = t.hour; minute = t.minute; second = t.second; nanosecond = t.nanosecond } };
 }
 
 impl Time {
@@ -40,12 +43,15 @@ impl Time {
         nanosecond: u32,
     ) -> Result<Time, ComponentRange>
         ensures accepted { IsOk result
-            ↔ IsTimeOfDay (record { hour = hour; minute = minute; second = second; nanosecond = nanosecond }) }
+            ↔ IsTimeOfDay (
+            record { hour = hour; minute = minute; second = second; nanosecond = nanosecond }) }
         ensures value { IfOk result (λ t. t
             ≡ record { hour = hour; minute = minute; second = second; nanosecond = nanosecond }) }
         ensures refusal { IfErr result (λ e. range_refusal e ≡ unconditional_range (
             if nat_lt hour 24
-            then (if nat_lt minute 60 then (if nat_lt second 60 then codes "nanosecond" else codes "second") else codes "minute")
+            then (if nat_lt minute 60
+            then (if nat_lt second 60 then codes "nanosecond" else codes "second")
+            else codes "minute")
             else codes "hour"
             )) }
     {

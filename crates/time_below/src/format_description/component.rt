@@ -49,20 +49,20 @@ pub enum Component {
     CalendarYearCenturyExtendedRange(modifier::CalendarYearCenturyExtendedRange),
     /// The year without its last two digits, -99 to 99, in two places. Every other one is refused.
     CalendarYearCenturyStandardRange(modifier::CalendarYearCenturyStandardRange),
-    /// The last two digits of the year, 0 to 99, in two places, without a sign.
+    /// The last two digits of the year, 0 to 99, in two places, unsigned.
     CalendarYearLastTwo(modifier::CalendarYearLastTwo),
     /// The year of the week calendar, -999,999 to 999,999, in four places, or a sign and
     /// all its digits (ISO 8601-1:2019, week date).
     IsoYearFullExtendedRange(modifier::IsoYearFullExtendedRange),
     /// The year of the week calendar, -9,999 to 9,999, in four places. Every other year is refused.
     IsoYearFullStandardRange(modifier::IsoYearFullStandardRange),
-    /// The year of the week calendar without its last two digits, -9,999 to 9,999, in two places, or
-    /// a sign and all its digits.
+    /// The year of the week calendar without its last two digits, -9,999 to 9,999, in two places,
+    /// or a sign and all its digits.
     IsoYearCenturyExtendedRange(modifier::IsoYearCenturyExtendedRange),
     /// The year of the week calendar without its last two digits, -99 to 99, in two places. Every
     /// other one is refused.
     IsoYearCenturyStandardRange(modifier::IsoYearCenturyStandardRange),
-    /// The last two digits of the year of the week calendar, 0 to 99, in two places, without a sign.
+    /// The last two digits of the year of the week calendar, 0 to 99, in two places, unsigned.
     IsoYearLastTwo(modifier::IsoYearLastTwo),
     /// The hour of the 12-hour clock, 1 to 12, in two places.
     Hour12(modifier::Hour12),
@@ -82,9 +82,9 @@ pub enum Component {
     OffsetMinute(modifier::OffsetMinute),
     /// The second of the offset from UTC, 0 to 59, in two places, without a sign.
     OffsetSecond(modifier::OffsetSecond),
-    /// The whole seconds since 1970-01-01T00:00:00 UTC, rounded down, at most 14 digits.
+    /// The seconds since 1970-01-01T00:00:00 UTC, rounded down, at most 14 digits.
     UnixTimestampSecond(modifier::UnixTimestampSecond),
-    /// The whole milliseconds since 1970-01-01T00:00:00 UTC, rounded toward zero, at most 17 digits.
+    /// The milliseconds since 1970-01-01T00:00:00 UTC, rounded toward zero, at most 17 digits.
     UnixTimestampMillisecond(modifier::UnixTimestampMillisecond),
     /// Nothing: bytes that a parser passes over.
     Ignore(modifier::Ignore),

@@ -166,7 +166,7 @@ pub struct CalendarYearCenturyStandardRange {
     pub sign_is_mandatory: bool,
 }
 
-/// The last two digits of the year, 0 to 99, in two places, without a sign.
+/// The last two digits of the year, 0 to 99, in two places, unsigned.
 #[derive(Clone, Copy)]
 pub struct CalendarYearLastTwo {
     /// What stands before a number of one digit.
@@ -192,8 +192,8 @@ pub struct IsoYearFullStandardRange {
     pub sign_is_mandatory: bool,
 }
 
-/// The year of the week calendar without its last two digits, -9,999 to 9,999, in two places, or
-/// a sign and all its digits.
+/// The year of the week calendar without its last two digits, -9,999 to 9,999, in two places,
+/// or a sign and all its digits.
 #[derive(Clone, Copy)]
 pub struct IsoYearCenturyExtendedRange {
     /// What stands before a number of one digit.
@@ -212,7 +212,7 @@ pub struct IsoYearCenturyStandardRange {
     pub sign_is_mandatory: bool,
 }
 
-/// The last two digits of the year of the week calendar, 0 to 99, in two places, without a sign.
+/// The last two digits of the year of the week calendar, 0 to 99, in two places, unsigned.
 #[derive(Clone, Copy)]
 pub struct IsoYearLastTwo {
     /// What stands before a number of one digit.
@@ -286,14 +286,14 @@ pub struct OffsetSecond {
     pub padding: Padding,
 }
 
-/// The whole seconds since 1970-01-01T00:00:00 UTC, rounded down, at most 14 digits.
+/// The seconds since 1970-01-01T00:00:00 UTC, rounded down, at most 14 digits.
 #[derive(Clone, Copy)]
 pub struct UnixTimestampSecond {
     /// Whether a sign is also written where it is a plus.
     pub sign_is_mandatory: bool,
 }
 
-/// The whole milliseconds since 1970-01-01T00:00:00 UTC, rounded toward zero, at most 17 digits.
+/// The milliseconds since 1970-01-01T00:00:00 UTC, rounded toward zero, at most 17 digits.
 #[derive(Clone, Copy)]
 pub struct UnixTimestampMillisecond {
     /// Whether a sign is also written where it is a plus.
