@@ -2,8 +2,8 @@
 use Rattle.std.proofs.Common.{◌≡◌, ℕ, zero, suc, ◌+◌, ◌-◌, ◌*◌, ◌/◌, ◌%◌, ◌<◌, ◌≤◌, Bool, refl, sym, ap, ◌∙◌, arith, ℤ, pos, negsuc, ◌+ℤ◌, ◌-ℤ◌, ◌*ℤ◌, unsigned_abs, to_z-of_z}
 use Rattle.std.proofs.lemmas.Int.{ints}
 use Rattle.std.specs.Int.{int_div_euclid, int_rem_euclid}
-use Rattle.time_below.specs.Calendar.{OrdinalDate, day_number, weekday_of, date_at, thursday_of}
-use Rattle.time_below.specs.Moment.{utc_date, second_of_day}
+use Rattle.time_below.specs.Calendar.{OrdinalDate, day_number, weekday_of, date_at, thursday_of, days_before, greatest_year}
+use Rattle.time_below.specs.Moment.{utc_date, second_of_day, day_seconds, unix_day, seconds_before}
 
 -- the days of n years of the calendar that begin where 400 years begin
 abbrev pub days_of_years : ℕ → ℕ
@@ -15,8 +15,9 @@ past_days p =
     pos 365 *ℤ p +ℤ int_div_euclid p (pos 4) -ℤ int_div_euclid p (pos 100) +ℤ int_div_euclid p
     (pos 400)
 
+-- the days of the years that are past, moved to the start 1,000,000 years earlier
 past_days-shift : (p : ℤ) (n : ℕ) → p +ℤ pos 1_000_000 ≡ pos n
-    → past_days p +ℤ pos 365_242_500 ≡ pos (days_of_years n)
+    → past_days p +ℤ pos days_before ≡ pos (days_of_years n)
 past_days-shift (pos a) n e =
     let h : n ≡ a + 1_000_000 = omega (arith, ints) in
     rw h (omega (arith, ints))
@@ -24,19 +25,20 @@ past_days-shift (negsuc a) n e =
     let h : n + suc a ≡ 1_000_000 = omega (arith, ints) in
     omega (arith, ints)
 
-pub day_number_from_start : (d : OrdinalDate) (n : ℕ) → d.year +ℤ pos 999_999 ≡ pos n
-    → 1 ≤ d.ordinal → day_number d +ℤ pos 365_242_500 ≡ pos (days_of_years n + d.ordinal - 1)
+-- the day number of a date, by the days from the start
+pub day_number_from_start : (d : OrdinalDate) (n : ℕ) → d.year +ℤ pos greatest_year ≡ pos n
+    → 1 ≤ d.ordinal → day_number d +ℤ pos days_before ≡ pos (days_of_years n + d.ordinal - 1)
 day_number_from_start d n e one =
     omega (arith, ints, past_days-shift (d.year -ℤ pos 1) n (omega (arith, ints)))
 
 -- the days before the start are whole weeks
-pub weekday_from_start : (z : ℤ) (n : ℕ) → pos n ≡ z +ℤ pos 365_242_500
+pub weekday_from_start : (z : ℤ) (n : ℕ) → pos n ≡ z +ℤ pos days_before
     → unsigned_abs (int_rem_euclid z (pos 7)) ≡ n % 7
 weekday_from_start (pos a) n e =
-    let h : n ≡ a + 365_242_500 = omega (arith, ints) in
+    let h : n ≡ a + days_before = omega (arith, ints) in
     rw h (omega arith)
 weekday_from_start (negsuc a) n e =
-    let h : n + suc a ≡ 365_242_500 = omega (arith, ints) in
+    let h : n + suc a ≡ days_before = omega (arith, ints) in
     omega arith
 
 -- and whole cycles of 400 years
@@ -53,16 +55,18 @@ cycle-parts (negsuc a) n e =
 abbrev pub years_at : ℕ → ℕ
 years_at n = 100 * ((4 * n + 3) / 146_097) + ((4 * n + 3) % 146_097 / 4 * 4 + 3) / 1461
 
+-- the place of a day in its year, from 0
 abbrev pub place_at : ℕ → ℕ
 place_at n = ((4 * n + 3) % 146_097 / 4 * 4 + 3) % 1461 / 4
 
+-- equal parts make equal dates
 pub same_date : (y x : ℤ) (o p : ℕ) → y ≡ x → o ≡ p
     → ◌≡◌ {A = OrdinalDate} (record { year = y; ordinal = o }) (record { year = x; ordinal = p })
 same_date y x o p e f = rw (e, f) refl
 
 -- the date of a day number, by the days from the start
-pub date_at_shifted : (z : ℤ) (n : ℕ) → z +ℤ pos 365_242_500 ≡ pos n
-    → date_at z ≡ record { year = pos (years_at n) -ℤ pos 999_999; ordinal = place_at n + 1 }
+pub date_at_shifted : (z : ℤ) (n : ℕ) → z +ℤ pos days_before ≡ pos n
+    → date_at z ≡ record { year = pos (years_at n) -ℤ pos greatest_year; ordinal = place_at n + 1 }
 unfolding date_at
 date_at_shifted z n e =
     let parts = cycle-parts (pos 4 *ℤ z +ℤ pos 3) (4 * n + 3) (omega (arith, ints)) in
@@ -70,38 +74,42 @@ date_at_shifted z n e =
     omega arith in
     same_date _ _ _ _ (rw day (omega (arith, ints))) (rw day refl)
 
+-- the date of so many days from the start
 pub date_at_from_start : (n : ℕ)
-    → date_at (pos n -ℤ pos 365_242_500) ≡ record { year = pos (years_at n) -ℤ pos 999_999; ordinal = place_at n + 1 }
-date_at_from_start n = date_at_shifted (pos n -ℤ pos 365_242_500) n (omega (arith, ints))
+    → date_at (pos n -ℤ pos days_before) ≡ record { year = pos (years_at n) -ℤ pos greatest_year; ordinal = place_at n + 1 }
+date_at_from_start n = date_at_shifted (pos n -ℤ pos days_before) n (omega (arith, ints))
 
 -- the Thursday of the week, by the days from the start
-pub thursday_from_start : (d : OrdinalDate) (n : ℕ) → pos n ≡ day_number d +ℤ pos 365_242_500
-    → date_at (pos (n - n % 7 + 3) -ℤ pos 365_242_500) ≡ thursday_of d
+pub thursday_from_start : (d : OrdinalDate) (n : ℕ) → pos n ≡ day_number d +ℤ pos days_before
+    → date_at (pos (n - n % 7 + 3) -ℤ pos days_before) ≡ thursday_of d
 thursday_from_start d n e =
-    let same : pos (n - n % 7 + 3) -ℤ pos 365_242_500 ≡ day_number d +ℤ pos 3 -ℤ pos (weekday_of d) =
+    let same : pos (n - n % 7 + 3) -ℤ pos days_before ≡ day_number d +ℤ pos 3 -ℤ pos (weekday_of d) =
     omega (arith, ints, weekday_from_start (day_number d) n e) in
     ap date_at same
 
 pub ruleset thursday_facts = (thursday_from_start, to_z-of_z)
 
-pub utc_day : (s : ℤ) (n : ℕ) → s +ℤ pos 31_619_087_596_800 ≡ pos n
-    → pos (n / 86_400) -ℤ pos 365_242_500 ≡ int_div_euclid s (pos 86_400) +ℤ pos 719_162
+-- the UTC day of a second is that of the whole days from the start
+pub utc_day : (s : ℤ) (n : ℕ) → s +ℤ pos seconds_before ≡ pos n
+    → pos (n / day_seconds) -ℤ pos days_before ≡ int_div_euclid s (pos day_seconds) +ℤ pos unix_day
 utc_day (pos a) n e =
-    let h : n ≡ a + 31_619_087_596_800 = omega (arith, ints) in
+    let h : n ≡ a + seconds_before = omega (arith, ints) in
     omega (arith, ints)
 utc_day (negsuc a) n e =
-    let h : n + suc a ≡ 31_619_087_596_800 = omega (arith, ints) in
+    let h : n + suc a ≡ seconds_before = omega (arith, ints) in
     omega (arith, ints)
 
-pub utc_date_from_start : (s : ℤ) (n : ℕ) → s +ℤ pos 31_619_087_596_800 ≡ pos n
-    → date_at (pos (n / 86_400) -ℤ pos 365_242_500) ≡ utc_date s
+-- and so is its date
+pub utc_date_from_start : (s : ℤ) (n : ℕ) → s +ℤ pos seconds_before ≡ pos n
+    → date_at (pos (n / day_seconds) -ℤ pos days_before) ≡ utc_date s
 utc_date_from_start s n e = ap date_at (utc_day s n e)
 
-pub second_from_start : (s : ℤ) (n : ℕ) → s +ℤ pos 31_619_087_596_800 ≡ pos n
-    → second_of_day s ≡ n % 86_400
+-- the second of the UTC day is the rest of those days
+pub second_from_start : (s : ℤ) (n : ℕ) → s +ℤ pos seconds_before ≡ pos n
+    → second_of_day s ≡ n % day_seconds
 second_from_start (pos a) n e =
-    let h : n ≡ a + 31_619_087_596_800 = omega (arith, ints) in
+    let h : n ≡ a + seconds_before = omega (arith, ints) in
     rw h (omega arith)
 second_from_start (negsuc a) n e =
-    let h : n + suc a ≡ 31_619_087_596_800 = omega (arith, ints) in
+    let h : n + suc a ≡ seconds_before = omega (arith, ints) in
     omega arith

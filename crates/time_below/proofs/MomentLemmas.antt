@@ -2,66 +2,77 @@
 use Rattle.std.proofs.Common.{◌≡◌, ℕ, ◌+◌, ◌*◌, ◌/◌, ◌%◌, ◌<◌, refl, sym, ap, ◌∙◌, arith, ℤ, pos, negsuc, ◌+ℤ◌, ◌-ℤ◌, ◌*ℤ◌, unsigned_abs}
 use Rattle.std.proofs.lemmas.Int.{ints}
 use Rattle.std.specs.Int.{int_div_euclid}
-use Rattle.time_below.specs.Calendar.{OrdinalDate, IsDate, IsDayNumber, day_number, date_at}
+use Rattle.time_below.specs.Calendar.{OrdinalDate, IsDate, IsDayNumber, day_number, date_at, days_before, days_in_all}
 use Rattle.time_below.specs.TimeOfDay.{TimeOfDay, IsTimeOfDay, seconds_from_midnight, time_at}
 use Rattle.time_below.specs.Offset.{Offset, AreOffsetParts, IsOffset, offset_seconds}
-use Rattle.time_below.specs.Moment.{Moment, DateAndTime, OffsetDateAndTime, IsMoment, IsTimestampSecond, IsNearTimestampSecond, unix_seconds, local_unix_seconds, utc_date, utc_time, utc_date_and_time, second_of_day}
+use Rattle.time_below.specs.Moment.{Moment, DateAndTime, OffsetDateAndTime, IsMoment, IsTimestampSecond, IsNearTimestampSecond, unix_seconds, local_unix_seconds, utc_date, utc_time, utc_date_and_time, second_of_day, day_seconds, unix_day, seconds_before, seconds_in_all}
 use Rattle.time_below.proofs.CalendarLemmas.{utc_day, second_from_start}
 use Rattle.time_below.proofs.YearLemmas.{IsDayNumber-day_number, IsDate-date_at, date_at-day_number, day_number_back, days_from_start, days_before_end, is_day_number}
 
 -- the seconds from -999999-01-01
 
+-- a second of a timestamp is not before the start
 seconds_from_start : (s : ℤ) → IsTimestampSecond s
-    → s +ℤ pos 31_619_087_596_800 ≡ pos (unsigned_abs (s +ℤ pos 31_619_087_596_800))
+    → s +ℤ pos seconds_before ≡ pos (unsigned_abs (s +ℤ pos seconds_before))
 seconds_from_start (pos a) h = refl
 seconds_from_start (negsuc a) h = omega (arith, ints)
 
-seconds_before_end : (s : ℤ) (n : ℕ) → IsTimestampSecond s → s +ℤ pos 31_619_087_596_800 ≡ pos n
-    → n < 63_113_872_377_600
+-- nor after the end
+seconds_before_end : (s : ℤ) (n : ℕ) → IsTimestampSecond s → s +ℤ pos seconds_before ≡ pos n
+    → n < seconds_in_all
 seconds_before_end s n h e = omega (arith, ints)
 
 -- the day number of a second
 abbrev day_of_second : ℤ → ℤ
-day_of_second s = int_div_euclid s (pos 86_400) +ℤ pos 719_162
+day_of_second s = int_div_euclid s (pos day_seconds) +ℤ pos unix_day
 
-day_shifted : (z : ℤ) (n : ℕ) → pos n -ℤ pos 365_242_500 ≡ z → z +ℤ pos 365_242_500 ≡ pos n
+-- a day number, moved to the start
+day_shifted : (z : ℤ) (n : ℕ) → pos n -ℤ pos days_before ≡ z → z +ℤ pos days_before ≡ pos n
 day_shifted z n e = omega (arith, ints)
 
+-- the day of a second is one of the calendar
 day_within : (s : ℤ) → IsTimestampSecond s → IsDayNumber (day_of_second s)
 day_within s h =
-    let n = unsigned_abs (s +ℤ pos 31_619_087_596_800) in
+    let n = unsigned_abs (s +ℤ pos seconds_before) in
     let e = seconds_from_start s h in
-    is_day_number (day_of_second s) (n / 86_400) (day_shifted _ (n / 86_400) (utc_day s n e))
+    is_day_number (day_of_second s) (n / day_seconds) (day_shifted _ (n / day_seconds) (utc_day s n e))
     (omega (arith, seconds_before_end s n h e))
 
+-- the UTC date of a moment is one of the calendar
 pub IsDate-utc_date : (m : Moment) → IsMoment m → IsDate (utc_date m.seconds)
 IsDate-utc_date m h = IsDate-date_at (day_of_second m.seconds) (day_within m.seconds h.0)
 
-time_within : (passed nanosecond : ℕ) → passed < 86_400 → nanosecond < 1_000_000_000
+-- a second of a day is a time of day
+time_within : (passed nanosecond : ℕ) → passed < day_seconds → nanosecond < 1_000_000_000
     → IsTimeOfDay (time_at passed nanosecond)
 time_within passed nanosecond h k = (omega arith, omega arith, omega arith, k)
 
-second_within : (s : ℤ) → IsTimestampSecond s → second_of_day s < 86_400
+-- a second lies in its day
+second_within : (s : ℤ) → IsTimestampSecond s → second_of_day s < day_seconds
 second_within s h =
-    let n = unsigned_abs (s +ℤ pos 31_619_087_596_800) in
+    let n = unsigned_abs (s +ℤ pos seconds_before) in
     omega (arith, second_from_start s n (seconds_from_start s h))
 
+-- the UTC time of a moment is a time of day
 pub IsTimeOfDay-utc_time : (m : Moment) → IsMoment m → IsTimeOfDay (utc_time m)
 IsTimeOfDay-utc_time m h =
     time_within (second_of_day m.seconds) m.nanosecond (second_within m.seconds h.0) h.1
 
+-- the seconds from midnight to the time so many seconds after it
 seconds_of_time_at : (passed nanosecond : ℕ)
     → seconds_from_midnight (time_at passed nanosecond) ≡ passed
 seconds_of_time_at passed nanosecond = omega arith
 
-joined : (s d z : ℤ) (n r p : ℕ) → s +ℤ pos 31_619_087_596_800 ≡ pos n → d ≡ z
-    → pos (n / 86_400) -ℤ pos 365_242_500 ≡ z → r ≡ n % 86_400 → p ≡ r
-    → (d -ℤ pos 719_162) *ℤ pos 86_400 +ℤ pos p ≡ s
+-- whole days and the second of the day make the second again
+joined : (s d z : ℤ) (n r p : ℕ) → s +ℤ pos seconds_before ≡ pos n → d ≡ z
+    → pos (n / day_seconds) -ℤ pos days_before ≡ z → r ≡ n % day_seconds → p ≡ r
+    → (d -ℤ pos unix_day) *ℤ pos day_seconds +ℤ pos p ≡ s
 joined s d z n r p e same day rest parts = omega (arith, ints)
 
+-- the UTC date and time of a moment have its seconds
 pub unix_seconds-utc : (m : Moment) → IsMoment m → unix_seconds (utc_date_and_time m) ≡ m.seconds
 unix_seconds-utc m h =
-    let n = unsigned_abs (m.seconds +ℤ pos 31_619_087_596_800) in
+    let n = unsigned_abs (m.seconds +ℤ pos seconds_before) in
     let e = seconds_from_start m.seconds h.0 in
     joined m.seconds (day_number (utc_date m.seconds)) (day_of_second m.seconds) n
     (second_of_day m.seconds) _ e
@@ -72,43 +83,51 @@ unix_seconds-utc m h =
 
 -- a date and a time in UTC have one moment
 
-parts_of : (k p : ℕ) → p < 86_400
-    → ((k * 86_400 + p) / 86_400 ≡ k) × ((k * 86_400 + p) % 86_400 ≡ p)
+-- whole days and the second of a day, taken apart again
+parts_of : (k p : ℕ) → p < day_seconds
+    → ((k * day_seconds + p) / day_seconds ≡ k) × ((k * day_seconds + p) % day_seconds ≡ p)
 parts_of k p h = (omega arith, omega arith)
 
+-- equal parts make equal times
 same_time : (h a m b s c n : ℕ) → h ≡ a → m ≡ b → s ≡ c
     → ◌≡◌ {A = TimeOfDay} (record { hour = h; minute = m; second = s; nanosecond = n }) (record { hour = a; minute = b; second = c; nanosecond = n })
 same_time h a m b s c n hours minutes seconds = rw (hours, minutes, seconds) refl
 
+-- a time is the one so many seconds after midnight
 time_at-seconds_from_midnight : (t : TimeOfDay) → IsTimeOfDay t
     → time_at (seconds_from_midnight t) t.nanosecond ≡ t
 time_at-seconds_from_midnight t h =
     same_time _ t.hour _ t.minute _ t.second t.nanosecond (omega arith) (omega arith) (omega arith)
 
-within_day : (t : TimeOfDay) → IsTimeOfDay t → seconds_from_midnight t < 86_400
+-- a time of day ends within its day
+within_day : (t : TimeOfDay) → IsTimeOfDay t → seconds_from_midnight t < day_seconds
 within_day t h = omega arith
 
-unix_shifted : (d : ℤ) (k p : ℕ) → d +ℤ pos 365_242_500 ≡ pos k
-    → (d -ℤ pos 719_162) *ℤ pos 86_400 +ℤ pos p +ℤ pos 31_619_087_596_800 ≡ pos (k * 86_400 + p)
+-- the seconds of a day and a time, counted from the start
+unix_shifted : (d : ℤ) (k p : ℕ) → d +ℤ pos days_before ≡ pos k
+    → (d -ℤ pos unix_day) *ℤ pos day_seconds +ℤ pos p +ℤ pos seconds_before ≡ pos (k * day_seconds + p)
 unix_shifted d k p e = omega (arith, ints)
 
-is_timestamp_second : (s : ℤ) (k p : ℕ) → s +ℤ pos 31_619_087_596_800 ≡ pos (k * 86_400 + p)
-    → k < 730_484_634 → p < 86_400 → IsTimestampSecond s
+-- days and seconds within the calendar make a second of a timestamp
+is_timestamp_second : (s : ℤ) (k p : ℕ) → s +ℤ pos seconds_before ≡ pos (k * day_seconds + p)
+    → k < days_in_all → p < day_seconds → IsTimestampSecond s
 is_timestamp_second s k p e h r = (omega (arith, ints), omega (arith, ints))
 
+-- the seconds of a date and a time in UTC are those of a timestamp
 pub IsTimestampSecond-unix_seconds : (t : DateAndTime) → IsDate t.date → IsTimeOfDay t.time
     → IsTimestampSecond (unix_seconds t)
 IsTimestampSecond-unix_seconds t h r =
     let d = day_number t.date in
     let number = IsDayNumber-day_number t.date h in
-    let k = unsigned_abs (d +ℤ pos 365_242_500) in
+    let k = unsigned_abs (d +ℤ pos days_before) in
     let e = days_from_start d number in
     let p = seconds_from_midnight t.time in
     is_timestamp_second (unix_seconds t) k p (unix_shifted d k p e) (days_before_end d k number e)
     (within_day t.time r)
 
-same_day : (z d : ℤ) (n k : ℕ) → pos n -ℤ pos 365_242_500 ≡ z → n ≡ k
-    → d +ℤ pos 365_242_500 ≡ pos k → z ≡ d
+-- one count from the start is one day
+same_day : (z d : ℤ) (n k : ℕ) → pos n -ℤ pos days_before ≡ z → n ≡ k
+    → d +ℤ pos days_before ≡ pos k → z ≡ d
 same_day z d n k e same f = omega (arith, ints)
 
 -- the day and the second of the day of a date and a time
@@ -116,19 +135,21 @@ day_back : (t : DateAndTime) → IsDate t.date → IsTimeOfDay t.time
     → (utc_date (unix_seconds t) ≡ t.date) × (second_of_day (unix_seconds t) ≡ seconds_from_midnight t.time)
 day_back t h r =
     let d = day_number t.date in
-    let k = unsigned_abs (d +ℤ pos 365_242_500) in
+    let k = unsigned_abs (d +ℤ pos days_before) in
     let e = days_from_start d (IsDayNumber-day_number t.date h) in
     let p = seconds_from_midnight t.time in
     let shifted = unix_shifted d k p e in
     let parts = parts_of k p (within_day t.time r) in
     let same =
-    same_day (day_of_second (unix_seconds t)) d _ k (utc_day (unix_seconds t) (k * 86_400 + p) shifted) parts.0 e in
-    (ap date_at same ∙ date_at-day_number t.date h, second_from_start (unix_seconds t) (k * 86_400 + p) shifted ∙ parts.1)
+    same_day (day_of_second (unix_seconds t)) d _ k (utc_day (unix_seconds t) (k * day_seconds + p) shifted) parts.0 e in
+    (ap date_at same ∙ date_at-day_number t.date h, second_from_start (unix_seconds t) (k * day_seconds + p) shifted ∙ parts.1)
 
+-- equal parts make equal dates with times
 same_date_and_time : (d e : OrdinalDate) (t u : TimeOfDay) → d ≡ e → t ≡ u
     → ◌≡◌ {A = DateAndTime} (record { date = d; time = t }) (record { date = e; time = u })
 same_date_and_time d e t u same alike = rw (same, alike) refl
 
+-- the UTC date and time of a moment are the only ones that have its seconds
 pub only_utc : (m : Moment) (t : DateAndTime) → IsDate t.date → IsTimeOfDay t.time
     → unix_seconds t ≡ m.seconds → t.time.nanosecond ≡ m.nanosecond → t ≡ utc_date_and_time m
 only_utc m t h r seconds nanosecond =
@@ -143,13 +164,16 @@ only_utc m t h r seconds nanosecond =
 
 -- a local date and time
 
+-- an offset is less than 26 hours
 offset_within : (o : Offset) → AreOffsetParts o.hours o.minutes o.seconds
     → unsigned_abs (offset_seconds o) < 93_600
 offset_within o h = omega (arith, ints)
 
-near : (s o : ℤ) → IsTimestampSecond s → unsigned_abs o < 93_600 → IsNearTimestampSecond (s -ℤ o)
+-- less than 26 hours from a second of a timestamp
+pub near : (s o : ℤ) → IsTimestampSecond s → unsigned_abs o < 93_600 → IsNearTimestampSecond (s -ℤ o)
 near s o h k = (omega (arith, ints), omega (arith, ints))
 
+-- the seconds of a local date and time are less than 26 hours outside the range
 pub IsNearTimestampSecond-local_unix_seconds : (t : OffsetDateAndTime) → IsDate t.date
     → IsTimeOfDay t.time → IsOffset t.offset → IsNearTimestampSecond (local_unix_seconds t)
 IsNearTimestampSecond-local_unix_seconds t h r o =

@@ -3,12 +3,15 @@ use Rattle.std.proofs.Common.{◌≡◌, ℕ, ◌+◌, ◌-◌, ◌*◌, ◌/◌
 use Rattle.time_below.specs.Calendar.{days_of_months, last_begun}
 use Rattle.time_below.proofs.MonthLemmas.{same_below, day_in_month, month_length}
 
+-- the month of the days from its first, from 1 January or from 1 March
 abbrev pub month_by_product : ℕ → ℕ
 month_by_product days = (days * 268 + 8031) / 8192
 
+-- the days before a month, counted the same way
 abbrev pub days_by_product : ℕ → ℕ
 days_by_product month = (month * 3917 - 3866) / 128
 
+-- from March on the product finds the month
 late_month : (is_leap : Bool) (days : ℕ) → days < 307
     → last_begun is_leap 12 (days + (if is_leap then 60 else 59)) ≡ month_by_product days + 2
 unfolding last_begun days_of_months
@@ -17,12 +20,14 @@ late_month true days h =
 late_month false days h =
     same_below (λ d. last_begun false 12 (d + 59)) (λ d. month_by_product d + 2) 307 refl days h
 
+-- so it does in January and February
 pub early_month : (is_leap : Bool) (days : ℕ) → days < (if is_leap then 61 else 60)
     → last_begun is_leap 12 days ≡ month_by_product days
 unfolding last_begun days_of_months
 early_month true days h = same_below (last_begun true 12) month_by_product 61 refl days h
 early_month false days h = same_below (last_begun false 12) month_by_product 60 refl days h
 
+-- and the days before a month, from March on
 late_days : (is_leap : Bool) (month : ℕ) → month < 10
     → days_of_months is_leap (month + 2) ≡ (if is_leap then 60 else 59) + days_by_product (month + 1)
 unfolding days_of_months
@@ -31,6 +36,7 @@ late_days true month h =
 late_days false month h =
     same_below (λ m. days_of_months false (m + 2)) (λ m. 59 + days_by_product (m + 1)) 10 refl month h
 
+-- and before January and February
 pub early_days : (is_leap : Bool) (month : ℕ) → month < 2
     → days_of_months is_leap month ≡ days_by_product (month + 1)
 unfolding days_of_months
@@ -48,6 +54,7 @@ late_begun false ordinal after within =
     let e : ordinal - 59 + 59 ≡ ordinal = omega arith in
     rw e at (late_month false (ordinal - 59) (omega arith))
 
+-- the days before a month from March on, the month counted from January
 pub late_passed : (is_leap : Bool) (month : ℕ) → 1 ≤ month → month ≤ 10
     → days_of_months is_leap (month + 2 - 1) ≡ (if is_leap then 60 else 59) + days_by_product month
 late_passed is_leap month first last =

@@ -2,7 +2,7 @@
 use Rattle.std.proofs.Common.{◌≡◌, ℕ, ◌+◌, ◌-◌, ◌/◌, ◌%◌, ◌≤◌, sym, ap, ◌∙◌, arith, ℤ, pos, ◌+ℤ◌, ◌-ℤ◌, unsigned_abs}
 use Rattle.std.proofs.lemmas.Int.{ints}
 use Rattle.std.specs.Int.{IsInRange, int_rem_euclid}
-use Rattle.time_below.specs.Calendar.{OrdinalDate, IsDate, IsYear, IsDayNumber, day_number, weekday_of, thursday_of, iso_year_of, iso_week_of}
+use Rattle.time_below.specs.Calendar.{OrdinalDate, IsDate, IsYear, IsDayNumber, day_number, weekday_of, thursday_of, iso_year_of, iso_week_of, days_before, greatest_year}
 use Rattle.time_below.proofs.CalendarLemmas.{days_of_years, day_number_from_start, weekday_from_start}
 use Rattle.time_below.proofs.YearLemmas.{years_from_start, days_from_start, days_before_end, is_day_number, IsDayNumber-day_number, IsDate-date_at, day_number_back, same_day_number}
 
@@ -10,29 +10,34 @@ use Rattle.time_below.proofs.YearLemmas.{years_from_start, days_from_start, days
 abbrev thursday_number : ℤ → ℤ
 thursday_number z = z +ℤ pos 3 -ℤ pos (unsigned_abs (int_rem_euclid z (pos 7)))
 
-thursday_shifted : (z : ℤ) (n : ℕ) → z +ℤ pos 365_242_500 ≡ pos n
-    → thursday_number z +ℤ pos 365_242_500 ≡ pos (n - n % 7 + 3)
+-- the Thursday of a week, by the days from the start
+thursday_shifted : (z : ℤ) (n : ℕ) → z +ℤ pos days_before ≡ pos n
+    → thursday_number z +ℤ pos days_before ≡ pos (n - n % 7 + 3)
 thursday_shifted z n e = omega (arith, ints, weekday_from_start z n (sym e))
 
 -- the Thursday of the first week and that of the last are in range
 thursday_within : (z : ℤ) → IsDayNumber z → IsDayNumber (thursday_number z)
 thursday_within z h =
-    let n = unsigned_abs (z +ℤ pos 365_242_500) in
+    let n = unsigned_abs (z +ℤ pos days_before) in
     let e = days_from_start z h in
     is_day_number (thursday_number z) (n - n % 7 + 3) (thursday_shifted z n e)
     (omega (arith, days_before_end z n h e))
 
+-- the Thursday of the week of a date is one of the calendar
 IsDate-thursday_of : (d : OrdinalDate) → IsDate d → IsDate (thursday_of d)
 IsDate-thursday_of d h =
     IsDate-date_at (thursday_number (day_number d))
     (thursday_within (day_number d) (IsDayNumber-day_number d h))
 
+-- the year of the week calendar is one of the calendar
 pub iso_year_of_date : (d : OrdinalDate) → IsDate d → IsYear (iso_year_of d)
 iso_year_of_date d h = (IsDate-thursday_of d h).0
 
+-- a day of the year lies in one of 53 weeks
 week_of_ordinal : (d : OrdinalDate) → IsDate d → IsInRange 1 53 ((d.ordinal - 1) / 7 + 1)
 week_of_ordinal d h = (omega arith, grind arith)
 
+-- the week of the week calendar is 1 to 53
 pub iso_week_of_date : (d : OrdinalDate) → IsDate d → IsInRange 1 53 (iso_week_of d)
 iso_week_of_date d h = week_of_ordinal (thursday_of d) (IsDate-thursday_of d h)
 
@@ -44,31 +49,34 @@ same_week : (m n o p a b : ℕ) → m ≡ n → (o - 1) / 7 + 1 ≡ (p - 1) / 7 
     → a ≡ b
 same_week m n o p a b year week one two day first second = omega (arith, ap days_of_years year)
 
-same_number : (y z : ℤ) (a b : ℕ) → y +ℤ pos 365_242_500 ≡ pos a → z +ℤ pos 365_242_500 ≡ pos b
+-- one count from the start is one day number
+same_number : (y z : ℤ) (a b : ℕ) → y +ℤ pos days_before ≡ pos a → z +ℤ pos days_before ≡ pos b
     → a ≡ b → y ≡ z
 same_number y z a b p q e = omega (arith, ints)
 
+-- equal numbers as integers are equal
 same_pos : (a b : ℕ) → pos a ≡ pos b → a ≡ b
 same_pos a b e = ap unsigned_abs e
 
 -- the Thursday of a day, counted from the start both ways
 thursday_counted : (d : OrdinalDate) (n m : ℕ) → IsDate d
-    → day_number d +ℤ pos 365_242_500 ≡ pos n → (thursday_of d).year +ℤ pos 999_999 ≡ pos m
+    → day_number d +ℤ pos days_before ≡ pos n → (thursday_of d).year +ℤ pos greatest_year ≡ pos m
     → n - n % 7 + 3 ≡ days_of_years m + (thursday_of d).ordinal - 1
 thursday_counted d n m h e y =
     let back =
     day_number_back (thursday_number (day_number d)) (thursday_within (day_number d) (IsDayNumber-day_number d h)) in
     let there = day_number_from_start (thursday_of d) m y (IsDate-thursday_of d h).1.0 in
     same_pos _ _
-    (sym (thursday_shifted (day_number d) n e) ∙ sym (ap (λ z. z +ℤ pos 365_242_500) back) ∙ there)
+    (sym (thursday_shifted (day_number d) n e) ∙ sym (ap (λ z. z +ℤ pos days_before) back) ∙ there)
 
+-- one year, week and weekday of the week calendar is one date
 pub same_week_day : (d e : OrdinalDate) → IsDate d → IsDate e → iso_year_of d ≡ iso_year_of e
     → iso_week_of d ≡ iso_week_of e → weekday_of d ≡ weekday_of e → d ≡ e
 same_week_day d e h k year week day =
-    let a = unsigned_abs (day_number d +ℤ pos 365_242_500) in
-    let b = unsigned_abs (day_number e +ℤ pos 365_242_500) in
-    let m = unsigned_abs ((thursday_of d).year +ℤ pos 999_999) in
-    let n = unsigned_abs ((thursday_of e).year +ℤ pos 999_999) in
+    let a = unsigned_abs (day_number d +ℤ pos days_before) in
+    let b = unsigned_abs (day_number e +ℤ pos days_before) in
+    let m = unsigned_abs ((thursday_of d).year +ℤ pos greatest_year) in
+    let n = unsigned_abs ((thursday_of e).year +ℤ pos greatest_year) in
     let p = days_from_start (day_number d) (IsDayNumber-day_number d h) in
     let q = days_from_start (day_number e) (IsDayNumber-day_number e k) in
     let u = years_from_start (thursday_of d).year (IsDate-thursday_of d h).0 in
@@ -79,7 +87,7 @@ same_week_day d e h k year week day =
     ∙ weekday_from_start (day_number e) b (sym q) in
     let same : a ≡ b =
     same_week m n (thursday_of d).ordinal (thursday_of e).ordinal a b
-    (ap (λ y. unsigned_abs (y +ℤ pos 999_999)) year) week
+    (ap (λ y. unsigned_abs (y +ℤ pos greatest_year)) year) week
     (IsDate-thursday_of d h).1.0
     (IsDate-thursday_of e k).1.0
     rests

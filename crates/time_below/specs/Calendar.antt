@@ -7,11 +7,24 @@ pub record OrdinalDate : Type 0 where
   pub year : ℤ
   pub ordinal : ℕ
 
+-- the greatest size of a year that a date may have
+abbrev pub greatest_year : ℕ
+greatest_year = 999_999
+
+-- the days of the years -999,999 to 0, which are 2,500 times 400 years and whole weeks
+abbrev pub days_before : ℕ
+days_before = 365_242_500
+
+-- the days of the years -999,999 to 999,999
+abbrev pub days_in_all : ℕ
+days_in_all = 730_484_634
+
 -- divisible by 4 and not by 100, or by 400
 abbrev pub is_leap_year : ℤ → Bool
 is_leap_year y =
     (unsigned_abs y % 4 == 0) && not (unsigned_abs y % 100 == 0) || (unsigned_abs y % 400 == 0)
 
+-- a leap year has one day more
 abbrev pub days_in_year : ℤ → ℕ
 days_in_year y = if is_leap_year y then 366 else 365
 
@@ -34,7 +47,7 @@ last_begun is_leap (suc m) ordinal =
 
 -- a year that a date may have
 abbrev pub IsYear : ℤ → Type 0
-IsYear y = unsigned_abs y ≤ 999_999
+IsYear y = unsigned_abs y ≤ greatest_year
 
 -- a date that the calendar has
 abbrev pub IsDate : OrdinalDate → Type 0
@@ -53,7 +66,7 @@ day_number d = days_before_year d.year +ℤ pos d.ordinal -ℤ pos 1
 
 -- the day number of a date: from -999999-01-01 to 999999-12-31
 abbrev pub IsDayNumber : ℤ → Type 0
-IsDayNumber n = (neg_ℤ (pos 365_242_500) ≤ℤ n) × (n ≤ℤ pos 365_242_133)
+IsDayNumber n = (neg_ℤ (pos days_before) ≤ℤ n) × (n ≤ℤ pos 365_242_133)
 
 -- the date of a day number: 400 years have 146,097 days, four years 1461. Laws pin it down: each date is
 -- the one of its day number, and each day number that of its date

@@ -7,11 +7,14 @@ pub record RangeRefusal : Type 0 where
   pub name : List ℕ
   pub is_conditional : Bool
 
+-- outside the range that the other components set
 abbrev pub conditional_range : List ℕ → RangeRefusal
 conditional_range name = record { name = name; is_conditional = true }
 
+-- outside its range whatever the others are
 abbrev pub unconditional_range : List ℕ → RangeRefusal
 unconditional_range name = record { name = name; is_conditional = false }
 
+-- what a refusal says
 abbrev pub range_refusal : ComponentRange → RangeRefusal
 range_refusal e = record { name = e.name.now; is_conditional = e.is_conditional }

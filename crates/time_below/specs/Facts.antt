@@ -1,9 +1,9 @@
--- What a value supplies to a description.
+-- What the values of each type supply to a description.
 use Rattle.std.specs.Prelude.{ℕ, ℤ, Option, Some, None}
 use Rattle.time_below.specs.Calendar.{OrdinalDate, month_of, day_of, weekday_of, iso_year_of, iso_week_of, monday_based_week_of, sunday_based_week_of}
 use Rattle.time_below.specs.TimeOfDay.{TimeOfDay}
-use Rattle.time_below.specs.Offset.{Offset}
-use Rattle.time_below.specs.Moment.{Moment}
+use Rattle.time_below.specs.Offset.{Offset, utc}
+use Rattle.time_below.specs.Moment.{Moment, DateAndTime, OffsetDateAndTime, unix_seconds, local_unix_seconds, utc_date, utc_time}
 
 -- the components of a date: the weekday as days from Monday, the weeks of a year of each kind
 pub record DateFacts : Type 0 where
@@ -38,9 +38,49 @@ pub record Facts : Type 0 where
   pub offset : Option Offset
   pub stamp : Option Moment
 
--- the facts of a value that has no other group than these
+-- a date alone
 abbrev pub facts_of_date : OrdinalDate → Facts
 facts_of_date d = record { date = Some (date_facts d); time = None; offset = None; stamp = None }
 
+-- a time of day alone
 abbrev pub facts_of_time : TimeOfDay → Facts
 facts_of_time t = record { date = None; time = Some t; offset = None; stamp = None }
+
+-- a date and a time of no place in particular
+abbrev pub facts_of_plain_date_time : DateAndTime → Facts
+facts_of_plain_date_time v =
+    record { date = Some (date_facts v.date); time = Some v.time; offset = None; stamp = None }
+
+-- an offset alone
+abbrev pub facts_of_offset : Offset → Facts
+facts_of_offset o = record { date = None; time = None; offset = Some o; stamp = None }
+
+-- a date and a time in UTC: the moment counts the nanosecond of the time forward from the seconds
+abbrev pub facts_of_utc_date_time : DateAndTime → Facts
+facts_of_utc_date_time v =
+    record {
+      date = Some (date_facts v.date);
+      time = Some v.time;
+      offset = Some utc;
+      stamp = Some (record { seconds = unix_seconds v; nanosecond = v.time.nanosecond });
+    }
+
+-- the local date and time as given, their offset and the moment
+abbrev pub facts_of_offset_date_time : OffsetDateAndTime → Facts
+facts_of_offset_date_time v =
+    record {
+      date = Some (date_facts v.date);
+      time = Some v.time;
+      offset = Some v.offset;
+      stamp = Some (record { seconds = local_unix_seconds v; nanosecond = v.time.nanosecond });
+    }
+
+-- a moment, with its date and time in UTC
+abbrev pub facts_of_timestamp : Moment → Facts
+facts_of_timestamp m =
+    record {
+      date = Some (date_facts (utc_date m.seconds));
+      time = Some (utc_time m);
+      offset = Some utc;
+      stamp = Some m;
+    }

@@ -5,7 +5,23 @@ use Rattle.time_below.specs.Calendar.{OrdinalDate, day_number, date_at}
 use Rattle.time_below.specs.TimeOfDay.{TimeOfDay, seconds_from_midnight, time_at}
 use Rattle.time_below.specs.Offset.{Offset, offset_seconds}
 
--- the seconds since then, and the nanosecond counted forward from there
+-- the seconds of a day
+abbrev pub day_seconds : ℕ
+day_seconds = 86_400
+
+-- the day number of 1970-01-01
+abbrev pub unix_day : ℕ
+unix_day = 719_162
+
+-- the seconds from -999999-01-01T00:00:00 to 1970
+abbrev pub seconds_before : ℕ
+seconds_before = 31_619_087_596_800
+
+-- the seconds of the years -999,999 to 999,999
+abbrev pub seconds_in_all : ℕ
+seconds_in_all = 63_113_872_377_600
+
+-- the seconds since 1970, and the nanosecond counted forward from there
 pub record Moment : Type 0 where
   pub seconds : ℤ
   pub nanosecond : ℕ
@@ -23,7 +39,7 @@ pub record OffsetDateAndTime : Type 0 where
 
 -- from -999999-01-01T00:00:00 to 999999-12-31T23:59:59
 abbrev pub IsTimestampSecond : ℤ → Type 0
-IsTimestampSecond s = (neg_ℤ (pos 31_619_087_596_800) ≤ℤ s) × (s ≤ℤ pos 31_494_784_780_799)
+IsTimestampSecond s = (neg_ℤ (pos seconds_before) ≤ℤ s) × (s ≤ℤ pos 31_494_784_780_799)
 
 -- less than 26 hours outside that range, as a local date and time may be
 abbrev pub IsNearTimestampSecond : ℤ → Type 0
@@ -33,10 +49,14 @@ IsNearTimestampSecond s = (neg_ℤ (pos 31_619_087_690_400) <ℤ s) × (s <ℤ p
 abbrev pub IsMoment : Moment → Type 0
 IsMoment m = IsTimestampSecond m.seconds × (m.nanosecond < 1_000_000_000)
 
--- the seconds from 1970-01-01, which is day 719,162, to a date and time, both in UTC
+-- a moment that a local date and time may have
+abbrev pub IsNearMoment : Moment → Type 0
+IsNearMoment m = IsNearTimestampSecond m.seconds × (m.nanosecond < 1_000_000_000)
+
+-- the seconds from 1970-01-01 to a date and time, both in UTC
 abbrev pub unix_seconds : DateAndTime → ℤ
 unix_seconds t =
-    (day_number t.date -ℤ pos 719_162) *ℤ pos 86_400 +ℤ pos (seconds_from_midnight t.time)
+    (day_number t.date -ℤ pos unix_day) *ℤ pos day_seconds +ℤ pos (seconds_from_midnight t.time)
 
 -- the same of a local date and time: a place with a positive offset is ahead of UTC
 abbrev pub local_unix_seconds : OffsetDateAndTime → ℤ
@@ -45,11 +65,11 @@ local_unix_seconds t =
 
 -- the UTC date of so many seconds since 1970-01-01
 abbrev pub utc_date : ℤ → OrdinalDate
-utc_date seconds = date_at (int_div_euclid seconds (pos 86_400) +ℤ pos 719_162)
+utc_date seconds = date_at (int_div_euclid seconds (pos day_seconds) +ℤ pos unix_day)
 
 -- how far into the UTC day they end
 abbrev pub second_of_day : ℤ → ℕ
-second_of_day seconds = unsigned_abs (int_rem_euclid seconds (pos 86_400))
+second_of_day seconds = unsigned_abs (int_rem_euclid seconds (pos day_seconds))
 
 -- the UTC time of a moment
 abbrev pub utc_time : Moment → TimeOfDay

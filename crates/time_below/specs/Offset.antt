@@ -1,5 +1,5 @@
 -- The offset of local time from UTC (ISO 8601-1:2019, 4.3.13).
-use Rattle.std.specs.Prelude.{ℤ, ◌≤◌, pos, neg_ℤ, ◌+ℤ◌, ◌*ℤ◌, ◌<ℤ◌, ◌≤ℤ◌, unsigned_abs, int_lt, if◌then◌else◌, Bool, ◌||◌, ◌&&◌, ◌==◌}
+use Rattle.std.specs.Prelude.{◌≡◌, ℤ, ◌≤◌, pos, neg_ℤ, ◌+ℤ◌, ◌*ℤ◌, ◌<ℤ◌, ◌≤ℤ◌, unsigned_abs, int_lt, if◌then◌else◌, Bool, ◌||◌, ◌&&◌, ◌==◌}
 
 -- its parts, which never have two signs
 pub record Offset : Type 0 where
@@ -32,6 +32,19 @@ signed_like lead x =
 abbrev pub settled : ℤ → ℤ → ℤ → Offset
 settled h m s =
     record { hours = h; minutes = signed_like h m; seconds = signed_like h (signed_like m s) }
+
+-- what three parts become whose signs may differ: each keeps its size, the first that is not zero keeps
+-- its sign, and none has the other sign
+pub record Settles (h m s : ℤ) (o : Offset) : Type 0 where
+  pub hours_size : unsigned_abs o.hours ≡ unsigned_abs h
+  pub minutes_size : unsigned_abs o.minutes ≡ unsigned_abs m
+  pub seconds_size : unsigned_abs o.seconds ≡ unsigned_abs s
+  pub hours_kept : o.hours ≡ h
+  pub minutes_kept : h ≡ pos 0 → o.minutes ≡ m
+  pub seconds_kept : h ≡ pos 0 → m ≡ pos 0 → o.seconds ≡ s
+  pub minutes_like_hours : HasNoOtherSign o.hours o.minutes
+  pub seconds_like_hours : HasNoOtherSign o.hours o.seconds
+  pub seconds_like_minutes : HasNoOtherSign o.minutes o.seconds
 
 -- some part is below zero
 abbrev pub is_negative : Offset → Bool

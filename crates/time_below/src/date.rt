@@ -1,21 +1,37 @@
 //! The dates of the calendar.
-ghost use Rattle.std.specs.Prelude.{◌≡◌, ◌↔◌, ◌+◌, ◌<◌, ◌≤◌, ◌^◌, nat_le, IsOk, IfOk, IfErr, codes, if◌then◌else◌, pos, ◌+ℤ◌, ◌-ℤ◌, ◌*ℤ◌, unsigned_abs};
+ghost use Rattle.std.specs.Prelude.{◌≡◌, ◌↔◌, ◌+◌, ◌<◌, ◌≤◌, ◌^◌, nat_le, IsTrue, IsOk, IfOk, IfErr, codes, if◌then◌else◌, pos, ◌+ℤ◌, ◌-ℤ◌, ◌*ℤ◌, unsigned_abs};
 ghost use Rattle.std.specs.Int.{IsInRange};
-ghost use Rattle.time_below.specs.Calendar.{IsYear, IsDate, IsDayOfMonth, month_of, day_of, date_of, day_number, date_at, weekday_of, iso_year_of, iso_week_of, monday_based_week_of, sunday_based_week_of};
+ghost use Rattle.time_below.specs.Calendar.{greatest_year, IsYear, IsDate, IsDayOfMonth, month_of, day_of, date_of, day_number, date_at, weekday_of, iso_year_of, iso_week_of, monday_based_week_of, sunday_based_week_of};
 ghost use Rattle.time_below.specs.ComponentRange.{range_refusal, conditional_range, unconditional_range};
+ghost use Rattle.time_below.specs.Moment.{day_seconds, unix_day};
 ghost use Rattle.time_below.specs.Month.{month_number};
 ghost use Rattle.time_below.specs.Weekday.{days_from_monday};
 
 use crate::calendar;
 use crate::component_range::ComponentRange;
 use crate::month::Month;
+use crate::time::DAY_SECONDS;
 use crate::weekday::Weekday;
 use std::marker::Model;
 
-// The years from -999999 to 0, and their days: 2,500 times 400 years, which are whole weeks.
-const YEARS_BEFORE: i32 = 999_999;
+// The first year is as many before the year 0.
+const GREATEST_YEAR: i32 = 999_999;
 
+// The days of the years from the first to 0, which are 2,500 times 400 years and whole weeks.
 const DAYS_BEFORE: u32 = 365_242_500;
+
+// The days of all years.
+const ALL_DAYS: u32 = 730_484_634;
+
+// The days from -999999-01-01 to 1970-01-01.
+const DAYS_TO_1970: i64 = 365_961_662;
+
+// Whether a date may have the year.
+fn is_year(year: i32) -> bool
+    ensures { IsTrue result ↔ IsYear year }
+{
+    -GREATEST_YEAR <= year && year <= GREATEST_YEAR
+}
 
 /// A date of the proleptic Gregorian calendar, in the years -999,999 to 999,999.
 #[derive(Debug, Clone, Copy)]
@@ -45,10 +61,10 @@ impl Date {
             ↔ (IsYear year × IsDayOfMonth year (month_number month) day) }
         ensures value { IfOk result (λ d. d ≡ date_of year (month_number month) day) }
         ensures refusal { IfErr result (λ e. range_refusal e
-            ≡ (if nat_le (unsigned_abs year) 999_999 then conditional_range (codes "day")
+            ≡ (if nat_le (unsigned_abs year) greatest_year then conditional_range (codes "day")
             else unconditional_range (codes "year"))) }
     {
-        if year < -999_999 || year > 999_999 {
+        if !is_year(year) {
             return Err(ComponentRange::unconditional("year"));
         }
         let is_leap = calendar::is_leap_year(year);
@@ -68,10 +84,10 @@ impl Date {
         ensures accepted { IsOk result ↔ IsDate (record { year = year; ordinal = ordinal }) }
         ensures value { IfOk result (λ d. d ≡ record { year = year; ordinal = ordinal }) }
         ensures refusal { IfErr result (λ e. range_refusal e
-            ≡ (if nat_le (unsigned_abs year) 999_999 then conditional_range (codes "ordinal")
+            ≡ (if nat_le (unsigned_abs year) greatest_year then conditional_range (codes "ordinal")
             else unconditional_range (codes "year"))) }
     {
-        if year < -999_999 || year > 999_999 {
+        if !is_year(year) {
             return Err(ComponentRange::unconditional("year"));
         }
         if ordinal == 0 || ordinal > calendar::days_in_year(year) {
@@ -83,13 +99,13 @@ impl Date {
     // The date so many days after -999999-01-01.
     #[tactic(auto, using(crate::proofs::CalendarLemmas::date_at_from_start))]
     pub(crate) fn from_days(days: u32) -> Date
-        requires { days < 730_484_634 }
+        requires { days < ALL_DAYS }
         ensures { result ≡ date_at (pos days -ℤ pos DAYS_BEFORE) }
     {
         let quarters = 4 * days + 3;
         let rest = quarters % 146_097 / 4 * 4 + 3;
         Date {
-            year: (100 * (quarters / 146_097) + rest / 1461) as i32 - YEARS_BEFORE,
+            year: (100 * (quarters / 146_097) + rest / 1461) as i32 - GREATEST_YEAR,
             ordinal: (rest % 1461 / 4 + 1) as u16,
         }
     }
@@ -98,18 +114,18 @@ impl Date {
     #[tactic(auto, using(crate::proofs::CalendarLemmas::day_number_from_start))]
     fn days_from_start(self) -> u32
         ensures value { pos result ≡ day_number self +ℤ pos DAYS_BEFORE }
-        ensures range { result < 730_484_634 }
+        ensures range { result < ALL_DAYS }
     {
-        let years = (self.year + YEARS_BEFORE) as u32;
+        let years = (self.year + GREATEST_YEAR) as u32;
         365 * years + years / 4 - years / 100 + years / 400 + self.ordinal as u32 - 1
     }
 
-    // The seconds from 1970-01-01, which is day 719,162, to the start of the day.
+    // The seconds from 1970-01-01 to the start of the day.
     pub(crate) fn unix_midnight(self) -> i64
-        ensures value { result ≡ (day_number self -ℤ pos 719_162) *ℤ pos 86_400 }
+        ensures value { result ≡ (day_number self -ℤ pos unix_day) *ℤ pos day_seconds }
         ensures range { unsigned_abs result < 2 ^ 62 }
     {
-        (self.days_from_start() as i64 - 365_961_662) * 86_400
+        (self.days_from_start() as i64 - DAYS_TO_1970) * DAY_SECONDS as i64
     }
 
     /// The year, -999,999 to 999,999. The year 0 is the one before the year 1.

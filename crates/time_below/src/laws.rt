@@ -1,9 +1,9 @@
-//! Laws of the calendar: what its definitions come to. Each body is empty.
+//! Laws of the calendar and of offsets: what their definitions come to. Each body is empty.
 ghost use Rattle.std.specs.Prelude.{◌≡◌, ◌+◌, ◌%◌, ℕ, ℤ, pos, ◌+ℤ◌};
 ghost use Rattle.std.specs.Int.{IsInRange};
 ghost use Rattle.time_below.specs.Calendar.{OrdinalDate, IsDate, IsYear, IsDayNumber, IsDayOfMonth, day_number, date_at, next_day, month_of, day_of, date_of, weekday_of, iso_year_of, iso_week_of};
 ghost use Rattle.time_below.specs.TimeOfDay.{IsTimeOfDay};
-ghost use Rattle.time_below.specs.Offset.{IsOffset};
+ghost use Rattle.time_below.specs.Offset.{Offset, IsOffset, Settles, settled};
 ghost use Rattle.time_below.specs.Moment.{Moment, DateAndTime, OffsetDateAndTime, IsMoment, IsTimestampSecond, IsNearTimestampSecond, utc_date, utc_time, utc_date_and_time, unix_seconds, local_unix_seconds};
 
 /// Each date has one day number, and each day number from -999999-01-01 to 999999-12-31 one date.
@@ -55,6 +55,13 @@ pub fn one_date_and_time_for_each_moment()
         → unix_seconds t ≡ m.seconds → t.time.nanosecond ≡ m.nanosecond → t ≡ utc_date_and_time m }
     ensures moment { (t : DateAndTime) → IsDate t.date → IsTimeOfDay t.time
         → IsTimestampSecond (unix_seconds t) }
+{}
+
+/// Three parts of an offset settle to one offset: each part keeps its size, the first that is not
+/// zero keeps its sign, and no part has the other sign.
+pub fn one_sign_for_each_offset()
+    ensures settled { (h m s : ℤ) → Settles h m s (settled h m s) }
+    ensures only { (h m s : ℤ) (o : Offset) → Settles h m s o → o ≡ settled h m s }
 {}
 
 /// The Unix seconds of a local date and time are less than 26 hours outside the range of a moment.

@@ -7,6 +7,7 @@ mod date;
 mod different_variant;
 pub mod format_description;
 pub mod laws;
+pub mod moment;
 mod month;
 mod offset_date_time;
 mod period;

@@ -6,6 +6,9 @@ ghost use Rattle.time_below.specs.ComponentRange.{range_refusal, unconditional_r
 use crate::component_range::ComponentRange;
 use std::marker::Model;
 
+// The seconds of a day.
+pub(crate) const DAY_SECONDS: u32 = 86_400;
+
 /// A time of day to the nanosecond, without leap seconds.
 #[derive(Debug, Clone, Copy)]
 pub struct Time {
@@ -20,11 +23,14 @@ impl Model for Time {
 
     ghost Value = { TimeOfDay };
 
-    ghost view = { λ t. record { hour = t.hour; minute = t.minute; second = t.second; nanosecond = t.nanosecond } };
+    ghost view = { λ t.
+        record { hour = t.hour; minute = t.minute; second = t.second; nanosecond = t.nanosecond } };
 
-    ghost invariant = { λ t. IsTimeOfDay (record { hour = t.hour; minute = t.minute; second = t.second; nanosecond = t.nanosecond }) };
+    ghost invariant = { λ t. IsTimeOfDay (
+        record { hour = t.hour; minute = t.minute; second = t.second; nanosecond = t.nanosecond }) };
 
-    ghost inverse = { λ t. record { hour = t.hour; minute = t.minute; second = t.second; nanosecond = t.nanosecond } };
+    ghost inverse = { λ t.
+        record { hour = t.hour; minute = t.minute; second = t.second; nanosecond = t.nanosecond } };
 }
 
 impl Time {
@@ -37,12 +43,15 @@ impl Time {
         nanosecond: u32,
     ) -> Result<Time, ComponentRange>
         ensures accepted { IsOk result
-            ↔ IsTimeOfDay (record { hour = hour; minute = minute; second = second; nanosecond = nanosecond }) }
+            ↔ IsTimeOfDay (
+            record { hour = hour; minute = minute; second = second; nanosecond = nanosecond }) }
         ensures value { IfOk result (λ t. t
             ≡ record { hour = hour; minute = minute; second = second; nanosecond = nanosecond }) }
         ensures refusal { IfErr result (λ e. range_refusal e ≡ unconditional_range (
             if nat_lt hour 24
-            then (if nat_lt minute 60 then (if nat_lt second 60 then codes "nanosecond" else codes "second") else codes "minute")
+            then (if nat_lt minute 60
+            then (if nat_lt second 60 then codes "nanosecond" else codes "second")
+            else codes "minute")
             else codes "hour"
             )) }
     {
@@ -87,7 +96,7 @@ impl Time {
 
     // The time so many seconds after midnight.
     pub(crate) fn from_seconds(passed: u32, nanosecond: u32) -> Time
-        requires day { passed < 86_400 }
+        requires day { passed < DAY_SECONDS }
         requires second { nanosecond < 1_000_000_000 }
         ensures { result ≡ time_at passed nanosecond }
     {
@@ -102,7 +111,7 @@ impl Time {
     // The whole seconds from midnight to the time.
     pub(crate) fn seconds_from_midnight(self) -> u32
         ensures value { result ≡ seconds_from_midnight self }
-        ensures range { result < 86_400 }
+        ensures range { result < DAY_SECONDS }
     {
         self.hour as u32 * 3600 + self.minute as u32 * 60 + self.second as u32
     }

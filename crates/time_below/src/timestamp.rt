@@ -5,11 +5,14 @@ ghost use Rattle.time_below.specs.ComponentRange.{range_refusal, unconditional_r
 
 use crate::component_range::ComponentRange;
 use crate::date::Date;
-use crate::time::Time;
+use crate::moment;
+use crate::time::{DAY_SECONDS, Time};
 use std::marker::Model;
 
-// The seconds from -999999-01-01T00:00:00 to 1970, and those of all the years from there on.
+// The seconds from -999999-01-01T00:00:00 to 1970, the last second, and those of all years.
 const SECONDS_BEFORE: i64 = 31_619_087_596_800;
+
+const LAST_SECOND: i64 = 31_494_784_780_799;
 
 const ALL_SECONDS: u64 = 63_113_872_377_600;
 
@@ -46,7 +49,7 @@ impl Timestamp {
         ensures nanosecond { IfErr result (λ e. IsTimestampSecond seconds
             → range_refusal e ≡ unconditional_range (codes "nanosecond")) }
     {
-        if seconds < -31_619_087_596_800 || seconds > 31_494_784_780_799 {
+        if seconds < -SECONDS_BEFORE || seconds > LAST_SECOND {
             return Err(ComponentRange::unconditional("seconds"));
         }
         if nanosecond > 999_999_999 {
@@ -71,7 +74,7 @@ impl Timestamp {
     pub fn date(self) -> Date
         ensures { result ≡ utc_date self.seconds }
     {
-        Date::from_days((self.seconds_from_start() / 86_400) as u32)
+        Date::from_days((self.seconds_from_start() / DAY_SECONDS as u64) as u32)
     }
 
     /// The time of day in UTC.
@@ -79,7 +82,10 @@ impl Timestamp {
     pub fn time(self) -> Time
         ensures { result ≡ utc_time self }
     {
-        Time::from_seconds((self.seconds_from_start() % 86_400) as u32, self.nanosecond)
+        Time::from_seconds(
+            (self.seconds_from_start() % DAY_SECONDS as u64) as u32,
+            self.nanosecond,
+        )
     }
 
     /// The whole seconds since 1970-01-01T00:00:00 UTC, rounded down.
@@ -95,11 +101,7 @@ impl Timestamp {
         ensures value { result ≡ milliseconds self }
         ensures range { unsigned_abs result < 100_000_000_000_000_000 }
     {
-        if self.seconds >= 0 {
-            self.seconds * 1000 + (self.nanosecond / 1_000_000) as i64
-        } else {
-            self.seconds * 1000 + ((self.nanosecond + 999_999) / 1_000_000) as i64
-        }
+        moment::milliseconds(self.seconds, self.nanosecond)
     }
 
     /// The whole seconds since 1970-01-01T00:00:00 UTC, rounded down, and the nanosecond 0 to

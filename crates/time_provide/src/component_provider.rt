@@ -2,12 +2,12 @@
 ghost use Rattle.std.specs.Prelude.{◌≡◌, ◌≤◌, ◌<◌, Bool, IsTrue, IfSome, is_some, unsigned_abs};
 ghost use Rattle.std.specs.Int.{IsInRange};
 ghost use Rattle.time_below.specs.Facts.{Facts, DateFacts};
-ghost use Rattle.time_below.specs.Moment.{Moment, milliseconds};
+ghost use Rattle.time_below.specs.Moment.{Moment, IsNearMoment, milliseconds};
 ghost use Rattle.time_below.specs.Month.{month_number};
 ghost use Rattle.time_below.specs.Offset.{Offset, IsOffset, is_negative, is_utc};
 ghost use Rattle.time_below.specs.TimeOfDay.{TimeOfDay, IsTimeOfDay, period_of};
 ghost use Rattle.time_below.specs.Weekday.{days_from_monday};
-ghost use Rattle.time_provide.specs.Real.{AreOfDate, IsNearMoment};
+ghost use Rattle.time_provide.specs.Real.{AreOfDate};
 
 use crate::ranges::{
     Day, Hours, IsoWeekNumber, Minutes, MondayBasedWeek, Nanoseconds, OffsetHours, OffsetMinutes,

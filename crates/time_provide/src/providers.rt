@@ -1,6 +1,5 @@
 //! The values that supply components, a file for each type.
 mod date;
-mod milliseconds;
 mod offset_date_time;
 mod plain_date_time;
 mod time;

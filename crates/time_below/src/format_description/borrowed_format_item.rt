@@ -5,7 +5,7 @@ ghost use Rattle.time_below.specs.Tree.{borrowed_tree};
 use crate::format_description::{Component, Layer, Node};
 
 /// A description whose parts are borrowed.
-#[derive(Clone, Copy)]
+#[derive(Drop)]
 pub enum BorrowedFormatItem<'a> {
     /// Bytes, which need not be UTF-8.
     Literal(&'a [u8]),

@@ -16,40 +16,79 @@ use crate::format_description::modifier::{
 /// A part of a text that is taken from a value.
 #[derive(Clone, Copy)]
 pub enum Component {
+    /// The day of the month, 1 to 31, in two places.
     Day(modifier::Day),
+    /// The first three letters of the month's English name.
     MonthShort(modifier::MonthShort),
+    /// The month's English name, at most nine letters.
     MonthLong(modifier::MonthLong),
+    /// The month, 1 to 12, in two places.
     MonthNumerical(modifier::MonthNumerical),
+    /// The day of the year, 1 to 366, in three places (ISO 8601-1:2019, ordinal date).
     Ordinal(modifier::Ordinal),
+    /// The first three letters of the weekday's English name.
     WeekdayShort(modifier::WeekdayShort),
+    /// The weekday's English name, at most nine letters.
     WeekdayLong(modifier::WeekdayLong),
+    /// The weekday by one digit from Sunday on, 0 to 6 or 1 to 7.
     WeekdaySunday(modifier::WeekdaySunday),
+    /// The weekday by one digit from Monday on, 0 to 6 or 1 to 7.
     WeekdayMonday(modifier::WeekdayMonday),
+    /// The week of the week calendar, 1 to 53, in two places (ISO 8601-1:2019, week date).
     WeekNumberIso(modifier::WeekNumberIso),
+    /// The week of the year, 0 to 53, in two places, where week 1 begins on the first Sunday.
     WeekNumberSunday(modifier::WeekNumberSunday),
+    /// The week of the year, 0 to 53, in two places, where week 1 begins on the first Monday.
     WeekNumberMonday(modifier::WeekNumberMonday),
+    /// The year, -999,999 to 999,999, in four places, or a sign and all its digits.
     CalendarYearFullExtendedRange(modifier::CalendarYearFullExtendedRange),
+    /// The year, -9,999 to 9,999, in four places. Every other year is refused.
     CalendarYearFullStandardRange(modifier::CalendarYearFullStandardRange),
+    /// The year without its last two digits, -9,999 to 9,999, in two places, or a sign and all
+    /// its digits.
     CalendarYearCenturyExtendedRange(modifier::CalendarYearCenturyExtendedRange),
+    /// The year without its last two digits, -99 to 99, in two places. Every other one is refused.
     CalendarYearCenturyStandardRange(modifier::CalendarYearCenturyStandardRange),
+    /// The last two digits of the year, 0 to 99, in two places, unsigned.
     CalendarYearLastTwo(modifier::CalendarYearLastTwo),
+    /// The year of the week calendar, -999,999 to 999,999, in four places, or a sign and
+    /// all its digits (ISO 8601-1:2019, week date).
     IsoYearFullExtendedRange(modifier::IsoYearFullExtendedRange),
+    /// The year of the week calendar, -9,999 to 9,999, in four places. Every other year is refused.
     IsoYearFullStandardRange(modifier::IsoYearFullStandardRange),
+    /// The year of the week calendar without its last two digits, -9,999 to 9,999, in two places,
+    /// or a sign and all its digits.
     IsoYearCenturyExtendedRange(modifier::IsoYearCenturyExtendedRange),
+    /// The year of the week calendar without its last two digits, -99 to 99, in two places. Every
+    /// other one is refused.
     IsoYearCenturyStandardRange(modifier::IsoYearCenturyStandardRange),
+    /// The last two digits of the year of the week calendar, 0 to 99, in two places, unsigned.
     IsoYearLastTwo(modifier::IsoYearLastTwo),
+    /// The hour of the 12-hour clock, 1 to 12, in two places.
     Hour12(modifier::Hour12),
+    /// The hour of the day, 0 to 23, in two places.
     Hour24(modifier::Hour24),
+    /// The minute of the hour, 0 to 59, in two places.
     Minute(modifier::Minute),
+    /// The half of the day by two letters: before noon, or from noon on.
     Period(modifier::Period),
+    /// The second of the minute, 0 to 59, in two places.
     Second(modifier::Second),
+    /// The decimals of the second, one to nine digits, not rounded.
     Subsecond(modifier::Subsecond),
+    /// The hour of the offset from UTC, 0 to 25, in two places, after the sign of the whole offset.
     OffsetHour(modifier::OffsetHour),
+    /// The minute of the offset from UTC, 0 to 59, in two places, without a sign.
     OffsetMinute(modifier::OffsetMinute),
+    /// The second of the offset from UTC, 0 to 59, in two places, without a sign.
     OffsetSecond(modifier::OffsetSecond),
+    /// The seconds since 1970-01-01T00:00:00 UTC, rounded down, at most 14 digits.
     UnixTimestampSecond(modifier::UnixTimestampSecond),
+    /// The milliseconds since 1970-01-01T00:00:00 UTC, rounded toward zero, at most 17 digits.
     UnixTimestampMillisecond(modifier::UnixTimestampMillisecond),
+    /// Nothing: bytes that a parser passes over.
     Ignore(modifier::Ignore),
+    /// Nothing: the end of what a parser reads.
     End(modifier::End),
     /// Deprecated: `MonthNumerical`, `MonthLong` or `MonthShort`.
     Month(modifier::Month),
@@ -68,9 +107,13 @@ pub enum Component {
 /// The part of a value that a component is taken from.
 #[derive(Clone, Copy)]
 pub enum Group {
+    /// The date: the years, the month, the days, the weekday and the weeks.
     Date,
+    /// The time of day.
     Time,
+    /// The offset from UTC.
     Offset,
+    /// The moment, counted from 1970-01-01T00:00:00 UTC.
     Timestamp,
     /// No part: the component has no text.
     None,

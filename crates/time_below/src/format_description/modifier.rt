@@ -11,17 +11,26 @@ pub enum Padding {
     None,
 }
 
-/// How many decimals of a second are written.
+/// How many decimals of a second are written. Those that are left out are not rounded.
 #[derive(Clone, Copy)]
 pub enum SubsecondDigits {
+    /// Tenths of a second.
     One,
+    /// Hundredths of a second.
     Two,
+    /// Milliseconds.
     Three,
+    /// Four decimals.
     Four,
+    /// Five decimals.
     Five,
+    /// Microseconds.
     Six,
+    /// Seven decimals.
     Seven,
+    /// Eight decimals.
     Eight,
+    /// Nanoseconds.
     Nine,
     /// As many as are needed, at least one.
     OneOrMore,
@@ -30,245 +39,278 @@ pub enum SubsecondDigits {
 /// What may follow the end of a description, which is for parsers alone.
 #[derive(Clone, Copy)]
 pub enum TrailingInput {
+    /// Nothing.
     Prohibit,
+    /// Anything, which is passed over.
     Discard,
 }
 
-/// The day of the month.
+/// The day of the month, 1 to 31, in two places.
 #[derive(Clone, Copy)]
 pub struct Day {
+    /// What stands before a number of one digit.
     pub padding: Padding,
 }
 
-/// The first three letters of the month's name.
+/// The first three letters of the month's English name.
 #[derive(Clone, Copy)]
 pub struct MonthShort {
     /// For parsers alone.
     pub case_sensitive: bool,
 }
 
-/// The month's name.
+/// The month's English name, at most nine letters.
 #[derive(Clone, Copy)]
 pub struct MonthLong {
     /// For parsers alone.
     pub case_sensitive: bool,
 }
 
-/// The month, 1 to 12.
+/// The month, 1 to 12, in two places.
 #[derive(Clone, Copy)]
 pub struct MonthNumerical {
+    /// What stands before a number of one digit.
     pub padding: Padding,
 }
 
-/// The day of the year.
+/// The day of the year, 1 to 366, in three places (ISO 8601-1:2019, ordinal date).
 #[derive(Clone, Copy)]
 pub struct Ordinal {
+    /// What stands before a number of fewer than three digits.
     pub padding: Padding,
 }
 
-/// The first three letters of the weekday's name.
+/// The first three letters of the weekday's English name.
 #[derive(Clone, Copy)]
 pub struct WeekdayShort {
     /// For parsers alone.
     pub case_sensitive: bool,
 }
 
-/// The weekday's name.
+/// The weekday's English name, at most nine letters.
 #[derive(Clone, Copy)]
 pub struct WeekdayLong {
     /// For parsers alone.
     pub case_sensitive: bool,
 }
 
-/// The weekday by a digit, from Sunday on.
+/// The weekday by one digit from Sunday on, 0 to 6 or 1 to 7.
 #[derive(Clone, Copy)]
 pub struct WeekdaySunday {
     /// Whether Sunday is 1, and not 0.
     pub one_indexed: bool,
 }
 
-/// The weekday by a digit, from Monday on.
+/// The weekday by one digit from Monday on, 0 to 6 or 1 to 7.
 #[derive(Clone, Copy)]
 pub struct WeekdayMonday {
     /// Whether Monday is 1, and not 0.
     pub one_indexed: bool,
 }
 
-/// The week of the week calendar.
+/// The week of the week calendar, 1 to 53, in two places (ISO 8601-1:2019, week date).
 #[derive(Clone, Copy)]
 pub struct WeekNumberIso {
+    /// What stands before a number of one digit.
     pub padding: Padding,
 }
 
-/// The week of the year, by its Sundays.
+/// The week of the year, 0 to 53, in two places, where week 1 begins on the first Sunday.
 #[derive(Clone, Copy)]
 pub struct WeekNumberSunday {
+    /// What stands before a number of one digit.
     pub padding: Padding,
 }
 
-/// The week of the year, by its Mondays.
+/// The week of the year, 0 to 53, in two places, where week 1 begins on the first Monday.
 #[derive(Clone, Copy)]
 pub struct WeekNumberMonday {
+    /// What stands before a number of one digit.
     pub padding: Padding,
 }
 
-/// The year, whatever its size.
+/// The year, -999,999 to 999,999, in four places, or a sign and all its digits.
 #[derive(Clone, Copy)]
 pub struct CalendarYearFullExtendedRange {
+    /// What stands before a number of fewer than four digits.
     pub padding: Padding,
     /// Whether a sign is also written where it is a plus.
     pub sign_is_mandatory: bool,
 }
 
-/// The year, from -9999 to 9999.
+/// The year, -9,999 to 9,999, in four places. Every other year is refused.
 #[derive(Clone, Copy)]
 pub struct CalendarYearFullStandardRange {
+    /// What stands before a number of fewer than four digits.
     pub padding: Padding,
     /// Whether a sign is also written where it is a plus.
     pub sign_is_mandatory: bool,
 }
 
-/// The year without its last two digits, whatever its size.
+/// The year without its last two digits, -9,999 to 9,999, in two places, or a sign and all
+/// its digits.
 #[derive(Clone, Copy)]
 pub struct CalendarYearCenturyExtendedRange {
+    /// What stands before a number of one digit.
     pub padding: Padding,
     /// Whether a sign is also written where it is a plus.
     pub sign_is_mandatory: bool,
 }
 
-/// The year without its last two digits, from -99 to 99.
+/// The year without its last two digits, -99 to 99, in two places. Every other one is refused.
 #[derive(Clone, Copy)]
 pub struct CalendarYearCenturyStandardRange {
+    /// What stands before a number of one digit.
     pub padding: Padding,
     /// Whether a sign is also written where it is a plus.
     pub sign_is_mandatory: bool,
 }
 
-/// The last two digits of the year.
+/// The last two digits of the year, 0 to 99, in two places, unsigned.
 #[derive(Clone, Copy)]
 pub struct CalendarYearLastTwo {
+    /// What stands before a number of one digit.
     pub padding: Padding,
 }
 
-/// The year of the week calendar, whatever its size.
+/// The year of the week calendar, -999,999 to 999,999, in four places, or a sign and
+/// all its digits (ISO 8601-1:2019, week date).
 #[derive(Clone, Copy)]
 pub struct IsoYearFullExtendedRange {
+    /// What stands before a number of fewer than four digits.
     pub padding: Padding,
     /// Whether a sign is also written where it is a plus.
     pub sign_is_mandatory: bool,
 }
 
-/// The year of the week calendar, from -9999 to 9999.
+/// The year of the week calendar, -9,999 to 9,999, in four places. Every other year is refused.
 #[derive(Clone, Copy)]
 pub struct IsoYearFullStandardRange {
+    /// What stands before a number of fewer than four digits.
     pub padding: Padding,
     /// Whether a sign is also written where it is a plus.
     pub sign_is_mandatory: bool,
 }
 
-/// The year of the week calendar without its last two digits, whatever its size.
+/// The year of the week calendar without its last two digits, -9,999 to 9,999, in two places,
+/// or a sign and all its digits.
 #[derive(Clone, Copy)]
 pub struct IsoYearCenturyExtendedRange {
+    /// What stands before a number of one digit.
     pub padding: Padding,
     /// Whether a sign is also written where it is a plus.
     pub sign_is_mandatory: bool,
 }
 
-/// The year of the week calendar without its last two digits, from -99 to 99.
+/// The year of the week calendar without its last two digits, -99 to 99, in two places. Every
+/// other one is refused.
 #[derive(Clone, Copy)]
 pub struct IsoYearCenturyStandardRange {
+    /// What stands before a number of one digit.
     pub padding: Padding,
     /// Whether a sign is also written where it is a plus.
     pub sign_is_mandatory: bool,
 }
 
-/// The last two digits of the year of the week calendar.
+/// The last two digits of the year of the week calendar, 0 to 99, in two places, unsigned.
 #[derive(Clone, Copy)]
 pub struct IsoYearLastTwo {
+    /// What stands before a number of one digit.
     pub padding: Padding,
 }
 
-/// The hour of the 12-hour clock, 1 to 12.
+/// The hour of the 12-hour clock, 1 to 12, in two places.
 #[derive(Clone, Copy)]
 pub struct Hour12 {
+    /// What stands before a number of one digit.
     pub padding: Padding,
 }
 
-/// The hour of the 24-hour clock, 0 to 23.
+/// The hour of the day, 0 to 23, in two places.
 #[derive(Clone, Copy)]
 pub struct Hour24 {
+    /// What stands before a number of one digit.
     pub padding: Padding,
 }
 
-/// The minute of the hour.
+/// The minute of the hour, 0 to 59, in two places.
 #[derive(Clone, Copy)]
 pub struct Minute {
+    /// What stands before a number of one digit.
     pub padding: Padding,
 }
 
-/// The half of the day, by two letters.
+/// The half of the day by two letters: before noon, or from noon on.
 #[derive(Clone, Copy)]
 pub struct Period {
+    /// Whether the letters are capitals.
     pub is_uppercase: bool,
     /// For parsers alone.
     pub case_sensitive: bool,
 }
 
-/// The second of the minute.
+/// The second of the minute, 0 to 59, in two places.
 #[derive(Clone, Copy)]
 pub struct Second {
+    /// What stands before a number of one digit.
     pub padding: Padding,
 }
 
-/// The decimals of the second.
+/// The decimals of the second, one to nine digits, not rounded.
 #[derive(Clone, Copy)]
 pub struct Subsecond {
+    /// How many decimals are written.
     pub digits: SubsecondDigits,
 }
 
-/// The hour of the offset from UTC.
+/// The hour of the offset from UTC, 0 to 25, in two places, after the sign of the whole offset.
 #[derive(Clone, Copy)]
 pub struct OffsetHour {
+    /// What stands before a number of one digit.
     pub padding: Padding,
     /// Whether a sign is also written where it is a plus.
     pub sign_is_mandatory: bool,
 }
 
-/// The minute of the offset from UTC, without a sign.
+/// The minute of the offset from UTC, 0 to 59, in two places, without a sign.
 #[derive(Clone, Copy)]
 pub struct OffsetMinute {
+    /// What stands before a number of one digit.
     pub padding: Padding,
 }
 
-/// The second of the offset from UTC, without a sign.
+/// The second of the offset from UTC, 0 to 59, in two places, without a sign.
 #[derive(Clone, Copy)]
 pub struct OffsetSecond {
+    /// What stands before a number of one digit.
     pub padding: Padding,
 }
 
-/// The seconds since 1970-01-01T00:00:00 UTC.
+/// The seconds since 1970-01-01T00:00:00 UTC, rounded down, at most 14 digits.
 #[derive(Clone, Copy)]
 pub struct UnixTimestampSecond {
     /// Whether a sign is also written where it is a plus.
     pub sign_is_mandatory: bool,
 }
 
-/// The milliseconds since 1970-01-01T00:00:00 UTC.
+/// The milliseconds since 1970-01-01T00:00:00 UTC, rounded toward zero, at most 17 digits.
 #[derive(Clone, Copy)]
 pub struct UnixTimestampMillisecond {
     /// Whether a sign is also written where it is a plus.
     pub sign_is_mandatory: bool,
 }
 
-/// So many bytes that a parser passes over. Nothing is written.
+/// Nothing: bytes that a parser passes over.
 #[derive(Clone, Copy)]
 pub struct Ignore {
+    /// How many bytes, for parsers alone.
     pub count: u16,
 }
 
-/// The end of what a parser reads. Nothing is written.
+/// Nothing: the end of what a parser reads.
 #[derive(Clone, Copy)]
 pub struct End {
+    /// What may follow, for parsers alone.
     pub trailing_input: TrailingInput,
 }
 
@@ -330,7 +372,9 @@ pub enum YearRange {
 /// The unit in which a moment is counted.
 #[derive(Clone, Copy)]
 pub enum UnixTimestampPrecision {
+    /// Whole seconds, rounded down.
     Second,
+    /// Whole milliseconds, rounded toward zero.
     Millisecond,
 }
 
@@ -339,6 +383,7 @@ pub enum UnixTimestampPrecision {
 pub struct Month {
     /// Of the number alone.
     pub padding: Padding,
+    /// By the number or the name.
     pub repr: MonthRepr,
     /// For parsers alone.
     pub case_sensitive: bool,
@@ -347,6 +392,7 @@ pub struct Month {
 /// Deprecated: a weekday, by its name or a digit.
 #[derive(Clone, Copy)]
 pub struct Weekday {
+    /// By the name or a digit.
     pub repr: WeekdayRepr,
     /// Whether the first day is 1, and not 0.
     pub one_indexed: bool,
@@ -357,13 +403,16 @@ pub struct Weekday {
 /// Deprecated: a week of the year.
 #[derive(Clone, Copy)]
 pub struct WeekNumber {
+    /// What stands before a number of one digit.
     pub padding: Padding,
+    /// Which weeks are counted.
     pub repr: WeekNumberRepr,
 }
 
 /// Deprecated: an hour of the day.
 #[derive(Clone, Copy)]
 pub struct Hour {
+    /// What stands before a number of one digit.
     pub padding: Padding,
     /// Whether the hour is that of the 12-hour clock, 1 to 12, and not 0 to 23.
     pub is_12_hour_clock: bool,
@@ -372,6 +421,7 @@ pub struct Hour {
 /// Deprecated: the time since 1970-01-01T00:00:00 UTC.
 #[derive(Clone, Copy)]
 pub struct UnixTimestamp {
+    /// The unit that is counted.
     pub precision: UnixTimestampPrecision,
     /// Whether a sign is also written where it is a plus.
     pub sign_is_mandatory: bool,
@@ -380,7 +430,9 @@ pub struct UnixTimestamp {
 /// Deprecated: a year, or a part of one.
 #[derive(Clone, Copy)]
 pub struct Year {
+    /// What stands before a number that is shorter than its places.
     pub padding: Padding,
+    /// The whole year or a part of it.
     pub repr: YearRepr,
     /// Of no effect on the last two digits.
     pub range: YearRange,

@@ -23,21 +23,22 @@ const OWNED_LITERAL: usize = 8_388_608;
 
 const WIDTH: usize = 70_368_744_177_664;
 
-fn thirty_two(alloc: Global, item: BorrowedFormatItem<'static>) -> Result<Lent, AllocError> {
+fn thirty_two(alloc: Global, lent: Lent) -> Result<Lent, AllocError> {
     let mut items = Vec::new(alloc);
     for _ in 0..32 {
-        items.push(item)?;
+        items.push(BorrowedFormatItem::Compound(lent))?;
     }
     Ok(items.leak())
 }
 
 fn too_wide(alloc: Global) -> Result<Lent, AllocError> {
     let bytes = vec![in alloc; b'x'; LITERAL]?;
-    let mut items = thirty_two(alloc, BorrowedFormatItem::Literal(bytes.leak()))?;
-    for _ in 0..3 {
-        items = thirty_two(alloc, BorrowedFormatItem::Compound(items))?;
-    }
-    Ok(items)
+    let literal = BorrowedFormatItem::Literal(bytes.leak());
+    let first: Lent = vec![in alloc; literal]?.leak();
+    let second = thirty_two(alloc, first)?;
+    let third = thirty_two(alloc, second)?;
+    let fourth = thirty_two(alloc, third)?;
+    thirty_two(alloc, fourth)
 }
 
 fn thirty_two_v3(alloc: Global, lent: LentV3) -> Result<LentV3, AllocError> {

@@ -1,8 +1,7 @@
 //! A date with a time of day supplies both groups through them.
 ghost use Rattle.std.proofs.Common.{rules};
 ghost use Rattle.std.specs.Prelude.{◌≡◌, refl, true, false, pos};
-ghost use Rattle.time_below.specs.Facts.{date_facts};
-ghost use Rattle.time_provide.specs.Facts.{facts_of_plain_date_time};
+ghost use Rattle.time_below.specs.Facts.{date_facts, facts_of_plain_date_time};
 ghost use Rattle.time_provide.specs.Agreement.{Agrees};
 
 use crate::component_provider::ComponentProvider;

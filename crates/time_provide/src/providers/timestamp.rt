@@ -1,11 +1,10 @@
 //! A moment supplies all groups in UTC, and keeps its date, its time and what the date keeps.
 ghost use Rattle.std.proofs.Common.{rules};
 ghost use Rattle.std.specs.Prelude.{◌≡◌, refl, true, false};
-ghost use Rattle.time_provide.specs.Facts.{facts_of_timestamp};
+ghost use Rattle.time_below.specs.Facts.{facts_of_timestamp};
 ghost use Rattle.time_provide.specs.Agreement.{AgreesWithMoment};
 
 use crate::component_provider::ComponentProvider;
-use crate::providers::milliseconds;
 use crate::ranges::{
     Day, Hours, IsoWeekNumber, Minutes, MondayBasedWeek, Nanoseconds, OffsetHours, OffsetMinutes,
     OffsetSeconds, Ordinal, Seconds, SundayBasedWeek, Year,
@@ -127,8 +126,8 @@ impl ComponentProvider for Timestamp {
     }
 
     fn unix_timestamp_milliseconds(&self, _state: &mut TimestampState) -> i64 {
-        let (seconds, nanosecond) = self.as_parts();
-        milliseconds::from_parts(seconds, nanosecond)
+        let _is_moment = self.as_seconds();
+        self.as_milliseconds()
     }
 
     ghost supplies_date = { λ value. refl };

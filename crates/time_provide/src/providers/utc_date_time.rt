@@ -1,18 +1,16 @@
 //! A date and a time in UTC supply all groups.
 ghost use Rattle.std.proofs.Common.{rules};
 ghost use Rattle.std.specs.Prelude.{◌≡◌, refl, true, false};
-ghost use Rattle.time_below.specs.Facts.{date_facts};
-ghost use Rattle.time_provide.specs.Facts.{facts_of_utc_date_time};
+ghost use Rattle.time_below.specs.Facts.{date_facts, facts_of_utc_date_time};
 ghost use Rattle.time_provide.specs.Agreement.{Agrees};
 
 use crate::component_provider::ComponentProvider;
 use crate::date_state::DateState;
-use crate::providers::milliseconds;
 use crate::ranges::{
     Day, Hours, IsoWeekNumber, Minutes, MondayBasedWeek, Nanoseconds, OffsetHours, OffsetMinutes,
     OffsetSeconds, Ordinal, Seconds, SundayBasedWeek, Year,
 };
-use time_below::{Month, Period, UtcDateTime, Weekday};
+use time_below::{Month, Period, UtcDateTime, Weekday, moment};
 use time_digits::ri8;
 
 impl ComponentProvider for UtcDateTime {
@@ -120,7 +118,7 @@ impl ComponentProvider for UtcDateTime {
     }
 
     fn unix_timestamp_milliseconds(&self, _state: &mut DateState) -> i64 {
-        milliseconds::from_parts(self.unix_timestamp(), self.time().as_hms_nano().3)
+        moment::milliseconds(self.unix_timestamp(), self.time().as_hms_nano().3)
     }
 
     ghost supplies_date = { λ value. refl };

@@ -1,6 +1,6 @@
 //! An offset supplies its group, and keeps nothing.
 ghost use Rattle.std.specs.Prelude.{◌≡◌, refl, true, false, pos};
-ghost use Rattle.time_provide.specs.Facts.{facts_of_offset};
+ghost use Rattle.time_below.specs.Facts.{facts_of_offset};
 
 use crate::component_provider::ComponentProvider;
 use crate::ranges::{

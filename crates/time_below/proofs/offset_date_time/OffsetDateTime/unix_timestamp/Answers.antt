@@ -1,6 +1,7 @@
 use Rattle.std.proofs.Common.{◌≡◌, ◌<◌, ap, ◌∙◌, arith, ℤ, ◌-ℤ◌, unsigned_abs, w32, w64, to_z, of_z}
 use Rattle.std.proofs.lemmas.Int.{ints}
-use Rattle.time_below.specs.Moment.{IsTimestampSecond, IsNearTimestampSecond, unix_seconds}
+use Rattle.time_below.specs.Moment.{IsTimestampSecond, unix_seconds}
+use Rattle.time_below.proofs.MomentLemmas.{near}
 use Rattle.time_below.proofs.offset_date_time.OffsetDateTime.unix_timestamp.Goals as goal
 
 -- the difference as the code holds it
@@ -8,11 +9,9 @@ abbrev held : ℤ → ℤ → ℤ
 held s o =
     to_z w64 (of_z w64 (to_z w64 (of_z w64 s) -ℤ to_z w64 (of_z w64 (to_z w32 (of_z w32 o)))))
 
+-- the difference fits, so the code holds it as it is
 held_is : (s o : ℤ) → IsTimestampSecond s → unsigned_abs o < 93_600 → held s o ≡ s -ℤ o
 held_is s o h k = omega (arith, ints)
-
-near : (s o : ℤ) → IsTimestampSecond s → unsigned_abs o < 93_600 → IsNearTimestampSecond (held s o)
-near s o h k = (omega (arith, ints), omega (arith, ints))
 
 pub returns-clause-value : goal.returns-clause-value
 returns-clause-value c =
@@ -24,5 +23,7 @@ returns-clause-value c =
 
 pub returns-clause-range : goal.returns-clause-range
 returns-clause-range c =
-    near c.unix_timestamp.result c.whole_seconds.result c.unix_timestamp.ensures.range
-    c.whole_seconds.ensures.range
+    let seconds = c.unix_timestamp.ensures.range in
+    let offset = c.whole_seconds.ensures.range in
+    rw (held_is c.unix_timestamp.result c.whole_seconds.result seconds offset)
+    (near c.unix_timestamp.result c.whole_seconds.result seconds offset)
