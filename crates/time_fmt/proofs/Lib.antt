@@ -7,3 +7,4 @@ pub mod GuaranteeLemmas
 pub mod LawLemmas
 pub mod NumberLemmas
 pub mod TextLemmas
+pub mod WriteLemmas
