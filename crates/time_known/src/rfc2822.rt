@@ -1,9 +1,14 @@
 //! RFC 2822.
 ghost use Rattle.std.specs.Prelude.{◌≡◌, ◌+◌, ◌≤◌, IsTrue, IfSome, IfOk, OnOk, IfErr, true, unsigned_abs, vec_len, vec_capacity};
+ghost use Rattle.time_below.specs.Offset.{IsOffset};
+ghost use Rattle.time_below.specs.TimeOfDay.{IsTimeOfDay};
 ghost use Rattle.time_fmt.specs.Outcome.{done, refused, invalid_component};
 ghost use Rattle.time_fmt.specs.Room.{HasRoom, Writes};
+ghost use Rattle.time_provide.specs.Real.{AreOfDate};
 ghost use Rattle.time_known.specs.Groups.{IfAll};
+ghost use Rattle.time_known.specs.ReadBack.{ReadsAs};
 ghost use Rattle.time_known.specs.Rfc2822.{rfc2822_width, rfc2822_outcome, rfc2822_text, named_date_text, date_text};
+ghost use Rattle.time_known.specs.Rfc2822Grammar.{Rfc2822DateTime, to_whole_second};
 
 use crate::groups::Groups;
 use crate::parts::{four_digit_year, write_clock_time, write_offset};
@@ -39,6 +44,8 @@ impl ComputeMetadata for Rfc2822 {
 impl Formattable for Rfc2822 {
     ghost outcome_of = { λ _. rfc2822_outcome };
 
+    ghost reads_as = { λ _. ReadsAs to_whole_second Rfc2822DateTime Rfc2822DateTime };
+
     fn write_into<V: ComponentProvider>(
         &self,
         output: &mut Vec<u8>,
@@ -70,6 +77,8 @@ fn accepted_year<V: ComponentProvider>(
         (λ year. IfSome (V.facts value.now).date (λ d. year ≡ unsigned_abs d.year)) }
     ensures accepted { OnOk result (IfAll (V.facts value.now)
         (λ d t o. rfc2822_outcome (V.facts value.now) ≡ done (rfc2822_text d t o))) }
+    ensures real { OnOk result (IfSome (V.facts value.now).date AreOfDate
+        × IfSome (V.facts value.now).offset IsOffset) }
     ensures agrees { V.agrees state.new value.now }
 {
     let Some(year) = four_digit_year(value.calendar_year(state), 1900) else {
@@ -97,6 +106,7 @@ fn write_date_time<V: ComponentProvider>(
     requires agrees { V.agrees state.old value.now }
     ensures writes { IfAll (V.facts value.now)
         (λ d t o. Writes output.old output.new result (rfc2822_text d t o)) }
+    ensures real { IfSome (V.facts value.now).time IsTimeOfDay }
     ensures within { vec_len output.new ≤ vec_len output.old + rfc2822_width }
     ensures capacity { vec_capacity output.new ≡ vec_capacity output.old }
     ensures agrees { V.agrees state.new value.now }

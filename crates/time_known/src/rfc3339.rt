@@ -1,9 +1,14 @@
 //! RFC 3339.
 ghost use Rattle.std.specs.Prelude.{◌≡◌, ◌+◌, ◌≤◌, IsTrue, IfSome, IfOk, OnOk, IfErr, true, unsigned_abs, vec_len, vec_capacity};
+ghost use Rattle.time_below.specs.Offset.{IsOffset};
+ghost use Rattle.time_below.specs.TimeOfDay.{IsTimeOfDay};
 ghost use Rattle.time_fmt.specs.Outcome.{done, refused, invalid_component};
 ghost use Rattle.time_fmt.specs.Room.{HasRoom, Writes};
+ghost use Rattle.time_provide.specs.Real.{AreOfDate};
 ghost use Rattle.time_known.specs.Groups.{IfAll};
+ghost use Rattle.time_known.specs.ReadBack.{ReadsAs};
 ghost use Rattle.time_known.specs.Rfc3339.{rfc3339_width, rfc3339_outcome, rfc3339_text, full_date_text, time_secfrac_text, time_offset_text};
+ghost use Rattle.time_known.specs.Rfc3339Grammar.{Rfc3339DateTime, CanonicalRfc3339DateTime};
 
 use crate::groups::Groups;
 use crate::parts::{four_digit_year, write_clock_time, write_month_and_day, write_offset};
@@ -38,6 +43,8 @@ impl ComputeMetadata for Rfc3339 {
 impl Formattable for Rfc3339 {
     ghost outcome_of = { λ _. rfc3339_outcome };
 
+    ghost reads_as = { λ _. ReadsAs (λ v. v) Rfc3339DateTime CanonicalRfc3339DateTime };
+
     fn write_into<V: ComponentProvider>(
         &self,
         output: &mut Vec<u8>,
@@ -69,6 +76,8 @@ fn accepted_year<V: ComponentProvider>(
         (λ year. IfSome (V.facts value.now).date (λ d. year ≡ unsigned_abs d.year)) }
     ensures accepted { OnOk result (IfAll (V.facts value.now)
         (λ d t o. rfc3339_outcome (V.facts value.now) ≡ done (rfc3339_text d t o))) }
+    ensures real { OnOk result (IfSome (V.facts value.now).date AreOfDate
+        × IfSome (V.facts value.now).offset IsOffset) }
     ensures agrees { V.agrees state.new value.now }
 {
     let Some(year) = four_digit_year(value.calendar_year(state), 0) else {
@@ -99,6 +108,7 @@ fn write_date_time<V: ComponentProvider>(
     requires agrees { V.agrees state.old value.now }
     ensures writes { IfAll (V.facts value.now)
         (λ d t o. Writes output.old output.new result (rfc3339_text d t o)) }
+    ensures real { IfSome (V.facts value.now).time IsTimeOfDay }
     ensures within { vec_len output.new ≤ vec_len output.old + rfc3339_width }
     ensures capacity { vec_capacity output.new ≡ vec_capacity output.old }
     ensures agrees { V.agrees state.new value.now }
