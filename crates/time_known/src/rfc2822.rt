@@ -8,7 +8,7 @@ ghost use Rattle.time_provide.specs.Real.{AreOfDate};
 ghost use Rattle.time_known.specs.Groups.{IfAll};
 ghost use Rattle.time_known.specs.ReadBack.{ReadsAs};
 ghost use Rattle.time_known.specs.Rfc2822.{rfc2822_width, rfc2822_outcome, rfc2822_text, named_date_text, date_text};
-ghost use Rattle.time_known.specs.Rfc2822Grammar.{Rfc2822DateTime, to_whole_second};
+ghost use Rattle.time_known.specs.Rfc2822Grammar.{Rfc2822Spells, to_whole_second};
 
 use crate::groups::Groups;
 use crate::parts::{four_digit_year, write_clock_time, write_offset};
@@ -44,7 +44,7 @@ impl ComputeMetadata for Rfc2822 {
 impl Formattable for Rfc2822 {
     ghost outcome_of = { λ _. rfc2822_outcome };
 
-    ghost reads_as = { λ _. ReadsAs to_whole_second Rfc2822DateTime Rfc2822DateTime };
+    ghost reads_as = { λ _. ReadsAs to_whole_second Rfc2822Spells Rfc2822Spells };
 
     fn write_into<V: ComponentProvider>(
         &self,

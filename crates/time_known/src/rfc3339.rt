@@ -8,7 +8,7 @@ ghost use Rattle.time_provide.specs.Real.{AreOfDate};
 ghost use Rattle.time_known.specs.Groups.{IfAll};
 ghost use Rattle.time_known.specs.ReadBack.{ReadsAs};
 ghost use Rattle.time_known.specs.Rfc3339.{rfc3339_width, rfc3339_outcome, rfc3339_text, full_date_text, time_secfrac_text, time_offset_text};
-ghost use Rattle.time_known.specs.Rfc3339Grammar.{Rfc3339DateTime, CanonicalRfc3339DateTime};
+ghost use Rattle.time_known.specs.Rfc3339Grammar.{Rfc3339Spells, IsCanonicalRfc3339};
 
 use crate::groups::Groups;
 use crate::parts::{four_digit_year, write_clock_time, write_month_and_day, write_offset};
@@ -43,7 +43,7 @@ impl ComputeMetadata for Rfc3339 {
 impl Formattable for Rfc3339 {
     ghost outcome_of = { λ _. rfc3339_outcome };
 
-    ghost reads_as = { λ _. ReadsAs (λ v. v) Rfc3339DateTime CanonicalRfc3339DateTime };
+    ghost reads_as = { λ _. ReadsAs (λ v. v) Rfc3339Spells IsCanonicalRfc3339 };
 
     fn write_into<V: ComponentProvider>(
         &self,
