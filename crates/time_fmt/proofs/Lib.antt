@@ -8,3 +8,4 @@ pub mod RealLemmas
 pub mod LawLemmas
 pub mod NumberLemmas
 pub mod TextLemmas
+pub mod WriteLemmas
