@@ -38,7 +38,7 @@ use Rattle.time_fmt.specs.Text.{padded_text, sign_text, hour_12, period_text, su
 
 -- ---- texts
 
-ascii_test : (bs : List ℕ) → list_all (λ b. nat_lt b 128) bs ≡ true → IsAscii bs
+pub ascii_test : (bs : List ℕ) → list_all (λ b. nat_lt b 128) bs ≡ true → IsAscii bs
 ascii_test bs h =
     IsAscii-from_all bs (All-weaker (λ b. IsTrue (nat_lt b 128)) (λ b. b < 128) (λ b. ltb-true b 128) bs (AllPass-from_list_all (λ b. nat_lt b 128) bs h))
 
@@ -47,7 +47,7 @@ IsAscii-padded_text padding.Space places n h = IsAscii-padded 32 places n (omega
 IsAscii-padded_text padding.Zero places n h = IsAscii-padded 48 places n (omega arith) h
 IsAscii-padded_text padding.None places n h = IsAscii-decimal n h
 
-IsAscii-sign_text : (is_negative is_wanted : Bool) → IsAscii (sign_text is_negative is_wanted)
+pub IsAscii-sign_text : (is_negative is_wanted : Bool) → IsAscii (sign_text is_negative is_wanted)
 IsAscii-sign_text true is_wanted = ascii_test (codes "-") refl
 IsAscii-sign_text false true = ascii_test (codes "+") refl
 IsAscii-sign_text false false = IsAscii-nil
@@ -67,13 +67,13 @@ name_at (name ∷ names) (suc i) h = name_at names i h.1
 ascii_months : AreAscii month_names
 ascii_months = (ascii_test (codes "January") refl, (ascii_test (codes "February") refl, (ascii_test (codes "March") refl, (ascii_test (codes "April") refl, (ascii_test (codes "May") refl, (ascii_test (codes "June") refl, (ascii_test (codes "July") refl, (ascii_test (codes "August") refl, (ascii_test (codes "September") refl, (ascii_test (codes "October") refl, (ascii_test (codes "November") refl, (ascii_test (codes "December") refl, tt))))))))))))
 
-IsAscii-month_name : (m : ℕ) → IsAscii (month_name m)
+pub IsAscii-month_name : (m : ℕ) → IsAscii (month_name m)
 IsAscii-month_name m = name_at month_names (m - 1) ascii_months
 
 ascii_weekdays : AreAscii weekday_names
 ascii_weekdays = (ascii_test (codes "Monday") refl, (ascii_test (codes "Tuesday") refl, (ascii_test (codes "Wednesday") refl, (ascii_test (codes "Thursday") refl, (ascii_test (codes "Friday") refl, (ascii_test (codes "Saturday") refl, (ascii_test (codes "Sunday") refl, tt)))))))
 
-IsAscii-weekday_name : (w : ℕ) → IsAscii (weekday_name w)
+pub IsAscii-weekday_name : (w : ℕ) → IsAscii (weekday_name w)
 IsAscii-weekday_name w = name_at weekday_names w ascii_weekdays
 
 IsAscii-indexed : (one_indexed : Bool) (days : ℕ) → days < 7 → IsAscii (decimal (indexed one_indexed days))

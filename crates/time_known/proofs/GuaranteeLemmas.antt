@@ -1,0 +1,101 @@
+-- The texts of the well-known formats are ASCII, and so they are UTF-8.
+use Rattle.std.proofs.Common.{◌≡◌, refl, ℕ, ◌<◌, ◌^◌, ◌==◌, arith, Bool, true, false, List, [], ◌++◌, IsAscii, IsUtf8, Option, Some, None, unsigned_abs, if◌then◌else◌}
+use Rattle.std.specs.Prelude.{codes, IfSome}
+use Rattle.std.proofs.lemmas.Str.{IsAscii-append, IsAscii-take, IsUtf8-from_ascii}
+use Rattle.std.proofs.lemmas.Str.Ascii.{IsAscii-nil}
+use Rattle.time_below.specs.Facts.{Facts, DateFacts}
+use Rattle.time_below.specs.Offset.{Offset, IsOffset, is_negative, is_utc}
+use Rattle.time_below.specs.TimeOfDay.{TimeOfDay, IsTimeOfDay}
+use Rattle.time_digits.specs.Digits.{zero_padded}
+use Rattle.time_digits.specs.Fraction.{trimmed_fraction}
+use Rattle.time_digits.proofs.FractionLemmas.{IsAscii-trimmed_fraction}
+use Rattle.time_digits.proofs.LengthLemmas.{IsAscii-padded}
+use Rattle.time_fmt.specs.DateText.{month_name, weekday_name, short_name}
+use Rattle.time_fmt.specs.Outcome.{Outcome, done, refused, invalid_component}
+use Rattle.time_fmt.proofs.GuaranteeLemmas.{ascii_test, empty_utf8, IsAscii-sign_text, IsAscii-month_name, IsAscii-weekday_name}
+use Rattle.time_fmt.proofs.RealLemmas.{DateFits, TimeFits, OffsetFits, date_fits, time_fits, offset_fits}
+use Rattle.time_provide.specs.Real.{AreOfDate}
+use Rattle.time_known.specs.Rfc2822.{rfc2822_of_groups, rfc2822_text, date_text, named_date_text}
+use Rattle.time_known.specs.Rfc3339.{rfc3339_of_groups, rfc3339_text, full_date_text, time_secfrac_text, time_offset_text}
+use Rattle.time_known.specs.WellKnown.{refused_if, of_all_groups, month_and_day_text, clock_text, offset_hours_text, offset_minutes_text, offset_text}
+
+-- one text after another
+pub then_ascii : {a b : List ℕ} → IsAscii a → IsAscii b → IsAscii (a ++ b)
+then_ascii {a} {b} p q = IsAscii-append a b p q
+
+-- ---- parts
+
+pub ascii_number : (k n : ℕ) → n < 2 ^ 64 → IsAscii (zero_padded k n)
+ascii_number k n h = IsAscii-padded 48 k n (omega arith) h
+
+pub ascii_month_and_day : (separator : List ℕ) (d : DateFacts) → IsAscii separator → DateFits d → IsAscii (month_and_day_text separator d)
+ascii_month_and_day separator d s h =
+    then_ascii (then_ascii (then_ascii s (ascii_number 2 d.month h.month)) s) (ascii_number 2 d.day h.day)
+
+pub ascii_clock : (separator : List ℕ) (t : TimeOfDay) → IsAscii separator → TimeFits t → IsAscii (clock_text separator t)
+ascii_clock separator t s h =
+    then_ascii (then_ascii (then_ascii (then_ascii (ascii_number 2 t.hour h.hour) s) (ascii_number 2 t.minute h.minute)) s)
+    (ascii_number 2 t.second h.second)
+
+pub ascii_offset_hours : (o : Offset) → OffsetFits o → IsAscii (offset_hours_text o)
+ascii_offset_hours o h = then_ascii (IsAscii-sign_text (is_negative o) true) (ascii_number 2 (unsigned_abs o.hours) h.hours)
+
+pub ascii_offset : (separator : List ℕ) (o : Offset) → IsAscii separator → OffsetFits o → IsAscii (offset_text separator o)
+ascii_offset separator o s h = then_ascii (then_ascii (ascii_offset_hours o h) s) (ascii_number 2 (unsigned_abs o.minutes) h.minutes)
+
+-- the choice of two texts
+pub ascii_choice : {a b : List ℕ} (c : Bool) → IsAscii a → IsAscii b → IsAscii (if c then a else b)
+ascii_choice true p q = p
+ascii_choice false p q = q
+
+-- a refusal before any byte
+pub ascii_refused_if : (c : Bool) (name : List ℕ) (o : Outcome) → IsAscii o.bytes → IsAscii (refused_if c name o).bytes
+ascii_refused_if true name o h = IsAscii-nil
+ascii_refused_if false name o h = h
+
+-- ---- RFC 3339
+
+ascii_rfc3339_text : (d : DateFacts) (t : TimeOfDay) (o : Offset) → DateFits d → TimeFits t → OffsetFits o → IsAscii (rfc3339_text d t o)
+ascii_rfc3339_text d t o h k l =
+    let colon = ascii_test (codes ":") refl in
+    let date = then_ascii (ascii_number 4 (unsigned_abs d.year) h.year) (ascii_month_and_day (codes "-") d (ascii_test (codes "-") refl) h) in
+    let time = ascii_clock (codes ":") t colon k in
+    let fraction = ascii_choice (t.nanosecond == 0) IsAscii-nil (then_ascii (ascii_test (codes ".") refl) (IsAscii-trimmed_fraction t.nanosecond)) in
+    let offset = ascii_choice (is_utc o) (ascii_test (codes "Z") refl) (ascii_offset (codes ":") o colon l) in
+    then_ascii (then_ascii (then_ascii (then_ascii date (ascii_test (codes "T") refl)) time) fraction) offset
+
+pub ascii_rfc3339 : (d : DateFacts) (t : TimeOfDay) (o : Offset) → DateFits d → TimeFits t → OffsetFits o → IsAscii (rfc3339_of_groups d t o).bytes
+ascii_rfc3339 d t o h k l = ascii_refused_if _ _ _ (ascii_refused_if _ _ _ (ascii_refused_if _ _ _ (ascii_rfc3339_text d t o h k l)))
+
+-- ---- RFC 2822
+
+ascii_rfc2822_text : (d : DateFacts) (t : TimeOfDay) (o : Offset) → DateFits d → TimeFits t → OffsetFits o → IsAscii (rfc2822_text d t o)
+ascii_rfc2822_text d t o h k l =
+    let space = ascii_test (codes " ") refl in
+    let weekday = IsAscii-take (weekday_name d.weekday) 3 (IsAscii-weekday_name d.weekday) in
+    let month = IsAscii-take (month_name d.month) 3 (IsAscii-month_name d.month) in
+    let date = then_ascii (then_ascii (then_ascii (then_ascii (ascii_number 2 d.day h.day) space) month) space) (ascii_number 4 (unsigned_abs d.year) h.year) in
+    let named = then_ascii (then_ascii weekday (ascii_test (codes ", ") refl)) date in
+    let time = ascii_clock (codes ":") t (ascii_test (codes ":") refl) k in
+    then_ascii (then_ascii (then_ascii (then_ascii named space) time) space) (ascii_offset [] o IsAscii-nil l)
+
+pub ascii_rfc2822 : (d : DateFacts) (t : TimeOfDay) (o : Offset) → DateFits d → TimeFits t → OffsetFits o → IsAscii (rfc2822_of_groups d t o).bytes
+ascii_rfc2822 d t o h k l = ascii_refused_if _ _ _ (ascii_refused_if _ _ _ (ascii_rfc2822_text d t o h k l))
+
+-- ---- outcomes
+
+-- of the groups of a value that is real
+of_groups_utf8 : (date : Option DateFacts) (time : Option TimeOfDay) (offset : Option Offset) (of_groups : DateFacts → TimeOfDay → Offset → Outcome)
+    → ((d : DateFacts) (t : TimeOfDay) (o : Offset) → DateFits d → TimeFits t → OffsetFits o → IsAscii (of_groups d t o).bytes)
+    → IfSome date AreOfDate → IfSome time IsTimeOfDay → IfSome offset IsOffset
+    → IsUtf8 (of_all_groups (record { date = date; time = time; offset = offset; stamp = None }) of_groups).bytes
+of_groups_utf8 None time offset of_groups each h k l = empty_utf8
+of_groups_utf8 (Some d) None offset of_groups each h k l = empty_utf8
+of_groups_utf8 (Some d) (Some t) None of_groups each h k l = empty_utf8
+of_groups_utf8 (Some d) (Some t) (Some o) of_groups each h k l =
+    IsUtf8-from_ascii (of_groups d t o).bytes (each d t o (date_fits d h) (time_fits t k) (offset_fits o l))
+
+pub all_groups_utf8 : (f : Facts) (of_groups : DateFacts → TimeOfDay → Offset → Outcome)
+    → ((d : DateFacts) (t : TimeOfDay) (o : Offset) → DateFits d → TimeFits t → OffsetFits o → IsAscii (of_groups d t o).bytes)
+    → IfSome f.date AreOfDate → IfSome f.time IsTimeOfDay → IfSome f.offset IsOffset → IsUtf8 (of_all_groups f of_groups).bytes
+all_groups_utf8 f of_groups each h k l = of_groups_utf8 f.date f.time f.offset of_groups each h k l
