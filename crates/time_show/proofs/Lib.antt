@@ -1,6 +1,7 @@
-pub mod WrittenLemmas
+pub mod CommandLemmas
+pub mod OutputBufferLemmas
 pub mod LinesLemmas
 pub mod FieldsLemmas
 pub mod ReplyLemmas
-pub mod ProgressLemmas
-pub mod PartsLemmas
+pub mod RunLemmas
+pub mod ValueLemmas

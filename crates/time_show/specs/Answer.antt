@@ -2,6 +2,7 @@
 use Rattle.std.specs.Prelude.{ℕ, ◌≡◌, ◌≢◌, ◌^◌, ◌-◌, ◌⊎◌, Some, None, List, [], ◌∷◌, ◌++◌, length, min, codes, decimal}
 use Rattle.time_fmt.specs.Outcome.{Outcome, Refusal, insufficient, invalid_component, out_of_range}
 use Rattle.time_show.specs.Asked.{Asked, no_command, no_value, formatted, asked_of}
+use Rattle.time_show.specs.Value.{part_name}
 
 -- `ok COUNT WIDTH TEXT`
 abbrev pub ok_text : ℕ → ℕ → List ℕ → List ℕ
@@ -15,15 +16,20 @@ refused_text written name = codes "refused " ++ (decimal written ++ (codes " " +
 abbrev pub bad_line_text : List ℕ
 bad_line_text = codes "bad line\n"
 
+-- the name of a refusal
 abbrev pub refusal_name : Refusal → List ℕ
 refusal_name insufficient = codes "insufficient"
 refusal_name (invalid_component name) = name
 refusal_name (out_of_range range) = range.name
 
+-- a width that is greater is told as this one
+abbrev pub greatest_usize : ℕ
+greatest_usize = 2 ^ 64 - 1
+
 -- the text of an outcome by a description of this width
 abbrev pub outcome_text : ℕ → Outcome → List ℕ
 outcome_text width outcome = elim outcome.refusal [
-  | None ↦ ok_text (length outcome.bytes) (min width (2 ^ 64 - 1)) outcome.bytes
+  | None ↦ ok_text (length outcome.bytes) (min width greatest_usize) outcome.bytes
   | Some refusal ↦ refused_text (length outcome.bytes) (refusal_name refusal)
 ]
 
@@ -33,7 +39,7 @@ out_of_memory_name = codes "out-of-memory"
 -- With ample memory the answer is this text, and for want of memory a value may be refused.
 abbrev pub Answers : Asked → List ℕ → Type 0
 Answers no_command text = text ≡ bad_line_text
-Answers (no_value name) text = text ≡ refused_text 0 name
+Answers (no_value part) text = text ≡ refused_text 0 (part_name part)
 Answers (formatted width outcome) text =
     (text ≡ outcome_text width outcome) ⊎ (text ≡ refused_text 0 out_of_memory_name)
 

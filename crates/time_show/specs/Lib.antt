@@ -1,11 +1,10 @@
 pub mod Lines
-pub mod Kept
 pub mod Fields
 pub mod Command
+pub mod Value
 pub mod Asked
 pub mod Answer
-pub mod Component
 pub mod Reply
-pub mod Written
-pub mod Progress
-pub mod Show
+pub mod LineBuffer
+pub mod OutputBuffer
+pub mod Run

@@ -1,7 +1,16 @@
-//! Searches in bytes.
+//! Bytes that mean something in a line, and where they stand.
 ghost use Rattle.std.specs.Prelude.{◌≡◌, ◌==◌, position};
 
-/// The first place of the byte.
+/// Ends a line.
+pub const LINE_FEED: u8 = b'\n';
+
+/// Stands between two fields.
+pub const SPACE: u8 = b' ';
+
+/// Stands before the digits of a negative number.
+pub const MINUS: u8 = b'-';
+
+/// The first place of the byte, counted from 0, if it stands there at all.
 pub fn place_of(byte: u8, bytes: &[u8]) -> Option<usize>
     ensures { result ≡ position (λ b. b == byte) bytes.now }
 {

@@ -1,43 +1,73 @@
 //! What a line asks for.
 ghost use Rattle.std.specs.Prelude.{◌≡◌, ◌≤◌, length};
-ghost use Rattle.time_show.specs.Command.{command_of, time_command};
+ghost use Rattle.time_show.specs.Command.{command_of, time_numbers, date_time_numbers};
 ghost use Rattle.time_show.specs.Fields.{numbers_of};
 
 use crate::fields::{Fields, numbers};
+use crate::line_buffer::LINE_LIMIT;
+use crate::value::{DateNumbers, DateTimeNumbers, OffsetNumbers, TimeNumbers};
 
-/// A command: its numbers are those of the line, whatever their components admit.
+/// A command with its numbers as the line has them, whether or not they are in the ranges of their
+/// parts.
 #[derive(Clone, Copy)]
 pub enum Command {
     /// A time of day, by the description of the command `time`.
-    Time {
-        hour: i32,
-        minute: i32,
-        second: i32,
-        nanosecond: i32,
-    },
+    Time(TimeNumbers),
 }
 
-/// The command that a line of at most 128 bytes is, and nothing for any other line.
+/// The command that a line is, and nothing for a line that is none.
 pub fn command_in(line: &[u8]) -> Option<Command>
-    requires { length line.now ≤ 128 }
+    requires { length line.now ≤ LINE_LIMIT }
     ensures { result ≡ command_of line.now }
 {
     let mut fields = Fields::new(line);
     match fields.next()? {
-        b"time" => time_command(fields),
+        b"time" => time_numbers(fields).map(Command::Time),
         _ => None,
     }
 }
 
-/// The command `time` with these fields after its name.
-fn time_command(fields: Fields<'_>) -> Option<Command>
-    ensures { result ≡ time_command (numbers_of fields.entry) }
+/// The numbers of a time of day, where these fields are four numbers.
+fn time_numbers(fields: Fields<'_>) -> Option<TimeNumbers>
+    ensures { result ≡ time_numbers (numbers_of fields.entry) }
 {
     let [hour, minute, second, nanosecond] = numbers::<4>(fields)?;
-    Some(Command::Time {
+    Some(TimeNumbers {
         hour,
         minute,
         second,
         nanosecond,
+    })
+}
+
+/// The numbers of a local date and time with its offset, where these fields are ten numbers.
+pub fn date_time_numbers(fields: Fields<'_>) -> Option<DateTimeNumbers>
+    ensures { result ≡ date_time_numbers (numbers_of fields.entry) }
+{
+    let [
+        year,
+        month,
+        day,
+        hour,
+        minute,
+        second,
+        nanosecond,
+        hours,
+        minutes,
+        seconds,
+    ] = numbers::<10>(fields)?;
+    Some(DateTimeNumbers {
+        date: DateNumbers { year, month, day },
+        time: TimeNumbers {
+            hour,
+            minute,
+            second,
+            nanosecond,
+        },
+        offset: OffsetNumbers {
+            hours,
+            minutes,
+            seconds,
+        },
     })
 }

@@ -1,12 +1,15 @@
 //! The fields of a line, and the numbers that they spell.
-ghost use Rattle.std.specs.Prelude.{◌≡◌, ℕ, List, [], ◌∷◌, ◌<◌, length, pos, ◌≤ℤ◌, ◌<ℤ◌, option_map, IsTrue, IfSome, MatchOption, Some, None};
+ghost use Rattle.std.specs.Prelude.{◌≡◌, ℕ, List, [], ◌∷◌, ◌<◌, ◌^◌, length, pos, ◌≤ℤ◌, ◌<ℤ◌, option_map, IsTrue, IfSome, MatchOption, Some, None};
 ghost use Rattle.time_show.specs.Fields.{fields_of, is_natural, natural_of, number_of, numbers_of, exactly};
 ghost use Rattle.std.specs.Char.{is_ascii_digit};
 ghost use Rattle.std.specs.List.{list_all};
 ghost use Rattle.std.specs.Str.Parse.{digits_value};
 
-use crate::bytes::place_of;
+use crate::bytes::{MINUS, SPACE, place_of};
 use std::marker::Model;
+
+/// The greatest number of digits of a number.
+const DIGITS_LIMIT: usize = 9;
 
 /// The fields that are left of a line. Exactly one space stands between two fields.
 #[derive(Drop)]
@@ -38,7 +41,7 @@ impl<'a> Fields<'a> {
             (λ field. self.old ≡ field.now ∷ self.new) }
     {
         let rest = self.rest?;
-        match place_of(b' ', rest) {
+        match place_of(SPACE, rest) {
             None => {
                 self.rest = None;
                 Some(rest)
@@ -62,7 +65,7 @@ fn are_digits(text: &[u8]) -> bool
 fn is_natural(text: &[u8]) -> bool
     ensures { result ≡ is_natural text.now }
 {
-    if text.is_empty() || text.len() > 9 {
+    if text.is_empty() || text.len() > DIGITS_LIMIT {
         return false;
     }
     are_digits(text)
@@ -72,7 +75,7 @@ fn is_natural(text: &[u8]) -> bool
 fn digits_value(digits: &[u8]) -> u32
     requires { IsTrue (is_natural digits.now) }
     ensures value { result ≡ digits_value 10 digits.now }
-    ensures small { result < 1000000000 }
+    ensures small { result < 10 ^ DIGITS_LIMIT }
 {
     let mut value = 0;
     for digit in digits {
@@ -84,7 +87,7 @@ fn digits_value(digits: &[u8]) -> u32
 /// The number that one to nine decimal digits spell, and nothing for any other text.
 fn natural(text: &[u8]) -> Option<i32>
     ensures value { result ≡ option_map pos (natural_of text.now) }
-    ensures small { IfSome result (λ n. (pos 0 ≤ℤ n) × (n <ℤ pos 1000000000)) }
+    ensures small { IfSome result (λ n. (pos 0 ≤ℤ n) × (n <ℤ pos (10 ^ DIGITS_LIMIT))) }
 {
     if !is_natural(text) {
         return None;
@@ -97,7 +100,7 @@ pub fn number(field: &[u8]) -> Option<i32>
     ensures { result ≡ number_of field.now }
 {
     match field {
-        [b'-', digits @ ..] => natural(digits).map(|value| -value),
+        [MINUS, digits @ ..] => natural(digits).map(|value| -value),
         _ => natural(field),
     }
 }

@@ -1,6 +1,7 @@
 //! The line whose end has not come yet.
 ghost use Rattle.std.specs.Prelude.{◌≡◌, ◌≤◌, ℕ, List, [], ◌++◌, length, take, Option, Some, None, MatchOption, IsTrue, ◌↔◌, if◌then◌else◌};
-ghost use Rattle.time_show.specs.Kept.{kept_with};
+ghost use Rattle.time_show.specs.LineBuffer.{kept_with};
+ghost use Rattle.time_show.specs.declared.line_buffer.TheConstants.{LINE_LIMIT};
 
 use std::marker::Model;
 
@@ -10,7 +11,7 @@ pub const LINE_LIMIT: usize = 128;
 /// The bytes of a line so far, or the fact that they are too many. It asks for no memory.
 #[derive(Drop)]
 pub struct LineBuffer {
-    bytes: [u8; 128],
+    bytes: [u8; LINE_LIMIT],
     len: usize,
     is_too_long: bool,
 }
@@ -20,7 +21,7 @@ impl Model for LineBuffer {
 
     ghost view = { λ b. if b.is_too_long then None else Some (take b.len b.bytes) };
 
-    ghost invariant = { λ b. b.len ≤ 128 };
+    ghost invariant = { λ b. b.len ≤ LINE_LIMIT };
 }
 
 impl LineBuffer {
@@ -29,7 +30,7 @@ impl LineBuffer {
         ensures { result ≡ Some [] }
     {
         LineBuffer {
-            bytes: [0; 128],
+            bytes: [0; LINE_LIMIT],
             len: 0,
             is_too_long: false,
         }
@@ -66,7 +67,7 @@ impl LineBuffer {
     /// The line, if it is not too long.
     pub fn line(&self) -> Option<&[u8]>
         ensures { MatchOption result (self.now ≡ None)
-            (λ line. (self.now ≡ Some line.now) × (length line.now ≤ 128)) }
+            (λ line. (self.now ≡ Some line.now) × (length line.now ≤ LINE_LIMIT)) }
     {
         if self.is_too_long {
             None

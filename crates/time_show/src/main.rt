@@ -15,6 +15,7 @@ mod reply;
 mod run;
 #[cfg(test)]
 mod tests;
+mod value;
 
 use std::process::ExitCode;
 

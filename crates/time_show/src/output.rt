@@ -1,7 +1,9 @@
 //! The answers on their way out: they are assembled in a fixed buffer, and go out together.
 ghost use Rattle.std.specs.Prelude.{◌≡◌, ◌+◌, ◌≤◌, ◌<◌, ℕ, List, [], ◌++◌, length, min, take, OnOk, OnErr};
 ghost use Rattle.std.specs.Io.KnownBytes.{Appends};
-ghost use Rattle.time_show.specs.Written.{Accepts, CutsOff, joined};
+ghost use Rattle.time_digits.specs.Digits.{joined};
+ghost use Rattle.time_show.specs.declared.output.TheConstants.{OUTPUT_LIMIT};
+ghost use Rattle.time_show.specs.OutputBuffer.{buffered, Accepts, AppendsStart, CutsOff};
 ghost use Rattle.time_show.specs.Reply.{reply_text};
 
 use crate::reply::Reply;
@@ -10,7 +12,7 @@ use std::marker::Model;
 use time_digits::u64_pad_none;
 
 /// How many bytes may wait until they are written.
-const OUTPUT_LIMIT: usize = 4096;
+pub const OUTPUT_LIMIT: usize = 4096;
 
 /// A write failed or took no byte.
 #[derive(Clone, Copy)]
@@ -20,7 +22,7 @@ pub struct WriteFailed;
 fn write_bytes<W: Write>(output: &mut W, bytes: &[u8]) -> Result<(), WriteFailed>
     ensures ok { OnOk result (Appends (W.contents output.old) (W.contents output.new) bytes.now) }
     ensures err { OnErr result
-        (CutsOff (W.contents output.old) (W.contents output.new) bytes.now []) }
+        (AppendsStart (W.contents output.old) (W.contents output.new) bytes.now) }
 {
     let mut done = 0;
     while done < bytes.len() {
@@ -44,10 +46,10 @@ fn joined_len(parts: &[&[u8]]) -> usize
     total
 }
 
-/// The bytes that wait until they are written. It asks for no memory.
+/// The bytes that wait until they are written, at most 4,096, in an array.
 #[derive(Drop)]
 pub struct OutputBuffer {
-    bytes: [u8; 4096],
+    bytes: [u8; OUTPUT_LIMIT],
     len: usize,
 }
 
@@ -56,7 +58,7 @@ impl Model for OutputBuffer {
 
     ghost view = { λ b. take b.len b.bytes };
 
-    ghost invariant = { λ b. b.len ≤ 4096 };
+    ghost invariant = { λ b. b.len ≤ OUTPUT_LIMIT };
 }
 
 impl OutputBuffer {
@@ -65,21 +67,21 @@ impl OutputBuffer {
         ensures { result ≡ [] }
     {
         OutputBuffer {
-            bytes: [0; 4096],
+            bytes: [0; OUTPUT_LIMIT],
             len: 0,
         }
     }
 
     /// How many more bytes may wait.
     fn room(&self) -> usize
-        ensures { result + length self.now ≡ 4096 }
+        ensures { result + length self.now ≡ OUTPUT_LIMIT }
     {
         OUTPUT_LIMIT - self.len
     }
 
     /// Lets the bytes wait.
     fn push(&mut self, bytes: &[u8])
-        requires room { length self.old + length bytes.now ≤ 4096 }
+        requires room { length self.old + length bytes.now ≤ OUTPUT_LIMIT }
         ensures { self.new ≡ self.old ++ bytes.now }
     {
         let end = self.len + bytes.len();
@@ -94,7 +96,7 @@ impl OutputBuffer {
         ensures ok { OnOk result
             (Appends (W.contents output.old) (W.contents output.new) self.old) }
         ensures err { OnErr result
-            (CutsOff (W.contents output.old) (W.contents output.new) self.old []) }
+            (AppendsStart (W.contents output.old) (W.contents output.new) self.old) }
     {
         write_bytes(output, &self.bytes[..self.len])?;
         self.len = 0;
@@ -103,11 +105,11 @@ impl OutputBuffer {
 
     /// Writes what waits, where it leaves no room for `most` bytes.
     fn make_room<W: Write>(&mut self, output: &mut W, most: usize) -> Result<(), WriteFailed>
-        ensures room { OnOk result (4096 < length self.new + most → self.new ≡ []) }
-        ensures ok { OnOk result
-            (Accepts (W.contents output.old) (W.contents output.new) self.old self.new []) }
+        ensures room { OnOk result (OUTPUT_LIMIT < length self.new + most → self.new ≡ []) }
+        ensures ok { OnOk result (Accepts (buffered (W.contents output.old) self.old)
+            (buffered (W.contents output.new) self.new) []) }
         ensures err { OnErr result
-            (CutsOff (W.contents output.old) (W.contents output.new) self.old []) }
+            (AppendsStart (W.contents output.old) (W.contents output.new) self.old) }
     {
         if most > self.room() {
             self.flush(output)?;
@@ -117,10 +119,10 @@ impl OutputBuffer {
 
     /// Accepts the bytes. Where there is no room for them, what waits goes out first.
     fn append<W: Write>(&mut self, output: &mut W, bytes: &[u8]) -> Result<(), WriteFailed>
-        ensures ok { OnOk result
-            (Accepts (W.contents output.old) (W.contents output.new) self.old self.new bytes.now) }
-        ensures err { OnErr result
-            (CutsOff (W.contents output.old) (W.contents output.new) self.old bytes.now) }
+        ensures ok { OnOk result (Accepts (buffered (W.contents output.old) self.old)
+            (buffered (W.contents output.new) self.new) bytes.now) }
+        ensures err { OnErr result (CutsOff (buffered (W.contents output.old) self.old)
+            (W.contents output.new) bytes.now) }
     {
         self.make_room(output, bytes.len())?;
         if bytes.len() > self.room() {
@@ -134,11 +136,10 @@ impl OutputBuffer {
     /// Accepts the parts, one after another. Where they do not fit beside what waits, that goes out
     /// first: so they go out by one write if the buffer holds them and the writer takes them whole.
     fn append_all<W: Write>(&mut self, output: &mut W, parts: &[&[u8]]) -> Result<(), WriteFailed>
-        ensures ok { OnOk result
-            (Accepts (W.contents output.old) (W.contents output.new) self.old self.new
-            (joined parts.now)) }
-        ensures err { OnErr result
-            (CutsOff (W.contents output.old) (W.contents output.new) self.old (joined parts.now)) }
+        ensures ok { OnOk result (Accepts (buffered (W.contents output.old) self.old)
+            (buffered (W.contents output.new) self.new) (joined parts.now)) }
+        ensures err { OnErr result (CutsOff (buffered (W.contents output.old) self.old)
+            (W.contents output.new) (joined parts.now)) }
     {
         self.make_room(output, joined_len(parts))?;
         self.append_each(output, parts)
@@ -146,11 +147,10 @@ impl OutputBuffer {
 
     /// Accepts the parts, one after another.
     fn append_each<W: Write>(&mut self, output: &mut W, parts: &[&[u8]]) -> Result<(), WriteFailed>
-        ensures ok { OnOk result
-            (Accepts (W.contents output.old) (W.contents output.new) self.old self.new
-            (joined parts.now)) }
-        ensures err { OnErr result
-            (CutsOff (W.contents output.old) (W.contents output.new) self.old (joined parts.now)) }
+        ensures ok { OnOk result (Accepts (buffered (W.contents output.old) self.old)
+            (buffered (W.contents output.new) self.new) (joined parts.now)) }
+        ensures err { OnErr result (CutsOff (buffered (W.contents output.old) self.old)
+            (W.contents output.new) (joined parts.now)) }
     {
         for part in parts {
             self.append(output, part)?;
@@ -158,18 +158,16 @@ impl OutputBuffer {
         Ok(())
     }
 
-    /// Accepts the text of the reply.
+    /// Accepts the text of the reply. After an error a beginning of it may have gone out.
     pub fn append_reply<W: Write>(
         &mut self,
         output: &mut W,
         reply: &Reply,
     ) -> Result<(), WriteFailed>
-        ensures ok { OnOk result
-            (Accepts (W.contents output.old) (W.contents output.new) self.old self.new
-            (reply_text reply.now)) }
-        ensures err { OnErr result
-            (CutsOff (W.contents output.old) (W.contents output.new) self.old
-            (reply_text reply.now)) }
+        ensures ok { OnOk result (Accepts (buffered (W.contents output.old) self.old)
+            (buffered (W.contents output.new) self.new) (reply_text reply.now)) }
+        ensures err { OnErr result (CutsOff (buffered (W.contents output.old) self.old)
+            (W.contents output.new) (reply_text reply.now)) }
     {
         match reply {
             Reply::Formatted { count, width, text } => {

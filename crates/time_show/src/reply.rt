@@ -1,19 +1,21 @@
-//! What a line is answered by. A new command adds its part here and to the module of commands.
-ghost use Rattle.std.specs.Prelude.{◌≡◌, ◌≤◌, length, map};
-ghost use Rattle.time_show.specs.Answer.{IsAnswer, Answers};
-ghost use Rattle.time_show.specs.Asked.{asked_time, formatted, formatted_time, time_tree};
+//! What a line is answered by.
+ghost use Rattle.std.specs.Prelude.{◌≡◌, ◌≤◌, length, map, Some};
 ghost use Rattle.time_below.specs.Tree.{all_of, borrowed_tree, trees};
-ghost use Rattle.time_show.specs.Component.{number_in_byte, number_in_word};
+ghost use Rattle.time_show.specs.Answer.{IsAnswer, Answers};
+ghost use Rattle.time_show.specs.Asked.{asked_by, asked_value, formatted, time_tree};
 ghost use Rattle.time_show.specs.Reply.{reply_text, error_name};
 
 use crate::command::{Command, command_in};
+use crate::line_buffer::LINE_LIMIT;
+use crate::value::{Part, TimeNumbers, time_value};
 use std::alloc::Global;
 use std::default::Default;
-use time_fmt::format_description::modifier::{
+use time_below::format_description::modifier::{
     Hour24, Minute, Padding, Second, Subsecond, SubsecondDigits,
 };
-use time_fmt::format_description::{BorrowedFormatItem, Component};
-use time_fmt::{ComponentProvider, Format, Formattable, Time};
+use time_below::format_description::{BorrowedFormatItem, Component};
+use time_fmt::{Format, Formattable};
+use time_provide::ComponentProvider;
 
 /// The answer to a line.
 #[derive(Drop)]
@@ -34,7 +36,7 @@ pub enum Reply {
     BadLine,
 }
 
-/// The name of a refusal.
+/// The name of an error in its refusal.
 fn error_name(error: &Format) -> &'static str
     ensures { result.now ≡ error_name error.now }
 {
@@ -70,6 +72,28 @@ where
     }
 }
 
+/// The reply to a value by a description, or to the part that is out of its range.
+fn value_reply<D: Formattable, V: ComponentProvider + Drop>(
+    alloc: Global,
+    description: &D,
+    value: Result<V, Part>,
+) -> Reply
+where
+    V::State: Drop,
+    ensures { Answers
+        (asked_value (D.width_of description.now)
+        (λ v. D.outcome_of description.now (V.facts v)) value)
+        (reply_text result) }
+{
+    match value {
+        Ok(value) => formatted_reply(alloc, description, &value),
+        Err(part) => Reply::Refused {
+            written: 0,
+            name: part.name(),
+        },
+    }
+}
+
 /// The description of a time: hour, minute and second in two digits each, then the decimals.
 fn time_items() -> [BorrowedFormatItem<'static>; 7]
     ensures { all_of (trees (map borrowed_tree result)) ≡ time_tree }
@@ -97,65 +121,25 @@ fn time_items() -> [BorrowedFormatItem<'static>; 7]
     ]
 }
 
-/// The reply to a time.
-fn formatted_time(alloc: Global, time: Time) -> Reply
-    ensures { Answers (formatted_time time) (reply_text result) }
+/// The reply to the numbers of a time of day.
+fn time_reply(alloc: Global, numbers: TimeNumbers) -> Reply
+    ensures { Answers (asked_by (Some (Command.Time numbers))) (reply_text result) }
 {
     let items = time_items();
-    formatted_reply(
+    value_reply(
         alloc,
         &BorrowedFormatItem::Compound(items.as_slice()),
-        &time,
+        time_value(numbers),
     )
 }
 
-/// The number, or 255 for one that a byte does not hold: no component's range has it.
-fn number_in_byte(number: i32) -> u8
-    ensures { result ≡ number_in_byte number }
-{
-    u8::try_from(number).unwrap_or(u8::MAX)
-}
-
-/// The number, or the greatest `u32` for a negative one: no component's range has it.
-fn number_in_word(number: i32) -> u32
-    ensures { result ≡ number_in_word number }
-{
-    u32::try_from(number).unwrap_or(u32::MAX)
-}
-
-/// The reply to the command `time`. The ranges are tested in the order of the fields.
-fn time_reply(alloc: Global, hour: i32, minute: i32, second: i32, nanosecond: i32) -> Reply
-    ensures { Answers (asked_time hour minute second nanosecond) (reply_text result) }
-{
-    let time = Time::from_hms_nano(
-        number_in_byte(hour),
-        number_in_byte(minute),
-        number_in_byte(second),
-        number_in_word(nanosecond),
-    );
-    match time {
-        Ok(time) => formatted_time(alloc, time),
-        Err(range) => Reply::Refused {
-            written: 0,
-            name: range.name(),
-        },
-    }
-}
-
-/// Answers a line of at most 128 bytes.
+/// Answers a line.
 pub fn reply_to(alloc: Global, line: &[u8]) -> Reply
-    requires { length line.now ≤ 128 }
+    requires { length line.now ≤ LINE_LIMIT }
     ensures { IsAnswer line.now (reply_text result) }
 {
     match command_in(line) {
         None => Reply::BadLine,
-        Some(
-            Command::Time {
-                hour,
-                minute,
-                second,
-                nanosecond,
-            },
-        ) => time_reply(alloc, hour, minute, second, nanosecond),
+        Some(Command::Time(numbers)) => time_reply(alloc, numbers),
     }
 }

@@ -1,18 +1,20 @@
 //! Lines in, answers out.
-ghost use Rattle.std.specs.Prelude.{is_ok, if◌then◌else◌, ◌≡◌, ◌≢◌, ◌≤◌, ◌<◌, ℕ, List, [], ◌∷◌, ◌++◌, length, take, OnOk, OnErr, MatchOption};
-ghost use Rattle.std.specs.Io.KnownBytes.{IsAtEnd, Appends};
+ghost use Rattle.std.specs.Prelude.{is_ok, if◌then◌else◌, ◌≡◌, ℕ, List, [], OnOk, OnErr};
+ghost use Rattle.std.specs.Io.KnownBytes.{IsAtEnd};
 ghost use Rattle.time_show.specs.Answer.{IsAnswer};
-ghost use Rattle.time_show.specs.Kept.{kept_of};
+ghost use Rattle.time_show.specs.LineBuffer.{kept_of};
 ghost use Rattle.time_show.specs.Reply.{reply_text};
-ghost use Rattle.time_show.specs.Progress.{AcceptsAnswer, CutsAnswerOff, AnswersOn, CutsAnswersOff, GoesOn, GoesWrong, EndsWell, EndsWrong};
-ghost use Rattle.time_show.specs.Show.{Ran};
+ghost use Rattle.time_show.specs.Run.{state, AcceptsAnswer, CutsAnswerOff, AnswersOn, CutsAnswersOff, AnswersRest, CutsRestOff, Ran};
 
-use crate::bytes::place_of;
+use crate::bytes::{LINE_FEED, place_of};
 use crate::line_buffer::LineBuffer;
 use crate::output::{OutputBuffer, WriteFailed};
 use crate::reply::{Reply, reply_to};
 use std::alloc::Global;
 use std::io::{Read, Write};
+
+/// The most bytes that one read gives.
+const BLOCK_SIZE: usize = 8192;
 
 /// Why a run ended before the end of its input.
 #[derive(Clone, Copy, Debug, PartialEq, Eq)]
@@ -51,11 +53,12 @@ fn answer_line<W: Write>(
     answers: &mut OutputBuffer,
     output: &mut W,
 ) -> Result<(), WriteFailed>
-    ensures ok { OnOk result
-        (AcceptsAnswer line.now
-        (W.contents output.old) (W.contents output.new) answers.old answers.new) }
-    ensures err { OnErr result
-        (CutsAnswerOff line.now (W.contents output.old) (W.contents output.new) answers.old) }
+    ensures ok { OnOk result (AcceptsAnswer
+        (state line.now (W.contents output.old) answers.old)
+        (state line.now (W.contents output.new) answers.new)) }
+    ensures err { OnErr result (CutsAnswerOff
+        (state line.now (W.contents output.old) answers.old)
+        (W.contents output.new)) }
 {
     let reply = reply_for(alloc, line);
     answers.append_reply(output, &reply)
@@ -69,15 +72,15 @@ fn feed<W: Write>(
     answers: &mut OutputBuffer,
     output: &mut W,
 ) -> Result<(), WriteFailed>
-    ensures ok { OnOk result
-        (AnswersOn bytes.now line.old line.new
-        (W.contents output.old) (W.contents output.new) answers.old answers.new) }
-    ensures err { OnErr result
-        (CutsAnswersOff bytes.now line.old
-        (W.contents output.old) (W.contents output.new) answers.old) }
+    ensures ok { OnOk result (AnswersOn bytes.now
+        (state line.old (W.contents output.old) answers.old)
+        (state line.new (W.contents output.new) answers.new)) }
+    ensures err { OnErr result (CutsAnswersOff bytes.now
+        (state line.old (W.contents output.old) answers.old)
+        (W.contents output.new)) }
 {
     let mut rest = bytes;
-    while let Some(end) = place_of(b'\n', rest) {
+    while let Some(end) = place_of(LINE_FEED, rest) {
         line.extend(&rest[..end]);
         answer_line(alloc, line, answers, output)?;
         line.clear();
@@ -94,10 +97,12 @@ fn answer_block<W: Write>(
     block: &[u8],
     output: &mut W,
 ) -> Result<(), WriteFailed>
-    ensures ok { OnOk result
-        (GoesOn block.now line.old line.new (W.contents output.old) (W.contents output.new)) }
-    ensures err { OnErr result
-        (GoesWrong block.now line.old (W.contents output.old) (W.contents output.new)) }
+    ensures ok { OnOk result (AnswersOn block.now
+        (state line.old (W.contents output.old) [])
+        (state line.new (W.contents output.new) [])) }
+    ensures err { OnErr result (CutsAnswersOff block.now
+        (state line.old (W.contents output.old) [])
+        (W.contents output.new)) }
 {
     let mut answers = OutputBuffer::new();
     feed(alloc, line, block, &mut answers, output)?;
@@ -111,9 +116,12 @@ fn answer_last<W: Write>(
     line: &LineBuffer,
     output: &mut W,
 ) -> Result<(), WriteFailed>
-    ensures ok { OnOk result (EndsWell line.now (W.contents output.old) (W.contents output.new)) }
-    ensures err { OnErr result
-        (EndsWrong line.now (W.contents output.old) (W.contents output.new)) }
+    ensures ok { OnOk result (AnswersRest
+        (state line.now (W.contents output.old) [])
+        (state line.now (W.contents output.new) [])) }
+    ensures err { OnErr result (CutsRestOff
+        (state line.now (W.contents output.old) [])
+        (W.contents output.new)) }
 {
     if !line.is_empty() {
         let mut answer = OutputBuffer::new();
@@ -123,8 +131,15 @@ fn answer_last<W: Write>(
     Ok(())
 }
 
-/// Answers each line of the input, up to its end. All answers that are due are written before
-/// the next read. A run takes memory for the text of one answer at a time, and for nothing else.
+/// Answers each line of the input, one after another.
+///
+/// After `Ok` the input was read to its end, and all its lines were answered. After a failed read
+/// the whole lines so far were answered, and after a failed write some first lines, with a beginning
+/// of the answer to the next.
+///
+/// No clause says that reads go on as long as they succeed, nor how much memory is asked for; tests
+/// do. The body asks for the text of one answer at a time, and answers a refusal of that memory by
+/// `refused 0 out-of-memory`.
 pub fn run<R: Read, W: Write>(alloc: Global, input: &mut R, output: &mut W) -> Result<(), ShowError>
     ensures end { OnOk result (IsAtEnd (R.remaining input.new)) }
     ensures ran { Ran result
@@ -132,7 +147,7 @@ pub fn run<R: Read, W: Write>(alloc: Global, input: &mut R, output: &mut W) -> R
         (W.contents output.old) (W.contents output.new) }
 {
     let mut line = LineBuffer::new();
-    let mut block = [0u8; 8192];
+    let mut block = [0u8; BLOCK_SIZE];
     for _ in 0..u64::MAX {
         let count = match input.read(&mut block) {
             Ok(count) => count,

@@ -1,5 +1,5 @@
 use Rattle.std.proofs.Common.{ℕ, Bor, List, [], arith}
-use Rattle.time_show.proofs.PartsLemmas.{length-joined-more}
+use Rattle.time_show.proofs.OutputBufferLemmas.{length-joined-more}
 use Rattle.time_show.proofs.output.joined_len.Goals as goal
 
 pub loop-part-preserved : goal.loop-part-preserved

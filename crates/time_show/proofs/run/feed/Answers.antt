@@ -1,53 +1,51 @@
-use Rattle.std.proofs.Common.{ℕ, List, [], ◌∷◌, ◌++◌, ◌≡◌, ◌+◌, ◌-◌, length, take, drop, Option, Some, None, refl, ap, ◌∙◌, append_assoc, arith}
-use Rattle.std.proofs.lemmas.Grind.{common_steps, pieces}
+use Rattle.std.proofs.Common.{ℕ, List, [], ◌∷◌, ◌++◌, ◌≡◌, ◌+◌, ◌-◌, length, take, drop, Option, Some, None, refl, ap, ◌∙◌, append_assoc}
 use Rattle.std.proofs.lemmas.Result.{err_from_is_err_and}
-use Rattle.time_show.specs.Kept.{kept_with}
+use Rattle.time_show.specs.declared.bytes.TheConstants.{LINE_FEED}
+use Rattle.time_show.specs.LineBuffer.{kept_with}
 use Rattle.time_show.specs.Lines.{IsOneLine}
-use Rattle.time_show.specs.Progress.{AcceptsAnswer, CutsAnswerOff, AnswersOn, CutsAnswersOff}
-use Rattle.time_show.proofs.LinesLemmas.{EndsAt, line-found}
-use Rattle.time_show.proofs.ProgressLemmas.{AnswersOn-none, AnswersOn-then, AnswersOn-kept, AnswersOn-line, CutsAnswersOff-line, CutsAnswersOff-after}
+use Rattle.time_show.specs.Run.{state, AcceptsAnswer, CutsAnswerOff, AnswersOn, CutsAnswersOff}
+use Rattle.time_show.proofs.LinesLemmas.{EndsAt, line-found, slice-end}
+use Rattle.time_show.proofs.RunLemmas.{AnswersOn-none, AnswersOn-then, AnswersOn-kept, AnswersOn-line, CutsAnswersOff-line, CutsAnswersOff-after}
 use Rattle.time_show.proofs.run.feed.Goals as goal
-
--- the end of a list, as a slice gives it
-to-end : (i : ℕ) (xs : List ℕ) → take (length xs - i) (drop i xs) ≡ drop i xs
-to-end i xs = grind (arith, common_steps, pieces)
 
 -- the bytes of a line and its line feed, taken from what is left
 next-line : (bytes fed rest : List ℕ) (end : ℕ) → bytes ≡ fed ++ rest → EndsAt rest end →
-    bytes ≡ (fed ++ (take end rest ++ 10 ∷ [])) ++ drop (end + 1) rest
+    bytes ≡ (fed ++ (take end rest ++ LINE_FEED ∷ [])) ++ drop (end + 1) rest
 next-line bytes fed rest end whole ends =
     whole ∙ ap (λ more. fed ++ more) ends.whole
-    ∙ rw (append_assoc fed (take end rest ++ 10 ∷ []) (drop (end + 1) rest), append_assoc (take end rest) (10 ∷ []) (drop (end + 1) rest))
+    ∙ rw (append_assoc fed (take end rest ++ LINE_FEED ∷ []) (drop (end + 1) rest), append_assoc (take end rest) (LINE_FEED ∷ []) (drop (end + 1) rest))
 
 -- one more line is answered
 step : (bytes fed rest : List ℕ) (end : ℕ) (k0 k1 k2 k3 h0 h1 h2 : Option (List ℕ)) (w0 w1 w2 : List ℕ) →
     bytes ≡ fed ++ rest → EndsAt rest end → k2 ≡ kept_with k1 (take end rest) → k3 ≡ Some [] →
-    AnswersOn fed k0 k1 h0 h1 w0 w1 → AcceptsAnswer k2 h1 h2 w1 w2 →
-    (fed : List ℕ) × (bytes ≡ fed ++ take (length rest - (end + 1)) (drop (end + 1) rest)) × AnswersOn fed k0 k3 h0 h2 w0 w2
+    AnswersOn fed (state k0 h0 w0) (state k1 h1 w1) → AcceptsAnswer (state k2 h1 w1) (state k2 h2 w2) →
+    (fed : List ℕ) × (bytes ≡ fed ++ take (length rest - (end + 1)) (drop (end + 1) rest)) × AnswersOn fed (state k0 h0 w0) (state k3 h2 w2)
 step bytes fed rest end k0 k1 k2 k3 h0 h1 h2 w0 w1 w2 whole ends kept empty on accepts = (
-  fed ++ (take end rest ++ 10 ∷ []),
-  rw (to-end (end + 1) rest) (next-line bytes fed rest end whole ends),
-  rw empty (AnswersOn-then fed (take end rest ++ 10 ∷ []) k0 k1 (Some []) h0 h1 h2 w0 w1 w2 on
-      (AnswersOn-line (take end rest) k1 h1 h2 w1 w2 ends.front (rw kept at accepts))),
+  fed ++ (take end rest ++ LINE_FEED ∷ []),
+  rw (slice-end (end + 1) rest) (next-line bytes fed rest end whole ends),
+  rw empty (AnswersOn-then fed (take end rest ++ LINE_FEED ∷ []) (state k0 h0 w0) (state k1 h1 w1) (state (Some []) h2 w2) on
+      (AnswersOn-line (take end rest) k1 (state k2 h1 w1) (state k2 h2 w2) ends.front kept accepts)),
 )
 
 -- the answer to one more line is cut off
 stop : (bytes fed rest : List ℕ) (end : ℕ) (k0 k1 k2 h0 h1 h2 : Option (List ℕ)) (w0 w1 : List ℕ) →
     bytes ≡ fed ++ rest → EndsAt rest end → k2 ≡ kept_with k1 (take end rest) →
-    AnswersOn fed k0 k1 h0 h1 w0 w1 → CutsAnswerOff k2 h1 h2 w1 → CutsAnswersOff bytes k0 h0 h2 w0
+    AnswersOn fed (state k0 h0 w0) (state k1 h1 w1) → CutsAnswerOff (state k2 h1 w1) h2 → CutsAnswersOff bytes (state k0 h0 w0) h2
 stop bytes fed rest end k0 k1 k2 h0 h1 h2 w0 w1 whole ends kept on cuts =
     rw (whole ∙ ap (λ more. fed ++ more) ends.whole)
-    (CutsAnswersOff-after fed (take end rest ++ 10 ∷ drop (end + 1) rest) k0 k1 h0 h1 h2 w0 w1 on
-    (CutsAnswersOff-line (take end rest) (drop (end + 1) rest) k1 h1 h2 w1 ends.front (rw kept at cuts)))
+    (CutsAnswersOff-after fed (take end rest ++ LINE_FEED ∷ drop (end + 1) rest) (state k0 h0 w0) (state k1 h1 w1) h2 on
+    (CutsAnswersOff-line (take end rest) (drop (end + 1) rest) k1 (state k2 h1 w1) h2 ends.front kept cuts))
 
 -- the rest has no line feed
 finish : (bytes fed rest : List ℕ) (k0 k1 k2 h0 h1 : Option (List ℕ)) (w0 w1 : List ℕ) →
-    bytes ≡ fed ++ rest → IsOneLine rest → k2 ≡ kept_with k1 rest → AnswersOn fed k0 k1 h0 h1 w0 w1 → AnswersOn bytes k0 k2 h0 h1 w0 w1
+    bytes ≡ fed ++ rest → IsOneLine rest → k2 ≡ kept_with k1 rest →
+    AnswersOn fed (state k0 h0 w0) (state k1 h1 w1) → AnswersOn bytes (state k0 h0 w0) (state k2 h1 w1)
 finish bytes fed rest k0 k1 k2 h0 h1 w0 w1 whole one kept on =
-    rw (whole, kept) (AnswersOn-then fed rest k0 k1 (kept_with k1 rest) h0 h1 h1 w0 w1 w1 on (AnswersOn-kept rest k1 h1 w1 one))
+    rw (whole, kept)
+    (AnswersOn-then fed rest (state k0 h0 w0) (state k1 h1 w1) (state (kept_with k1 rest) h1 w1) on (AnswersOn-kept rest (state k1 h1 w1) one))
 
 pub loop-end-init : goal.loop-end-init
-loop-end-init g c = ([], refl, AnswersOn-none _ _ _)
+loop-end-init g c = ([], refl, AnswersOn-none (state _ _ _))
 
 pub loop-end-preserved : goal.loop-end-preserved
 loop-end-preserved g c =
