@@ -5,5 +5,6 @@ pub mod Engine
 pub mod GroupLemmas
 pub mod GuaranteeLemmas
 pub mod LawLemmas
+pub mod LongDivisionLemmas
 pub mod NumberLemmas
 pub mod TextLemmas
