@@ -8,3 +8,4 @@ pub mod LawLemmas
 pub mod LongDivisionLemmas
 pub mod NumberLemmas
 pub mod TextLemmas
+pub mod WriteLemmas

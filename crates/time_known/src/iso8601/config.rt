@@ -1,7 +1,8 @@
 //! The choices of ISO 8601-1:2019 that a text is written by.
 ghost use Rattle.std.specs.Prelude.{◌≡◌};
-ghost use Rattle.time_known.specs.Config.{default_choices};
+ghost use Rattle.time_known.specs.Config.{default_choices, separator, has_time_letter, has_date, has_time, has_offset, groups_of};
 
+use crate::groups::Groups;
 use std::default::Default;
 use std::marker::Model;
 use time_digits::ru8;
@@ -163,12 +164,6 @@ impl Config {
         self.formatted_components
     }
 
-    pub(super) fn use_separators(&self) -> bool
-        ensures { result ≡ self.now.use_separators }
-    {
-        self.use_separators
-    }
-
     pub(super) fn year_is_six_digits(&self) -> bool
         ensures { result ≡ self.now.year_is_six_digits }
     {
@@ -191,5 +186,74 @@ impl Config {
         ensures { result ≡ self.now.offset_precision }
     {
         self.offset_precision
+    }
+
+    // The separator, where the configuration has them.
+    pub(super) fn separator(&self, text: &'static str) -> &'static str
+        ensures { result.now ≡ separator self.now text.now }
+    {
+        if self.use_separators { text } else { "" }
+    }
+
+    // Whether the letter T stands before the time.
+    pub(super) fn has_time_letter(&self) -> bool
+        ensures { result ≡ has_time_letter self.now }
+    {
+        !self.use_separators || self.formatted_components.has_date()
+    }
+
+    // The groups of a value that are formatted.
+    pub(super) fn groups(&self) -> Groups
+        ensures { result ≡ groups_of self.now.formatted_components }
+    {
+        let components = self.formatted_components;
+        Groups {
+            date: components.has_date(),
+            time: components.has_time(),
+            offset: components.has_offset(),
+        }
+    }
+
+    // Whether the time is formatted.
+    pub(super) fn has_time(&self) -> bool
+        ensures { result ≡ has_time self.now.formatted_components }
+    {
+        self.formatted_components.has_time()
+    }
+}
+
+impl FormattedComponents {
+    fn has_date(self) -> bool
+        ensures { result ≡ has_date self }
+    {
+        matches!(
+            self,
+            FormattedComponents::Date
+                | FormattedComponents::DateTime
+                | FormattedComponents::DateTimeOffset
+        )
+    }
+
+    fn has_time(self) -> bool
+        ensures { result ≡ has_time self }
+    {
+        matches!(
+            self,
+            FormattedComponents::Time
+                | FormattedComponents::DateTime
+                | FormattedComponents::DateTimeOffset
+                | FormattedComponents::TimeOffset
+        )
+    }
+
+    fn has_offset(self) -> bool
+        ensures { result ≡ has_offset self }
+    {
+        matches!(
+            self,
+            FormattedComponents::Offset
+                | FormattedComponents::DateTimeOffset
+                | FormattedComponents::TimeOffset
+        )
     }
 }

@@ -1,0 +1,136 @@
+//! The parts that the texts of the well-known formats share. Each appends its text where there is room
+//! for it, takes no memory and answers the number of bytes appended.
+ghost use Rattle.std.specs.Prelude.{◌≡◌, ◌+◌, ◌*◌, ◌≤◌, length, is_none, unsigned_abs, IsTrue, IfSome, vec_len, vec_capacity};
+ghost use Rattle.time_below.specs.Offset.{IsOffset};
+ghost use Rattle.time_below.specs.TimeOfDay.{IsTimeOfDay};
+ghost use Rattle.time_fmt.specs.Room.{HasRoom, Writes};
+ghost use Rattle.time_known.specs.WellKnown.{is_outside, month_and_day_text, clock_text, offset_hours_text, offset_text};
+
+use time_below::format_description::modifier;
+use time_below::format_description::modifier::Padding;
+use time_digits::ru16;
+use time_fmt::writers::{
+    fmt_day, fmt_hour_24, fmt_minute, fmt_month_numerical, fmt_offset_hour, fmt_offset_minute,
+    fmt_second, write,
+};
+use time_provide::ComponentProvider;
+use time_provide::ranges::Year;
+
+/// The year as a number of four digits, if it is from the first to 9,999.
+pub(crate) fn four_digit_year(year: Year, first: u16) -> Option<ru16<0, 9_999>>
+    ensures outside { is_none result ≡ is_outside first 9_999 year }
+    ensures value { IfSome result (λ y. y ≡ unsigned_abs year) }
+{
+    let number = year.get();
+    if number < first as i32 || number > 9_999 {
+        return None;
+    }
+    Some(ru16::new(number.unsigned_abs() as u16).unwrap())
+}
+
+/// Appends the month and the day, of two digits each, and the separator before each of them.
+#[tactic(auto, using(crate::proofs::WritingLemmas::part_lengths))]
+pub(crate) fn write_month_and_day<V: ComponentProvider>(
+    output: &mut Vec<u8>,
+    value: &V,
+    state: &mut V::State,
+    separator: &str,
+) -> usize
+    requires supplied { IsTrue V.SUPPLIES_DATE }
+    requires room { HasRoom output.old (4 + 2 * length separator.now) }
+    requires agrees { V.agrees state.old value.now }
+    ensures writes { IfSome (V.facts value.now).date
+        (λ d. Writes output.old output.new result (month_and_day_text separator.now d)) }
+    ensures within { vec_len output.new ≤ vec_len output.old + (4 + 2 * length separator.now) }
+    ensures capacity { vec_capacity output.new ≡ vec_capacity output.old }
+    ensures agrees { V.agrees state.new value.now }
+{
+    let padding = Padding::Zero;
+    let dash = write(output, separator);
+    let month = fmt_month_numerical(
+        output,
+        value.month(state),
+        modifier::MonthNumerical { padding },
+    );
+    let second_dash = write(output, separator);
+    dash + month + second_dash + fmt_day(output, value.day(state), modifier::Day { padding })
+}
+
+/// Appends the hour, the minute and the second, of two digits each, and the separator between them.
+#[tactic(auto, using(crate::proofs::WritingLemmas::part_lengths))]
+pub(crate) fn write_clock_time<V: ComponentProvider>(
+    output: &mut Vec<u8>,
+    value: &V,
+    state: &mut V::State,
+    separator: &str,
+) -> usize
+    requires supplied { IsTrue V.SUPPLIES_TIME }
+    requires room { HasRoom output.old (6 + 2 * length separator.now) }
+    requires agrees { V.agrees state.old value.now }
+    ensures writes { IfSome (V.facts value.now).time
+        (λ t. Writes output.old output.new result (clock_text separator.now t)) }
+    ensures real { IfSome (V.facts value.now).time IsTimeOfDay }
+    ensures within { vec_len output.new ≤ vec_len output.old + (6 + 2 * length separator.now) }
+    ensures capacity { vec_capacity output.new ≡ vec_capacity output.old }
+    ensures agrees { V.agrees state.new value.now }
+{
+    let padding = Padding::Zero;
+    let hour = fmt_hour_24(output, value.hour(state), modifier::Hour24 { padding });
+    let colon = write(output, separator);
+    let minute = fmt_minute(output, value.minute(state), modifier::Minute { padding });
+    let second_colon = write(output, separator);
+    let second = fmt_second(output, value.second(state), modifier::Second { padding });
+    hour + colon + minute + second_colon + second
+}
+
+/// Appends the sign of the whole offset, and the two digits of its hours.
+#[tactic(auto, using(crate::proofs::WritingLemmas::part_lengths))]
+pub(crate) fn write_offset_hours<V: ComponentProvider>(
+    output: &mut Vec<u8>,
+    value: &V,
+    state: &mut V::State,
+) -> usize
+    requires supplied { IsTrue V.SUPPLIES_OFFSET }
+    requires room { HasRoom output.old 3 }
+    requires agrees { V.agrees state.old value.now }
+    ensures writes { IfSome (V.facts value.now).offset
+        (λ o. Writes output.old output.new result (offset_hours_text o)) }
+    ensures real { IfSome (V.facts value.now).offset IsOffset }
+    ensures within { vec_len output.new ≤ vec_len output.old + 3 }
+    ensures capacity { vec_capacity output.new ≡ vec_capacity output.old }
+    ensures agrees { V.agrees state.new value.now }
+{
+    let is_negative = value.offset_is_negative(state);
+    let modifier = modifier::OffsetHour {
+        padding: Padding::Zero,
+        sign_is_mandatory: true,
+    };
+    fmt_offset_hour(output, is_negative, value.offset_hour(state), modifier)
+}
+
+/// Appends the sign of the whole offset, and its hours and its minutes, of two digits each, with the
+/// separator between them.
+#[tactic(auto, using(crate::proofs::WritingLemmas::part_lengths))]
+pub(crate) fn write_offset<V: ComponentProvider>(
+    output: &mut Vec<u8>,
+    value: &V,
+    state: &mut V::State,
+    separator: &str,
+) -> usize
+    requires supplied { IsTrue V.SUPPLIES_OFFSET }
+    requires room { HasRoom output.old (5 + length separator.now) }
+    requires agrees { V.agrees state.old value.now }
+    ensures writes { IfSome (V.facts value.now).offset
+        (λ o. Writes output.old output.new result (offset_text separator.now o)) }
+    ensures real { IfSome (V.facts value.now).offset IsOffset }
+    ensures within { vec_len output.new ≤ vec_len output.old + (5 + length separator.now) }
+    ensures capacity { vec_capacity output.new ≡ vec_capacity output.old }
+    ensures agrees { V.agrees state.new value.now }
+{
+    let hours = write_offset_hours(output, value, state);
+    let colon = write(output, separator);
+    let modifier = modifier::OffsetMinute {
+        padding: Padding::Zero,
+    };
+    hours + colon + fmt_offset_minute(output, value.offset_minute(state), modifier)
+}
