@@ -1,5 +1,5 @@
 //! Descriptions of a text.
-ghost use Rattle.std.specs.Prelude.{◌≡◌, ◌≢◌, ℕ, ◌+◌, ◌*◌, ◌<◌, ◌≤◌, max, None, IsOk, OnOk, OnErr, IfOk, IfErr, IsSomeAnd, IsUtf8, string_bytes, vec_len, vec_capacity};
+ghost use Rattle.std.specs.Prelude.{◌≡◌, ◌≢◌, ℕ, List, ◌+◌, ◌*◌, ◌<◌, ◌≤◌, max, None, IsOk, OnOk, OnErr, IfOk, IfErr, IsSomeAnd, IsUtf8, string_bytes, vec_len, vec_capacity};
 ghost use Rattle.time_below.specs.Facts.{Facts};
 ghost use Rattle.time_fmt.specs.Outcome.{Outcome, Names, Appends, Adds};
 ghost use Rattle.time_fmt.specs.Lossy.{lossy_text, IsRefusedOrText};
@@ -22,6 +22,10 @@ pub trait Formattable: ComputeMetadata {
     /// What is written for a value with these components.
     ghost outcome_of: { Self → Facts → Outcome };
 
+    /// What a completed text says of a value with these components, where the description is a format
+    /// with a grammar; of others nothing is said.
+    ghost reads_as: { Self → Facts → List ℕ → Type 0 } = { λ _ _ _. Unit {0} };
+
     /// Appends the text of the value where there is room for the width. Takes no memory.
     ///
     /// Answers the number of bytes appended, or the refusal that ends the text; what was appended
@@ -37,6 +41,8 @@ pub trait Formattable: ComputeMetadata {
         requires agrees { V.agrees state.old value.now }
         ensures appends { Appends output.old output.new result
             (outcome_of self.now (V.facts value.now)) }
+        ensures spelled { IfOk result (λ _. reads_as self.now (V.facts value.now)
+            (outcome_of self.now (V.facts value.now)).bytes) }
         ensures within { vec_len output.new ≤ vec_len output.old + Self.width_of self.now }
         ensures agrees { V.agrees state.new value.now };
 
@@ -55,6 +61,8 @@ pub trait Formattable: ComputeMetadata {
         requires agrees { V.agrees state.old value.now }
         ensures appends { result ≢ Err Format.OutOfMemory
             → Adds output.old output.new result (outcome_of self.now (V.facts value.now)) }
+        ensures spelled { IfOk result (λ _. reads_as self.now (V.facts value.now)
+            (outcome_of self.now (V.facts value.now)).bytes) }
         ensures within { vec_len output.new ≤ vec_len output.old + Self.width_of self.now }
         ensures agrees { V.agrees state.new value.now }
 
@@ -94,6 +102,8 @@ pub trait Formattable: ComputeMetadata {
         requires agrees { V.agrees state.old value.now }
         ensures text { IfOk result (λ text. string_bytes text
             ≡ lossy_text (outcome_of self.now (V.facts value.now)).bytes) }
+        ensures spelled { IfOk result (λ _. reads_as self.now (V.facts value.now)
+            (outcome_of self.now (V.facts value.now)).bytes) }
         ensures complete { OnOk result ((outcome_of self.now (V.facts value.now)).refusal ≡ None) }
         ensures named { IfErr result (λ e. e ≢ Format.OutOfMemory
             → IsSomeAnd (outcome_of self.now (V.facts value.now)).refusal (Names e)) }

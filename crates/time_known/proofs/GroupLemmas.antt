@@ -18,6 +18,7 @@ pub record Group {G : Type 0} (x : Option G) : Type 0 where
   pub group : G
   pub is : x ≡ Some group
 
+-- a group that is there
 there : {G : Type 0} (x : Option G) → is_some x ≡ true → Group x
 there (Some group) h = record { group = group; is = refl }
 there None h = cc
@@ -31,14 +32,17 @@ pub record AllGroups (f : Facts) : Type 0 where
   pub is_time : f.time ≡ Some time
   pub is_offset : f.offset ≡ Some offset
 
+-- all three are needed
 abbrev all : Groups
 all = record { date = true; time = true; offset = true }
 
+-- three tests hold
 record AreTrue (a b c : Bool) : Type 0 where
   first : a ≡ true
   second : b ≡ true
   third : c ≡ true
 
+-- where all three are needed, all three are supplied
 are_true : (a b c : Bool) → are_supplied all a b c ≡ true → AreTrue a b c
 are_true true true true h = record { first = refl; second = refl; third = refl }
 are_true true true false h = cc

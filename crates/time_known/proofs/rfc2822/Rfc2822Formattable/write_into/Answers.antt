@@ -1,0 +1,20 @@
+use Rattle.std.proofs.Common.{◌≡◌, ◌∙◌, sym, ap}
+use Rattle.time_fmt.specs.Outcome.{Outcome, done}
+use Rattle.time_known.specs.Rfc2822.{rfc2822_of_groups, rfc2822_outcome, rfc2822_text}
+use Rattle.time_known.proofs.GroupLemmas.{AllGroups, all_groups, at_all}
+use Rattle.time_known.proofs.LawLemmas.{completed_are_canonical}
+use Rattle.time_known.proofs.ReadBackLemmas.{reads_as}
+use Rattle.time_known.proofs.Rfc2822Lemmas.{rfc2822_is_written}
+use Rattle.time_known.proofs.rfc2822.Rfc2822Formattable.write_into.Goals as goal
+
+pub returns-in-Ok-clause-spelled : goal.returns-in-Ok-clause-spelled
+returns-in-Ok-clause-spelled g c =
+    let value = c.args.value.now in
+    let f = g.V.ComponentProvider.facts value in
+    let law = g.met.V.ComponentProvider in
+    let supplied = sym c.are_supplied_by.ensures ∙ c.if-not-are_supplied_by.false in
+    let all : AllGroups f = all_groups f _ _ _ (law.supplies_date value) (law.supplies_time value)
+    (law.supplies_offset value) supplied in
+    let completed = at_all all (λ d t o. rfc2822_outcome f ≡ done (rfc2822_text d t o)) c.in-Ok.ensures.accepted in
+    reads_as rfc2822_of_groups (completed_are_canonical rfc2822_is_written) all c.in-Ok.ensures.real.0
+    c.write_date_time.ensures.real c.in-Ok.ensures.real.1 (ap (λ (o : Outcome). o.refusal) completed)

@@ -1,0 +1,174 @@
+//! RFC 2822.
+ghost use Rattle.std.specs.Prelude.{◌≡◌, ◌+◌, ◌≤◌, IsTrue, IfSome, IfOk, OnOk, IfErr, true, unsigned_abs, vec_len, vec_capacity};
+ghost use Rattle.time_below.specs.Offset.{IsOffset};
+ghost use Rattle.time_below.specs.TimeOfDay.{IsTimeOfDay};
+ghost use Rattle.time_fmt.specs.Outcome.{done, refused, invalid_component};
+ghost use Rattle.time_fmt.specs.Room.{HasRoom, Writes};
+ghost use Rattle.time_provide.specs.Real.{AreOfDate};
+ghost use Rattle.time_known.specs.Groups.{IfAll};
+ghost use Rattle.time_known.specs.ReadBack.{ReadsAs};
+ghost use Rattle.time_known.specs.Rfc2822.{rfc2822_width, rfc2822_outcome, rfc2822_text, named_date_text, date_text};
+ghost use Rattle.time_known.specs.Rfc2822Grammar.{Rfc2822Spells, to_whole_second};
+
+use crate::groups::Groups;
+use crate::parts::{four_digit_year, write_clock_time, write_offset};
+use time_below::format_description::modifier;
+use time_below::format_description::modifier::Padding;
+use time_digits::ru16;
+use time_fmt::writers::{
+    fmt_day, fmt_month_short, fmt_weekday_short, format_four_digits_pad_zero, write,
+};
+use time_fmt::{ComputeMetadata, Format, Formattable, Metadata};
+use time_provide::ComponentProvider;
+
+/// The format of RFC 2822, section 3.3, as `Fri, 21 Nov 1997 09:55:06 -0600`, of 31 bytes.
+///
+/// It needs a date, a time of day and an offset. A year outside 1900 to 9,999 is refused, then an
+/// offset with seconds, each before any byte. The fraction of a second is not written.
+#[derive(Debug, Clone, Copy, PartialEq, Eq)]
+pub struct Rfc2822;
+
+impl ComputeMetadata for Rfc2822 {
+    ghost width_of = { λ _. rfc2822_width };
+
+    ghost is_guaranteed = { λ _. true };
+
+    fn compute_metadata(&self) -> Metadata {
+        Metadata {
+            max_bytes_needed: 31,
+            guaranteed_utf8: true,
+        }
+    }
+}
+
+impl Formattable for Rfc2822 {
+    ghost outcome_of = { λ _. rfc2822_outcome };
+
+    ghost reads_as = { λ _. ReadsAs to_whole_second Rfc2822Spells Rfc2822Spells };
+
+    fn write_into<V: ComponentProvider>(
+        &self,
+        output: &mut Vec<u8>,
+        value: &V,
+        state: &mut V::State,
+    ) -> Result<usize, Format> {
+        if !Groups::ALL.are_supplied_by::<V>() {
+            return Err(Format::InsufficientTypeInformation);
+        }
+        match accepted_year(value, state) {
+            Ok(year) => Ok(write_date_time(output, year, value, state)),
+            Err(name) => Err(Format::InvalidComponent(name)),
+        }
+    }
+}
+
+// The year of four digits, or the name of the first component that has no place in such a text.
+fn accepted_year<V: ComponentProvider>(
+    value: &V,
+    state: &mut V::State,
+) -> Result<ru16<0, 9_999>, &'static str>
+    requires date { IsTrue V.SUPPLIES_DATE }
+    requires time { IsTrue V.SUPPLIES_TIME }
+    requires offset { IsTrue V.SUPPLIES_OFFSET }
+    requires agrees { V.agrees state.old value.now }
+    ensures refused { IfErr result
+        (λ name. rfc2822_outcome (V.facts value.now) ≡ refused (invalid_component name.now)) }
+    ensures year { IfOk result
+        (λ year. IfSome (V.facts value.now).date (λ d. year ≡ unsigned_abs d.year)) }
+    ensures accepted { OnOk result (IfAll (V.facts value.now)
+        (λ d t o. rfc2822_outcome (V.facts value.now) ≡ done (rfc2822_text d t o))) }
+    ensures real { OnOk result (IfSome (V.facts value.now).date AreOfDate
+        × IfSome (V.facts value.now).offset IsOffset) }
+    ensures agrees { V.agrees state.new value.now }
+{
+    let Some(year) = four_digit_year(value.calendar_year(state), 1900) else {
+        return Err("year");
+    };
+    if value.offset_second(state).get() != 0 {
+        return Err("offset_second");
+    }
+    Ok(year)
+}
+
+// Appends `date-time`, of this year.
+#[tactic(auto, using(crate::proofs::WritingLemmas::part_lengths))]
+fn write_date_time<V: ComponentProvider>(
+    output: &mut Vec<u8>,
+    year: ru16<0, 9_999>,
+    value: &V,
+    state: &mut V::State,
+) -> usize
+    requires date { IsTrue V.SUPPLIES_DATE }
+    requires time { IsTrue V.SUPPLIES_TIME }
+    requires offset { IsTrue V.SUPPLIES_OFFSET }
+    requires year { IfSome (V.facts value.now).date (λ d. year ≡ unsigned_abs d.year) }
+    requires room { HasRoom output.old rfc2822_width }
+    requires agrees { V.agrees state.old value.now }
+    ensures writes { IfAll (V.facts value.now)
+        (λ d t o. Writes output.old output.new result (rfc2822_text d t o)) }
+    ensures real { IfSome (V.facts value.now).time IsTimeOfDay }
+    ensures within { vec_len output.new ≤ vec_len output.old + rfc2822_width }
+    ensures capacity { vec_capacity output.new ≡ vec_capacity output.old }
+    ensures agrees { V.agrees state.new value.now }
+{
+    let date = write_named_date(output, year, value, state);
+    let space = write(output, " ");
+    let time = write_clock_time(output, value, state, ":");
+    let second_space = write(output, " ");
+    date + space + time + second_space + write_offset(output, value, state, "")
+}
+
+// Appends `day-of-week "," date`, of this year.
+#[tactic(auto, using(crate::proofs::WritingLemmas::part_lengths))]
+fn write_named_date<V: ComponentProvider>(
+    output: &mut Vec<u8>,
+    year: ru16<0, 9_999>,
+    value: &V,
+    state: &mut V::State,
+) -> usize
+    requires supplied { IsTrue V.SUPPLIES_DATE }
+    requires year { IfSome (V.facts value.now).date (λ d. year ≡ unsigned_abs d.year) }
+    requires room { HasRoom output.old 16 }
+    requires agrees { V.agrees state.old value.now }
+    ensures writes { IfSome (V.facts value.now).date
+        (λ d. Writes output.old output.new result (named_date_text d)) }
+    ensures within { vec_len output.new ≤ vec_len output.old + 16 }
+    ensures capacity { vec_capacity output.new ≡ vec_capacity output.old }
+    ensures agrees { V.agrees state.new value.now }
+{
+    let modifier = modifier::WeekdayShort {
+        case_sensitive: true,
+    };
+    let weekday = fmt_weekday_short(output, value.weekday(state), modifier);
+    let comma = write(output, ", ");
+    weekday + comma + write_date(output, year, value, state)
+}
+
+// Appends `date`, of this year.
+#[tactic(auto, using(crate::proofs::WritingLemmas::part_lengths))]
+fn write_date<V: ComponentProvider>(
+    output: &mut Vec<u8>,
+    year: ru16<0, 9_999>,
+    value: &V,
+    state: &mut V::State,
+) -> usize
+    requires supplied { IsTrue V.SUPPLIES_DATE }
+    requires year { IfSome (V.facts value.now).date (λ d. year ≡ unsigned_abs d.year) }
+    requires room { HasRoom output.old 11 }
+    requires agrees { V.agrees state.old value.now }
+    ensures writes { IfSome (V.facts value.now).date
+        (λ d. Writes output.old output.new result (date_text d)) }
+    ensures within { vec_len output.new ≤ vec_len output.old + 11 }
+    ensures capacity { vec_capacity output.new ≡ vec_capacity output.old }
+    ensures agrees { V.agrees state.new value.now }
+{
+    let padding = Padding::Zero;
+    let day = fmt_day(output, value.day(state), modifier::Day { padding });
+    let space = write(output, " ");
+    let modifier = modifier::MonthShort {
+        case_sensitive: true,
+    };
+    let month = fmt_month_short(output, value.month(state), modifier);
+    let second_space = write(output, " ");
+    day + space + month + second_space + format_four_digits_pad_zero(output, year)
+}

@@ -1,0 +1,193 @@
+//! RFC 3339.
+ghost use Rattle.std.specs.Prelude.{◌≡◌, ◌+◌, ◌≤◌, IsTrue, IfSome, IfOk, OnOk, IfErr, true, unsigned_abs, vec_len, vec_capacity};
+ghost use Rattle.time_below.specs.Offset.{IsOffset};
+ghost use Rattle.time_below.specs.TimeOfDay.{IsTimeOfDay};
+ghost use Rattle.time_fmt.specs.Outcome.{done, refused, invalid_component};
+ghost use Rattle.time_fmt.specs.Room.{HasRoom, Writes};
+ghost use Rattle.time_provide.specs.Real.{AreOfDate};
+ghost use Rattle.time_known.specs.Groups.{IfAll};
+ghost use Rattle.time_known.specs.ReadBack.{ReadsAs};
+ghost use Rattle.time_known.specs.Rfc3339.{rfc3339_width, rfc3339_outcome, rfc3339_text, full_date_text, time_secfrac_text, time_offset_text};
+ghost use Rattle.time_known.specs.Rfc3339Grammar.{Rfc3339Spells, IsCanonicalRfc3339};
+
+use crate::groups::Groups;
+use crate::parts::{four_digit_year, write_clock_time, write_month_and_day, write_offset};
+use time_below::format_description::modifier;
+use time_below::format_description::modifier::SubsecondDigits;
+use time_digits::ru16;
+use time_fmt::writers::{fmt_subsecond, format_four_digits_pad_zero, write};
+use time_fmt::{ComputeMetadata, Format, Formattable, Metadata};
+use time_provide::ComponentProvider;
+
+/// The format of RFC 3339, section 5.6, as `1985-04-12T23:20:50.52Z`, of at most 35 bytes.
+///
+/// It needs a date, a time of day and an offset. A year outside 0 to 9,999 is refused, then an offset
+/// of more than 23 hours, then one with seconds, each before any byte. A fraction of a second is
+/// written where there is one, by as many digits as it needs, and UTC by `Z`.
+#[derive(Debug, Clone, Copy, PartialEq, Eq)]
+pub struct Rfc3339;
+
+impl ComputeMetadata for Rfc3339 {
+    ghost width_of = { λ _. rfc3339_width };
+
+    ghost is_guaranteed = { λ _. true };
+
+    fn compute_metadata(&self) -> Metadata {
+        Metadata {
+            max_bytes_needed: 35,
+            guaranteed_utf8: true,
+        }
+    }
+}
+
+impl Formattable for Rfc3339 {
+    ghost outcome_of = { λ _. rfc3339_outcome };
+
+    ghost reads_as = { λ _. ReadsAs (λ v. v) Rfc3339Spells IsCanonicalRfc3339 };
+
+    fn write_into<V: ComponentProvider>(
+        &self,
+        output: &mut Vec<u8>,
+        value: &V,
+        state: &mut V::State,
+    ) -> Result<usize, Format> {
+        if !Groups::ALL.are_supplied_by::<V>() {
+            return Err(Format::InsufficientTypeInformation);
+        }
+        match accepted_year(value, state) {
+            Ok(year) => Ok(write_date_time(output, year, value, state)),
+            Err(name) => Err(Format::InvalidComponent(name)),
+        }
+    }
+}
+
+// The year of four digits, or the name of the first component that has no place in such a text.
+fn accepted_year<V: ComponentProvider>(
+    value: &V,
+    state: &mut V::State,
+) -> Result<ru16<0, 9_999>, &'static str>
+    requires date { IsTrue V.SUPPLIES_DATE }
+    requires time { IsTrue V.SUPPLIES_TIME }
+    requires offset { IsTrue V.SUPPLIES_OFFSET }
+    requires agrees { V.agrees state.old value.now }
+    ensures refused { IfErr result
+        (λ name. rfc3339_outcome (V.facts value.now) ≡ refused (invalid_component name.now)) }
+    ensures year { IfOk result
+        (λ year. IfSome (V.facts value.now).date (λ d. year ≡ unsigned_abs d.year)) }
+    ensures accepted { OnOk result (IfAll (V.facts value.now)
+        (λ d t o. rfc3339_outcome (V.facts value.now) ≡ done (rfc3339_text d t o))) }
+    ensures real { OnOk result (IfSome (V.facts value.now).date AreOfDate
+        × IfSome (V.facts value.now).offset IsOffset) }
+    ensures agrees { V.agrees state.new value.now }
+{
+    let Some(year) = four_digit_year(value.calendar_year(state), 0) else {
+        return Err("year");
+    };
+    if value.offset_hour(state).abs().get() > 23 {
+        return Err("offset_hour");
+    }
+    if value.offset_second(state).get() != 0 {
+        return Err("offset_second");
+    }
+    Ok(year)
+}
+
+// Appends `date-time`, of this year.
+#[tactic(auto, using(crate::proofs::WritingLemmas::part_lengths))]
+fn write_date_time<V: ComponentProvider>(
+    output: &mut Vec<u8>,
+    year: ru16<0, 9_999>,
+    value: &V,
+    state: &mut V::State,
+) -> usize
+    requires date { IsTrue V.SUPPLIES_DATE }
+    requires time { IsTrue V.SUPPLIES_TIME }
+    requires offset { IsTrue V.SUPPLIES_OFFSET }
+    requires year { IfSome (V.facts value.now).date (λ d. year ≡ unsigned_abs d.year) }
+    requires room { HasRoom output.old rfc3339_width }
+    requires agrees { V.agrees state.old value.now }
+    ensures writes { IfAll (V.facts value.now)
+        (λ d t o. Writes output.old output.new result (rfc3339_text d t o)) }
+    ensures real { IfSome (V.facts value.now).time IsTimeOfDay }
+    ensures within { vec_len output.new ≤ vec_len output.old + rfc3339_width }
+    ensures capacity { vec_capacity output.new ≡ vec_capacity output.old }
+    ensures agrees { V.agrees state.new value.now }
+{
+    let date = write_full_date(output, year, value, state);
+    let letter = write(output, "T");
+    let time = write_clock_time(output, value, state, ":");
+    let fraction = write_time_secfrac(output, value, state);
+    date + letter + time + fraction + write_time_offset(output, value, state)
+}
+
+// Appends `full-date`, of this year.
+#[tactic(auto, using(crate::proofs::WritingLemmas::part_lengths))]
+fn write_full_date<V: ComponentProvider>(
+    output: &mut Vec<u8>,
+    year: ru16<0, 9_999>,
+    value: &V,
+    state: &mut V::State,
+) -> usize
+    requires supplied { IsTrue V.SUPPLIES_DATE }
+    requires year { IfSome (V.facts value.now).date (λ d. year ≡ unsigned_abs d.year) }
+    requires room { HasRoom output.old 10 }
+    requires agrees { V.agrees state.old value.now }
+    ensures writes { IfSome (V.facts value.now).date
+        (λ d. Writes output.old output.new result (full_date_text d)) }
+    ensures within { vec_len output.new ≤ vec_len output.old + 10 }
+    ensures capacity { vec_capacity output.new ≡ vec_capacity output.old }
+    ensures agrees { V.agrees state.new value.now }
+{
+    let count = format_four_digits_pad_zero(output, year);
+    count + write_month_and_day(output, value, state, "-")
+}
+
+// Appends `time-secfrac`, if there is a fraction of a second.
+#[tactic(auto, using(crate::proofs::WritingLemmas::part_lengths))]
+fn write_time_secfrac<V: ComponentProvider>(
+    output: &mut Vec<u8>,
+    value: &V,
+    state: &mut V::State,
+) -> usize
+    requires supplied { IsTrue V.SUPPLIES_TIME }
+    requires room { HasRoom output.old 10 }
+    requires agrees { V.agrees state.old value.now }
+    ensures writes { IfSome (V.facts value.now).time
+        (λ t. Writes output.old output.new result (time_secfrac_text t.nanosecond)) }
+    ensures within { vec_len output.new ≤ vec_len output.old + 10 }
+    ensures capacity { vec_capacity output.new ≡ vec_capacity output.old }
+    ensures agrees { V.agrees state.new value.now }
+{
+    let nanosecond = value.nanosecond(state);
+    if nanosecond.get() == 0 {
+        return 0;
+    }
+    let point = write(output, ".");
+    let modifier = modifier::Subsecond {
+        digits: SubsecondDigits::OneOrMore,
+    };
+    point + fmt_subsecond(output, nanosecond, modifier)
+}
+
+// Appends `time-offset`.
+#[tactic(auto, using(crate::proofs::WritingLemmas::part_lengths))]
+fn write_time_offset<V: ComponentProvider>(
+    output: &mut Vec<u8>,
+    value: &V,
+    state: &mut V::State,
+) -> usize
+    requires supplied { IsTrue V.SUPPLIES_OFFSET }
+    requires room { HasRoom output.old 6 }
+    requires agrees { V.agrees state.old value.now }
+    ensures writes { IfSome (V.facts value.now).offset
+        (λ o. Writes output.old output.new result (time_offset_text o)) }
+    ensures within { vec_len output.new ≤ vec_len output.old + 6 }
+    ensures capacity { vec_capacity output.new ≡ vec_capacity output.old }
+    ensures agrees { V.agrees state.new value.now }
+{
+    if value.offset_is_utc(state) {
+        write(output, "Z")
+    } else {
+        write_offset(output, value, state, ":")
+    }
+}
