@@ -6,6 +6,7 @@ pub mod GroupLemmas
 pub mod GuaranteeLemmas
 pub mod RealLemmas
 pub mod LawLemmas
+pub mod LongDivisionLemmas
 pub mod NumberLemmas
 pub mod TextLemmas
 pub mod WriteLemmas

@@ -1,4 +1,5 @@
 pub mod DateText
+pub mod Decimals
 pub mod Description
 pub mod Errors
 pub mod Guarantee

@@ -1,5 +1,6 @@
 //! Texts appended to a vector that has room for them. No writer takes memory.
 mod date;
+mod decimals;
 mod digits;
 mod offset;
 mod plain;
@@ -12,6 +13,7 @@ pub use date::{
     fmt_week_number_iso, fmt_week_number_monday, fmt_week_number_sunday, fmt_weekday_long,
     fmt_weekday_monday, fmt_weekday_short, fmt_weekday_sunday,
 };
+pub use decimals::format_decimals;
 pub use digits::{
     fmt_sign, format_five_digits_pad_zero, format_four_digits, format_four_digits_pad_zero,
     format_int_padded, format_single_digit, format_six_digits_pad_zero, format_three_digits,

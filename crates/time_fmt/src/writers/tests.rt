@@ -174,3 +174,35 @@ fn texts_that_are_wanted(rt: HostRuntime) -> Result<(), Fail> {
     }
     Ok(())
 }
+
+#[test]
+fn decimals_of_units(rt: HostRuntime) -> Result<(), Fail> {
+    for (rest, unit, digits, text) in [
+        (10_000_000_000, 3_600_000_000_000, 9, "002777777"),
+        (3_306_000_000_000, 3_600_000_000_000, 3, "918"),
+        (59_999_999_999, 60_000_000_000, 9, "999999999"),
+        (6_000_000_000, 60_000_000_000, 2, "10"),
+        (1, 1_000_000_000, 10, "0000000010"),
+        (999_999_999, 1_000_000_000, 1, "9"),
+    ] {
+        assert!(rt; rest < unit && unit <= 3_600_000_000_000);
+        let digits = ru8::new(digits).expect(&rt, "at most 20 digits");
+        assert!(rt; digits.get() <= 20);
+        let mut output = empty(&rt)?;
+        let count = format_decimals(&mut output, rest, unit, digits);
+        assert_written(&rt, &output, count, text);
+    }
+    Ok(())
+}
+
+#[test]
+fn most_decimals_of_an_hour(rt: HostRuntime) -> Result<(), Fail> {
+    let mut output = Vec::with_capacity(rt.alloc(), 255)?;
+    let digits = ru8::new(255).expect(&rt, "the most digits");
+    let count = format_decimals(&mut output, 3_599_999_999_999, 3_600_000_000_000, digits);
+    assert_eq!(rt; count, 255);
+    assert_eq!(rt; output.len(), 255);
+    assert_eq!(rt; &output[..13], b"9999999999997".as_slice());
+    assert!(rt; output[13..].iter().all(|&digit| digit == b'2'));
+    Ok(())
+}

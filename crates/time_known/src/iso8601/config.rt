@@ -1,0 +1,259 @@
+//! The choices of ISO 8601-1:2019 that a text is written by.
+ghost use Rattle.std.specs.Prelude.{◌≡◌};
+ghost use Rattle.time_known.specs.Config.{default_choices, separator, has_time_letter, has_date, has_time, has_offset, groups_of};
+
+use crate::groups::Groups;
+use std::default::Default;
+use std::marker::Model;
+use time_digits::ru8;
+
+/// Which parts are written.
+#[derive(Debug, Clone, Copy, PartialEq, Eq)]
+pub enum FormattedComponents {
+    /// No part, which formats nothing.
+    None,
+    Date,
+    Time,
+    Offset,
+    DateTime,
+    DateTimeOffset,
+    TimeOffset,
+}
+
+/// Which date is written.
+#[derive(Debug, Clone, Copy, PartialEq, Eq)]
+pub enum DateKind {
+    /// The year, the month and the day (section 5.2.2).
+    Calendar,
+    /// The year of the week calendar, its week and the weekday (section 5.2.4).
+    Week,
+    /// The year and the day of the year (section 5.2.3).
+    Ordinal,
+}
+
+/// The smallest whole unit of a time, and how many decimals of it follow (section 5.3.1).
+#[derive(Debug, Clone, Copy, PartialEq, Eq)]
+pub enum TimePrecision {
+    Hour { decimal_digits: Option<ru8<1, 255>> },
+    Minute { decimal_digits: Option<ru8<1, 255>> },
+    Second { decimal_digits: Option<ru8<1, 255>> },
+}
+
+/// The smallest unit of an offset (section 5.3.4).
+#[derive(Debug, Clone, Copy, PartialEq, Eq)]
+pub enum OffsetPrecision {
+    Hour,
+    Minute,
+}
+
+/// How a text is written.
+#[derive(Debug, Clone, Copy, PartialEq, Eq)]
+pub struct Config {
+    formatted_components: FormattedComponents,
+    use_separators: bool,
+    year_is_six_digits: bool,
+    date_kind: DateKind,
+    time_precision: TimePrecision,
+    offset_precision: OffsetPrecision,
+}
+
+impl Model for Config {
+    ghost use Rattle.time_known.specs.Config.{Choices};
+
+    ghost Value = { Choices };
+
+    ghost view = { λ c. record {
+      formatted_components = c.formatted_components;
+      use_separators = c.use_separators;
+      year_is_six_digits = c.year_is_six_digits;
+      date_kind = c.date_kind;
+      time_precision = c.time_precision;
+      offset_precision = c.offset_precision;
+    } };
+
+    ghost inverse = { λ c. record {
+      formatted_components = c.formatted_components;
+      use_separators = c.use_separators;
+      year_is_six_digits = c.year_is_six_digits;
+      date_kind = c.date_kind;
+      time_precision = c.time_precision;
+      offset_precision = c.offset_precision;
+    } };
+}
+
+impl Default for Config {
+    ghost is_default = { λ c. c ≡ default_choices };
+
+    /// Date, time and offset with separators, the calendar date with four digits of the year, nine
+    /// decimals of the second and the minutes of the offset.
+    fn default() -> Self {
+        Config {
+            formatted_components: FormattedComponents::DateTimeOffset,
+            use_separators: true,
+            year_is_six_digits: false,
+            date_kind: DateKind::Calendar,
+            time_precision: TimePrecision::Second {
+                decimal_digits: ru8::new(9),
+            },
+            offset_precision: OffsetPrecision::Minute,
+        }
+    }
+}
+
+impl Config {
+    /// The same configuration, with these parts of a text.
+    pub fn set_formatted_components(self, formatted_components: FormattedComponents) -> Self
+        ensures { result ≡ record self { formatted_components = formatted_components } }
+    {
+        Config {
+            formatted_components,
+            ..self
+        }
+    }
+
+    /// The same configuration, with or without separators.
+    pub fn set_use_separators(self, use_separators: bool) -> Self
+        ensures { result ≡ record self { use_separators = use_separators } }
+    {
+        Config {
+            use_separators,
+            ..self
+        }
+    }
+
+    /// The same configuration, with six digits of the year and its sign, or with four digits.
+    pub fn set_year_is_six_digits(self, year_is_six_digits: bool) -> Self
+        ensures { result ≡ record self { year_is_six_digits = year_is_six_digits } }
+    {
+        Config {
+            year_is_six_digits,
+            ..self
+        }
+    }
+
+    /// The same configuration, with this kind of date.
+    pub fn set_date_kind(self, date_kind: DateKind) -> Self
+        ensures { result ≡ record self { date_kind = date_kind } }
+    {
+        Config { date_kind, ..self }
+    }
+
+    /// The same configuration, with this precision of the time.
+    pub fn set_time_precision(self, time_precision: TimePrecision) -> Self
+        ensures { result ≡ record self { time_precision = time_precision } }
+    {
+        Config {
+            time_precision,
+            ..self
+        }
+    }
+
+    /// The same configuration, with this precision of the offset.
+    pub fn set_offset_precision(self, offset_precision: OffsetPrecision) -> Self
+        ensures { result ≡ record self { offset_precision = offset_precision } }
+    {
+        Config {
+            offset_precision,
+            ..self
+        }
+    }
+
+    pub(super) fn formatted_components(&self) -> FormattedComponents
+        ensures { result ≡ self.now.formatted_components }
+    {
+        self.formatted_components
+    }
+
+    pub(super) fn year_is_six_digits(&self) -> bool
+        ensures { result ≡ self.now.year_is_six_digits }
+    {
+        self.year_is_six_digits
+    }
+
+    pub(super) fn date_kind(&self) -> DateKind
+        ensures { result ≡ self.now.date_kind }
+    {
+        self.date_kind
+    }
+
+    pub(super) fn time_precision(&self) -> TimePrecision
+        ensures { result ≡ self.now.time_precision }
+    {
+        self.time_precision
+    }
+
+    pub(super) fn offset_precision(&self) -> OffsetPrecision
+        ensures { result ≡ self.now.offset_precision }
+    {
+        self.offset_precision
+    }
+
+    // The separator, where the configuration has them.
+    pub(super) fn separator(&self, text: &'static str) -> &'static str
+        ensures { result.now ≡ separator self.now text.now }
+    {
+        if self.use_separators { text } else { "" }
+    }
+
+    // Whether the letter T stands before the time.
+    pub(super) fn has_time_letter(&self) -> bool
+        ensures { result ≡ has_time_letter self.now }
+    {
+        !self.use_separators || self.formatted_components.has_date()
+    }
+
+    // The groups of a value that are formatted.
+    pub(super) fn groups(&self) -> Groups
+        ensures { result ≡ groups_of self.now.formatted_components }
+    {
+        let components = self.formatted_components;
+        Groups {
+            date: components.has_date(),
+            time: components.has_time(),
+            offset: components.has_offset(),
+        }
+    }
+
+    // Whether the time is formatted.
+    pub(super) fn has_time(&self) -> bool
+        ensures { result ≡ has_time self.now.formatted_components }
+    {
+        self.formatted_components.has_time()
+    }
+}
+
+impl FormattedComponents {
+    fn has_date(self) -> bool
+        ensures { result ≡ has_date self }
+    {
+        matches!(
+            self,
+            FormattedComponents::Date
+                | FormattedComponents::DateTime
+                | FormattedComponents::DateTimeOffset
+        )
+    }
+
+    fn has_time(self) -> bool
+        ensures { result ≡ has_time self }
+    {
+        matches!(
+            self,
+            FormattedComponents::Time
+                | FormattedComponents::DateTime
+                | FormattedComponents::DateTimeOffset
+                | FormattedComponents::TimeOffset
+        )
+    }
+
+    fn has_offset(self) -> bool
+        ensures { result ≡ has_offset self }
+    {
+        matches!(
+            self,
+            FormattedComponents::Offset
+                | FormattedComponents::DateTimeOffset
+                | FormattedComponents::TimeOffset
+        )
+    }
+}

@@ -1,0 +1,153 @@
+//! The date of a text of ISO 8601-1:2019, section 5.2.
+ghost use Rattle.std.specs.Prelude.{◌≡◌, ◌+◌, ◌*◌, ◌≤◌, ◌++◌, length, unsigned_abs, IsTrue, IfSome, vec_len, vec_capacity};
+ghost use Rattle.time_digits.specs.Digits.{zero_padded};
+ghost use Rattle.time_fmt.specs.Description.{of_group};
+ghost use Rattle.time_fmt.specs.Outcome.{Appends};
+ghost use Rattle.time_fmt.specs.Room.{HasRoom, Writes};
+ghost use Rattle.time_known.specs.Iso8601.{iso_date, iso_year, year_of_kind, text_after_year, week_and_weekday_text};
+ghost use Rattle.time_known.specs.Iso8601Width.{iso_date_width, year_width, width_after_year};
+
+use crate::iso8601::config::{Config, DateKind};
+use crate::parts::{four_digit_year, write_month_and_day};
+use time_below::format_description::modifier;
+use time_below::format_description::modifier::Padding;
+use time_fmt::Format;
+use time_fmt::writers::{
+    fmt_ordinal, fmt_sign, fmt_week_number_iso, fmt_weekday_monday, format_four_digits_pad_zero,
+    format_six_digits_pad_zero, write,
+};
+use time_provide::ComponentProvider;
+use time_provide::ranges::Year;
+
+/// Appends the date where there is room for its width, whether or not the configuration formats
+/// dates. Takes no memory.
+///
+/// Answers the number of bytes appended, or the refusal of a year that four digits do not hold, before
+/// any byte of the date.
+pub fn format_date<V: ComponentProvider>(
+    config: &Config,
+    output: &mut Vec<u8>,
+    value: &V,
+    state: &mut V::State,
+) -> Result<usize, Format>
+    requires supplied { IsTrue V.SUPPLIES_DATE }
+    requires room { HasRoom output.old (iso_date_width config.now) }
+    requires agrees { V.agrees state.old value.now }
+    ensures appends { Appends output.old output.new result
+        (of_group (V.facts value.now).date (iso_date config.now)) }
+    ensures within { vec_len output.new ≤ vec_len output.old + iso_date_width config.now }
+    ensures agrees { V.agrees state.new value.now }
+{
+    let year = year_of_kind(config.date_kind(), value, state);
+    let count = write_year(output, year, config.year_is_six_digits())?;
+    Ok(count + write_after_year(config, output, value, state))
+}
+
+// The year of the week calendar for a week date, else the calendar year.
+fn year_of_kind<V: ComponentProvider>(kind: DateKind, value: &V, state: &mut V::State) -> Year
+    requires supplied { IsTrue V.SUPPLIES_DATE }
+    requires agrees { V.agrees state.old value.now }
+    ensures value { IfSome (V.facts value.now).date (λ d. result ≡ year_of_kind kind d) }
+    ensures range { unsigned_abs result ≤ 999_999 }
+    ensures agrees { V.agrees state.new value.now }
+{
+    match kind {
+        DateKind::Calendar | DateKind::Ordinal => value.calendar_year(state),
+        DateKind::Week => value.iso_year(state),
+    }
+}
+
+// Appends the sign and six digits of the year, or four digits of one that has no more.
+#[tactic(auto, using(crate::proofs::WritingLemmas::part_lengths, crate::proofs::IsoWriteLemmas::date_lengths))]
+fn write_year(output: &mut Vec<u8>, year: Year, is_six_digits: bool) -> Result<usize, Format>
+    requires range { unsigned_abs year ≤ 999_999 }
+    requires room { HasRoom output.old (year_width is_six_digits) }
+    ensures appends { Appends output.old output.new result (iso_year is_six_digits year) }
+    ensures within { vec_len output.new ≤ vec_len output.old + year_width is_six_digits }
+{
+    if is_six_digits {
+        let sign = fmt_sign(output, year.get() < 0, true);
+        return Ok(sign + format_six_digits_pad_zero(output, year.abs()));
+    }
+    match four_digit_year(year, 0) {
+        Some(year) => Ok(format_four_digits_pad_zero(output, year)),
+        None => Err(Format::InvalidComponent("year")),
+    }
+}
+
+// Appends what follows the year in a date of the configuration's kind.
+fn write_after_year<V: ComponentProvider>(
+    config: &Config,
+    output: &mut Vec<u8>,
+    value: &V,
+    state: &mut V::State,
+) -> usize
+    requires supplied { IsTrue V.SUPPLIES_DATE }
+    requires room { HasRoom output.old (width_after_year config.now.date_kind config.now) }
+    requires agrees { V.agrees state.old value.now }
+    ensures writes { IfSome (V.facts value.now).date
+        (λ d. Writes output.old output.new result (text_after_year config.now.date_kind config.now d)) }
+    ensures within { vec_len output.new
+        ≤ vec_len output.old + width_after_year config.now.date_kind config.now }
+    ensures agrees { V.agrees state.new value.now }
+{
+    let dash = config.separator("-");
+    match config.date_kind() {
+        DateKind::Calendar => write_month_and_day(output, value, state, dash),
+        DateKind::Week => write_week_and_weekday(output, value, state, dash),
+        DateKind::Ordinal => write_ordinal(output, value, state, dash),
+    }
+}
+
+// Appends the letter `W` with two digits of the week, and the weekday from 1, and the separator before
+// each of them.
+#[tactic(auto, using(crate::proofs::WritingLemmas::part_lengths, crate::proofs::IsoWriteLemmas::date_lengths))]
+fn write_week_and_weekday<V: ComponentProvider>(
+    output: &mut Vec<u8>,
+    value: &V,
+    state: &mut V::State,
+    separator: &str,
+) -> usize
+    requires supplied { IsTrue V.SUPPLIES_DATE }
+    requires room { HasRoom output.old (4 + 2 * length separator.now) }
+    requires agrees { V.agrees state.old value.now }
+    ensures writes { IfSome (V.facts value.now).date
+        (λ d. Writes output.old output.new result (week_and_weekday_text separator.now d)) }
+    ensures within { vec_len output.new ≤ vec_len output.old + (4 + 2 * length separator.now) }
+    ensures capacity { vec_capacity output.new ≡ vec_capacity output.old }
+    ensures agrees { V.agrees state.new value.now }
+{
+    let dash = write(output, separator);
+    let letter = write(output, "W");
+    let padding = Padding::Zero;
+    let week = value.iso_week_number(state);
+    let week = fmt_week_number_iso(output, week, modifier::WeekNumberIso { padding });
+    let second_dash = write(output, separator);
+    let from_one = modifier::WeekdayMonday { one_indexed: true };
+    let weekday = fmt_weekday_monday(output, value.weekday(state), from_one);
+    dash + letter + week + second_dash + weekday
+}
+
+// Appends the separator and three digits of the day of the year.
+#[tactic(auto, using(crate::proofs::IsoWriteLemmas::date_lengths))]
+fn write_ordinal<V: ComponentProvider>(
+    output: &mut Vec<u8>,
+    value: &V,
+    state: &mut V::State,
+    separator: &str,
+) -> usize
+    requires supplied { IsTrue V.SUPPLIES_DATE }
+    requires room { HasRoom output.old (3 + length separator.now) }
+    requires agrees { V.agrees state.old value.now }
+    ensures writes { IfSome (V.facts value.now).date
+        (λ d. Writes output.old output.new result (separator.now ++ zero_padded 3 d.ordinal)) }
+    ensures within { vec_len output.new ≤ vec_len output.old + (3 + length separator.now) }
+    ensures capacity { vec_capacity output.new ≡ vec_capacity output.old }
+    ensures agrees { V.agrees state.new value.now }
+{
+    let dash = write(output, separator);
+    let modifier = modifier::Ordinal {
+        padding: Padding::Zero,
+    };
+    dash + fmt_ordinal(output, value.ordinal(state), modifier)
+}

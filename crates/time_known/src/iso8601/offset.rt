@@ -1,0 +1,81 @@
+//! The offset from UTC of a text of ISO 8601-1:2019, sections 5.3.3 and 5.3.4.
+ghost use Rattle.std.specs.Prelude.{◌+◌, ◌≤◌, IsTrue, IfSome, vec_len};
+ghost use Rattle.time_fmt.specs.Description.{of_group};
+ghost use Rattle.time_fmt.specs.Outcome.{Appends};
+ghost use Rattle.time_fmt.specs.Room.{HasRoom};
+ghost use Rattle.time_known.specs.Iso8601.{iso_minutes, iso_offset};
+ghost use Rattle.time_known.specs.Iso8601Width.{minutes_width, iso_offset_width};
+
+use crate::iso8601::config::{Config, OffsetPrecision};
+use crate::parts::write_offset_hours;
+use time_below::format_description::modifier;
+use time_below::format_description::modifier::Padding;
+use time_fmt::Format;
+use time_fmt::writers::{fmt_offset_minute, write};
+use time_provide::ComponentProvider;
+
+/// Appends the offset where there is room for its width, whether or not the configuration formats
+/// offsets: `Z` for UTC where it formats a time, else the difference from UTC. Takes no memory.
+///
+/// Answers the number of bytes appended, or the refusal of a second before any byte of the offset, or
+/// of a minute that the precision leaves out, after the hour.
+pub fn format_offset<V: ComponentProvider>(
+    config: &Config,
+    output: &mut Vec<u8>,
+    value: &V,
+    state: &mut V::State,
+) -> Result<usize, Format>
+    requires supplied { IsTrue V.SUPPLIES_OFFSET }
+    requires room { HasRoom output.old (iso_offset_width config.now) }
+    requires agrees { V.agrees state.old value.now }
+    ensures appends { Appends output.old output.new result
+        (of_group (V.facts value.now).offset (iso_offset config.now)) }
+    ensures within { vec_len output.new ≤ vec_len output.old + iso_offset_width config.now }
+    ensures agrees { V.agrees state.new value.now }
+{
+    if config.has_time() && value.offset_is_utc(state) {
+        return Ok(write(output, "Z"));
+    }
+    if value.offset_second(state).get() != 0 {
+        return Err(Format::InvalidComponent("offset_second"));
+    }
+    let hours = write_offset_hours(output, value, state);
+    let minutes = write_offset_minutes(config, output, value, state)?;
+    Ok(hours + minutes)
+}
+
+// Appends the minutes, where the configuration has them; else they are refused unless zero.
+#[tactic(auto, using(crate::proofs::WritingLemmas::part_lengths))]
+fn write_offset_minutes<V: ComponentProvider>(
+    config: &Config,
+    output: &mut Vec<u8>,
+    value: &V,
+    state: &mut V::State,
+) -> Result<usize, Format>
+    requires supplied { IsTrue V.SUPPLIES_OFFSET }
+    requires room { HasRoom output.old (minutes_width config.now.offset_precision config.now) }
+    requires agrees { V.agrees state.old value.now }
+    ensures appends { IfSome (V.facts value.now).offset
+        (λ o. Appends output.old output.new result
+        (iso_minutes config.now.offset_precision config.now o)) }
+    ensures within { vec_len output.new
+        ≤ vec_len output.old + minutes_width config.now.offset_precision config.now }
+    ensures agrees { V.agrees state.new value.now }
+{
+    let minute = value.offset_minute(state);
+    match config.offset_precision() {
+        OffsetPrecision::Minute => {
+            let colon = write(output, config.separator(":"));
+            let modifier = modifier::OffsetMinute {
+                padding: Padding::Zero,
+            };
+            Ok(colon + fmt_offset_minute(output, minute, modifier))
+        }
+        OffsetPrecision::Hour => {
+            if minute.get() != 0 {
+                return Err(Format::InvalidComponent("offset_minute"));
+            }
+            Ok(0)
+        }
+    }
+}
