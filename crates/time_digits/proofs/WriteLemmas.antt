@@ -1,24 +1,15 @@
 -- Digits that are written into bytes.
-use Rattle.std.proofs.Common.{◌≡◌, ℕ, zero, suc, ◌+◌, ◌-◌, ◌/◌, ◌%◌, ◌^◌, ◌<◌, ◌≤◌, ◌≢◌, List, [], ◌++◌, length, take, drop, refl, sym, ap, ◌∙◌, arith, append_assoc, length-append, length-drop, decimal, ⊎_elim, ◌⊎◌, inl, inr, subst}
+use Rattle.std.proofs.Common.{◌≡◌, ℕ, zero, suc, ◌+◌, ◌-◌, ◌/◌, ◌%◌, ◌^◌, ◌<◌, ◌≤◌, ◌≢◌, List, [], ◌∷◌, ◌++◌, length, take, drop, set, get_or, refl, sym, ap, ◌∙◌, arith, append_assoc, length-append, length-drop, length-set, decimal, ⊎_elim, ◌⊎◌, inl, inr, subst}
 use Rattle.std.proofs.Math.Nat.{one-le-pow, div-le_self}
-use Rattle.std.proofs.lemmas.List.{append-nil, drop-drop, drop_all, take_at, drop_at, length-take-le}
+use Rattle.std.proofs.lemmas.List.{append-nil, take-append-drop, take-set, drop-set, drop-drop, drop_all, take_at, drop_at, length-take-le}
 use Rattle.std.proofs.lemmas.Bool.{cases_lt}
 use Rattle.std.proofs.lemmas.Nat.{le-div, div_below}
-use borrow.Rule.Slice.PartMut.{put_mid}
 use Rattle.time_digits.specs.Digits.{fixed, zero_padded}
 use Rattle.time_digits.proofs.DigitLemmas.{length-fixed, fixed-append, fixed-mod, zero_padded_is, padded_whole, decimal_one, decimal_longer, decimal-split}
 use Rattle.time_digits.proofs.LengthLemmas.{length-decimal_word}
 
 pub two_fixed : (n : ℕ) → n < 100 → zero_padded 2 n ≡ fixed 2 n
 two_fixed n h = zero_padded_is 1 n h (omega arith)
-
--- zs in the place of k bytes from a on
-pub put_is : (a k : ℕ) (xs ys zs : List ℕ) → ys ≡ zs → put_mid a (a + k - a) xs ys ≡ take a xs ++ zs ++ drop (a + k) xs
-put_is a k xs ys zs same =
-    let width : a + k - a ≡ k = omega arith in
-    rw (width, same, drop-drop k a xs) (sym (append_assoc (take a xs) zs (drop (a + k) xs)))
-
-pub ruleset written = (two_fixed, decimal_one, put_is, length-fixed)
 
 -- ---- one write behind another
 
@@ -32,6 +23,30 @@ put_behind a j k bs xs ys room width =
     let rest : drop (a + j + k) (take a bs ++ xs ++ drop (a + j) bs) ≡ drop (a + j + k) bs =
     sym (drop-drop k (a + j) (take a bs ++ xs ++ drop (a + j) bs)) ∙ ap (drop k) behind ∙ drop-drop k (a + j) bs in
     rw (before, rest, append_assoc (take a bs) xs ys) refl
+
+-- one byte written
+set_is : (a x : ℕ) (bs : List ℕ) → a < length bs → set bs a x ≡ take a bs ++ (x ∷ []) ++ drop (a + 1) bs
+set_is a x bs room = sym (take-append-drop a (set bs a x)) ∙ rw (take-set, drop-set bs a x room) (sym (append_assoc (take a bs) (x ∷ []) (drop (a + 1) bs)))
+
+-- the one byte of a text, and the two bytes of one, in the places from a on
+pub one_put : (a : ℕ) (bs ds zs : List ℕ) → a + 1 ≤ length bs → length ds ≡ 1 → ds ≡ zs → set bs a (get_or ds 0 0) ≡ take a bs ++ zs ++ drop (a + 1) bs
+one_put a bs [] zs room one same = cc
+one_put a bs (x ∷ []) zs room one same = rw (← same) (set_is a x bs (omega arith))
+one_put a bs (x ∷ y ∷ more) zs room one same = absurd (omega arith)
+
+pub two_put : (a : ℕ) (bs ds zs : List ℕ) → a + 2 ≤ length bs → length ds ≡ 2 → ds ≡ zs → set (set bs a (get_or ds 0 0)) (a + 1) (get_or ds 1 0) ≡ take a bs ++ zs ++ drop (a + 2) bs
+two_put a bs [] zs room two same = cc
+two_put a bs (x ∷ []) zs room two same = absurd (omega arith)
+two_put a bs (x ∷ y ∷ []) zs room two same =
+    let places : a + 1 + 1 ≡ a + 2 = omega arith in
+    let one = set_is a x bs (omega arith) in
+    let both : set (set bs a x) (a + 1) y ≡ take a bs ++ (x ∷ y ∷ []) ++ drop (a + 1 + 1) bs =
+    set_is (a + 1) y (set bs a x) (omega (arith, length-set bs a x)) ∙ ap (λ b. take (a + 1) b ++ (y ∷ []) ++ drop (a + 1 + 1) b) one
+    ∙ put_behind a 1 1 bs (x ∷ []) (y ∷ []) (omega arith) refl in
+    rw (← same, ← places) both
+two_put a bs (x ∷ y ∷ z ∷ more) zs room two same = absurd (omega arith)
+
+pub ruleset written = (two_fixed, decimal_one, one_put, two_put, length-fixed)
 
 -- two pairs are four digits
 pub two_pairs : (n : ℕ) → fixed 2 (n / 100) ++ fixed 2 (n % 100) ≡ fixed 4 n

@@ -28,7 +28,9 @@ pub fn write_two_digits(buf: &mut [u8], offset: usize, value: ru8<0, 99>)
     requires room { offset + 2 ≤ length buf.old }
     ensures { buf.new ≡ take offset buf.old ++ fixed 2 value ++ drop (offset + 2) buf.old }
 {
-    buf[offset..offset + 2].copy_from_slice(two_digits_zero_padded(value).as_bytes());
+    let digits = two_digits_zero_padded(value).as_bytes();
+    buf[offset] = digits[0];
+    buf[offset + 1] = digits[1];
 }
 
 /// Writes the digit `value` to the byte `offset`.
@@ -38,7 +40,7 @@ pub fn write_one_digit(buf: &mut [u8], offset: usize, value: ru8<0, 9>)
     requires room { offset + 1 ≤ length buf.old }
     ensures { buf.new ≡ take offset buf.old ++ fixed 1 value ++ drop (offset + 1) buf.old }
 {
-    buf[offset..offset + 1].copy_from_slice(single_digit(value).as_bytes());
+    buf[offset] = single_digit(value).as_bytes()[0];
 }
 
 /// The quotient and the remainder of `n` by 100.
@@ -50,7 +52,7 @@ pub fn div_100(n: ru16<0, 9_999>) -> [ru8<0, 99>; 2]
     let number = u32::from(n.get());
     let high = (number * DIV_100_FACTOR) >> DIV_100_SHIFT;
     let low = number - 100 * high;
-    [ru8::new(high as u8).unwrap(), ru8::new(low as u8).unwrap()]
+    [ru8::within(high as u8), ru8::within(low as u8)]
 }
 
 /// The digit `n`.
@@ -111,7 +113,7 @@ pub fn one_to_three_digits_no_padding(n: ru16<0, 999>) -> [&'static str; 2]
     match n.narrow::<0, 99>() {
         Some(small) => [
             "",
-            one_to_two_digits_no_padding(ru8::new(small.get() as u8).unwrap()),
+            one_to_two_digits_no_padding(ru8::within(small.get() as u8)),
         ],
         None => three_digits_zero_padded(n),
     }
@@ -127,7 +129,7 @@ pub fn three_digits_zero_padded(n: ru16<0, 999>) -> [&'static str; 2]
 {
     let [high, low] = div_100(n.expand());
     [
-        single_digit(high.narrow().unwrap()),
+        single_digit(ru8::within(high.get())),
         two_digits_zero_padded(low),
     ]
 }
@@ -205,7 +207,7 @@ pub fn four_to_six_digits(n: ru32<0, 999_999>) -> [&'static str; 3]
     if number < 10_000 {
         ["", second, third]
     } else {
-        let first = ru8::new((number / 10_000) as u8).unwrap();
+        let first = ru8::within((number / 10_000) as u8);
         [one_to_two_digits_no_padding(first), second, third]
     }
 }
@@ -219,7 +221,7 @@ pub fn five_digits_zero_padded(n: ru32<0, 99_999>) -> [&'static str; 3]
     ensures len { length (joined result) ≡ 5 }
 {
     let number = n.get();
-    let first = ru8::new((number / 10_000) as u8).unwrap();
+    let first = ru8::within((number / 10_000) as u8);
     let [second, third] = last_four_digits(number);
     [single_digit(first), second, third]
 }
@@ -233,7 +235,7 @@ pub fn six_digits_zero_padded(n: ru32<0, 999_999>) -> [&'static str; 3]
     ensures len { length (joined result) ≡ 6 }
 {
     let number = n.get();
-    let first = ru8::new((number / 10_000) as u8).unwrap();
+    let first = ru8::within((number / 10_000) as u8);
     let [second, third] = last_four_digits(number);
     [two_digits_zero_padded(first), second, third]
 }
@@ -247,7 +249,7 @@ pub fn subsecond_from_nanos(n: ru32<0, 999_999_999>) -> [&'static str; 5]
     ensures len { length (joined result) ≡ 9 }
 {
     let number = n.get();
-    let [first, second, third] = five_digits_zero_padded(ru32::new(number / 10_000).unwrap());
+    let [first, second, third] = five_digits_zero_padded(ru32::within(number / 10_000));
     let [fourth, fifth] = last_four_digits(number);
     [first, second, third, fourth, fifth]
 }
@@ -259,7 +261,7 @@ fn last_four_digits(number: u32) -> [&'static str; 2]
     ensures text { joined result ≡ fixed 4 number }
     ensures pieces { piece_lengths result ≡ 2 ∷ 2 ∷ [] }
 {
-    four_digits_zero_padded(ru16::new((number % 10_000) as u16).unwrap())
+    four_digits_zero_padded(ru16::within((number % 10_000) as u16))
 }
 
 /// How many of the eight digits of `word`, its bytes in little-endian order, are zeros at their
@@ -295,17 +297,9 @@ fn nine_digits(n: ru32<0, 999_999_999>) -> [u8; 9]
     let number = n.get();
     let first_five = number / 10_000;
     let mut bytes = [b'0'; 9];
-    write_one_digit(
-        &mut bytes,
-        0,
-        ru8::new((first_five / 10_000) as u8).unwrap(),
-    );
-    write_four_digits(
-        &mut bytes,
-        1,
-        ru16::new((first_five % 10_000) as u16).unwrap(),
-    );
-    write_four_digits(&mut bytes, 5, ru16::new((number % 10_000) as u16).unwrap());
+    write_one_digit(&mut bytes, 0, ru8::within((first_five / 10_000) as u8));
+    write_four_digits(&mut bytes, 1, ru16::within((first_five % 10_000) as u16));
+    write_four_digits(&mut bytes, 5, ru16::within((number % 10_000) as u16));
     bytes
 }
 
@@ -321,22 +315,18 @@ pub fn u64_pad_none(value: u64) -> StackTrailingStr<20>
     let mut rest = value;
     while rest > 999 {
         start -= 4;
-        write_four_digits(
-            &mut bytes,
-            start,
-            ru16::new((rest % 10_000) as u16).unwrap(),
-        );
+        write_four_digits(&mut bytes, start, ru16::within((rest % 10_000) as u16));
         rest /= 10_000;
     }
     if rest > 9 {
         start -= 2;
-        let [first, pair] = div_100(ru16::new(rest as u16).unwrap());
+        let [first, pair] = div_100(ru16::within(rest as u16));
         write_two_digits(&mut bytes, start, pair);
         rest = first.get() as u64;
     }
     if rest != 0 || value == 0 {
         start -= 1;
-        write_one_digit(&mut bytes, start, ru8::new(rest as u8).unwrap());
+        write_one_digit(&mut bytes, start, ru8::within(rest as u8));
     }
     StackTrailingStr::new(bytes, start)
 }

@@ -35,25 +35,25 @@ pub trait ComponentProvider {
 
     ghost SUPPLIES_DATE: { Bool };
 
-    /// Whether the value has a date.
+    /// Whether the value has a date, and the first nine methods answer.
     const SUPPLIES_DATE: bool;
 
     ghost SUPPLIES_TIME: { Bool };
 
-    /// Whether the value has a time of day.
+    /// Whether the value has a time of day, and the next five methods answer.
     const SUPPLIES_TIME: bool;
 
     ghost SUPPLIES_OFFSET: { Bool };
 
-    /// Whether the value has an offset from UTC.
+    /// Whether the value has an offset from UTC, and the next five methods answer.
     const SUPPLIES_OFFSET: bool;
 
     ghost SUPPLIES_TIMESTAMP: { Bool };
 
-    /// Whether the value is a moment.
+    /// Whether the value is a moment, and the last two methods answer.
     const SUPPLIES_TIMESTAMP: bool;
 
-    /// The day of the month.
+    /// The day of the month, 1 to 31.
     fn day(&self, state: &mut Self::State) -> Day
         requires supplied { IsTrue SUPPLIES_DATE }
         requires agrees { agrees state.old self.now }
@@ -70,7 +70,7 @@ pub trait ComponentProvider {
         ensures real { IfSome (facts self.now).date AreOfDate }
         ensures agrees { agrees state.new self.now };
 
-    /// The day of the year.
+    /// The day of the year, 1 to 366.
     fn ordinal(&self, state: &mut Self::State) -> Ordinal
         requires supplied { IsTrue SUPPLIES_DATE }
         requires agrees { agrees state.old self.now }
@@ -87,7 +87,7 @@ pub trait ComponentProvider {
         ensures real { IfSome (facts self.now).date AreOfDate }
         ensures agrees { agrees state.new self.now };
 
-    /// The week of the week calendar.
+    /// The week of the week calendar, 1 to 53 (ISO 8601-1:2019, week date).
     fn iso_week_number(&self, state: &mut Self::State) -> IsoWeekNumber
         requires supplied { IsTrue SUPPLIES_DATE }
         requires agrees { agrees state.old self.now }
@@ -96,7 +96,7 @@ pub trait ComponentProvider {
         ensures real { IfSome (facts self.now).date AreOfDate }
         ensures agrees { agrees state.new self.now };
 
-    /// The week of the year, by its Mondays.
+    /// The week of the year, 0 to 53, where week 1 begins on the first Monday.
     fn monday_based_week(&self, state: &mut Self::State) -> MondayBasedWeek
         requires supplied { IsTrue SUPPLIES_DATE }
         requires agrees { agrees state.old self.now }
@@ -105,7 +105,7 @@ pub trait ComponentProvider {
         ensures real { IfSome (facts self.now).date AreOfDate }
         ensures agrees { agrees state.new self.now };
 
-    /// The week of the year, by its Sundays.
+    /// The week of the year, 0 to 53, where week 1 begins on the first Sunday.
     fn sunday_based_week(&self, state: &mut Self::State) -> SundayBasedWeek
         requires supplied { IsTrue SUPPLIES_DATE }
         requires agrees { agrees state.old self.now }
@@ -114,7 +114,7 @@ pub trait ComponentProvider {
         ensures real { IfSome (facts self.now).date AreOfDate }
         ensures agrees { agrees state.new self.now };
 
-    /// The year.
+    /// The year, -999,999 to 999,999.
     fn calendar_year(&self, state: &mut Self::State) -> Year
         requires supplied { IsTrue SUPPLIES_DATE }
         requires agrees { agrees state.old self.now }
@@ -123,7 +123,7 @@ pub trait ComponentProvider {
         ensures real { IfSome (facts self.now).date AreOfDate }
         ensures agrees { agrees state.new self.now };
 
-    /// The year of the week calendar.
+    /// The year of the week calendar, -999,999 to 999,999.
     fn iso_year(&self, state: &mut Self::State) -> Year
         requires supplied { IsTrue SUPPLIES_DATE }
         requires agrees { agrees state.old self.now }
@@ -132,7 +132,7 @@ pub trait ComponentProvider {
         ensures real { IfSome (facts self.now).date AreOfDate }
         ensures agrees { agrees state.new self.now };
 
-    /// The hour of the day.
+    /// The hour of the day, 0 to 23.
     fn hour(&self, state: &mut Self::State) -> Hours
         requires supplied { IsTrue SUPPLIES_TIME }
         requires agrees { agrees state.old self.now }
@@ -141,7 +141,7 @@ pub trait ComponentProvider {
         ensures real { IfSome (facts self.now).time IsTimeOfDay }
         ensures agrees { agrees state.new self.now };
 
-    /// The minute of the hour.
+    /// The minute of the hour, 0 to 59.
     fn minute(&self, state: &mut Self::State) -> Minutes
         requires supplied { IsTrue SUPPLIES_TIME }
         requires agrees { agrees state.old self.now }
@@ -150,7 +150,7 @@ pub trait ComponentProvider {
         ensures real { IfSome (facts self.now).time IsTimeOfDay }
         ensures agrees { agrees state.new self.now };
 
-    /// The half of the day.
+    /// The half of the day: before noon, or from noon on.
     fn period(&self, state: &mut Self::State) -> Period
         requires supplied { IsTrue SUPPLIES_TIME }
         requires agrees { agrees state.old self.now }
@@ -158,7 +158,7 @@ pub trait ComponentProvider {
         ensures real { IfSome (facts self.now).time IsTimeOfDay }
         ensures agrees { agrees state.new self.now };
 
-    /// The second of the minute.
+    /// The second of the minute, 0 to 59.
     fn second(&self, state: &mut Self::State) -> Seconds
         requires supplied { IsTrue SUPPLIES_TIME }
         requires agrees { agrees state.old self.now }
@@ -167,7 +167,7 @@ pub trait ComponentProvider {
         ensures real { IfSome (facts self.now).time IsTimeOfDay }
         ensures agrees { agrees state.new self.now };
 
-    /// The nanosecond of the second.
+    /// The nanosecond of the second, 0 to 999,999,999.
     fn nanosecond(&self, state: &mut Self::State) -> Nanoseconds
         requires supplied { IsTrue SUPPLIES_TIME }
         requires agrees { agrees state.old self.now }
@@ -192,7 +192,7 @@ pub trait ComponentProvider {
         ensures real { IfSome (facts self.now).offset IsOffset }
         ensures agrees { agrees state.new self.now };
 
-    /// The hour of the offset, with its sign.
+    /// The hour of the offset from UTC, -25 to 25.
     fn offset_hour(&self, state: &mut Self::State) -> OffsetHours
         requires supplied { IsTrue SUPPLIES_OFFSET }
         requires agrees { agrees state.old self.now }
@@ -201,7 +201,7 @@ pub trait ComponentProvider {
         ensures real { IfSome (facts self.now).offset IsOffset }
         ensures agrees { agrees state.new self.now };
 
-    /// The minute of the offset, with its sign.
+    /// The minute of the offset from UTC, -59 to 59.
     fn offset_minute(&self, state: &mut Self::State) -> OffsetMinutes
         requires supplied { IsTrue SUPPLIES_OFFSET }
         requires agrees { agrees state.old self.now }
@@ -210,7 +210,7 @@ pub trait ComponentProvider {
         ensures real { IfSome (facts self.now).offset IsOffset }
         ensures agrees { agrees state.new self.now };
 
-    /// The second of the offset, with its sign.
+    /// The second of the offset from UTC, -59 to 59.
     fn offset_second(&self, state: &mut Self::State) -> OffsetSeconds
         requires supplied { IsTrue SUPPLIES_OFFSET }
         requires agrees { agrees state.old self.now }
@@ -219,7 +219,7 @@ pub trait ComponentProvider {
         ensures real { IfSome (facts self.now).offset IsOffset }
         ensures agrees { agrees state.new self.now };
 
-    /// The seconds since 1970-01-01T00:00:00 UTC.
+    /// The seconds since 1970-01-01T00:00:00 UTC, rounded down, at most 14 digits.
     fn unix_timestamp_seconds(&self, state: &mut Self::State) -> i64
         requires supplied { IsTrue SUPPLIES_TIMESTAMP }
         requires agrees { agrees state.old self.now }
@@ -228,7 +228,7 @@ pub trait ComponentProvider {
         ensures real { IfSome (facts self.now).stamp IsNearMoment }
         ensures agrees { agrees state.new self.now };
 
-    /// The milliseconds since 1970-01-01T00:00:00 UTC, toward zero.
+    /// The milliseconds since 1970-01-01T00:00:00 UTC, rounded toward zero, at most 17 digits.
     fn unix_timestamp_milliseconds(&self, state: &mut Self::State) -> i64
         requires supplied { IsTrue SUPPLIES_TIMESTAMP }
         requires agrees { agrees state.old self.now }
@@ -247,5 +247,6 @@ pub trait ComponentProvider {
     ghost supplies_timestamp: { (value : Self) → is_some (facts value).stamp ≡ SUPPLIES_TIMESTAMP };
 
     // A fresh state agrees with every value.
-    ghost fresh: { (state : Self.State) (value : Self) → Self.State.is_default state → agrees state value };
+    ghost fresh: { (state : Self.State) (value : Self) → Self.State.is_default state
+        → agrees state value };
 }

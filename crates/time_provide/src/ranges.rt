@@ -7,28 +7,28 @@ pub type Day = ru8<1, 31>;
 /// A day of the year, 1 to 366.
 pub type Ordinal = ru16<1, 366>;
 
-/// A week of the week calendar, 1 to 53.
+/// A week of the week calendar, 1 to 53 (ISO 8601-1:2019, week date).
 pub type IsoWeekNumber = ru8<1, 53>;
 
-/// A week of the year by its Mondays, 0 to 53.
+/// A week of the year, 0 to 53, where week 1 begins on the first Monday.
 pub type MondayBasedWeek = ru8<0, 53>;
 
-/// A week of the year by its Sundays, 0 to 53.
+/// A week of the year, 0 to 53, where week 1 begins on the first Sunday.
 pub type SundayBasedWeek = ru8<0, 53>;
 
 /// A year, -999,999 to 999,999.
 pub type Year = ri32<999_999>;
 
-/// A year of at most four digits.
+/// A year of at most four digits, -9,999 to 9,999.
 pub type StandardYear = ri16<9_999>;
 
-/// A year without its last two digits.
+/// A year without its last two digits, -9,999 to 9,999.
 pub type ExtendedCentury = ri16<9_999>;
 
-/// A year of at most four digits, without the last two.
+/// A year of at most four digits, without the last two, -99 to 99.
 pub type StandardCentury = ri8<99>;
 
-/// The last two digits of a year.
+/// The last two digits of a year, 0 to 99.
 pub type LastTwo = ru8<0, 99>;
 
 /// An hour of the day, 0 to 23.

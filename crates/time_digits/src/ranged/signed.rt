@@ -49,7 +49,7 @@ impl<const MAX: u8> ri8<MAX> {
     pub fn abs(self) -> ru8<0, MAX>
         ensures { result ≡ unsigned_abs self.entry }
     {
-        ru8::new(self.number.unsigned_abs()).unwrap()
+        ru8::within(self.number.unsigned_abs())
     }
 
     /// Whether the number is below zero.
@@ -125,7 +125,7 @@ impl<const MAX: u16> ri16<MAX> {
     pub fn abs(self) -> ru16<0, MAX>
         ensures { result ≡ unsigned_abs self.entry }
     {
-        ru16::new(self.number.unsigned_abs()).unwrap()
+        ru16::within(self.number.unsigned_abs())
     }
 
     /// Whether the number is below zero.
@@ -201,7 +201,7 @@ impl<const MAX: u32> ri32<MAX> {
     pub fn abs(self) -> ru32<0, MAX>
         ensures { result ≡ unsigned_abs self.entry }
     {
-        ru32::new(self.number.unsigned_abs()).unwrap()
+        ru32::within(self.number.unsigned_abs())
     }
 
     /// Whether the number is below zero.

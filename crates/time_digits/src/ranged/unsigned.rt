@@ -32,6 +32,16 @@ impl<const MIN: u8, const MAX: u8> ru8<MIN, MAX> {
         }
     }
 
+    // The number `n`, of which it is known that it lies in `MIN` to `MAX`; nothing is tested.
+    #[inline]
+    pub(crate) fn within(n: u8) -> Self
+        requires least { MIN ≤ n }
+        requires greatest { n ≤ MAX }
+        ensures { result ≡ n }
+    {
+        ru8 { number: n }
+    }
+
     /// The number, from `MIN` to `MAX`.
     #[inline]
     pub fn get(self) -> u8
@@ -92,6 +102,16 @@ impl<const MIN: u16, const MAX: u16> ru16<MIN, MAX> {
         }
     }
 
+    // The number `n`, of which it is known that it lies in `MIN` to `MAX`; nothing is tested.
+    #[inline]
+    pub(crate) fn within(n: u16) -> Self
+        requires least { MIN ≤ n }
+        requires greatest { n ≤ MAX }
+        ensures { result ≡ n }
+    {
+        ru16 { number: n }
+    }
+
     /// The number, from `MIN` to `MAX`.
     #[inline]
     pub fn get(self) -> u16
@@ -150,6 +170,16 @@ impl<const MIN: u32, const MAX: u32> ru32<MIN, MAX> {
         } else {
             None
         }
+    }
+
+    // The number `n`, of which it is known that it lies in `MIN` to `MAX`; nothing is tested.
+    #[inline]
+    pub(crate) fn within(n: u32) -> Self
+        requires least { MIN ≤ n }
+        requires greatest { n ≤ MAX }
+        ensures { result ≡ n }
+    {
+        ru32 { number: n }
     }
 
     /// The number, from `MIN` to `MAX`.

@@ -54,18 +54,18 @@ written c =
           (rw (w.bytes-is, w.start-is) (none_left c.args.value j.start j.bytes (subst P w.if-rest-ne0.false left.0) (omega arith)), omega arith)
     ]
 
-pub new-requires-2 : goal.new-requires-2
-new-requires-2 c =
-    let all = written (goal.at.new-requires-2 c).Joined-rest-ne0 in
+pub new-requires : goal.new-requires
+new-requires c =
+    let all = written (goal.at.new-requires c).Joined-rest-ne0 in
     let ascii : IsAscii (drop c.if-rest-ne0.start c.if-rest-ne0.bytes) = rw all.0 (IsAscii-decimal c.args.value c.ranges.value.fits) in
     (omega arith, (omega arith, (all.1, ascii)))
 
 pub returns-clause-text : goal.returns-clause-text
 returns-clause-text c =
     let all = written (goal.at.returns-clause-text c).Joined-rest-ne0 in
-    c.new-2.ensures ∙ all.0
+    c.new.ensures ∙ all.0
 
 pub returns-clause-some : goal.returns-clause-some
 returns-clause-some c =
     let all = written (goal.at.returns-clause-some c).Joined-rest-ne0 in
-    omega (arith, ap length (c.new-2.ensures ∙ all.0), decimal_nonempty c.args.value c.ranges.value.fits)
+    omega (arith, ap length (c.new.ensures ∙ all.0), decimal_nonempty c.args.value c.ranges.value.fits)
