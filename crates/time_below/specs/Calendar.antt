@@ -122,6 +122,10 @@ iso_week_of d = ((thursday_of d).ordinal - 1) / 7 + 1
 abbrev pub monday_based_week_of : OrdinalDate → ℕ
 monday_based_week_of d = (d.ordinal + 6 - weekday_of d) / 7
 
+-- the days from Sunday, 0 to 6, of the days from Monday
+abbrev pub from_sunday : ℕ → ℕ
+from_sunday from_monday = (from_monday + 1) % 7
+
 -- how many Sundays the year has had by the date, 0 to 53
 abbrev pub sunday_based_week_of : OrdinalDate → ℕ
-sunday_based_week_of d = (d.ordinal + 6 - (weekday_of d + 1) % 7) / 7
+sunday_based_week_of d = (d.ordinal + 6 - from_sunday (weekday_of d)) / 7

@@ -1,5 +1,6 @@
 -- The days of the week.
-use Rattle.std.specs.Prelude.{ℕ, ◌+◌, ◌%◌}
+use Rattle.std.specs.Prelude.{ℕ}
+use Rattle.time_below.specs.Calendar.{from_sunday}
 use Rattle.time_below.specs.declared.weekday.Weekday.{Weekday}
 use Rattle.time_below.specs.declared.weekday.Weekday.TheVariants.{Monday, Tuesday, Wednesday, Thursday, Friday, Saturday, Sunday}
 
@@ -15,4 +16,4 @@ days_from_monday Sunday = 6
 
 -- how many days after Sunday, 0 to 6
 abbrev pub days_from_sunday : Weekday → ℕ
-days_from_sunday w = (days_from_monday w + 1) % 7
+days_from_sunday w = from_sunday (days_from_monday w)

@@ -23,30 +23,36 @@ use Rattle.time_below.specs.declared.format_description.modifier.YearRepr.TheVar
 use Rattle.time_below.specs.declared.format_description.modifier.YearRange.{YearRange}
 use Rattle.time_below.specs.declared.format_description.modifier.YearRange.TheVariants as range
 
+-- the width of a deprecated month is at least that of the month that it becomes
 of_month : (r : MonthRepr) (m : Month) → component_width (current_month r m) ≤ month_width r
 of_month month.Numerical m = omega arith
 of_month month.Long m = omega arith
 of_month month.Short m = omega arith
 
+-- so is that of a weekday
 of_weekday : (r : WeekdayRepr) (m : Weekday) → component_width (current_weekday r m) ≤ weekday_width r
 of_weekday weekday.Short m = omega arith
 of_weekday weekday.Long m = omega arith
 of_weekday weekday.Sunday m = omega arith
 of_weekday weekday.Monday m = omega arith
 
+-- so is that of a week number
 of_week_number : (r : WeekNumberRepr) (m : WeekNumber) → component_width (current_week_number r m) ≤ 2
 of_week_number week.Iso m = omega arith
 of_week_number week.Sunday m = omega arith
 of_week_number week.Monday m = omega arith
 
+-- so is that of an hour
 of_hour : (is_12_hour_clock : Bool) (m : Hour) → component_width (current_hour is_12_hour_clock m) ≤ 2
 of_hour true m = omega arith
 of_hour false m = omega arith
 
+-- so is that of a timestamp
 of_unix_timestamp : (p : UnixTimestampPrecision) (m : UnixTimestamp) → component_width (current_unix_timestamp p m) ≤ unix_timestamp_width p
 of_unix_timestamp precision.Second m = omega arith
 of_unix_timestamp precision.Millisecond m = omega arith
 
+-- so is that of a year
 of_year : (week_based : Bool) (r : YearRepr) (size : YearRange) (m : Year) → component_width (current_year week_based r size m) ≤ year_width r
 of_year true year.Full range.Extended m = omega arith
 of_year true year.Full range.Standard m = omega arith
@@ -59,6 +65,7 @@ of_year false year.Century range.Extended m = omega arith
 of_year false year.Century range.Standard m = omega arith
 of_year false year.LastTwo size m = omega arith
 
+-- the component that one becomes is no wider
 pub width_of_current : (c : Component) → component_width (current_component c) ≤ component_width c
 width_of_current (component.Month m) = of_month m.repr m
 width_of_current (component.Weekday m) = of_weekday m.repr m

@@ -14,7 +14,8 @@ use Rattle.time_below.specs.Weekday.{days_from_monday}
 use Rattle.time_digits.specs.Digits.{zero_padded}
 use Rattle.time_digits.proofs.DigitLemmas.{decimal_longer, padded_whole}
 use Rattle.time_digits.proofs.LengthLemmas.{length-padded-le}
-use Rattle.time_fmt.specs.DateText.{month_name, weekday_name, short_name, indexed, from_sunday, extended_year_text, standard_year_text, extended_century_text, standard_century_text}
+use Rattle.time_below.specs.Calendar.{from_sunday}
+use Rattle.time_fmt.specs.DateText.{month_name, weekday_name, short_name, indexed, extended_year_text, standard_year_text, extended_century_text, standard_century_text}
 use Rattle.time_fmt.specs.Text.{padded_text, sign_text}
 use Rattle.time_fmt.proofs.TextLemmas.{length-sign_text, length-padded_text, two_places}
 
@@ -43,6 +44,7 @@ padded_text_within padding.Space places most n h d = length-padded-le 32 places 
 padded_text_within padding.Zero places most n h d = length-padded-le 48 places n most h d
 padded_text_within padding.None places most n h d = d
 
+-- a number below 1,000 in three places
 pub three_places : (p : Padding) (n : ℕ) → n < 1000 → length (padded_text p 3 n) ≤ 3
 three_places p n h = length-padded_text p 3 n (length-decimal-le 3 n (omega arith) (omega arith) (omega arith))
 
@@ -54,24 +56,29 @@ signed_within : (p : Padding) (is_negative is_wanted : Bool) (places most n : �
 signed_within p is_negative is_wanted places most n h d =
     omega (arith, length-append (sign_text is_negative is_wanted) (padded_text p places n), length-sign_text is_negative is_wanted, padded_text_within p places most n h d)
 
+-- a year has at most six digits and a sign
 pub length-extended_year_text : (p : Padding) (s : Bool) (year : ℤ) → unsigned_abs year ≤ 999_999 → length (extended_year_text p s year) ≤ 7
 length-extended_year_text p s year h =
     signed_within p (int_lt year (pos 0)) (s || int_lt (pos 9_999) year) 4 6 (unsigned_abs year) (omega arith) (length-decimal-le 6 (unsigned_abs year) (omega arith) (omega arith) (omega arith))
 
+-- or four digits and a sign
 pub length-standard_year_text : (p : Padding) (s : Bool) (year : ℤ) → unsigned_abs year ≤ 9_999 → length (standard_year_text p s year) ≤ 5
 length-standard_year_text p s year h =
     signed_within p (int_lt year (pos 0)) s 4 4 (unsigned_abs year) (omega arith) (length-decimal-le 4 (unsigned_abs year) (omega arith) (omega arith) (omega arith))
 
+-- a century has at most four digits and a sign
 pub length-extended_century_text : (p : Padding) (s is_negative : Bool) (century : ℕ) → century ≤ 9_999 → length (extended_century_text p s is_negative century) ≤ 5
 length-extended_century_text p s is_negative century h =
     signed_within p is_negative (s || nat_lt 99 century) 2 4 century (omega arith) (length-decimal-le 4 century (omega arith) (omega arith) (omega arith))
 
+-- or two digits and a sign
 pub length-standard_century_text : (p : Padding) (s is_negative : Bool) (century : ℕ) → century ≤ 99 → length (standard_century_text p s is_negative century) ≤ 3
 length-standard_century_text p s is_negative century h =
     signed_within p is_negative s 2 2 century (omega arith) (length-decimal-le 2 century (omega arith) (omega arith) (omega arith))
 
 -- ---- lengths of names, and of the digit of a weekday
 
+-- no name of a month is longer than September
 pub length-month_name : (m : Month) → length (month_name (month_number m)) ≤ 9
 length-month_name January = omega arith
 length-month_name February = omega arith
@@ -86,6 +93,7 @@ length-month_name October = omega arith
 length-month_name November = omega arith
 length-month_name December = omega arith
 
+-- no name of a weekday is longer than Wednesday
 pub length-weekday_name : (w : Weekday) → length (weekday_name (days_from_monday w)) ≤ 9
 length-weekday_name Monday = omega arith
 length-weekday_name Tuesday = omega arith
@@ -95,9 +103,11 @@ length-weekday_name Friday = omega arith
 length-weekday_name Saturday = omega arith
 length-weekday_name Sunday = omega arith
 
+-- a short name has three letters at most
 pub length-short_name : (name : List ℕ) → length (short_name name) ≤ 3
 length-short_name name = omega (arith, length-take 3 name)
 
+-- a weekday has fewer than seven days before it in its week
 days_in_week : (w : Weekday) → days_from_monday w ≤ 6
 days_in_week Monday = omega arith
 days_in_week Tuesday = omega arith
@@ -112,9 +122,11 @@ length-indexed : (one_indexed : Bool) (days : ℕ) → days ≤ 6 → length (de
 length-indexed true days h = length-decimal-le 1 (days + 1) (omega arith) (omega arith) (omega arith)
 length-indexed false days h = length-decimal-le 1 days (omega arith) (omega arith) (omega arith)
 
+-- a weekday is one digit, from Monday
 pub length-monday_digit : (one_indexed : Bool) (w : Weekday) → length (decimal (indexed one_indexed (days_from_monday w))) ≤ 1
 length-monday_digit one_indexed w = length-indexed one_indexed (days_from_monday w) (days_in_week w)
 
+-- or from Sunday
 pub length-sunday_digit : (one_indexed : Bool) (w : Weekday) → length (decimal (indexed one_indexed (from_sunday (days_from_monday w)))) ≤ 1
 length-sunday_digit one_indexed w = length-indexed one_indexed (from_sunday (days_from_monday w)) (omega (arith, days_in_week w))
 

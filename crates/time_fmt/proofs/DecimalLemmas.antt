@@ -1,6 +1,5 @@
 -- The first decimals of the second are the digits of a smaller number.
 use Rattle.std.proofs.Common.{◌≡◌, ℕ, ◌+◌, ◌-◌, ◌*◌, ◌/◌, ◌%◌, ◌^◌, ◌<◌, ◌≤◌, List, ◌++◌, length, take, decimal, sym, ap, ◌∙◌, refl, arith, length-append, append_assoc}
-use Rattle.std.proofs.lemmas.Fmt.{length-decimal-le}
 use Rattle.std.proofs.lemmas.List.{take-append-le, take_all}
 use Rattle.std.proofs.Math.ListN.{length-take}
 use Rattle.time_below.specs.declared.format_description.modifier.SubsecondDigits.{SubsecondDigits}
@@ -8,10 +7,12 @@ use Rattle.time_below.specs.declared.format_description.modifier.SubsecondDigits
 use Rattle.time_below.specs.Width.{subsecond_width}
 use Rattle.time_digits.specs.Digits.{fixed, zero_padded}
 use Rattle.time_digits.proofs.DigitLemmas.{fixed-append, fixed-mod, length-fixed, zero_padded_is, decimal_one}
-use Rattle.time_digits.proofs.LengthLemmas.{length-digit, length-padded}
+use Rattle.time_digits.proofs.LengthLemmas.{length-digit}
 use Rattle.time_digits.proofs.FractionLemmas.{length-trimmed_fraction}
 use Rattle.time_fmt.specs.Text.{subsecond_text}
+use Rattle.time_fmt.proofs.NumberLemmas.{two_zeros, six_zeros}
 
+-- the first bytes of two texts are those of the first
 take_front : (xs ys : List ℕ) (k : ℕ) → length xs ≡ k → take k (xs ++ ys) ≡ xs
 take_front xs ys k h = let le : k ≤ length xs = omega arith in take-append-le k xs ys le ∙ take_all k xs (omega arith)
 
@@ -19,6 +20,7 @@ take_front xs ys k h = let le : k ≤ length xs = omega arith in take-append-le 
 pub take-fixed : (j k n : ℕ) → take j (fixed (j + k) n) ≡ fixed j (n / 10 ^ k)
 take-fixed j k n = rw (fixed-append j k n) (take_front (fixed j (n / 10 ^ k)) (fixed k n) j (length-fixed j (n / 10 ^ k)))
 
+-- the first one to nine decimals of the second, each by what the nanosecond leaves of a power of ten
 pub one_decimal : (n : ℕ) → n < 1_000_000_000 → take 1 (fixed 9 n) ≡ decimal (n / 100_000_000)
 one_decimal n h = take-fixed 1 8 n ∙ sym (decimal_one (n / 100_000_000) (omega arith))
 
@@ -55,19 +57,14 @@ seven_parts n h =
     let last = zero_padded_is 5 (n % 1_000_000) (omega arith) (omega arith) ∙ fixed-mod 6 n in
     ap (λ xs. xs ++ zero_padded 6 (n % 1_000_000)) first ∙ ap (λ ys. fixed 1 (n / 1_000_000) ++ ys) last ∙ sym (fixed-append 1 6 n)
 
+-- and by its first two digits and its last six
 pub eight_parts : (n : ℕ) → n < 100_000_000 → zero_padded 2 (n / 1_000_000) ++ zero_padded 6 (n % 1_000_000) ≡ fixed 8 n
 eight_parts n h =
     let first = zero_padded_is 1 (n / 1_000_000) (omega arith) (omega arith) in
     let last = zero_padded_is 5 (n % 1_000_000) (omega arith) (omega arith) ∙ fixed-mod 6 n in
     ap (λ xs. xs ++ zero_padded 6 (n % 1_000_000)) first ∙ ap (λ ys. fixed 2 (n / 1_000_000) ++ ys) last ∙ sym (fixed-append 2 6 n)
 
-pub length-two_zeros : (n : ℕ) → n < 100 → length (zero_padded 2 n) ≡ 2
-length-two_zeros n h = length-padded 48 2 n (length-decimal-le 2 n (omega arith) (omega arith) (omega arith))
-
-pub length-six_zeros : (n : ℕ) → n < 1_000_000 → length (zero_padded 6 n) ≡ 6
-length-six_zeros n h = length-padded 48 6 n (length-decimal-le 6 n (omega arith) (omega arith) (omega arith))
-
-pub ruleset two_parts = (seven_parts, eight_parts, length-digit, length-two_zeros, length-six_zeros, length-append, append_assoc)
+pub ruleset two_parts = (seven_parts, eight_parts, length-digit, two_zeros, six_zeros, length-append, append_assoc)
 
 -- the decimals have no more bytes than their width
 pub length-subsecond_text : (d : SubsecondDigits) (n : ℕ) → length (subsecond_text d n) ≤ subsecond_width d

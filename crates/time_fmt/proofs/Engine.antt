@@ -25,6 +25,7 @@ pub record Along (agrees : Type 0) (old now : Vec ℕ Global) (sum : ℕ) (f : F
   pub capacity : vec_capacity now ≡ vec_capacity old
   pub text : IsTextIf (are_guaranteed_text left) (trees_outcome left f) → IsTextIf (are_guaranteed_text all) (trees_outcome all f)
 
+-- a refusal that is named is there
 some_of : (P : Refusal → Type 0) (x : Option Refusal) → IsSomeAnd x P → (r : Refusal) × (x ≡ Some r)
 some_of P None h = absurd h
 some_of P (Some r) h = (r, refl)
@@ -59,6 +60,7 @@ text_refused old mid new e f all left others t along next step first =
     let P : Trees → Type 0 = λ ts. IsTextIf (are_guaranteed_text ts) (trees_outcome ts f) in
     along.text (subst P (sym next) stops)
 
+-- what follows is joined to what is completed
 join_done : (a b : Outcome) → a.refusal ≡ None → join a b ≡ record { bytes = a.bytes ++ b.bytes; refusal = b.refusal }
 join_done a b h = rw h refl
 

@@ -9,10 +9,12 @@ use Rattle.time_below.specs.declared.format_description.component.Component.{Com
 use Rattle.time_fmt.specs.Description.{of_group, current_outcome, is_supplied}
 use Rattle.time_fmt.specs.Outcome.{Outcome, refused, insufficient}
 
+-- a group that is not there is refused
 unsupplied : {G : Type 0} (group : Option G) (outcome : G → Outcome) → is_some group ≡ false → of_group group outcome ≡ refused insufficient
 unsupplied None outcome h = refl
 unsupplied (Some g) outcome h = cc
 
+-- so is a component of it
 pub insufficient_of : (c : Component) (f : Facts) → IsTrue (is_current c) → is_supplied (is_some f.date) (is_some f.time) (is_some f.offset) (is_some f.stamp) (group_of c) ≡ false
     → current_outcome c f ≡ refused insufficient
 insufficient_of c f current h = grind (arith, common_steps, unsupplied)

@@ -28,7 +28,8 @@ use Rattle.time_digits.specs.Digits.{fixed}
 use Rattle.time_digits.proofs.DigitLemmas.{IsAscii-fixed}
 use Rattle.time_digits.proofs.FractionLemmas.{IsAscii-trimmed_fraction}
 use Rattle.time_digits.proofs.LengthLemmas.{IsAscii-padded}
-use Rattle.time_fmt.specs.DateText.{month_names, month_name, weekday_names, weekday_name, indexed, from_sunday}
+use Rattle.time_below.specs.Calendar.{from_sunday}
+use Rattle.time_fmt.specs.DateText.{month_names, month_name, weekday_names, weekday_name, indexed}
 use Rattle.time_fmt.specs.Description.{of_group, in_standard_range, century_of, current_outcome, component_outcome, tree_outcome, trees_outcome}
 use Rattle.time_fmt.specs.Guarantee.{IsRealPart, IsTextIf}
 use Rattle.time_fmt.proofs.RealLemmas.{DateFits, TimeFits, OffsetFits, MomentFits, date_fits, time_fits, offset_fits, moment_fits}
@@ -38,54 +39,67 @@ use Rattle.time_fmt.specs.Text.{padded_text, sign_text, hour_12, period_text, su
 
 -- ---- texts
 
+-- a text that passes the test is ASCII
 pub ascii_test : (bs : List ℕ) → list_all (λ b. nat_lt b 128) bs ≡ true → IsAscii bs
 ascii_test bs h =
     IsAscii-from_all bs (All-weaker (λ b. IsTrue (nat_lt b 128)) (λ b. b < 128) (λ b. ltb-true b 128) bs (AllPass-from_list_all (λ b. nat_lt b 128) bs h))
 
+-- so is a number in its places
 IsAscii-padded_text : (p : Padding) (places n : ℕ) → n < 2 ^ 64 → IsAscii (padded_text p places n)
 IsAscii-padded_text padding.Space places n h = IsAscii-padded 32 places n (omega arith) h
 IsAscii-padded_text padding.Zero places n h = IsAscii-padded 48 places n (omega arith) h
 IsAscii-padded_text padding.None places n h = IsAscii-decimal n h
 
+-- so is a sign
 pub IsAscii-sign_text : (is_negative is_wanted : Bool) → IsAscii (sign_text is_negative is_wanted)
 IsAscii-sign_text true is_wanted = ascii_test (codes "-") refl
 IsAscii-sign_text false true = ascii_test (codes "+") refl
 IsAscii-sign_text false false = IsAscii-nil
 
+-- so is a number behind its sign
 signed : (n w : Bool) (p : Padding) (places m : ℕ) → m < 2 ^ 64 → IsAscii (sign_text n w ++ padded_text p places m)
 signed n w p places m h = IsAscii-append (sign_text n w) (padded_text p places m) (IsAscii-sign_text n w) (IsAscii-padded_text p places m h)
 
+-- each of the names is
 abbrev AreAscii : List (List ℕ) → Type 0
 AreAscii [] = Unit {0}
 AreAscii (name ∷ names) = IsAscii name × AreAscii names
 
+-- so is the name at a place
 name_at : (names : List (List ℕ)) (i : ℕ) → AreAscii names → IsAscii (slice_index_or names i [])
 name_at [] i h = IsAscii-nil
 name_at (name ∷ names) zero h = h.0
 name_at (name ∷ names) (suc i) h = name_at names i h.1
 
+-- the names of months are
 ascii_months : AreAscii month_names
 ascii_months = (ascii_test (codes "January") refl, (ascii_test (codes "February") refl, (ascii_test (codes "March") refl, (ascii_test (codes "April") refl, (ascii_test (codes "May") refl, (ascii_test (codes "June") refl, (ascii_test (codes "July") refl, (ascii_test (codes "August") refl, (ascii_test (codes "September") refl, (ascii_test (codes "October") refl, (ascii_test (codes "November") refl, (ascii_test (codes "December") refl, tt))))))))))))
 
+-- so is the name of a month
 pub IsAscii-month_name : (m : ℕ) → IsAscii (month_name m)
 IsAscii-month_name m = name_at month_names (m - 1) ascii_months
 
+-- the names of weekdays are
 ascii_weekdays : AreAscii weekday_names
 ascii_weekdays = (ascii_test (codes "Monday") refl, (ascii_test (codes "Tuesday") refl, (ascii_test (codes "Wednesday") refl, (ascii_test (codes "Thursday") refl, (ascii_test (codes "Friday") refl, (ascii_test (codes "Saturday") refl, (ascii_test (codes "Sunday") refl, tt)))))))
 
+-- so is the name of a weekday
 pub IsAscii-weekday_name : (w : ℕ) → IsAscii (weekday_name w)
 IsAscii-weekday_name w = name_at weekday_names w ascii_weekdays
 
+-- so is the digit of a weekday
 IsAscii-indexed : (one_indexed : Bool) (days : ℕ) → days < 7 → IsAscii (decimal (indexed one_indexed days))
 IsAscii-indexed true days h = IsAscii-decimal (days + 1) (omega arith)
 IsAscii-indexed false days h = IsAscii-decimal days (omega arith)
 
+-- so is the half of a day
 IsAscii-period_text : (p : Period) (is_uppercase : Bool) → IsAscii (period_text p is_uppercase)
 IsAscii-period_text Am true = ascii_test (codes "AM") refl
 IsAscii-period_text Am false = ascii_test (codes "am") refl
 IsAscii-period_text Pm true = ascii_test (codes "PM") refl
 IsAscii-period_text Pm false = ascii_test (codes "pm") refl
 
+-- so are decimals of the second
 IsAscii-subsecond_text : (d : SubsecondDigits) (n : ℕ) → IsAscii (subsecond_text d n)
 IsAscii-subsecond_text digits.OneOrMore n = IsAscii-trimmed_fraction n
 IsAscii-subsecond_text digits.One n = IsAscii-take (fixed 9 n) 1 (IsAscii-fixed 9 n)
@@ -98,6 +112,7 @@ IsAscii-subsecond_text digits.Seven n = IsAscii-take (fixed 9 n) 7 (IsAscii-fixe
 IsAscii-subsecond_text digits.Eight n = IsAscii-take (fixed 9 n) 8 (IsAscii-fixed 9 n)
 IsAscii-subsecond_text digits.Nine n = IsAscii-take (fixed 9 n) 9 (IsAscii-fixed 9 n)
 
+-- so is a timestamp
 IsAscii-timestamp_text : (s : Bool) (n : ℤ) → unsigned_abs n < 2 ^ 64 → IsAscii (timestamp_text s n)
 IsAscii-timestamp_text s n h = IsAscii-append (sign_text (int_lt n (pos 0)) s) (decimal (unsigned_abs n)) (IsAscii-sign_text (int_lt n (pos 0)) s) (IsAscii-decimal (unsigned_abs n) h)
 
@@ -108,10 +123,12 @@ fits : {G : Type 0} {P Q : G → Type 0} (group : Option G) → ((g : G) → P g
 fits None each h = h
 fits (Some g) each h = each g h
 
+-- so is what a group gives, if it is there
 ascii_of_group : {G : Type 0} (group : Option G) (fits : G → Type 0) (outcome : G → Outcome) → IfSome group fits → ((g : G) → fits g → IsAscii (outcome g).bytes) → IsAscii (of_group group outcome).bytes
 ascii_of_group None fits outcome h each = IsAscii-nil
 ascii_of_group (Some g) fits outcome h each = each g h
 
+-- so is a year or a century in its range
 ascii_in_range : (greatest magnitude : ℕ) (text : List ℕ) → IsAscii text → IsAscii (in_standard_range greatest magnitude text).bytes
 ascii_in_range greatest magnitude text h =
     elim (nat_le magnitude greatest) as (λ b. IsAscii (if b then done text else refused (out_of_range (conditional_range (codes "year")))).bytes) [ true ↦ h | false ↦ IsAscii-nil ]
@@ -155,13 +172,16 @@ ascii_current c f h = IsAscii-nil
 
 -- ---- outcomes one after another
 
+-- outcomes one after another are UTF-8 where each of them is
 joined_utf8 : (a b : Outcome) → IsUtf8 a.bytes → IsUtf8 b.bytes → IsUtf8 (join a b).bytes
 joined_utf8 a b p q = elim a.refusal as (λ r. IsUtf8 (join (record { bytes = a.bytes; refusal = r }) b).bytes) [ None ↦ IsUtf8-append a.bytes b.bytes p q | Some r ↦ p ]
 
+-- two tests hold
 both_true : (a b : Bool) → IsTrue (a && b) → IsTrue a × IsTrue b
 both_true true b h = (refl, h)
 both_true false b h = let no : ⊥ = cc in absurd no
 
+-- no bytes are UTF-8
 pub empty_utf8 : IsUtf8 []
 empty_utf8 = IsUtf8-from_ascii [] IsAscii-nil
 

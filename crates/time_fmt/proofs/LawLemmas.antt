@@ -28,6 +28,7 @@ use Rattle.time_fmt.specs.Outcome.{join}
 
 -- ---- what is converted stays
 
+-- a component that a deprecated one becomes is not deprecated
 kept_month : (r : MonthRepr) (m : Month) → current_component (current_month r m) ≡ current_month r m
 kept_month month.Numerical m = refl
 kept_month month.Long m = refl
@@ -64,6 +65,7 @@ kept_year false year.Century range.Extended m = refl
 kept_year false year.Century range.Standard m = refl
 kept_year false year.LastTwo size m = refl
 
+-- a component that is converted once more stays
 kept : (c : Component) → current_component (current_component c) ≡ current_component c
 kept (component.Month m) = kept_month m.repr m
 kept (component.Weekday m) = kept_weekday m.repr m
@@ -89,5 +91,6 @@ mutual
   outcomes-unmarked end f = refl
   outcomes-unmarked (more t ts) f = ap₂ join (outcome-unmarked t f) (outcomes-unmarked ts f)
 
+-- trees that are equal once they are unmarked have equal outcomes
 pub equal_outcomes : (s t : Tree) (f : Facts) → unmarked s ≡ unmarked t → tree_outcome s f ≡ tree_outcome t f
 equal_outcomes s t f e = sym (outcome-unmarked s f) ∙ ap (λ u. tree_outcome u f) e ∙ outcome-unmarked t f

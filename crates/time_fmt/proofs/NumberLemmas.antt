@@ -7,19 +7,27 @@ use Rattle.time_digits.proofs.LengthLemmas.{length-decimal_word}
 use Rattle.time_fmt.specs.Text.{padded_text}
 use Rattle.time_fmt.proofs.TextLemmas.{places_of, length-padded_text, two_places, length-sign_text}
 
+-- a number below 10,000 has at most four digits
 pub four_digits : (n : ℕ) → n < 10_000 → length (decimal n) ≤ 4
 four_digits n h = length-decimal-le 4 n (omega arith) (omega arith) (omega arith)
 
+-- and fits four places
 pub four_places : (p : Padding) (n : ℕ) → n < 10_000 → length (padded_text p 4 n) ≤ 4
 four_places p n h = length-padded_text p 4 n (four_digits n h)
 
--- zeros fill all the places
+-- zeros fill two places
+pub two_zeros : (n : ℕ) → n < 100 → length (zero_padded 2 n) ≡ 2
+two_zeros n h = places_of 2 n (length-decimal-le 2 n (omega arith) (omega arith) (omega arith))
+
+-- and four
 pub four_zeros : (n : ℕ) → n < 10_000 → length (zero_padded 4 n) ≡ 4
 four_zeros n h = places_of 4 n (four_digits n h)
 
+-- and five
 pub five_zeros : (n : ℕ) → n < 100_000 → length (zero_padded 5 n) ≡ 5
 five_zeros n h = places_of 5 n (length-decimal-le 5 n (omega arith) (omega arith) (omega arith))
 
+-- and six
 pub six_zeros : (n : ℕ) → n < 1_000_000 → length (zero_padded 6 n) ≡ 6
 six_zeros n h = places_of 6 n (length-decimal-le 6 n (omega arith) (omega arith) (omega arith))
 

@@ -4,12 +4,12 @@ use Rattle.std.specs.Int.{int_rem_euclid}
 use Rattle.std.proofs.lemmas.Int.{ints}
 use Rattle.time_below.specs.Calendar.{OrdinalDate, IsDate, is_leap_year, month_of, day_number}
 use Rattle.time_below.specs.Facts.{DateFacts, date_facts}
-use Rattle.time_below.specs.Moment.{Moment, milliseconds}
+use Rattle.time_below.specs.Moment.{Moment, IsNearMoment, milliseconds}
 use Rattle.time_below.specs.Offset.{Offset, IsOffset}
 use Rattle.time_below.specs.TimeOfDay.{TimeOfDay, IsTimeOfDay}
 use Rattle.time_below.proofs.MonthLemmas.{month_of_date, day_of_date, month_length}
 use Rattle.time_below.proofs.WeekLemmas.{iso_year_of_date, iso_week_of_date}
-use Rattle.time_provide.specs.Real.{AreOfDate, IsNearMoment, date_in}
+use Rattle.time_provide.specs.Real.{AreOfDate, date_in}
 
 -- a number of at most 64 bits
 abbrev pub IsWord : ℕ → Type 0
@@ -40,14 +40,17 @@ pub record MomentFits (s : Moment) : Type 0 where
   pub seconds : IsWord (unsigned_abs s.seconds)
   pub milliseconds : IsWord (unsigned_abs (milliseconds s))
 
+-- the days before a weekday in its week
 weekday_below_7 : (z : ℤ) → unsigned_abs (int_rem_euclid z (pos 7)) < 7
 weekday_below_7 (pos a) = omega arith
 weekday_below_7 (negsuc a) = omega arith
 
+-- the days of a year
 at_most_366 : (is_leap : Bool) → (if is_leap then 366 else 365) ≤ 366
 at_most_366 true = omega arith
 at_most_366 false = omega arith
 
+-- the numbers of a date that the calendar has
 date_fits_of : (o : OrdinalDate) → IsDate o → DateFits (date_facts o)
 date_fits_of o h = record {
   year = omega (arith, h.0);

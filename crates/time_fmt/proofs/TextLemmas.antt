@@ -15,9 +15,11 @@ length-padded_text padding.Space places n h = omega (arith, length-padded 32 pla
 length-padded_text padding.Zero places n h = omega (arith, length-padded 48 places n h)
 length-padded_text padding.None places n h = h
 
+-- a number below 100 fits two places
 pub two_places : (p : Padding) (n : ℕ) → n < 100 → length (padded_text p 2 n) ≤ 2
 two_places p n h = length-padded_text p 2 n (length-decimal-le 2 n (omega arith) (omega arith) (omega arith))
 
+-- a sign has one byte at most
 pub length-sign_text : (is_negative is_wanted : Bool) → length (sign_text is_negative is_wanted) ≤ 1
 length-sign_text true is_wanted = omega arith
 length-sign_text false true = omega arith
@@ -27,10 +29,12 @@ length-sign_text false false = omega arith
 pub places_of : (places n : ℕ) → length (decimal n) ≤ places → length (zero_padded places n) ≡ places
 places_of places n h = length-padded 48 places n h
 
+-- what stands before the digits are zeros
 pub zero_padded_is_zeros : (places n : ℕ) → zero_padded places n ≡ replicate (places - length (decimal n)) 48 ++ decimal n
 unfolding padded
 zero_padded_is_zeros places n = refl
 
+-- of which there are as many as are wanted
 pub length-zeros : (n : ℕ) → length (replicate {A = ℕ} n 48) ≡ n
 length-zeros n = length-replicate {A = ℕ} n 48
 
@@ -39,6 +43,7 @@ pub ruleset zeros_before = (places_of, zero_padded_is_zeros, length-zeros, appen
 -- one text after another
 pub ruleset signed_parts = (length-append, append_assoc)
 
+-- the hour of an offset is a sign and two digits
 pub length-offset_hour_text : (p : Padding) (s n : Bool) (hour : ℤ) → unsigned_abs hour ≤ 25 → length (offset_hour_text p s n hour) ≤ 3
 length-offset_hour_text p s n hour h =
     omega (arith, length-append (sign_text n s) (padded_text p 2 (unsigned_abs hour)), length-sign_text n s, two_places p (unsigned_abs hour) (omega arith))

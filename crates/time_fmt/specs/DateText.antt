@@ -1,5 +1,5 @@
 -- The texts of the components of a date.
-use Rattle.std.specs.Prelude.{ℕ, ◌+◌, ◌-◌, ◌%◌, ◌++◌, Bool, ◌||◌, nat_lt, List, [], ◌∷◌, codes, take, slice_index_or, ℤ, pos, int_lt, unsigned_abs, if◌then◌else◌}
+use Rattle.std.specs.Prelude.{ℕ, ◌+◌, ◌-◌, ◌++◌, Bool, ◌||◌, nat_lt, List, [], ◌∷◌, codes, take, slice_index_or, ℤ, pos, int_lt, unsigned_abs, if◌then◌else◌}
 use Rattle.time_below.specs.declared.format_description.modifier.Padding.{Padding}
 use Rattle.time_fmt.specs.Text.{padded_text, sign_text}
 
@@ -27,10 +27,6 @@ short_name name = take 3 name
 -- a weekday from 0 or from 1 on
 abbrev pub indexed : Bool → ℕ → ℕ
 indexed one_indexed days = if one_indexed then days + 1 else days
-
--- the days from Sunday, 0 to 6, of the days from Monday
-abbrev pub from_sunday : ℕ → ℕ
-from_sunday from_monday = (from_monday + 1) % 7
 
 -- a year in four places, or all its digits and a sign from 10,000 on
 abbrev pub extended_year_text : Padding → Bool → ℤ → List ℕ

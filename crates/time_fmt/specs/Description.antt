@@ -11,7 +11,8 @@ use Rattle.time_below.specs.Moment.{milliseconds}
 use Rattle.time_below.specs.Offset.{is_negative}
 use Rattle.time_below.specs.TimeOfDay.{period_of}
 use Rattle.time_below.specs.Tree.{Tree, Trees, byte_literal, text_literal, of_component, all_of, first_of, nothing, end, more}
-use Rattle.time_fmt.specs.DateText.{month_name, weekday_name, short_name, indexed, from_sunday, extended_year_text, standard_year_text, extended_century_text, standard_century_text}
+use Rattle.time_below.specs.Calendar.{from_sunday}
+use Rattle.time_fmt.specs.DateText.{month_name, weekday_name, short_name, indexed, extended_year_text, standard_year_text, extended_century_text, standard_century_text}
 use Rattle.time_fmt.specs.Outcome.{Outcome, done, refused, join, insufficient, out_of_range}
 use Rattle.time_fmt.specs.Text.{padded_text, hour_12, period_text, subsecond_text, offset_hour_text, timestamp_text}
 

@@ -3,10 +3,11 @@ use Rattle.std.specs.Prelude.{Bool, IfSome, IsTrue, IsUtf8}
 use Rattle.time_below.specs.declared.format_description.component.Group.{Group}
 use Rattle.time_below.specs.declared.format_description.component.Group.TheVariants as group
 use Rattle.time_below.specs.Facts.{Facts}
+use Rattle.time_below.specs.Moment.{IsNearMoment}
 use Rattle.time_below.specs.Offset.{IsOffset}
 use Rattle.time_below.specs.TimeOfDay.{IsTimeOfDay}
 use Rattle.time_fmt.specs.Outcome.{Outcome}
-use Rattle.time_provide.specs.Real.{AreOfDate, IsNearMoment}
+use Rattle.time_provide.specs.Real.{AreOfDate}
 
 -- where the guarantee is given, all bytes are UTF-8, also those before a refusal
 abbrev pub IsTextIf : Bool → Outcome → Type 0

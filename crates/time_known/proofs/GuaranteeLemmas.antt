@@ -99,3 +99,52 @@ pub all_groups_utf8 : (f : Facts) (of_groups : DateFacts → TimeOfDay → Offse
     → ((d : DateFacts) (t : TimeOfDay) (o : Offset) → DateFits d → TimeFits t → OffsetFits o → IsAscii (of_groups d t o).bytes)
     → IfSome f.date AreOfDate → IfSome f.time IsTimeOfDay → IfSome f.offset IsOffset → IsUtf8 (of_all_groups f of_groups).bytes
 all_groups_utf8 f of_groups each h k l = of_groups_utf8 f.date f.time f.offset of_groups each h k l
+
+-- ---- ISO 8601
+
+ascii_iso_year : (is_six_digits : Bool) (y : ℤ) → unsigned_abs y < 2 ^ 64 → IsAscii (iso_year is_six_digits y).bytes
+ascii_iso_year true y h = then_ascii (IsAscii-sign_text (int_lt y (pos 0)) true) (ascii_number 6 (unsigned_abs y) h)
+ascii_iso_year false y h = ascii_refused_if _ _ _ (ascii_number 4 (unsigned_abs y) h)
+
+ascii_separator : (c : Choices) {bytes : List ℕ} → IsAscii bytes → IsAscii (separator c bytes)
+ascii_separator c h = ascii_choice c.use_separators h IsAscii-nil
+
+ascii_after_year : (k : DateKind) (c : Choices) (d : DateFacts) → DateFits d → IsAscii (text_after_year k c d)
+ascii_after_year kind.Calendar c d h = ascii_month_and_day (separator c (codes "-")) d (ascii_separator c (ascii_test (codes "-") refl)) h
+ascii_after_year kind.Week c d h =
+    let dash = ascii_separator c (ascii_test (codes "-") refl) in
+    then_ascii (then_ascii (then_ascii (then_ascii dash (ascii_test (codes "W") refl)) (ascii_number 2 d.iso_week h.iso_week)) dash)
+    (ascii_number 1 (d.weekday + 1) (omega (arith, h.weekday)))
+ascii_after_year kind.Ordinal c d h = then_ascii (ascii_separator c (ascii_test (codes "-") refl)) (ascii_number 3 d.ordinal h.ordinal)
+
+ascii_year_of_kind : (k : DateKind) (d : DateFacts) → DateFits d → unsigned_abs (year_of_kind k d) < 2 ^ 64
+ascii_year_of_kind kind.Calendar d h = h.year
+ascii_year_of_kind kind.Week d h = h.iso_year
+ascii_year_of_kind kind.Ordinal d h = h.year
+
+ascii_join : (a b : Outcome) → IsAscii a.bytes → IsAscii b.bytes → IsAscii (join a b).bytes
+ascii_join a b p q = elim a.refusal as (λ r. IsAscii (join (record { bytes = a.bytes; refusal = r }) b).bytes) [ None ↦ then_ascii p q | Some r ↦ p ]
+
+ascii_iso_date : (c : Choices) (d : DateFacts) → DateFits d → IsAscii (iso_date c d).bytes
+ascii_iso_date c d h =
+    ascii_join (iso_year c.year_is_six_digits (year_of_kind c.date_kind d)) (done (text_after_year c.date_kind c d))
+    (ascii_iso_year c.year_is_six_digits (year_of_kind c.date_kind d) (ascii_year_of_kind c.date_kind d h)) (ascii_after_year c.date_kind c d h)
+
+ascii_decimal_part : (d : Option ℕ) (rest unit : ℕ) → IsAscii (decimal_part d rest unit)
+ascii_decimal_part None rest unit = IsAscii-nil
+ascii_decimal_part (Some d) rest unit = then_ascii (ascii_test (codes ".") refl) (IsAscii-fixed d (rest * 10 ^ d / unit))
+
+ascii_units : (p : TimePrecision) (c : Choices) (t : TimeOfDay) → TimeFits t → IsAscii (units_text p c t)
+ascii_units (precision.Hour d) c t h = then_ascii (ascii_number 2 t.hour h.hour) (ascii_decimal_part d (nanoseconds_of_hour t) 3_600_000_000_000)
+ascii_units (precision.Minute d) c t h =
+    then_ascii (then_ascii (then_ascii (ascii_number 2 t.hour h.hour) (ascii_separator c (ascii_test (codes ":") refl))) (ascii_number 2 t.minute h.minute))
+    (ascii_decimal_part d (nanoseconds_of_minute t) 60_000_000_000)
+ascii_units (precision.Second d) c t h =
+    then_ascii (ascii_clock (separator c (codes ":")) t (ascii_separator c (ascii_test (codes ":") refl)) h) (ascii_decimal_part d t.nanosecond 1_000_000_000)
+
+ascii_iso_time : (c : Choices) (t : TimeOfDay) → TimeFits t → IsAscii (iso_time c t).bytes
+ascii_iso_time c t h = then_ascii (ascii_choice (has_time_letter c) (ascii_test (codes "T") refl) IsAscii-nil) (ascii_units c.time_precision c t h)
+
+ascii_iso_minutes : (p : OffsetPrecision) (c : Choices) (o : Offset) → OffsetFits o → IsAscii (iso_minutes p c o).bytes
+ascii_iso_minutes offset_precision.Minute c o h = then_ascii (ascii_separator c (ascii_test (codes ":") refl)) (ascii_number 2 (unsigned_abs o.minutes) h.minutes)
+ascii_iso_minutes offset_precision.Hour c o h = ascii_refused_if _ _ _ IsAscii-nil

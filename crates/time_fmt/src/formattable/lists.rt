@@ -36,7 +36,8 @@ impl Formattable for BorrowedItems<'_> {
         value: &V,
         state: &mut V::State,
     ) -> Result<usize, Format> {
-        write_nodes(self.0, output, value, state)
+        let BorrowedItems(items) = *self;
+        write_nodes(items, output, value, state)
     }
 }
 
@@ -63,6 +64,7 @@ impl Formattable for OwnedItems<'_> {
         value: &V,
         state: &mut V::State,
     ) -> Result<usize, Format> {
-        write_nodes(self.0, output, value, state)
+        let OwnedItems(items) = *self;
+        write_nodes(items, output, value, state)
     }
 }
