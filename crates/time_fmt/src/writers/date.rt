@@ -3,7 +3,8 @@ ghost use Rattle.std.specs.Prelude.{◌≡◌, ◌≤◌, length, decimal};
 ghost use Rattle.time_below.specs.Month.{month_number};
 ghost use Rattle.time_below.specs.Weekday.{days_from_monday};
 ghost use Rattle.time_fmt.specs.DateText.{month_name, weekday_name, short_name};
-ghost use Rattle.time_fmt.specs.DateText.{indexed, from_sunday};
+ghost use Rattle.time_below.specs.Calendar.{from_sunday};
+ghost use Rattle.time_fmt.specs.DateText.{indexed};
 ghost use Rattle.time_fmt.specs.Room.{HasRoom, Writes};
 ghost use Rattle.time_fmt.specs.Text.{padded_text};
 
