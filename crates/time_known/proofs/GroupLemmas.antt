@@ -33,7 +33,7 @@ pub record AllGroups (f : Facts) : Type 0 where
   pub is_offset : f.offset ≡ Some offset
 
 -- all three are needed
-abbrev all : Groups
+abbrev pub all : Groups
 all = record { date = true; time = true; offset = true }
 
 -- three tests hold

@@ -1,6 +1,6 @@
 -- The texts of the well-known formats are ASCII, and so they are UTF-8.
-use Rattle.std.proofs.Common.{◌≡◌, refl, ℕ, ◌<◌, ◌^◌, ◌==◌, arith, Bool, true, false, List, [], ◌++◌, IsAscii, IsUtf8, Option, Some, None, unsigned_abs, if◌then◌else◌}
-use Rattle.std.specs.Prelude.{codes, IfSome}
+use Rattle.std.proofs.Common.{◌≡◌, refl, sym, ap, subst, ℕ, ◌+◌, ◌*◌, ◌/◌, ◌<◌, ◌^◌, ◌==◌, arith, Bool, true, false, List, [], ◌++◌, IsAscii, IsUtf8, Option, Some, None, ℤ, pos, unsigned_abs, if◌then◌else◌}
+use Rattle.std.specs.Prelude.{codes, int_lt, nat_lt, ◌&&◌, is_some, IfSome}
 use Rattle.std.proofs.lemmas.Str.{IsAscii-append, IsAscii-take, IsUtf8-from_ascii}
 use Rattle.std.proofs.lemmas.Str.Ascii.{IsAscii-nil}
 use Rattle.time_below.specs.Facts.{Facts, DateFacts}
@@ -8,13 +8,25 @@ use Rattle.time_below.specs.Offset.{Offset, IsOffset, is_negative, is_utc}
 use Rattle.time_below.specs.TimeOfDay.{TimeOfDay, IsTimeOfDay}
 use Rattle.time_digits.specs.Digits.{zero_padded}
 use Rattle.time_digits.specs.Fraction.{trimmed_fraction}
+use Rattle.time_digits.proofs.DigitLemmas.{IsAscii-fixed}
 use Rattle.time_digits.proofs.FractionLemmas.{IsAscii-trimmed_fraction}
 use Rattle.time_digits.proofs.LengthLemmas.{IsAscii-padded}
+use Rattle.time_fmt.specs.Description.{of_group}
 use Rattle.time_fmt.specs.DateText.{month_name, weekday_name, short_name}
-use Rattle.time_fmt.specs.Outcome.{Outcome, done, refused, invalid_component}
+use Rattle.time_fmt.specs.Outcome.{Outcome, Refusal, done, refused, join}
 use Rattle.time_fmt.proofs.GuaranteeLemmas.{ascii_test, empty_utf8, IsAscii-sign_text, IsAscii-month_name, IsAscii-weekday_name}
 use Rattle.time_fmt.proofs.RealLemmas.{DateFits, TimeFits, OffsetFits, date_fits, time_fits, offset_fits}
 use Rattle.time_provide.specs.Real.{AreOfDate}
+use Rattle.time_known.specs.Config.{Choices, has_time, has_time_letter, separator}
+use Rattle.time_known.specs.declared.iso8601.config.DateKind.{DateKind}
+use Rattle.time_known.specs.declared.iso8601.config.DateKind.TheVariants as kind
+use Rattle.time_known.specs.declared.iso8601.config.OffsetPrecision.{OffsetPrecision}
+use Rattle.time_known.specs.declared.iso8601.config.OffsetPrecision.TheVariants as offset_precision
+use Rattle.time_known.specs.declared.iso8601.config.TimePrecision.{TimePrecision}
+use Rattle.time_known.specs.declared.iso8601.config.TimePrecision.TheVariants as precision
+use Rattle.time_known.specs.Groups.{are_supplied}
+use Rattle.time_known.specs.Iso8601.{iso_date, iso_time, iso_offset, iso_year, year_of_kind, text_after_year, units_text, decimal_part, nanoseconds_of_hour, nanoseconds_of_minute, iso_minutes}
+use Rattle.time_known.proofs.GroupLemmas.{all}
 use Rattle.time_known.specs.Rfc2822.{rfc2822_of_groups, rfc2822_text, date_text, named_date_text}
 use Rattle.time_known.specs.Rfc3339.{rfc3339_of_groups, rfc3339_text, full_date_text, time_secfrac_text, time_offset_text}
 use Rattle.time_known.specs.WellKnown.{refused_if, of_all_groups, month_and_day_text, clock_text, offset_hours_text, offset_minutes_text, offset_text}
@@ -47,6 +59,10 @@ ascii_offset separator o s h = then_ascii (then_ascii (ascii_offset_hours o h) s
 pub ascii_choice : {a b : List ℕ} (c : Bool) → IsAscii a → IsAscii b → IsAscii (if c then a else b)
 ascii_choice true p q = p
 ascii_choice false p q = q
+
+chosen_ascii : (c : Bool) (a b : Outcome) → IsAscii a.bytes → IsAscii b.bytes → IsAscii (if c then a else b).bytes
+chosen_ascii true a b p q = p
+chosen_ascii false a b p q = q
 
 -- a refusal before any byte
 pub ascii_refused_if : (c : Bool) (name : List ℕ) (o : Outcome) → IsAscii o.bytes → IsAscii (refused_if c name o).bytes
@@ -81,24 +97,6 @@ ascii_rfc2822_text d t o h k l =
 
 pub ascii_rfc2822 : (d : DateFacts) (t : TimeOfDay) (o : Offset) → DateFits d → TimeFits t → OffsetFits o → IsAscii (rfc2822_of_groups d t o).bytes
 ascii_rfc2822 d t o h k l = ascii_refused_if _ _ _ (ascii_refused_if _ _ _ (ascii_rfc2822_text d t o h k l))
-
--- ---- outcomes
-
--- of the groups of a value that is real
-of_groups_utf8 : (date : Option DateFacts) (time : Option TimeOfDay) (offset : Option Offset) (of_groups : DateFacts → TimeOfDay → Offset → Outcome)
-    → ((d : DateFacts) (t : TimeOfDay) (o : Offset) → DateFits d → TimeFits t → OffsetFits o → IsAscii (of_groups d t o).bytes)
-    → IfSome date AreOfDate → IfSome time IsTimeOfDay → IfSome offset IsOffset
-    → IsUtf8 (of_all_groups (record { date = date; time = time; offset = offset; stamp = None }) of_groups).bytes
-of_groups_utf8 None time offset of_groups each h k l = empty_utf8
-of_groups_utf8 (Some d) None offset of_groups each h k l = empty_utf8
-of_groups_utf8 (Some d) (Some t) None of_groups each h k l = empty_utf8
-of_groups_utf8 (Some d) (Some t) (Some o) of_groups each h k l =
-    IsUtf8-from_ascii (of_groups d t o).bytes (each d t o (date_fits d h) (time_fits t k) (offset_fits o l))
-
-pub all_groups_utf8 : (f : Facts) (of_groups : DateFacts → TimeOfDay → Offset → Outcome)
-    → ((d : DateFacts) (t : TimeOfDay) (o : Offset) → DateFits d → TimeFits t → OffsetFits o → IsAscii (of_groups d t o).bytes)
-    → IfSome f.date AreOfDate → IfSome f.time IsTimeOfDay → IfSome f.offset IsOffset → IsUtf8 (of_all_groups f of_groups).bytes
-all_groups_utf8 f of_groups each h k l = of_groups_utf8 f.date f.time f.offset of_groups each h k l
 
 -- ---- ISO 8601
 
@@ -148,3 +146,62 @@ ascii_iso_time c t h = then_ascii (ascii_choice (has_time_letter c) (ascii_test 
 ascii_iso_minutes : (p : OffsetPrecision) (c : Choices) (o : Offset) → OffsetFits o → IsAscii (iso_minutes p c o).bytes
 ascii_iso_minutes offset_precision.Minute c o h = then_ascii (ascii_separator c (ascii_test (codes ":") refl)) (ascii_number 2 (unsigned_abs o.minutes) h.minutes)
 ascii_iso_minutes offset_precision.Hour c o h = ascii_refused_if _ _ _ IsAscii-nil
+
+ascii_iso_offset : (c : Choices) (o : Offset) → OffsetFits o → IsAscii (iso_offset c o).bytes
+ascii_iso_offset c o h =
+    let hours = ascii_offset_hours o h in
+    let signed = ascii_refused_if (nat_lt 0 (unsigned_abs o.seconds)) (codes "offset_second") (join (done (offset_hours_text o)) (iso_minutes c.offset_precision c o))
+    (ascii_join (done (offset_hours_text o)) (iso_minutes c.offset_precision c o) hours (ascii_iso_minutes c.offset_precision c o h)) in
+    chosen_ascii (has_time c.formatted_components && is_utc o) (done (codes "Z")) _ (ascii_test (codes "Z") refl) signed
+
+-- what a group gives, if it is there
+group_utf8 : {G : Type 0} {P Q : G → Type 0} (group : Option G) (outcome : G → Outcome) → ((g : G) → P g → Q g)
+    → ((g : G) → Q g → IsAscii (outcome g).bytes) → IfSome group P → IsUtf8 (of_group group outcome).bytes
+group_utf8 None outcome fits each h = empty_utf8
+group_utf8 (Some g) outcome fits each h = IsUtf8-from_ascii (outcome g).bytes (each g (fits g h))
+
+pub iso_date_utf8 : (c : Choices) (date : Option DateFacts) → IfSome date AreOfDate → IsUtf8 (of_group date (iso_date c)).bytes
+iso_date_utf8 c date h = group_utf8 date (iso_date c) date_fits (ascii_iso_date c) h
+
+pub iso_time_utf8 : (c : Choices) (time : Option TimeOfDay) → IfSome time IsTimeOfDay → IsUtf8 (of_group time (iso_time c)).bytes
+iso_time_utf8 c time h = group_utf8 time (iso_time c) time_fits (ascii_iso_time c) h
+
+pub iso_offset_utf8 : (c : Choices) (offset : Option Offset) → IfSome offset IsOffset → IsUtf8 (of_group offset (iso_offset c)).bytes
+iso_offset_utf8 c offset h = group_utf8 offset (iso_offset c) offset_fits (ascii_iso_offset c) h
+
+-- ---- outcomes
+
+-- of the groups of a value that is real
+of_groups_utf8 : (date : Option DateFacts) (time : Option TimeOfDay) (offset : Option Offset) (of_groups : DateFacts → TimeOfDay → Offset → Outcome)
+    → ((d : DateFacts) (t : TimeOfDay) (o : Offset) → DateFits d → TimeFits t → OffsetFits o → IsAscii (of_groups d t o).bytes)
+    → IfSome date AreOfDate → IfSome time IsTimeOfDay → IfSome offset IsOffset
+    → IsUtf8 (of_all_groups (record { date = date; time = time; offset = offset; stamp = None }) of_groups).bytes
+of_groups_utf8 None time offset of_groups each h k l = empty_utf8
+of_groups_utf8 (Some d) None offset of_groups each h k l = empty_utf8
+of_groups_utf8 (Some d) (Some t) None of_groups each h k l = empty_utf8
+of_groups_utf8 (Some d) (Some t) (Some o) of_groups each h k l =
+    IsUtf8-from_ascii (of_groups d t o).bytes (each d t o (date_fits d h) (time_fits t k) (offset_fits o l))
+
+pub all_groups_utf8 : (f : Facts) (of_groups : DateFacts → TimeOfDay → Offset → Outcome)
+    → ((d : DateFacts) (t : TimeOfDay) (o : Offset) → DateFits d → TimeFits t → OffsetFits o → IsAscii (of_groups d t o).bytes)
+    → IfSome f.date AreOfDate → IfSome f.time IsTimeOfDay → IfSome f.offset IsOffset → IsUtf8 (of_all_groups f of_groups).bytes
+all_groups_utf8 f of_groups each h k l = of_groups_utf8 f.date f.time f.offset of_groups each h k l
+
+-- a value that lacks a group gives no byte
+lacking_utf8 : (date : Option DateFacts) (time : Option TimeOfDay) (offset : Option Offset) (of_groups : DateFacts → TimeOfDay → Offset → Outcome)
+    → are_supplied all (is_some date) (is_some time) (is_some offset) ≡ false
+    → IsUtf8 (of_all_groups (record { date = date; time = time; offset = offset; stamp = None }) of_groups).bytes
+lacking_utf8 None time offset of_groups h = empty_utf8
+lacking_utf8 (Some d) None offset of_groups h = empty_utf8
+lacking_utf8 (Some d) (Some t) None of_groups h = empty_utf8
+lacking_utf8 (Some d) (Some t) (Some o) of_groups h = cc
+
+pub lacking_groups_utf8 : (f : Facts) (of_groups : DateFacts → TimeOfDay → Offset → Outcome) (date time offset : Bool)
+    → is_some f.date ≡ date → is_some f.time ≡ time → is_some f.offset ≡ offset → are_supplied all date time offset ≡ false
+    → IsUtf8 (of_all_groups f of_groups).bytes
+lacking_groups_utf8 f of_groups date time offset d t o h = lacking_utf8 f.date f.time f.offset of_groups (rw (d, t, o) h)
+
+-- nor does a refusal before any byte
+pub refused_utf8 : (o : Outcome) (r : Refusal) → o ≡ refused r → IsUtf8 o.bytes
+refused_utf8 o r e = subst IsUtf8 (sym (ap (λ (p : Outcome). p.bytes) e)) empty_utf8
+

@@ -7,7 +7,7 @@ use crate::writers::digits::{fmt_sign, format_two_digits};
 use time_below::format_description::modifier;
 use time_provide::ranges::{OffsetHours, OffsetMinutes, OffsetSeconds};
 
-/// Appends the sign of the offset, and its hour in two places.
+/// Appends the sign of the whole offset, and its hour, 0 to 25, in two places.
 #[inline]
 #[tactic(auto, using(crate::proofs::TextLemmas::signed_parts))]
 pub fn fmt_offset_hour(
@@ -25,7 +25,7 @@ pub fn fmt_offset_hour(
     sign + format_two_digits(output, hour.abs().expand(), modifier.padding)
 }
 
-/// Appends the minute of the offset in two places, without a sign.
+/// Appends the minute of the offset, 0 to 59, in two places, without a sign.
 #[inline]
 pub fn fmt_offset_minute(
     output: &mut Vec<u8>,
@@ -40,7 +40,7 @@ pub fn fmt_offset_minute(
     format_two_digits(output, minute.abs().expand(), modifier.padding)
 }
 
-/// Appends the second of the offset in two places, without a sign.
+/// Appends the second of the offset, 0 to 59, in two places, without a sign.
 #[inline]
 pub fn fmt_offset_second(
     output: &mut Vec<u8>,

@@ -36,7 +36,7 @@ pub fn fmt_hour_24(output: &mut Vec<u8>, hour: Hours, modifier: modifier::Hour24
     format_two_digits(output, hour.expand(), modifier.padding)
 }
 
-/// Appends the minute in two places.
+/// Appends the minute, 0 to 59, in two places.
 #[inline]
 pub fn fmt_minute(output: &mut Vec<u8>, minute: Minutes, modifier: modifier::Minute) -> usize
     requires room { HasRoom output.old (length (padded_text modifier.padding 2 minute)) }
@@ -61,7 +61,7 @@ pub fn fmt_period(output: &mut Vec<u8>, period: Period, modifier: modifier::Peri
     write(output, text)
 }
 
-/// Appends the second in two places.
+/// Appends the second, 0 to 59, in two places.
 #[inline]
 pub fn fmt_second(output: &mut Vec<u8>, second: Seconds, modifier: modifier::Second) -> usize
     requires room { HasRoom output.old (length (padded_text modifier.padding 2 second)) }
@@ -70,7 +70,7 @@ pub fn fmt_second(output: &mut Vec<u8>, second: Seconds, modifier: modifier::Sec
     format_two_digits(output, second.expand(), modifier.padding)
 }
 
-/// Appends the first decimals of the second, or as many as are needed.
+/// Appends the first decimals of the second, one to nine, or as many as are needed, at least one.
 #[inline]
 #[tactic(auto, using(crate::proofs::DecimalLemmas::first_decimals))]
 pub fn fmt_subsecond(

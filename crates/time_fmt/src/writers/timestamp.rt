@@ -6,7 +6,7 @@ ghost use Rattle.time_fmt.specs.Text.{timestamp_text};
 use crate::writers::digits::{fmt_sign, format_u64_pad_none};
 use time_below::format_description::modifier;
 
-/// Appends the seconds by all their digits.
+/// Appends the seconds since 1970-01-01T00:00:00 UTC, a sign and all their digits.
 #[inline]
 pub fn fmt_unix_timestamp_second(
     output: &mut Vec<u8>,
@@ -21,7 +21,7 @@ pub fn fmt_unix_timestamp_second(
     format_signed(output, seconds, modifier.sign_is_mandatory)
 }
 
-/// Appends the milliseconds by all their digits.
+/// Appends the milliseconds since 1970-01-01T00:00:00 UTC, a sign and all their digits.
 #[inline]
 pub fn fmt_unix_timestamp_millisecond(
     output: &mut Vec<u8>,

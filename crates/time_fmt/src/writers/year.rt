@@ -15,7 +15,8 @@ use time_digits::num_fmt::{four_to_six_digits, one_to_four_digits_no_padding};
 use time_digits::{ru8, ru16, ru32};
 use time_provide::ranges::{ExtendedCentury, LastTwo, StandardCentury, StandardYear, Year};
 
-/// Appends the sign and four places of the year, or all its digits and a sign from 10,000 on.
+/// Appends the sign and four places of the year, -999,999 to 999,999, or all its digits and a sign
+/// from 10,000 on.
 #[inline]
 pub fn fmt_calendar_year_full_extended_range(
     output: &mut Vec<u8>,
@@ -30,7 +31,7 @@ pub fn fmt_calendar_year_full_extended_range(
     write_extended_year(output, year, modifier.padding, modifier.sign_is_mandatory)
 }
 
-/// Appends the sign and four places of the year.
+/// Appends the sign and four places of the year, -9,999 to 9,999.
 #[inline]
 pub fn fmt_calendar_year_full_standard_range(
     output: &mut Vec<u8>,
@@ -45,8 +46,8 @@ pub fn fmt_calendar_year_full_standard_range(
     write_standard_year(output, year, modifier.padding, modifier.sign_is_mandatory)
 }
 
-/// Appends the sign and four places of the week calendar's year (ISO 8601-1:2019), or all its
-/// digits and a sign from 10,000 on.
+/// Appends the sign and four places of the week calendar's year, -999,999 to 999,999
+/// (ISO 8601-1:2019), or all its digits and a sign from 10,000 on.
 #[inline]
 pub fn fmt_iso_year_full_extended_range(
     output: &mut Vec<u8>,
@@ -61,7 +62,7 @@ pub fn fmt_iso_year_full_extended_range(
     write_extended_year(output, year, modifier.padding, modifier.sign_is_mandatory)
 }
 
-/// Appends the sign and four places of the week calendar's year (ISO 8601-1:2019).
+/// Appends the sign and four places of the week calendar's year, -9,999 to 9,999 (ISO 8601-1:2019).
 #[inline]
 pub fn fmt_iso_year_full_standard_range(
     output: &mut Vec<u8>,
@@ -178,7 +179,7 @@ pub fn fmt_iso_year_century_standard_range(
     )
 }
 
-/// Appends the last two digits of the year in two places.
+/// Appends the last two digits of the year, 0 to 99, in two places.
 #[inline]
 pub fn fmt_calendar_year_last_two(
     output: &mut Vec<u8>,
@@ -191,7 +192,7 @@ pub fn fmt_calendar_year_last_two(
     format_two_digits(output, last_two, modifier.padding)
 }
 
-/// Appends the last two digits of the week calendar's year in two places.
+/// Appends the last two digits of the week calendar's year, 0 to 99, in two places.
 #[inline]
 pub fn fmt_iso_year_last_two(
     output: &mut Vec<u8>,

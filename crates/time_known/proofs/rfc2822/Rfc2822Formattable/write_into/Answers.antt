@@ -1,6 +1,7 @@
 use Rattle.std.proofs.Common.{◌≡◌, ◌∙◌, sym, ap}
 use Rattle.time_fmt.specs.Outcome.{Outcome, done}
 use Rattle.time_known.specs.Rfc2822.{rfc2822_of_groups, rfc2822_outcome, rfc2822_text}
+use Rattle.time_known.proofs.GuaranteeLemmas.{ascii_rfc2822, all_groups_utf8, lacking_groups_utf8, refused_utf8}
 use Rattle.time_known.proofs.GroupLemmas.{AllGroups, all_groups, at_all}
 use Rattle.time_known.proofs.LawLemmas.{completed_are_canonical}
 use Rattle.time_known.proofs.ReadBackLemmas.{reads_as}
@@ -18,3 +19,18 @@ returns-in-Ok-clause-spelled g c =
     let completed = at_all all (λ d t o. rfc2822_outcome f ≡ done (rfc2822_text d t o)) c.in-Ok.ensures.accepted in
     reads_as rfc2822_of_groups (completed_are_canonical rfc2822_is_written) all c.in-Ok.ensures.real.0
     c.write_date_time.ensures.real c.in-Ok.ensures.real.1 (ap (λ (o : Outcome). o.refusal) completed)
+
+pub returns-in-Ok-clause-text : goal.returns-in-Ok-clause-text
+returns-in-Ok-clause-text g c = λ _.
+    all_groups_utf8 (g.V.ComponentProvider.facts c.args.value.now) rfc2822_of_groups ascii_rfc2822 c.in-Ok.ensures.real.0
+    c.write_date_time.ensures.real c.in-Ok.ensures.real.1
+
+pub returns-in-Err-clause-text : goal.returns-in-Err-clause-text
+returns-in-Err-clause-text g c = λ _. refused_utf8 _ _ c.in-Err.ensures.refused
+
+pub returns-then-not-are_supplied_by-clause-text : goal.returns-then-not-are_supplied_by-clause-text
+returns-then-not-are_supplied_by-clause-text g c = λ _.
+    let value = c.args.value.now in
+    let law = g.met.V.ComponentProvider in
+    lacking_groups_utf8 (g.V.ComponentProvider.facts value) rfc2822_of_groups _ _ _ (law.supplies_date value) (law.supplies_time value)
+    (law.supplies_offset value) (sym c.are_supplied_by.ensures ∙ c.if-not-are_supplied_by.true)
