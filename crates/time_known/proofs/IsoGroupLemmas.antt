@@ -10,28 +10,19 @@ use Rattle.time_known.specs.declared.groups.Groups.{Groups}
 use Rattle.time_known.specs.declared.iso8601.config.FormattedComponents.{FormattedComponents}
 use Rattle.time_known.specs.declared.iso8601.config.FormattedComponents.TheVariants as components
 use Rattle.time_known.specs.Groups.{are_supplied}
-use Rattle.time_known.specs.Iso8601.{iso_date, iso_time, iso8601_outcome, iso8601_outcome_of}
+use Rattle.time_known.specs.Iso8601.{iso_date, iso_time, iso_offset, iso8601_outcome, iso8601_outcome_of}
 
--- the choices that are read, and the answer of the test for the groups that are formatted
-pub record IsSupplied (c : Choices) (f : Facts) (answer : Bool) : Type 0 where
-  pub read : Choices
-  pub is_read : read ≡ c
-  pub needed : Groups
-  pub groups : needed ≡ groups_of read.formatted_components
-  pub is : are_supplied needed (is_some f.date) (is_some f.time) (is_some f.offset) ≡ answer
+-- whether the facts have the groups that are formatted
+abbrev pub has_groups : FormattedComponents → Facts → Bool
+has_groups parts f = are_supplied (groups_of parts) (is_some f.date) (is_some f.time) (is_some f.offset)
 
-supplied_is : {c : Choices} {f : Facts} {answer : Bool} (h : IsSupplied c f answer)
-    → are_supplied (groups_of h.read.formatted_components) (is_some f.date) (is_some f.time) (is_some f.offset) ≡ answer
-supplied_is {f = f} h =
-    ap (λ (needed : Groups). are_supplied needed (is_some f.date) (is_some f.time) (is_some f.offset)) (sym h.groups) ∙ h.is
-
+-- a group that is not there is refused
 unsupplied : {G : Type 0} (group : Option G) (outcome : G → Outcome) → is_some group ≡ false
     → of_group group outcome ≡ refused insufficient
 unsupplied None outcome h = refl
 unsupplied (Some g) outcome h = cc
 
-lacking_of : (parts : FormattedComponents) (c : Choices) (f : Facts)
-    → are_supplied (groups_of parts) (is_some f.date) (is_some f.time) (is_some f.offset) ≡ false
+lacking_of : (parts : FormattedComponents) (c : Choices) (f : Facts) → has_groups parts f ≡ false
     → iso8601_outcome_of parts c f ≡ refused insufficient
 lacking_of components.None c f h = refl
 lacking_of components.Date c f h = grind (arith, common_steps, unsupplied)
@@ -41,11 +32,14 @@ lacking_of components.DateTime c f h = grind (arith, common_steps, unsupplied)
 lacking_of components.DateTimeOffset c f h = grind (arith, common_steps, unsupplied)
 lacking_of components.TimeOffset c f h = grind (arith, common_steps, unsupplied)
 
--- a value that lacks a group which is formatted is refused, and so is each value where nothing is formatted
-pub lacking : {c : Choices} {f : Facts} → IsSupplied c f false → iso8601_outcome c f ≡ refused insufficient
-lacking {f = f} h =
-    ap (λ (choices : Choices). iso8601_outcome choices f) (sym h.is_read)
-    ∙ lacking_of h.read.formatted_components h.read f (supplied_is h)
+-- Facts that lack a group which is formatted are refused. The test reads the choices once more.
+pub lacking : (c read : Choices) (f : Facts) (needed : Groups) → read ≡ c → needed ≡ groups_of read.formatted_components
+    → are_supplied needed (is_some f.date) (is_some f.time) (is_some f.offset) ≡ false
+    → iso8601_outcome c f ≡ refused insufficient
+lacking c read f needed e groups h =
+    ap (λ (choices : Choices). iso8601_outcome choices f) (sym e)
+    ∙ lacking_of read.formatted_components read f
+    (ap (λ (g : Groups). are_supplied g (is_some f.date) (is_some f.time) (is_some f.offset)) (sym groups) ∙ h)
 
 -- where two groups are there, what they give is joined
 two_groups : {G H : Type 0} (x : Option G) (y : Option H) (A : G → Outcome) (B : H → Outcome)
@@ -55,22 +49,43 @@ two_groups (Some g) (Some h) A B p q = refl
 two_groups None y A B p q = cc
 two_groups (Some g) None A B p q = cc
 
-both_true : (a b c : Bool) → are_supplied (groups_of components.DateTime) a b c ≡ true → (a ≡ true) × (b ≡ true)
-both_true true true c h = (refl, refl)
-both_true true false c h = cc
-both_true false b c h = cc
+-- the same of three
+three_groups : {G H I : Type 0} (x : Option G) (y : Option H) (z : Option I) (A : G → Outcome) (B : H → Outcome) (C : I → Outcome)
+    → is_some x ≡ true → is_some y ≡ true → is_some z ≡ true
+    → of_group x (λ g. of_group y (λ h. of_group z (λ i. join (A g) (join (B h) (C i)))))
+    ≡ join (of_group x A) (join (of_group y B) (of_group z C))
+three_groups (Some g) (Some h) (Some i) A B C p q r = refl
+three_groups None y z A B C p q r = cc
+three_groups (Some g) None z A B C p q r = cc
+three_groups (Some g) (Some h) None A B C p q r = cc
 
-date_and_time_of : (c : Choices) (f : Facts) (parts : FormattedComponents) → parts ≡ components.DateTime
-    → are_supplied (groups_of parts) (is_some f.date) (is_some f.time) (is_some f.offset) ≡ true
-    → iso8601_outcome_of parts c f ≡ join (of_group f.date (iso_date c)) (of_group f.time (iso_time c))
-date_and_time_of c f components.DateTime e h =
-    let both = both_true (is_some f.date) (is_some f.time) (is_some f.offset) h in
-    two_groups f.date f.time (iso_date c) (iso_time c) both.0 both.1
-date_and_time_of c f parts e h = cc
+date_time_bits : (a b c : Bool) → are_supplied (groups_of components.DateTime) a b c ≡ true → (a ≡ true) × (b ≡ true)
+date_time_bits true true c h = (refl, refl)
+date_time_bits true false c h = cc
+date_time_bits false b c h = cc
 
--- of a value that supplies both, the date and the time
-pub date_and_time : {c : Choices} {f : Facts} (h : IsSupplied c f true) → h.read.formatted_components ≡ components.DateTime
-    → iso8601_outcome c f ≡ join (of_group f.date (iso_date h.read)) (of_group f.time (iso_time h.read))
-date_and_time {f = f} h e =
-    ap (λ (choices : Choices). iso8601_outcome choices f) (sym h.is_read)
-    ∙ date_and_time_of h.read f h.read.formatted_components e (supplied_is h)
+all_bits : (a b c : Bool) → are_supplied (groups_of components.DateTimeOffset) a b c ≡ true
+    → (a ≡ true) × (b ≡ true) × (c ≡ true)
+all_bits true true true h = (refl, refl, refl)
+all_bits true true false h = cc
+all_bits true false c h = cc
+all_bits false b c h = cc
+
+-- of facts that have both, the date and the time
+pub date_and_time : (c : Choices) (f : Facts) → c.formatted_components ≡ components.DateTime
+    → has_groups c.formatted_components f ≡ true
+    → iso8601_outcome c f ≡ join (of_group f.date (iso_date c)) (of_group f.time (iso_time c))
+date_and_time c f e h =
+    let bits = date_time_bits _ _ _ (ap (λ parts. has_groups parts f) (sym e) ∙ h) in
+    ap (λ parts. iso8601_outcome_of parts c f) e
+    ∙ two_groups f.date f.time (iso_date c) (iso_time c) bits.0 bits.1
+
+-- of facts that have all three, the date, the time and the offset
+pub all_parts : (c : Choices) (f : Facts) → c.formatted_components ≡ components.DateTimeOffset
+    → has_groups c.formatted_components f ≡ true
+    → iso8601_outcome c f
+    ≡ join (of_group f.date (iso_date c)) (join (of_group f.time (iso_time c)) (of_group f.offset (iso_offset c)))
+all_parts c f e h =
+    let bits = all_bits _ _ _ (ap (λ parts. has_groups parts f) (sym e) ∙ h) in
+    ap (λ parts. iso8601_outcome_of parts c f) e
+    ∙ three_groups f.date f.time f.offset (iso_date c) (iso_time c) (iso_offset c) bits.0 bits.1 bits.2

@@ -4,6 +4,7 @@ ghost use Rattle.time_digits.specs.Digits.{zero_padded};
 ghost use Rattle.time_fmt.specs.Description.{of_group};
 ghost use Rattle.time_fmt.specs.Outcome.{Appends};
 ghost use Rattle.time_fmt.specs.Room.{HasRoom, Writes};
+ghost use Rattle.time_provide.specs.Real.{AreOfDate};
 ghost use Rattle.time_known.specs.Iso8601.{iso_date, iso_year, year_of_kind, text_after_year, week_and_weekday_text};
 ghost use Rattle.time_known.specs.Iso8601Width.{iso_date_width, year_width, width_after_year};
 
@@ -35,6 +36,7 @@ pub fn format_date<V: ComponentProvider>(
     requires agrees { V.agrees state.old value.now }
     ensures appends { Appends output.old output.new result
         (of_group (V.facts value.now).date (iso_date config.now)) }
+    ensures real { IfSome (V.facts value.now).date AreOfDate }
     ensures within { vec_len output.new ≤ vec_len output.old + iso_date_width config.now }
     ensures agrees { V.agrees state.new value.now }
 {
@@ -48,6 +50,7 @@ fn year_of_kind<V: ComponentProvider>(kind: DateKind, value: &V, state: &mut V::
     requires supplied { IsTrue V.SUPPLIES_DATE }
     requires agrees { V.agrees state.old value.now }
     ensures value { IfSome (V.facts value.now).date (λ d. result ≡ year_of_kind kind d) }
+    ensures real { IfSome (V.facts value.now).date AreOfDate }
     ensures range { unsigned_abs result ≤ 999_999 }
     ensures agrees { V.agrees state.new value.now }
 {

@@ -1,5 +1,6 @@
 //! The offset from UTC of a text of ISO 8601-1:2019, sections 5.3.3 and 5.3.4.
 ghost use Rattle.std.specs.Prelude.{◌+◌, ◌≤◌, IsTrue, IfSome, vec_len};
+ghost use Rattle.time_below.specs.Offset.{IsOffset};
 ghost use Rattle.time_fmt.specs.Description.{of_group};
 ghost use Rattle.time_fmt.specs.Outcome.{Appends};
 ghost use Rattle.time_fmt.specs.Room.{HasRoom};
@@ -30,6 +31,7 @@ pub fn format_offset<V: ComponentProvider>(
     requires agrees { V.agrees state.old value.now }
     ensures appends { Appends output.old output.new result
         (of_group (V.facts value.now).offset (iso_offset config.now)) }
+    ensures real { IfSome (V.facts value.now).offset IsOffset }
     ensures within { vec_len output.new ≤ vec_len output.old + iso_offset_width config.now }
     ensures agrees { V.agrees state.new value.now }
 {

@@ -1,5 +1,6 @@
 //! The time of day of a text of ISO 8601-1:2019, section 5.3.
 ghost use Rattle.std.specs.Prelude.{◌≡◌, ◌+◌, ◌*◌, ◌<◌, ◌≤◌, ◌++◌, length, IsTrue, IfSome, vec_len, vec_capacity};
+ghost use Rattle.time_below.specs.TimeOfDay.{IsTimeOfDay};
 ghost use Rattle.time_digits.specs.Digits.{zero_padded};
 ghost use Rattle.time_fmt.specs.Description.{of_group};
 ghost use Rattle.time_fmt.specs.Outcome.{Appends};
@@ -38,6 +39,7 @@ pub fn format_time<V: ComponentProvider>(
     requires agrees { V.agrees state.old value.now }
     ensures appends { Appends output.old output.new result
         (of_group (V.facts value.now).time (iso_time config.now)) }
+    ensures real { IfSome (V.facts value.now).time IsTimeOfDay }
     ensures within { vec_len output.new ≤ vec_len output.old + iso_time_width config.now }
     ensures agrees { V.agrees state.new value.now }
 {
@@ -57,6 +59,7 @@ fn write_units<V: ComponentProvider>(
     requires agrees { V.agrees state.old value.now }
     ensures writes { IfSome (V.facts value.now).time
         (λ t. Writes output.old output.new result (units_text config.now.time_precision config.now t)) }
+    ensures real { IfSome (V.facts value.now).time IsTimeOfDay }
     ensures within { vec_len output.new
         ≤ vec_len output.old + units_width config.now.time_precision config.now }
     ensures agrees { V.agrees state.new value.now }
@@ -89,6 +92,7 @@ fn write_to_hour<V: ComponentProvider>(
     ensures writes { IfSome (V.facts value.now).time
         (λ t. Writes output.old output.new result
         (zero_padded 2 t.hour ++ decimal_part decimal_digits (nanoseconds_of_hour t) NANOSECONDS_PER_HOUR)) }
+    ensures real { IfSome (V.facts value.now).time IsTimeOfDay }
     ensures within { vec_len output.new
         ≤ vec_len output.old + (2 + decimal_part_width decimal_digits) }
     ensures agrees { V.agrees state.new value.now }
@@ -116,6 +120,7 @@ fn write_to_minute<V: ComponentProvider>(
         (λ t. Writes output.old output.new result
         (zero_padded 2 t.hour ++ separator.now ++ zero_padded 2 t.minute
         ++ decimal_part decimal_digits (nanoseconds_of_minute t) NANOSECONDS_PER_MINUTE)) }
+    ensures real { IfSome (V.facts value.now).time IsTimeOfDay }
     ensures within { vec_len output.new
         ≤ vec_len output.old + (4 + length separator.now + decimal_part_width decimal_digits) }
     ensures agrees { V.agrees state.new value.now }
@@ -143,6 +148,7 @@ fn write_to_second<V: ComponentProvider>(
     ensures writes { IfSome (V.facts value.now).time
         (λ t. Writes output.old output.new result (clock_text separator.now t
         ++ decimal_part decimal_digits t.nanosecond NANOSECONDS_PER_SECOND)) }
+    ensures real { IfSome (V.facts value.now).time IsTimeOfDay }
     ensures within { vec_len output.new
         ≤ vec_len output.old + (6 + 2 * length separator.now + decimal_part_width decimal_digits) }
     ensures agrees { V.agrees state.new value.now }

@@ -1,0 +1,125 @@
+//! The parts of a text, one after another.
+ghost use Rattle.std.specs.Prelude.{◌≡◌, ◌+◌, ◌≤◌, IsTrue, IfSome, OnOk, vec_len};
+ghost use Rattle.time_below.specs.Offset.{IsOffset};
+ghost use Rattle.time_below.specs.TimeOfDay.{IsTimeOfDay};
+ghost use Rattle.time_fmt.specs.Description.{of_group};
+ghost use Rattle.time_fmt.specs.Outcome.{Appends, join};
+ghost use Rattle.time_fmt.specs.Room.{HasRoom};
+ghost use Rattle.time_provide.specs.Real.{AreOfDate};
+ghost use Rattle.time_known.specs.Config.{groups_of};
+ghost use Rattle.time_known.specs.Groups.{are_supplied};
+ghost use Rattle.time_known.specs.Iso8601.{iso8601_outcome, iso_date, iso_time, iso_offset};
+ghost use Rattle.time_known.specs.Iso8601Width.{iso8601_width, iso_date_width, iso_time_width, iso_offset_width};
+
+use crate::iso8601::config::{Config, FormattedComponents};
+use crate::iso8601::date::format_date;
+use crate::iso8601::offset::format_offset;
+use crate::iso8601::time::format_time;
+use time_fmt::Format;
+use time_provide::ComponentProvider;
+
+/// Appends the parts that are formatted, of a value that supplies their groups. Nothing to format is
+/// refused.
+pub(super) fn write_parts<V: ComponentProvider>(
+    config: &Config,
+    output: &mut Vec<u8>,
+    value: &V,
+    state: &mut V::State,
+) -> Result<usize, Format>
+    requires supplied { IsTrue (are_supplied (groups_of config.now.formatted_components)
+        V.SUPPLIES_DATE V.SUPPLIES_TIME V.SUPPLIES_OFFSET) }
+    requires room { HasRoom output.old (iso8601_width config.now) }
+    requires agrees { V.agrees state.old value.now }
+    ensures appends { Appends output.old output.new result
+        (iso8601_outcome config.now (V.facts value.now)) }
+    ensures real { OnOk result
+        (config.now.formatted_components ≡ FormattedComponents.DateTimeOffset
+        → IfSome (V.facts value.now).date AreOfDate × IfSome (V.facts value.now).time IsTimeOfDay
+        × IfSome (V.facts value.now).offset IsOffset) }
+    ensures within { vec_len output.new ≤ vec_len output.old + iso8601_width config.now }
+    ensures agrees { V.agrees state.new value.now }
+{
+    match config.formatted_components() {
+        FormattedComponents::None => Err(Format::InsufficientTypeInformation),
+        FormattedComponents::Date => format_date(config, output, value, state),
+        FormattedComponents::Time => format_time(config, output, value, state),
+        FormattedComponents::Offset => format_offset(config, output, value, state),
+        FormattedComponents::DateTime => format_date_and_time(config, output, value, state),
+        FormattedComponents::DateTimeOffset => format_all(config, output, value, state),
+        FormattedComponents::TimeOffset => format_time_and_offset(config, output, value, state),
+    }
+}
+
+// Appends the date and the time.
+fn format_date_and_time<V: ComponentProvider>(
+    config: &Config,
+    output: &mut Vec<u8>,
+    value: &V,
+    state: &mut V::State,
+) -> Result<usize, Format>
+    requires date { IsTrue V.SUPPLIES_DATE }
+    requires time { IsTrue V.SUPPLIES_TIME }
+    requires room { HasRoom output.old (iso_date_width config.now + iso_time_width config.now) }
+    requires agrees { V.agrees state.old value.now }
+    ensures appends { Appends output.old output.new result
+        (join (of_group (V.facts value.now).date (iso_date config.now))
+        (of_group (V.facts value.now).time (iso_time config.now))) }
+    ensures within { vec_len output.new
+        ≤ vec_len output.old + (iso_date_width config.now + iso_time_width config.now) }
+    ensures agrees { V.agrees state.new value.now }
+{
+    let date = format_date(config, output, value, state)?;
+    Ok(date + format_time(config, output, value, state)?)
+}
+
+// Appends the date, the time and the offset.
+fn format_all<V: ComponentProvider>(
+    config: &Config,
+    output: &mut Vec<u8>,
+    value: &V,
+    state: &mut V::State,
+) -> Result<usize, Format>
+    requires date { IsTrue V.SUPPLIES_DATE }
+    requires time { IsTrue V.SUPPLIES_TIME }
+    requires offset { IsTrue V.SUPPLIES_OFFSET }
+    requires room { HasRoom output.old
+        (iso_date_width config.now + iso_time_width config.now + iso_offset_width config.now) }
+    requires agrees { V.agrees state.old value.now }
+    ensures appends { Appends output.old output.new result
+        (join (of_group (V.facts value.now).date (iso_date config.now))
+        (join (of_group (V.facts value.now).time (iso_time config.now))
+        (of_group (V.facts value.now).offset (iso_offset config.now)))) }
+    ensures real { OnOk result (IfSome (V.facts value.now).date AreOfDate
+        × IfSome (V.facts value.now).time IsTimeOfDay
+        × IfSome (V.facts value.now).offset IsOffset) }
+    ensures within { vec_len output.new ≤ vec_len output.old
+        + (iso_date_width config.now + iso_time_width config.now + iso_offset_width config.now) }
+    ensures agrees { V.agrees state.new value.now }
+{
+    let date = format_date(config, output, value, state)?;
+    Ok(date + format_time_and_offset(config, output, value, state)?)
+}
+
+// Appends the time and the offset.
+fn format_time_and_offset<V: ComponentProvider>(
+    config: &Config,
+    output: &mut Vec<u8>,
+    value: &V,
+    state: &mut V::State,
+) -> Result<usize, Format>
+    requires time { IsTrue V.SUPPLIES_TIME }
+    requires offset { IsTrue V.SUPPLIES_OFFSET }
+    requires room { HasRoom output.old (iso_time_width config.now + iso_offset_width config.now) }
+    requires agrees { V.agrees state.old value.now }
+    ensures appends { Appends output.old output.new result
+        (join (of_group (V.facts value.now).time (iso_time config.now))
+        (of_group (V.facts value.now).offset (iso_offset config.now))) }
+    ensures real { OnOk result (IfSome (V.facts value.now).time IsTimeOfDay
+        × IfSome (V.facts value.now).offset IsOffset) }
+    ensures within { vec_len output.new
+        ≤ vec_len output.old + (iso_time_width config.now + iso_offset_width config.now) }
+    ensures agrees { V.agrees state.new value.now }
+{
+    let time = format_time(config, output, value, state)?;
+    Ok(time + format_offset(config, output, value, state)?)
+}
