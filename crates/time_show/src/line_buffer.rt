@@ -8,7 +8,7 @@ use std::marker::Model;
 /// The greatest length of a line, in bytes and without its end. A longer one is a bad line.
 pub const LINE_LIMIT: usize = 128;
 
-/// The bytes of a line so far, or the fact that they are too many. It asks for no memory.
+/// The bytes of a line so far, at most 128 in an array, or the fact that they are too many.
 #[derive(Drop)]
 pub struct LineBuffer {
     bytes: [u8; LINE_LIMIT],
@@ -44,7 +44,7 @@ impl LineBuffer {
         self.is_too_long = false;
     }
 
-    /// Adds the next bytes of the line.
+    /// Adds the next bytes of the line. One that is too long stays so until it is cleared.
     pub fn extend(&mut self, bytes: &[u8])
         ensures { self.new ≡ kept_with self.old bytes.now }
     {

@@ -133,9 +133,9 @@ fn answer_last<W: Write>(
 
 /// Answers each line of the input, one after another.
 ///
-/// After `Ok` the input was read to its end, and all its lines were answered. After a failed read
-/// the whole lines so far were answered, and after a failed write some first lines, with a beginning
-/// of the answer to the next.
+/// After `Ok` the input was read to its end, and all its lines were answered. After a failed read the
+/// whole lines so far were answered, and after a failed write some first lines, with a beginning of
+/// the answer to the next.
 ///
 /// No clause says that reads go on as long as they succeed, nor how much memory is asked for; tests
 /// do. The body asks for the text of one answer at a time, and answers a refusal of that memory by

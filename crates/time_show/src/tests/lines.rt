@@ -1,0 +1,114 @@
+//! Lines and their answers, over memory.
+ghost use Rattle.std.specs.Prelude.{ℕ, List, IfOk};
+ghost use Rattle.time_show.specs.Answer.{AreAnswers};
+ghost use Rattle.time_show.specs.Lines.{lines_of};
+
+use crate::laws::lines_spell_their_text;
+use crate::run::{ShowError, run};
+use std::alloc::Global;
+use std::test::Fail;
+
+/// A line and its answer.
+const LINES: [(&[u8], &[u8]); 22] = [
+    (b"time 9 55 6 999999999\n", b"ok 18 18 09:55:06.999999999\n"),
+    (b"time -0 0 0 0\n", b"ok 10 18 00:00:00.0\n"),
+    (b"time 23 59 59 1\n", b"ok 18 18 23:59:59.000000001\n"),
+    (b"time 000000009 0 0 0\n", b"ok 10 18 09:00:00.0\n"),
+    (b"time -1 60 0 0\n", b"refused 0 hour\n"),
+    (b"time 256 60 0 0\n", b"refused 0 hour\n"),
+    (b"time 0 60 60 0\n", b"refused 0 minute\n"),
+    (b"time 0 999999999 0 0\n", b"refused 0 minute\n"),
+    (b"time 0 0 -1 -1\n", b"refused 0 second\n"),
+    (b"time 0 0 0 -1\n", b"refused 0 nanosecond\n"),
+    (b"\n", b"bad line\n"),
+    (b"time  9 55 6 0\n", b"bad line\n"),
+    (b"time 9 55 6 0 \n", b"bad line\n"),
+    (b" time 9 55 6 0\n", b"bad line\n"),
+    (b"time +9 55 6 0\n", b"bad line\n"),
+    (b"TIME 9 55 6 0\n", b"bad line\n"),
+    (b"time 9 55 6 1000000000\n", b"bad line\n"),
+    (b"time 9 55 6 0\r\n", b"bad line\n"),
+    (b"time 9 55 6 -\n", b"bad line\n"),
+    (b"time 9 55 6 0 0\n", b"bad line\n"),
+    (b"\xff\n", b"bad line\n"),
+    (b"time", b"bad line\n"),
+];
+
+#[test]
+fn answers_each_line(rt: HostRuntime) -> Result<(), Fail> {
+    let mut all = Vec::new(rt.alloc());
+    let mut expected = Vec::new(rt.alloc());
+    for (line, answer) in LINES.iter() {
+        let mut source = *line;
+        let mut output = Vec::new(rt.alloc());
+        assert_eq!(rt; run(rt.alloc(), &mut source, &mut output), Ok(()));
+        assert_eq!(rt; output.as_slice(), *answer);
+        all.extend_from_slice(line)?;
+        expected.extend_from_slice(answer)?;
+    }
+    let mut source = all.as_slice();
+    let mut output = Vec::new(rt.alloc());
+    assert_eq!(rt; run(rt.alloc(), &mut source, &mut output), Ok(()));
+    assert_eq!(rt; output.as_slice(), expected.as_slice());
+    Ok(())
+}
+
+#[test]
+fn answers_a_good_line_after_a_long_one(rt: HostRuntime) -> Result<(), Fail> {
+    for length in [128, 129, 8191, 8192, 8193, 20000] {
+        let mut input = Vec::new(rt.alloc());
+        for _ in 0..length {
+            input.push(b'a')?;
+        }
+        input.extend_from_slice(b"\ntime 0 0 0 0")?;
+        let mut source = input.as_slice();
+        let mut output = Vec::new(rt.alloc());
+        assert_eq!(rt; run(rt.alloc(), &mut source, &mut output), Ok(()));
+        assert_eq!(rt;
+            output.as_slice(),
+            b"bad line\nok 10 18 00:00:00.0\n".as_slice(),
+            "at {length}"
+        );
+    }
+    Ok(())
+}
+
+/// Many lines fill the buffer more than once, and every answer goes out whole and in order.
+#[test]
+fn answers_many_lines(rt: HostRuntime) -> Result<(), Fail> {
+    let mut input = Vec::new(rt.alloc());
+    let mut expected = Vec::new(rt.alloc());
+    for _ in 0..2000 {
+        input.extend_from_slice(b"time 9 55 6 120000000\nno\n")?;
+        expected.extend_from_slice(b"ok 11 18 09:55:06.12\nbad line\n")?;
+    }
+    let mut source = input.as_slice();
+    let mut output = Vec::new(rt.alloc());
+    assert_eq!(rt; run(rt.alloc(), &mut source, &mut output), Ok(()));
+    assert!(rt; output.as_slice() == expected.as_slice());
+    Ok(())
+}
+
+/// The theorem of `run` at a reader and a writer that tell their bytes.
+fn answer_all(alloc: Global, input: &[u8]) -> Result<Vec<u8>, ShowError>
+    ensures { IfOk result (λ output. AreAnswers (lines_of input.now) output.items) }
+{
+    let mut rest = input;
+    let mut output = Vec::new(alloc);
+    run(alloc, &mut rest, &mut output)?;
+    Ok(output)
+}
+
+#[test]
+fn answers_known_bytes(rt: HostRuntime) -> Result<(), Fail> {
+    assert_eq!(rt;
+        answer_all(rt.alloc(), b"time 0 0 0 0").map(|text| text.len()),
+        Ok(20)
+    );
+    Ok(())
+}
+
+#[test]
+fn laws_hold() {
+    lines_spell_their_text();
+}

@@ -1,0 +1,169 @@
+//! Readers that give little, writers that take little, and such as fail.
+use crate::run::{ShowError, run, status};
+use crate::tests::{ANSWERS, INPUT, Sink, Source, answers};
+use std::test::Fail;
+
+#[test]
+fn answers_all_lines(rt: HostRuntime) -> Result<(), Fail> {
+    for step in 1..65usize {
+        let mut source = Source {
+            bytes: INPUT,
+            step,
+            calls: 100,
+        };
+        let mut sink = Sink::new(rt.alloc(), step, 100);
+        let outcome = run(rt.alloc(), &mut source, &mut sink);
+        assert_eq!(rt; outcome, Ok(()), "at {step}");
+        assert_eq!(rt; status(&outcome), 0);
+        assert_eq!(rt; sink.bytes.as_slice(), answers(rt.alloc(), 4)?.as_slice());
+    }
+    Ok(())
+}
+
+/// The answers to one block go out by one write, and before the next read.
+#[test]
+fn writes_before_each_read(rt: HostRuntime) -> Result<(), Fail> {
+    let mut source = Source {
+        bytes: b"time 0 0 0 0\nno\nno\n",
+        step: 13,
+        calls: 3,
+    };
+    let mut sink = Sink::new(rt.alloc(), 100, 2);
+    assert_eq!(rt; run(rt.alloc(), &mut source, &mut sink), Ok(()));
+    assert_eq!(rt; sink.calls, 0);
+    let mut source = Source {
+        bytes: b"time 0 0 0 0\nno\nno\n",
+        step: 13,
+        calls: 1,
+    };
+    let mut sink = Sink::new(rt.alloc(), 100, 2);
+    assert_eq!(rt;
+        run(rt.alloc(), &mut source, &mut sink),
+        Err(ShowError::Read)
+    );
+    assert_eq!(rt; sink.bytes.as_slice(), b"ok 10 18 00:00:00.0\n".as_slice());
+    Ok(())
+}
+
+#[test]
+fn fails_at_each_read(rt: HostRuntime) -> Result<(), Fail> {
+    // Each read gives ten bytes; the seventh sees the end.
+    for (calls, count) in [(0, 0), (1, 0), (2, 0), (3, 1), (4, 2), (5, 3), (6, 3)] {
+        let mut source = Source {
+            bytes: INPUT,
+            step: 10,
+            calls,
+        };
+        let mut output = Vec::new(rt.alloc());
+        let outcome = run(rt.alloc(), &mut source, &mut output);
+        assert_eq!(rt; outcome, Err(ShowError::Read), "at {calls}");
+        assert_eq!(rt; status(&outcome), 1);
+        assert_eq!(rt;
+            output.as_slice(),
+            answers(rt.alloc(), count)?.as_slice(),
+            "at {calls}"
+        );
+    }
+    Ok(())
+}
+
+#[test]
+fn fails_at_each_write(rt: HostRuntime) -> Result<(), Fail> {
+    let all = answers(rt.alloc(), 4)?;
+    for calls in 0..all.len() {
+        for takes_none in [false, true] {
+            let mut source = INPUT;
+            let mut sink = Sink::new(rt.alloc(), 1, calls);
+            sink.takes_none = takes_none;
+            let outcome = run(rt.alloc(), &mut source, &mut sink);
+            assert_eq!(rt; outcome, Err(ShowError::Write), "at {calls}");
+            assert_eq!(rt; status(&outcome), 1);
+            assert_eq!(rt;
+                sink.bytes.as_slice(),
+                &all.as_slice()[..calls],
+                "at {calls}"
+            );
+        }
+    }
+    Ok(())
+}
+
+/// Each line of the stored run in a read of its own, so that each answer is a write of its own.
+#[test]
+fn fails_at_the_write_of_each_answer(rt: HostRuntime) -> Result<(), Fail> {
+    for calls in 0..4usize {
+        let mut source = Source {
+            bytes: b"time 0 0 0 0\ntime 1 1 1 1\ntime 2 2 2 2\ntime 3 3 3 3\n",
+            step: 13,
+            calls: 100,
+        };
+        let mut sink = Sink::new(rt.alloc(), 100, calls);
+        let outcome = run(rt.alloc(), &mut source, &mut sink);
+        assert_eq!(rt; outcome, Err(ShowError::Write), "at {calls}");
+        let expected: &[u8] = match calls {
+            0 => b"",
+            1 => b"ok 10 18 00:00:00.0\n",
+            2 => b"ok 10 18 00:00:00.0\nok 18 18 01:01:01.000000001\n",
+            _ => b"ok 10 18 00:00:00.0\nok 18 18 01:01:01.000000001\nok 18 18 02:02:02.000000002\n",
+        };
+        assert_eq!(rt; sink.bytes.as_slice(), expected, "at {calls}");
+    }
+    Ok(())
+}
+
+/// A line of ten bytes, its end among them, that is no command.
+const TEN_BYTES: &[u8] = b"time 1 2 \n";
+
+/// A hundred thousand reads of one byte each are made, and then the one that sees the end.
+#[test]
+fn makes_as_many_reads_as_there_are_bytes(rt: HostRuntime) -> Result<(), Fail> {
+    let mut input = Vec::new(rt.alloc());
+    let mut expected = Vec::new(rt.alloc());
+    for _ in 0..10_000 {
+        input.extend_from_slice(TEN_BYTES)?;
+        expected.extend_from_slice(b"bad line\n")?;
+    }
+    let mut source = Source {
+        bytes: input.as_slice(),
+        step: 1,
+        calls: 100_001,
+    };
+    let mut output = Vec::new(rt.alloc());
+    assert_eq!(rt; run(rt.alloc(), &mut source, &mut output), Ok(()));
+    assert_eq!(rt; source.calls, 0);
+    assert!(rt; output.as_slice() == expected.as_slice());
+    Ok(())
+}
+
+/// How many answers of 9 bytes and then of 20 and of 21 bytes one block asks for, and what each
+/// write takes. The buffer holds 4,096 bytes.
+const WRITES: [((usize, usize, usize), &[usize]); 4] = [
+    // They fill the buffer to its last byte.
+    ((444, 5, 0), &[4096]),
+    // One more goes out behind a full buffer.
+    ((444, 6, 0), &[4096, 20]),
+    // One of 21 bytes does not fit into the 10 that are left, and is not torn.
+    ((454, 0, 1), &[4086, 21]),
+    // More than two buffers.
+    ((900, 6, 0), &[4095, 4085, 40]),
+];
+
+#[test]
+fn writes_whole_answers(rt: HostRuntime) -> Result<(), Fail> {
+    for ((nine, twenty, twenty_one), lengths) in WRITES {
+        let mut source = Vec::new(rt.alloc());
+        for _ in 0..nine {
+            source.extend_from_slice(b"no\n")?;
+        }
+        for _ in 0..twenty {
+            source.extend_from_slice(b"time 0 0 0 0\n")?;
+        }
+        for _ in 0..twenty_one {
+            source.extend_from_slice(b"time 9 55 6 120000000\n")?;
+        }
+        let mut sink = Sink::new(rt.alloc(), 8192, 100);
+        assert_eq!(rt; run(rt.alloc(), &mut source.as_slice(), &mut sink), Ok(()));
+        assert_eq!(rt; sink.lengths.as_slice(), lengths);
+    }
+    Ok(())
+}
