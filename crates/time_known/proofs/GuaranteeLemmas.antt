@@ -1,7 +1,8 @@
 -- The texts of the well-known formats are ASCII, and so they are UTF-8.
-use Rattle.std.proofs.Common.{◌≡◌, refl, sym, ap, subst, ℕ, ◌+◌, ◌*◌, ◌/◌, ◌<◌, ◌^◌, ◌==◌, arith, Bool, true, false, List, [], ◌++◌, IsAscii, IsUtf8, Option, Some, None, ℤ, pos, unsigned_abs, if◌then◌else◌}
+use Rattle.std.proofs.Common.{◌≡◌, refl, sym, ap, subst, ℕ, ◌+◌, ◌*◌, ◌/◌, ◌<◌, ◌^◌, ◌==◌, arith, Bool, true, false, List, [], ◌++◌, IsAscii, IsUtf8, IsSomeAnd, Option, Some, None, Err, Vec, ℤ, pos, unsigned_abs, if◌then◌else◌}
 use Rattle.std.specs.Prelude.{codes, int_lt, nat_lt, ◌&&◌, is_some, IfSome}
-use Rattle.std.proofs.lemmas.Str.{IsAscii-append, IsAscii-take, IsUtf8-from_ascii}
+use Rattle.std.proofs.lemmas.Str.{IsAscii-append, IsAscii-take, IsUtf8-append, IsUtf8-from_ascii}
+use Rattle.std.specs.Global.{Global}
 use Rattle.std.proofs.lemmas.Str.Ascii.{IsAscii-nil}
 use Rattle.time_below.specs.Facts.{Facts, DateFacts}
 use Rattle.time_below.specs.Offset.{Offset, IsOffset, is_negative, is_utc}
@@ -13,7 +14,8 @@ use Rattle.time_digits.proofs.FractionLemmas.{IsAscii-trimmed_fraction}
 use Rattle.time_digits.proofs.LengthLemmas.{IsAscii-padded}
 use Rattle.time_fmt.specs.Description.{of_group}
 use Rattle.time_fmt.specs.DateText.{month_name, weekday_name, short_name}
-use Rattle.time_fmt.specs.Outcome.{Outcome, Refusal, done, refused, join}
+use Rattle.time_fmt.specs.declared.error.Format.{Format}
+use Rattle.time_fmt.specs.Outcome.{Outcome, Refusal, Appends, Names, done, refused, join}
 use Rattle.time_fmt.proofs.GuaranteeLemmas.{ascii_test, empty_utf8, IsAscii-sign_text, IsAscii-month_name, IsAscii-weekday_name}
 use Rattle.time_fmt.proofs.RealLemmas.{DateFits, TimeFits, OffsetFits, date_fits, time_fits, offset_fits}
 use Rattle.time_provide.specs.Real.{AreOfDate}
@@ -168,6 +170,20 @@ iso_time_utf8 c time h = group_utf8 time (iso_time c) time_fits (ascii_iso_time 
 
 pub iso_offset_utf8 : (c : Choices) (offset : Option Offset) → IfSome offset IsOffset → IsUtf8 (of_group offset (iso_offset c)).bytes
 iso_offset_utf8 c offset h = group_utf8 offset (iso_offset c) offset_fits (ascii_iso_offset c) h
+
+refused_first : (bytes : List ℕ) (refusal : Option Refusal) (b : Outcome) (e : Format) → IsUtf8 bytes → IsSomeAnd refusal (Names e)
+    → IsUtf8 (join (record { bytes = bytes; refusal = refusal }) b).bytes
+refused_first bytes (Some r) b e p h = p
+refused_first bytes None b e p h = absurd h
+
+-- two outcomes, of which the second counts where the first is completed
+pub join_utf8 : (a b : Outcome) → IsUtf8 a.bytes → IsUtf8 b.bytes → IsUtf8 (join a b).bytes
+join_utf8 a b p q =
+    elim a.refusal as (λ r. IsUtf8 (join (record { bytes = a.bytes; refusal = r }) b).bytes)
+    [ None ↦ IsUtf8-append a.bytes b.bytes p q | Some r ↦ p ]
+
+pub join_refused_utf8 : {old new : Vec ℕ Global} {e : Format} (a b : Outcome) → IsUtf8 a.bytes → Appends old new (Err e) a → IsUtf8 (join a b).bytes
+join_refused_utf8 {e = e} a b p h = refused_first a.bytes a.refusal b e p h.named
 
 -- ---- outcomes
 

@@ -1,5 +1,5 @@
 //! The parts of a text, one after another.
-ghost use Rattle.std.specs.Prelude.{◌≡◌, ◌+◌, ◌≤◌, IsTrue, IfSome, OnOk, vec_len};
+ghost use Rattle.std.specs.Prelude.{◌≡◌, ◌+◌, ◌≤◌, IsTrue, IsUtf8, IfSome, OnOk, vec_len};
 ghost use Rattle.time_below.specs.Offset.{IsOffset};
 ghost use Rattle.time_below.specs.TimeOfDay.{IsTimeOfDay};
 ghost use Rattle.time_fmt.specs.Description.{of_group};
@@ -37,6 +37,7 @@ pub(super) fn write_parts<V: ComponentProvider>(
         → IfSome (V.facts value.now).date AreOfDate × IfSome (V.facts value.now).time IsTimeOfDay
         × IfSome (V.facts value.now).offset IsOffset) }
     ensures within { vec_len output.new ≤ vec_len output.old + iso8601_width config.now }
+    ensures text { IsUtf8 (iso8601_outcome config.now (V.facts value.now)).bytes }
     ensures agrees { V.agrees state.new value.now }
 {
     match config.formatted_components() {
@@ -66,6 +67,8 @@ fn format_date_and_time<V: ComponentProvider>(
         (of_group (V.facts value.now).time (iso_time config.now))) }
     ensures within { vec_len output.new
         ≤ vec_len output.old + (iso_date_width config.now + iso_time_width config.now) }
+    ensures text { IsUtf8 (join (of_group (V.facts value.now).date (iso_date config.now))
+        (of_group (V.facts value.now).time (iso_time config.now))).bytes }
     ensures agrees { V.agrees state.new value.now }
 {
     let date = format_date(config, output, value, state)?;
@@ -94,6 +97,9 @@ fn format_all<V: ComponentProvider>(
         × IfSome (V.facts value.now).offset IsOffset) }
     ensures within { vec_len output.new ≤ vec_len output.old
         + (iso_date_width config.now + iso_time_width config.now + iso_offset_width config.now) }
+    ensures text { IsUtf8 (join (of_group (V.facts value.now).date (iso_date config.now))
+        (join (of_group (V.facts value.now).time (iso_time config.now))
+        (of_group (V.facts value.now).offset (iso_offset config.now)))).bytes }
     ensures agrees { V.agrees state.new value.now }
 {
     let date = format_date(config, output, value, state)?;
@@ -118,6 +124,8 @@ fn format_time_and_offset<V: ComponentProvider>(
         × IfSome (V.facts value.now).offset IsOffset) }
     ensures within { vec_len output.new
         ≤ vec_len output.old + (iso_time_width config.now + iso_offset_width config.now) }
+    ensures text { IsUtf8 (join (of_group (V.facts value.now).time (iso_time config.now))
+        (of_group (V.facts value.now).offset (iso_offset config.now))).bytes }
     ensures agrees { V.agrees state.new value.now }
 {
     let time = format_time(config, output, value, state)?;
