@@ -1,5 +1,6 @@
 -- The texts of the well-known formats are ASCII, and so they are UTF-8.
 use Rattle.std.proofs.Common.{◌≡◌, refl, sym, ap, subst, ℕ, ◌+◌, ◌*◌, ◌/◌, ◌<◌, ◌^◌, ◌==◌, arith, Bool, true, false, List, [], ◌++◌, IsAscii, IsUtf8, IsSomeAnd, Option, Some, None, Err, Vec, ℤ, pos, unsigned_abs, if◌then◌else◌}
+use Rattle.std.specs.List.{list_all}
 use Rattle.std.specs.Prelude.{codes, int_lt, nat_lt, ◌&&◌, is_some, IfSome}
 use Rattle.std.proofs.lemmas.Str.{IsAscii-append, IsAscii-take, IsUtf8-append, IsUtf8-from_ascii}
 use Rattle.std.specs.Global.{Global}
@@ -7,15 +8,17 @@ use Rattle.std.proofs.lemmas.Str.Ascii.{IsAscii-nil}
 use Rattle.time_below.specs.Facts.{Facts, DateFacts}
 use Rattle.time_below.specs.Offset.{Offset, IsOffset, is_negative, is_utc}
 use Rattle.time_below.specs.TimeOfDay.{TimeOfDay, IsTimeOfDay}
-use Rattle.time_digits.specs.Digits.{zero_padded}
+use Rattle.time_digits.specs.Digits.{fixed, zero_padded}
 use Rattle.time_digits.specs.Fraction.{trimmed_fraction}
 use Rattle.time_digits.proofs.DigitLemmas.{IsAscii-fixed}
 use Rattle.time_digits.proofs.FractionLemmas.{IsAscii-trimmed_fraction}
 use Rattle.time_digits.proofs.LengthLemmas.{IsAscii-padded}
 use Rattle.time_fmt.specs.Description.{of_group}
+use Rattle.time_fmt.specs.Decimals.{decimals}
+use Rattle.time_fmt.specs.Text.{sign_text}
 use Rattle.time_fmt.specs.DateText.{month_name, weekday_name, short_name}
 use Rattle.time_fmt.specs.declared.error.Format.{Format}
-use Rattle.time_fmt.specs.Outcome.{Outcome, Refusal, Appends, Names, done, refused, join}
+use Rattle.time_fmt.specs.Outcome.{Outcome, Refusal, Appends, Names, done, refused, join, invalid_component}
 use Rattle.time_fmt.proofs.GuaranteeLemmas.{ascii_test, empty_utf8, IsAscii-sign_text, IsAscii-month_name, IsAscii-weekday_name}
 use Rattle.time_fmt.proofs.RealLemmas.{DateFits, TimeFits, OffsetFits, date_fits, time_fits, offset_fits}
 use Rattle.time_provide.specs.Real.{AreOfDate}
@@ -27,150 +30,181 @@ use Rattle.time_known.specs.declared.iso8601.config.OffsetPrecision.TheVariants 
 use Rattle.time_known.specs.declared.iso8601.config.TimePrecision.{TimePrecision}
 use Rattle.time_known.specs.declared.iso8601.config.TimePrecision.TheVariants as precision
 use Rattle.time_known.specs.Groups.{are_supplied}
-use Rattle.time_known.specs.Iso8601.{iso_date, iso_time, iso_offset, iso_year, year_of_kind, text_after_year, units_text, decimal_part, nanoseconds_of_hour, nanoseconds_of_minute, iso_minutes}
+use Rattle.time_known.specs.declared.iso8601.config.FormattedComponents.{FormattedComponents}
+use Rattle.time_known.specs.Iso8601.{iso8601_outcome, iso8601_outcome_of, iso_date, iso_time, iso_offset, iso_year, year_of_kind, text_after_year, units_text, decimal_part, nanoseconds_of_hour, nanoseconds_of_minute, iso_minutes}
 use Rattle.time_known.proofs.GroupLemmas.{all}
 use Rattle.time_known.specs.Rfc2822.{rfc2822_of_groups, rfc2822_text, date_text, named_date_text}
 use Rattle.time_known.specs.Rfc3339.{rfc3339_of_groups, rfc3339_text, full_date_text, time_secfrac_text, time_offset_text}
-use Rattle.time_known.specs.WellKnown.{refused_if, of_all_groups, month_and_day_text, clock_text, offset_hours_text, offset_minutes_text, offset_text}
+use Rattle.time_known.specs.WellKnown.{refused_if, is_outside, of_all_groups, month_and_day_text, clock_text, offset_hours_text, offset_minutes_text, offset_text}
+
+-- a text that is ASCII
+record Ascii (bytes : List ℕ) : Type 0 where
+  is : IsAscii bytes
+
+leaf : (bytes : List ℕ) → IsAscii bytes → Ascii bytes
+leaf bytes h = record { is = h }
+
+-- a text that passes the test
+literal : (bytes : List ℕ) → list_all (λ b. nat_lt b 128) bytes ≡ true → Ascii bytes
+literal bytes h = leaf bytes (ascii_test bytes h)
+
+nil : Ascii []
+nil = leaf [] IsAscii-nil
 
 -- one text after another
-pub then_ascii : {a b : List ℕ} → IsAscii a → IsAscii b → IsAscii (a ++ b)
-then_ascii {a} {b} p q = IsAscii-append a b p q
+after : {a b : List ℕ} → Ascii a → Ascii b → Ascii (a ++ b)
+after {a} {b} p q = leaf (a ++ b) (IsAscii-append a b p.is q.is)
+
+-- one of two texts
+either : {a b : List ℕ} (c : Bool) → Ascii a → Ascii b → Ascii (if c then a else b)
+either true p q = p
+either false p q = q
+
+-- the bytes of one of two outcomes, of which the first may be a refusal before any byte
+outcome_of_two : (c : Bool) (a b : Outcome) → Ascii a.bytes → Ascii b.bytes → Ascii (if c then a else b).bytes
+outcome_of_two true a b p q = p
+outcome_of_two false a b p q = q
+
+unless : (c : Bool) (name : List ℕ) (o : Outcome) → Ascii o.bytes → Ascii (refused_if c name o).bytes
+unless c name o h = outcome_of_two c (refused (invalid_component name)) o nil h
 
 -- ---- parts
 
-pub ascii_number : (k n : ℕ) → n < 2 ^ 64 → IsAscii (zero_padded k n)
-ascii_number k n h = IsAscii-padded 48 k n (omega arith) h
+number : (k n : ℕ) → n < 2 ^ 64 → Ascii (zero_padded k n)
+number k n h = leaf (zero_padded k n) (IsAscii-padded 48 k n (omega arith) h)
 
-pub ascii_month_and_day : (separator : List ℕ) (d : DateFacts) → IsAscii separator → DateFits d → IsAscii (month_and_day_text separator d)
-ascii_month_and_day separator d s h =
-    then_ascii (then_ascii (then_ascii s (ascii_number 2 d.month h.month)) s) (ascii_number 2 d.day h.day)
+sign : (is_negative is_wanted : Bool) → Ascii (sign_text is_negative is_wanted)
+sign is_negative is_wanted = leaf (sign_text is_negative is_wanted) (IsAscii-sign_text is_negative is_wanted)
 
-pub ascii_clock : (separator : List ℕ) (t : TimeOfDay) → IsAscii separator → TimeFits t → IsAscii (clock_text separator t)
-ascii_clock separator t s h =
-    then_ascii (then_ascii (then_ascii (then_ascii (ascii_number 2 t.hour h.hour) s) (ascii_number 2 t.minute h.minute)) s)
-    (ascii_number 2 t.second h.second)
+month_and_day : (separator : List ℕ) (d : DateFacts) → Ascii separator → DateFits d → Ascii (month_and_day_text separator d)
+month_and_day separator d s h = after (after (after s (number 2 d.month h.month)) s) (number 2 d.day h.day)
 
-pub ascii_offset_hours : (o : Offset) → OffsetFits o → IsAscii (offset_hours_text o)
-ascii_offset_hours o h = then_ascii (IsAscii-sign_text (is_negative o) true) (ascii_number 2 (unsigned_abs o.hours) h.hours)
+clock : (separator : List ℕ) (t : TimeOfDay) → Ascii separator → TimeFits t → Ascii (clock_text separator t)
+clock separator t s h =
+    after (after (after (after (number 2 t.hour h.hour) s) (number 2 t.minute h.minute)) s) (number 2 t.second h.second)
 
-pub ascii_offset : (separator : List ℕ) (o : Offset) → IsAscii separator → OffsetFits o → IsAscii (offset_text separator o)
-ascii_offset separator o s h = then_ascii (then_ascii (ascii_offset_hours o h) s) (ascii_number 2 (unsigned_abs o.minutes) h.minutes)
+offset_hours : (o : Offset) → OffsetFits o → Ascii (offset_hours_text o)
+offset_hours o h = after (sign (is_negative o) true) (number 2 (unsigned_abs o.hours) h.hours)
 
--- the choice of two texts
-pub ascii_choice : {a b : List ℕ} (c : Bool) → IsAscii a → IsAscii b → IsAscii (if c then a else b)
-ascii_choice true p q = p
-ascii_choice false p q = q
-
-chosen_ascii : (c : Bool) (a b : Outcome) → IsAscii a.bytes → IsAscii b.bytes → IsAscii (if c then a else b).bytes
-chosen_ascii true a b p q = p
-chosen_ascii false a b p q = q
-
--- a refusal before any byte
-pub ascii_refused_if : (c : Bool) (name : List ℕ) (o : Outcome) → IsAscii o.bytes → IsAscii (refused_if c name o).bytes
-ascii_refused_if true name o h = IsAscii-nil
-ascii_refused_if false name o h = h
+offset : (separator : List ℕ) (o : Offset) → Ascii separator → OffsetFits o → Ascii (offset_text separator o)
+offset separator o s h = after (after (offset_hours o h) s) (number 2 (unsigned_abs o.minutes) h.minutes)
 
 -- ---- RFC 3339
 
-ascii_rfc3339_text : (d : DateFacts) (t : TimeOfDay) (o : Offset) → DateFits d → TimeFits t → OffsetFits o → IsAscii (rfc3339_text d t o)
-ascii_rfc3339_text d t o h k l =
-    let colon = ascii_test (codes ":") refl in
-    let date = then_ascii (ascii_number 4 (unsigned_abs d.year) h.year) (ascii_month_and_day (codes "-") d (ascii_test (codes "-") refl) h) in
-    let time = ascii_clock (codes ":") t colon k in
-    let fraction = ascii_choice (t.nanosecond == 0) IsAscii-nil (then_ascii (ascii_test (codes ".") refl) (IsAscii-trimmed_fraction t.nanosecond)) in
-    let offset = ascii_choice (is_utc o) (ascii_test (codes "Z") refl) (ascii_offset (codes ":") o colon l) in
-    then_ascii (then_ascii (then_ascii (then_ascii date (ascii_test (codes "T") refl)) time) fraction) offset
+rfc3339_is_ascii : (d : DateFacts) (t : TimeOfDay) (o : Offset) → DateFits d → TimeFits t → OffsetFits o → Ascii (rfc3339_text d t o)
+rfc3339_is_ascii d t o h k l =
+    let colon = literal (codes ":") refl in
+    let date = after (number 4 (unsigned_abs d.year) h.year) (month_and_day (codes "-") d (literal (codes "-") refl) h) in
+    let point = after (literal (codes ".") refl) (leaf (trimmed_fraction t.nanosecond) (IsAscii-trimmed_fraction t.nanosecond)) in
+    let fraction = either (t.nanosecond == 0) nil point in
+    let zone = either (is_utc o) (literal (codes "Z") refl) (offset (codes ":") o colon l) in
+    after (after (after (after date (literal (codes "T") refl)) (clock (codes ":") t colon k)) fraction) zone
 
-pub ascii_rfc3339 : (d : DateFacts) (t : TimeOfDay) (o : Offset) → DateFits d → TimeFits t → OffsetFits o → IsAscii (rfc3339_of_groups d t o).bytes
-ascii_rfc3339 d t o h k l = ascii_refused_if _ _ _ (ascii_refused_if _ _ _ (ascii_refused_if _ _ _ (ascii_rfc3339_text d t o h k l)))
+pub rfc3339_ascii : (d : DateFacts) (t : TimeOfDay) (o : Offset) → DateFits d → TimeFits t → OffsetFits o → IsAscii (rfc3339_of_groups d t o).bytes
+rfc3339_ascii d t o h k l =
+    let text = done (rfc3339_text d t o) in
+    let second = refused_if (nat_lt 0 (unsigned_abs o.seconds)) (codes "offset_second") text in
+    let hour = refused_if (nat_lt 23 (unsigned_abs o.hours)) (codes "offset_hour") second in
+    (unless (is_outside 0 9_999 d.year) (codes "year") hour
+    (unless (nat_lt 23 (unsigned_abs o.hours)) (codes "offset_hour") second
+    (unless (nat_lt 0 (unsigned_abs o.seconds)) (codes "offset_second") text (rfc3339_is_ascii d t o h k l)))).is
 
 -- ---- RFC 2822
 
-ascii_rfc2822_text : (d : DateFacts) (t : TimeOfDay) (o : Offset) → DateFits d → TimeFits t → OffsetFits o → IsAscii (rfc2822_text d t o)
-ascii_rfc2822_text d t o h k l =
-    let space = ascii_test (codes " ") refl in
-    let weekday = IsAscii-take (weekday_name d.weekday) 3 (IsAscii-weekday_name d.weekday) in
-    let month = IsAscii-take (month_name d.month) 3 (IsAscii-month_name d.month) in
-    let date = then_ascii (then_ascii (then_ascii (then_ascii (ascii_number 2 d.day h.day) space) month) space) (ascii_number 4 (unsigned_abs d.year) h.year) in
-    let named = then_ascii (then_ascii weekday (ascii_test (codes ", ") refl)) date in
-    let time = ascii_clock (codes ":") t (ascii_test (codes ":") refl) k in
-    then_ascii (then_ascii (then_ascii (then_ascii named space) time) space) (ascii_offset [] o IsAscii-nil l)
+rfc2822_is_ascii : (d : DateFacts) (t : TimeOfDay) (o : Offset) → DateFits d → TimeFits t → OffsetFits o → Ascii (rfc2822_text d t o)
+rfc2822_is_ascii d t o h k l =
+    let space = literal (codes " ") refl in
+    let weekday = leaf (short_name (weekday_name d.weekday)) (IsAscii-take (weekday_name d.weekday) 3 (IsAscii-weekday_name d.weekday)) in
+    let month = leaf (short_name (month_name d.month)) (IsAscii-take (month_name d.month) 3 (IsAscii-month_name d.month)) in
+    let date = after (after (after (after (number 2 d.day h.day) space) month) space) (number 4 (unsigned_abs d.year) h.year) in
+    let named = after (after weekday (literal (codes ", ") refl)) date in
+    after (after (after (after named space) (clock (codes ":") t (literal (codes ":") refl) k)) space) (offset [] o nil l)
 
-pub ascii_rfc2822 : (d : DateFacts) (t : TimeOfDay) (o : Offset) → DateFits d → TimeFits t → OffsetFits o → IsAscii (rfc2822_of_groups d t o).bytes
-ascii_rfc2822 d t o h k l = ascii_refused_if _ _ _ (ascii_refused_if _ _ _ (ascii_rfc2822_text d t o h k l))
+pub rfc2822_ascii : (d : DateFacts) (t : TimeOfDay) (o : Offset) → DateFits d → TimeFits t → OffsetFits o → IsAscii (rfc2822_of_groups d t o).bytes
+rfc2822_ascii d t o h k l =
+    let text = done (rfc2822_text d t o) in
+    let second = refused_if (nat_lt 0 (unsigned_abs o.seconds)) (codes "offset_second") text in
+    (unless (is_outside 1900 9_999 d.year) (codes "year") second
+    (unless (nat_lt 0 (unsigned_abs o.seconds)) (codes "offset_second") text (rfc2822_is_ascii d t o h k l))).is
 
 -- ---- ISO 8601
 
-ascii_iso_year : (is_six_digits : Bool) (y : ℤ) → unsigned_abs y < 2 ^ 64 → IsAscii (iso_year is_six_digits y).bytes
-ascii_iso_year true y h = then_ascii (IsAscii-sign_text (int_lt y (pos 0)) true) (ascii_number 6 (unsigned_abs y) h)
-ascii_iso_year false y h = ascii_refused_if _ _ _ (ascii_number 4 (unsigned_abs y) h)
+year_ascii : (is_six_digits : Bool) (y : ℤ) → unsigned_abs y < 2 ^ 64 → Ascii (iso_year is_six_digits y).bytes
+year_ascii true y h = after (sign (int_lt y (pos 0)) true) (number 6 (unsigned_abs y) h)
+year_ascii false y h = unless (is_outside 0 9_999 y) (codes "year") (done (zero_padded 4 (unsigned_abs y))) (number 4 (unsigned_abs y) h)
 
-ascii_separator : (c : Choices) {bytes : List ℕ} → IsAscii bytes → IsAscii (separator c bytes)
-ascii_separator c h = ascii_choice c.use_separators h IsAscii-nil
+separated : (c : Choices) {bytes : List ℕ} → Ascii bytes → Ascii (separator c bytes)
+separated c h = either c.use_separators h nil
 
-ascii_after_year : (k : DateKind) (c : Choices) (d : DateFacts) → DateFits d → IsAscii (text_after_year k c d)
-ascii_after_year kind.Calendar c d h = ascii_month_and_day (separator c (codes "-")) d (ascii_separator c (ascii_test (codes "-") refl)) h
-ascii_after_year kind.Week c d h =
-    let dash = ascii_separator c (ascii_test (codes "-") refl) in
-    then_ascii (then_ascii (then_ascii (then_ascii dash (ascii_test (codes "W") refl)) (ascii_number 2 d.iso_week h.iso_week)) dash)
-    (ascii_number 1 (d.weekday + 1) (omega (arith, h.weekday)))
-ascii_after_year kind.Ordinal c d h = then_ascii (ascii_separator c (ascii_test (codes "-") refl)) (ascii_number 3 d.ordinal h.ordinal)
+after_year : (k : DateKind) (c : Choices) (d : DateFacts) → DateFits d → Ascii (text_after_year k c d)
+after_year kind.Calendar c d h = month_and_day (separator c (codes "-")) d (separated c (literal (codes "-") refl)) h
+after_year kind.Week c d h =
+    let dash = separated c (literal (codes "-") refl) in
+    after (after (after (after dash (literal (codes "W") refl)) (number 2 d.iso_week h.iso_week)) dash)
+    (number 1 (d.weekday + 1) (omega (arith, h.weekday)))
+after_year kind.Ordinal c d h = after (separated c (literal (codes "-") refl)) (number 3 d.ordinal h.ordinal)
 
-ascii_year_of_kind : (k : DateKind) (d : DateFacts) → DateFits d → unsigned_abs (year_of_kind k d) < 2 ^ 64
-ascii_year_of_kind kind.Calendar d h = h.year
-ascii_year_of_kind kind.Week d h = h.iso_year
-ascii_year_of_kind kind.Ordinal d h = h.year
+-- a year of either calendar
+year_fits : (k : DateKind) (d : DateFacts) → DateFits d → unsigned_abs (year_of_kind k d) < 2 ^ 64
+year_fits kind.Calendar d h = h.year
+year_fits kind.Week d h = h.iso_year
+year_fits kind.Ordinal d h = h.year
 
-ascii_join : (a b : Outcome) → IsAscii a.bytes → IsAscii b.bytes → IsAscii (join a b).bytes
-ascii_join a b p q = elim a.refusal as (λ r. IsAscii (join (record { bytes = a.bytes; refusal = r }) b).bytes) [ None ↦ then_ascii p q | Some r ↦ p ]
+-- two outcomes
+joined : (a b : Outcome) → Ascii a.bytes → Ascii b.bytes → Ascii (join a b).bytes
+joined a b p q =
+    elim a.refusal as (λ r. Ascii (join (record { bytes = a.bytes; refusal = r }) b).bytes) [ None ↦ after p q | Some r ↦ p ]
 
-ascii_iso_date : (c : Choices) (d : DateFacts) → DateFits d → IsAscii (iso_date c d).bytes
-ascii_iso_date c d h =
-    ascii_join (iso_year c.year_is_six_digits (year_of_kind c.date_kind d)) (done (text_after_year c.date_kind c d))
-    (ascii_iso_year c.year_is_six_digits (year_of_kind c.date_kind d) (ascii_year_of_kind c.date_kind d h)) (ascii_after_year c.date_kind c d h)
+date_ascii : (c : Choices) (d : DateFacts) → DateFits d → IsAscii (iso_date c d).bytes
+date_ascii c d h =
+    (joined (iso_year c.year_is_six_digits (year_of_kind c.date_kind d)) (done (text_after_year c.date_kind c d))
+    (year_ascii c.year_is_six_digits (year_of_kind c.date_kind d) (year_fits c.date_kind d h)) (after_year c.date_kind c d h)).is
 
-ascii_decimal_part : (d : Option ℕ) (rest unit : ℕ) → IsAscii (decimal_part d rest unit)
-ascii_decimal_part None rest unit = IsAscii-nil
-ascii_decimal_part (Some d) rest unit = then_ascii (ascii_test (codes ".") refl) (IsAscii-fixed d (rest * 10 ^ d / unit))
+point_and_decimals : (d : Option ℕ) (rest unit : ℕ) → Ascii (decimal_part d rest unit)
+point_and_decimals None rest unit = nil
+point_and_decimals (Some d) rest unit =
+    after (literal (codes ".") refl) (leaf (decimals rest unit d) (IsAscii-fixed d (rest * 10 ^ d / unit)))
 
-ascii_units : (p : TimePrecision) (c : Choices) (t : TimeOfDay) → TimeFits t → IsAscii (units_text p c t)
-ascii_units (precision.Hour d) c t h = then_ascii (ascii_number 2 t.hour h.hour) (ascii_decimal_part d (nanoseconds_of_hour t) 3_600_000_000_000)
-ascii_units (precision.Minute d) c t h =
-    then_ascii (then_ascii (then_ascii (ascii_number 2 t.hour h.hour) (ascii_separator c (ascii_test (codes ":") refl))) (ascii_number 2 t.minute h.minute))
-    (ascii_decimal_part d (nanoseconds_of_minute t) 60_000_000_000)
-ascii_units (precision.Second d) c t h =
-    then_ascii (ascii_clock (separator c (codes ":")) t (ascii_separator c (ascii_test (codes ":") refl)) h) (ascii_decimal_part d t.nanosecond 1_000_000_000)
+units : (p : TimePrecision) (c : Choices) (t : TimeOfDay) → TimeFits t → Ascii (units_text p c t)
+units (precision.Hour d) c t h = after (number 2 t.hour h.hour) (point_and_decimals d (nanoseconds_of_hour t) 3_600_000_000_000)
+units (precision.Minute d) c t h =
+    after (after (after (number 2 t.hour h.hour) (separated c (literal (codes ":") refl))) (number 2 t.minute h.minute))
+    (point_and_decimals d (nanoseconds_of_minute t) 60_000_000_000)
+units (precision.Second d) c t h =
+    after (clock (separator c (codes ":")) t (separated c (literal (codes ":") refl)) h) (point_and_decimals d t.nanosecond 1_000_000_000)
 
-ascii_iso_time : (c : Choices) (t : TimeOfDay) → TimeFits t → IsAscii (iso_time c t).bytes
-ascii_iso_time c t h = then_ascii (ascii_choice (has_time_letter c) (ascii_test (codes "T") refl) IsAscii-nil) (ascii_units c.time_precision c t h)
+time_ascii : (c : Choices) (t : TimeOfDay) → TimeFits t → IsAscii (iso_time c t).bytes
+time_ascii c t h = (after (either (has_time_letter c) (literal (codes "T") refl) nil) (units c.time_precision c t h)).is
 
-ascii_iso_minutes : (p : OffsetPrecision) (c : Choices) (o : Offset) → OffsetFits o → IsAscii (iso_minutes p c o).bytes
-ascii_iso_minutes offset_precision.Minute c o h = then_ascii (ascii_separator c (ascii_test (codes ":") refl)) (ascii_number 2 (unsigned_abs o.minutes) h.minutes)
-ascii_iso_minutes offset_precision.Hour c o h = ascii_refused_if _ _ _ IsAscii-nil
+minutes_ascii : (p : OffsetPrecision) (c : Choices) (o : Offset) → OffsetFits o → Ascii (iso_minutes p c o).bytes
+minutes_ascii offset_precision.Minute c o h = after (separated c (literal (codes ":") refl)) (number 2 (unsigned_abs o.minutes) h.minutes)
+minutes_ascii offset_precision.Hour c o h = unless (nat_lt 0 (unsigned_abs o.minutes)) (codes "offset_minute") (done []) nil
 
-ascii_iso_offset : (c : Choices) (o : Offset) → OffsetFits o → IsAscii (iso_offset c o).bytes
-ascii_iso_offset c o h =
-    let hours = ascii_offset_hours o h in
-    let signed = ascii_refused_if (nat_lt 0 (unsigned_abs o.seconds)) (codes "offset_second") (join (done (offset_hours_text o)) (iso_minutes c.offset_precision c o))
-    (ascii_join (done (offset_hours_text o)) (iso_minutes c.offset_precision c o) hours (ascii_iso_minutes c.offset_precision c o h)) in
-    chosen_ascii (has_time c.formatted_components && is_utc o) (done (codes "Z")) _ (ascii_test (codes "Z") refl) signed
+offset_ascii : (c : Choices) (o : Offset) → OffsetFits o → IsAscii (iso_offset c o).bytes
+offset_ascii c o h =
+    let hours = done (offset_hours_text o) in
+    let minutes = iso_minutes c.offset_precision c o in
+    let signed = unless (nat_lt 0 (unsigned_abs o.seconds)) (codes "offset_second") (join hours minutes)
+    (joined hours minutes (offset_hours o h) (minutes_ascii c.offset_precision c o h)) in
+    (outcome_of_two (has_time c.formatted_components && is_utc o) (done (codes "Z"))
+    (refused_if (nat_lt 0 (unsigned_abs o.seconds)) (codes "offset_second") (join hours minutes)) (literal (codes "Z") refl) signed).is
 
--- what a group gives, if it is there
+-- what a group gives, if it is there and real
 group_utf8 : {G : Type 0} {P Q : G → Type 0} (group : Option G) (outcome : G → Outcome) → ((g : G) → P g → Q g)
     → ((g : G) → Q g → IsAscii (outcome g).bytes) → IfSome group P → IsUtf8 (of_group group outcome).bytes
 group_utf8 None outcome fits each h = empty_utf8
 group_utf8 (Some g) outcome fits each h = IsUtf8-from_ascii (outcome g).bytes (each g (fits g h))
 
 pub iso_date_utf8 : (c : Choices) (date : Option DateFacts) → IfSome date AreOfDate → IsUtf8 (of_group date (iso_date c)).bytes
-iso_date_utf8 c date h = group_utf8 date (iso_date c) date_fits (ascii_iso_date c) h
+iso_date_utf8 c date h = group_utf8 {P = AreOfDate} {Q = DateFits} date (iso_date c) date_fits (date_ascii c) h
 
 pub iso_time_utf8 : (c : Choices) (time : Option TimeOfDay) → IfSome time IsTimeOfDay → IsUtf8 (of_group time (iso_time c)).bytes
-iso_time_utf8 c time h = group_utf8 time (iso_time c) time_fits (ascii_iso_time c) h
+iso_time_utf8 c time h = group_utf8 {P = IsTimeOfDay} {Q = TimeFits} time (iso_time c) time_fits (time_ascii c) h
 
 pub iso_offset_utf8 : (c : Choices) (offset : Option Offset) → IfSome offset IsOffset → IsUtf8 (of_group offset (iso_offset c)).bytes
-iso_offset_utf8 c offset h = group_utf8 offset (iso_offset c) offset_fits (ascii_iso_offset c) h
+iso_offset_utf8 c offset h = group_utf8 {P = IsOffset} {Q = OffsetFits} offset (iso_offset c) offset_fits (offset_ascii c) h
 
+-- nothing follows what is refused
 refused_first : (bytes : List ℕ) (refusal : Option Refusal) (b : Outcome) (e : Format) → IsUtf8 bytes → IsSomeAnd refusal (Names e)
     → IsUtf8 (join (record { bytes = bytes; refusal = refusal }) b).bytes
 refused_first bytes (Some r) b e p h = p
@@ -221,3 +255,12 @@ lacking_groups_utf8 f of_groups date time offset d t o h = lacking_utf8 f.date f
 pub refused_utf8 : (o : Outcome) (r : Refusal) → o ≡ refused r → IsUtf8 o.bytes
 refused_utf8 o r e = subst IsUtf8 (sym (ap (λ (p : Outcome). p.bytes) e)) empty_utf8
 
+-- the parts that the choices have are formatted
+pub utf8_of_parts : (parts : FormattedComponents) (c : Choices) (f : Facts) → c.formatted_components ≡ parts
+    → IsUtf8 (iso8601_outcome_of parts c f).bytes → IsUtf8 (iso8601_outcome c f).bytes
+utf8_of_parts parts c f e h =
+    let P : FormattedComponents → Type 0 = λ q. IsUtf8 (iso8601_outcome_of q c f).bytes in subst P (sym e) h
+
+-- an outcome that is the same has the same bytes
+pub same_utf8 : (a b : Outcome) → a ≡ b → IsUtf8 b.bytes → IsUtf8 a.bytes
+same_utf8 a b e h = let P : Outcome → Type 0 = λ o. IsUtf8 o.bytes in subst P (sym e) h

@@ -1,7 +1,7 @@
 use Rattle.std.proofs.Common.{◌≡◌, ◌∙◌, sym, ap}
 use Rattle.time_fmt.specs.Outcome.{Outcome, done}
 use Rattle.time_known.specs.Rfc2822.{rfc2822_of_groups, rfc2822_outcome, rfc2822_text}
-use Rattle.time_known.proofs.GuaranteeLemmas.{ascii_rfc2822, all_groups_utf8, lacking_groups_utf8, refused_utf8}
+use Rattle.time_known.proofs.GuaranteeLemmas.{rfc2822_ascii, all_groups_utf8, lacking_groups_utf8, refused_utf8}
 use Rattle.time_known.proofs.GroupLemmas.{AllGroups, all_groups, at_all}
 use Rattle.time_known.proofs.LawLemmas.{completed_are_canonical}
 use Rattle.time_known.proofs.ReadBackLemmas.{reads_as}
@@ -22,7 +22,7 @@ returns-in-Ok-clause-spelled g c =
 
 pub returns-in-Ok-clause-text : goal.returns-in-Ok-clause-text
 returns-in-Ok-clause-text g c = λ _.
-    all_groups_utf8 (g.V.ComponentProvider.facts c.args.value.now) rfc2822_of_groups ascii_rfc2822 c.in-Ok.ensures.real.0
+    all_groups_utf8 (g.V.ComponentProvider.facts c.args.value.now) rfc2822_of_groups rfc2822_ascii c.in-Ok.ensures.real.0
     c.write_date_time.ensures.real c.in-Ok.ensures.real.1
 
 pub returns-in-Err-clause-text : goal.returns-in-Err-clause-text

@@ -1,0 +1,18 @@
+use Rattle.time_fmt.specs.Description.{of_group}
+use Rattle.time_known.specs.Iso8601.{iso_time, iso_offset}
+use Rattle.time_known.proofs.GuaranteeLemmas.{join_utf8, iso_time_utf8, iso_offset_utf8}
+use Rattle.time_known.proofs.iso8601.parts.format_time_and_offset.Goals as goal
+
+pub returns-in_err-format_offset-clause-text : goal.returns-in_err-format_offset-clause-text
+returns-in_err-format_offset-clause-text g c =
+    let f = g.V.ComponentProvider.facts c.args.value.now in
+    let choices = c.args.config.now in
+    join_utf8 (of_group f.time (iso_time choices)) (of_group f.offset (iso_offset choices))
+    (iso_time_utf8 choices f.time c.in_ok-time.ensures.real) (iso_offset_utf8 choices f.offset c.in_err-format_offset.ensures.real)
+
+pub returns-clause-text : goal.returns-clause-text
+returns-clause-text g c =
+    let f = g.V.ComponentProvider.facts c.args.value.now in
+    let choices = c.args.config.now in
+    join_utf8 (of_group f.time (iso_time choices)) (of_group f.offset (iso_offset choices))
+    (iso_time_utf8 choices f.time c.in_ok-time.ensures.real) (iso_offset_utf8 choices f.offset c.in_ok-format_offset.ensures.real)
