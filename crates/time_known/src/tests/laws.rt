@@ -1,8 +1,11 @@
-//! Each law of the two formats is called.
+//! Each law is called.
+use crate::iso8601::Config;
 use crate::laws::{
-    rfc2822_canonical, rfc2822_equal_texts, rfc2822_one_value, rfc3339_canonical,
-    rfc3339_equal_texts, rfc3339_one_value, rfcs_within_width,
+    config_changes, iso8601_canonical, iso8601_equal_texts, iso8601_one_value,
+    iso8601_within_width, rfc2822_canonical, rfc2822_equal_texts, rfc2822_one_value,
+    rfc3339_canonical, rfc3339_equal_texts, rfc3339_one_value, rfcs_within_width, stamp_order,
 };
+use std::default::Default;
 
 #[test]
 fn laws_of_rfc_3339_and_rfc_2822(_rt: HostRuntime) {
@@ -13,4 +16,15 @@ fn laws_of_rfc_3339_and_rfc_2822(_rt: HostRuntime) {
     rfc2822_canonical();
     rfc2822_equal_texts();
     rfcs_within_width();
+}
+
+#[test]
+fn laws_of_iso_8601(_rt: HostRuntime) {
+    let config = Config::default();
+    config_changes();
+    iso8601_one_value(config);
+    iso8601_canonical(config);
+    iso8601_equal_texts(config);
+    iso8601_within_width(config);
+    stamp_order();
 }
