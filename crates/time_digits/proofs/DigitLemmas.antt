@@ -1,15 +1,18 @@
--- Decimal texts: a number's text is that of its first digits, and then its last ones.
+-- The texts of numbers: their first digits, and then their last ones.
+--
+-- A crate above finds here the lemmas on lengths too that go with these.
 use Rattle.std.proofs.Common.{◌≡◌, ℕ, zero, suc, ◌+◌, ◌-◌, ◌*◌, ◌/◌, ◌%◌, ◌^◌, ◌<◌, ◌≤◌, [], ◌∷◌, ◌++◌, length, replicate, refl, sym, ap, ap₂, ◌∙◌, arith, length-append, append_assoc, decimal, IsAscii, ⊎_elim}
-use Rattle.std.proofs.Math.Nat.{pow-suc, pow-succ', one-le-pow, div-le_self, div-div-eq-div-mul}
+use Rattle.std.proofs.Math.Nat.{pow-suc, one-le-pow}
 use Rattle.std.proofs.Math.Arith.{mod-mul}
-use Rattle.std.proofs.lemmas.Fmt.{decimal_digit, decimal_step, decimal_step_wide, decimal_nonempty, length-decimal-le, IsAscii-from_digits}
+use Rattle.std.proofs.lemmas.Fmt.{decimal_digit, decimal_step, decimal_step_wide, IsAscii-from_digits}
 use Rattle.std.proofs.lemmas.Int.Digits.{digits_push}
 use Rattle.std.proofs.lemmas.Str.{digit_value_digit}
 use Rattle.std.proofs.lemmas.List.{append-nil, replicate-append-replicate}
-use Rattle.std.proofs.lemmas.Nat.{le-div}
 use Rattle.std.proofs.lemmas.Bool.{cases_lt}
 use Rattle.std.specs.Str.Parse.{AllDigits}
 use Rattle.time_digits.specs.Digits.{fixed, padded, zero_padded}
+use Rattle.time_digits.proofs.DivisionLemmas.{div-ten-pow}
+pub use Rattle.time_digits.proofs.LengthLemmas.{length-fixed, decimal_longer}
 
 -- ---- fixed digits
 
@@ -18,29 +21,22 @@ pub fixed_step : (k n : ℕ) → fixed (suc k) n ≡ fixed k (n / 10) ++ (48 + n
 unfolding fixed
 fixed_step k n = refl
 
--- one digit
+-- one fixed digit is the last digit of the number
 pub fixed-one : (n : ℕ) → fixed 1 n ≡ (48 + n % 10) ∷ []
 unfolding fixed
 fixed-one n = refl
 
-pub length-fixed : (k n : ℕ) → length (fixed k n) ≡ k
-unfolding fixed
-length-fixed zero n = refl
-length-fixed (suc k) n = omega (arith, length-append (fixed k (n / 10)) ((48 + n % 10) ∷ []), length-fixed k (n / 10))
-
--- each of them is a digit
+-- each of the bytes is a digit
 pub fixed_digits : (k n : ℕ) → AllDigits 10 (fixed k n)
 unfolding fixed
 fixed_digits zero n = tt
 fixed_digits (suc k) n = digits_push 10 (fixed k (n / 10)) (48 + n % 10) (fixed_digits k (n / 10)) (omega (arith, digit_value_digit (48 + n % 10) (omega arith, omega arith)))
 
+-- so the text is ASCII
 pub IsAscii-fixed : (k n : ℕ) → IsAscii (fixed k n)
 IsAscii-fixed k n = IsAscii-from_digits (fixed k n) (fixed_digits k n)
 
-div-ten-pow : (n k : ℕ) → n / 10 / 10 ^ k ≡ n / 10 ^ suc k
-div-ten-pow n k = div-div-eq-div-mul n 10 (10 ^ k) ∙ ap (λ m. n / m) (sym (pow-succ' 10 k))
-
--- the first j digits, and then the last k
+-- j + k digits are the last j of the quotient by 10 ^ k, and then the last k
 pub fixed-append : (j k n : ℕ) → fixed (j + k) n ≡ fixed j (n / 10 ^ k) ++ fixed k n
 unfolding fixed
 fixed-append j zero n =
@@ -78,16 +74,6 @@ decimal-split (suc k) n low high =
     let rest : 10 ^ k ≤ n / 10 = omega arith in
     rw (decimal_step n ten high, decimal-split k (n / 10) rest (omega arith), div-ten-pow n k, append_assoc) refl
 
--- a number from 10 ^ k on has more than k digits, and below 10 ^ k it has at most k
-pub decimal_longer : (k n : ℕ) → 10 ^ k ≤ n → n < 2 ^ 64 → k < length (decimal n)
-decimal_longer k n low high =
-    let one : 1 ≤ n / 10 ^ k = le-div 1 n (10 ^ k) (one-le-pow k 10 (omega arith)) (omega arith) in
-    omega (arith, ap length (decimal-split k n low high), length-append (decimal (n / 10 ^ k)) (fixed k n), length-fixed k n, decimal_nonempty (n / 10 ^ k) (omega (arith, div-le_self n (10 ^ k))))
-
--- so many digits exactly
-pub length-decimal : (k n : ℕ) → 10 ^ k ≤ n → n < 10 ^ suc k → n < 2 ^ 64 → length (decimal n) ≡ suc k
-length-decimal k n low high fits = omega (arith, decimal_longer k n low fits, length-decimal-le (suc k) n (omega arith) high fits)
-
 -- ---- padded text
 
 -- a number that has all the places needs no padding
@@ -113,16 +99,18 @@ padded-split fill j k n low high =
     let places : (j + k) - length (decimal n) ≡ j - length rest = omega (arith, ap length d, length-append rest (fixed k n), length-fixed k n) in
     ap₂ (λ m bs. replicate m fill ++ bs) places d ∙ sym (append_assoc (replicate (j - length rest) fill) rest (fixed k n))
 
+-- a zero more at the end is a zero more in front
 replicate-push : (k : ℕ) → replicate {A = ℕ} k 48 ++ 48 ∷ [] ≡ 48 ∷ replicate {A = ℕ} k 48
 replicate-push zero = refl
 replicate-push (suc k) = ap (λ bs. 48 ∷ bs) (replicate-push k)
 
+-- the fixed digits of zero are zeros
 fixed-zero : (k : ℕ) → fixed k 0 ≡ replicate k 48
 unfolding fixed
 fixed-zero zero = refl
 fixed-zero (suc k) = rw (fixed-zero k, replicate-push k) refl
 
--- padded with zeros, it is the fixed digits
+-- a number that fits, padded with zeros, is its fixed digits
 pub zero_padded_is : (k n : ℕ) → n < 10 ^ suc k → n < 2 ^ 64 → zero_padded (suc k) n ≡ fixed (suc k) n
 unfolding fixed padded
 zero_padded_is zero n low high =
@@ -142,11 +130,10 @@ zero_padded_is (suc k) n low high =
     rw j at split ∙ ap (λ bs. bs ++ fixed 1 n) (zero_padded_is k (n / 10) rest (omega arith)))
     (cases_lt n 10)
 
--- ---- one digit
-
--- a digit is its own text
+-- a number below 10 is its one fixed digit
 pub decimal_one : (n : ℕ) → n < 10 → decimal n ≡ fixed 1 n
 unfolding fixed
 decimal_one n h = let m : n % 10 ≡ n = omega arith in rw (decimal_digit n h, m) refl
 
+-- a number's text by its last digit
 pub ruleset decimal_recursion = (decimal_digit, decimal_step_wide)

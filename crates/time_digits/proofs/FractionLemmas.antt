@@ -6,10 +6,13 @@ use Rattle.std.proofs.lemmas.Fmt.{IsAscii-from_digits}
 use Rattle.std.proofs.lemmas.List.{append_cancel_right, take_at}
 use Rattle.time_digits.specs.Digits.{fixed}
 use Rattle.time_digits.specs.Fraction.{are_zeros, without_last_zeros, trimmed, trimmed_fraction, last_zeros, IsTrimmedFraction, IsOnlyTrimmedFraction}
-use Rattle.time_digits.proofs.DigitLemmas.{length-fixed, fixed_digits, fixed-one, fixed-append}
+use Rattle.time_digits.proofs.DigitLemmas.{fixed_digits, fixed-one, fixed-append}
+use Rattle.time_digits.proofs.LengthLemmas.{length-fixed, length-without_last_zeros, last_zeros-le, length-trimmed, trimmed_some}
+pub use Rattle.time_digits.proofs.LengthLemmas.{length-trimmed_fraction}
 
 -- ---- zeros
 
+-- zeros are zeros, and behind a text they change nothing about it
 are_zeros-replicate : (k : ℕ) → are_zeros (replicate k 48) ≡ true
 are_zeros-replicate zero = refl
 are_zeros-replicate (suc k) = are_zeros-replicate k
@@ -18,6 +21,7 @@ are_zeros-append : (ds : List ℕ) (k : ℕ) → are_zeros (ds ++ replicate k 48
 are_zeros-append [] k = are_zeros-replicate k
 are_zeros-append (d ∷ ds) k = ap (λ b. (d == 48) && b) (are_zeros-append ds k)
 
+-- a text of zeros is so many zeros
 zeros_are : (ds : List ℕ) → are_zeros ds ≡ true → ds ≡ replicate (length ds) 48
 zeros_are [] e = refl
 zeros_are (d ∷ ds) e =
@@ -26,12 +30,15 @@ zeros_are (d ∷ ds) e =
 
 -- ---- texts without the zeros at their end
 
+-- zeros all go
 pub zeros_none : (d : ℕ) (ds : List ℕ) → are_zeros (d ∷ ds) ≡ true → without_last_zeros (d ∷ ds) ≡ []
 zeros_none d ds e = rw e refl
 
+-- a byte stays that is not followed by zeros alone
 pub not_zeros : (d : ℕ) (ds : List ℕ) → are_zeros (d ∷ ds) ≡ false → without_last_zeros (d ∷ ds) ≡ d ∷ without_last_zeros ds
 not_zeros d ds e = rw e refl
 
+-- so nothing is left of zeros
 without_last_zeros-replicate : (k : ℕ) → without_last_zeros (replicate k 48) ≡ []
 without_last_zeros-replicate zero = refl
 without_last_zeros-replicate (suc k) = zeros_none 48 (replicate k 48) (are_zeros-replicate k)
@@ -40,13 +47,6 @@ without_last_zeros-replicate (suc k) = zeros_none 48 (replicate k 48) (are_zeros
 without_last_zeros-append : (ds : List ℕ) (k : ℕ) → without_last_zeros (ds ++ replicate k 48) ≡ without_last_zeros ds
 without_last_zeros-append [] k = without_last_zeros-replicate k
 without_last_zeros-append (d ∷ ds) k = rw (are_zeros-append (d ∷ ds) k, without_last_zeros-append ds k) refl
-
-pub length-without_last_zeros : (ds : List ℕ) → length (without_last_zeros ds) ≤ length ds
-length-without_last_zeros [] = omega arith
-length-without_last_zeros (d ∷ ds) =
-    ⊎_elim (λ (e : are_zeros (d ∷ ds) ≡ true). rw (zeros_none d ds e) (omega arith))
-    (λ (e : are_zeros (d ∷ ds) ≡ false). rw (not_zeros d ds e) (omega (arith, length-without_last_zeros ds)))
-    (cases_Bool (are_zeros (d ∷ ds)))
 
 -- filled with zeros again, it is the text
 filled : (ds : List ℕ) → without_last_zeros ds ++ replicate (length ds - length (without_last_zeros ds)) 48 ≡ ds
@@ -60,24 +60,19 @@ filled (d ∷ ds) =
     rw (not_zeros d ds e, count) (ap (λ bs. d ∷ bs) (filled ds)))
     (cases_Bool (are_zeros (d ∷ ds)))
 
+-- the front of a text of digits is one
 digits_front : (ds rest : List ℕ) → AllDigits 10 (ds ++ rest) → AllDigits 10 ds
 digits_front [] rest h = tt
 digits_front (d ∷ ds) rest h = (h.0, digits_front ds rest h.1)
 
 -- ---- and with the first digit kept
 
+-- more zeros at the end change nothing
 trimmed-append : (ds : List ℕ) (k : ℕ) → 1 ≤ length ds → trimmed (ds ++ replicate k 48) ≡ trimmed ds
 trimmed-append [] k some = absurd (omega arith)
 trimmed-append (d ∷ ds) k some = ap (λ bs. d ∷ bs) (without_last_zeros-append ds k)
 
-length-trimmed : (ds : List ℕ) → length (trimmed ds) ≤ length ds
-length-trimmed [] = omega arith
-length-trimmed (d ∷ ds) = omega (arith, length-without_last_zeros ds)
-
-trimmed_some : (ds : List ℕ) → 1 ≤ length ds → 1 ≤ length (trimmed ds)
-trimmed_some [] some = absurd (omega arith)
-trimmed_some (d ∷ ds) some = omega arith
-
+-- filled with zeros again, it is the text
 trimmed_filled : (ds : List ℕ) → trimmed ds ++ replicate (length ds - length (trimmed ds)) 48 ≡ ds
 trimmed_filled [] = refl
 trimmed_filled (d ∷ ds) =
@@ -86,6 +81,7 @@ trimmed_filled (d ∷ ds) =
 
 -- ---- the trimmed fraction of a number
 
+-- the trimmed fraction is the shortest text that is the fraction
 pub trimmed_fraction_is : (n : ℕ) → IsTrimmedFraction (trimmed_fraction n) n
 unfolding trimmed_fraction
 trimmed_fraction_is n =
@@ -100,6 +96,7 @@ trimmed_fraction_is n =
           omega (arith, ap length same, length-trimmed other);
     }
 
+-- there is one shortest text, since two are as long and filled alike
 same_fraction : (n : ℕ) (text other : List ℕ) → IsTrimmedFraction text n → IsTrimmedFraction other n → text ≡ other
 same_fraction n text other s t =
     let one : length text ≡ length other = omega (arith, s.shortest other t.fraction, t.shortest text s.fraction) in
@@ -107,24 +104,15 @@ same_fraction n text other s t =
     let first : text ++ end ≡ fixed 9 n = rw one at s.fraction.filled in
     append_cancel_right text other end (first ∙ sym t.fraction.filled)
 
+-- so the trimmed fraction is the shortest text, and no other is
 pub only_trimmed_fraction : (n : ℕ) → IsOnlyTrimmedFraction n
 only_trimmed_fraction n = (trimmed_fraction_is n, λ text h. same_fraction n text (trimmed_fraction n) h (trimmed_fraction_is n))
 
--- one to nine bytes, all of them digits
-pub some-trimmed_fraction : (n : ℕ) → 1 ≤ length (trimmed_fraction n)
-some-trimmed_fraction n = (trimmed_fraction_is n).fraction.some
-
-pub length-trimmed_fraction : (n : ℕ) → length (trimmed_fraction n) ≤ 9
-length-trimmed_fraction n = (trimmed_fraction_is n).fraction.most
-
+-- its bytes are digits, so ASCII
 pub IsAscii-trimmed_fraction : (n : ℕ) → IsAscii (trimmed_fraction n)
 IsAscii-trimmed_fraction n = IsAscii-from_digits (trimmed_fraction n) (trimmed_fraction_is n).fraction.digits
 
 -- ---- the zeros dropped all at once
-
-pub last_zeros-le : (ds : List ℕ) → last_zeros ds ≤ length ds
-unfolding last_zeros
-last_zeros-le ds = omega arith
 
 -- a text without its last zeros is as many bytes shorter as there are
 without_last_zeros-take : (ds : List ℕ) → without_last_zeros ds ≡ take (length ds - last_zeros ds) ds
@@ -134,11 +122,13 @@ without_last_zeros-take ds =
     let count : length ds - (length ds - length kept) ≡ length kept = omega (arith, length-without_last_zeros ds) in
     rw count (sym (rw filled at (take_at kept (replicate (length ds - length kept) 48) (length kept) refl)))
 
+-- a trimmed text, by the zeros that end it behind its first byte
 trimmed-take : (d : ℕ) (ds : List ℕ) → trimmed (d ∷ ds) ≡ take (suc (length ds) - last_zeros ds) (d ∷ ds)
 trimmed-take d ds =
     let count : suc (length ds) - last_zeros ds ≡ suc (length ds - last_zeros ds) = omega (arith, last_zeros-le ds) in
     rw count (ap (λ bs. d ∷ bs) (without_last_zeros-take ds))
 
+-- nine digits are one and eight
 fixed-nine : (n : ℕ) → fixed 9 n ≡ (48 + n / 100_000_000 % 10) ∷ fixed 8 n
 fixed-nine n = fixed-append 1 8 n ∙ ap (λ bs. bs ++ fixed 8 n) (fixed-one (n / 100_000_000))
 

@@ -1,51 +1,93 @@
--- How long the texts of numbers are, and that they are ASCII.
-use Rattle.std.proofs.Common.{◌≡◌, ℕ, suc, ◌+◌, ◌-◌, ◌*◌, ◌^◌, ◌<◌, ◌≤◌, List, [], ◌∷◌, length, replicate, sum, refl, ap, arith, length-append, decimal, IsAscii}
-use Rattle.std.proofs.Math.Nat.{pow-suc}
-use Rattle.std.proofs.lemmas.Fmt.{decimal_digit, decimal_nonempty, length-decimal-le, IsAscii-decimal}
+-- How long the texts of numbers are, and that padded ones are ASCII.
+use Rattle.std.proofs.Common.{◌≡◌, ℕ, zero, suc, ◌+◌, ◌-◌, ◌*◌, ◌/◌, ◌%◌, ◌^◌, ◌<◌, ◌≤◌, List, [], ◌∷◌, length, replicate, true, false, ap, ⊎_elim, arith, length-append, decimal, IsAscii}
+use Rattle.std.proofs.Math.Nat.{pow-suc, one-le-pow, div-le_self}
+use Rattle.std.proofs.lemmas.Bool.{cases_Bool}
+use Rattle.std.proofs.lemmas.Fmt.{decimal_digit, decimal_step, decimal_nonempty, length-decimal-le, IsAscii-decimal}
 use Rattle.std.proofs.lemmas.List.{length-replicate}
 use Rattle.std.proofs.lemmas.List.Elements.{All-replicate}
-use Rattle.std.proofs.lemmas.List.Sums.{sum_by-cons}
 use Rattle.std.proofs.lemmas.Str.{IsAscii-append}
 use Rattle.std.proofs.lemmas.Str.Ascii.{IsAscii-from_all}
-use Rattle.std.specs.Borrow.{Bor}
-use Rattle.time_digits.specs.Digits.{padded, joined, piece_lengths}
-use Rattle.time_digits.proofs.DigitLemmas.{length-decimal}
+use Rattle.time_digits.specs.Digits.{fixed, padded}
+use Rattle.time_digits.specs.Fraction.{are_zeros, without_last_zeros, last_zeros, trimmed, trimmed_fraction}
+use Rattle.time_digits.proofs.DivisionLemmas.{div-ten-pow}
+
+-- ---- fixed digits
+
+-- k fixed digits are k bytes
+pub length-fixed : (k n : ℕ) → length (fixed k n) ≡ k
+unfolding fixed
+length-fixed zero n = omega arith
+length-fixed (suc k) n = omega (arith, length-append (fixed k (n / 10)) ((48 + n % 10) ∷ []), length-fixed k (n / 10))
 
 -- ---- decimal text
 
+-- each number has a digit
 pub some_digit : (n : ℕ) → n < 2 ^ 64 → 1 ≤ length (decimal n)
-some_digit n h = omega (arith, decimal_nonempty n h)
+some_digit n fits = omega (arith, decimal_nonempty n fits)
 
+-- a number from 10 ^ k on has k digits more than its quotient by 10 ^ k
+pub length-decimal_quotient : (k n : ℕ) → 10 ^ k ≤ n → n < 2 ^ 64 → length (decimal n) ≡ length (decimal (n / 10 ^ k)) + k
+length-decimal_quotient zero n low fits =
+    let all : n / 1 ≡ n = omega arith in
+    rw all (omega arith)
+length-decimal_quotient (suc k) n low fits =
+    let power : 10 ^ suc k ≡ 10 ^ k * 10 = pow-suc 10 k in
+    let one = one-le-pow k 10 (omega arith) in
+    let ten : 10 ≤ n = omega (arith, power, one) in
+    let rest : 10 ^ k ≤ n / 10 = omega (arith, power) in
+    let front = rw div-ten-pow at (length-decimal_quotient k (n / 10) rest (omega arith)) in
+    omega (arith, front, ap length (decimal_step n ten fits), length-append (decimal (n / 10)) ((48 + n % 10) ∷ []))
+
+-- so it has more than k
+pub decimal_longer : (k n : ℕ) → 10 ^ k ≤ n → n < 2 ^ 64 → k < length (decimal n)
+decimal_longer k n low fits = omega (arith, length-decimal_quotient k n low fits, decimal_nonempty (n / 10 ^ k) (omega (arith, div-le_self n (10 ^ k))))
+
+-- from 10 ^ k on, and below the next power, it has k + 1 of them
+pub length-decimal : (k n : ℕ) → 10 ^ k ≤ n → n < 10 ^ suc k → n < 2 ^ 64 → length (decimal n) ≡ suc k
+length-decimal k n low high fits = omega (arith, decimal_longer k n low fits, length-decimal-le (suc k) n (omega arith) high fits)
+
+-- below 10 it has one, below 100 at most two, and so on
 pub length-digit : (n : ℕ) → n < 10 → length (decimal n) ≡ 1
-length-digit n h = ap length (decimal_digit n h)
+length-digit n below = ap length (decimal_digit n below)
 
 pub length-decimal_two : (n : ℕ) → n < 100 → length (decimal n) ≤ 2
-length-decimal_two n h = length-decimal-le 2 n (omega arith) h (omega arith)
+length-decimal_two n below = length-decimal-le 2 n (omega arith) below (omega arith)
 
 pub length-decimal_three : (n : ℕ) → n < 1000 → length (decimal n) ≤ 3
-length-decimal_three n h = length-decimal-le 3 n (omega arith) h (omega arith)
+length-decimal_three n below = length-decimal-le 3 n (omega arith) below (omega arith)
 
 pub length-decimal_four : (n : ℕ) → n < 10_000 → length (decimal n) ≤ 4
-length-decimal_four n h = length-decimal-le 4 n (omega arith) h (omega arith)
+length-decimal_four n below = length-decimal-le 4 n (omega arith) below (omega arith)
 
-pub length-decimal_five : (n : ℕ) → n < 100_000 → length (decimal n) ≤ 5
-length-decimal_five n h = length-decimal-le 5 n (omega arith) h (omega arith)
-
-pub length-decimal_six : (n : ℕ) → n < 1_000_000 → length (decimal n) ≤ 6
-length-decimal_six n h = length-decimal-le 6 n (omega arith) h (omega arith)
-
--- a number of 64 bits
+-- a number of 64 bits has at most 20
 pub length-decimal_word : (n : ℕ) → n < 2 ^ 64 → length (decimal n) ≤ 20
-length-decimal_word n h = length-decimal-le 20 n (omega arith) (omega arith) h
+length-decimal_word n fits = length-decimal-le 20 n (omega arith) (omega arith) fits
 
--- where 10 ^ k is the greatest power of ten within n
+-- from 100 on, and from 1,000 on, it has three and four
+pub length-three_whole : (n : ℕ) → 100 ≤ n → n < 1000 → length (decimal n) ≡ 3
+length-three_whole n low high = length-decimal 2 n low high (omega arith)
+
+pub length-four_whole : (n : ℕ) → 1000 ≤ n → n < 10_000 → length (decimal n) ≡ 4
+length-four_whole n low high = length-decimal 3 n low high (omega arith)
+
+-- before the last four digits stand those of the quotient by 10,000, below it none
+pub length-before_four : (n : ℕ) → 10_000 ≤ n → n < 2 ^ 64 → length (decimal n) - 4 ≡ length (decimal (n / 10_000))
+length-before_four n low fits = omega (arith, length-decimal_quotient 4 n low fits)
+
+pub length-before_none : (n : ℕ) → n < 10_000 → length (decimal n) - 4 ≡ 0
+length-before_none n below = omega (arith, length-decimal_four n below)
+
+-- ---- counted digits
+
+-- where 10 ^ k is the greatest power of ten within n, as the logarithm has it
 pub length-decimal_at : (k n : ℕ) → 10 ^ k ≤ n → n < 10 * 10 ^ k → n < 2 ^ 64 → length (decimal n) ≡ k + 1
 length-decimal_at k n low high fits =
     let p : 10 ^ suc k ≡ 10 ^ k * 10 = pow-suc 10 k in
     omega (arith, length-decimal k n low (omega arith) fits)
 
+-- zero, which has no logarithm
 pub length-decimal_zero : (n : ℕ) → n ≡ 0 → length (decimal n) ≡ 1
-length-decimal_zero n e = length-digit n (omega arith)
+length-decimal_zero n none = length-digit n (omega arith)
 
 pub ruleset count_facts = (length-decimal_at, length-decimal_zero)
 
@@ -54,30 +96,47 @@ pub ruleset count_facts = (length-decimal_at, length-decimal_zero)
 -- a number that fits has all the places
 pub length-padded : (fill k n : ℕ) → length (decimal n) ≤ k → length (padded fill k n) ≡ k
 unfolding padded
-length-padded fill k n h =
+length-padded fill k n fits =
     omega (arith, length-append (replicate {A = ℕ} (k - length (decimal n)) fill) (decimal n), length-replicate (k - length (decimal n)) fill)
 
--- and one that does not has its digits alone
-pub length-padded_long : (fill k n : ℕ) → k ≤ length (decimal n) → length (padded fill k n) ≡ length (decimal n)
-unfolding padded
-length-padded_long fill k n h =
-    omega (arith, length-append (replicate {A = ℕ} (k - length (decimal n)) fill) (decimal n), length-replicate (k - length (decimal n)) fill)
-
+-- it is no longer than the longer of the places and the digits
 pub length-padded-le : (fill k n most : ℕ) → k ≤ most → length (decimal n) ≤ most → length (padded fill k n) ≤ most
 unfolding padded
-length-padded-le fill k n most places h =
+length-padded-le fill k n most places digits =
     omega (arith, length-append (replicate {A = ℕ} (k - length (decimal n)) fill) (decimal n), length-replicate (k - length (decimal n)) fill)
 
+-- padded by an ASCII byte, it is ASCII
 pub IsAscii-padded : (fill k n : ℕ) → fill < 128 → n < 2 ^ 64 → IsAscii (padded fill k n)
 unfolding padded
-IsAscii-padded fill k n low h =
+IsAscii-padded fill k n low fits =
     let front = replicate {A = ℕ} (k - length (decimal n)) fill in
-    IsAscii-append front (decimal n) (IsAscii-from_all front (All-replicate (λ b. b < 128) (k - length (decimal n)) fill low)) (IsAscii-decimal n h)
+    IsAscii-append front (decimal n) (IsAscii-from_all front (All-replicate (λ b. b < 128) (k - length (decimal n)) fill low)) (IsAscii-decimal n fits)
 
--- ---- pieces
+-- ---- trimmed fractions
 
--- together they are as long as all of them
-pub length-joined : (pieces : List (Bor (List ℕ))) → length (joined pieces) ≡ sum (piece_lengths pieces)
-length-joined [] = refl
-length-joined (piece ∷ pieces) =
-    omega (arith, length-append piece.now (joined pieces), length-joined pieces, sum_by-cons (λ n. n) (length piece.now) (piece_lengths pieces))
+-- without its last zeros a text is no longer
+pub length-without_last_zeros : (ds : List ℕ) → length (without_last_zeros ds) ≤ length ds
+length-without_last_zeros [] = omega arith
+length-without_last_zeros (d ∷ ds) =
+    ⊎_elim (λ (e : are_zeros (d ∷ ds) ≡ true). rw e (omega arith))
+    (λ (e : are_zeros (d ∷ ds) ≡ false). rw e (omega (arith, length-without_last_zeros ds)))
+    (cases_Bool (are_zeros (d ∷ ds)))
+
+-- it has no more last zeros than bytes
+pub last_zeros-le : (ds : List ℕ) → last_zeros ds ≤ length ds
+unfolding last_zeros
+last_zeros-le ds = omega arith
+
+-- trimmed, a text is no longer, and is empty only if it was
+pub length-trimmed : (ds : List ℕ) → length (trimmed ds) ≤ length ds
+length-trimmed [] = omega arith
+length-trimmed (d ∷ ds) = omega (arith, length-without_last_zeros ds)
+
+pub trimmed_some : (ds : List ℕ) → 1 ≤ length ds → 1 ≤ length (trimmed ds)
+trimmed_some [] some = absurd (omega arith)
+trimmed_some (d ∷ ds) some = omega arith
+
+-- a trimmed fraction has at most nine digits
+pub length-trimmed_fraction : (n : ℕ) → length (trimmed_fraction n) ≤ 9
+unfolding trimmed_fraction
+length-trimmed_fraction n = omega (arith, length-trimmed (fixed 9 n), length-fixed 9 n)

@@ -4,5 +4,6 @@ pub mod FractionLemmas
 pub mod LengthLemmas
 pub mod PieceLemmas
 pub mod TableLemmas
+pub mod TurnLemmas
 pub mod WordLemmas
 pub mod WriteLemmas

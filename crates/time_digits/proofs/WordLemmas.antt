@@ -9,8 +9,9 @@ use Rattle.std.proofs.lemmas.Nat.{pow-add, xor_block, leading_length, from_le_by
 use Rattle.std.proofs.lemmas.Str.Parse.{digit_from_value}
 use Rattle.time_digits.specs.Digits.{fixed}
 use Rattle.time_digits.specs.Fraction.{are_zeros, without_last_zeros, last_zeros}
-use Rattle.time_digits.proofs.DigitLemmas.{length-fixed, IsAscii-fixed}
-use Rattle.time_digits.proofs.FractionLemmas.{zeros_none, not_zeros, length-without_last_zeros, last_zeros-le}
+use Rattle.time_digits.proofs.DigitLemmas.{IsAscii-fixed}
+use Rattle.time_digits.proofs.FractionLemmas.{zeros_none, not_zeros}
+use Rattle.time_digits.proofs.LengthLemmas.{length-fixed, length-without_last_zeros, last_zeros-le}
 
 -- the word that bytes spell, the lowest one first
 abbrev word_of : List ℕ → ℕ
@@ -42,10 +43,11 @@ xor_digits (d ∷ ds) h =
     let both : bit_xor (word_of ds * 2 ^ 8 + d) (zeros_word (length ds) * 2 ^ 8 + 48) ≡ bit_xor (word_of ds) (zeros_word (length ds)) * 2 ^ 8 + bit_xor d 48 = xor_block 8 (word_of ds) (zeros_word (length ds)) d 48 (omega arith) (omega arith) in
     rw (xor_digits ds h.1, xor_digit d here) at both
 
--- one byte more
+-- a byte more is 256 times as much
 pow-byte : (m : ℕ) → 2 ^ (8 * suc m) ≡ 256 * 2 ^ (8 * m)
 pow-byte m = let e : 8 * suc m ≡ 8 + 8 * m = omega arith in rw e (pow-add 2 8 (8 * m))
 
+-- zeros have the word 0
 values_zero : (ds : List ℕ) → are_zeros ds ≡ true → values_word ds ≡ 0
 values_zero [] e = refl
 values_zero (d ∷ ds) e =
@@ -53,6 +55,7 @@ values_zero (d ∷ ds) e =
     let first : d ≡ 48 = eqb-true d 48 both.0 in
     omega (arith, first, values_zero ds both.1)
 
+-- and other digits a greater one
 values_some : (ds : List ℕ) → AllDigits 10 ds → are_zeros ds ≡ false → 1 ≤ values_word ds
 values_some [] h e = cc
 values_some (d ∷ ds) h e =
@@ -131,10 +134,12 @@ last_zeros_by_word word fits h =
     let x : bit_xor word 0x3030_3030_3030_3030 ≡ values_word ds = rw (word_of-to_le_bytes word fits) at (xor_digits ds h) in
     rw x (leading_zeros-values ds refl h)
 
+-- for the call that counts them
 pub ruleset word_facts = (last_zeros_by_word, last_zeros-le)
 
 -- ---- a word that was read from eight digits of a number
 
+-- its bytes are the digits again
 pub digits_of_word : (bs : List ℕ) (n word : ℕ) → bs ≡ fixed 8 n → word ≡ from_le_bytes w64 bs → to_le_bytes w64 word ≡ fixed 8 n
 digits_of_word bs n word digits read =
     let below : (i : ℕ) → get_or bs i 0 < 256 = λ i. omega (arith, rw (sym digits) at (IsAscii-fixed 8 n i)) in

@@ -1,7 +1,7 @@
--- Texts of numbers, as bytes.
-use Rattle.std.specs.Prelude.{ℕ, zero, suc, ◌+◌, ◌-◌, ◌/◌, ◌%◌, List, [], ◌∷◌, ◌++◌, length, map, replicate, Bool, nat_lt, decimal}
+-- Texts of numbers, as bytes: 48 is the digit 0, 32 a space.
+use Rattle.std.specs.Prelude.{ℕ, zero, suc, ◌+◌, ◌-◌, ◌/◌, ◌%◌, List, [], ◌∷◌, ◌++◌, length, replicate, Bool, nat_lt, decimal}
 use Rattle.std.specs.List.{list_all}
-use Rattle.std.specs.Borrow.{Bor}
+pub use Rattle.time_digits.specs.Pieces.{joined, piece_lengths}
 
 -- the last k digits of n, with zeros in front where it has fewer
 unfoldable pub fixed : ℕ → ℕ → List ℕ
@@ -12,23 +12,14 @@ fixed (suc k) n = fixed k (n / 10) ++ (48 + n % 10) ∷ []
 unfoldable pub padded : ℕ → ℕ → ℕ → List ℕ
 padded fill k n = replicate (k - length (decimal n)) fill ++ decimal n
 
--- with zeros
+-- the text of n in at least k places, with zeros in front
 abbrev pub zero_padded : ℕ → ℕ → List ℕ
 zero_padded k n = padded 48 k n
 
--- with spaces
+-- and with spaces in front
 abbrev pub space_padded : ℕ → ℕ → List ℕ
 space_padded k n = padded 32 k n
 
--- pieces of text, read as one text
-abbrev pub joined : List (Bor (List ℕ)) → List ℕ
-joined [] = []
-joined (piece ∷ pieces) = piece.now ++ joined pieces
-
--- how long each piece is
-abbrev pub piece_lengths : List (Bor (List ℕ)) → List ℕ
-piece_lengths pieces = map (λ piece. length piece.now) pieces
-
--- whether each byte is below 128
+-- whether each byte is ASCII
 abbrev pub is_ascii : List ℕ → Bool
 is_ascii bytes = list_all (λ b. nat_lt b 128) bytes

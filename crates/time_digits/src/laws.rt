@@ -1,9 +1,13 @@
-//! Facts about the definitions that the contracts of this crate speak of. Nothing here is run.
-ghost use Rattle.std.specs.Prelude.{◌≡◌, ℕ, ◌+◌, ◌*◌, ◌/◌, ◌%◌, ◌^◌, ◌<◌, ◌≤◌, [], ◌∷◌, ◌++◌, decimal};
+//! Facts about the definitions that the contracts of this crate speak of, and about its constants.
+//! Nothing here is run.
+ghost use Rattle.std.specs.Prelude.{◌≡◌, ℕ, ◌+◌, ◌*◌, ◌/◌, ◌%◌, ◌^◌, ◌<◌, ◌≤◌, [], ◌∷◌, ◌++◌, take, drop, decimal};
+ghost use Rattle.time_digits.specs.Digits.{zero_padded, space_padded};
 ghost use Rattle.time_digits.specs.Fraction.{IsOnlyTrimmedFraction};
 
+use crate::tables::{SINGLE_DIGITS, SPACE_PADDED_PAIRS, ZERO_PADDED_PAIRS};
+
 /// The decimal text of a number of at most 64 digits is one digit below 10, else the text of the
-/// number's quotient by 10 and then its last digit.
+/// number's quotient by 10 and then its last digit; 48 is the byte of the digit 0.
 #[tactic(auto, using(crate::proofs::DigitLemmas::decimal_recursion))]
 pub fn decimal_by_last_digit()
     ensures one { (n : ℕ) → n < 10 → decimal n ≡ (48 + n) ∷ [] }
@@ -24,4 +28,15 @@ pub fn trimmed_fraction_is_shortest()
 pub fn quotient_by_5243()
     ensures up_to { (n : ℕ) → n ≤ 43_698 → n * 5243 / 2 ^ 19 ≡ n / 100 }
     ensures no_further { 43_699 * 5243 / 2 ^ 19 ≡ 43_699 / 100 + 1 }
+{}
+
+/// Each text of a table stands at its place: that of the digit `n` at the byte `n`, and those of the
+/// number `n` in two places at the byte `2 * n`.
+#[tactic(auto, using(crate::proofs::TableLemmas::table_facts))]
+pub fn texts_of_tables()
+    ensures digits { (n : ℕ) → n < 10 → take 1 (drop n SINGLE_DIGITS.now) ≡ decimal n }
+    ensures zeros { (n : ℕ) → n < 100
+        → take 2 (drop (2 * n) ZERO_PADDED_PAIRS.now) ≡ zero_padded 2 n }
+    ensures spaces { (n : ℕ) → n < 100
+        → take 2 (drop (2 * n) SPACE_PADDED_PAIRS.now) ≡ space_padded 2 n }
 {}

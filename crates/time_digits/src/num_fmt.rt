@@ -1,27 +1,30 @@
 //! The texts of numbers, borrowed from constant tables or written into arrays.
 //!
-//! A text in several pieces is read by joining them, the first piece first.
+//! A text in several pieces is read by joining them, the first piece first. The bounds of a number
+//! stand in its type; no call here tests them again.
 ghost use Rattle.std.specs.Prelude.{◌≡◌, ◌+◌, ◌-◌, ◌/◌, ◌%◌, ◌≤◌, [], ◌∷◌, ◌++◌, length, take, drop, min, decimal};
 ghost use Rattle.std.specs.Int.{w64, to_le_bytes};
 ghost use Rattle.std.specs.Str.Parse.{AllDigits};
-ghost use Rattle.time_digits.specs.Digits.{fixed, zero_padded, space_padded, joined, piece_lengths};
+ghost use Rattle.time_digits.specs.Digits.{fixed, zero_padded, space_padded};
 ghost use Rattle.time_digits.specs.Fraction.{trimmed_fraction, last_zeros};
+ghost use Rattle.time_digits.specs.Pieces.{joined, piece_lengths};
 ghost use Rattle.time_digits.specs.Shown.{shown, shown_end};
 
 use crate::ranged::{ru8, ru16, ru32};
 use crate::stack_str::{StackStr, StackTrailingStr};
 use crate::tables::{SINGLE_DIGITS, SPACE_PADDED_PAIRS, ZERO_PADDED_PAIRS, piece_of};
 
-/// The factor by which `div_100` multiplies, a little more than 2 ^ 19 / 100.
+/// The factor by which `div_100` multiplies: the least whole number above 2 ^ 19 / 100.
 pub const DIV_100_FACTOR: u32 = 5243;
 
-/// How many bits `div_100` then shifts the product right.
+/// The number of bits by which `div_100` then shifts the product right.
 pub const DIV_100_SHIFT: u32 = 19;
 
 // The word whose eight bytes are the digit 0.
 const EIGHT_ZEROS: u64 = 0x3030_3030_3030_3030;
 
-/// Writes `value` in two places, with a zero where it is below 10, from the byte `offset` on.
+/// Writes `value` in two places, with a zero in front where it is below 10, to the bytes `offset`
+/// and `offset + 1`.
 #[inline]
 #[tactic(auto, using(crate::proofs::WriteLemmas::written))]
 pub fn write_two_digits(buf: &mut [u8], offset: usize, value: ru8<0, 99>)
@@ -43,7 +46,7 @@ pub fn write_one_digit(buf: &mut [u8], offset: usize, value: ru8<0, 9>)
     buf[offset] = single_digit(value).as_bytes()[0];
 }
 
-/// The quotient and the remainder of `n` by 100.
+/// The quotient and the remainder of `n` by 100, in this order, by one multiplication and a shift.
 #[inline]
 #[tactic(auto, using(crate::proofs::DivisionLemmas::quotient_by_5243))]
 pub fn div_100(n: ru16<0, 9_999>) -> [ru8<0, 99>; 2]
@@ -55,7 +58,7 @@ pub fn div_100(n: ru16<0, 9_999>) -> [ru8<0, 99>; 2]
     [ru8::within(high as u8), ru8::within(low as u8)]
 }
 
-/// The digit `n`.
+/// The text of the digit `n`, one byte.
 #[inline]
 #[tactic(auto, using(crate::proofs::TableLemmas::table_facts))]
 pub fn single_digit(n: ru8<0, 9>) -> &'static str
@@ -65,7 +68,7 @@ pub fn single_digit(n: ru8<0, 9>) -> &'static str
     piece_of(SINGLE_DIGITS, n.get() as usize, 1)
 }
 
-/// The one or two digits of `n`.
+/// The one or two digits of `n`, with no padding.
 #[inline]
 #[tactic(auto, using(crate::proofs::TableLemmas::table_facts))]
 pub fn one_to_two_digits_no_padding(n: ru8<0, 99>) -> &'static str
@@ -101,7 +104,8 @@ pub fn two_digits_space_padded(n: ru8<0, 99>) -> &'static str
     piece_of(SPACE_PADDED_PAIRS, 2 * n.get() as usize, 2)
 }
 
-/// The one to three digits of `n`; the second piece holds the last two of them.
+/// The one to three digits of `n`, with no padding; the second piece holds the last two of them, or
+/// the only one.
 #[inline]
 #[tactic(auto, using(crate::proofs::PieceLemmas::three_places))]
 pub fn one_to_three_digits_no_padding(n: ru16<0, 999>) -> [&'static str; 2]
@@ -119,7 +123,7 @@ pub fn one_to_three_digits_no_padding(n: ru16<0, 999>) -> [&'static str; 2]
     }
 }
 
-/// `n` in three places, with zeros in front.
+/// `n` in three places, with zeros in front; pieces of one and two bytes.
 #[inline]
 #[tactic(auto, using(crate::proofs::PieceLemmas::three_places))]
 pub fn three_digits_zero_padded(n: ru16<0, 999>) -> [&'static str; 2]
@@ -134,7 +138,7 @@ pub fn three_digits_zero_padded(n: ru16<0, 999>) -> [&'static str; 2]
     ]
 }
 
-/// `n` in three places, with spaces in front.
+/// `n` in three places, with spaces in front; pieces of one and two bytes.
 #[inline]
 #[tactic(auto, using(crate::proofs::PieceLemmas::three_places))]
 pub fn three_digits_space_padded(n: ru16<0, 999>) -> [&'static str; 2]
@@ -149,7 +153,8 @@ pub fn three_digits_space_padded(n: ru16<0, 999>) -> [&'static str; 2]
     }
 }
 
-/// The one to four digits of `n`; the second piece holds the last two of them.
+/// The one to four digits of `n`, with no padding; the second piece holds the last two of them, or
+/// the only one.
 #[inline]
 #[tactic(auto, using(crate::proofs::PieceLemmas::four_places))]
 pub fn one_to_four_digits_no_padding(n: ru16<0, 9_999>) -> [&'static str; 2]
@@ -164,7 +169,7 @@ pub fn one_to_four_digits_no_padding(n: ru16<0, 9_999>) -> [&'static str; 2]
     }
 }
 
-/// `n` in four places, with zeros in front.
+/// `n` in four places, with zeros in front; two pieces of two bytes.
 #[inline]
 #[tactic(auto, using(crate::proofs::PieceLemmas::four_places))]
 pub fn four_digits_zero_padded(n: ru16<0, 9_999>) -> [&'static str; 2]
@@ -176,7 +181,7 @@ pub fn four_digits_zero_padded(n: ru16<0, 9_999>) -> [&'static str; 2]
     [two_digits_zero_padded(high), two_digits_zero_padded(low)]
 }
 
-/// `n` in four places, with spaces in front.
+/// `n` in four places, with spaces in front; two pieces of two bytes.
 #[inline]
 #[tactic(auto, using(crate::proofs::PieceLemmas::four_places))]
 pub fn four_digits_space_padded(n: ru16<0, 9_999>) -> [&'static str; 2]
@@ -212,7 +217,7 @@ pub fn four_to_six_digits(n: ru32<0, 999_999>) -> [&'static str; 3]
     }
 }
 
-/// `n` in five places, with zeros in front.
+/// `n` in five places, with zeros in front; pieces of one, two and two bytes.
 #[inline]
 #[tactic(auto, using(crate::proofs::PieceLemmas::six_places))]
 pub fn five_digits_zero_padded(n: ru32<0, 99_999>) -> [&'static str; 3]
@@ -226,7 +231,7 @@ pub fn five_digits_zero_padded(n: ru32<0, 99_999>) -> [&'static str; 3]
     [single_digit(first), second, third]
 }
 
-/// `n` in six places, with zeros in front.
+/// `n` in six places, with zeros in front; three pieces of two bytes.
 #[inline]
 #[tactic(auto, using(crate::proofs::PieceLemmas::six_places))]
 pub fn six_digits_zero_padded(n: ru32<0, 999_999>) -> [&'static str; 3]
@@ -240,7 +245,8 @@ pub fn six_digits_zero_padded(n: ru32<0, 999_999>) -> [&'static str; 3]
     [two_digits_zero_padded(first), second, third]
 }
 
-/// The nine digits of a number of nanoseconds, to stand behind a decimal sign.
+/// The nine digits of `n` nanoseconds, as the decimals of a second; a piece of one byte and four of
+/// two.
 #[inline]
 #[tactic(auto, using(crate::proofs::PieceLemmas::six_places))]
 pub fn subsecond_from_nanos(n: ru32<0, 999_999_999>) -> [&'static str; 5]
@@ -254,7 +260,7 @@ pub fn subsecond_from_nanos(n: ru32<0, 999_999_999>) -> [&'static str; 5]
     [first, second, third, fourth, fifth]
 }
 
-// The last four digits of a number.
+// The last four digits of a number, in two pieces.
 #[inline]
 #[tactic(auto, using(crate::proofs::PieceLemmas::six_places))]
 fn last_four_digits(number: u32) -> [&'static str; 2]
@@ -264,8 +270,8 @@ fn last_four_digits(number: u32) -> [&'static str; 2]
     four_digits_zero_padded(ru16::within((number % 10_000) as u16))
 }
 
-/// How many of the eight digits of `word`, its bytes in little-endian order, are zeros at their
-/// end; from 0 to 8.
+/// How many zeros end the eight digits that the bytes of `word` are in little-endian order, from 0
+/// to 8.
 #[inline]
 #[tactic(auto, using(crate::proofs::WordLemmas::word_facts))]
 pub fn zeros_to_drop(word: u64) -> u32
@@ -276,7 +282,8 @@ pub fn zeros_to_drop(word: u64) -> u32
     (word ^ EIGHT_ZEROS).leading_zeros() / u8::BITS
 }
 
-/// The nine digits of a number of nanoseconds without the zeros at their end, at least one digit.
+/// The decimals of a second of `n` nanoseconds: its nine digits without the zeros at their end, at
+/// least one digit.
 #[inline]
 pub fn truncated_subsecond_from_nanos(n: ru32<0, 999_999_999>) -> StackStr<9>
     ensures text { shown result ≡ trimmed_fraction n }
@@ -286,7 +293,7 @@ pub fn truncated_subsecond_from_nanos(n: ru32<0, 999_999_999>) -> StackStr<9>
     let bytes = nine_digits(n);
     let last_eight = *bytes.last_chunk::<8>().unwrap();
     let dropped = zeros_to_drop(u64::from_le_bytes(last_eight));
-    StackStr::new(bytes, 9 - dropped as usize)
+    StackStr::new(bytes, bytes.len() - dropped as usize)
 }
 
 // The nine digits of a number of nanoseconds.
@@ -303,7 +310,7 @@ fn nine_digits(n: ru32<0, 999_999_999>) -> [u8; 9]
     bytes
 }
 
-/// The digits of `value`.
+/// The one to twenty digits of `value`, with no padding.
 #[inline]
 pub fn u64_pad_none(value: u64) -> StackTrailingStr<20>
     ensures text { shown_end result ≡ decimal value }
@@ -311,7 +318,7 @@ pub fn u64_pad_none(value: u64) -> StackTrailingStr<20>
     ensures most { length (shown_end result) ≤ 20 }
 {
     let mut bytes = [b'0'; 20];
-    let mut start = 20;
+    let mut start = bytes.len();
     let mut rest = value;
     while rest > 999 {
         start -= 4;

@@ -3,7 +3,7 @@ ghost use Rattle.std.specs.Prelude.{◌≡◌, ℕ, ◌≤◌, SomeIff};
 
 use std::marker::Model;
 
-/// An `u8` from `MIN` to `MAX`, both included.
+/// A `u8` from `MIN` to `MAX`, both included.
 #[derive(Debug, Clone, Copy, PartialEq, Eq)]
 pub struct ru8<const MIN: u8, const MAX: u8> {
     number: u8,

@@ -1,7 +1,7 @@
 use Rattle.std.proofs.Common.{◌≡◌, ℕ, ◌≤◌, ◌/◌, ◌∙◌, subst, ap, length, drop, decimal, refl, arith, IsAscii}
 use Rattle.std.proofs.lemmas.Fmt.{IsAscii-decimal, decimal_nonempty}
 use Rattle.std.proofs.lemmas.Grind.{common_steps}
-use Rattle.time_digits.proofs.WriteLemmas.{IsPending, nothing_written, places_left, more_written, last_place, all_written, none_left}
+use Rattle.time_digits.proofs.TurnLemmas.{IsPending, nothing_written, places_left, more_written, last_place, all_written, none_left}
 use Rattle.time_digits.proofs.num_fmt.u64_pad_none.Goals as goal
 use Rattle.time_digits.proofs.num_fmt.u64_pad_none.Goals.{Joined-rest-gt9, Joined-rest-ne0, then-rest-gt9, else-rest-gt9, then-rest-ne0, else-rest-ne0+else-value-eq0}
 

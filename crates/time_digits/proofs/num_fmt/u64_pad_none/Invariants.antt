@@ -1,4 +1,4 @@
-use Rattle.time_digits.proofs.WriteLemmas.{IsPending}
+use Rattle.time_digits.proofs.TurnLemmas.{IsPending}
 use Rattle.time_digits.proofs.num_fmt.u64_pad_none.Given as goal
 
 abbrev pub invariant-loop-rest : goal.invariant-loop-rest
