@@ -1,6 +1,6 @@
 -- What a line asks for.
 use Rattle.std.specs.Prelude.{ℕ, Option, Some, None, Result, Ok, Err, List, [], ◌∷◌, codes}
-use Rattle.time_below.specs.Facts.{facts_of_time}
+use Rattle.time_below.specs.Facts.{facts_of_time, facts_of_offset_date_time}
 use Rattle.time_below.specs.Tree.{Tree, trees, text_literal, of_component, all_of}
 use Rattle.time_below.specs.Width.{tree_width}
 use Rattle.time_below.specs.declared.format_description.component.Component.TheVariants as component
@@ -8,11 +8,16 @@ use Rattle.time_below.specs.declared.format_description.modifier.Padding.TheVari
 use Rattle.time_below.specs.declared.format_description.modifier.SubsecondDigits.TheVariants.{OneOrMore}
 use Rattle.time_fmt.specs.Description.{tree_outcome}
 use Rattle.time_fmt.specs.Outcome.{Outcome}
+use Rattle.time_known.specs.Config.{default_choices}
+use Rattle.time_known.specs.Iso8601.{iso8601_outcome}
+use Rattle.time_known.specs.Iso8601Width.{iso8601_width}
+use Rattle.time_known.specs.Rfc2822.{rfc2822_outcome, rfc2822_width}
+use Rattle.time_known.specs.Rfc3339.{rfc3339_outcome, rfc3339_width}
 use Rattle.time_show.specs.declared.command.Command.{Command}
-use Rattle.time_show.specs.declared.command.Command.TheVariants.{Time}
+use Rattle.time_show.specs.declared.command.Command.TheVariants.{Time, Rfc3339, Rfc2822, Iso}
 use Rattle.time_show.specs.declared.value.Part.{Part}
 use Rattle.time_show.specs.Command.{command_of}
-use Rattle.time_show.specs.Value.{time_value}
+use Rattle.time_show.specs.Value.{time_value, date_time_value}
 
 -- no command; a value that there is not, since this part is out of its range; or the outcome of a value by a
 -- description of this width
@@ -39,6 +44,13 @@ abbrev pub asked_by : Option Command → Asked
 asked_by None = no_command
 asked_by (Some (Time numbers)) =
     asked_value (tree_width time_tree) (λ time. tree_outcome time_tree (facts_of_time time)) (time_value numbers)
+asked_by (Some (Rfc3339 numbers)) =
+    asked_value rfc3339_width (λ value. rfc3339_outcome (facts_of_offset_date_time value)) (date_time_value numbers)
+asked_by (Some (Rfc2822 numbers)) =
+    asked_value rfc2822_width (λ value. rfc2822_outcome (facts_of_offset_date_time value)) (date_time_value numbers)
+asked_by (Some (Iso numbers)) =
+    asked_value (iso8601_width default_choices) (λ value. iso8601_outcome default_choices (facts_of_offset_date_time value))
+    (date_time_value numbers)
 
 -- what a line asks for
 abbrev pub asked_of : List ℕ → Asked

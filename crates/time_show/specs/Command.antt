@@ -1,7 +1,7 @@
 -- The commands, each a name and its numbers.
 use Rattle.std.specs.Prelude.{ℕ, ℤ, Option, Some, None, List, [], ◌∷◌, codes, bytes_eq, option_map, option_and_then, if◌then◌else◌}
 use Rattle.time_show.specs.declared.command.Command.{Command}
-use Rattle.time_show.specs.declared.command.Command.TheVariants.{Time}
+use Rattle.time_show.specs.declared.command.Command.TheVariants.{Time, Rfc3339, Rfc2822, Iso}
 use Rattle.time_show.specs.declared.value.DateTimeNumbers.{DateTimeNumbers}
 use Rattle.time_show.specs.declared.value.TimeNumbers.{TimeNumbers}
 use Rattle.time_show.specs.Fields.{fields_of, numbers_of}
@@ -28,7 +28,10 @@ abbrev pub command_of_fields : List (List ℕ) → Option Command
 command_of_fields [] = None
 command_of_fields (name ∷ fields) =
     if bytes_eq name (codes "time") then option_map Time (time_numbers (numbers_of fields))
-    else None
+    else (if bytes_eq name (codes "rfc3339") then option_map Rfc3339 (date_time_numbers (numbers_of fields))
+    else (if bytes_eq name (codes "rfc2822") then option_map Rfc2822 (date_time_numbers (numbers_of fields))
+    else (if bytes_eq name (codes "iso") then option_map Iso (date_time_numbers (numbers_of fields))
+    else None)))
 
 -- what a line asks for, if it is a command and not too long
 abbrev pub command_of : List ℕ → Option Command

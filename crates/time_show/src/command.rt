@@ -13,6 +13,12 @@ use crate::value::{DateNumbers, DateTimeNumbers, OffsetNumbers, TimeNumbers};
 pub enum Command {
     /// A time of day, by the description of the command `time`.
     Time(TimeNumbers),
+    /// A local date and time with its offset, by RFC 3339.
+    Rfc3339(DateTimeNumbers),
+    /// The same by RFC 2822.
+    Rfc2822(DateTimeNumbers),
+    /// The same by the default configuration of ISO 8601.
+    Iso(DateTimeNumbers),
 }
 
 /// The command that a line is, and nothing for a line that is none.
@@ -23,6 +29,9 @@ pub fn command_in(line: &[u8]) -> Option<Command>
     let mut fields = Fields::new(line);
     match fields.next()? {
         b"time" => time_numbers(fields).map(Command::Time),
+        b"rfc3339" => date_time_numbers(fields).map(Command::Rfc3339),
+        b"rfc2822" => date_time_numbers(fields).map(Command::Rfc2822),
+        b"iso" => date_time_numbers(fields).map(Command::Iso),
         _ => None,
     }
 }

@@ -7,7 +7,7 @@ ghost use Rattle.time_show.specs.Reply.{reply_text, error_name};
 
 use crate::command::{Command, command_in};
 use crate::line_buffer::LINE_LIMIT;
-use crate::value::{Part, TimeNumbers, time_value};
+use crate::value::{Part, TimeNumbers, date_time_value, time_value};
 use std::alloc::Global;
 use std::default::Default;
 use time_below::format_description::modifier::{
@@ -15,6 +15,7 @@ use time_below::format_description::modifier::{
 };
 use time_below::format_description::{BorrowedFormatItem, Component};
 use time_fmt::{Format, Formattable};
+use time_known::{Iso8601, Rfc2822, Rfc3339};
 use time_provide::ComponentProvider;
 
 /// The answer to a line.
@@ -141,5 +142,10 @@ pub fn reply_to(alloc: Global, line: &[u8]) -> Reply
     match command_in(line) {
         None => Reply::BadLine,
         Some(Command::Time(numbers)) => time_reply(alloc, numbers),
+        Some(Command::Rfc3339(numbers)) => value_reply(alloc, &Rfc3339, date_time_value(numbers)),
+        Some(Command::Rfc2822(numbers)) => value_reply(alloc, &Rfc2822, date_time_value(numbers)),
+        Some(Command::Iso(numbers)) => {
+            value_reply(alloc, &Iso8601::default(), date_time_value(numbers))
+        }
     }
 }

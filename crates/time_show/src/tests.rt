@@ -10,14 +10,21 @@ use std::io::{ErrorKind, Read, Write};
 use std::test::Fail;
 
 /// The stored run.
-const INPUT: &[u8] = b"time 9 55 6 120000000\ntime 0 0 0 0\ntime 24 0 0 0\ntime 1 2";
+const INPUT: &[u8] = b"time 9 55 6 120000000\ntime 0 0 0 0\ntime 24 0 0 0\ntime 1 2\n\
+rfc3339 1997 11 12 9 55 6 0 -6 0 0\nrfc2822 1997 11 12 9 55 6 0 -6 0 0\n\
+rfc2822 1899 12 31 0 0 0 0 0 0 0\niso 1997 11 12 9 55 6 0 -6 0 0\niso 2000 1 1 0 0 0 0 1 0 1";
 
 /// Its answers, one after another.
-const ANSWERS: [&[u8]; 4] = [
+const ANSWERS: [&[u8]; 9] = [
     b"ok 11 18 09:55:06.12\n",
     b"ok 10 18 00:00:00.0\n",
     b"refused 0 hour\n",
     b"bad line\n",
+    b"ok 25 35 1997-11-12T09:55:06-06:00\n",
+    b"ok 31 31 Wed, 12 Nov 1997 09:55:06 -0600\n",
+    b"refused 0 year\n",
+    b"ok 35 35 1997-11-12T09:55:06.000000000-06:00\n",
+    b"refused 29 offset_second\n",
 ];
 
 /// Gives at most `step` bytes at a call, and fails once `calls` have been made.

@@ -9,7 +9,7 @@ use std::alloc::Global;
 use std::test::Fail;
 
 /// A line and its answer.
-const LINES: [(&[u8], &[u8]); 22] = [
+const LINES: [(&[u8], &[u8]); 36] = [
     (b"time 9 55 6 999999999\n", b"ok 18 18 09:55:06.999999999\n"),
     (b"time -0 0 0 0\n", b"ok 10 18 00:00:00.0\n"),
     (b"time 23 59 59 1\n", b"ok 18 18 23:59:59.000000001\n"),
@@ -31,6 +31,32 @@ const LINES: [(&[u8], &[u8]); 22] = [
     (b"time 9 55 6 -\n", b"bad line\n"),
     (b"time 9 55 6 0 0\n", b"bad line\n"),
     (b"\xff\n", b"bad line\n"),
+    (b"rfc3339 1000000 13 1 0 0 0 0 0 0 0\n", b"refused 0 year\n"),
+    (b"rfc3339 2000 13 32 0 0 0 0 0 0 0\n", b"refused 0 month\n"),
+    (b"rfc3339 2000 257 1 0 0 0 0 0 0 0\n", b"refused 0 month\n"),
+    (b"rfc3339 2000 2 30 24 0 0 0 0 0 0\n", b"refused 0 day\n"),
+    (b"rfc2822 2000 1 -1 24 0 0 0 0 0 0\n", b"refused 0 day\n"),
+    (b"iso 2000 1 1 256 60 0 0 0 0 0\n", b"refused 0 hour\n"),
+    (
+        b"iso 2000 1 1 0 0 999999999 0 0 0 0\n",
+        b"refused 0 second\n",
+    ),
+    (b"rfc3339 2000 1 1 0 0 0 0 26 0 0\n", b"refused 0 hours\n"),
+    (
+        b"rfc3339 2000 1 1 0 0 0 0 24 0 0\n",
+        b"refused 0 offset_hour\n",
+    ),
+    (
+        b"rfc3339 2000 1 1 0 0 0 0 1 -30 0\n",
+        b"ok 25 35 2000-01-01T00:00:00+01:30\n",
+    ),
+    (
+        b"rfc2822 1900 1 1 0 0 0 0 25 59 0\n",
+        b"ok 31 31 Mon, 01 Jan 1900 00:00:00 +2559\n",
+    ),
+    (b"iso 70000 1 1 0 0 0 0 0 0 0\n", b"refused 0 year\n"),
+    (b"rfc3339 2000 1 1 0 0 0 0 0 0\n", b"bad line\n"),
+    (b"iso 2000 1 1 0 0 0 0 0 0 0 0\n", b"bad line\n"),
     (b"time", b"bad line\n"),
 ];
 

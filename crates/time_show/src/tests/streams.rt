@@ -9,13 +9,16 @@ fn answers_all_lines(rt: HostRuntime) -> Result<(), Fail> {
         let mut source = Source {
             bytes: INPUT,
             step,
-            calls: 100,
+            calls: 1000,
         };
-        let mut sink = Sink::new(rt.alloc(), step, 100);
+        let mut sink = Sink::new(rt.alloc(), step, 1000);
         let outcome = run(rt.alloc(), &mut source, &mut sink);
         assert_eq!(rt; outcome, Ok(()), "at {step}");
         assert_eq!(rt; status(&outcome), 0);
-        assert_eq!(rt; sink.bytes.as_slice(), answers(rt.alloc(), 4)?.as_slice());
+        assert_eq!(rt;
+            sink.bytes.as_slice(),
+            answers(rt.alloc(), ANSWERS.len())?.as_slice()
+        );
     }
     Ok(())
 }
@@ -47,8 +50,11 @@ fn writes_before_each_read(rt: HostRuntime) -> Result<(), Fail> {
 
 #[test]
 fn fails_at_each_read(rt: HostRuntime) -> Result<(), Fail> {
-    // Each read gives ten bytes; the seventh sees the end.
-    for (calls, count) in [(0, 0), (1, 0), (2, 0), (3, 1), (4, 2), (5, 3), (6, 3)] {
+    // Each read gives ten bytes, and an answer is due once the end of its line was read.
+    let reads = INPUT.len().div_ceil(10);
+    for calls in 0..=reads {
+        let read = &INPUT[..INPUT.len().min(10 * calls)];
+        let count = read.iter().filter(|byte| **byte == b'\n').count();
         let mut source = Source {
             bytes: INPUT,
             step: 10,
@@ -69,7 +75,7 @@ fn fails_at_each_read(rt: HostRuntime) -> Result<(), Fail> {
 
 #[test]
 fn fails_at_each_write(rt: HostRuntime) -> Result<(), Fail> {
-    let all = answers(rt.alloc(), 4)?;
+    let all = answers(rt.alloc(), ANSWERS.len())?;
     for calls in 0..all.len() {
         for takes_none in [false, true] {
             let mut source = INPUT;
