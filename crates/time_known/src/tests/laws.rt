@@ -1,9 +1,11 @@
 //! Each law is called.
+use crate::Iso8601;
 use crate::iso8601::Config;
 use crate::laws::{
-    config_changes, iso8601_canonical, iso8601_equal_texts, iso8601_one_value,
-    iso8601_within_width, rfc2822_canonical, rfc2822_equal_texts, rfc2822_one_value,
-    rfc3339_canonical, rfc3339_equal_texts, rfc3339_one_value, rfcs_within_width, stamp_order,
+    config_changes, config_equality, iso8601_canonical, iso8601_equal_texts, iso8601_equality,
+    iso8601_one_value, iso8601_within_width, rfc2822_canonical, rfc2822_equal_texts,
+    rfc2822_one_value, rfc3339_canonical, rfc3339_equal_texts, rfc3339_one_value,
+    rfcs_within_width, stamp_order,
 };
 use std::default::Default;
 
@@ -22,6 +24,8 @@ fn laws_of_rfc_3339_and_rfc_2822(_rt: HostRuntime) {
 fn laws_of_iso_8601(_rt: HostRuntime) {
     let config = Config::default();
     config_changes();
+    config_equality(config, config);
+    iso8601_equality(Iso8601::default(), Iso8601::date());
     iso8601_one_value(config);
     iso8601_canonical(config);
     iso8601_equal_texts(config);
