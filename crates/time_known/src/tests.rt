@@ -1,4 +1,5 @@
 //! Texts, counts and refusals of worked rows.
+mod front_page;
 mod iso8601;
 mod laws;
 mod rfcs;
