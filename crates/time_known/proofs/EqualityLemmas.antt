@@ -1,5 +1,5 @@
 -- Configurations of ISO 8601 are equal exactly if all their fields are.
-use Rattle.std.proofs.Common.{◌≡◌, ℕ, Bool, true, false, refl, sym, ap, subst, Option, Some, None, rules}
+use Rattle.std.proofs.Common.{◌≡◌, ℕ, Bool, true, false, refl, ap, subst, Option, Some, None, rules}
 use Rattle.std.specs.Prelude.{◌&&◌}
 use mathlib.Core.Bool.{beq}
 use denote.Enum.Bare.{same_true, true_same, sameb}
