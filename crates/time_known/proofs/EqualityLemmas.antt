@@ -1,5 +1,5 @@
 -- Configurations of ISO 8601 are equal exactly if all their fields are.
-use Rattle.std.proofs.Common.{◌≡◌, ℕ, Bool, true, false, refl, sym, ap, subst, Option, Some, None, rules}
+use Rattle.std.proofs.Common.{◌≡◌, ℕ, Bool, true, false, refl, ap, subst, Option, Some, None, rules}
 use Rattle.std.specs.Prelude.{◌&&◌}
 use mathlib.Core.Bool.{beq}
 use denote.Enum.Bare.{same_true, true_same, sameb}
@@ -24,6 +24,7 @@ same_decimals None (Some e) h = cc
 same_decimals (Some d) None h = cc
 same_decimals (Some d) (Some e) h = let same : d ≡ e = search rules in ap Some same
 
+-- decimals are found equal to themselves
 equal_decimals : (d : Option ℕ) → of_time_precision.ghosts.eq (precision.Hour d) (precision.Hour d) ≡ true
 equal_decimals None = refl
 equal_decimals (Some d) = search rules
@@ -48,16 +49,19 @@ equal_precision (precision.Second d) = equal_decimals d
 
 -- ---- configurations
 
+-- a conjunction is true where both sides are
 both : (a b : Bool) → (a && b) ≡ true → (a ≡ true) × (b ≡ true)
 both true b h = (refl, h)
 both false b h = cc
 
+-- what is found equal is equal
 same_bit : (a b : Bool) → beq a b ≡ true → a ≡ b
 same_bit true true h = refl
 same_bit true false h = cc
 same_bit false true h = cc
 same_bit false false h = refl
 
+-- and each is found equal to itself
 equal_bit : (a : Bool) → beq a a ≡ true
 equal_bit true = refl
 equal_bit false = refl

@@ -22,6 +22,7 @@ unsupplied : {G : Type 0} (group : Option G) (outcome : G → Outcome) → is_so
 unsupplied None outcome h = refl
 unsupplied (Some g) outcome h = cc
 
+-- the same of each choice of parts, by itself
 lacking_of : (parts : FormattedComponents) (c : Choices) (f : Facts) → has_groups parts f ≡ false
     → iso8601_outcome_of parts c f ≡ refused insufficient
 lacking_of components.None c f h = refl
@@ -59,11 +60,13 @@ three_groups None y z A B C p q r = cc
 three_groups (Some g) None z A B C p q r = cc
 three_groups (Some g) (Some h) None A B C p q r = cc
 
+-- where a date and a time are needed and supplied, both are there
 date_time_bits : (a b c : Bool) → are_supplied (groups_of components.DateTime) a b c ≡ true → (a ≡ true) × (b ≡ true)
 date_time_bits true true c h = (refl, refl)
 date_time_bits true false c h = cc
 date_time_bits false b c h = cc
 
+-- where all three are needed and supplied, all are there
 all_bits : (a b c : Bool) → are_supplied (groups_of components.DateTimeOffset) a b c ≡ true
     → (a ≡ true) × (b ≡ true) × (c ≡ true)
 all_bits true true true h = (refl, refl, refl)

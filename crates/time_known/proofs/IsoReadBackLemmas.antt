@@ -42,6 +42,7 @@ joined_are_canonical c w =
 abbrev AreReal : Facts → Type 0
 AreReal f = IfSome f.date AreOfDate × IfSome f.time IsTimeOfDay × IfSome f.offset IsOffset
 
+-- where nothing is refused, the bytes spell the value whose groups they are
 iso8601_reads : (c : Choices) (f : Facts) (date time offset : Bool)
     → is_some f.date ≡ date → is_some f.time ≡ time → is_some f.offset ≡ offset
     → are_supplied (groups_of c.formatted_components) date time offset ≡ true

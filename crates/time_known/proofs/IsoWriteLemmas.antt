@@ -11,14 +11,17 @@ use Rattle.time_fmt.proofs.TextLemmas.{length-sign_text}
 
 -- ---- lengths
 
+-- a number below 1,000 in three places
 pub length-three_digits : (n : ℕ) → n < 1_000 → length (zero_padded 3 n) ≡ 3
 length-three_digits n h = length-padded 48 3 n (length-decimal-le 3 n (omega arith) (omega arith) (omega arith))
 
+-- a number below 1,000,000 in six places
 pub length-six_digits : (n : ℕ) → n < 1_000_000 → length (zero_padded 6 n) ≡ 6
 length-six_digits n h = length-padded 48 6 n (length-decimal-le 6 n (omega arith) (omega arith) (omega arith))
 
 -- ---- weekdays
 
+-- no weekday is more than six days after Monday
 days_in_week : (w : Weekday) → days_from_monday w ≤ 6
 days_in_week Monday = omega arith
 days_in_week Tuesday = omega arith
@@ -28,6 +31,7 @@ days_in_week Friday = omega arith
 days_in_week Saturday = omega arith
 days_in_week Sunday = omega arith
 
+-- a weekday from 1 on has one digit
 pub length-weekday : (w : Weekday) → length (decimal (days_from_monday w + 1)) ≡ 1
 length-weekday w = length-digit (days_from_monday w + 1) (omega (arith, days_in_week w))
 
@@ -35,6 +39,8 @@ length-weekday w = length-digit (days_from_monday w + 1) (omega (arith, days_in_
 pub weekday_digit : (w : Weekday) → zero_padded 1 (days_from_monday w + 1) ≡ decimal (days_from_monday w + 1)
 weekday_digit w = padded_whole 48 1 (days_from_monday w + 1) (omega (arith, length-weekday w))
 
+-- how long the parts of a date are, one after another
 pub ruleset date_lengths = (length-three_digits, length-six_digits, length-weekday, weekday_digit, length-sign_text, length-append, append_assoc)
 
+-- how long decimals are
 pub ruleset decimal_lengths = (length-fixed, length-append, append_assoc)

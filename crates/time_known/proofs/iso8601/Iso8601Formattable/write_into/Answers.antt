@@ -1,4 +1,4 @@
-use Rattle.std.proofs.Common.{◌≡◌, ap, sym, ◌∙◌}
+use Rattle.std.proofs.Common.{ap, sym, ◌∙◌}
 use Rattle.time_fmt.proofs.WriteLemmas.{appends_nothing}
 use Rattle.time_known.specs.declared.groups.Groups.{Groups}
 use Rattle.time_known.specs.Groups.{are_supplied}
