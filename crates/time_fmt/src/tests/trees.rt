@@ -171,14 +171,18 @@ fn a_text_of_more_than_64_bytes(rt: HostRuntime) {
 
 #[test]
 fn byte_literals_have_no_text_guarantee(rt: HostRuntime) {
-    let bytes = [BorrowedFormatItem::Literal(b"a")];
-    assert!(rt; !BorrowedItems(&bytes).compute_metadata().guaranteed_utf8);
+    let mixed = [
+        BorrowedFormatItem::StringLiteral("a"),
+        BorrowedFormatItem::Literal(b"a"),
+    ];
+    assert!(rt; !BorrowedItems(&mixed).compute_metadata().guaranteed_utf8);
     let text = [
         BorrowedFormatItem::StringLiteral("a"),
-        BorrowedFormatItem::First(&[]),
         BorrowedFormatItem::Component(DAY),
     ];
     assert!(rt; BorrowedItems(&text).compute_metadata().guaranteed_utf8);
+    let bytes = BorrowedFormatItem::Literal(b"a");
+    assert!(rt; !bytes.compute_metadata().guaranteed_utf8);
 }
 
 #[test]
