@@ -4,6 +4,7 @@ ghost use Rattle.std.specs.Prelude.{◌≡◌, ◌≤◌, vec_capacity};
 use crate::iso8601::{Config, DateKind, TimePrecision};
 use crate::tests::moment;
 use crate::{Iso8601, Rfc3339};
+use std::alloc::{AllocError, Global};
 use std::default::Default;
 use std::test::Fail;
 use time_below::format_description::modifier::{Day, MonthNumerical, Padding};
@@ -13,16 +14,15 @@ use time_digits::ru8;
 use time_fmt::{Format, Formattable};
 use time_provide::DateState;
 
-/// Appends a date such as `22/11`.
-fn append_day_and_month(line: &mut Vec<u8>, date: &Date) -> Result<usize, Format> {
+/// The description of a date such as `22/11`.
+fn day_and_month(alloc: Global) -> Result<FormatDescriptionV3<'static>, AllocError> {
     let padding = Padding::Zero;
-    let items = [
+    let items = vec![in alloc;
         FormatDescriptionV3Inner::Day(Day { padding }),
         FormatDescriptionV3Inner::BorrowedLiteral("/"),
         FormatDescriptionV3Inner::MonthNumerical(MonthNumerical { padding }),
-    ];
-    let description = FormatDescriptionV3::new(FormatDescriptionV3Inner::BorrowedCompound(&items));
-    description.format_into(line, date, &mut DateState::default())
+    ]?;
+    Ok(FormatDescriptionV3::new(FormatDescriptionV3Inner::OwnedCompound(items)))
 }
 
 /// Makes the line of a moment, in a vector that is kept for all lines: 35 bytes, and a line feed.
@@ -66,7 +66,7 @@ fn noon(year: i32, month: Month, day: u8) -> Option<OffsetDateTime> {
 }
 
 #[test]
-fn stamps_of_a_sunday(rt: HostRuntime) {
+fn stamps_of_a_sunday(rt: HostRuntime) -> Result<(), Fail> {
     let value = moment(
         &rt,
         (2026, Month::November, 22),
@@ -80,8 +80,11 @@ fn stamps_of_a_sunday(rt: HostRuntime) {
     assert!(rt; matches!(append_week_stamp(&mut line, &value), Ok(24)));
     assert_eq!(rt; line.as_slice(), b"2026-W47-7T09:55:06.120Z".as_slice());
     line.clear();
-    assert!(rt; matches!(append_day_and_month(&mut line, &value.date()), Ok(5)));
+    let description = day_and_month(rt.alloc())?;
+    let written = description.format_into(&mut line, &value.date(), &mut DateState::default());
+    assert!(rt; matches!(&written, Ok(5)));
     assert_eq!(rt; line.as_slice(), b"22/11".as_slice());
+    Ok(())
 }
 
 #[test]
