@@ -8,7 +8,7 @@ use Rattle.std.proofs.lemmas.Str.Ascii.{IsAscii-nil}
 use Rattle.time_below.specs.Facts.{Facts, DateFacts}
 use Rattle.time_below.specs.Offset.{Offset, IsOffset, is_negative, is_utc}
 use Rattle.time_below.specs.TimeOfDay.{TimeOfDay, IsTimeOfDay}
-use Rattle.time_digits.specs.Digits.{fixed, zero_padded}
+use Rattle.time_digits.specs.Digits.{zero_padded}
 use Rattle.time_digits.specs.Fraction.{trimmed_fraction}
 use Rattle.time_digits.proofs.DigitLemmas.{IsAscii-fixed}
 use Rattle.time_digits.proofs.FractionLemmas.{IsAscii-trimmed_fraction}
@@ -33,9 +33,9 @@ use Rattle.time_known.specs.Groups.{are_supplied}
 use Rattle.time_known.specs.declared.iso8601.config.FormattedComponents.{FormattedComponents}
 use Rattle.time_known.specs.Iso8601.{iso8601_outcome, iso8601_outcome_of, iso_date, iso_time, iso_offset, iso_year, year_of_kind, text_after_year, units_text, decimal_part, nanoseconds_of_hour, nanoseconds_of_minute, iso_minutes}
 use Rattle.time_known.proofs.GroupLemmas.{all}
-use Rattle.time_known.specs.Rfc2822.{rfc2822_of_groups, rfc2822_text, date_text, named_date_text}
-use Rattle.time_known.specs.Rfc3339.{rfc3339_of_groups, rfc3339_text, full_date_text, time_secfrac_text, time_offset_text}
-use Rattle.time_known.specs.WellKnown.{refused_if, is_outside, of_all_groups, month_and_day_text, clock_text, offset_hours_text, offset_minutes_text, offset_text}
+use Rattle.time_known.specs.Rfc2822.{rfc2822_of_groups, rfc2822_text}
+use Rattle.time_known.specs.Rfc3339.{rfc3339_of_groups, rfc3339_text}
+use Rattle.time_known.specs.WellKnown.{refused_if, is_outside, of_all_groups, month_and_day_text, clock_text, offset_hours_text, offset_text}
 
 -- a text that is ASCII
 record Ascii (bytes : List ℕ) : Type 0 where
