@@ -142,8 +142,9 @@ fn a_refusal_ends_the_text_in_the_midst_of_a_tree(rt: HostRuntime) {
 }
 
 /// Compares the text of the literals, as it is read.
-fn assert_read(rt: &impl Abort, alloc: Global, item: &BorrowedFormatItem<'_>, text: &str) {
+fn assert_read(rt: &impl Abort, alloc: Global, items: &[BorrowedFormatItem<'_>], text: &str) {
     let value = wednesday(rt);
+    let item = BorrowedFormatItem::Compound(items);
     let Ok(formatted) = item.format(alloc, &value, &mut DateState::default()) else {
         panic!(rt; "refused: {text}");
     };
@@ -166,7 +167,8 @@ fn parts_of_a_letter_in_several_lists(rt: HostRuntime) {
         BorrowedFormatItem::Literal(b"\xa9"),
     ];
     let alloc = rt.alloc();
-    assert_read(&rt, alloc, &BorrowedFormatItem::Compound(&whole), "\u{20ac}");
-    assert_read(&rt, alloc, &BorrowedFormatItem::Compound(&torn), "\u{fffd}x\u{fffd}");
-    assert_read(&rt, alloc, &BorrowedFormatItem::Literal(b"\xe2\x82"), "\u{fffd}");
+    assert_read(&rt, alloc, &whole, "\u{20ac}");
+    assert_read(&rt, alloc, &torn, "\u{fffd}x\u{fffd}");
+    let unfinished = [BorrowedFormatItem::Literal(b"\xe2\x82")];
+    assert_read(&rt, alloc, &unfinished, "\u{fffd}");
 }
