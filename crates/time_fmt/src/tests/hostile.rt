@@ -152,7 +152,7 @@ fn assert_read(rt: &impl Abort, alloc: Global, items: &[BorrowedFormatItem<'_>],
 }
 
 #[test]
-fn parts_of_a_letter_in_several_lists(rt: HostRuntime) {
+fn a_letter_in_nested_lists(rt: HostRuntime) {
     let rest = [
         BorrowedFormatItem::Literal(b"\x82"),
         BorrowedFormatItem::Literal(b"\xac"),
@@ -161,14 +161,21 @@ fn parts_of_a_letter_in_several_lists(rt: HostRuntime) {
         BorrowedFormatItem::Literal(b"\xe2"),
         BorrowedFormatItem::Compound(&rest),
     ];
+    assert_read(&rt, rt.alloc(), &whole, "\u{20ac}");
+}
+
+#[test]
+fn parts_of_a_letter_that_is_torn(rt: HostRuntime) {
     let torn = [
         BorrowedFormatItem::Literal(b"\xc3"),
         BorrowedFormatItem::StringLiteral("x"),
         BorrowedFormatItem::Literal(b"\xa9"),
     ];
-    let alloc = rt.alloc();
-    assert_read(&rt, alloc, &whole, "\u{20ac}");
-    assert_read(&rt, alloc, &torn, "\u{fffd}x\u{fffd}");
+    assert_read(&rt, rt.alloc(), &torn, "\u{fffd}x\u{fffd}");
+}
+
+#[test]
+fn an_unfinished_letter(rt: HostRuntime) {
     let unfinished = [BorrowedFormatItem::Literal(b"\xe2\x82")];
-    assert_read(&rt, alloc, &unfinished, "\u{fffd}");
+    assert_read(&rt, rt.alloc(), &unfinished, "\u{fffd}");
 }
