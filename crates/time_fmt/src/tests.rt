@@ -1,10 +1,12 @@
 //! The texts, counts and widths of worked rows, and what happens where memory is refused.
 mod dates;
 mod errors;
+mod hostile;
 mod memory;
 mod moments;
 mod times;
 mod trees;
+mod widths;
 
 use crate::{ComponentProvider, ComputeMetadata, Format, Formattable};
 use std::alloc::Global;
