@@ -34,10 +34,11 @@ and_assoc true b c = refl
 and_assoc false b c = refl
 
 -- one more
-pub summed_more : {all_size left_size rest_size : ℕ} (all left rest : Trees) (t : Tree) (sum item new : Metadata)
+pub summed_more : {all_size left_size rest_size : ℕ} (all left rest : Trees) (t : Tree) (sum item added new : Metadata)
     → Summed sum all left all_size left_size → left ≡ more t rest → rest_size ≤ left_size
-    → item ≡ tree_metadata t → new ≡ of_both sum item → Summed new all rest all_size rest_size
-summed_more all left rest t sum item new along next smaller of_item is =
+    → item ≡ tree_metadata t → added ≡ of_both sum item → new ≡ added → Summed new all rest all_size rest_size
+summed_more all left rest t sum item added new along next smaller of_item of_sum is_sum =
+    let is : new ≡ of_both sum item = is_sum ∙ of_sum in
     let w : item.max_bytes_needed ≡ min (tree_width t) greatest_usize = ap (λ (m : Metadata). m.max_bytes_needed) of_item in
     let s : new.max_bytes_needed ≡ min (sum.max_bytes_needed + item.max_bytes_needed) greatest_usize = ap (λ (m : Metadata). m.max_bytes_needed) is in
     record {

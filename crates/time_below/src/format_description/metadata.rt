@@ -1,5 +1,5 @@
 //! What is known of a text before it is written.
-ghost use Rattle.std.specs.Prelude.{◌≡◌, fold, map};
+ghost use Rattle.std.specs.Prelude.{◌≡◌, fold, map, true, false, IfSome};
 ghost use Rattle.time_below.specs.Metadata.{tree_metadata, trees_metadata};
 ghost use Rattle.time_below.specs.Tree.{trees};
 
@@ -15,6 +15,30 @@ pub struct Metadata {
     pub max_bytes_needed: usize,
     /// Whether the text is sure to be UTF-8.
     pub guaranteed_utf8: bool,
+}
+
+impl Metadata {
+    // Of so many bytes, which need not be UTF-8.
+    #[inline(always)]
+    fn of_bytes(count: usize) -> Metadata
+        ensures { result ≡ record { max_bytes_needed = count; guaranteed_utf8 = false } }
+    {
+        Metadata {
+            max_bytes_needed: count,
+            guaranteed_utf8: false,
+        }
+    }
+
+    // Of a text of at most so many bytes.
+    #[inline(always)]
+    fn of_text(width: usize) -> Metadata
+        ensures { result ≡ record { max_bytes_needed = width; guaranteed_utf8 = true } }
+    {
+        Metadata {
+            max_bytes_needed: width,
+            guaranteed_utf8: true,
+        }
+    }
 }
 
 /// No bytes, which are a text.
@@ -69,29 +93,38 @@ pub fn metadata_of_nodes<T: Node>(nodes: &[T]) -> Metadata
 {
     let mut sum = Metadata::default();
     for node in nodes {
-        sum = sum + metadata_of_node(node);
+        match metadata_of_leaf(node) {
+            Some(metadata) => sum = sum + metadata,
+            None => sum = sum + metadata_of_node(node),
+        }
     }
     sum
 }
 
+// What is known of a literal or a component, and nothing of any other description. It becomes part of
+// the loop over a list, so that no item of these needs a call there.
+#[inline(always)]
+fn metadata_of_leaf<T: Node>(node: &T) -> Option<Metadata>
+    ensures { IfSome result (λ metadata. metadata ≡ tree_metadata (T.tree node.now)) }
+{
+    match node.layer() {
+        Layer::Bytes(bytes) => Some(Metadata::of_bytes(bytes.len())),
+        Layer::Text(text) => Some(Metadata::of_text(text.len())),
+        Layer::Component(component) => Some(Metadata::of_text(component_width(&component))),
+        _ => None,
+    }
+}
+
 /// What is known of the text of the description.
 #[cycle(metadata)]
+#[inline(never)]
 pub fn metadata_of_node<T: Node>(node: &T) -> Metadata
     ensures { result ≡ tree_metadata (T.tree node.now) }
 {
     match node.layer() {
-        Layer::Bytes(bytes) => Metadata {
-            max_bytes_needed: bytes.len(),
-            guaranteed_utf8: false,
-        },
-        Layer::Text(text) => Metadata {
-            max_bytes_needed: text.len(),
-            guaranteed_utf8: true,
-        },
-        Layer::Component(component) => Metadata {
-            max_bytes_needed: component_width(&component),
-            guaranteed_utf8: true,
-        },
+        Layer::Bytes(bytes) => Metadata::of_bytes(bytes.len()),
+        Layer::Text(text) => Metadata::of_text(text.len()),
+        Layer::Component(component) => Metadata::of_text(component_width(&component)),
         Layer::All(nodes) => metadata_of_nodes(nodes),
         Layer::First([node, ..]) | Layer::Optional(node) => metadata_of_node(node),
         Layer::First([]) | Layer::Nothing => Metadata::default(),
