@@ -28,7 +28,7 @@ pub fn fmt_hour_12(output: &mut Vec<u8>, hour: Hours, modifier: modifier::Hour12
 }
 
 /// Appends the hour, 0 to 23, in two places.
-#[inline]
+#[inline(always)]
 pub fn fmt_hour_24(output: &mut Vec<u8>, hour: Hours, modifier: modifier::Hour24) -> usize
     requires room { HasRoom output.old (length (padded_text modifier.padding 2 hour)) }
     ensures writes { Writes output.old output.new result (padded_text modifier.padding 2 hour) }
@@ -37,7 +37,7 @@ pub fn fmt_hour_24(output: &mut Vec<u8>, hour: Hours, modifier: modifier::Hour24
 }
 
 /// Appends the minute, 0 to 59, in two places.
-#[inline]
+#[inline(always)]
 pub fn fmt_minute(output: &mut Vec<u8>, minute: Minutes, modifier: modifier::Minute) -> usize
     requires room { HasRoom output.old (length (padded_text modifier.padding 2 minute)) }
     ensures writes { Writes output.old output.new result (padded_text modifier.padding 2 minute) }
@@ -62,7 +62,7 @@ pub fn fmt_period(output: &mut Vec<u8>, period: Period, modifier: modifier::Peri
 }
 
 /// Appends the second, 0 to 59, in two places.
-#[inline]
+#[inline(always)]
 pub fn fmt_second(output: &mut Vec<u8>, second: Seconds, modifier: modifier::Second) -> usize
     requires room { HasRoom output.old (length (padded_text modifier.padding 2 second)) }
     ensures writes { Writes output.old output.new result (padded_text modifier.padding 2 second) }

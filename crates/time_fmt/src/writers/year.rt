@@ -17,7 +17,7 @@ use time_provide::ranges::{ExtendedCentury, LastTwo, StandardCentury, StandardYe
 
 /// Appends the sign and four places of the year, -999,999 to 999,999, or all its digits and a sign
 /// from 10,000 on.
-#[inline]
+#[inline(always)]
 pub fn fmt_calendar_year_full_extended_range(
     output: &mut Vec<u8>,
     year: Year,
