@@ -1,7 +1,8 @@
 //! What is known of a text before it is written.
-ghost use Rattle.std.specs.Prelude.{◌≡◌, fold, map, true, false, IfSome};
+ghost use Rattle.std.specs.Prelude.{◌≡◌, ◌+◌, fold, map, min, true, IfSome};
 ghost use Rattle.time_below.specs.Metadata.{tree_metadata, trees_metadata};
 ghost use Rattle.time_below.specs.Tree.{trees};
+ghost use Rattle.time_below.specs.Width.{tree_width, is_guaranteed_text};
 
 use crate::format_description::{Layer, Node, component_width};
 use std::default::Default;
@@ -18,25 +19,15 @@ pub struct Metadata {
 }
 
 impl Metadata {
-    // Of so many bytes, which need not be UTF-8.
+    // What is known once a text of at most so many bytes comes after.
     #[inline(always)]
-    fn of_bytes(count: usize) -> Metadata
-        ensures { result ≡ record { max_bytes_needed = count; guaranteed_utf8 = false } }
+    fn with_text(self, width: usize) -> Metadata
+        ensures width { result.max_bytes_needed ≡ min (self.max_bytes_needed + width) usize.MAX }
+        ensures text { result.guaranteed_utf8 ≡ self.guaranteed_utf8 }
     {
         Metadata {
-            max_bytes_needed: count,
-            guaranteed_utf8: false,
-        }
-    }
-
-    // Of a text of at most so many bytes.
-    #[inline(always)]
-    fn of_text(width: usize) -> Metadata
-        ensures { result ≡ record { max_bytes_needed = width; guaranteed_utf8 = true } }
-    {
-        Metadata {
-            max_bytes_needed: width,
-            guaranteed_utf8: true,
+            max_bytes_needed: self.max_bytes_needed.saturating_add(width),
+            guaranteed_utf8: self.guaranteed_utf8,
         }
     }
 }
@@ -93,24 +84,24 @@ pub fn metadata_of_nodes<T: Node>(nodes: &[T]) -> Metadata
 {
     let mut sum = Metadata::default();
     for node in nodes {
-        match metadata_of_leaf(node) {
-            Some(metadata) => sum = sum + metadata,
+        match width_of_text(node) {
+            Some(width) => sum = sum.with_text(width),
             None => sum = sum + metadata_of_node(node),
         }
     }
     sum
 }
 
-// What is known of a literal or a component, and nothing of any other description. It becomes part of
+// The most bytes of a text or a component, and nothing of any other description. It becomes part of
 // the loop over a list, so that no item of these needs a call there.
 #[inline(always)]
-fn metadata_of_leaf<T: Node>(node: &T) -> Option<Metadata>
-    ensures { IfSome result (λ metadata. metadata ≡ tree_metadata (T.tree node.now)) }
+fn width_of_text<T: Node>(node: &T) -> Option<usize>
+    ensures width { IfSome result (λ width. width ≡ tree_width (T.tree node.now)) }
+    ensures text { IfSome result (λ _. is_guaranteed_text (T.tree node.now) ≡ true) }
 {
     match node.layer() {
-        Layer::Bytes(bytes) => Some(Metadata::of_bytes(bytes.len())),
-        Layer::Text(text) => Some(Metadata::of_text(text.len())),
-        Layer::Component(component) => Some(Metadata::of_text(component_width(&component))),
+        Layer::Text(text) => Some(text.len()),
+        Layer::Component(component) => Some(component_width(&component)),
         _ => None,
     }
 }
@@ -122,9 +113,18 @@ pub fn metadata_of_node<T: Node>(node: &T) -> Metadata
     ensures { result ≡ tree_metadata (T.tree node.now) }
 {
     match node.layer() {
-        Layer::Bytes(bytes) => Metadata::of_bytes(bytes.len()),
-        Layer::Text(text) => Metadata::of_text(text.len()),
-        Layer::Component(component) => Metadata::of_text(component_width(&component)),
+        Layer::Bytes(bytes) => Metadata {
+            max_bytes_needed: bytes.len(),
+            guaranteed_utf8: false,
+        },
+        Layer::Text(text) => Metadata {
+            max_bytes_needed: text.len(),
+            guaranteed_utf8: true,
+        },
+        Layer::Component(component) => Metadata {
+            max_bytes_needed: component_width(&component),
+            guaranteed_utf8: true,
+        },
         Layer::All(nodes) => metadata_of_nodes(nodes),
         Layer::First([node, ..]) | Layer::Optional(node) => metadata_of_node(node),
         Layer::First([]) | Layer::Nothing => Metadata::default(),
