@@ -5,7 +5,7 @@ use Rattle.std.proofs.lemmas.List.{at_drop_more}
 use Rattle.time_below.specs.Metadata.{greatest_usize, of_both, tree_metadata}
 use Rattle.time_below.specs.Size.{sizes}
 use Rattle.time_below.specs.Tree.{Tree, Trees, more, trees}
-use Rattle.time_below.specs.Width.{tree_width, trees_width, are_guaranteed_text}
+use Rattle.time_below.specs.Width.{tree_width, trees_width, is_guaranteed_text, are_guaranteed_text}
 use Rattle.time_below.specs.declared.format_description.metadata.Metadata.{Metadata}
 
 -- what is left of a list begins with the node at its index
@@ -34,10 +34,11 @@ and_assoc true b c = refl
 and_assoc false b c = refl
 
 -- one more
-pub summed_more : {all_size left_size rest_size : ℕ} (all left rest : Trees) (t : Tree) (sum item new : Metadata)
+pub summed_more : {all_size left_size rest_size : ℕ} (all left rest : Trees) (t : Tree) (sum item added new : Metadata)
     → Summed sum all left all_size left_size → left ≡ more t rest → rest_size ≤ left_size
-    → item ≡ tree_metadata t → new ≡ of_both sum item → Summed new all rest all_size rest_size
-summed_more all left rest t sum item new along next smaller of_item is =
+    → item ≡ tree_metadata t → added ≡ of_both sum item → new ≡ added → Summed new all rest all_size rest_size
+summed_more all left rest t sum item added new along next smaller of_item of_sum is_sum =
+    let is : new ≡ of_both sum item = is_sum ∙ of_sum in
     let w : item.max_bytes_needed ≡ min (tree_width t) greatest_usize = ap (λ (m : Metadata). m.max_bytes_needed) of_item in
     let s : new.max_bytes_needed ≡ min (sum.max_bytes_needed + item.max_bytes_needed) greatest_usize = ap (λ (m : Metadata). m.max_bytes_needed) is in
     record {
@@ -51,3 +52,19 @@ summed_more all left rest t sum item new along next smaller of_item is =
           ∙ sym (ap (λ ts. sum.guaranteed_utf8 && are_guaranteed_text ts) next)
           ∙ along.text;
     }
+
+-- one more that is a text of so many bytes
+pub summed_text : {all_size left_size rest_size : ℕ} (all left rest : Trees) (t : Tree) (sum added new : Metadata) (width : ℕ)
+    → Summed sum all left all_size left_size → left ≡ more t rest → rest_size ≤ left_size
+    → width ≡ tree_width t → is_guaranteed_text t ≡ true → added.max_bytes_needed ≡ min (sum.max_bytes_needed + width) greatest_usize
+    → added.guaranteed_utf8 ≡ sum.guaranteed_utf8 → new ≡ added → Summed new all rest all_size rest_size
+summed_text all left rest t sum added new width along next smaller of_text is_text of_sum same is_sum =
+    rw is_sum (record {
+      size = omega (arith, along.size, smaller);
+      fits = omega arith;
+      width = omega (arith, along.fits, along.width, ap trees_width next);
+      text =
+          ap (λ b. b && are_guaranteed_text rest) same
+          ∙ sym (ap (λ ts. sum.guaranteed_utf8 && are_guaranteed_text ts) next ∙ ap (λ b. sum.guaranteed_utf8 && (b && are_guaranteed_text rest)) is_text)
+          ∙ along.text;
+    })

@@ -22,7 +22,7 @@ use Rattle.time_below.specs.Group.{group_of}
 use Rattle.time_below.specs.Moment.{milliseconds}
 use Rattle.time_below.specs.Offset.{is_negative}
 use Rattle.time_below.specs.TimeOfDay.{period_of}
-use Rattle.time_below.specs.Tree.{Tree, Trees, more}
+use Rattle.time_below.specs.Tree.{Tree, Trees, of_component, more}
 use Rattle.time_below.specs.Width.{is_guaranteed_text, are_guaranteed_text}
 use Rattle.time_digits.specs.Digits.{fixed}
 use Rattle.time_digits.proofs.DigitLemmas.{IsAscii-fixed}
@@ -188,6 +188,12 @@ empty_utf8 = IsUtf8-from_ascii [] IsAscii-nil
 -- a component has a text
 pub text_of_component : (c : Component) (f : Facts) → IsRealPart (group_of (current_component c)) f → IsUtf8 (component_outcome c f).bytes
 text_of_component c f h = IsUtf8-from_ascii (component_outcome c f).bytes (ascii_current (current_component c) f h)
+
+-- so has one that was written
+pub text_of_written : (written : Option ℕ) (c : Component) (f : Facts) → IfSome written (λ _. IsRealPart (group_of (current_component c)) f)
+    → IfSome written (λ _. IsTextIf (is_guaranteed_text (of_component c)) (tree_outcome (of_component c) f))
+text_of_written None c f h = h
+text_of_written (Some n) c f h = λ _. text_of_component c f h
 
 -- a list has a text if its first tree has one, and so have the others
 pub text_more : (t : Tree) (ts : Trees) (f : Facts) → IsTextIf (is_guaranteed_text t) (tree_outcome t f) → IsTextIf (are_guaranteed_text ts) (trees_outcome ts f)

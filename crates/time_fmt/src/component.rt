@@ -1,6 +1,6 @@
 //! The engine for one component.
-ghost use Rattle.std.specs.Prelude.{◌≡◌, ◌+◌, ◌≤◌, IsTrue, IsUtf8, vec_len};
-ghost use Rattle.time_below.specs.Conversion.{is_current};
+ghost use Rattle.std.specs.Prelude.{◌≡◌, ◌+◌, ◌≤◌, IsTrue, IsUtf8, IfSome, MatchOption, vec_len};
+ghost use Rattle.time_below.specs.Conversion.{current_component, is_current};
 ghost use Rattle.time_below.specs.Group.{group_of};
 ghost use Rattle.time_below.specs.Width.{component_width};
 ghost use Rattle.time_fmt.specs.Description.{component_outcome, current_outcome};
@@ -28,6 +28,56 @@ use crate::writers::{
 };
 use time_below::format_description::Component;
 use time_provide::ComponentProvider;
+
+/// Appends the text of a component that is met often and never refused, where the value supplies its
+/// part, and answers the number of bytes. Of any other component it writes nothing, and answers nothing.
+#[inline(always)]
+#[tactic(auto, using(crate::proofs::TextLemmas::text_lengths, crate::proofs::DateTextLemmas::date_text_lengths, crate::proofs::DecimalLemmas::decimal_lengths))]
+pub(crate) fn write_common<V: ComponentProvider>(
+    component: Component,
+    output: &mut Vec<u8>,
+    value: &V,
+    state: &mut V::State,
+) -> Option<usize>
+    requires room { HasRoom output.old (component_width component) }
+    requires agrees { V.agrees state.old value.now }
+    ensures appends { MatchOption result (output.new ≡ output.old)
+        (λ count. Appends output.old output.new (Ok count)
+        (component_outcome component (V.facts value.now))) }
+    ensures within { vec_len output.new ≤ vec_len output.old + component_width component }
+    ensures real { IfSome result
+        (λ _. IsRealPart (group_of (current_component component)) (V.facts value.now)) }
+    ensures agrees { V.agrees state.new value.now }
+{
+    match component {
+        Component::Day(modifier) if V::SUPPLIES_DATE => {
+            Some(fmt_day(output, value.day(state), modifier))
+        }
+        Component::MonthNumerical(modifier) if V::SUPPLIES_DATE => {
+            Some(fmt_month_numerical(output, value.month(state), modifier))
+        }
+        Component::CalendarYearFullExtendedRange(modifier) if V::SUPPLIES_DATE => {
+            Some(fmt_calendar_year_full_extended_range(
+                output,
+                value.calendar_year(state),
+                modifier,
+            ))
+        }
+        Component::Hour24(modifier) if V::SUPPLIES_TIME => {
+            Some(fmt_hour_24(output, value.hour(state), modifier))
+        }
+        Component::Minute(modifier) if V::SUPPLIES_TIME => {
+            Some(fmt_minute(output, value.minute(state), modifier))
+        }
+        Component::Second(modifier) if V::SUPPLIES_TIME => {
+            Some(fmt_second(output, value.second(state), modifier))
+        }
+        Component::Subsecond(modifier) if V::SUPPLIES_TIME => {
+            Some(fmt_subsecond(output, value.nanosecond(state), modifier))
+        }
+        _ => None,
+    }
+}
 
 /// Appends the text of the component where there is room for its width. Takes no memory.
 ///

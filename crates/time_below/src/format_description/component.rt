@@ -187,6 +187,7 @@ impl Component {
 }
 
 /// The most bytes that the text of the component has, whatever the value.
+#[inline(always)]
 pub fn component_width(component: &Component) -> usize
     ensures { result ≡ component_width component.now }
 {

@@ -1,7 +1,8 @@
 //! What is known of a text before it is written.
-ghost use Rattle.std.specs.Prelude.{◌≡◌, fold, map};
+ghost use Rattle.std.specs.Prelude.{◌≡◌, ◌+◌, fold, map, min, true, IfSome};
 ghost use Rattle.time_below.specs.Metadata.{tree_metadata, trees_metadata};
 ghost use Rattle.time_below.specs.Tree.{trees};
+ghost use Rattle.time_below.specs.Width.{tree_width, is_guaranteed_text};
 
 use crate::format_description::{Layer, Node, component_width};
 use std::default::Default;
@@ -15,6 +16,20 @@ pub struct Metadata {
     pub max_bytes_needed: usize,
     /// Whether the text is sure to be UTF-8.
     pub guaranteed_utf8: bool,
+}
+
+impl Metadata {
+    // What is known once a text of at most so many bytes comes after.
+    #[inline(always)]
+    fn with_text(self, width: usize) -> Metadata
+        ensures width { result.max_bytes_needed ≡ min (self.max_bytes_needed + width) usize.MAX }
+        ensures text { result.guaranteed_utf8 ≡ self.guaranteed_utf8 }
+    {
+        Metadata {
+            max_bytes_needed: self.max_bytes_needed.saturating_add(width),
+            guaranteed_utf8: self.guaranteed_utf8,
+        }
+    }
 }
 
 /// No bytes, which are a text.
@@ -69,13 +84,31 @@ pub fn metadata_of_nodes<T: Node>(nodes: &[T]) -> Metadata
 {
     let mut sum = Metadata::default();
     for node in nodes {
-        sum = sum + metadata_of_node(node);
+        match width_of_text(node) {
+            Some(width) => sum = sum.with_text(width),
+            None => sum = sum + metadata_of_node(node),
+        }
     }
     sum
 }
 
+// The most bytes of a text or a component, and nothing of any other description. It becomes part of
+// the loop over a list, so that no item of these needs a call there.
+#[inline(always)]
+fn width_of_text<T: Node>(node: &T) -> Option<usize>
+    ensures width { IfSome result (λ width. width ≡ tree_width (T.tree node.now)) }
+    ensures text { IfSome result (λ _. is_guaranteed_text (T.tree node.now) ≡ true) }
+{
+    match node.layer() {
+        Layer::Text(text) => Some(text.len()),
+        Layer::Component(component) => Some(component_width(&component)),
+        _ => None,
+    }
+}
+
 /// What is known of the text of the description.
 #[cycle(metadata)]
+#[inline(never)]
 pub fn metadata_of_node<T: Node>(node: &T) -> Metadata
     ensures { result ≡ tree_metadata (T.tree node.now) }
 {

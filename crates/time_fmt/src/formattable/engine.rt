@@ -1,5 +1,5 @@
 //! The engine: one recursion for each kind of tree.
-ghost use Rattle.std.specs.Prelude.{◌+◌, ◌≤◌, map, vec_len};
+ghost use Rattle.std.specs.Prelude.{◌≡◌, ◌+◌, ◌≤◌, map, IfSome, MatchOption, vec_len};
 ghost use Rattle.time_below.specs.Tree.{trees};
 ghost use Rattle.time_below.specs.Width.{tree_width, trees_width, is_guaranteed_text, are_guaranteed_text};
 ghost use Rattle.time_fmt.specs.Description.{tree_outcome, trees_outcome};
@@ -7,7 +7,7 @@ ghost use Rattle.time_fmt.specs.Guarantee.{IsTextIf};
 ghost use Rattle.time_fmt.specs.Outcome.{Appends};
 ghost use Rattle.time_fmt.specs.Room.{HasRoom};
 
-use crate::component::component_write_into;
+use crate::component::{component_write_into, write_common};
 use crate::error::Format;
 use crate::writers::{write, write_bytes};
 use time_below::format_description::{Layer, Node};
@@ -33,18 +33,50 @@ pub(super) fn write_nodes<T: Node, V: ComponentProvider>(
 {
     let mut sum = 0usize;
     for node in nodes {
-        match write_node(node, output, value, state) {
-            Ok(count) => sum += count,
-            Err(refusal) => return Err(refusal),
+        match write_leaf(node, output, value, state) {
+            Some(count) => sum += count,
+            None => match write_node(node, output, value, state) {
+                Ok(count) => sum += count,
+                Err(refusal) => return Err(refusal),
+            },
         }
     }
     Ok(sum)
+}
+
+/// Writes a literal, or a component that is met often and never refused, and answers the number of
+/// bytes. Of any other node it writes nothing, and answers nothing. It becomes part of the loop over a
+/// list, which so holds no error on the way that most nodes take.
+#[inline(always)]
+fn write_leaf<T: Node, V: ComponentProvider>(
+    node: &T,
+    output: &mut Vec<u8>,
+    value: &V,
+    state: &mut V::State,
+) -> Option<usize>
+    requires room { HasRoom output.old (tree_width (T.tree node.now)) }
+    requires agrees { V.agrees state.old value.now }
+    ensures appends { MatchOption result (output.new ≡ output.old)
+        (λ count. Appends output.old output.new (Ok count)
+        (tree_outcome (T.tree node.now) (V.facts value.now))) }
+    ensures within { vec_len output.new ≤ vec_len output.old + tree_width (T.tree node.now) }
+    ensures text { IfSome result (λ _. IsTextIf (is_guaranteed_text (T.tree node.now))
+        (tree_outcome (T.tree node.now) (V.facts value.now))) }
+    ensures agrees { V.agrees state.new value.now }
+{
+    match node.layer() {
+        Layer::Bytes(bytes) => Some(write_bytes(output, bytes)),
+        Layer::Text(text) => Some(write(output, text)),
+        Layer::Component(component) => write_common(component, output, value, state),
+        _ => None,
+    }
 }
 
 /// Appends the text of the node where there is room for its width. Takes no memory.
 ///
 /// Answers the number of bytes appended, or the refusal that ends the text.
 #[cycle(engine)]
+#[inline(never)]
 pub(super) fn write_node<T: Node, V: ComponentProvider>(
     node: &T,
     output: &mut Vec<u8>,

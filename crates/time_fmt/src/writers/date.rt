@@ -16,7 +16,7 @@ use time_digits::ru8;
 use time_provide::ranges::{Day, IsoWeekNumber, MondayBasedWeek, Ordinal, SundayBasedWeek};
 
 /// Appends the day of the month, 1 to 31, in two places.
-#[inline]
+#[inline(always)]
 pub fn fmt_day(output: &mut Vec<u8>, day: Day, modifier: modifier::Day) -> usize
     requires room { HasRoom output.old (length (padded_text modifier.padding 2 day)) }
     ensures writes { Writes output.old output.new result (padded_text modifier.padding 2 day) }
@@ -46,7 +46,7 @@ pub fn fmt_month_long(output: &mut Vec<u8>, month: Month, modifier: modifier::Mo
 }
 
 /// Appends the month, 1 to 12, in two places.
-#[inline]
+#[inline(always)]
 pub fn fmt_month_numerical(
     output: &mut Vec<u8>,
     month: Month,

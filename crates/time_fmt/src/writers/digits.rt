@@ -37,8 +37,20 @@ pub fn format_single_digit(output: &mut Vec<u8>, value: ru8<0, 9>) -> usize
 }
 
 /// Appends a number of at most two digits, in two places.
-#[inline]
+#[inline(always)]
 pub fn format_two_digits(output: &mut Vec<u8>, value: ru8<0, 99>, padding: Padding) -> usize
+    requires room { HasRoom output.old (length (padded_text padding 2 value)) }
+    ensures writes { Writes output.old output.new result (padded_text padding 2 value) }
+{
+    match padding {
+        Padding::Zero => write(output, two_digits_zero_padded(value)),
+        rare => write_two_places(output, value, rare),
+    }
+}
+
+// The same apart, since most numbers have zeros in front.
+#[inline(never)]
+fn write_two_places(output: &mut Vec<u8>, value: ru8<0, 99>, padding: Padding) -> usize
     requires room { HasRoom output.old (length (padded_text padding 2 value)) }
     ensures writes { Writes output.old output.new result (padded_text padding 2 value) }
 {
@@ -63,8 +75,20 @@ pub fn format_three_digits(output: &mut Vec<u8>, value: ru16<0, 999>, padding: P
 }
 
 /// Appends a number of at most four digits, in four places.
-#[inline]
+#[inline(always)]
 pub fn format_four_digits(output: &mut Vec<u8>, value: ru16<0, 9_999>, padding: Padding) -> usize
+    requires room { HasRoom output.old (length (padded_text padding 4 value)) }
+    ensures writes { Writes output.old output.new result (padded_text padding 4 value) }
+{
+    match padding {
+        Padding::Zero => format_four_digits_pad_zero(output, value),
+        rare => write_four_places(output, value, rare),
+    }
+}
+
+// The same apart, since most numbers have zeros in front.
+#[inline(never)]
+fn write_four_places(output: &mut Vec<u8>, value: ru16<0, 9_999>, padding: Padding) -> usize
     requires room { HasRoom output.old (length (padded_text padding 4 value)) }
     ensures writes { Writes output.old output.new result (padded_text padding 4 value) }
 {
@@ -76,12 +100,14 @@ pub fn format_four_digits(output: &mut Vec<u8>, value: ru16<0, 9_999>, padding: 
 }
 
 /// Appends a number in four places, with zeros in front.
-#[inline]
+#[inline(always)]
 pub fn format_four_digits_pad_zero(output: &mut Vec<u8>, value: ru16<0, 9_999>) -> usize
     requires room { HasRoom output.old (length (zero_padded 4 value)) }
     ensures writes { Writes output.old output.new result (zero_padded 4 value) }
 {
-    write_many(output, &four_digits_zero_padded(value))
+    let [high, low] = four_digits_zero_padded(value);
+    let count = write(output, high);
+    count + write(output, low)
 }
 
 /// Appends a number in five places, with zeros in front.

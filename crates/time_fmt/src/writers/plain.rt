@@ -6,7 +6,7 @@ ghost use Rattle.time_fmt.specs.Room.{HasRoom, Writes};
 use std::mem::replace;
 
 /// Appends the bytes, and answers their number.
-#[inline]
+#[inline(always)]
 pub fn write_bytes(output: &mut Vec<u8>, bytes: &[u8]) -> usize
     requires room { HasRoom output.old (length bytes.now) }
     ensures writes { Writes output.old output.new result bytes.now }
@@ -26,6 +26,7 @@ pub fn write_bytes(output: &mut Vec<u8>, bytes: &[u8]) -> usize
 /// Appends the bytes, eight at a time. `extend_from_slice` has no clause that the capacity stays. The
 /// vector is taken out meanwhile, so that the compiler sees that its block does not move, and makes one
 /// store of eight.
+#[inline(never)]
 fn write_in_blocks(output: &mut Vec<u8>, bytes: &[u8])
     requires room { HasRoom output.old (length bytes.now) }
     ensures appended { output.new.items ≡ output.old.items ++ bytes.now }
@@ -74,7 +75,7 @@ fn write_in_blocks(output: &mut Vec<u8>, bytes: &[u8])
 }
 
 /// Appends the text, and answers the number of its bytes.
-#[inline]
+#[inline(always)]
 pub fn write(output: &mut Vec<u8>, text: &str) -> usize
     requires room { HasRoom output.old (length text.now) }
     ensures writes { Writes output.old output.new result text.now }

@@ -1,18 +1,19 @@
 //! The components of a time of day.
-ghost use Rattle.std.specs.Prelude.{◌<◌, length};
+ghost use Rattle.std.specs.Prelude.{◌≡◌, ◌<◌, length};
 ghost use Rattle.time_fmt.specs.Room.{HasRoom, Writes};
 ghost use Rattle.time_digits.specs.Digits.{fixed};
+ghost use Rattle.time_digits.specs.Fraction.{trimmed_fraction};
 ghost use Rattle.time_fmt.specs.Text.{padded_text, hour_12, period_text, subsecond_text};
 
 use crate::writers::digits::{
     format_five_digits_pad_zero, format_four_digits_pad_zero, format_single_digit,
     format_six_digits_pad_zero, format_three_digits, format_two_digits,
 };
-use crate::writers::plain::{write, write_many};
+use crate::writers::plain::{write, write_bytes, write_many};
 use time_below::Period;
 use time_below::format_description::modifier;
 use time_below::format_description::modifier::{Padding, SubsecondDigits};
-use time_digits::num_fmt::{subsecond_from_nanos, truncated_subsecond_from_nanos};
+use time_digits::num_fmt::{subsecond_from_nanos, zeros_to_drop};
 use time_digits::{ru8, ru16, ru32};
 use time_provide::ranges::{Hours, Minutes, Nanoseconds, Seconds};
 
@@ -28,7 +29,7 @@ pub fn fmt_hour_12(output: &mut Vec<u8>, hour: Hours, modifier: modifier::Hour12
 }
 
 /// Appends the hour, 0 to 23, in two places.
-#[inline]
+#[inline(always)]
 pub fn fmt_hour_24(output: &mut Vec<u8>, hour: Hours, modifier: modifier::Hour24) -> usize
     requires room { HasRoom output.old (length (padded_text modifier.padding 2 hour)) }
     ensures writes { Writes output.old output.new result (padded_text modifier.padding 2 hour) }
@@ -37,7 +38,7 @@ pub fn fmt_hour_24(output: &mut Vec<u8>, hour: Hours, modifier: modifier::Hour24
 }
 
 /// Appends the minute, 0 to 59, in two places.
-#[inline]
+#[inline(always)]
 pub fn fmt_minute(output: &mut Vec<u8>, minute: Minutes, modifier: modifier::Minute) -> usize
     requires room { HasRoom output.old (length (padded_text modifier.padding 2 minute)) }
     ensures writes { Writes output.old output.new result (padded_text modifier.padding 2 minute) }
@@ -62,7 +63,7 @@ pub fn fmt_period(output: &mut Vec<u8>, period: Period, modifier: modifier::Peri
 }
 
 /// Appends the second, 0 to 59, in two places.
-#[inline]
+#[inline(always)]
 pub fn fmt_second(output: &mut Vec<u8>, second: Seconds, modifier: modifier::Second) -> usize
     requires room { HasRoom output.old (length (padded_text modifier.padding 2 second)) }
     ensures writes { Writes output.old output.new result (padded_text modifier.padding 2 second) }
@@ -107,10 +108,34 @@ pub fn fmt_subsecond(
         SubsecondDigits::Seven => format_seven_digits(output, number / 100),
         SubsecondDigits::Eight => format_eight_digits(output, number / 10),
         SubsecondDigits::Nine => write_many(output, &subsecond_from_nanos(nanosecond)),
-        SubsecondDigits::OneOrMore => {
-            write(output, truncated_subsecond_from_nanos(nanosecond).as_str())
-        }
+        SubsecondDigits::OneOrMore => write_trimmed_fraction(output, nanosecond),
     }
+}
+
+// Appends the nine digits without the zeros at their end, at least one digit.
+fn write_trimmed_fraction(output: &mut Vec<u8>, nanosecond: Nanoseconds) -> usize
+    requires room { HasRoom output.old (length (trimmed_fraction nanosecond)) }
+    ensures writes { Writes output.old output.new result (trimmed_fraction nanosecond) }
+{
+    let digits = nine_digits(nanosecond);
+    let last_eight = *digits.last_chunk::<8>().unwrap();
+    let dropped = zeros_to_drop(u64::from_le_bytes(last_eight));
+    write_bytes(output, &digits[..digits.len() - dropped as usize])
+}
+
+// The nine digits of a number of nanoseconds.
+#[inline]
+fn nine_digits(nanosecond: Nanoseconds) -> [u8; 9]
+    ensures { result ≡ fixed 9 nanosecond }
+{
+    let [first, second, third, fourth, fifth] = subsecond_from_nanos(nanosecond);
+    let first = first.as_bytes();
+    let (second, third) = (second.as_bytes(), third.as_bytes());
+    let (fourth, fifth) = (fourth.as_bytes(), fifth.as_bytes());
+    [
+        first[0], second[0], second[1], third[0], third[1], fourth[0], fourth[1], fifth[0],
+        fifth[1],
+    ]
 }
 
 // Appends a number in seven places, with zeros in front.

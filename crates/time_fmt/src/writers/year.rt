@@ -17,7 +17,7 @@ use time_provide::ranges::{ExtendedCentury, LastTwo, StandardCentury, StandardYe
 
 /// Appends the sign and four places of the year, -999,999 to 999,999, or all its digits and a sign
 /// from 10,000 on.
-#[inline]
+#[inline(always)]
 pub fn fmt_calendar_year_full_extended_range(
     output: &mut Vec<u8>,
     year: Year,
@@ -205,7 +205,29 @@ pub fn fmt_iso_year_last_two(
     format_two_digits(output, last_two, modifier.padding)
 }
 
+// Most years have four digits and no sign.
+#[inline(always)]
 fn write_extended_year(
+    output: &mut Vec<u8>,
+    year: Year,
+    padding: Padding,
+    sign_is_mandatory: bool,
+) -> usize
+    requires room { HasRoom output.old
+        (length (extended_year_text padding sign_is_mandatory year)) }
+    ensures writes { Writes output.old output.new result
+        (extended_year_text padding sign_is_mandatory year) }
+{
+    let number = year.get();
+    if !sign_is_mandatory && 0 <= number && number <= 9_999 {
+        return format_four_digits(output, ru16::new(number as u16).unwrap(), padding);
+    }
+    write_signed_year(output, year, padding, sign_is_mandatory)
+}
+
+// Any year.
+#[inline(never)]
+fn write_signed_year(
     output: &mut Vec<u8>,
     year: Year,
     padding: Padding,

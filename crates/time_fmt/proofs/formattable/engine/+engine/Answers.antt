@@ -2,23 +2,36 @@ use Rattle.std.proofs.Common.{sym}
 use Rattle.time_below.proofs.NodeLemmas.{next_of, smaller_rest}
 use Rattle.time_fmt.proofs.Engine.{refused_along, text_refused, written_along, text_at_end, outcome_of_first, text_of_first}
 use Rattle.time_fmt.proofs.formattable.engine.+engine.Goals as goal
+use Rattle.time_fmt.proofs.formattable.engine.+engine.Goals.{write_nodes-in-Some, write_nodes-in-None+in-Ok}
 
 pub write_nodes-returns-in-Err-clause-appends : goal.write_nodes-returns-in-Err-clause-appends
 write_nodes-returns-in-Err-clause-appends g t c =
     let next = next_of g.T.Node.tree c.args.nodes.now c.loop-node.node-index c.node-item.result c.loop-node-test.true c.node-item.is in
-    refused_along _ _ _ _ _ _ _ _ _ c.loop-node.invariant next c.in-Err.ensures.appends
+    refused_along c.args.output.now c.loop-node.output c.write_node.new.output c.in-Err.refusal _ _ _ _ _ c.loop-node.invariant next (rw c.in-None.ensures.appends at c.in-Err.ensures.appends)
 
 pub write_nodes-returns-in-Err-clause-text : goal.write_nodes-returns-in-Err-clause-text
 write_nodes-returns-in-Err-clause-text g t c =
     let next = next_of g.T.Node.tree c.args.nodes.now c.loop-node.node-index c.node-item.result c.loop-node-test.true c.node-item.is in
-    text_refused _ _ _ _ _ _ _ _ _ c.loop-node.invariant next c.in-Err.ensures.appends c.in-Err.ensures.text
+    text_refused c.args.output.now c.loop-node.output c.write_node.new.output c.in-Err.refusal _ _ _ _ _ c.loop-node.invariant next (rw c.in-None.ensures.appends at c.in-Err.ensures.appends) c.in-Err.ensures.text
 
+-- a leaf, or any other node after a leaf that wrote nothing
 pub write_nodes-loop-node-preserved : goal.write_nodes-loop-node-preserved
 write_nodes-loop-node-preserved g t c =
     let next = next_of g.T.Node.tree c.args.nodes.now c.loop-node.node-index c.node-item.result c.loop-node-test.true c.node-item.is in
     let smaller = smaller_rest g.T.Node.size c.args.nodes.now c.loop-node.node-index c.node-item.result c.loop-node-test.true c.node-item.is in
-    let step = c.in-Ok.ensures in
-    written_along _ _ _ _ _ _ _ _ c.loop-node.invariant next smaller step.appends step.within step.agrees step.text
+    elim c.match-write_leaf.branch [
+      | write_nodes-in-Some w ↦
+          let step = w.in-Some.ensures in
+          rw (w.output-is, w.state-is, w.sum-is)
+          (written_along {agrees_after = g.V.ComponentProvider.agrees c.write_leaf.new.state c.args.value.now}
+          c.args.output.now c.loop-node.output c.write_leaf.new.output _ _ _ _ _ c.loop-node.invariant next smaller step.appends step.within step.agrees step.text)
+      | write_nodes-in-None+in-Ok w ↦
+          let step = w.in-Ok.ensures in
+          let same = w.in-None.ensures.appends in
+          rw (w.output-is, w.state-is, w.sum-is)
+          (written_along {agrees_after = g.V.ComponentProvider.agrees w.write_node.new.state c.args.value.now}
+          c.args.output.now c.loop-node.output w.write_node.new.output _ _ _ _ _ c.loop-node.invariant next smaller (rw same at step.appends) (rw same at step.within) step.agrees step.text)
+    ]
 
 pub write_nodes-returns-clause-text : goal.write_nodes-returns-clause-text
 write_nodes-returns-clause-text g t c = text_at_end g.T.Node.tree c.args.nodes.now _ (g.V.ComponentProvider.facts c.args.value.now) c.loop-node-test.false c.loop-node.invariant.text
