@@ -8,7 +8,7 @@ use Rattle.time_fmt.specs.Room.{Writes}
 use Rattle.time_fmt.proofs.WriteLemmas.{writes_then}
 use Rattle.time_known.specs.Rfc3339.{rfc3339_text, full_date_text, time_secfrac_text, time_offset_text}
 use Rattle.time_known.specs.WellKnown.{clock_text}
-use Rattle.time_known.proofs.rfc3339.write_date_time.Goals as goal
+use Rattle.time_known.proofs.rfc3339.append_date_time.Goals as goal
 
 -- the parts one after another are the text
 joined : (date : Option DateFacts) (time : Option TimeOfDay) (offset : Option Offset)
@@ -29,5 +29,5 @@ pub returns-clause-writes : goal.returns-clause-writes
 returns-clause-writes g c =
     let f = g.V.ComponentProvider.facts c.args.value.now in
     joined f.date f.time f.offset _ _ _ _ _ _ _ _ _ _ _ c.write_full_date-date.ensures.writes c.write-letter.ensures.writes
-    c.write_clock_time-time.ensures.writes c.write_time_secfrac-fraction.ensures.writes
+    c.write_clock-time.ensures.writes c.write_time_secfrac-fraction.ensures.writes
     c.write_time_offset.ensures.writes
