@@ -1,6 +1,6 @@
 -- Changes of different fields may be exchanged.
 use Rattle.std.proofs.Common.{◌≡◌, ◌≢◌, refl}
-use Rattle.time_known.specs.Changes.{Field, the_components, the_separators, the_year, the_date, the_time, the_offset, choice_of, with_choice}
+use Rattle.time_known.specs.Changes.{Field, the_components, the_separators, the_year, the_date, the_time, the_offset, the_sign, choice_of, with_choice}
 use Rattle.time_known.specs.Config.{Choices}
 
 -- in either order, each of the two fields has its new choice and the others are as they were
@@ -12,4 +12,5 @@ changes_may_be_exchanged the_year the_year differ x y c = absurd (differ refl)
 changes_may_be_exchanged the_date the_date differ x y c = absurd (differ refl)
 changes_may_be_exchanged the_time the_time differ x y c = absurd (differ refl)
 changes_may_be_exchanged the_offset the_offset differ x y c = absurd (differ refl)
+changes_may_be_exchanged the_sign the_sign differ x y c = absurd (differ refl)
 changes_may_be_exchanged f g differ x y c = refl

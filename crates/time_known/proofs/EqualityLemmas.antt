@@ -6,10 +6,12 @@ use denote.Enum.Bare.{same_true, true_same, sameb}
 use Rattle.time_known.specs.Config.{Choices}
 use Rattle.time_known.specs.contracts.iso8601.config.ConfigPartialEq.TheImpl as of_config
 use Rattle.time_known.specs.contracts.iso8601.config.DateKind as date_kind
+use Rattle.time_known.specs.contracts.iso8601.config.DecimalSign as decimal_sign
 use Rattle.time_known.specs.contracts.iso8601.config.FormattedComponents as formatted_components
 use Rattle.time_known.specs.contracts.iso8601.config.OffsetPrecision as offset_precision
 use Rattle.time_known.specs.contracts.iso8601.config.TimePrecisionPartialEq.TheImpl as of_time_precision
 use Rattle.time_known.specs.declared.iso8601.config.DateKind.{DateKind}
+use Rattle.time_known.specs.declared.iso8601.config.DecimalSign.{DecimalSign}
 use Rattle.time_known.specs.declared.iso8601.config.FormattedComponents.{FormattedComponents}
 use Rattle.time_known.specs.declared.iso8601.config.OffsetPrecision.{OffsetPrecision}
 use Rattle.time_known.specs.declared.iso8601.config.TimePrecision.{TimePrecision}
@@ -69,23 +71,25 @@ equal_bit false = refl
 -- each field of the second is that of the first
 choices_are : (a b : Choices) → a.formatted_components ≡ b.formatted_components → a.use_separators ≡ b.use_separators
     → a.year_is_six_digits ≡ b.year_is_six_digits → a.date_kind ≡ b.date_kind → a.time_precision ≡ b.time_precision
-    → a.offset_precision ≡ b.offset_precision → a ≡ b
-choices_are a b p q r s t u = made p q r s t u where
-  choices : FormattedComponents → Bool → Bool → DateKind → TimePrecision → OffsetPrecision → Choices
-  choices parts separators six_digits kind time offset = record {
+    → a.offset_precision ≡ b.offset_precision → a.decimal_sign ≡ b.decimal_sign → a ≡ b
+choices_are a b p q r s t u v = made p q r s t u v where
+  choices : FormattedComponents → Bool → Bool → DateKind → TimePrecision → OffsetPrecision → DecimalSign → Choices
+  choices parts separators six_digits kind time offset sign = record {
     formatted_components = parts;
     use_separators = separators;
     year_is_six_digits = six_digits;
     date_kind = kind;
     time_precision = time;
     offset_precision = offset;
+    decimal_sign = sign;
   }
 
   made : {parts parts' : FormattedComponents} {separators separators' six six' : Bool} {kind kind' : DateKind}
-      {time time' : TimePrecision} {offset offset' : OffsetPrecision}
+      {time time' : TimePrecision} {offset offset' : OffsetPrecision} {sign sign' : DecimalSign}
       → parts ≡ parts' → separators ≡ separators' → six ≡ six' → kind ≡ kind' → time ≡ time' → offset ≡ offset'
-      → choices parts separators six kind time offset ≡ choices parts' separators' six' kind' time' offset'
-  made p q r s t u = rw (p, q, r, s, t, u) refl
+      → sign ≡ sign'
+      → choices parts separators six kind time offset sign ≡ choices parts' separators' six' kind' time' offset' sign'
+  made p q r s t u v = rw (p, q, r, s, t, u, v) refl
 
 -- configurations that are found equal have the same choices
 pub same_choices : (a b : Choices) → of_config.ghosts.eq a b ≡ true → a ≡ b
@@ -96,15 +100,18 @@ same_choices a b h =
     let kind = sameb date_kind.the_type a.date_kind b.date_kind in
     let time = of_time_precision.ghosts.eq a.time_precision b.time_precision in
     let offset = sameb offset_precision.the_type a.offset_precision b.offset_precision in
-    let first = both parts (separators && (six_digits && (kind && (time && offset)))) h in
-    let second = both separators (six_digits && (kind && (time && offset))) first.1 in
-    let third = both six_digits (kind && (time && offset)) second.1 in
-    let fourth = both kind (time && offset) third.1 in
-    let last = both time offset fourth.1 in
+    let sign = sameb decimal_sign.the_type a.decimal_sign b.decimal_sign in
+    let first = both parts (separators && (six_digits && (kind && (time && (offset && sign))))) h in
+    let second = both separators (six_digits && (kind && (time && (offset && sign)))) first.1 in
+    let third = both six_digits (kind && (time && (offset && sign))) second.1 in
+    let fourth = both kind (time && (offset && sign)) third.1 in
+    let fifth = both time (offset && sign) fourth.1 in
+    let last = both offset sign fifth.1 in
     choices_are a b (same_true formatted_components.the_type (search rules) _ _ first.0)
     (same_bit _ _ second.0) (same_bit _ _ third.0)
     (same_true date_kind.the_type (search rules) _ _ fourth.0)
-    (same_precision _ _ last.0) (same_true offset_precision.the_type (search rules) _ _ last.1)
+    (same_precision _ _ fifth.0) (same_true offset_precision.the_type (search rules) _ _ last.0)
+    (same_true decimal_sign.the_type (search rules) _ _ last.1)
 
 -- and each is found equal to itself
 pub equal_choices : (a b : Choices) → a ≡ b → of_config.ghosts.eq a b ≡ true
@@ -116,4 +123,5 @@ equal_choices a b e = subst (λ (c : Choices). of_config.ghosts.eq a c ≡ true)
       true_same date_kind.the_type a.date_kind a.date_kind refl,
       equal_precision a.time_precision,
       true_same offset_precision.the_type a.offset_precision a.offset_precision refl,
+      true_same decimal_sign.the_type a.decimal_sign a.decimal_sign refl,
     ) refl)

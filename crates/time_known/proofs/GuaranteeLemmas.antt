@@ -8,7 +8,7 @@ use Rattle.std.proofs.lemmas.Str.Ascii.{IsAscii-nil}
 use Rattle.time_below.specs.Facts.{Facts, DateFacts}
 use Rattle.time_below.specs.Offset.{Offset, IsOffset, is_negative, is_utc}
 use Rattle.time_below.specs.TimeOfDay.{TimeOfDay, IsTimeOfDay}
-use Rattle.time_digits.specs.Digits.{fixed, zero_padded}
+use Rattle.time_digits.specs.Digits.{zero_padded}
 use Rattle.time_digits.specs.Fraction.{trimmed_fraction}
 use Rattle.time_digits.proofs.DigitLemmas.{IsAscii-fixed}
 use Rattle.time_digits.proofs.FractionLemmas.{IsAscii-trimmed_fraction}
@@ -22,9 +22,11 @@ use Rattle.time_fmt.specs.Outcome.{Outcome, Refusal, Appends, Names, done, refus
 use Rattle.time_fmt.proofs.GuaranteeLemmas.{ascii_test, empty_utf8, IsAscii-sign_text, IsAscii-month_name, IsAscii-weekday_name}
 use Rattle.time_fmt.proofs.RealLemmas.{DateFits, TimeFits, OffsetFits, date_fits, time_fits, offset_fits}
 use Rattle.time_provide.specs.Real.{AreOfDate}
-use Rattle.time_known.specs.Config.{Choices, has_time, has_time_letter, separator}
+use Rattle.time_known.specs.Config.{Choices, has_time, has_time_letter, separator, decimal_sign_text}
 use Rattle.time_known.specs.declared.iso8601.config.DateKind.{DateKind}
 use Rattle.time_known.specs.declared.iso8601.config.DateKind.TheVariants as kind
+use Rattle.time_known.specs.declared.iso8601.config.DecimalSign.{DecimalSign}
+use Rattle.time_known.specs.declared.iso8601.config.DecimalSign.TheVariants as sign_of
 use Rattle.time_known.specs.declared.iso8601.config.OffsetPrecision.{OffsetPrecision}
 use Rattle.time_known.specs.declared.iso8601.config.OffsetPrecision.TheVariants as offset_precision
 use Rattle.time_known.specs.declared.iso8601.config.TimePrecision.{TimePrecision}
@@ -33,9 +35,9 @@ use Rattle.time_known.specs.Groups.{are_supplied}
 use Rattle.time_known.specs.declared.iso8601.config.FormattedComponents.{FormattedComponents}
 use Rattle.time_known.specs.Iso8601.{iso8601_outcome, iso8601_outcome_of, iso_date, iso_time, iso_offset, iso_year, year_of_kind, text_after_year, units_text, decimal_part, nanoseconds_of_hour, nanoseconds_of_minute, iso_minutes}
 use Rattle.time_known.proofs.GroupLemmas.{all}
-use Rattle.time_known.specs.Rfc2822.{rfc2822_of_groups, rfc2822_text, date_text, named_date_text}
-use Rattle.time_known.specs.Rfc3339.{rfc3339_of_groups, rfc3339_text, full_date_text, time_secfrac_text, time_offset_text}
-use Rattle.time_known.specs.WellKnown.{refused_if, is_outside, of_all_groups, month_and_day_text, clock_text, offset_hours_text, offset_minutes_text, offset_text}
+use Rattle.time_known.specs.Rfc2822.{rfc2822_of_groups, rfc2822_text}
+use Rattle.time_known.specs.Rfc3339.{rfc3339_of_groups, rfc3339_text}
+use Rattle.time_known.specs.WellKnown.{refused_if, is_outside, of_all_groups, month_and_day_text, clock_text, offset_hours_text, offset_text}
 
 -- a text that is ASCII
 record Ascii (bytes : List ℕ) : Type 0 where
@@ -160,18 +162,24 @@ date_ascii c d h =
     (joined (iso_year c.year_is_six_digits (year_of_kind c.date_kind d)) (done (text_after_year c.date_kind c d))
     (year_ascii c.year_is_six_digits (year_of_kind c.date_kind d) (year_fits c.date_kind d h)) (after_year c.date_kind c d h)).is
 
-point_and_decimals : (d : Option ℕ) (rest unit : ℕ) → Ascii (decimal_part d rest unit)
-point_and_decimals None rest unit = nil
-point_and_decimals (Some d) rest unit =
-    after (literal (codes ".") refl) (leaf (decimals rest unit d) (IsAscii-fixed d (rest * 10 ^ d / unit)))
+-- a point and a comma are ASCII
+decimal_sign : (s : DecimalSign) → Ascii (decimal_sign_text s)
+decimal_sign sign_of.Point = literal (codes ".") refl
+decimal_sign sign_of.Comma = literal (codes ",") refl
+
+-- so is the sign with its decimals
+sign_and_decimals : (s : DecimalSign) (d : Option ℕ) (rest unit : ℕ) → Ascii (decimal_part s d rest unit)
+sign_and_decimals s None rest unit = nil
+sign_and_decimals s (Some d) rest unit =
+    after (decimal_sign s) (leaf (decimals rest unit d) (IsAscii-fixed d (rest * 10 ^ d / unit)))
 
 units : (p : TimePrecision) (c : Choices) (t : TimeOfDay) → TimeFits t → Ascii (units_text p c t)
-units (precision.Hour d) c t h = after (number 2 t.hour h.hour) (point_and_decimals d (nanoseconds_of_hour t) 3_600_000_000_000)
+units (precision.Hour d) c t h = after (number 2 t.hour h.hour) (sign_and_decimals c.decimal_sign d (nanoseconds_of_hour t) 3_600_000_000_000)
 units (precision.Minute d) c t h =
     after (after (after (number 2 t.hour h.hour) (separated c (literal (codes ":") refl))) (number 2 t.minute h.minute))
-    (point_and_decimals d (nanoseconds_of_minute t) 60_000_000_000)
+    (sign_and_decimals c.decimal_sign d (nanoseconds_of_minute t) 60_000_000_000)
 units (precision.Second d) c t h =
-    after (clock (separator c (codes ":")) t (separated c (literal (codes ":") refl)) h) (point_and_decimals d t.nanosecond 1_000_000_000)
+    after (clock (separator c (codes ":")) t (separated c (literal (codes ":") refl)) h) (sign_and_decimals c.decimal_sign d t.nanosecond 1_000_000_000)
 
 time_ascii : (c : Choices) (t : TimeOfDay) → TimeFits t → IsAscii (iso_time c t).bytes
 time_ascii c t h = (after (either (has_time_letter c) (literal (codes "T") refl) nil) (units c.time_precision c t h)).is

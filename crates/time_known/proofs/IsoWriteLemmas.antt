@@ -1,5 +1,5 @@
 -- What is written of a date, a time and an offset of ISO 8601 is the text of the part.
-use Rattle.std.proofs.Common.{◌≡◌, ℕ, ◌+◌, ◌<◌, ◌≤◌, length, length-append, append_assoc, decimal, sym, ap, ◌∙◌, arith}
+use Rattle.std.proofs.Common.{◌≡◌, ℕ, ◌+◌, ◌<◌, ◌≤◌, length, length-append, append_assoc, decimal, refl, sym, ap, ◌∙◌, arith}
 use Rattle.std.proofs.lemmas.Fmt.{length-decimal-le}
 use Rattle.time_below.specs.declared.weekday.Weekday.{Weekday}
 use Rattle.time_below.specs.declared.weekday.Weekday.TheVariants.{Monday, Tuesday, Wednesday, Thursday, Friday, Saturday, Sunday}
@@ -8,6 +8,9 @@ use Rattle.time_digits.specs.Digits.{zero_padded}
 use Rattle.time_digits.proofs.DigitLemmas.{length-fixed, padded_whole}
 use Rattle.time_digits.proofs.LengthLemmas.{length-padded, length-digit}
 use Rattle.time_fmt.proofs.TextLemmas.{length-sign_text}
+use Rattle.time_known.specs.Config.{decimal_sign_text}
+use Rattle.time_known.specs.declared.iso8601.config.DecimalSign.{DecimalSign}
+use Rattle.time_known.specs.declared.iso8601.config.DecimalSign.TheVariants.{Point, Comma}
 
 -- ---- lengths
 
@@ -42,5 +45,10 @@ weekday_digit w = padded_whole 48 1 (days_from_monday w + 1) (omega (arith, leng
 -- how long the parts of a date are, one after another
 pub ruleset date_lengths = (length-three_digits, length-six_digits, length-weekday, weekday_digit, length-sign_text, length-append, append_assoc)
 
--- how long decimals are
-pub ruleset decimal_lengths = (length-fixed, length-append, append_assoc)
+-- the decimal sign is one byte
+pub length-decimal_sign : (s : DecimalSign) → length (decimal_sign_text s) ≡ 1
+length-decimal_sign Point = refl
+length-decimal_sign Comma = refl
+
+-- how long decimals and their sign are
+pub ruleset decimal_lengths = (length-fixed, length-decimal_sign, length-append, append_assoc)

@@ -2,6 +2,7 @@
 use Rattle.std.specs.Prelude.{◌≡◌, ◌≢◌, Bool}
 use Rattle.time_known.specs.Config.{Choices}
 use Rattle.time_known.specs.declared.iso8601.config.DateKind.{DateKind}
+use Rattle.time_known.specs.declared.iso8601.config.DecimalSign.{DecimalSign}
 use Rattle.time_known.specs.declared.iso8601.config.FormattedComponents.{FormattedComponents}
 use Rattle.time_known.specs.declared.iso8601.config.OffsetPrecision.{OffsetPrecision}
 use Rattle.time_known.specs.declared.iso8601.config.TimePrecision.{TimePrecision}
@@ -13,6 +14,7 @@ pub data Field : Type 0 where
   the_date : Field
   the_time : Field
   the_offset : Field
+  the_sign : Field
 
 -- what may be chosen for a field
 abbrev pub choice_of : Field → Type 0
@@ -22,6 +24,7 @@ choice_of the_year = Bool
 choice_of the_date = DateKind
 choice_of the_time = TimePrecision
 choice_of the_offset = OffsetPrecision
+choice_of the_sign = DecimalSign
 
 -- the same choices, but for one field
 abbrev pub with_choice : (f : Field) → choice_of f → Choices → Choices
@@ -31,6 +34,7 @@ with_choice the_year x c = record c { year_is_six_digits = x }
 with_choice the_date x c = record c { date_kind = x }
 with_choice the_time x c = record c { time_precision = x }
 with_choice the_offset x c = record c { offset_precision = x }
+with_choice the_sign x c = record c { decimal_sign = x }
 
 -- changes of different fields may be exchanged
 abbrev pub ChangesMayBeExchanged : Type 0

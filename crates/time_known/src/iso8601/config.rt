@@ -1,6 +1,6 @@
 //! The choices of ISO 8601-1:2019 that a text is written by.
 ghost use Rattle.std.specs.Prelude.{◌≡◌};
-ghost use Rattle.time_known.specs.Config.{default_choices, separator, has_time_letter, has_date, has_time, has_offset, groups_of};
+ghost use Rattle.time_known.specs.Config.{default_choices, separator, decimal_sign_text, has_time_letter, has_date, has_time, has_offset, groups_of};
 
 use crate::groups::Groups;
 use std::default::Default;
@@ -39,6 +39,15 @@ pub enum TimePrecision {
     Second { decimal_digits: Option<ru8<1, 255>> },
 }
 
+/// The sign before the decimals of a time (section 5.3.1).
+#[derive(Debug, Clone, Copy, PartialEq, Eq)]
+pub enum DecimalSign {
+    /// The point, `.`.
+    Point,
+    /// The comma, `,`.
+    Comma,
+}
+
 /// The smallest unit of an offset (section 5.3.4).
 #[derive(Debug, Clone, Copy, PartialEq, Eq)]
 pub enum OffsetPrecision {
@@ -55,6 +64,7 @@ pub struct Config {
     date_kind: DateKind,
     time_precision: TimePrecision,
     offset_precision: OffsetPrecision,
+    decimal_sign: DecimalSign,
 }
 
 impl Model for Config {
@@ -69,6 +79,7 @@ impl Model for Config {
       date_kind = c.date_kind;
       time_precision = c.time_precision;
       offset_precision = c.offset_precision;
+      decimal_sign = c.decimal_sign;
     } };
 
     ghost inverse = { λ c. record {
@@ -78,6 +89,7 @@ impl Model for Config {
       date_kind = c.date_kind;
       time_precision = c.time_precision;
       offset_precision = c.offset_precision;
+      decimal_sign = c.decimal_sign;
     } };
 }
 
@@ -85,7 +97,7 @@ impl Default for Config {
     ghost is_default = { λ c. c ≡ default_choices };
 
     /// Date, time and offset with separators, the calendar date with four digits of the year, nine
-    /// decimals of the second and the minutes of the offset.
+    /// decimals of the second after a point, and the minutes of the offset.
     fn default() -> Self {
         Config {
             formatted_components: FormattedComponents::DateTimeOffset,
@@ -96,6 +108,7 @@ impl Default for Config {
                 decimal_digits: ru8::new(9),
             },
             offset_precision: OffsetPrecision::Minute,
+            decimal_sign: DecimalSign::Point,
         }
     }
 }
@@ -158,6 +171,17 @@ impl Config {
         }
     }
 
+    /// The same configuration, with this sign before the decimals of the time. It has no effect on a
+    /// text without decimals.
+    pub fn set_decimal_sign(self, decimal_sign: DecimalSign) -> Self
+        ensures { result ≡ record self { decimal_sign = decimal_sign } }
+    {
+        Config {
+            decimal_sign,
+            ..self
+        }
+    }
+
     pub(super) fn formatted_components(&self) -> FormattedComponents
         ensures { result ≡ self.now.formatted_components }
     {
@@ -186,6 +210,12 @@ impl Config {
         ensures { result ≡ self.now.offset_precision }
     {
         self.offset_precision
+    }
+
+    pub(super) fn decimal_sign(&self) -> DecimalSign
+        ensures { result ≡ self.now.decimal_sign }
+    {
+        self.decimal_sign
     }
 
     // The separator, where the configuration has them.
@@ -219,6 +249,17 @@ impl Config {
         ensures { result ≡ has_time self.now.formatted_components }
     {
         self.formatted_components.has_time()
+    }
+}
+
+impl DecimalSign {
+    pub(super) fn text(self) -> &'static str
+        ensures { result.now ≡ decimal_sign_text self }
+    {
+        match self {
+            DecimalSign::Point => ".",
+            DecimalSign::Comma => ",",
+        }
     }
 }
 

@@ -1,15 +1,16 @@
 //! The time of day of a text of ISO 8601-1:2019, section 5.3.
-ghost use Rattle.std.specs.Prelude.{◌≡◌, ◌+◌, ◌*◌, ◌<◌, ◌≤◌, ◌++◌, length, IsTrue, IfSome, vec_len, vec_capacity};
+ghost use Rattle.std.specs.Prelude.{◌≡◌, ◌+◌, ◌*◌, ◌<◌, ◌≤◌, ◌++◌, codes, length, IsTrue, IfSome, vec_len, vec_capacity};
 ghost use Rattle.time_below.specs.TimeOfDay.{IsTimeOfDay};
 ghost use Rattle.time_digits.specs.Digits.{zero_padded};
 ghost use Rattle.time_fmt.specs.Description.{of_group};
 ghost use Rattle.time_fmt.specs.Outcome.{Appends};
 ghost use Rattle.time_fmt.specs.Room.{HasRoom, Writes};
+ghost use Rattle.time_known.specs.Config.{separator};
 ghost use Rattle.time_known.specs.Iso8601.{iso_time, decimal_part, units_text, nanoseconds_of_hour, nanoseconds_of_minute};
 ghost use Rattle.time_known.specs.Iso8601Width.{iso_time_width, decimal_part_width, units_width};
 ghost use Rattle.time_known.specs.WellKnown.{clock_text};
 
-use crate::iso8601::config::{Config, TimePrecision};
+use crate::iso8601::config::{Config, DecimalSign, TimePrecision};
 use crate::parts::write_clock_time;
 use time_below::format_description::modifier;
 use time_below::format_description::modifier::Padding;
@@ -64,16 +65,15 @@ fn write_units<V: ComponentProvider>(
         ≤ vec_len output.old + units_width config.now.time_precision config.now }
     ensures agrees { V.agrees state.new value.now }
 {
-    let colon = config.separator(":");
     match config.time_precision() {
         TimePrecision::Hour { decimal_digits } => {
-            write_to_hour(output, value, state, decimal_digits)
+            write_to_hour(config, output, value, state, decimal_digits)
         }
         TimePrecision::Minute { decimal_digits } => {
-            write_to_minute(output, value, state, colon, decimal_digits)
+            write_to_minute(config, output, value, state, decimal_digits)
         }
         TimePrecision::Second { decimal_digits } => {
-            write_to_second(output, value, state, colon, decimal_digits)
+            write_to_second(config, output, value, state, decimal_digits)
         }
     }
 }
@@ -81,6 +81,7 @@ fn write_units<V: ComponentProvider>(
 // Appends the hour, and decimals of it.
 #[tactic(auto, using(crate::proofs::WritingLemmas::part_lengths))]
 fn write_to_hour<V: ComponentProvider>(
+    config: &Config,
     output: &mut Vec<u8>,
     value: &V,
     state: &mut V::State,
@@ -91,7 +92,9 @@ fn write_to_hour<V: ComponentProvider>(
     requires agrees { V.agrees state.old value.now }
     ensures writes { IfSome (V.facts value.now).time
         (λ t. Writes output.old output.new result
-        (zero_padded 2 t.hour ++ decimal_part decimal_digits (nanoseconds_of_hour t) NANOSECONDS_PER_HOUR)) }
+        (zero_padded 2 t.hour
+        ++ decimal_part config.now.decimal_sign decimal_digits
+        (nanoseconds_of_hour t) NANOSECONDS_PER_HOUR)) }
     ensures real { IfSome (V.facts value.now).time IsTimeOfDay }
     ensures within { vec_len output.new
         ≤ vec_len output.old + (2 + decimal_part_width decimal_digits) }
@@ -100,62 +103,71 @@ fn write_to_hour<V: ComponentProvider>(
     let padding = Padding::Zero;
     let hour = fmt_hour_24(output, value.hour(state), modifier::Hour24 { padding });
     let rest = nanoseconds_of_hour(value, state);
-    hour + write_decimals(output, rest, NANOSECONDS_PER_HOUR, decimal_digits)
+    let sign = config.decimal_sign();
+    hour + write_decimals(output, rest, NANOSECONDS_PER_HOUR, sign, decimal_digits)
 }
 
 // Appends the hour and the minute, the separator between them, and decimals of the minute.
 #[tactic(auto, using(crate::proofs::WritingLemmas::part_lengths))]
 fn write_to_minute<V: ComponentProvider>(
+    config: &Config,
     output: &mut Vec<u8>,
     value: &V,
     state: &mut V::State,
-    separator: &str,
     decimal_digits: Option<ru8<1, 255>>,
 ) -> usize
     requires supplied { IsTrue V.SUPPLIES_TIME }
     requires room { HasRoom output.old
-        (4 + length separator.now + decimal_part_width decimal_digits) }
+        (4 + length (separator config.now (codes ":")) + decimal_part_width decimal_digits) }
     requires agrees { V.agrees state.old value.now }
     ensures writes { IfSome (V.facts value.now).time
         (λ t. Writes output.old output.new result
-        (zero_padded 2 t.hour ++ separator.now ++ zero_padded 2 t.minute
-        ++ decimal_part decimal_digits (nanoseconds_of_minute t) NANOSECONDS_PER_MINUTE)) }
+        (zero_padded 2 t.hour ++ separator config.now (codes ":") ++ zero_padded 2 t.minute
+        ++ decimal_part config.now.decimal_sign decimal_digits
+        (nanoseconds_of_minute t) NANOSECONDS_PER_MINUTE)) }
     ensures real { IfSome (V.facts value.now).time IsTimeOfDay }
     ensures within { vec_len output.new
-        ≤ vec_len output.old + (4 + length separator.now + decimal_part_width decimal_digits) }
+        ≤ vec_len output.old
+        + (4 + length (separator config.now (codes ":")) + decimal_part_width decimal_digits) }
     ensures agrees { V.agrees state.new value.now }
 {
     let padding = Padding::Zero;
     let hour = fmt_hour_24(output, value.hour(state), modifier::Hour24 { padding });
-    let colon = write(output, separator);
+    let colon = write(output, config.separator(":"));
     let minute = fmt_minute(output, value.minute(state), modifier::Minute { padding });
     let rest = nanoseconds_of_minute(value, state);
-    hour + colon + minute + write_decimals(output, rest, NANOSECONDS_PER_MINUTE, decimal_digits)
+    let sign = config.decimal_sign();
+    hour + colon
+        + minute
+        + write_decimals(output, rest, NANOSECONDS_PER_MINUTE, sign, decimal_digits)
 }
 
 // Appends the hour, the minute and the second, the separator between them, and decimals of the second.
 fn write_to_second<V: ComponentProvider>(
+    config: &Config,
     output: &mut Vec<u8>,
     value: &V,
     state: &mut V::State,
-    separator: &str,
     decimal_digits: Option<ru8<1, 255>>,
 ) -> usize
     requires supplied { IsTrue V.SUPPLIES_TIME }
     requires room { HasRoom output.old
-        (6 + 2 * length separator.now + decimal_part_width decimal_digits) }
+        (6 + 2 * length (separator config.now (codes ":")) + decimal_part_width decimal_digits) }
     requires agrees { V.agrees state.old value.now }
     ensures writes { IfSome (V.facts value.now).time
-        (λ t. Writes output.old output.new result (clock_text separator.now t
-        ++ decimal_part decimal_digits t.nanosecond NANOSECONDS_PER_SECOND)) }
+        (λ t. Writes output.old output.new result (clock_text (separator config.now (codes ":")) t
+        ++ decimal_part config.now.decimal_sign decimal_digits
+        t.nanosecond NANOSECONDS_PER_SECOND)) }
     ensures real { IfSome (V.facts value.now).time IsTimeOfDay }
     ensures within { vec_len output.new
-        ≤ vec_len output.old + (6 + 2 * length separator.now + decimal_part_width decimal_digits) }
+        ≤ vec_len output.old
+        + (6 + 2 * length (separator config.now (codes ":")) + decimal_part_width decimal_digits) }
     ensures agrees { V.agrees state.new value.now }
 {
-    let clock = write_clock_time(output, value, state, separator);
+    let clock = write_clock_time(output, value, state, config.separator(":"));
     let rest = u64::from(value.nanosecond(state).get());
-    clock + write_decimals(output, rest, NANOSECONDS_PER_SECOND, decimal_digits)
+    let sign = config.decimal_sign();
+    clock + write_decimals(output, rest, NANOSECONDS_PER_SECOND, sign, decimal_digits)
 }
 
 // What the whole hours leave out of the time.
@@ -183,23 +195,25 @@ fn nanoseconds_of_minute<V: ComponentProvider>(value: &V, state: &mut V::State) 
     NANOSECONDS_PER_SECOND * second + nanosecond
 }
 
-// Appends a point and the decimals of the rest over the unit, if any are wanted.
+// Appends the decimal sign and the decimals of the rest over the unit, if any are wanted.
 #[tactic(auto, using(crate::proofs::IsoWriteLemmas::decimal_lengths))]
 fn write_decimals(
     output: &mut Vec<u8>,
     rest: u64,
     unit: u64,
+    decimal_sign: DecimalSign,
     decimal_digits: Option<ru8<1, 255>>,
 ) -> usize
     requires part { rest < unit }
     requires unit { unit ≤ NANOSECONDS_PER_HOUR }
     requires room { HasRoom output.old (decimal_part_width decimal_digits) }
-    ensures writes { Writes output.old output.new result (decimal_part decimal_digits rest unit) }
+    ensures writes { Writes output.old output.new result
+        (decimal_part decimal_sign decimal_digits rest unit) }
     ensures within { vec_len output.new ≤ vec_len output.old + decimal_part_width decimal_digits }
 {
     let Some(digits) = decimal_digits else {
         return 0;
     };
-    let point = write(output, ".");
-    point + format_decimals(output, rest, unit, digits)
+    let sign = write(output, decimal_sign.text());
+    sign + format_decimals(output, rest, unit, digits)
 }

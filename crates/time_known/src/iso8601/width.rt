@@ -52,7 +52,7 @@ fn time_width(config: &Config) -> usize
     letter + units
 }
 
-// A point and the decimals, if any are wanted.
+// The decimal sign and the decimals, if any are wanted.
 fn decimals_width(decimal_digits: Option<ru8<1, 255>>) -> usize
     ensures width { result ≡ decimal_part_width decimal_digits }
     ensures most { result ≤ 256 }

@@ -1,10 +1,10 @@
-//! ISO 8601 by a configuration.
-use super::{assert_refused, assert_text, moment, refusal_name};
-use crate::Iso8601;
+//! ISO 8601 by a configuration. Each row is tried with both decimal signs.
+use super::{moment, refusal_name};
 use crate::iso8601::{
-    Config, DateKind, FormattedComponents, OffsetPrecision, TimePrecision, format_date,
-    format_offset, format_time,
+    Config, DateKind, DecimalSign, FormattedComponents, OffsetPrecision, TimePrecision,
+    format_date, format_offset, format_time,
 };
+use crate::{Iso8601, tests};
 use std::alloc::Global;
 use std::default::Default;
 use std::process::Abort;
@@ -80,8 +80,57 @@ fn example(rt: &impl Abort, nanosecond: u32) -> OffsetDateTime {
     )
 }
 
-/// Formats the value with a fresh state into an empty vector, and compares the bytes that stand before
-/// the refusal, and its name.
+/// The format with a point and with a comma, and the text with either sign.
+fn by_each_sign(
+    rt: &impl Abort,
+    alloc: Global,
+    format: &Iso8601,
+    text: &str,
+) -> [(Iso8601, String); 2] {
+    let config = format.config();
+    let point = Iso8601::new(config.set_decimal_sign(DecimalSign::Point));
+    let comma = Iso8601::new(config.set_decimal_sign(DecimalSign::Comma));
+    let (Ok(by_point), Ok(by_comma)) = (text.to_string(alloc), text.replace(alloc, ".", ",")) else {
+        panic!(rt; "no memory");
+    };
+    [(point, by_point), (comma, by_comma)]
+}
+
+/// Compares the text, the count and the width by either decimal sign.
+fn assert_text<V: ComponentProvider>(
+    rt: &impl Abort,
+    alloc: Global,
+    format: &Iso8601,
+    value: &V,
+    text: &str,
+    width: usize,
+)
+where
+    V::State: Drop,
+{
+    for (format, text) in by_each_sign(rt, alloc, format, text) {
+        tests::assert_text(rt, alloc, &format, value, text.as_str(), width);
+    }
+}
+
+/// Compares the refusal by either decimal sign. No byte is appended.
+fn assert_refused<V: ComponentProvider>(
+    rt: &impl Abort,
+    alloc: Global,
+    format: &Iso8601,
+    value: &V,
+    name: &str,
+)
+where
+    V::State: Drop,
+{
+    for (format, _) in by_each_sign(rt, alloc, format, "") {
+        tests::assert_refused(rt, alloc, &format, value, name);
+    }
+}
+
+/// Formats the value with a fresh state into an empty vector, by either decimal sign, and compares the
+/// bytes that stand before the refusal, and its name.
 fn assert_refused_after<V: ComponentProvider>(
     rt: &impl Abort,
     alloc: Global,
@@ -93,11 +142,13 @@ fn assert_refused_after<V: ComponentProvider>(
 where
     V::State: Drop,
 {
-    let mut output = Vec::new(alloc);
-    let mut state = V::State::default();
-    let answer = format.format_into(&mut output, value, &mut state);
-    assert_eq!(rt; refusal_name(&answer), name);
-    assert_eq!(rt; output.as_slice(), text.as_bytes());
+    for (format, text) in by_each_sign(rt, alloc, format, text) {
+        let mut output = Vec::new(alloc);
+        let mut state = V::State::default();
+        let answer = format.format_into(&mut output, value, &mut state);
+        assert_eq!(rt; refusal_name(&answer), name);
+        assert_eq!(rt; output.as_slice(), text.as_bytes());
+    }
 }
 
 #[test]
@@ -247,8 +298,8 @@ fn texts_of_times(rt: HostRuntime) {
     }
 }
 
-/// Formats the time, with separators, and compares its decimals: the first ones, and one digit that all
-/// others are.
+/// Formats the time, with separators and by either decimal sign, and compares its decimals: the first
+/// ones, and one digit that all others are.
 fn assert_decimals(
     rt: &impl Abort,
     alloc: Global,
@@ -257,8 +308,29 @@ fn assert_decimals(
     (whole, first, others): (&str, &str, u8),
     count: u8,
 ) {
-    let mut output = Vec::new(alloc);
     let format = time_format(precision, true);
+    for (format, whole) in by_each_sign(rt, alloc, &format, whole) {
+        assert_long_decimals(
+            rt,
+            alloc,
+            &format,
+            value,
+            (whole.as_str(), first, others),
+            count,
+        );
+    }
+}
+
+/// The same by one format.
+fn assert_long_decimals(
+    rt: &impl Abort,
+    alloc: Global,
+    format: &Iso8601,
+    value: &Time,
+    (whole, first, others): (&str, &str, u8),
+    count: u8,
+) {
+    let mut output = Vec::new(alloc);
     let answer = format.format_into(&mut output, value, &mut ());
     assert!(rt; matches!(&answer, Ok(length) if *length == output.len()));
     assert_eq!(rt; format.compute_metadata().max_bytes_needed, output.len());
@@ -312,6 +384,45 @@ fn decimals_at_both_ends_of_the_day(rt: HostRuntime) {
         ("00:00:00.", "000000001", b'0'),
         255,
     );
+}
+
+#[test]
+fn texts_with_a_comma(rt: HostRuntime) {
+    let comma = |format: Iso8601| Iso8601::new(
+        format.config().set_decimal_sign(DecimalSign::Comma),
+    );
+    for (precision, (hour, minute, second), text) in [
+        (hours(9), (0, 0, 10), "00,002777777"),
+        (minutes(1), (9, 55, 6), "09:55,1"),
+        (seconds(3), (9, 55, 6), "09:55:06,000"),
+        (seconds(0), (9, 55, 6), "09:55:06"),
+    ] {
+        let value = time_at(&rt, hour, minute, second, 0);
+        let format = comma(time_format(precision, true));
+        tests::assert_text(&rt, rt.alloc(), &format, &value, text, text.len());
+    }
+    let value = example(&rt, 0);
+    let text = "1997-11-12T09:55:06,000000000-06:00";
+    tests::assert_text(
+        &rt,
+        rt.alloc(),
+        &comma(Iso8601::default()),
+        &value,
+        text,
+        35,
+    );
+}
+
+#[test]
+fn a_point_by_default(rt: HostRuntime) {
+    let default = Config::default();
+    let point = default.set_decimal_sign(DecimalSign::Point);
+    let comma = default.set_decimal_sign(DecimalSign::Comma);
+    assert_eq!(rt; default, point);
+    assert!(rt; default != comma);
+    assert_eq!(rt; comma.set_decimal_sign(DecimalSign::Point), default);
+    let parsing = Iso8601::parsing().config();
+    assert_eq!(rt; parsing, parsing.set_decimal_sign(DecimalSign::Point));
 }
 
 #[test]
@@ -511,20 +622,30 @@ fn each_type_of_value(rt: HostRuntime) {
     assert_text(&rt, alloc, &Iso8601::time_offset(), &utc, midnight, 24);
 }
 
-#[test]
-fn each_part_by_itself(rt: HostRuntime) -> Result<(), Fail> {
-    let value = example(&rt, 0);
-    let nothing = Config::default().set_formatted_components(FormattedComponents::None);
+/// Compares the three parts of the example, one after another, by a configuration that formats none.
+fn assert_parts(rt: &impl Abort, alloc: Global, sign: DecimalSign, text: &str) -> Result<(), Fail> {
+    let value = example(rt, 0);
+    let nothing = Config::default()
+        .set_formatted_components(FormattedComponents::None)
+        .set_decimal_sign(sign);
     let mut state = DateState::default();
-    let mut output = Vec::with_capacity(rt.alloc(), 34)?;
+    let mut output = Vec::with_capacity(alloc, 34)?;
     let date = format_date(&nothing, &mut output, &value, &mut state);
     assert!(rt; matches!(&date, Ok(10)));
     let time = format_time(&nothing, &mut output, &value, &mut state);
     assert!(rt; matches!(&time, Ok(18)));
     let offset = format_offset(&nothing, &mut output, &value, &mut state);
     assert!(rt; matches!(&offset, Ok(6)));
-    let text = b"1997-11-1209:55:06.000000000-06:00".as_slice();
-    assert_eq!(rt; output.as_slice(), text);
+    assert_eq!(rt; output.as_slice(), text.as_bytes());
+    Ok(())
+}
+
+#[test]
+fn each_part_by_itself(rt: HostRuntime) -> Result<(), Fail> {
+    let by_point = "1997-11-1209:55:06.000000000-06:00";
+    assert_parts(&rt, rt.alloc(), DecimalSign::Point, by_point)?;
+    let by_comma = "1997-11-1209:55:06,000000000-06:00";
+    assert_parts(&rt, rt.alloc(), DecimalSign::Comma, by_comma)?;
     Ok(())
 }
 
