@@ -18,7 +18,7 @@ pub last_eight : (n : ℕ) (old bs : List ℕ) → bs ≡ old ++ fixed 9 n → d
 last_eight n old bs digits =
     let nine = length-fixed 9 n in
     let at : length bs - 8 ≡ length old + (length (fixed 9 n) - 8) =
-        omega (arith, ap length digits, length-append old (fixed 9 n), nine) in
+    omega (arith, ap length digits, length-append old (fixed 9 n), nine) in
     rw (at, digits, drop-append-add old (fixed 9 n) (length (fixed 9 n) - 8)) (last_of_nine n (fixed 9 n) refl)
 
 -- without the zeros that end these eight, the text ends in the trimmed fraction
@@ -27,7 +27,7 @@ pub without_zeros : (n gone : ℕ) (old bs : List ℕ) → bs ≡ old ++ fixed 9
 without_zeros n gone old bs digits dropped =
     let most : gone ≤ 8 = omega (arith, dropped, last_zeros-le (fixed 8 n), length-fixed 8 n) in
     let at : length bs - gone ≡ length old + (9 - gone) =
-        omega (arith, ap length digits, length-append old (fixed 9 n), length-fixed 9 n, most) in
+    omega (arith, ap length digits, length-append old (fixed 9 n), length-fixed 9 n, most) in
     rw (at, digits, take-append-add old (fixed 9 n) (9 - gone), dropped) (ap (λ (bs : List ℕ). old ++ bs) (sym (trimmed_fraction-take n)))
 
 -- the trimmed fraction has as many digits as there are zeros less than nine

@@ -4,11 +4,15 @@
 ghost use Rattle.std.specs.Prelude.{◌≡◌, ◌+◌, ◌≤◌, codes, length, IsTrue, IfSome, vec_len, vec_capacity};
 ghost use Rattle.time_below.specs.Offset.{IsOffset};
 ghost use Rattle.time_below.specs.TimeOfDay.{IsTimeOfDay};
+ghost use Rattle.time_below.specs.Month.{month_number};
+ghost use Rattle.time_below.specs.Weekday.{days_from_monday};
 ghost use Rattle.time_digits.specs.Digits.{fixed, zero_padded};
 ghost use Rattle.time_digits.specs.Fraction.{trimmed_fraction};
+ghost use Rattle.time_fmt.specs.DateText.{month_name, weekday_name, short_name};
 ghost use Rattle.time_fmt.specs.Room.{HasRoom, Writes};
 ghost use Rattle.time_known.specs.WellKnown.{clock_text, offset_text};
 
+use time_below::{Month, Weekday};
 use time_digits::{
     four_digits_zero_padded, ru8, ru16, subsecond_from_nanos, two_digits_zero_padded, zeros_to_drop,
 };
@@ -34,6 +38,62 @@ pub(crate) fn write_four_digits(output: &mut Vec<u8>, number: ru16<0, 9_999>) ->
     let [high, low] = four_digits_zero_padded(number);
     let first = write(output, high);
     first + write(output, low)
+}
+
+/// Appends three bytes.
+#[inline(always)]
+fn write_three(output: &mut Vec<u8>, bytes: [u8; 3]) -> usize
+    requires room { HasRoom output.old 3 }
+    ensures writes { Writes output.old output.new result bytes }
+{
+    let [first, second, third] = bytes;
+    output.push_reserved(first);
+    output.push_reserved(second);
+    output.push_reserved(third);
+    3
+}
+
+/// Appends the first three letters of the month's English name.
+#[inline(always)]
+pub(crate) fn write_month_name(output: &mut Vec<u8>, month: Month) -> usize
+    requires room { HasRoom output.old 3 }
+    ensures writes { Writes output.old output.new result
+        (short_name (month_name (month_number month))) }
+{
+    let name = match month {
+        Month::January => *b"Jan",
+        Month::February => *b"Feb",
+        Month::March => *b"Mar",
+        Month::April => *b"Apr",
+        Month::May => *b"May",
+        Month::June => *b"Jun",
+        Month::July => *b"Jul",
+        Month::August => *b"Aug",
+        Month::September => *b"Sep",
+        Month::October => *b"Oct",
+        Month::November => *b"Nov",
+        Month::December => *b"Dec",
+    };
+    write_three(output, name)
+}
+
+/// Appends the first three letters of the weekday's English name.
+#[inline(always)]
+pub(crate) fn write_weekday_name(output: &mut Vec<u8>, weekday: Weekday) -> usize
+    requires room { HasRoom output.old 3 }
+    ensures writes { Writes output.old output.new result
+        (short_name (weekday_name (days_from_monday weekday))) }
+{
+    let name = match weekday {
+        Weekday::Monday => *b"Mon",
+        Weekday::Tuesday => *b"Tue",
+        Weekday::Wednesday => *b"Wed",
+        Weekday::Thursday => *b"Thu",
+        Weekday::Friday => *b"Fri",
+        Weekday::Saturday => *b"Sat",
+        Weekday::Sunday => *b"Sun",
+    };
+    write_three(output, name)
 }
 
 /// Appends the nine digits of a fraction of a second.

@@ -176,7 +176,7 @@ fn write_full_date<V: ComponentProvider>(
     ensures agrees { V.agrees state.new value.now }
 {
     let day = value.day(state);
-    let month = ru8::new(u8::from(value.month(state))).unwrap();
+    let month = ru8::within(u8::from(value.month(state)));
     let count = write_four_digits(output, year);
     let dash = write(output, "-");
     let month = write_pair(output, month);

@@ -29,7 +29,7 @@ returns c =
     let mid = c.write_nine_digits.new.output in
     let len : length mid.items ≡ vec_len mid = sym (ap length c.deref.ensures.value) ∙ c.deref.ensures.len in
     let dropped : c.zeros_to_drop-zeros.result ≡ last_zeros (fixed 8 c.args.nanosecond) =
-        c.zeros_to_drop-zeros.ensures.value ∙ ap last_zeros (word_is before) in
+    c.zeros_to_drop-zeros.ensures.value ∙ ap last_zeros (word_is before) in
     record {
       writes = writes_trimmed c.args.nanosecond c.zeros_to_drop-zeros.result c.args.output.now mid c.truncate.new.self
           c.write_nine_digits.result c.write_nine_digits.ensures.writes len dropped

@@ -8,7 +8,7 @@ use Rattle.time_fmt.specs.Room.{Writes}
 use Rattle.time_fmt.proofs.WriteLemmas.{writes_then}
 use Rattle.time_known.specs.Rfc2822.{rfc2822_text, named_date_text, zone_text}
 use Rattle.time_known.specs.WellKnown.{clock_text}
-use Rattle.time_known.proofs.rfc2822.write_date_time.Goals as goal
+use Rattle.time_known.proofs.rfc2822.append_date_time.Goals as goal
 
 -- the parts one after another are the text
 joined : (date : Option DateFacts) (time : Option TimeOfDay) (offset : Option Offset)
@@ -28,5 +28,5 @@ pub returns-clause-writes : goal.returns-clause-writes
 returns-clause-writes g c =
     let f = g.V.ComponentProvider.facts c.args.value.now in
     joined f.date f.time f.offset _ _ _ _ _ _ _ _ _ _ _ c.write_named_date-date.ensures.writes
-    c.write-space.ensures.writes c.write_clock_time-time.ensures.writes c.write-second_space.ensures.writes
-    c.write_offset.ensures.writes
+    c.write-space.ensures.writes c.write_clock-time.ensures.writes c.write-second_space.ensures.writes
+    c.write_signed_offset.ensures.writes
