@@ -25,7 +25,7 @@ pub(crate) fn four_digit_year(year: Year, first: u16) -> Option<ru16<0, 9_999>>
     if number < first as i32 || number > 9_999 {
         return None;
     }
-    Some(ru16::new(number.unsigned_abs() as u16).unwrap())
+    Some(ru16::within(number.unsigned_abs() as u16))
 }
 
 /// Appends the month and the day, of two digits each, and the separator before each of them.

@@ -12,13 +12,14 @@ ghost use Rattle.time_known.specs.Rfc2822.{rfc2822_width, rfc2822_outcome, rfc28
 ghost use Rattle.time_known.specs.Rfc2822Grammar.{Rfc2822Spells, to_whole_second};
 
 use crate::groups::Groups;
-use crate::parts::{four_digit_year, write_clock_time, write_offset};
-use time_below::format_description::modifier;
-use time_below::format_description::modifier::Padding;
-use time_digits::ru16;
-use time_fmt::writers::{
-    fmt_day, fmt_month_short, fmt_weekday_short, format_four_digits_pad_zero, write,
+use crate::parts::four_digit_year;
+use crate::pieces::{
+    write_clock, write_four_digits, write_month_name, write_pair, write_signed_offset,
+    write_weekday_name,
 };
+use std::mem::{forget, replace};
+use time_digits::ru16;
+use time_fmt::writers::write;
 use time_fmt::{ComputeMetadata, Format, Formattable, Metadata};
 use time_provide::ComponentProvider;
 
@@ -66,6 +67,7 @@ impl Formattable for Rfc2822 {
 }
 
 // The year of four digits, or the name of the first component that has no place in such a text.
+#[inline]
 fn accepted_year<V: ComponentProvider>(
     value: &V,
     state: &mut V::State,
@@ -93,9 +95,39 @@ fn accepted_year<V: ComponentProvider>(
     Ok(year)
 }
 
-// Appends `date-time`, of this year.
-#[tactic(auto, using(crate::proofs::WritingLemmas::part_lengths))]
+// Appends `date-time`, of this year. The vector is taken out meanwhile, so that the compiler sees that
+// its block does not move.
+#[inline]
 fn write_date_time<V: ComponentProvider>(
+    output: &mut Vec<u8>,
+    year: ru16<0, 9_999>,
+    value: &V,
+    state: &mut V::State,
+) -> usize
+    requires date { IsTrue V.SUPPLIES_DATE }
+    requires time { IsTrue V.SUPPLIES_TIME }
+    requires offset { IsTrue V.SUPPLIES_OFFSET }
+    requires year { IfSome (V.facts value.now).date (λ d. year ≡ unsigned_abs d.year) }
+    requires room { HasRoom output.old rfc2822_width }
+    requires agrees { V.agrees state.old value.now }
+    ensures writes { IfAll (V.facts value.now)
+        (λ d t o. Writes output.old output.new result (rfc2822_text d t o)) }
+    ensures real { IfSome (V.facts value.now).time IsTimeOfDay }
+    ensures within { vec_len output.new ≤ vec_len output.old + rfc2822_width }
+    ensures capacity { vec_capacity output.new ≡ vec_capacity output.old }
+    ensures agrees { V.agrees state.new value.now }
+{
+    let alloc = *output.allocator();
+    let mut taken = replace(output, Vec::new(alloc));
+    let count = append_date_time(&mut taken, year, value, state);
+    forget(replace(output, taken));
+    count
+}
+
+// Appends `date-time`, of this year, in pieces that are inlined.
+#[inline(always)]
+#[tactic(auto, using(crate::proofs::WritingLemmas::part_lengths))]
+fn append_date_time<V: ComponentProvider>(
     output: &mut Vec<u8>,
     year: ru16<0, 9_999>,
     value: &V,
@@ -116,12 +148,13 @@ fn write_date_time<V: ComponentProvider>(
 {
     let date = write_named_date(output, year, value, state);
     let space = write(output, " ");
-    let time = write_clock_time(output, value, state, ":");
+    let time = write_clock(output, value, state);
     let second_space = write(output, " ");
-    date + space + time + second_space + write_offset(output, value, state, "")
+    date + space + time + second_space + write_signed_offset(output, value, state, "")
 }
 
 // Appends `day-of-week "," date`, of this year.
+#[inline(always)]
 #[tactic(auto, using(crate::proofs::WritingLemmas::part_lengths))]
 fn write_named_date<V: ComponentProvider>(
     output: &mut Vec<u8>,
@@ -139,15 +172,13 @@ fn write_named_date<V: ComponentProvider>(
     ensures capacity { vec_capacity output.new ≡ vec_capacity output.old }
     ensures agrees { V.agrees state.new value.now }
 {
-    let modifier = modifier::WeekdayShort {
-        case_sensitive: true,
-    };
-    let weekday = fmt_weekday_short(output, value.weekday(state), modifier);
+    let weekday = write_weekday_name(output, value.weekday(state));
     let comma = write(output, ", ");
     weekday + comma + write_date(output, year, value, state)
 }
 
-// Appends `date`, of this year.
+// Appends `date`, of this year. The day is read first, since its computation gives the month too.
+#[inline(always)]
 #[tactic(auto, using(crate::proofs::WritingLemmas::part_lengths))]
 fn write_date<V: ComponentProvider>(
     output: &mut Vec<u8>,
@@ -165,13 +196,11 @@ fn write_date<V: ComponentProvider>(
     ensures capacity { vec_capacity output.new ≡ vec_capacity output.old }
     ensures agrees { V.agrees state.new value.now }
 {
-    let padding = Padding::Zero;
-    let day = fmt_day(output, value.day(state), modifier::Day { padding });
+    let day = value.day(state);
+    let month = value.month(state);
+    let count = write_pair(output, day.expand());
     let space = write(output, " ");
-    let modifier = modifier::MonthShort {
-        case_sensitive: true,
-    };
-    let month = fmt_month_short(output, value.month(state), modifier);
+    let name = write_month_name(output, month);
     let second_space = write(output, " ");
-    day + space + month + second_space + format_four_digits_pad_zero(output, year)
+    count + space + name + second_space + write_four_digits(output, year)
 }

@@ -12,11 +12,13 @@ ghost use Rattle.time_known.specs.Rfc3339.{rfc3339_width, rfc3339_outcome, rfc33
 ghost use Rattle.time_known.specs.Rfc3339Grammar.{Rfc3339Spells, IsCanonicalRfc3339};
 
 use crate::groups::Groups;
-use crate::parts::{four_digit_year, write_clock_time, write_month_and_day, write_offset};
-use time_below::format_description::modifier;
-use time_below::format_description::modifier::SubsecondDigits;
-use time_digits::ru16;
-use time_fmt::writers::{fmt_subsecond, format_four_digits_pad_zero, write};
+use crate::parts::four_digit_year;
+use crate::pieces::{
+    write_clock, write_four_digits, write_fraction, write_pair, write_signed_offset,
+};
+use std::mem::{forget, replace};
+use time_digits::{ru8, ru16};
+use time_fmt::writers::write;
 use time_fmt::{ComputeMetadata, Format, Formattable, Metadata};
 use time_provide::ComponentProvider;
 
@@ -65,6 +67,7 @@ impl Formattable for Rfc3339 {
 }
 
 // The year of four digits, or the name of the first component that has no place in such a text.
+#[inline]
 fn accepted_year<V: ComponentProvider>(
     value: &V,
     state: &mut V::State,
@@ -95,9 +98,39 @@ fn accepted_year<V: ComponentProvider>(
     Ok(year)
 }
 
-// Appends `date-time`, of this year.
-#[tactic(auto, using(crate::proofs::WritingLemmas::part_lengths))]
+// Appends `date-time`, of this year. The vector is taken out meanwhile, so that the compiler sees that
+// its block does not move.
+#[inline]
 fn write_date_time<V: ComponentProvider>(
+    output: &mut Vec<u8>,
+    year: ru16<0, 9_999>,
+    value: &V,
+    state: &mut V::State,
+) -> usize
+    requires date { IsTrue V.SUPPLIES_DATE }
+    requires time { IsTrue V.SUPPLIES_TIME }
+    requires offset { IsTrue V.SUPPLIES_OFFSET }
+    requires year { IfSome (V.facts value.now).date (λ d. year ≡ unsigned_abs d.year) }
+    requires room { HasRoom output.old rfc3339_width }
+    requires agrees { V.agrees state.old value.now }
+    ensures writes { IfAll (V.facts value.now)
+        (λ d t o. Writes output.old output.new result (rfc3339_text d t o)) }
+    ensures real { IfSome (V.facts value.now).time IsTimeOfDay }
+    ensures within { vec_len output.new ≤ vec_len output.old + rfc3339_width }
+    ensures capacity { vec_capacity output.new ≡ vec_capacity output.old }
+    ensures agrees { V.agrees state.new value.now }
+{
+    let alloc = *output.allocator();
+    let mut taken = replace(output, Vec::new(alloc));
+    let count = append_date_time(&mut taken, year, value, state);
+    forget(replace(output, taken));
+    count
+}
+
+// Appends `date-time`, of this year, in pieces that are inlined.
+#[inline(always)]
+#[tactic(auto, using(crate::proofs::WritingLemmas::part_lengths))]
+fn append_date_time<V: ComponentProvider>(
     output: &mut Vec<u8>,
     year: ru16<0, 9_999>,
     value: &V,
@@ -118,12 +151,13 @@ fn write_date_time<V: ComponentProvider>(
 {
     let date = write_full_date(output, year, value, state);
     let letter = write(output, "T");
-    let time = write_clock_time(output, value, state, ":");
+    let time = write_clock(output, value, state);
     let fraction = write_time_secfrac(output, value, state);
     date + letter + time + fraction + write_time_offset(output, value, state)
 }
 
-// Appends `full-date`, of this year.
+// Appends `full-date`, of this year. The day is read first, since its computation gives the month too.
+#[inline(always)]
 #[tactic(auto, using(crate::proofs::WritingLemmas::part_lengths))]
 fn write_full_date<V: ComponentProvider>(
     output: &mut Vec<u8>,
@@ -141,11 +175,17 @@ fn write_full_date<V: ComponentProvider>(
     ensures capacity { vec_capacity output.new ≡ vec_capacity output.old }
     ensures agrees { V.agrees state.new value.now }
 {
-    let count = format_four_digits_pad_zero(output, year);
-    count + write_month_and_day(output, value, state, "-")
+    let day = value.day(state);
+    let month = ru8::within(u8::from(value.month(state)));
+    let count = write_four_digits(output, year);
+    let dash = write(output, "-");
+    let month = write_pair(output, month);
+    let second_dash = write(output, "-");
+    count + dash + month + second_dash + write_pair(output, day.expand())
 }
 
 // Appends `time-secfrac`, if there is a fraction of a second.
+#[inline(always)]
 #[tactic(auto, using(crate::proofs::WritingLemmas::part_lengths))]
 fn write_time_secfrac<V: ComponentProvider>(
     output: &mut Vec<u8>,
@@ -166,13 +206,11 @@ fn write_time_secfrac<V: ComponentProvider>(
         return 0;
     }
     let point = write(output, ".");
-    let modifier = modifier::Subsecond {
-        digits: SubsecondDigits::OneOrMore,
-    };
-    point + fmt_subsecond(output, nanosecond, modifier)
+    point + write_fraction(output, nanosecond)
 }
 
 // Appends `time-offset`.
+#[inline(always)]
 #[tactic(auto, using(crate::proofs::WritingLemmas::part_lengths))]
 fn write_time_offset<V: ComponentProvider>(
     output: &mut Vec<u8>,
@@ -191,6 +229,6 @@ fn write_time_offset<V: ComponentProvider>(
     if value.offset_is_utc(state) {
         write(output, "Z")
     } else {
-        write_offset(output, value, state, ":")
+        write_signed_offset(output, value, state, ":")
     }
 }

@@ -33,7 +33,7 @@ impl DateState {
             return day;
         }
         let (_, month, day) = date.to_calendar_date();
-        let day = ru8::new(day).unwrap();
+        let day = ru8::within(day);
         self.month = Some(month);
         self.day = Some(day);
         day
@@ -91,8 +91,8 @@ impl DateState {
         ensures agrees { Agrees self.new (date_facts date) }
     {
         let (year, week) = date.iso_year_week();
-        let year = ri32::new(year).unwrap();
-        let week = ru8::new(week).unwrap();
+        let year = ri32::within(year);
+        let week = ru8::within(week);
         self.iso_year = Some(year);
         self.iso_week = Some(week);
         (year, week)

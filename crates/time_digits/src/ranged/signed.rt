@@ -33,6 +33,15 @@ impl<const MAX: u8> ri8<MAX> {
         }
     }
 
+    /// The number `n`, of which it is known that it lies in `-MAX` to `MAX`; nothing is tested.
+    #[inline]
+    pub fn within(n: i8) -> Self
+        requires range { unsigned_abs n ≤ MAX }
+        ensures { result ≡ n }
+    {
+        ri8 { number: n }
+    }
+
     /// The number, from `-MAX` to `MAX`.
     #[inline]
     pub fn get(self) -> i8
@@ -109,6 +118,15 @@ impl<const MAX: u16> ri16<MAX> {
         }
     }
 
+    /// The number `n`, of which it is known that it lies in `-MAX` to `MAX`; nothing is tested.
+    #[inline]
+    pub fn within(n: i16) -> Self
+        requires range { unsigned_abs n ≤ MAX }
+        ensures { result ≡ n }
+    {
+        ri16 { number: n }
+    }
+
     /// The number, from `-MAX` to `MAX`.
     #[inline]
     pub fn get(self) -> i16
@@ -183,6 +201,15 @@ impl<const MAX: u32> ri32<MAX> {
         } else {
             None
         }
+    }
+
+    /// The number `n`, of which it is known that it lies in `-MAX` to `MAX`; nothing is tested.
+    #[inline]
+    pub fn within(n: i32) -> Self
+        requires range { unsigned_abs n ≤ MAX }
+        ensures { result ≡ n }
+    {
+        ri32 { number: n }
     }
 
     /// The number, from `-MAX` to `MAX`.

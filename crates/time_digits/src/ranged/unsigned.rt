@@ -32,9 +32,9 @@ impl<const MIN: u8, const MAX: u8> ru8<MIN, MAX> {
         }
     }
 
-    // The number `n`, of which it is known that it lies in `MIN` to `MAX`; nothing is tested.
+    /// The number `n`, of which it is known that it lies in `MIN` to `MAX`; nothing is tested.
     #[inline]
-    pub(crate) fn within(n: u8) -> Self
+    pub fn within(n: u8) -> Self
         requires least { MIN ≤ n }
         requires greatest { n ≤ MAX }
         ensures { result ≡ n }
@@ -102,9 +102,9 @@ impl<const MIN: u16, const MAX: u16> ru16<MIN, MAX> {
         }
     }
 
-    // The number `n`, of which it is known that it lies in `MIN` to `MAX`; nothing is tested.
+    /// The number `n`, of which it is known that it lies in `MIN` to `MAX`; nothing is tested.
     #[inline]
-    pub(crate) fn within(n: u16) -> Self
+    pub fn within(n: u16) -> Self
         requires least { MIN ≤ n }
         requires greatest { n ≤ MAX }
         ensures { result ≡ n }
@@ -172,9 +172,9 @@ impl<const MIN: u32, const MAX: u32> ru32<MIN, MAX> {
         }
     }
 
-    // The number `n`, of which it is known that it lies in `MIN` to `MAX`; nothing is tested.
+    /// The number `n`, of which it is known that it lies in `MIN` to `MAX`; nothing is tested.
     #[inline]
-    pub(crate) fn within(n: u32) -> Self
+    pub fn within(n: u32) -> Self
         requires least { MIN ≤ n }
         requires greatest { n ≤ MAX }
         ensures { result ≡ n }

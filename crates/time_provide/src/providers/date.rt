@@ -47,7 +47,7 @@ impl ComponentProvider for Date {
     }
 
     fn ordinal(&self, _state: &mut DateState) -> Ordinal {
-        ru16::new((*self).ordinal()).unwrap()
+        ru16::within((*self).ordinal())
     }
 
     fn weekday(&self, _state: &mut DateState) -> Weekday {
@@ -62,16 +62,16 @@ impl ComponentProvider for Date {
 
     fn monday_based_week(&self, _state: &mut DateState) -> MondayBasedWeek {
         let _is_date = (*self).ordinal();
-        ru8::new((*self).monday_based_week()).unwrap()
+        ru8::within((*self).monday_based_week())
     }
 
     fn sunday_based_week(&self, _state: &mut DateState) -> SundayBasedWeek {
         let _is_date = (*self).ordinal();
-        ru8::new((*self).sunday_based_week()).unwrap()
+        ru8::within((*self).sunday_based_week())
     }
 
     fn calendar_year(&self, _state: &mut DateState) -> Year {
-        ri32::new((*self).year()).unwrap()
+        ri32::within((*self).year())
     }
 
     fn iso_year(&self, state: &mut DateState) -> Year {

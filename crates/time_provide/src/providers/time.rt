@@ -89,11 +89,11 @@ impl ComponentProvider for Time {
     }
 
     fn hour(&self, _state: &mut ()) -> Hours {
-        ru8::new(self.as_hms_nano().0).unwrap()
+        ru8::within(self.as_hms_nano().0)
     }
 
     fn minute(&self, _state: &mut ()) -> Minutes {
-        ru8::new(self.as_hms_nano().1).unwrap()
+        ru8::within(self.as_hms_nano().1)
     }
 
     fn period(&self, _state: &mut ()) -> Period {
@@ -105,11 +105,11 @@ impl ComponentProvider for Time {
     }
 
     fn second(&self, _state: &mut ()) -> Seconds {
-        ru8::new(self.as_hms_nano().2).unwrap()
+        ru8::within(self.as_hms_nano().2)
     }
 
     fn nanosecond(&self, _state: &mut ()) -> Nanoseconds {
-        ru32::new(self.as_hms_nano().3).unwrap()
+        ru32::within(self.as_hms_nano().3)
     }
 
     fn offset_is_negative(&self, _state: &mut ()) -> bool

@@ -98,7 +98,7 @@ impl ComponentProvider for Timestamp {
     }
 
     fn nanosecond(&self, _state: &mut TimestampState) -> Nanoseconds {
-        ru32::new(self.as_parts().1).unwrap()
+        ru32::within(self.as_parts().1)
     }
 
     fn offset_is_negative(&self, _state: &mut TimestampState) -> bool {

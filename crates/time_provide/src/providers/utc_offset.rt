@@ -129,15 +129,15 @@ impl ComponentProvider for UtcOffset {
     }
 
     fn offset_hour(&self, _state: &mut ()) -> OffsetHours {
-        ri8::new(self.as_hms().0).unwrap()
+        ri8::within(self.as_hms().0)
     }
 
     fn offset_minute(&self, _state: &mut ()) -> OffsetMinutes {
-        ri8::new(self.as_hms().1).unwrap()
+        ri8::within(self.as_hms().1)
     }
 
     fn offset_second(&self, _state: &mut ()) -> OffsetSeconds {
-        ri8::new(self.as_hms().2).unwrap()
+        ri8::within(self.as_hms().2)
     }
 
     fn unix_timestamp_seconds(&self, _state: &mut ()) -> i64
