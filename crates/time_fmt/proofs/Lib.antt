@@ -7,6 +7,7 @@ pub mod GuaranteeLemmas
 pub mod RealLemmas
 pub mod LawLemmas
 pub mod LongDivisionLemmas
+pub mod LongestLemmas
 pub mod NumberLemmas
 pub mod TextLemmas
 pub mod WriteLemmas

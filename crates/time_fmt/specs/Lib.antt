@@ -4,6 +4,7 @@ pub mod Description
 pub mod Errors
 pub mod Guarantee
 pub mod Laws
+pub mod Longest
 pub mod Lossy
 pub mod Outcome
 pub mod Room

@@ -1,6 +1,7 @@
 //! What is known of a text before it is written.
 ghost use Rattle.std.specs.Prelude.{◌≡◌, ℕ, Bool, min, true};
 ghost use Rattle.time_below.specs.Width.{component_width};
+ghost use Rattle.time_fmt.specs.Longest.{ReachesWidth};
 
 use time_below::format_description::{Component, Metadata, component_width};
 
@@ -12,16 +13,23 @@ pub trait ComputeMetadata {
     /// Whether no byte literal is among what the width counts.
     ghost is_guaranteed: { Self → Bool };
 
+    /// That the text of some value has as many bytes as the width, where the width comes from the
+    /// table of widths; of the sums of other widths nothing is said.
+    ghost reaches_width: { Self → Type 0 } = { λ _. Unit {0} };
+
     /// The most bytes that the text may have, and whether it is sure to be UTF-8.
     fn compute_metadata(&self) -> Metadata
         ensures width { result.max_bytes_needed ≡ min (width_of self.now) usize.MAX }
-        ensures text { result.guaranteed_utf8 ≡ is_guaranteed self.now };
+        ensures text { result.guaranteed_utf8 ≡ is_guaranteed self.now }
+        ensures reached { reaches_width self.now };
 }
 
 impl ComputeMetadata for Component {
     ghost width_of = { component_width };
 
     ghost is_guaranteed = { λ _. true };
+
+    ghost reaches_width = { ReachesWidth };
 
     fn compute_metadata(&self) -> Metadata {
         Metadata {

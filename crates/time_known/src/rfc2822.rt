@@ -6,6 +6,7 @@ ghost use Rattle.time_fmt.specs.Outcome.{done, refused, invalid_component};
 ghost use Rattle.time_fmt.specs.Room.{HasRoom, Writes};
 ghost use Rattle.time_provide.specs.Real.{AreOfDate};
 ghost use Rattle.time_known.specs.Groups.{IfAll};
+ghost use Rattle.time_known.specs.Longest.{FillsRfc2822Width};
 ghost use Rattle.time_known.specs.ReadBack.{ReadsAs};
 ghost use Rattle.time_known.specs.Rfc2822.{rfc2822_width, rfc2822_outcome, rfc2822_text, named_date_text, date_text};
 ghost use Rattle.time_known.specs.Rfc2822Grammar.{Rfc2822Spells, to_whole_second};
@@ -32,6 +33,8 @@ impl ComputeMetadata for Rfc2822 {
     ghost width_of = { λ _. rfc2822_width };
 
     ghost is_guaranteed = { λ _. true };
+
+    ghost reaches_width = { λ _. FillsRfc2822Width };
 
     fn compute_metadata(&self) -> Metadata {
         Metadata {

@@ -6,6 +6,7 @@ ghost use Rattle.time_fmt.specs.Outcome.{done, refused, invalid_component};
 ghost use Rattle.time_fmt.specs.Room.{HasRoom, Writes};
 ghost use Rattle.time_provide.specs.Real.{AreOfDate};
 ghost use Rattle.time_known.specs.Groups.{IfAll};
+ghost use Rattle.time_known.specs.Longest.{FillsRfc3339Width};
 ghost use Rattle.time_known.specs.ReadBack.{ReadsAs};
 ghost use Rattle.time_known.specs.Rfc3339.{rfc3339_width, rfc3339_outcome, rfc3339_text, full_date_text, time_secfrac_text, time_offset_text};
 ghost use Rattle.time_known.specs.Rfc3339Grammar.{Rfc3339Spells, IsCanonicalRfc3339};
@@ -31,6 +32,8 @@ impl ComputeMetadata for Rfc3339 {
     ghost width_of = { λ _. rfc3339_width };
 
     ghost is_guaranteed = { λ _. true };
+
+    ghost reaches_width = { λ _. FillsRfc3339Width };
 
     fn compute_metadata(&self) -> Metadata {
         Metadata {

@@ -1,15 +1,18 @@
 -- The fields of a line, and the numbers that digits spell.
-use Rattle.std.proofs.Common.{ℕ, ◌≡◌, ◌+◌, ◌-◌, ◌*◌, ◌^◌, ◌<◌, ◌≤◌, Bool, true, List, [], ◌∷◌, length, take, drop, get_or, Option, Some, None, refl, lit≤, arith, rules}
+use Rattle.std.proofs.Common.{ℕ, ◌≡◌, ◌+◌, ◌-◌, ◌*◌, ◌^◌, ◌<◌, ◌≤◌, Bool, true, List, [], ◌∷◌, length, take, drop, get_or, Option, Some, None, refl, ◌∙◌, arith, rules}
 use Rattle.std.proofs.lemmas.Int.Digits.{digits_value_more}
+use Rattle.std.proofs.lemmas.List.{length-take}
+use Rattle.std.proofs.lemmas.List.Folds.{list_all_more}
 use Rattle.std.proofs.lemmas.List.Splits.{slice_split_first}
 use Rattle.std.proofs.lemmas.Str.{digit_value_digit}
-use Rattle.std.proofs.lemmas.Str.Parse.{IsDigitsTest, IsNumeralModel, numerals_by_value, digit_at, digits_value_short, digits_value-take-le}
+use Rattle.std.proofs.lemmas.Str.Parse.{IsDigitsTest, IsNumeralModel, numerals_by_value, digits_value_short}
 use Rattle.std.specs.Char.{is_ascii_digit, digit_value}
+use Rattle.std.specs.Int.{IsInRange}
 use Rattle.std.specs.List.{slice_split, list_all, position, position_or_len}
 use Rattle.std.specs.Option.{MatchOption}
-use Rattle.std.specs.Str.Parse.{digits_value, AllDigits}
+use Rattle.std.specs.Str.Parse.{digits_value}
 use Rattle.time_show.specs.declared.fields.TheConstants.{DIGITS_LIMIT}
-use Rattle.time_show.specs.Fields.{is_natural}
+use Rattle.time_show.specs.Fields.{is_natural, natural_of}
 
 -- where nothing is found there is one part
 parts-none : (p : ℕ → Bool) (xs : List ℕ) → length xs ≤ position_or_len p xs → slice_split p xs ≡ xs ∷ []
@@ -38,29 +41,41 @@ tells_natural = search rules
 numerals : IsNumeralModel (λ ds. list_all is_ascii_digit ds ≡ true) (digits_value 10)
 numerals = numerals_by_value _ tells_natural
 
--- the first digits of a number spell a number of nine digits at most
-value-below : (ds : List ℕ) (i : ℕ) → is_natural ds ≡ true → digits_value 10 (take i ds) < 10 ^ DIGITS_LIMIT
-value-below ds i h = omega (arith, digits_value-take-le 10 ds i (lit≤ tt), digits_value_short numerals ds DIGITS_LIMIT (natural-digits ds h) (natural-length ds h))
+-- a number of a line has nine digits at most
+pub value-small : (ds : List ℕ) → is_natural ds ≡ true → digits_value 10 ds < 10 ^ DIGITS_LIMIT
+value-small ds h = digits_value_short numerals ds DIGITS_LIMIT (natural-digits ds h) (natural-length ds h)
 
--- one more digit of a number that is spelled: ten times the value so far, and the digit, by its code from that of `0`, which is 48
-pub record NextDigit (ds : List ℕ) (i : ℕ) : Type 0 where
+-- one more digit after others: ten times the value so far, and the digit, by its code from that of `0`, which is 48
+pub record DigitMore (ds : List ℕ) (i : ℕ) : Type 0 where
+  pub digits : list_all is_ascii_digit (take (i + 1) ds) ≡ true
   pub is_digit : 48 ≤ get_or ds i 0
   pub value : digits_value 10 (take (i + 1) ds) ≡ digits_value 10 (take i ds) * 10 + (get_or ds i 0 - 48)
   pub small : digits_value 10 (take (i + 1) ds) < 10 ^ DIGITS_LIMIT
 
--- each place of a number that is spelled has one
-pub next_digit : (ds : List ℕ) (i : ℕ) → is_natural ds ≡ true → i < length ds → NextDigit ds i
-next_digit ds i h lt =
-    let digits : AllDigits 10 ds = numerals.to ds (natural-digits ds h) in
-    let range = digit_at ds i digits lt in
+-- the codes of digits
+digit-range : (b : ℕ) → is_ascii_digit b ≡ true → IsInRange 48 57 b
+digit-range b h = grind arith
+
+-- each place where a digit stands behind digits has one more
+pub digit_more : (ds : List ℕ) (i : ℕ) → length ds ≤ DIGITS_LIMIT → list_all is_ascii_digit (take i ds) ≡ true → i < length ds →
+    is_ascii_digit (get_or ds i 0) ≡ true → DigitMore ds i
+digit_more ds i short before lt here =
+    let all : list_all is_ascii_digit (take (i + 1) ds) ≡ true = list_all_more is_ascii_digit ds i 0 lt ∙ rw (before, here) refl in
+    let range : IsInRange 48 57 (get_or ds i 0) = digit-range _ here in
     let is : digit_value (get_or ds i 0) + 48 ≡ get_or ds i 0 = digit_value_digit (get_or ds i 0) range in
     let more = digits_value_more 10 ds i lt in
     record {
+      digits = all;
       is_digit = omega arith;
       value = omega arith;
-      small = value-below ds (i + 1) h;
+      small = digits_value_short numerals (take (i + 1) ds) DIGITS_LIMIT all (omega (arith, length-take (i + 1) ds));
     }
 
--- a number of a line has nine digits at most
-pub value-small : (ds : List ℕ) → is_natural ds ≡ true → digits_value 10 ds < 10 ^ DIGITS_LIMIT
-value-small ds h = digits_value_short numerals ds DIGITS_LIMIT (natural-digits ds h) (natural-length ds h)
+-- one to nine digits are a number
+pub natural-when : (ds : List ℕ) → 0 < length ds → length ds ≤ DIGITS_LIMIT → list_all is_ascii_digit ds ≡ true → is_natural ds ≡ true
+natural-when ds some short all = grind arith
+
+-- they spell their value
+pub natural-whole : (ds : List ℕ) → 0 < length ds → length ds ≤ DIGITS_LIMIT → list_all is_ascii_digit ds ≡ true →
+    natural_of ds ≡ Some (digits_value 10 ds)
+natural-whole ds some short all = rw (natural-when ds some short all) refl

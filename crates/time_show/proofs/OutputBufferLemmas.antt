@@ -140,3 +140,6 @@ CutsOff-part parts i d a b held lt p q =
     rw (joined-at parts i d lt)
     (CutsOff-after a b held (joined (take i parts)) ((get_or parts i d).now ++ joined (drop (suc i) parts)) p
     (CutsOff-more b held (get_or parts i d).now (joined (drop (suc i) parts)) q))
+
+-- one text after another
+pub ruleset one_after_another = (append_assoc, length-append)

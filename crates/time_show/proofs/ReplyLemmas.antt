@@ -1,9 +1,9 @@
 -- The answer of the formatter, and the answer to a line.
-use Rattle.std.proofs.Common.{ℕ, ◌≡◌, ◌≢◌, min, [], length, vec_len, Vec, Option, Some, None, Result, Ok, Err, inl, inr, refl, ap, arith}
+use Rattle.std.proofs.Common.{ℕ, ◌≡◌, min, [], length, vec_len, Vec, Option, Some, None, Result, Ok, Err, inl, inr, refl, ap, arith}
 use Rattle.std.specs.Global.{Global}
 use Rattle.std.specs.Prelude.{IsSomeAnd}
 use Rattle.time_below.specs.ComponentRange.{RangeRefusal}
-use Rattle.time_fmt.specs.Outcome.{Outcome, Refusal, insufficient, invalid_component, out_of_range, Names, Adds}
+use Rattle.time_fmt.specs.Outcome.{Outcome, Refusal, insufficient, invalid_component, out_of_range, Names, Appends}
 use Rattle.time_fmt.specs.declared.error.Format.{Format}
 use Rattle.time_fmt.specs.declared.error.Format.TheVariants as error
 use Rattle.time_show.specs.Answer.{Answers, greatest_usize, ok_text, refused_text, refusal_name, outcome_text}
@@ -35,30 +35,13 @@ len-items : (v : Vec ℕ Global) → vec_len v ≡ length v.items
 len-items v = omega (arith, v.ok)
 
 -- the answer to an error that names the outcome's refusal
-named-answer : (width : ℕ) (o : Outcome) (e : Format) (old new : Vec ℕ Global) → old.items ≡ [] →
-    Adds old new (Err e) o → refused_text (vec_len new) (error_name e) ≡ outcome_text width o
+pub named-answer : (width : ℕ) (o : Outcome) (e : Format) (old new : Vec ℕ Global) → old.items ≡ [] →
+    Appends old new (Err e) o → refused_text (vec_len new) (error_name e) ≡ outcome_text width o
 named-answer width o e old new empty a =
     let names : (r : Refusal) × (o.refusal ≡ Some r) × Names e r = some-and o.refusal (Names e) a.named in
     rw (len-items new, a.appended, empty, names.1, names-same e names.0 names.2)
 
--- an answer that is an error
-abbrev pub failed : Format → Result ℕ Format
-failed e = Err e
-
--- an error in place of a text answers a value
-pub error-answers : (width : ℕ) (o : Outcome) (e : Format) (old new : Vec ℕ Global) → old.items ≡ [] →
-    (failed e ≢ failed error.OutOfMemory → Adds old new (Err e) o) →
-    (failed e ≡ failed error.OutOfMemory → new.items ≡ old.items) →
-    Answers (formatted width o) (refused_text (vec_len new) (error_name e))
-error-answers width o error.OutOfMemory old new empty appends same = inr (rw (len-items new, same refl, empty))
-error-answers width o error.InsufficientTypeInformation old new empty appends same =
-    inl (named-answer width o error.InsufficientTypeInformation old new empty (appends (λ e. cc)))
-error-answers width o (error.InvalidComponent name) old new empty appends same =
-    inl (named-answer width o (error.InvalidComponent name) old new empty (appends (λ e. cc)))
-error-answers width o (error.ComponentRange range) old new empty appends same =
-    inl (named-answer width o (error.ComponentRange range) old new empty (appends (λ e. cc)))
-
 -- a text answers a value
 pub text-answers : (width count : ℕ) (o : Outcome) (old new : Vec ℕ Global) → old.items ≡ [] →
-    Adds old new (Ok count) o → Answers (formatted width o) (ok_text count (min width greatest_usize) new.items)
+    Appends old new (Ok count) o → Answers (formatted width o) (ok_text count (min width greatest_usize) new.items)
 text-answers width count o old new empty a = inl (rw (a.counted.0, a.counted.1, a.appended, empty))

@@ -8,7 +8,7 @@ use Rattle.time_show.specs.declared.reply.Reply.TheVariants.{Formatted, Refused,
 use Rattle.time_show.specs.Answer.{ok_text, refused_text, bad_line_text, out_of_memory_name}
 
 abbrev pub reply_text : Reply → List ℕ
-reply_text (Formatted count width text) = ok_text count width text.items
+reply_text (Formatted count width text) = ok_text count width text.now
 reply_text (Refused written name) = refused_text written name.now
 reply_text BadLine = bad_line_text
 

@@ -1,9 +1,6 @@
 //! The fields of a line, and the numbers that they spell.
-ghost use Rattle.std.specs.Prelude.{◌≡◌, ℕ, List, [], ◌∷◌, ◌<◌, ◌^◌, length, pos, ◌≤ℤ◌, ◌<ℤ◌, option_map, IsTrue, IfSome, MatchOption, Some, None};
-ghost use Rattle.time_show.specs.Fields.{fields_of, is_natural, natural_of, number_of, numbers_of, exactly};
-ghost use Rattle.std.specs.Char.{is_ascii_digit};
-ghost use Rattle.std.specs.List.{list_all};
-ghost use Rattle.std.specs.Str.Parse.{digits_value};
+ghost use Rattle.std.specs.Prelude.{◌≡◌, ℕ, List, [], ◌∷◌, ◌<◌, ◌^◌, length, pos, ◌≤ℤ◌, ◌<ℤ◌, option_map, IfSome, MatchOption, Some, None};
+ghost use Rattle.time_show.specs.Fields.{fields_of, natural_of, number_of, numbers_of, exactly};
 
 use crate::bytes::{MINUS, SPACE, place_of};
 use std::marker::Model;
@@ -54,45 +51,33 @@ impl<'a> Fields<'a> {
     }
 }
 
-/// Whether each byte is a decimal digit.
-fn are_digits(text: &[u8]) -> bool
-    ensures { result ≡ list_all is_ascii_digit text.now }
-{
-    text.iter().all(|byte| byte.is_ascii_digit())
-}
-
-/// Whether the text is one to nine decimal digits.
-fn is_natural(text: &[u8]) -> bool
-    ensures { result ≡ is_natural text.now }
+/// The number that one to nine decimal digits spell, and nothing for any other text.
+fn natural(text: &[u8]) -> Option<u32>
+    ensures value { result ≡ natural_of text.now }
+    ensures small { IfSome result (λ n. n < 10 ^ DIGITS_LIMIT) }
 {
     if text.is_empty() || text.len() > DIGITS_LIMIT {
-        return false;
+        return None;
     }
-    are_digits(text)
+    let mut value = 0u32;
+    for byte in text {
+        if !byte.is_ascii_digit() {
+            return None;
+        }
+        value = value * 10 + u32::from(*byte - b'0');
+    }
+    Some(value)
 }
 
-/// The number that one to nine decimal digits spell.
-fn digits_value(digits: &[u8]) -> u32
-    requires { IsTrue (is_natural digits.now) }
-    ensures value { result ≡ digits_value 10 digits.now }
-    ensures small { result < 10 ^ DIGITS_LIMIT }
-{
-    let mut value = 0;
-    for digit in digits {
-        value = value * 10 + u32::from(*digit - b'0');
-    }
-    value
-}
-
-/// The number that one to nine decimal digits spell, and nothing for any other text.
-fn natural(text: &[u8]) -> Option<i32>
+/// The same number as a signed one.
+fn natural_as_signed(text: &[u8]) -> Option<i32>
     ensures value { result ≡ option_map pos (natural_of text.now) }
     ensures small { IfSome result (λ n. (pos 0 ≤ℤ n) × (n <ℤ pos (10 ^ DIGITS_LIMIT))) }
 {
-    if !is_natural(text) {
-        return None;
+    match natural(text) {
+        None => None,
+        Some(value) => Some(value as i32),
     }
-    Some(digits_value(text) as i32)
 }
 
 /// The number that a field spells: perhaps a minus sign, and one to nine decimal digits.
@@ -100,8 +85,8 @@ pub fn number(field: &[u8]) -> Option<i32>
     ensures { result ≡ number_of field.now }
 {
     match field {
-        [MINUS, digits @ ..] => natural(digits).map(|value| -value),
-        _ => natural(field),
+        [MINUS, digits @ ..] => natural_as_signed(digits).map(|value| -value),
+        _ => natural_as_signed(field),
     }
 }
 

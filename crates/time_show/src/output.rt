@@ -2,7 +2,8 @@
 ghost use Rattle.std.specs.Prelude.{◌≡◌, ◌+◌, ◌≤◌, ◌<◌, ℕ, List, [], ◌++◌, length, min, take, OnOk, OnErr};
 ghost use Rattle.std.specs.Io.KnownBytes.{Appends};
 ghost use Rattle.time_digits.specs.Digits.{joined};
-ghost use Rattle.time_show.specs.declared.output.TheConstants.{OUTPUT_LIMIT};
+ghost use Rattle.time_show.specs.declared.output.TheConstants.{OUTPUT_LIMIT, FRAME_LIMIT};
+ghost use Rattle.time_show.specs.Answer.{ok_text};
 ghost use Rattle.time_show.specs.OutputBuffer.{buffered, Accepts, AppendsStart, CutsOff};
 ghost use Rattle.time_show.specs.Reply.{reply_text};
 
@@ -13,6 +14,13 @@ use time_digits::u64_pad_none;
 
 /// How many bytes may wait until they are written.
 pub const OUTPUT_LIMIT: usize = 4096;
+
+/// The most bytes of a formatted value's answer beside its text: two numbers of twenty digits, `ok`,
+/// three spaces and the line feed.
+const FRAME_LIMIT: usize = 46;
+
+/// The most bytes of a text that is put beside what waits without a look at each part.
+const SHORT_TEXT: usize = 64;
 
 /// A write failed or took no byte.
 #[derive(Clone, Copy)]
@@ -158,36 +166,72 @@ impl OutputBuffer {
         Ok(())
     }
 
+    /// Lets the answer of a formatted value wait.
+    #[tactic(auto, using(crate::proofs::OutputBufferLemmas::one_after_another))]
+    fn push_formatted(&mut self, count: usize, width: usize, text: &[u8])
+        requires room { length self.old + length text.now + FRAME_LIMIT ≤ OUTPUT_LIMIT }
+        ensures { self.new ≡ self.old ++ ok_text count width text.now }
+    {
+        self.push(b"ok ");
+        self.push(u64_pad_none(count as u64).as_str().as_bytes());
+        self.push(b" ");
+        self.push(u64_pad_none(width as u64).as_str().as_bytes());
+        self.push(b" ");
+        self.push(text);
+        self.push(b"\n");
+    }
+
+    /// Accepts the answer of a formatted value.
+    fn append_formatted<W: Write>(
+        &mut self,
+        output: &mut W,
+        count: usize,
+        width: usize,
+        text: &[u8],
+    ) -> Result<(), WriteFailed>
+        ensures ok { OnOk result (Accepts (buffered (W.contents output.old) self.old)
+            (buffered (W.contents output.new) self.new) (ok_text count width text.now)) }
+        ensures err { OnErr result (CutsOff (buffered (W.contents output.old) self.old)
+            (W.contents output.new) (ok_text count width text.now)) }
+    {
+        // Mostly the text is short and there is room, so that nothing has to go out first.
+        if text.len() <= SHORT_TEXT && self.room() >= SHORT_TEXT + FRAME_LIMIT {
+            self.push_formatted(count, width, text);
+            return Ok(());
+        }
+        let count = u64_pad_none(count as u64);
+        let width = u64_pad_none(width as u64);
+        self.append_all(
+            output,
+            &[
+                b"ok ",
+                count.as_str().as_bytes(),
+                b" ",
+                width.as_str().as_bytes(),
+                b" ",
+                text,
+                b"\n",
+            ],
+        )
+    }
+
     /// Accepts the text of the reply. After an error a beginning of it may have gone out.
     pub fn append_reply<W: Write>(
         &mut self,
         output: &mut W,
-        reply: &Reply,
+        reply: Reply<'_>,
     ) -> Result<(), WriteFailed>
         ensures ok { OnOk result (Accepts (buffered (W.contents output.old) self.old)
-            (buffered (W.contents output.new) self.new) (reply_text reply.now)) }
+            (buffered (W.contents output.new) self.new) (reply_text reply.entry)) }
         ensures err { OnErr result (CutsOff (buffered (W.contents output.old) self.old)
-            (W.contents output.new) (reply_text reply.now)) }
+            (W.contents output.new) (reply_text reply.entry)) }
     {
         match reply {
             Reply::Formatted { count, width, text } => {
-                let count = u64_pad_none(*count as u64);
-                let width = u64_pad_none(*width as u64);
-                self.append_all(
-                    output,
-                    &[
-                        b"ok ",
-                        count.as_str().as_bytes(),
-                        b" ",
-                        width.as_str().as_bytes(),
-                        b" ",
-                        text.as_slice(),
-                        b"\n",
-                    ],
-                )
+                self.append_formatted(output, count, width, text)
             }
             Reply::Refused { written, name } => {
-                let written = u64_pad_none(*written as u64);
+                let written = u64_pad_none(written as u64);
                 self.append_all(
                     output,
                     &[

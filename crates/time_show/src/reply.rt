@@ -8,7 +8,6 @@ ghost use Rattle.time_show.specs.Reply.{reply_text, error_name};
 use crate::command::{Command, command_in};
 use crate::line_buffer::LINE_LIMIT;
 use crate::value::{Part, TimeNumbers, date_time_value, time_value};
-use std::alloc::Global;
 use std::default::Default;
 use time_below::format_description::modifier::{
     Hour24, Minute, Padding, Second, Subsecond, SubsecondDigits,
@@ -19,14 +18,14 @@ use time_known::{Iso8601, Rfc2822, Rfc3339};
 use time_provide::ComponentProvider;
 
 /// The answer to a line.
-#[derive(Drop)]
-pub enum Reply {
+#[derive(Clone, Copy)]
+pub enum Reply<'a> {
     /// A value's text, the number of its bytes as the formatter counted them, and the description's
     /// width.
     Formatted {
         count: usize,
         width: usize,
-        text: Vec<u8>,
+        text: &'a [u8],
     },
     /// A refusal by its name, with the number of bytes that were written before it.
     Refused {
@@ -49,12 +48,12 @@ fn error_name(error: &Format) -> &'static str
     }
 }
 
-/// The reply to a value by a description.
-fn formatted_reply<D: Formattable, V: ComponentProvider>(
-    alloc: Global,
+/// The reply to a value by a description. Its text takes the place of the one before it.
+fn formatted_reply<'a, D: Formattable, V: ComponentProvider>(
+    text: &'a mut Vec<u8>,
     description: &D,
     value: &V,
-) -> Reply
+) -> Reply<'a>
 where
     V::State: Drop,
     ensures { Answers
@@ -62,10 +61,20 @@ where
         (reply_text result) }
 {
     let width = description.compute_metadata().max_bytes_needed;
+    text.clear();
+    if width == usize::MAX || text.reserve(width).is_err() {
+        return Reply::Refused {
+            written: 0,
+            name: error_name(&Format::OutOfMemory),
+        };
+    }
     let mut state = Default::default();
-    let mut text = Vec::new(alloc);
-    match description.format_into(&mut text, value, &mut state) {
-        Ok(count) => Reply::Formatted { count, width, text },
+    match description.write_into(text, value, &mut state) {
+        Ok(count) => Reply::Formatted {
+            count,
+            width,
+            text: text.as_slice(),
+        },
         Err(error) => Reply::Refused {
             written: text.len(),
             name: error_name(&error),
@@ -74,11 +83,11 @@ where
 }
 
 /// The reply to a value by a description, or to the part that is out of its range.
-fn value_reply<D: Formattable, V: ComponentProvider + Drop>(
-    alloc: Global,
+fn value_reply<'a, D: Formattable, V: ComponentProvider + Drop>(
+    text: &'a mut Vec<u8>,
     description: &D,
     value: Result<V, Part>,
-) -> Reply
+) -> Reply<'a>
 where
     V::State: Drop,
     ensures { Answers
@@ -87,7 +96,7 @@ where
         (reply_text result) }
 {
     match value {
-        Ok(value) => formatted_reply(alloc, description, &value),
+        Ok(value) => formatted_reply(text, description, &value),
         Err(part) => Reply::Refused {
             written: 0,
             name: part.name(),
@@ -123,29 +132,29 @@ fn time_items() -> [BorrowedFormatItem<'static>; 7]
 }
 
 /// The reply to the numbers of a time of day.
-fn time_reply(alloc: Global, numbers: TimeNumbers) -> Reply
+fn time_reply(text: &mut Vec<u8>, numbers: TimeNumbers) -> Reply<'_>
     ensures { Answers (asked_by (Some (Command.Time numbers))) (reply_text result) }
 {
     let items = time_items();
     value_reply(
-        alloc,
+        text,
         &BorrowedFormatItem::Compound(items.as_slice()),
         time_value(numbers),
     )
 }
 
-/// Answers a line.
-pub fn reply_to(alloc: Global, line: &[u8]) -> Reply
+/// Answers a line. The text of the answer stands in this vector, whose memory serves each line.
+pub fn reply_to<'a>(text: &'a mut Vec<u8>, line: &[u8]) -> Reply<'a>
     requires { length line.now ≤ LINE_LIMIT }
     ensures { IsAnswer line.now (reply_text result) }
 {
     match command_in(line) {
         None => Reply::BadLine,
-        Some(Command::Time(numbers)) => time_reply(alloc, numbers),
-        Some(Command::Rfc3339(numbers)) => value_reply(alloc, &Rfc3339, date_time_value(numbers)),
-        Some(Command::Rfc2822(numbers)) => value_reply(alloc, &Rfc2822, date_time_value(numbers)),
+        Some(Command::Time(numbers)) => time_reply(text, numbers),
+        Some(Command::Rfc3339(numbers)) => value_reply(text, &Rfc3339, date_time_value(numbers)),
+        Some(Command::Rfc2822(numbers)) => value_reply(text, &Rfc2822, date_time_value(numbers)),
         Some(Command::Iso(numbers)) => {
-            value_reply(alloc, &Iso8601::default(), date_time_value(numbers))
+            value_reply(text, &Iso8601::default(), date_time_value(numbers))
         }
     }
 }

@@ -36,19 +36,19 @@ impl From<WriteFailed> for ShowError {
     }
 }
 
-/// The reply to the line in the buffer.
-fn reply_for(alloc: Global, line: &LineBuffer) -> Reply
+/// The reply to the line in the buffer, whose text stands in the vector.
+fn reply_for<'a>(text: &'a mut Vec<u8>, line: &LineBuffer) -> Reply<'a>
     ensures { (whole : List ℕ) → line.now ≡ kept_of whole → IsAnswer whole (reply_text result) }
 {
     match line.line() {
         None => Reply::BadLine,
-        Some(line) => reply_to(alloc, line),
+        Some(line) => reply_to(text, line),
     }
 }
 
 /// Answers the line in the buffer.
 fn answer_line<W: Write>(
-    alloc: Global,
+    text: &mut Vec<u8>,
     line: &LineBuffer,
     answers: &mut OutputBuffer,
     output: &mut W,
@@ -60,13 +60,13 @@ fn answer_line<W: Write>(
         (state line.now (W.contents output.old) answers.old)
         (W.contents output.new)) }
 {
-    let reply = reply_for(alloc, line);
-    answers.append_reply(output, &reply)
+    let reply = reply_for(text, line);
+    answers.append_reply(output, reply)
 }
 
 /// Takes the next bytes of the input, and answers each line that they end.
 fn feed<W: Write>(
-    alloc: Global,
+    text: &mut Vec<u8>,
     line: &mut LineBuffer,
     bytes: &[u8],
     answers: &mut OutputBuffer,
@@ -82,7 +82,7 @@ fn feed<W: Write>(
     let mut rest = bytes;
     while let Some(end) = place_of(LINE_FEED, rest) {
         line.extend(&rest[..end]);
-        answer_line(alloc, line, answers, output)?;
+        answer_line(text, line, answers, output)?;
         line.clear();
         rest = &rest[end + 1..];
     }
@@ -92,7 +92,7 @@ fn feed<W: Write>(
 
 /// Takes a block of the input: when it is done, the answer to each line that it ends went out.
 fn answer_block<W: Write>(
-    alloc: Global,
+    text: &mut Vec<u8>,
     line: &mut LineBuffer,
     block: &[u8],
     output: &mut W,
@@ -105,14 +105,14 @@ fn answer_block<W: Write>(
         (W.contents output.new)) }
 {
     let mut answers = OutputBuffer::new();
-    feed(alloc, line, block, &mut answers, output)?;
+    feed(text, line, block, &mut answers, output)?;
     answers.flush(output)?;
     Ok(())
 }
 
 /// Answers a last line that has no line feed, if it is not empty.
 fn answer_last<W: Write>(
-    alloc: Global,
+    text: &mut Vec<u8>,
     line: &LineBuffer,
     output: &mut W,
 ) -> Result<(), WriteFailed>
@@ -125,7 +125,7 @@ fn answer_last<W: Write>(
 {
     if !line.is_empty() {
         let mut answer = OutputBuffer::new();
-        answer_line(alloc, line, &mut answer, output)?;
+        answer_line(text, line, &mut answer, output)?;
         answer.flush(output)?;
     }
     Ok(())
@@ -147,6 +147,7 @@ pub fn run<R: Read, W: Write>(alloc: Global, input: &mut R, output: &mut W) -> R
         (W.contents output.old) (W.contents output.new) }
 {
     let mut line = LineBuffer::new();
+    let mut text = Vec::new(alloc);
     let mut block = [0u8; BLOCK_SIZE];
     for _ in 0..u64::MAX {
         let count = match input.read(&mut block) {
@@ -154,10 +155,10 @@ pub fn run<R: Read, W: Write>(alloc: Global, input: &mut R, output: &mut W) -> R
             Err(_) => return Err(ShowError::Read),
         };
         if count == 0 {
-            answer_last(alloc, &line, output)?;
+            answer_last(&mut text, &line, output)?;
             return Ok(());
         }
-        answer_block(alloc, &mut line, &block[..count], output)?;
+        answer_block(&mut text, &mut line, &block[..count], output)?;
     }
     Err(ShowError::Read)
 }

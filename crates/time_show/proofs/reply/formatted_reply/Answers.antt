@@ -1,12 +1,16 @@
-use Rattle.time_show.proofs.ReplyLemmas.{error-answers, text-answers}
+use Rattle.std.proofs.Common.{◌∙◌, inl, inr, refl}
+use Rattle.time_show.proofs.ReplyLemmas.{named-answer, text-answers}
 use Rattle.time_show.proofs.reply.formatted_reply.Goals as goal
+
+pub returns-then-width : goal.returns-then-width
+returns-then-width g c = rw c.error_name.ensures (inr refl)
 
 pub returns-in-Ok : goal.returns-in-Ok
 returns-in-Ok g c =
-    rw c.compute_metadata-width.ensures.width
-    (text-answers _ _ _ _ _ c.new-text.ensures.items (c.in-Ok.ensures.appends (λ e. cc)))
+    rw (c.as_slice.ensures.value, c.compute_metadata-width.ensures.width)
+    (text-answers _ _ _ _ _ (c.reserve.ensures.items ∙ c.clear.ensures.items) c.in-Ok.ensures.appends)
 
 pub returns : goal.returns
 returns g c =
-    rw (c.len.ensures, c.error_name.ensures)
-    (error-answers _ _ _ _ _ c.new-text.ensures.items c.in-Err.ensures.appends c.in-Err.ensures.unchanged)
+    rw (c.len.ensures, c.error_name-in-Err.ensures)
+    (inl (named-answer _ _ _ _ _ (c.reserve.ensures.items ∙ c.clear.ensures.items) c.in-Err.ensures.appends))
