@@ -3,6 +3,7 @@ mod front_page;
 mod iso8601;
 mod laws;
 mod rfcs;
+mod stamps;
 
 use std::alloc::Global;
 use std::process::Abort;

@@ -1,0 +1,178 @@
+-- What the answer of a call that appends a stamp says.
+use Rattle.std.proofs.Common.{◌≡◌, ◌≢◌, ◌⊎◌, inl, inr, ◌++◌, ℕ, true, false, append-nil, refl, sym, ap, subst, ◌∙◌, ⊎_elim, Option, Some, None, Result, Ok, Err, Vec}
+use Rattle.std.specs.Prelude.{◌↔◌, codes, IfOk, IfErr, OnErr, IsOk, IsSomeAnd}
+use Rattle.std.specs.Global.{Global}
+use Rattle.std.proofs.lemmas.Bool.{cases_Bool}
+use Rattle.time_below.specs.Calendar.{OrdinalDate, IsDate}
+use Rattle.time_below.specs.Facts.{DateFacts, date_facts, facts_of_utc_date_time}
+use Rattle.time_below.specs.Moment.{DateAndTime}
+use Rattle.time_below.specs.TimeOfDay.{IsTimeOfDay}
+use Rattle.time_fmt.specs.Outcome.{Outcome, Refusal, Adds, Names, done, refused, invalid_component}
+use Rattle.time_fmt.specs.declared.error.Format.{Format}
+use Rattle.time_fmt.specs.declared.error.Format.TheVariants as error
+use Rattle.time_known.specs.Config.{Choices, default_choices}
+use Rattle.time_known.specs.Iso8601.{iso8601_outcome}
+use Rattle.time_known.specs.Iso8601Grammar.{iso8601_reads_as}
+use Rattle.time_known.specs.Stamps.{stamp_of, stamp_text, stamp_length, IsStampYear, HasStamp}
+use Rattle.time_known.specs.WellKnown.{is_outside}
+use Rattle.time_known.proofs.OutcomeLemmas.{IsYearWithin, within}
+use Rattle.time_known.proofs.StampLemmas.{year_within, stamp_year, stamp_done, default_is_whole, stamps_are_completed, year_refused}
+
+-- the choices of the call
+abbrev pub outcome_by : Choices → DateAndTime → Outcome
+outcome_by c v = iso8601_outcome c (facts_of_utc_date_time v)
+
+-- the want of memory
+abbrev pub no_memory : Result ℕ Format
+no_memory = Err error.OutOfMemory
+
+-- what is said of an answer, by the choices of the call
+pub record Answered (old new : Vec ℕ Global) (answer : Result ℕ Format) (c : Choices) (v : DateAndTime) : Type 0 where
+  pub is_default : c ≡ default_choices
+  pub appends : answer ≢ no_memory → Adds old new answer (outcome_by c v)
+  pub spelled : IfOk answer (λ _. iso8601_reads_as c (facts_of_utc_date_time v) (outcome_by c v).bytes)
+  pub unchanged : answer ≡ no_memory → new.items ≡ old.items
+
+-- the four facts as one
+pub answered : {old new : Vec ℕ Global} {answer : Result ℕ Format} {c : Choices} {v : DateAndTime} → c ≡ default_choices
+    → (answer ≢ no_memory → Adds old new answer (outcome_by c v))
+    → IfOk answer (λ _. iso8601_reads_as c (facts_of_utc_date_time v) (outcome_by c v).bytes)
+    → (answer ≡ no_memory → new.items ≡ old.items) → Answered old new answer c v
+answered is_default appends spelled unchanged =
+    record { is_default = is_default; appends = appends; spelled = spelled; unchanged = unchanged }
+
+-- ---- dates and times
+
+-- equal groups that are there have equal facts
+same_group : {G : Type 0} (a b : G) → Some a ≡ Some b → a ≡ b
+same_group {G} a b e = ap (λ (o : Option G). elim o [ None ↦ a | Some g ↦ g ]) e
+
+-- a date is known by its facts
+same_date : (d e : OrdinalDate) → Some (date_facts d) ≡ Some (date_facts e) → d ≡ e
+same_date d e h =
+    ap (λ (f : DateFacts). let o : OrdinalDate = record { year = f.year; ordinal = f.ordinal } in o)
+    (same_group (date_facts d) (date_facts e) h)
+
+-- what is not refused is completed by its bytes
+completed : (o : Outcome) → o.refusal ≡ None → o ≡ done o.bytes
+completed o e = ap (λ (r : Option Refusal). let p : Outcome = record { bytes = o.bytes; refusal = r } in p) e
+
+-- a year is refused, or is one of four digits
+either_year : (v : DateAndTime)
+    → (stamp_of v ≡ refused (invalid_component (codes "year"))) ⊎ IsYearWithin 0 9_999 v.date.year
+either_year v =
+    ⊎_elim (λ (e : is_outside 0 9_999 v.date.year ≡ true). inl (year_refused v e))
+    (λ (e : is_outside 0 9_999 v.date.year ≡ false). inr (within 0 9_999 v.date.year e))
+    (cases_Bool (is_outside 0 9_999 v.date.year))
+
+-- what is not refused has a year of four digits
+year_of_completed : (v : DateAndTime) → (stamp_of v).refusal ≡ None → IsYearWithin 0 9_999 v.date.year
+year_of_completed v none =
+    ⊎_elim (λ (e : stamp_of v ≡ refused (invalid_component (codes "year"))).
+    absurd (let some : Some (invalid_component (codes "year")) ≡ None = sym (ap (λ (o : Outcome). o.refusal) e) ∙ none in cc))
+    (λ (h : IsYearWithin 0 9_999 v.date.year). h)
+    (either_year v)
+
+-- what is completed and read back has a stamp
+has_stamp : (v : DateAndTime) → (stamp_of v).refusal ≡ None
+    → iso8601_reads_as default_choices (facts_of_utc_date_time v) (stamp_text v) → HasStamp v
+has_stamp v none reads =
+    let r = reads default_is_whole in
+    let time : v.time ≡ r.value.time = same_group v.time r.value.time r.time in
+    record {
+      date = subst IsDate (sym (same_date v.date r.value.date r.date)) r.fits.date;
+      year = stamp_year v.date.year (year_of_completed v none);
+      time = subst IsTimeOfDay (sym time) r.fits.time;
+    }
+
+-- a year of four digits is not refused
+not_refused : (v : DateAndTime) → IsStampYear v.date.year → (stamp_of v).refusal ≡ None
+not_refused v h = ap (λ (o : Outcome). o.refusal) (stamp_done v (year_within v.date.year h))
+
+-- ---- answers
+
+-- what is said by the default
+at_default : {old new : Vec ℕ Global} {answer : Result ℕ Format} {c : Choices} {v : DateAndTime}
+    → Answered old new answer c v → Answered old new answer default_choices v
+at_default {old} {new} {answer} {c} {v} a = subst (λ (d : Choices). Answered old new answer d v) a.is_default a
+
+-- a completed call has a stamp
+pub completed_has_stamp : {old new : Vec ℕ Global} (answer : Result ℕ Format) {c : Choices} {v : DateAndTime}
+    → Answered old new answer c v → IfOk answer (λ _. HasStamp v)
+completed_has_stamp (Ok n) {v = v} a =
+    let b = at_default a in has_stamp v (b.appends (λ e. cc)).counted.0 b.spelled
+completed_has_stamp (Err e) a = tt
+
+-- and answers 30
+pub completed_length : {old new : Vec ℕ Global} (answer : Result ℕ Format) {c : Choices} {v : DateAndTime}
+    → Answered old new answer c v → IfOk answer (λ count. count ≡ stamp_length)
+completed_length (Ok n) {v = v} a =
+    let adds = (at_default a).appends (λ e. cc) in
+    adds.counted.1 ∙ (stamps_are_completed v (completed_has_stamp (Ok n) a)).has_length
+completed_length (Err e) a = tt
+
+-- no refusal is named where there is none
+named_none : (o : Outcome) (e : Format) → o.refusal ≡ None → IsSomeAnd o.refusal (Names e) → ⊥
+named_none o e none named = subst (λ (r : Option Refusal). IsSomeAnd r (Names e)) none named
+
+-- with memory, a call is completed exactly for a year of four digits
+pub completed_years : {old new : Vec ℕ Global} (answer : Result ℕ Format) {c : Choices} {v : DateAndTime}
+    → Answered old new answer c v → answer ≢ no_memory → IsOk answer ↔ IsStampYear v.date.year
+completed_years (Ok n) a some = (λ _. (completed_has_stamp (Ok n) a).year, λ _. refl)
+completed_years (Err e) {v = v} a some = (
+  λ none. absurd (let never : false ≡ true = none in cc),
+  λ year. absurd (named_none (stamp_of v) e (not_refused v year) ((at_default a).appends some).named),
+)
+
+-- an error other than the want of memory refuses the year
+refused_year : (old new : Vec ℕ Global) (v : DateAndTime) (e : Format) → Adds old new (Err e) (stamp_of v)
+    → stamp_of v ≡ refused (invalid_component (codes "year"))
+refused_year old new v e adds =
+    ⊎_elim (λ (r : stamp_of v ≡ refused (invalid_component (codes "year"))). r)
+    (λ (h : IsYearWithin 0 9_999 v.date.year).
+    absurd (named_none (stamp_of v) e (not_refused v (stamp_year v.date.year h)) adds.named))
+    (either_year v)
+
+-- it names it
+names_year : (old new : Vec ℕ Global) (v : DateAndTime) (e : Format) → Adds old new (Err e) (stamp_of v)
+    → Names e (invalid_component (codes "year"))
+names_year old new v e adds =
+    subst (λ (o : Outcome). IsSomeAnd o.refusal (Names e)) (refused_year old new v e adds) adds.named
+
+-- and no byte is appended
+adds_nothing : (old new : Vec ℕ Global) (v : DateAndTime) (e : Format) → Adds old new (Err e) (stamp_of v)
+    → new.items ≡ old.items
+adds_nothing old new v e adds =
+    adds.appended ∙ ap (λ (o : Outcome). old.items ++ o.bytes) (refused_year old new v e adds)
+    ∙ append-nil old.items
+
+-- an answer that is an error
+abbrev failed : Format → Result ℕ Format
+failed e = Err e
+
+-- any error but one is not the want of memory
+not_memory : (e : Format) → e ≢ error.OutOfMemory → failed e ≢ no_memory
+not_memory error.OutOfMemory other = absurd (other refl)
+not_memory error.InsufficientTypeInformation other = λ e. cc
+not_memory (error.InvalidComponent name) other = λ e. cc
+not_memory (error.ComponentRange range) other = λ e. cc
+
+-- so an error names the year
+pub year_named : {old new : Vec ℕ Global} (answer : Result ℕ Format) {c : Choices} {v : DateAndTime}
+    → Answered old new answer c v
+    → IfErr answer (λ e. e ≢ error.OutOfMemory → Names e (invalid_component (codes "year")))
+year_named (Ok n) a = tt
+year_named {old} {new} (Err e) {v = v} a =
+    λ other. names_year old new v e ((at_default a).appends (not_memory e other))
+
+-- and appends nothing
+pub refused_unchanged : {old new : Vec ℕ Global} (answer : Result ℕ Format) {c : Choices} {v : DateAndTime}
+    → Answered old new answer c v → OnErr answer (new.items ≡ old.items)
+refused_unchanged (Ok n) a = tt
+refused_unchanged (Err error.OutOfMemory) a = a.unchanged refl
+refused_unchanged {old} {new} (Err error.InsufficientTypeInformation) {v = v} a =
+    adds_nothing old new v error.InsufficientTypeInformation ((at_default a).appends (λ e. cc))
+refused_unchanged {old} {new} (Err (error.InvalidComponent name)) {v = v} a =
+    adds_nothing old new v (error.InvalidComponent name) ((at_default a).appends (λ e. cc))
+refused_unchanged {old} {new} (Err (error.ComponentRange range)) {v = v} a =
+    adds_nothing old new v (error.ComponentRange range) ((at_default a).appends (λ e. cc))

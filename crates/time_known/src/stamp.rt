@@ -1,0 +1,46 @@
+//! Stamps: texts of moments whose bytes are in the order of the moments.
+ghost use Rattle.std.specs.Prelude.{◌≡◌, ◌≢◌, ◌↔◌, ◌++◌, ◌+◌, ◌*◌, ◌≤◌, max, codes, IsOk, IfOk, IfErr, OnErr, vec_len, vec_capacity};
+ghost use Rattle.time_fmt.specs.Outcome.{Names, invalid_component};
+ghost use Rattle.time_fmt.specs.Room.{HasRoom};
+ghost use Rattle.time_known.specs.Stamps.{HasStamp, IsStampYear, stamp_length, stamp_text, stamp_width};
+
+use crate::Iso8601;
+use std::default::Default;
+use time_below::UtcDateTime;
+use time_fmt::{Format, Formattable};
+use time_provide::DateState;
+
+/// Appends the stamp of a date and time in UTC, as `1997-11-12T15:55:06.000000000Z`: its text by the
+/// default configuration of ISO 8601. Of two stamps the one whose bytes come first is that of the
+/// earlier moment.
+///
+/// Answers 30, the number of bytes appended. A year outside 0 to 9,999 is refused as the component
+/// `year`, and nothing is appended. Where the room for the 35 bytes of the format's width is missing,
+/// one reservation makes it; where that is refused, the answer is the want of memory, and the output
+/// is as it was.
+pub fn stamp_into(output: &mut Vec<u8>, value: &UtcDateTime) -> Result<usize, Format>
+    ensures appended { IfOk result
+        (λ _. output.new.items ≡ output.old.items ++ stamp_text value.now) }
+    ensures length { IfOk result (λ count. count ≡ stamp_length) }
+    ensures is_stamp { IfOk result (λ _. HasStamp value.now) }
+
+    // Other years are refused by their name, and nothing else is. No byte comes before a refusal.
+    ensures year { result ≢ Err Format.OutOfMemory
+        → IsOk result ↔ IsStampYear value.now.date.year }
+    ensures named { IfErr result (λ e. e ≢ Format.OutOfMemory
+        → Names e (invalid_component (codes "year"))) }
+    ensures unchanged { OnErr result (output.new.items ≡ output.old.items) }
+
+    // Where there is room the capacity stays, and else it grows to what is needed or is doubled.
+    ensures in_place { HasRoom output.old stamp_width
+        → vec_capacity output.new ≡ vec_capacity output.old }
+    ensures bounded { vec_capacity output.new
+        ≤ max (2 * vec_capacity output.old) (vec_len output.old + stamp_width) }
+
+    // The want of memory leaves the capacity, and where there is room it is never answered.
+    ensures same_capacity { result ≡ Err Format.OutOfMemory
+        → vec_capacity output.new ≡ vec_capacity output.old }
+    ensures room { HasRoom output.old stamp_width → result ≢ Err Format.OutOfMemory }
+{
+    Iso8601::default().format_into(output, value, &mut DateState::default())
+}

@@ -1,0 +1,133 @@
+//! Stamps, and their order.
+use crate::stamp_into;
+use crate::tests::{moment, refusal_name};
+use std::alloc::Global;
+use std::process::Abort;
+use std::test::Fail;
+use time_below::{Month, UtcDateTime};
+use time_fmt::Format;
+
+/// A year, a month and a day, and an hour, a minute, a second and a nanosecond.
+type Parts = ((i32, Month, u8), (u8, u8, u8, u32));
+
+/// Twenty moments, from the first to the last.
+const MOMENTS: [Parts; 20] = [
+    ((0, Month::January, 1), (0, 0, 0, 0)),
+    ((0, Month::January, 1), (0, 0, 0, 1)),
+    ((0, Month::December, 31), (23, 59, 59, 999_999_999)),
+    ((1, Month::January, 1), (0, 0, 0, 0)),
+    ((99, Month::December, 31), (23, 59, 59, 0)),
+    ((999, Month::December, 31), (23, 59, 59, 999_999_999)),
+    ((1000, Month::January, 1), (0, 0, 0, 0)),
+    ((1900, Month::February, 28), (23, 59, 59, 0)),
+    ((1900, Month::March, 1), (0, 0, 0, 0)),
+    ((1969, Month::December, 31), (23, 59, 59, 999_999_999)),
+    ((1970, Month::January, 1), (0, 0, 0, 0)),
+    ((1970, Month::January, 1), (0, 0, 0, 1)),
+    ((1997, Month::November, 12), (9, 55, 6, 0)),
+    ((1997, Month::November, 12), (15, 55, 6, 0)),
+    ((1997, Month::November, 12), (15, 55, 6, 100_000_000)),
+    ((1997, Month::December, 1), (0, 0, 0, 0)),
+    ((2000, Month::February, 29), (12, 0, 0, 0)),
+    ((2000, Month::March, 1), (0, 0, 0, 0)),
+    ((9999, Month::December, 31), (23, 59, 59, 0)),
+    ((9999, Month::December, 31), (23, 59, 59, 999_999_999)),
+];
+
+fn utc(rt: &impl Abort, (date, time): Parts) -> UtcDateTime {
+    let value = moment(rt, date, time, (0, 0, 0));
+    UtcDateTime::new(value.date(), value.time())
+}
+
+fn stamp(rt: &impl Abort, alloc: Global, parts: Parts) -> Vec<u8> {
+    let mut output = Vec::new(alloc);
+    let answer = stamp_into(&mut output, &utc(rt, parts));
+    assert!(rt; matches!(&answer, Ok(30)));
+    output
+}
+
+#[test]
+fn texts_of_stamps(rt: HostRuntime) {
+    for (parts, text) in [
+        (
+            ((1997, Month::November, 12), (15, 55, 6, 0)),
+            "1997-11-12T15:55:06.000000000Z",
+        ),
+        (
+            ((1969, Month::December, 31), (23, 59, 59, 999_999_999)),
+            "1969-12-31T23:59:59.999999999Z",
+        ),
+        (
+            ((1970, Month::January, 1), (0, 0, 0, 0)),
+            "1970-01-01T00:00:00.000000000Z",
+        ),
+        (
+            ((0, Month::January, 1), (0, 0, 0, 0)),
+            "0000-01-01T00:00:00.000000000Z",
+        ),
+    ] {
+        assert_eq!(rt; stamp(&rt, rt.alloc(), parts).as_slice(), text.as_bytes());
+    }
+}
+
+#[test]
+fn a_year_of_more_digits_is_refused(rt: HostRuntime) -> Result<(), Fail> {
+    let mut output = Vec::with_capacity(rt.alloc(), 36)?;
+    output.push(b'x')?;
+    for date in [
+        (10_000, Month::January, 1),
+        (-1, Month::December, 31),
+        (999_999, Month::January, 1),
+        (65_536, Month::January, 1),
+    ] {
+        let answer = stamp_into(&mut output, &utc(&rt, (date, (0, 0, 0, 0))));
+        assert_eq!(rt; refusal_name(&answer), "year");
+        assert_eq!(rt; output.as_slice(), b"x".as_slice());
+    }
+    let good = utc(&rt, ((1970, Month::January, 1), (0, 0, 0, 0)));
+    assert!(rt; matches!(stamp_into(&mut output, &good), Ok(30)));
+    assert_eq!(rt;
+        output.as_slice(),
+        b"x1970-01-01T00:00:00.000000000Z".as_slice()
+    );
+    Ok(())
+}
+
+/// Room for 35 bytes is kept, and where it is missing the output grows once.
+#[test]
+fn room_of_stamps(rt: HostRuntime) -> Result<(), Fail> {
+    let good = utc(&rt, ((1970, Month::January, 1), (0, 0, 0, 0)));
+    let mut output = Vec::with_capacity(rt.alloc(), 35)?;
+    let capacity = output.capacity();
+    assert!(rt; matches!(stamp_into(&mut output, &good), Ok(30)));
+    assert_eq!(rt; output.capacity(), capacity);
+    let answer = stamp_into(&mut output, &good);
+    if matches!(&answer, Err(Format::OutOfMemory)) {
+        assert_eq!(rt; output.len(), 30);
+        assert_eq!(rt; output.capacity(), capacity);
+    } else {
+        assert!(rt; matches!(&answer, Ok(30)));
+        assert_eq!(rt; output.len(), 60);
+        assert!(rt; 65 <= output.capacity());
+    }
+    Ok(())
+}
+
+/// The texts, sorted, are in the order of the moments.
+#[test]
+fn the_order_of_stamps_is_that_of_moments(rt: HostRuntime) -> Result<(), Fail> {
+    let mut texts = Vec::new(rt.alloc());
+    for i in 0..20usize {
+        texts.push(stamp(&rt, rt.alloc(), MOMENTS[7 * i % 20]))?;
+    }
+    texts.sort()?;
+    let mut before = None;
+    for (parts, text) in MOMENTS.iter().zip(texts.iter()) {
+        let value = utc(&rt, *parts);
+        let moment = Some((value.unix_timestamp(), value.time().as_hms_nano().3));
+        assert!(rt; before < moment);
+        before = moment;
+        assert_eq!(rt; text.as_slice(), stamp(&rt, rt.alloc(), *parts).as_slice());
+    }
+    Ok(())
+}
