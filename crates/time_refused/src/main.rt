@@ -3,6 +3,7 @@
 //! Run by `rt try --fail-alloc N` it has the Nth of its requests for memory refused. A call that is
 //! refused leaves output and state as they were, and the same call then gives the right text.
 #![tactic(auto)]
+ghost use Rattle.std.specs.Prelude.{◌≡◌, ◌↔◌, if◌then◌else◌};
 
 use std::alloc::Global;
 use std::default::Default;
@@ -38,12 +39,16 @@ impl Came {
     }
 
     /// Right, if the text is, and else wrong.
-    fn of(is_right: bool) -> Came {
+    fn of(is_right: bool) -> Came
+        ensures { result ≡ (if is_right then Came.Right else Came.Wrong) }
+    {
         if is_right { Came::Right } else { Came::Wrong }
     }
 
     /// What came, where the call was refused before it.
-    fn after_refusal(self) -> Came {
+    fn after_refusal(self) -> Came
+        ensures { result ≡ Came.RightAfterRefusal ↔ self ≡ Came.Right }
+    {
         match self {
             Came::Right => Came::RightAfterRefusal,
             Came::RightAfterRefusal | Came::Wrong => Came::Wrong,

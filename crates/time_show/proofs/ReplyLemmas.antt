@@ -1,5 +1,5 @@
 -- The answer of the formatter, and the answer to a line.
-use Rattle.std.proofs.Common.{ℕ, ◌≡◌, min, [], length, vec_len, Vec, Option, Some, None, Result, Ok, Err, inl, inr, refl, ap, arith}
+use Rattle.std.proofs.Common.{ℕ, ◌≡◌, min, [], length, vec_len, Vec, Option, Some, None, Ok, Err, inl, refl, ap, arith}
 use Rattle.std.specs.Global.{Global}
 use Rattle.std.specs.Prelude.{IsSomeAnd}
 use Rattle.time_below.specs.ComponentRange.{RangeRefusal}
