@@ -13,6 +13,7 @@ ghost use Rattle.time_known.specs.Iso8601Width.{iso8601_width, iso_date_width, i
 
 use crate::iso8601::config::{Config, FormattedComponents};
 use crate::iso8601::date::format_date;
+use crate::iso8601::default_text::write_default;
 use crate::iso8601::offset::format_offset;
 use crate::iso8601::time::format_time;
 use time_fmt::Format;
@@ -20,6 +21,7 @@ use time_provide::ComponentProvider;
 
 /// Appends the parts that are formatted, of a value that supplies their groups. Nothing to format is
 /// refused.
+#[inline(always)]
 pub(super) fn write_parts<V: ComponentProvider>(
     config: &Config,
     output: &mut Vec<u8>,
@@ -75,8 +77,46 @@ fn format_date_and_time<V: ComponentProvider>(
     Ok(date + format_time(config, output, value, state)?)
 }
 
-// Appends the date, the time and the offset.
+// Appends the date, the time and the offset. The default configuration has a way of its own, but for
+// values of which something is refused.
+#[inline(always)]
 fn format_all<V: ComponentProvider>(
+    config: &Config,
+    output: &mut Vec<u8>,
+    value: &V,
+    state: &mut V::State,
+) -> Result<usize, Format>
+    requires date { IsTrue V.SUPPLIES_DATE }
+    requires time { IsTrue V.SUPPLIES_TIME }
+    requires offset { IsTrue V.SUPPLIES_OFFSET }
+    requires room { HasRoom output.old
+        (iso_date_width config.now + iso_time_width config.now + iso_offset_width config.now) }
+    requires agrees { V.agrees state.old value.now }
+    ensures appends { Appends output.old output.new result
+        (join (of_group (V.facts value.now).date (iso_date config.now))
+        (join (of_group (V.facts value.now).time (iso_time config.now))
+        (of_group (V.facts value.now).offset (iso_offset config.now)))) }
+    ensures real { OnOk result (IfSome (V.facts value.now).date AreOfDate
+        × IfSome (V.facts value.now).time IsTimeOfDay
+        × IfSome (V.facts value.now).offset IsOffset) }
+    ensures within { vec_len output.new ≤ vec_len output.old
+        + (iso_date_width config.now + iso_time_width config.now + iso_offset_width config.now) }
+    ensures text { IsUtf8 (join (of_group (V.facts value.now).date (iso_date config.now))
+        (join (of_group (V.facts value.now).time (iso_time config.now))
+        (of_group (V.facts value.now).offset (iso_offset config.now)))).bytes }
+    ensures agrees { V.agrees state.new value.now }
+{
+    if config.is_default() {
+        if let Some(count) = write_default(config, output, value, state) {
+            return Ok(count);
+        }
+    }
+    format_each(config, output, value, state)
+}
+
+// Appends the date, the time and the offset, by any configuration.
+#[inline(never)]
+fn format_each<V: ComponentProvider>(
     config: &Config,
     output: &mut Vec<u8>,
     value: &V,
