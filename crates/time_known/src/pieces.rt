@@ -98,7 +98,7 @@ pub(crate) fn write_weekday_name(output: &mut Vec<u8>, weekday: Weekday) -> usiz
 
 /// Appends the nine digits of a fraction of a second.
 #[inline(always)]
-fn write_nine_digits(output: &mut Vec<u8>, nanosecond: Nanoseconds) -> usize
+pub(crate) fn write_nine_digits(output: &mut Vec<u8>, nanosecond: Nanoseconds) -> usize
     requires room { HasRoom output.old 9 }
     ensures writes { Writes output.old output.new result (fixed 9 nanosecond) }
 {

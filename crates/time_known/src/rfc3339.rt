@@ -159,7 +159,7 @@ fn append_date_time<V: ComponentProvider>(
 // Appends `full-date`, of this year. The day is read first, since its computation gives the month too.
 #[inline(always)]
 #[tactic(auto, using(crate::proofs::WritingLemmas::part_lengths))]
-fn write_full_date<V: ComponentProvider>(
+pub(crate) fn write_full_date<V: ComponentProvider>(
     output: &mut Vec<u8>,
     year: ru16<0, 9_999>,
     value: &V,
@@ -212,7 +212,7 @@ fn write_time_secfrac<V: ComponentProvider>(
 // Appends `time-offset`.
 #[inline(always)]
 #[tactic(auto, using(crate::proofs::WritingLemmas::part_lengths))]
-fn write_time_offset<V: ComponentProvider>(
+pub(crate) fn write_time_offset<V: ComponentProvider>(
     output: &mut Vec<u8>,
     value: &V,
     state: &mut V::State,

@@ -1,5 +1,6 @@
 //! The choices of ISO 8601-1:2019 that a text is written by.
 ghost use Rattle.std.specs.Prelude.{◌≡◌};
+ghost use Rattle.std.specs.Bool.{OnTrue};
 ghost use Rattle.time_known.specs.Config.{default_choices, separator, decimal_sign_text, has_time_letter, has_date, has_time, has_offset, groups_of};
 
 use crate::groups::Groups;
@@ -230,6 +231,13 @@ impl Config {
         ensures { result ≡ has_time_letter self.now }
     {
         !self.use_separators || self.formatted_components.has_date()
+    }
+
+    // Whether it is the default configuration.
+    pub(super) fn is_default(&self) -> bool
+        ensures { OnTrue result (self.now ≡ default_choices) }
+    {
+        *self == Config::default()
     }
 
     // The groups of a value that are formatted.

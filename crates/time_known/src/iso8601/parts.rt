@@ -11,16 +11,50 @@ ghost use Rattle.time_known.specs.Groups.{are_supplied};
 ghost use Rattle.time_known.specs.Iso8601.{iso8601_outcome, iso_date, iso_time, iso_offset};
 ghost use Rattle.time_known.specs.Iso8601Width.{iso8601_width, iso_date_width, iso_time_width, iso_offset_width};
 
+use crate::groups::Groups;
 use crate::iso8601::config::{Config, FormattedComponents};
 use crate::iso8601::date::format_date;
+use crate::iso8601::default_text::write_default;
 use crate::iso8601::offset::format_offset;
 use crate::iso8601::time::format_time;
 use time_fmt::Format;
 use time_provide::ComponentProvider;
 
 /// Appends the parts that are formatted, of a value that supplies their groups. Nothing to format is
+/// refused. The default configuration has a way of its own, but for values of which something is
 /// refused.
+#[inline(always)]
 pub(super) fn write_parts<V: ComponentProvider>(
+    config: &Config,
+    output: &mut Vec<u8>,
+    value: &V,
+    state: &mut V::State,
+) -> Result<usize, Format>
+    requires supplied { IsTrue (are_supplied (groups_of config.now.formatted_components)
+        V.SUPPLIES_DATE V.SUPPLIES_TIME V.SUPPLIES_OFFSET) }
+    requires room { HasRoom output.old (iso8601_width config.now) }
+    requires agrees { V.agrees state.old value.now }
+    ensures appends { Appends output.old output.new result
+        (iso8601_outcome config.now (V.facts value.now)) }
+    ensures real { OnOk result
+        (config.now.formatted_components ≡ FormattedComponents.DateTimeOffset
+        → IfSome (V.facts value.now).date AreOfDate × IfSome (V.facts value.now).time IsTimeOfDay
+        × IfSome (V.facts value.now).offset IsOffset) }
+    ensures within { vec_len output.new ≤ vec_len output.old + iso8601_width config.now }
+    ensures text { IsUtf8 (iso8601_outcome config.now (V.facts value.now)).bytes }
+    ensures agrees { V.agrees state.new value.now }
+{
+    if config.is_default() && Groups::ALL.are_supplied_by::<V>() {
+        if let Some(count) = write_default(config, output, value, state) {
+            return Ok(count);
+        }
+    }
+    write_each(config, output, value, state)
+}
+
+// Appends the parts that are formatted, by any configuration.
+#[inline(never)]
+fn write_each<V: ComponentProvider>(
     config: &Config,
     output: &mut Vec<u8>,
     value: &V,

@@ -7,10 +7,14 @@ use crate::iso8601::config::{
 };
 use time_digits::ru8;
 
-/// The width of the parts that are formatted.
+/// The width of the parts that are formatted. That of the default configuration, which most callers
+/// ask for, is not computed.
 pub(super) fn width(config: &Config) -> usize
     ensures { result ≡ iso8601_width config.now }
 {
+    if config.is_default() {
+        return 35;
+    }
     let date = date_width(config);
     let time = time_width(config);
     let offset = offset_width(config);

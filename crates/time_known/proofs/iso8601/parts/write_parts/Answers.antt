@@ -1,58 +1,39 @@
-use Rattle.std.proofs.Common.{◌≡◌, true, sym, ◌∙◌}
-use Rattle.time_known.specs.declared.iso8601.config.FormattedComponents.TheVariants as components
-use Rattle.time_known.proofs.GuaranteeLemmas.{utf8_of_parts, same_utf8, iso_date_utf8, iso_time_utf8, iso_offset_utf8}
-use Rattle.time_known.proofs.IsoGroupLemmas.{has_groups, date_and_time, all_parts}
+use Rattle.std.proofs.Common.{◌≡◌, true, ap}
+use Rattle.time_fmt.specs.Description.{of_group}
+use Rattle.time_fmt.specs.Outcome.{join}
+use Rattle.time_known.specs.Config.{Choices, default_choices}
+use Rattle.time_known.specs.Iso8601.{iso8601_outcome, iso_date, iso_time, iso_offset}
+use Rattle.time_known.proofs.GuaranteeLemmas.{join_utf8, same_utf8, iso_date_utf8, iso_time_utf8, iso_offset_utf8}
+use Rattle.time_known.proofs.IsoGroupLemmas.{has_groups, all_parts}
 use Rattle.time_known.proofs.iso8601.parts.write_parts.Goals as goal
+use Rattle.time_known.proofs.iso8601.parts.write_parts.Given.{Over}
 
-pub returns-in-DateTime-clause-appends : goal.returns-in-DateTime-clause-appends
-returns-in-DateTime-clause-appends g c =
+-- the default configuration gives the date, the time and the offset
+parts_are : (g : Over) (c : goal.In-Some g)
+    → iso8601_outcome c.args.config.now (g.V.ComponentProvider.facts c.args.value.now)
+    ≡ join (of_group (g.V.ComponentProvider.facts c.args.value.now).date (iso_date c.args.config.now))
+    (join (of_group (g.V.ComponentProvider.facts c.args.value.now).time (iso_time c.args.config.now))
+    (of_group (g.V.ComponentProvider.facts c.args.value.now).offset (iso_offset c.args.config.now)))
+parts_are g c =
     let value = c.args.value.now in
     let choices = c.args.config.now in
     let f = g.V.ComponentProvider.facts value in
     let law = g.met.V.ComponentProvider in
+    let is_default : choices ≡ default_choices = c.if-is_default.ensures in
     let yes : has_groups choices.formatted_components f ≡ true =
     rw (law.supplies_date value, law.supplies_time value, law.supplies_offset value) c.requires.supplied in
-    rw (date_and_time choices f (sym c.formatted_components.ensures ∙ c.in-DateTime.is) yes)
-    c.format_date_and_time.ensures.appends
+    all_parts choices f (ap (λ (c : Choices). c.formatted_components) is_default) yes
 
-pub returns-in-DateTimeOffset-clause-appends : goal.returns-in-DateTimeOffset-clause-appends
-returns-in-DateTimeOffset-clause-appends g c =
-    let value = c.args.value.now in
-    let choices = c.args.config.now in
-    let f = g.V.ComponentProvider.facts value in
-    let law = g.met.V.ComponentProvider in
-    let yes : has_groups choices.formatted_components f ≡ true =
-    rw (law.supplies_date value, law.supplies_time value, law.supplies_offset value) c.requires.supplied in
-    rw (all_parts choices f (sym c.formatted_components.ensures ∙ c.in-DateTimeOffset.is) yes)
-    c.format_all.ensures.appends
+pub returns-in-Some-clause-appends : goal.returns-in-Some-clause-appends
+returns-in-Some-clause-appends g c = rw (parts_are g c) c.in-Some.ensures.appends
 
-pub returns-in-Date-clause-text : goal.returns-in-Date-clause-text
-returns-in-Date-clause-text g c =
-    let choices = c.args.config.now in
+pub returns-in-Some-clause-text : goal.returns-in-Some-clause-text
+returns-in-Some-clause-text g c =
     let f = g.V.ComponentProvider.facts c.args.value.now in
-    utf8_of_parts components.Date choices f (sym c.formatted_components.ensures ∙ c.in-Date.is)
-    (iso_date_utf8 choices f.date c.format_date.ensures.real)
-
-pub returns-in-Time-clause-text : goal.returns-in-Time-clause-text
-returns-in-Time-clause-text g c =
     let choices = c.args.config.now in
-    let f = g.V.ComponentProvider.facts c.args.value.now in
-    utf8_of_parts components.Time choices f (sym c.formatted_components.ensures ∙ c.in-Time.is)
-    (iso_time_utf8 choices f.time c.format_time.ensures.real)
-
-pub returns-in-Offset-clause-text : goal.returns-in-Offset-clause-text
-returns-in-Offset-clause-text g c =
-    let choices = c.args.config.now in
-    let f = g.V.ComponentProvider.facts c.args.value.now in
-    utf8_of_parts components.Offset choices f (sym c.formatted_components.ensures ∙ c.in-Offset.is)
-    (iso_offset_utf8 choices f.offset c.format_offset.ensures.real)
-
-pub returns-in-DateTimeOffset-clause-text : goal.returns-in-DateTimeOffset-clause-text
-returns-in-DateTimeOffset-clause-text g c =
-    let value = c.args.value.now in
-    let choices = c.args.config.now in
-    let f = g.V.ComponentProvider.facts value in
-    let law = g.met.V.ComponentProvider in
-    let yes : has_groups choices.formatted_components f ≡ true =
-    rw (law.supplies_date value, law.supplies_time value, law.supplies_offset value) c.requires.supplied in
-    same_utf8 _ _ (all_parts choices f (sym c.formatted_components.ensures ∙ c.in-DateTimeOffset.is) yes) c.format_all.ensures.text
+    let real = c.in-Some.ensures.real in
+    same_utf8 _ _ (parts_are g c)
+    (join_utf8 (of_group f.date (iso_date choices)) (join (of_group f.time (iso_time choices)) (of_group f.offset (iso_offset choices)))
+    (iso_date_utf8 choices f.date real.0)
+    (join_utf8 (of_group f.time (iso_time choices)) (of_group f.offset (iso_offset choices))
+    (iso_time_utf8 choices f.time real.1) (iso_offset_utf8 choices f.offset real.2)))
