@@ -1,7 +1,9 @@
 -- The numbers of a command.
 use Rattle.std.proofs.Common.{ℕ, ℤ, ◌≡◌, List, [], ◌∷◌, length, get_or, Option, Some, None, refl, arith}
+use Rattle.std.specs.Prelude.{codes}
 use Rattle.time_show.specs.declared.value.DateTimeNumbers.{DateTimeNumbers}
-use Rattle.time_show.specs.Command.{date_time_numbers}
+use Rattle.time_show.specs.declared.value.UtcNumbers.{UtcNumbers}
+use Rattle.time_show.specs.Command.{date_time_numbers, utc_numbers}
 use Rattle.time_show.specs.Fields.{exactly}
 
 -- the numbers of a date and time at their places in a list
@@ -25,3 +27,26 @@ exactly-Some count (Some ys) xs e = (grind arith, grind arith)
 -- where a line has ten numbers, they are those of a date and time
 pub ten_numbers : (numbers : Option (List ℤ)) (xs : List ℤ) (d : ℤ) → Some xs ≡ exactly 10 numbers → date_time_numbers numbers ≡ Some (date_time_at xs d)
 ten_numbers numbers xs d e = let all = exactly-Some 10 numbers xs e in rw all.0 (ten xs d all.1)
+
+-- the numbers of a date and time in UTC at their places in a list
+abbrev pub utc_at : List ℤ → ℤ → UtcNumbers
+utc_at xs d = record {
+  date = record { year = get_or xs 0 d; month = get_or xs 1 d; day = get_or xs 2 d };
+  time = record { hour = get_or xs 3 d; minute = get_or xs 4 d; second = get_or xs 5 d; nanosecond = get_or xs 6 d };
+}
+
+-- seven numbers are those of a date and time in UTC
+seven : (xs : List ℤ) (d : ℤ) → length xs ≡ 7 → utc_numbers (Some xs) ≡ Some (utc_at xs d)
+seven (a ∷ b ∷ c ∷ e ∷ f ∷ g ∷ h ∷ []) d len = refl
+seven xs d len = absurd (grind arith)
+
+-- where a line has seven numbers, they are those of a date and time in UTC
+pub seven_numbers : (numbers : Option (List ℤ)) (xs : List ℤ) (d : ℤ) → Some xs ≡ exactly 7 numbers → utc_numbers numbers ≡ Some (utc_at xs d)
+seven_numbers numbers xs d e = let all = exactly-Some 7 numbers xs e in rw all.0 (seven xs d all.1)
+
+-- a text of nine bytes, by each of them
+pub iso_comma_name : (xs : List ℕ) → length xs ≡ 9 → get_or xs 0 0 ≡ 105 → get_or xs 1 0 ≡ 115 → get_or xs 2 0 ≡ 111
+    → get_or xs 3 0 ≡ 45 → get_or xs 4 0 ≡ 99 → get_or xs 5 0 ≡ 111 → get_or xs 6 0 ≡ 109 → get_or xs 7 0 ≡ 109
+    → get_or xs 8 0 ≡ 97 → xs ≡ codes "iso-comma"
+iso_comma_name (a ∷ b ∷ c ∷ d ∷ e ∷ f ∷ g ∷ h ∷ i ∷ []) len p q r s t u v w x = rw (p, q, r, s, t, u, v, w, x) refl
+iso_comma_name xs len p q r s t u v w x = absurd (grind arith)

@@ -8,16 +8,18 @@ use Rattle.time_below.specs.declared.format_description.modifier.Padding.TheVari
 use Rattle.time_below.specs.declared.format_description.modifier.SubsecondDigits.TheVariants.{OneOrMore}
 use Rattle.time_fmt.specs.Description.{tree_outcome}
 use Rattle.time_fmt.specs.Outcome.{Outcome}
-use Rattle.time_known.specs.Config.{default_choices}
+use Rattle.time_known.specs.Config.{Choices, default_choices}
+use Rattle.time_known.specs.declared.iso8601.config.DecimalSign.TheVariants.{Comma}
 use Rattle.time_known.specs.Iso8601.{iso8601_outcome}
 use Rattle.time_known.specs.Iso8601Width.{iso8601_width}
 use Rattle.time_known.specs.Rfc2822.{rfc2822_outcome, rfc2822_width}
 use Rattle.time_known.specs.Rfc3339.{rfc3339_outcome, rfc3339_width}
+use Rattle.time_known.specs.Stamps.{stamp_of, stamp_width}
 use Rattle.time_show.specs.declared.command.Command.{Command}
-use Rattle.time_show.specs.declared.command.Command.TheVariants.{Time, Rfc3339, Rfc2822, Iso}
+use Rattle.time_show.specs.declared.command.Command.TheVariants.{Time, Rfc3339, Rfc2822, Iso, IsoComma, Stamp}
 use Rattle.time_show.specs.declared.value.Part.{Part}
 use Rattle.time_show.specs.Command.{command_of}
-use Rattle.time_show.specs.Value.{time_value, date_time_value}
+use Rattle.time_show.specs.Value.{time_value, date_time_value, utc_date_time_value}
 
 -- no command; a value that there is not, since this part is out of its range; or the outcome of a value by a
 -- description of this width
@@ -39,6 +41,10 @@ time_tree = all_of (trees (
     ∷ of_component (component.Second (record { padding = Zero })) ∷ text_literal (codes ".")
     ∷ of_component (component.Subsecond (record { digits = OneOrMore })) ∷ []))
 
+-- the default of ISO 8601, with a comma before the decimals
+abbrev pub comma_choices : Choices
+comma_choices = record default_choices { decimal_sign = Comma }
+
 -- what a command asks for, if there is one
 abbrev pub asked_by : Option Command → Asked
 asked_by None = no_command
@@ -51,6 +57,10 @@ asked_by (Some (Rfc2822 numbers)) =
 asked_by (Some (Iso numbers)) =
     asked_value (iso8601_width default_choices) (λ value. iso8601_outcome default_choices (facts_of_offset_date_time value))
     (date_time_value numbers)
+asked_by (Some (IsoComma numbers)) =
+    asked_value (iso8601_width comma_choices) (λ value. iso8601_outcome comma_choices (facts_of_offset_date_time value))
+    (date_time_value numbers)
+asked_by (Some (Stamp numbers)) = asked_value stamp_width stamp_of (utc_date_time_value numbers)
 
 -- what a line asks for
 abbrev pub asked_of : List ℕ → Asked

@@ -1,7 +1,7 @@
 -- The values that the numbers of a line give, if each is in the range of its part.
 use Rattle.std.specs.Prelude.{ℕ, ℤ, pos, negsuc, List, Result, Ok, Err, codes, nat_le, ◌&&◌, unsigned_abs, if◌then◌else◌}
 use Rattle.time_below.specs.Calendar.{OrdinalDate, date_of, days_in_month, is_leap_year}
-use Rattle.time_below.specs.Moment.{OffsetDateAndTime}
+use Rattle.time_below.specs.Moment.{DateAndTime, OffsetDateAndTime}
 use Rattle.time_below.specs.Offset.{Offset, settled}
 use Rattle.time_below.specs.TimeOfDay.{TimeOfDay}
 use Rattle.time_show.specs.declared.value.DateNumbers.{DateNumbers}
@@ -10,6 +10,7 @@ use Rattle.time_show.specs.declared.value.OffsetNumbers.{OffsetNumbers}
 use Rattle.time_show.specs.declared.value.Part.{Part}
 use Rattle.time_show.specs.declared.value.Part.TheVariants.{Year, Month, Day, Hour, Minute, Second, Nanosecond, Hours, Minutes, Seconds}
 use Rattle.time_show.specs.declared.value.TimeNumbers.{TimeNumbers}
+use Rattle.time_show.specs.declared.value.UtcNumbers.{UtcNumbers}
 
 -- the name of a part in its refusal
 abbrev pub part_name : Part → List ℕ
@@ -68,3 +69,10 @@ date_time_value n =
     with_value (time_value n.time) (λ time.
     with_value (offset_value n.offset) (λ offset.
     Ok (record { date = date; time = time; offset = offset }))))
+
+-- the same without an offset, in UTC
+abbrev pub utc_date_time_value : UtcNumbers → Result DateAndTime Part
+utc_date_time_value n =
+    with_value (date_value n.date) (λ date.
+    with_value (time_value n.time) (λ time.
+    Ok (record { date = date; time = time })))

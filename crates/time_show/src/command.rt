@@ -1,11 +1,11 @@
 //! What a line asks for.
 ghost use Rattle.std.specs.Prelude.{◌≡◌, ◌≤◌, length};
-ghost use Rattle.time_show.specs.Command.{command_of, time_numbers, date_time_numbers};
+ghost use Rattle.time_show.specs.Command.{command_of, time_numbers, date_time_numbers, utc_numbers};
 ghost use Rattle.time_show.specs.Fields.{numbers_of};
 
 use crate::fields::{Fields, numbers};
 use crate::line_buffer::LINE_LIMIT;
-use crate::value::{DateNumbers, DateTimeNumbers, OffsetNumbers, TimeNumbers};
+use crate::value::{DateNumbers, DateTimeNumbers, OffsetNumbers, TimeNumbers, UtcNumbers};
 
 /// A command with its numbers as the line has them, whether or not they are in the ranges of their
 /// parts.
@@ -19,6 +19,10 @@ pub enum Command {
     Rfc2822(DateTimeNumbers),
     /// The same by the default configuration of ISO 8601.
     Iso(DateTimeNumbers),
+    /// The same with a comma before the decimals.
+    IsoComma(DateTimeNumbers),
+    /// The stamp of a date and time in UTC.
+    Stamp(UtcNumbers),
 }
 
 /// The command that a line is, and nothing for a line that is none.
@@ -32,6 +36,8 @@ pub fn command_in(line: &[u8]) -> Option<Command>
         b"rfc3339" => date_time_numbers(fields).map(Command::Rfc3339),
         b"rfc2822" => date_time_numbers(fields).map(Command::Rfc2822),
         b"iso" => date_time_numbers(fields).map(Command::Iso),
+        b"iso-comma" => date_time_numbers(fields).map(Command::IsoComma),
+        b"stamp" => utc_numbers(fields).map(Command::Stamp),
         _ => None,
     }
 }
@@ -77,6 +83,22 @@ pub fn date_time_numbers(fields: Fields<'_>) -> Option<DateTimeNumbers>
             hours,
             minutes,
             seconds,
+        },
+    })
+}
+
+/// The numbers of a date and time in UTC, where these fields are seven numbers.
+fn utc_numbers(fields: Fields<'_>) -> Option<UtcNumbers>
+    ensures { result ≡ utc_numbers (numbers_of fields.entry) }
+{
+    let [year, month, day, hour, minute, second, nanosecond] = numbers::<7>(fields)?;
+    Some(UtcNumbers {
+        date: DateNumbers { year, month, day },
+        time: TimeNumbers {
+            hour,
+            minute,
+            second,
+            nanosecond,
         },
     })
 }

@@ -2,18 +2,19 @@
 ghost use Rattle.std.specs.Prelude.{◌≡◌, ◌≤◌, length, map, Some};
 ghost use Rattle.time_below.specs.Tree.{all_of, borrowed_tree, trees};
 ghost use Rattle.time_show.specs.Answer.{IsAnswer, Answers};
-ghost use Rattle.time_show.specs.Asked.{asked_by, asked_value, formatted, time_tree};
+ghost use Rattle.time_show.specs.Asked.{asked_by, asked_value, comma_choices, formatted, time_tree};
 ghost use Rattle.time_show.specs.Reply.{reply_text, error_name};
 
 use crate::command::{Command, command_in};
 use crate::line_buffer::LINE_LIMIT;
-use crate::value::{Part, TimeNumbers, date_time_value, time_value};
+use crate::value::{Part, TimeNumbers, date_time_value, time_value, utc_date_time_value};
 use std::default::Default;
 use time_below::format_description::modifier::{
     Hour24, Minute, Padding, Second, Subsecond, SubsecondDigits,
 };
 use time_below::format_description::{BorrowedFormatItem, Component};
 use time_fmt::{Format, Formattable};
+use time_known::iso8601::{Config, DecimalSign};
 use time_known::{Iso8601, Rfc2822, Rfc3339};
 use time_provide::ComponentProvider;
 
@@ -143,6 +144,13 @@ fn time_reply(text: &mut Vec<u8>, numbers: TimeNumbers) -> Reply<'_>
     )
 }
 
+/// The default format of ISO 8601, with a comma before the decimals.
+fn iso_with_comma() -> Iso8601
+    ensures { result ≡ comma_choices }
+{
+    Iso8601::new(Config::default().set_decimal_sign(DecimalSign::Comma))
+}
+
 /// Answers a line. The text of the answer stands in this vector, whose memory serves each line.
 pub fn reply_to<'a>(text: &'a mut Vec<u8>, line: &[u8]) -> Reply<'a>
     requires { length line.now ≤ LINE_LIMIT }
@@ -155,6 +163,12 @@ pub fn reply_to<'a>(text: &'a mut Vec<u8>, line: &[u8]) -> Reply<'a>
         Some(Command::Rfc2822(numbers)) => value_reply(text, &Rfc2822, date_time_value(numbers)),
         Some(Command::Iso(numbers)) => {
             value_reply(text, &Iso8601::default(), date_time_value(numbers))
+        }
+        Some(Command::IsoComma(numbers)) => {
+            value_reply(text, &iso_with_comma(), date_time_value(numbers))
+        }
+        Some(Command::Stamp(numbers)) => {
+            value_reply(text, &Iso8601::default(), utc_date_time_value(numbers))
         }
     }
 }

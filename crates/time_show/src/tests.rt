@@ -12,10 +12,11 @@ use std::test::Fail;
 /// The stored run.
 const INPUT: &[u8] = b"time 9 55 6 120000000\ntime 0 0 0 0\ntime 24 0 0 0\ntime 1 2\n\
 rfc3339 1997 11 12 9 55 6 0 -6 0 0\nrfc2822 1997 11 12 9 55 6 0 -6 0 0\n\
-rfc2822 1899 12 31 0 0 0 0 0 0 0\niso 1997 11 12 9 55 6 0 -6 0 0\niso 2000 1 1 0 0 0 0 1 0 1";
+rfc2822 1899 12 31 0 0 0 0 0 0 0\niso 1997 11 12 9 55 6 0 -6 0 0\niso 2000 1 1 0 0 0 0 1 0 1\n\
+iso-comma 1997 11 12 9 55 6 0 -6 0 0\nstamp 1997 11 12 15 55 6 0";
 
 /// Its answers, one after another.
-const ANSWERS: [&[u8]; 9] = [
+const ANSWERS: [&[u8]; 11] = [
     b"ok 11 18 09:55:06.12\n",
     b"ok 10 18 00:00:00.0\n",
     b"refused 0 hour\n",
@@ -25,6 +26,8 @@ const ANSWERS: [&[u8]; 9] = [
     b"refused 0 year\n",
     b"ok 35 35 1997-11-12T09:55:06.000000000-06:00\n",
     b"refused 29 offset_second\n",
+    b"ok 35 35 1997-11-12T09:55:06,000000000-06:00\n",
+    b"ok 30 35 1997-11-12T15:55:06.000000000Z\n",
 ];
 
 /// Gives at most `step` bytes at a call, and fails once `calls` have been made.

@@ -2,9 +2,9 @@
 ghost use Rattle.std.specs.Prelude.{◌≡◌, ◌≤◌, ◌<◌, IfOk, unsigned_abs};
 ghost use Rattle.std.specs.Int.{IsInRange};
 ghost use Rattle.time_below.specs.Month.{month_number};
-ghost use Rattle.time_show.specs.Value.{part_name, natural_part, signed_part, date_value, time_value, offset_value, date_time_value};
+ghost use Rattle.time_show.specs.Value.{part_name, natural_part, signed_part, date_value, time_value, offset_value, date_time_value, utc_date_time_value};
 
-use time_below::{Date, Month, OffsetDateTime, Time, UtcOffset};
+use time_below::{Date, Month, OffsetDateTime, Time, UtcDateTime, UtcOffset};
 
 /// A part of a value that a line gives by a number.
 #[derive(Clone, Copy, Debug, PartialEq, Eq)]
@@ -82,6 +82,13 @@ pub struct DateTimeNumbers {
     pub date: DateNumbers,
     pub time: TimeNumbers,
     pub offset: OffsetNumbers,
+}
+
+/// The numbers of a date and a time of day in UTC.
+#[derive(Clone, Copy)]
+pub struct UtcNumbers {
+    pub date: DateNumbers,
+    pub time: TimeNumbers,
 }
 
 /// The number, if it is one of `least` to `greatest`.
@@ -186,4 +193,13 @@ pub fn date_time_value(numbers: DateTimeNumbers) -> Result<OffsetDateTime, Part>
     let time = time_value(numbers.time)?;
     let offset = offset_value(numbers.offset)?;
     Ok(OffsetDateTime::new_in_offset(date, time, offset))
+}
+
+/// The date and time in UTC of these numbers. The ranges are tested in the order of the fields.
+pub fn utc_date_time_value(numbers: UtcNumbers) -> Result<UtcDateTime, Part>
+    ensures { result ≡ utc_date_time_value numbers }
+{
+    let date = date_value(numbers.date)?;
+    let time = time_value(numbers.time)?;
+    Ok(UtcDateTime::new(date, time))
 }

@@ -1,4 +1,8 @@
 //! Stamps, and their order.
+ghost use Rattle.std.specs.Prelude.{◌↔◌, IfOk};
+ghost use Rattle.time_known.specs.Stamps.{IsBefore, IsTextBefore, moment_of};
+
+use crate::laws::stamp_order;
 use crate::stamp_into;
 use crate::tests::{moment, refusal_name};
 use std::alloc::Global;
@@ -44,6 +48,34 @@ fn stamp(rt: &impl Abort, alloc: Global, parts: Parts) -> Vec<u8> {
     let answer = stamp_into(&mut output, &utc(rt, parts));
     assert!(rt; matches!(&answer, Ok(30)));
     output
+}
+
+/// The stamps of two moments, which are in the order of the moments: what a caller learns from
+/// `stamp_into` and the law of order.
+fn two_stamps(
+    alloc: Global,
+    first: &UtcDateTime,
+    second: &UtcDateTime,
+) -> Result<(Vec<u8>, Vec<u8>), Format>
+    ensures { IfOk result (λ stamps. IsTextBefore stamps.0.items stamps.1.items
+        ↔ IsBefore (moment_of first.now) (moment_of second.now)) }
+{
+    let mut earlier = Vec::new(alloc);
+    stamp_into(&mut earlier, first)?;
+    let mut later = Vec::new(alloc);
+    stamp_into(&mut later, second)?;
+    stamp_order();
+    Ok((earlier, later))
+}
+
+#[test]
+fn a_moment_and_the_next_one(rt: HostRuntime) {
+    let midnight = utc(&rt, ((1970, Month::January, 1), (0, 0, 0, 0)));
+    let next = utc(&rt, ((1970, Month::January, 1), (0, 0, 0, 1)));
+    let Ok((earlier, later)) = two_stamps(rt.alloc(), &midnight, &next) else {
+        panic!(rt; "no stamps");
+    };
+    assert!(rt; earlier < later);
 }
 
 #[test]

@@ -9,7 +9,7 @@ use std::alloc::Global;
 use std::test::Fail;
 
 /// A line and its answer.
-const LINES: [(&[u8], &[u8]); 36] = [
+const LINES: [(&[u8], &[u8]); 54] = [
     (b"time 9 55 6 999999999\n", b"ok 18 18 09:55:06.999999999\n"),
     (b"time -0 0 0 0\n", b"ok 10 18 00:00:00.0\n"),
     (b"time 23 59 59 1\n", b"ok 18 18 23:59:59.000000001\n"),
@@ -57,6 +57,45 @@ const LINES: [(&[u8], &[u8]); 36] = [
     (b"iso 70000 1 1 0 0 0 0 0 0 0\n", b"refused 0 year\n"),
     (b"rfc3339 2000 1 1 0 0 0 0 0 0\n", b"bad line\n"),
     (b"iso 2000 1 1 0 0 0 0 0 0 0 0\n", b"bad line\n"),
+    (
+        b"iso-comma 1997 11 12 9 55 6 0 -6 0 0\n",
+        b"ok 35 35 1997-11-12T09:55:06,000000000-06:00\n",
+    ),
+    (
+        b"iso-comma 2000 1 1 0 0 0 1 0 0 0\n",
+        b"ok 30 35 2000-01-01T00:00:00,000000001Z\n",
+    ),
+    (
+        b"iso-comma 2000 1 1 0 0 0 0 1 0 1\n",
+        b"refused 29 offset_second\n",
+    ),
+    (b"iso-comma -1 1 1 0 0 0 0 0 0 0\n", b"refused 0 year\n"),
+    (
+        b"iso-comma 2000 1 1 0 0 0 0 0 60 0\n",
+        b"refused 0 minutes\n",
+    ),
+    (b"iso-comma 2000 1 1 0 0 0 0 0 0\n", b"bad line\n"),
+    (b"iso_comma 2000 1 1 0 0 0 0 0 0 0\n", b"bad line\n"),
+    (
+        b"stamp 1997 11 12 15 55 6 0\n",
+        b"ok 30 35 1997-11-12T15:55:06.000000000Z\n",
+    ),
+    (
+        b"stamp 1969 12 31 23 59 59 999999999\n",
+        b"ok 30 35 1969-12-31T23:59:59.999999999Z\n",
+    ),
+    (
+        b"stamp 1970 1 1 0 0 0 0\n",
+        b"ok 30 35 1970-01-01T00:00:00.000000000Z\n",
+    ),
+    (b"stamp 10000 1 1 0 0 0 0\n", b"refused 0 year\n"),
+    (b"stamp -1 12 31 0 0 0 0\n", b"refused 0 year\n"),
+    (b"stamp 1000000 13 1 0 0 0 0\n", b"refused 0 year\n"),
+    (b"stamp 2000 2 30 24 0 0 0\n", b"refused 0 day\n"),
+    (b"stamp 2000 2 29 24 60 0 0\n", b"refused 0 hour\n"),
+    (b"stamp 1997 11 12 15 55 6\n", b"bad line\n"),
+    (b"stamp 1997 11 12 15 55 6 0 0\n", b"bad line\n"),
+    (b"stamps 1997 11 12 15 55 6 0\n", b"bad line\n"),
     (b"time", b"bad line\n"),
 ];
 
