@@ -1,8 +1,8 @@
 //! The answers on their way out: they are assembled in a fixed buffer, and go out together.
-ghost use Rattle.std.specs.Prelude.{◌≡◌, ◌+◌, ◌≤◌, ◌<◌, ℕ, List, [], ◌++◌, length, min, take, OnOk, OnErr};
+ghost use Rattle.std.specs.Prelude.{◌≡◌, ◌+◌, ◌≤◌, ◌<◌, ℕ, List, [], ◌++◌, ◌∷◌, length, min, take, decimal, OnOk, OnErr};
 ghost use Rattle.std.specs.Io.KnownBytes.{Appends};
 ghost use Rattle.time_digits.specs.Digits.{joined};
-ghost use Rattle.time_show.specs.declared.output.TheConstants.{OUTPUT_LIMIT, FRAME_LIMIT};
+ghost use Rattle.time_show.specs.declared.output.TheConstants.{OUTPUT_LIMIT, NUMBER_LIMIT, FRAME_LIMIT};
 ghost use Rattle.time_show.specs.Answer.{ok_text};
 ghost use Rattle.time_show.specs.OutputBuffer.{buffered, Accepts, AppendsStart, CutsOff};
 ghost use Rattle.time_show.specs.Reply.{reply_text};
@@ -10,13 +10,17 @@ ghost use Rattle.time_show.specs.Reply.{reply_text};
 use crate::reply::Reply;
 use std::io::Write;
 use std::marker::Model;
-use time_digits::u64_pad_none;
+use time_digits::num_fmt::one_to_two_digits_no_padding;
+use time_digits::{ru8, u64_pad_none};
 
 /// How many bytes may wait until they are written.
 pub const OUTPUT_LIMIT: usize = 4096;
 
-/// The most bytes of a formatted value's answer beside its text: two numbers of twenty digits, `ok`,
-/// three spaces and the line feed.
+/// The most digits of a number.
+const NUMBER_LIMIT: usize = 20;
+
+/// The most bytes of a formatted value's answer beside its text: two numbers, `ok`, three spaces and
+/// the line feed.
 const FRAME_LIMIT: usize = 46;
 
 /// The most bytes of a text that is put beside what waits without a look at each part.
@@ -166,6 +170,35 @@ impl OutputBuffer {
         Ok(())
     }
 
+    /// Lets a byte wait.
+    fn push_byte(&mut self, byte: u8)
+        requires room { length self.old < OUTPUT_LIMIT }
+        ensures { self.new ≡ self.old ++ byte ∷ [] }
+    {
+        self.bytes[self.len] = byte;
+        self.len += 1;
+    }
+
+    /// Lets the digits of a number wait. Most numbers have one or two.
+    fn push_number(&mut self, number: usize)
+        requires room { length self.old + NUMBER_LIMIT ≤ OUTPUT_LIMIT }
+        ensures digits { self.new ≡ self.old ++ decimal number }
+        ensures grown { length self.new ≤ length self.old + NUMBER_LIMIT }
+    {
+        if number > 99 {
+            self.push(u64_pad_none(number as u64).as_str().as_bytes());
+            return;
+        }
+        match one_to_two_digits_no_padding(ru8::new(number as u8).unwrap()).as_bytes() {
+            [only] => self.push_byte(*only),
+            [tens, ones] => {
+                self.push_byte(*tens);
+                self.push_byte(*ones);
+            }
+            digits => self.push(digits),
+        }
+    }
+
     /// Lets the answer of a formatted value wait.
     #[tactic(auto, using(crate::proofs::OutputBufferLemmas::one_after_another))]
     fn push_formatted(&mut self, count: usize, width: usize, text: &[u8])
@@ -173,9 +206,9 @@ impl OutputBuffer {
         ensures { self.new ≡ self.old ++ ok_text count width text.now }
     {
         self.push(b"ok ");
-        self.push(u64_pad_none(count as u64).as_str().as_bytes());
+        self.push_number(count);
         self.push(b" ");
-        self.push(u64_pad_none(width as u64).as_str().as_bytes());
+        self.push_number(width);
         self.push(b" ");
         self.push(text);
         self.push(b"\n");
