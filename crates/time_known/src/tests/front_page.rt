@@ -3,13 +3,13 @@ ghost use Rattle.std.specs.Prelude.{◌≡◌, ◌≤◌, vec_capacity};
 
 use crate::iso8601::{Config, DateKind, TimePrecision};
 use crate::tests::moment;
-use crate::{Iso8601, Rfc3339};
+use crate::{Iso8601, Rfc3339, stamp_into};
 use std::alloc::{AllocError, Global};
 use std::default::Default;
 use std::test::Fail;
 use time_below::format_description::modifier::{Day, MonthNumerical, Padding};
 use time_below::format_description::{FormatDescriptionV3, FormatDescriptionV3Inner};
-use time_below::{Date, Month, OffsetDateTime, Time, UtcOffset};
+use time_below::{Date, Month, OffsetDateTime, Time, UtcDateTime, UtcOffset};
 use time_digits::ru8;
 use time_fmt::{Format, Formattable};
 use time_provide::DateState;
@@ -51,6 +51,15 @@ fn append_week_stamp(line: &mut Vec<u8>, moment: &OffsetDateTime) -> Result<usiz
     Iso8601::new(config).format_into(line, moment, &mut DateState::default())
 }
 
+/// Appends an entry such as `1997-11-12T15:55:06.000000000Z up`.
+fn append_entry(log: &mut Vec<u8>, moment: &UtcDateTime) -> Result<usize, Format> {
+    let count = stamp_into(log, moment)?;
+    match log.extend_from_slice(b" up") {
+        Ok(()) => Ok(count + 3),
+        Err(_) => Err(Format::OutOfMemory),
+    }
+}
+
 /// Noon of the day in UTC, if there is such a day.
 fn noon(year: i32, month: Month, day: u8) -> Option<OffsetDateTime> {
     let Ok(date) = Date::from_calendar_date(year, month, day) else {
@@ -79,6 +88,10 @@ fn stamps_of_a_sunday(rt: HostRuntime) -> Result<(), Fail> {
     line.clear();
     assert!(rt; matches!(append_week_stamp(&mut line, &value), Ok(24)));
     assert_eq!(rt; line.as_slice(), b"2026-W47-7T09:55:06.120Z".as_slice());
+    line.clear();
+    let utc = UtcDateTime::new(value.date(), value.time());
+    assert!(rt; matches!(append_entry(&mut line, &utc), Ok(33)));
+    assert_eq!(rt; line.as_slice(), b"2026-11-22T09:55:06.120000000Z up".as_slice());
     line.clear();
     let description = day_and_month(rt.alloc())?;
     let written = description.format_into(&mut line, &value.date(), &mut DateState::default());
