@@ -4,6 +4,8 @@ use crate::{
     BorrowedItems, ComputeMetadata, Format, Formattable, Metadata, OwnedItems,
     component_write_into, v3_write_into,
 };
+use std::alloc::Global;
+use std::process::Abort;
 use std::test::Fail;
 use time_below::format_description::modifier::{
     MonthRepr, Padding, UnixTimestampPrecision, WeekNumberRepr, WeekdayRepr, YearRange, YearRepr,
@@ -26,6 +28,29 @@ const MONTH: Component = Component::MonthNumerical(modifier::MonthNumerical {
 const MONTH_NAME: modifier::MonthLong = modifier::MonthLong {
     case_sensitive: true,
 };
+
+/// The same of an item of the third version, for the Wednesday.
+fn assert_v3(
+    rt: &impl Abort,
+    alloc: Global,
+    item: FormatDescriptionV3Inner<'_>,
+    text: &str,
+    width: usize,
+) {
+    assert_text(
+        rt,
+        alloc,
+        &FormatDescriptionV3::new(item),
+        &wednesday(rt),
+        text,
+        width,
+    );
+}
+
+/// The same of an owned item, for the Wednesday.
+fn assert_owned(rt: &impl Abort, alloc: Global, item: OwnedFormatItem, text: &str, width: usize) {
+    assert_text(rt, alloc, &item, &wednesday(rt), text, width);
+}
 
 #[test]
 fn borrowed_and_owned_lists_write_the_same(rt: HostRuntime) -> Result<(), Fail> {
@@ -64,11 +89,10 @@ fn borrowed_and_owned_lists_write_the_same(rt: HostRuntime) -> Result<(), Fail> 
         "12/11",
         5,
     );
-    assert_text(
+    assert_owned(
         &rt,
         rt.alloc(),
-        &OwnedFormatItem::Compound(owned),
-        &value,
+        OwnedFormatItem::Compound(owned),
         "12/11",
         5,
     );
@@ -78,82 +102,64 @@ fn borrowed_and_owned_lists_write_the_same(rt: HostRuntime) -> Result<(), Fail> 
 // What is lent to a description lives as long as its own parts, so it is leaked here.
 #[test]
 fn borrowed_descriptions_of_the_third_version(rt: HostRuntime) -> Result<(), Fail> {
-    let value = wednesday(&rt);
     let list = vec![in rt.alloc();
         FormatDescriptionV3Inner::from(DAY),
         FormatDescriptionV3Inner::BorrowedLiteral("/"),
         FormatDescriptionV3Inner::from(MONTH),
     ]?;
     let items: &'static [FormatDescriptionV3Inner<'static>] = list.leak();
-    let compound = FormatDescriptionV3::new(FormatDescriptionV3Inner::BorrowedCompound(items));
-    assert_text(&rt, rt.alloc(), &compound, &value, "12/11", 5);
-    let first = FormatDescriptionV3::new(FormatDescriptionV3Inner::BorrowedFirst(items));
-    assert_text(&rt, rt.alloc(), &first, &value, "12", 2);
+    let compound = FormatDescriptionV3Inner::BorrowedCompound(items);
+    assert_v3(&rt, rt.alloc(), compound, "12/11", 5);
+    let first = FormatDescriptionV3Inner::BorrowedFirst(items);
+    assert_v3(&rt, rt.alloc(), first, "12", 2);
     Ok(())
 }
 
 #[test]
 fn owned_descriptions_of_the_third_version(rt: HostRuntime) -> Result<(), Fail> {
-    let value = wednesday(&rt);
     let list = vec![in rt.alloc();
         FormatDescriptionV3Inner::from(DAY),
         FormatDescriptionV3Inner::OwnedLiteral(String::from_str(rt.alloc(), "/")?),
         FormatDescriptionV3Inner::from(MONTH),
     ]?;
-    let compound = FormatDescriptionV3::new(FormatDescriptionV3Inner::OwnedCompound(list));
-    assert_text(&rt, rt.alloc(), &compound, &value, "12/11", 5);
+    let compound = FormatDescriptionV3Inner::OwnedCompound(list);
+    assert_v3(&rt, rt.alloc(), compound, "12/11", 5);
     Ok(())
 }
 
 #[test]
 fn optional_items_of_the_third_version(rt: HostRuntime) -> Result<(), Fail> {
-    let value = wednesday(&rt);
     let lent = Box::new(rt.alloc(), FormatDescriptionV3Inner::from(DAY))?;
     let item: &'static FormatDescriptionV3Inner<'static> = Box::leak(lent);
     for (format, text, width) in [(false, "", 0), (true, "12", 2)] {
         let optional = FormatDescriptionV3Inner::BorrowedOptional { format, item };
-        assert_text(
-            &rt,
-            rt.alloc(),
-            &FormatDescriptionV3::new(optional),
-            &value,
-            text,
-            width,
-        );
+        assert_v3(&rt, rt.alloc(), optional, text, width);
     }
     for (format, text, width) in [(false, "", 0), (true, "November", 9)] {
         let item = Box::new(rt.alloc(), FormatDescriptionV3Inner::MonthLong(MONTH_NAME))?;
         let optional = FormatDescriptionV3Inner::OwnedOptional { format, item };
-        assert_text(
-            &rt,
-            rt.alloc(),
-            &FormatDescriptionV3::new(optional),
-            &value,
-            text,
-            width,
-        );
+        assert_v3(&rt, rt.alloc(), optional, text, width);
     }
     Ok(())
 }
 
 #[test]
 fn owned_items_are_written_as_borrowed_ones(rt: HostRuntime) -> Result<(), Fail> {
-    let value = wednesday(&rt);
     let item = Box::new(rt.alloc(), OwnedFormatItem::Component(DAY))?;
     let optional = OwnedFormatItem::Optional(item);
-    assert_text(&rt, rt.alloc(), &optional, &value, "12", 2);
+    assert_owned(&rt, rt.alloc(), optional, "12", 2);
     let items = vec![in rt.alloc();
         OwnedFormatItem::Component(DAY),
         OwnedFormatItem::Component(MONTH),
     ]?;
     let first = OwnedFormatItem::First(items);
-    assert_text(&rt, rt.alloc(), &first, &value, "12", 2);
+    assert_owned(&rt, rt.alloc(), first, "12", 2);
     let items = vec![in rt.alloc();
         FormatDescriptionV3Inner::from(MONTH),
         FormatDescriptionV3Inner::from(DAY),
     ]?;
-    let first = FormatDescriptionV3::new(FormatDescriptionV3Inner::OwnedFirst(items));
-    assert_text(&rt, rt.alloc(), &first, &value, "11", 2);
+    let first = FormatDescriptionV3Inner::OwnedFirst(items);
+    assert_v3(&rt, rt.alloc(), first, "11", 2);
     Ok(())
 }
 
