@@ -1,5 +1,5 @@
 -- Nodes one after another: what is written so far, and then the outcome of what is left, is the outcome of all.
-use Rattle.std.proofs.Common.{◌≡◌, ap, sym, ◌∙◌, refl, arith, ℕ, ◌+◌, ◌<◌, ◌≤◌, ◌++◌, List, [], ◌∷◌, map, drop, length, append_assoc, length-append, subst, Option, Some, None, Ok, Err, IsSomeAnd, vec_len, vec_capacity, Vec}
+use Rattle.std.proofs.Common.{◌≡◌, ap, sym, ◌∙◌, refl, arith, ℕ, ◌+◌, ◌≤◌, ◌++◌, List, [], ◌∷◌, map, drop, length, append_assoc, length-append, subst, Option, Some, None, Ok, Err, IsSomeAnd, vec_len, vec_capacity, Vec}
 use Rattle.std.specs.Prelude.{slice_get}
 use Rattle.std.specs.Global.{Global}
 use Rattle.std.proofs.lemmas.List.{at_drop_all}

@@ -1,5 +1,5 @@
 -- The numbers of a real date, time, offset and moment have at most 64 bits, as their decimal texts ask.
-use Rattle.std.proofs.Common.{◌≡◌, arith, Bool, true, false, ℕ, ◌+◌, ◌-◌, ◌%◌, ◌^◌, ◌<◌, ◌≤◌, ℤ, pos, negsuc, unsigned_abs, subst, sym, if◌then◌else◌}
+use Rattle.std.proofs.Common.{arith, Bool, true, false, ℕ, ◌^◌, ◌<◌, ◌≤◌, ℤ, pos, negsuc, unsigned_abs, subst, sym, if◌then◌else◌}
 use Rattle.std.specs.Int.{int_rem_euclid}
 use Rattle.std.proofs.lemmas.Int.{ints}
 use Rattle.time_below.specs.Calendar.{OrdinalDate, IsDate, is_leap_year, month_of, day_number}
