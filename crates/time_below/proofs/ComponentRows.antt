@@ -1,6 +1,6 @@
 -- The tables of components row by row, by computing the definitions: widths, and conversions of the
 -- deprecated ones.
-use Rattle.std.proofs.Common.{◌≡◌, refl, Bool, true, false, List, [], ◌∷◌, map}
+use Rattle.std.proofs.Common.{◌≡◌, refl, Bool, true, false, [], ◌∷◌, map}
 use Rattle.time_below.specs.Conversion.{current_component}
 use Rattle.time_below.specs.Width.{component_width}
 use Rattle.time_below.specs.declared.format_description.component.Component.{Component}

@@ -1,7 +1,7 @@
 -- Dates from outside: their components by the definitions are those of printed calendars.
 use Rattle.std.proofs.Common.{◌≡◌, ℕ, refl, ℤ, pos, neg_ℤ}
 use Rattle.time_below.specs.Calendar.{days_of_months, last_begun, date_at}
-use Rattle.time_below.specs.Facts.{DateFacts, date_facts}
+use Rattle.time_below.specs.Facts.{date_facts}
 
 -- the components of a day of a year: month, day, weekday as days from Monday, ISO year and week, and the
 -- weeks of the year by Mondays and by Sundays

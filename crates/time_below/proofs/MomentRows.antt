@@ -3,7 +3,7 @@ use Rattle.std.proofs.Common.{◌≡◌, ℕ, refl, ℤ, pos, neg_ℤ}
 use Rattle.time_below.specs.Calendar.{OrdinalDate, date_at}
 use Rattle.time_below.specs.TimeOfDay.{TimeOfDay}
 use Rattle.time_below.specs.Offset.{Offset, settled}
-use Rattle.time_below.specs.Moment.{DateAndTime, unix_seconds, local_unix_seconds, utc_date_and_time, milliseconds}
+use Rattle.time_below.specs.Moment.{unix_seconds, local_unix_seconds, utc_date_and_time, milliseconds}
 
 abbrev day_in : ℤ → ℕ → OrdinalDate
 day_in year ordinal = record { year = year; ordinal = ordinal }
