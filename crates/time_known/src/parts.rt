@@ -4,14 +4,13 @@ ghost use Rattle.std.specs.Prelude.{◌≡◌, ◌+◌, ◌*◌, ◌≤◌, leng
 ghost use Rattle.time_below.specs.Offset.{IsOffset};
 ghost use Rattle.time_below.specs.TimeOfDay.{IsTimeOfDay};
 ghost use Rattle.time_fmt.specs.Room.{HasRoom, Writes};
-ghost use Rattle.time_known.specs.WellKnown.{is_outside, month_and_day_text, clock_text, offset_hours_text, offset_text};
+ghost use Rattle.time_known.specs.WellKnown.{is_outside, month_and_day_text, clock_text, offset_hours_text};
 
 use time_below::format_description::modifier;
 use time_below::format_description::modifier::Padding;
 use time_digits::ru16;
 use time_fmt::writers::{
-    fmt_day, fmt_hour_24, fmt_minute, fmt_month_numerical, fmt_offset_hour, fmt_offset_minute,
-    fmt_second, write,
+    fmt_day, fmt_hour_24, fmt_minute, fmt_month_numerical, fmt_offset_hour, fmt_second, write,
 };
 use time_provide::ComponentProvider;
 use time_provide::ranges::Year;
@@ -106,31 +105,4 @@ pub(crate) fn write_offset_hours<V: ComponentProvider>(
         sign_is_mandatory: true,
     };
     fmt_offset_hour(output, is_negative, value.offset_hour(state), modifier)
-}
-
-/// Appends the sign of the whole offset, and its hours and its minutes, of two digits each, with the
-/// separator between them.
-#[tactic(auto, using(crate::proofs::WritingLemmas::part_lengths))]
-pub(crate) fn write_offset<V: ComponentProvider>(
-    output: &mut Vec<u8>,
-    value: &V,
-    state: &mut V::State,
-    separator: &str,
-) -> usize
-    requires supplied { IsTrue V.SUPPLIES_OFFSET }
-    requires room { HasRoom output.old (5 + length separator.now) }
-    requires agrees { V.agrees state.old value.now }
-    ensures writes { IfSome (V.facts value.now).offset
-        (λ o. Writes output.old output.new result (offset_text separator.now o)) }
-    ensures real { IfSome (V.facts value.now).offset IsOffset }
-    ensures within { vec_len output.new ≤ vec_len output.old + (5 + length separator.now) }
-    ensures capacity { vec_capacity output.new ≡ vec_capacity output.old }
-    ensures agrees { V.agrees state.new value.now }
-{
-    let hours = write_offset_hours(output, value, state);
-    let colon = write(output, separator);
-    let modifier = modifier::OffsetMinute {
-        padding: Padding::Zero,
-    };
-    hours + colon + fmt_offset_minute(output, value.offset_minute(state), modifier)
 }
