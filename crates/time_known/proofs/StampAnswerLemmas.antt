@@ -7,7 +7,7 @@ use Rattle.time_below.specs.Calendar.{OrdinalDate, IsDate}
 use Rattle.time_below.specs.Facts.{DateFacts, date_facts, facts_of_utc_date_time}
 use Rattle.time_below.specs.Moment.{DateAndTime}
 use Rattle.time_below.specs.TimeOfDay.{IsTimeOfDay}
-use Rattle.time_fmt.specs.Outcome.{Outcome, Refusal, Adds, Names, done, refused, invalid_component}
+use Rattle.time_fmt.specs.Outcome.{Outcome, Refusal, Adds, Names, refused, invalid_component}
 use Rattle.time_fmt.specs.declared.error.Format.{Format}
 use Rattle.time_fmt.specs.declared.error.Format.TheVariants as error
 use Rattle.time_known.specs.Config.{Choices, default_choices}
@@ -52,10 +52,6 @@ same_date : (d e : OrdinalDate) → Some (date_facts d) ≡ Some (date_facts e) 
 same_date d e h =
     ap (λ (f : DateFacts). let o : OrdinalDate = record { year = f.year; ordinal = f.ordinal } in o)
     (same_group (date_facts d) (date_facts e) h)
-
--- what is not refused is completed by its bytes
-completed : (o : Outcome) → o.refusal ≡ None → o ≡ done o.bytes
-completed o e = ap (λ (r : Option Refusal). let p : Outcome = record { bytes = o.bytes; refusal = r } in p) e
 
 -- a year is refused, or is one of four digits
 either_year : (v : DateAndTime)
