@@ -1,0 +1,133 @@
+#!/usr/bin/env python3
+"""Counts and times what texts and lines cost, and prints two tables.
+
+    python3 bench/run.py [FOLDER]
+
+Works on a copy of the repository, in FOLDER or a temporary one, to which `bench/texts.rt` is added as a
+program; both programs are proved before they are built. Instructions are counted by callgrind, where it is
+installed, as the difference of 1,000 and 3,000 turns. Times are the least of 15 rounds in turns.
+"""
+
+import os
+import random
+import re
+import shutil
+import subprocess
+import sys
+import tempfile
+import time
+
+TEXTS = [
+    ("c", "a copy of 35 bytes"),
+    ("b", "a borrowed list of 11 items"),
+    ("o", "an owned list of 11 items"),
+    ("v", "a version 3 compound of 11 items"),
+    ("n", "borrowed, the date nested"),
+    ("p", "owned, the date nested"),
+    ("d", "a borrowed list of 8, two of them deprecated"),
+    ("r", "RFC 3339, nine digits, -06:00"),
+    ("u", "RFC 3339, nine digits, UTC"),
+    ("s", "RFC 3339, no fraction, -06:00"),
+    ("m", "RFC 2822"),
+    ("i", "ISO 8601 by default"),
+]
+COMMANDS = ["time", "rfc3339", "rfc2822", "iso", "iso-comma", "stamp"]
+ROUNDS = 15
+TURNS = 1_000_000
+
+
+def line(command, index, random):
+    """A line of the command: a third has no decimals, a third milliseconds."""
+    nanosecond = [0, random.randrange(1000) * 1_000_000, random.randrange(10**9)][index % 3]
+    clock = f"{random.randrange(24)} {random.randrange(60)} {random.randrange(60)} {nanosecond}"
+    if command == "time":
+        return f"time {clock}"
+    date = f"{random.randrange(1900, 10_000)} {random.randrange(1, 13)} {random.randrange(1, 29)}"
+    if command == "stamp":
+        return f"stamp {date} {clock}"
+    sign = random.choice([1, -1])
+    offset = f"{sign * random.randrange(24)} {sign * random.choice([0, 0, 30, 45])} 0"
+    return f"{command} {date} {clock} {offset}"
+
+
+def lines(command, count):
+    source = random.Random(20261122)
+    return "".join(line(command, index, source) + "\n" for index in range(count)).encode()
+
+
+def built(folder):
+    """Proves and builds both programs in a copy of the repository."""
+    top = os.path.dirname(os.path.dirname(os.path.abspath(__file__)))
+    shutil.copytree(top, folder, dirs_exist_ok=True, ignore=shutil.ignore_patterns(".git"))
+    crate = os.path.join(folder, "crates", "time_bench")
+    os.makedirs(os.path.join(crate, "src"), exist_ok=True)
+    shutil.copy(os.path.join(folder, "bench", "texts.rt"), os.path.join(crate, "src", "main.rt"))
+    with open(os.path.join(folder, "crates.txt"), "a") as crates:
+        crates.write("time_bench: time_below time_digits time_provide time_fmt time_known\n")
+    programs = []
+    for name in ["time_bench", "time_show"]:
+        place = os.path.join(folder, "crates", name)
+        print(f"proving and building {name}", file=sys.stderr)
+        subprocess.run(["rt", "run"], cwd=place, input=b"", check=True, capture_output=True)
+        programs.append(os.path.join(place, "out", name))
+    return programs
+
+
+def instructions(program, data):
+    command = ["valgrind", "--tool=callgrind", "--callgrind-out-file=/dev/null", program]
+    run = subprocess.run(command, input=data, capture_output=True, check=True)
+    return int(re.search(rb"Collected : (\d+)", run.stderr).group(1))
+
+
+def counted(program, few, many):
+    """The instructions of a turn, of which `few` has 1,000 and `many` 3,000."""
+    if shutil.which("valgrind") is None:
+        return "-"
+    return f"{(instructions(program, many) - instructions(program, few)) / 2000:,.0f}"
+
+
+def least_seconds(commands, file):
+    """The least time of each command over the file, in turns, with its output into another file."""
+    best = [float("inf")] * len(commands)
+    for _ in range(ROUNDS):
+        for index, command in enumerate(commands):
+            with open(file, "rb") as source, open(file + ".out", "wb") as target:
+                start = time.perf_counter()
+                subprocess.run(command, stdin=source, stdout=target, check=True)
+                best[index] = min(best[index], time.perf_counter() - start)
+    return best
+
+
+def texts(program, folder):
+    print("| Text | Instructions | Nanoseconds |\n|---|---|---|")
+    for letter, name in TEXTS:
+        count = counted(program, letter.encode() * 1000, letter.encode() * 3000)
+        file = os.path.join(folder, "turns")
+        with open(file, "wb") as target:
+            target.write(letter.encode() * (2 * TURNS))
+        with open(file + ".half", "wb") as target:
+            target.write(letter.encode() * TURNS)
+        long, short = least_seconds([[program]], file)[0], least_seconds([[program]], file + ".half")[0]
+        print(f"| {name} | {count} | {(long - short) / TURNS * 1e9:.0f} |", flush=True)
+
+
+def answers(program, folder):
+    print("\n| Line | Instructions | Seconds for 1,000,000 | Times `cat` |\n|---|---|---|---|")
+    for command in COMMANDS:
+        count = counted(program, lines(command, 1000), lines(command, 3000))
+        file = os.path.join(folder, "lines")
+        with open(file, "wb") as target:
+            target.write(lines(command, 1_000_000))
+        shown, cat = least_seconds([[program], ["cat"]], file)
+        print(f"| `{command}` | {count} | {shown:.3f} | {shown / cat:.1f} |", flush=True)
+
+
+def main():
+    with tempfile.TemporaryDirectory() as temporary:
+        folder = sys.argv[1] if len(sys.argv) > 1 else temporary
+        bench, show = built(folder)
+        texts(bench, folder)
+        answers(show, folder)
+
+
+main()
