@@ -3,6 +3,7 @@
 //! Run by `rt try --fail-alloc N` it has the Nth of its requests for memory refused. A call that is
 //! refused leaves output and state as they were, and the same call then gives the right text.
 #![tactic(auto)]
+
 ghost use Rattle.std.specs.Prelude.{◌≡◌, ◌↔◌, if◌then◌else◌};
 
 use std::alloc::Global;

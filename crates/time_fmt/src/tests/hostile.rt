@@ -40,7 +40,10 @@ fn nested_owned(alloc: Global, levels: usize) -> Result<OwnedFormatItem, AllocEr
     Ok(item)
 }
 
-fn nested_v3(alloc: Global, levels: usize) -> Result<FormatDescriptionV3Inner<'static>, AllocError> {
+fn nested_v3(
+    alloc: Global,
+    levels: usize,
+) -> Result<FormatDescriptionV3Inner<'static>, AllocError> {
     let mut item = FormatDescriptionV3Inner::from(DAY);
     for _ in 0..levels {
         item = FormatDescriptionV3Inner::OwnedOptional {
@@ -79,7 +82,12 @@ fn a_list_of_ten_thousand_days(rt: HostRuntime) -> Result<(), Fail> {
     let count = list.format_into(&mut output, &value, &mut DateState::default());
     assert!(rt; matches!(&count, Ok(20_000)));
     assert_eq!(rt; output.len(), 20_000);
-    assert!(rt; output.as_slice().chunks(2).all(|day| day == b"12".as_slice()));
+    assert!(rt;
+        output
+            .as_slice()
+            .chunks(2)
+            .all(|day| day == b"12".as_slice())
+    );
     Ok(())
 }
 
@@ -95,10 +103,12 @@ fn assert_refused_after(
     let mut output = Vec::new(alloc);
     let mut state = DateState::default();
     let refused = BorrowedFormatItem::Compound(items).format_into(&mut output, value, &mut state);
-    assert!(rt; matches!(
-        &refused,
-        Err(Format::InsufficientTypeInformation) | Err(Format::ComponentRange(_))
-    ));
+    assert!(rt;
+        matches!(
+            &refused,
+            Err(Format::InsufficientTypeInformation) | Err(Format::ComponentRange(_))
+        )
+    );
     assert_eq!(rt; output.as_slice(), before.as_bytes());
     let day = BorrowedFormatItem::Component(DAY);
     let written = day.format_into(&mut output, value, &mut state);

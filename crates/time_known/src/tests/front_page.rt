@@ -91,7 +91,10 @@ fn stamps_of_a_sunday(rt: HostRuntime) -> Result<(), Fail> {
     line.clear();
     let utc = UtcDateTime::new(value.date(), value.time());
     assert!(rt; matches!(append_entry(&mut line, &utc), Ok(33)));
-    assert_eq!(rt; line.as_slice(), b"2026-11-22T09:55:06.120000000Z up".as_slice());
+    assert_eq!(rt;
+        line.as_slice(),
+        b"2026-11-22T09:55:06.120000000Z up".as_slice()
+    );
     line.clear();
     let description = day_and_month(rt.alloc())?;
     let written = description.format_into(&mut line, &value.date(), &mut DateState::default());
