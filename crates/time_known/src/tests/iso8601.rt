@@ -375,6 +375,15 @@ fn decimals_at_both_ends_of_the_day(rt: HostRuntime) {
         let of_second = ("23:59:59.", "999999999", b'0');
         assert_decimals(&rt, alloc, seconds(count), &end, of_second, count);
     }
+    let ten_seconds = time_at(&rt, 0, 0, 10, 0);
+    assert_decimals(
+        &rt,
+        alloc,
+        minutes(255),
+        &ten_seconds,
+        ("00:00.", "1", b'6'),
+        255,
+    );
     let first = time_at(&rt, 0, 0, 0, 1);
     assert_decimals(
         &rt,
@@ -593,6 +602,14 @@ fn each_choice_fills_its_width(rt: HostRuntime) {
         (
             default.set_offset_precision(OffsetPrecision::Hour),
             "1997-11-12T09:55:06.123456789-06",
+        ),
+        (
+            default.set_decimal_sign(DecimalSign::Point),
+            "1997-11-12T09:55:06.123456789-06:00",
+        ),
+        (
+            default.set_decimal_sign(DecimalSign::Comma),
+            "1997-11-12T09:55:06,123456789-06:00",
         ),
     ] {
         assert_text(
