@@ -3,7 +3,7 @@
 
     python3 bench/run.py [FOLDER]
 
-Works on a copy of the repository, in FOLDER or a temporary one, to which `bench/texts.rt` is added as a
+Works on a copy of the repository, in FOLDER or a temporary one, to which `bench/texts.rt.in` is added as a
 program; both programs are proved before they are built. Instructions are counted by callgrind, where it is
 installed, as the difference of 1,000 and 3,000 turns. Times are the least of 15 rounds in turns.
 """
@@ -61,7 +61,7 @@ def built(folder):
     shutil.copytree(top, folder, dirs_exist_ok=True, ignore=shutil.ignore_patterns(".git"))
     crate = os.path.join(folder, "crates", "time_bench")
     os.makedirs(os.path.join(crate, "src"), exist_ok=True)
-    shutil.copy(os.path.join(folder, "bench", "texts.rt"), os.path.join(crate, "src", "main.rt"))
+    shutil.copy(os.path.join(folder, "bench", "texts.rt.in"), os.path.join(crate, "src", "main.rt"))
     with open(os.path.join(folder, "crates.txt"), "a") as crates:
         crates.write("time_bench: time_below time_digits time_provide time_fmt time_known\n")
     programs = []

@@ -603,14 +603,6 @@ fn each_choice_fills_its_width(rt: HostRuntime) {
             default.set_offset_precision(OffsetPrecision::Hour),
             "1997-11-12T09:55:06.123456789-06",
         ),
-        (
-            default.set_decimal_sign(DecimalSign::Point),
-            "1997-11-12T09:55:06.123456789-06:00",
-        ),
-        (
-            default.set_decimal_sign(DecimalSign::Comma),
-            "1997-11-12T09:55:06,123456789-06:00",
-        ),
     ] {
         assert_text(
             &rt,
