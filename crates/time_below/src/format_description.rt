@@ -7,8 +7,6 @@ mod layer;
 mod metadata;
 pub mod modifier;
 mod owned_format_item;
-#[cfg(test)]
-mod tests;
 
 pub use borrowed_format_item::BorrowedFormatItem;
 pub use component::{Component, Group, component_width};

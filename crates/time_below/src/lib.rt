@@ -12,8 +12,6 @@ mod month;
 mod offset_date_time;
 mod period;
 mod plain_date_time;
-#[cfg(test)]
-mod tests;
 mod time;
 mod timestamp;
 mod utc_date_time;

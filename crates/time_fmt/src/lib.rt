@@ -6,8 +6,6 @@ mod error;
 mod formattable;
 pub mod laws;
 mod metadata;
-#[cfg(test)]
-mod tests;
 pub mod writers;
 
 pub use component::component_write_into;

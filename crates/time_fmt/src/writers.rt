@@ -30,6 +30,3 @@ pub use year::{
     fmt_iso_year_century_standard_range, fmt_iso_year_full_extended_range,
     fmt_iso_year_full_standard_range, fmt_iso_year_last_two,
 };
-
-#[cfg(test)]
-mod tests;

@@ -1,5 +1,4 @@
 //! Reservations that are refused, and memory that is there.
-use crate::{BorrowedItems, ComputeMetadata, Format, Formattable, Metadata, OwnedItems};
 use std::alloc::{AllocError, Global};
 use std::process::Abort;
 use std::test::Fail;
@@ -8,6 +7,7 @@ use time_below::format_description::{
     modifier,
 };
 use time_below::{Date, Month};
+use time_fmt::{BorrowedItems, ComputeMetadata, Format, Formattable, Metadata, OwnedItems};
 use time_provide::DateState;
 
 type Lent = &'static [BorrowedFormatItem<'static>];

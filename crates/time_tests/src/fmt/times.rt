@@ -1,8 +1,8 @@
 //! Times of day.
 use super::{assert_component, assert_text, time};
-use crate::{Format, Formattable};
 use time_below::format_description::modifier::{Padding, SubsecondDigits};
 use time_below::format_description::{BorrowedFormatItem, Component, modifier};
+use time_fmt::{Format, Formattable};
 
 const HOUR: BorrowedFormatItem<'static> = BorrowedFormatItem::Component(Component::Hour24(
     modifier::Hour24 {

@@ -1,9 +1,5 @@
 //! Descriptions of each kind, deprecated components, and texts.
 use super::{assert_component, assert_text, time, wednesday};
-use crate::{
-    BorrowedItems, ComputeMetadata, Format, Formattable, Metadata, OwnedItems,
-    component_write_into, v3_write_into,
-};
 use std::alloc::Global;
 use std::process::Abort;
 use std::test::Fail;
@@ -15,6 +11,10 @@ use time_below::format_description::{
     modifier,
 };
 use time_below::{Date, Month};
+use time_fmt::{
+    BorrowedItems, ComputeMetadata, Format, Formattable, Metadata, OwnedItems,
+    component_write_into, v3_write_into,
+};
 use time_provide::DateState;
 
 const DAY: Component = Component::Day(modifier::Day {

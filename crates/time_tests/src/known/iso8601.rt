@@ -1,10 +1,5 @@
 //! ISO 8601 by a configuration. Each row is tried with both decimal signs.
 use super::{moment, refusal_name};
-use crate::iso8601::{
-    Config, DateKind, DecimalSign, FormattedComponents, OffsetPrecision, TimePrecision,
-    format_date, format_offset, format_time,
-};
-use crate::{Iso8601, tests};
 use std::alloc::Global;
 use std::default::Default;
 use std::process::Abort;
@@ -12,6 +7,11 @@ use std::test::Fail;
 use time_below::{Date, Month, OffsetDateTime, Time, Timestamp, UtcDateTime, UtcOffset};
 use time_digits::ru8;
 use time_fmt::{ComponentProvider, ComputeMetadata, Formattable};
+use time_known::Iso8601;
+use time_known::iso8601::{
+    Config, DateKind, DecimalSign, FormattedComponents, OffsetPrecision, TimePrecision,
+    format_date, format_offset, format_time,
+};
 use time_provide::DateState;
 
 fn hours(decimals: u8) -> TimePrecision {
@@ -109,7 +109,7 @@ where
     V::State: Drop,
 {
     for (format, text) in by_each_sign(rt, alloc, format, text) {
-        tests::assert_text(rt, alloc, &format, value, text.as_str(), width);
+        super::assert_text(rt, alloc, &format, value, text.as_str(), width);
     }
 }
 
@@ -125,7 +125,7 @@ where
     V::State: Drop,
 {
     for (format, _) in by_each_sign(rt, alloc, format, "") {
-        tests::assert_refused(rt, alloc, &format, value, name);
+        super::assert_refused(rt, alloc, &format, value, name);
     }
 }
 
@@ -408,11 +408,11 @@ fn texts_with_a_comma(rt: HostRuntime) {
     ] {
         let value = time_at(&rt, hour, minute, second, 0);
         let format = comma(time_format(precision, true));
-        tests::assert_text(&rt, rt.alloc(), &format, &value, text, text.len());
+        super::assert_text(&rt, rt.alloc(), &format, &value, text, text.len());
     }
     let value = example(&rt, 0);
     let text = "1997-11-12T09:55:06,000000000-06:00";
-    tests::assert_text(
+    super::assert_text(
         &rt,
         rt.alloc(),
         &comma(Iso8601::default()),

@@ -1,10 +1,19 @@
-//! Formats by several descriptions, and tells what came of each call.
+//! The rows of all crates, by public calls alone: tests of what no contract says, in one crate, so that
+//! no library is proved once more beside its tests.
 //!
-//! Run by `rt try --fail-alloc N` it has the Nth of its requests for memory refused. A call that is
-//! refused leaves output and state as they were, and the same call then gives the right text.
+//! The program formats by several descriptions, and tells what came of each call. Run by
+//! `rt try --fail-alloc N` it has the Nth of its requests for memory refused. A call that is refused
+//! leaves output and state as they were, and the same call then gives the right text.
 #![tactic(auto)]
 
 ghost use Rattle.std.specs.Prelude.{◌≡◌, ◌↔◌, if◌then◌else◌};
+
+#[cfg(test)]
+mod below;
+#[cfg(test)]
+mod fmt;
+#[cfg(test)]
+mod known;
 
 use std::alloc::Global;
 use std::default::Default;

@@ -1,8 +1,8 @@
 //! RFC 3339 and RFC 2822.
 use super::{assert_refused, assert_text, moment};
-use crate::{Rfc2822, Rfc3339};
 use time_below::{Month, PlainDateTime, Timestamp, UtcDateTime};
 use time_fmt::Formattable;
+use time_known::{Rfc2822, Rfc3339};
 use time_provide::DateState;
 
 #[test]

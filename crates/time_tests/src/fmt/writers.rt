@@ -2,12 +2,12 @@
 ghost use Rattle.std.specs.Prelude.{IfOk};
 ghost use Rattle.time_fmt.specs.Room.{HasRoom};
 
-use super::*;
 use std::alloc::AllocError;
 use std::process::Abort;
 use std::test::Fail;
 use time_below::format_description::modifier::Padding;
 use time_digits::{ru8, ru16, ru32};
+use time_fmt::writers::*;
 
 /// An empty vector with room for each text of these tests.
 fn empty(rt: &HostRuntime) -> Result<Vec<u8>, AllocError>
@@ -23,7 +23,7 @@ fn assert_written(rt: &impl Abort, output: &Vec<u8>, count: usize, text: &str) {
 }
 
 #[test]
-#[tactic(auto, using(crate::proofs::TextLemmas::text_lengths))]
+#[tactic(auto, using(time_fmt::proofs::TextLemmas::text_lengths))]
 fn two_digits(rt: HostRuntime) -> Result<(), Fail> {
     for (number, padding, text) in [
         (5, Padding::Zero, "05"),
@@ -42,7 +42,7 @@ fn two_digits(rt: HostRuntime) -> Result<(), Fail> {
 }
 
 #[test]
-#[tactic(auto, using(crate::proofs::NumberLemmas::four_digits))]
+#[tactic(auto, using(time_fmt::proofs::NumberLemmas::four_digits))]
 fn one_digit(rt: HostRuntime) -> Result<(), Fail> {
     let mut output = empty(&rt)?;
     let digit = ru8::new(7).expect(&rt, "a digit");
@@ -52,7 +52,7 @@ fn one_digit(rt: HostRuntime) -> Result<(), Fail> {
 }
 
 #[test]
-#[tactic(auto, using(crate::proofs::DateTextLemmas::three_places))]
+#[tactic(auto, using(time_fmt::proofs::DateTextLemmas::three_places))]
 fn three_digits(rt: HostRuntime) -> Result<(), Fail> {
     for (number, padding, text) in [
         (7, Padding::Zero, "007"),
@@ -71,7 +71,7 @@ fn three_digits(rt: HostRuntime) -> Result<(), Fail> {
 }
 
 #[test]
-#[tactic(auto, using(crate::proofs::NumberLemmas::four_places))]
+#[tactic(auto, using(time_fmt::proofs::NumberLemmas::four_places))]
 fn four_digits(rt: HostRuntime) -> Result<(), Fail> {
     for (number, padding, text) in [
         (7, Padding::Zero, "0007"),
@@ -90,7 +90,7 @@ fn four_digits(rt: HostRuntime) -> Result<(), Fail> {
 }
 
 #[test]
-#[tactic(auto, using(crate::proofs::NumberLemmas::number_lengths))]
+#[tactic(auto, using(time_fmt::proofs::NumberLemmas::number_lengths))]
 fn digits_filled_with_zeros(rt: HostRuntime) -> Result<(), Fail> {
     for (number, four, five, six) in [
         (0, "0000", "00000", "000000"),
@@ -114,7 +114,7 @@ fn digits_filled_with_zeros(rt: HostRuntime) -> Result<(), Fail> {
 }
 
 #[test]
-#[tactic(auto, using(crate::proofs::NumberLemmas::number_lengths))]
+#[tactic(auto, using(time_fmt::proofs::NumberLemmas::number_lengths))]
 fn whole_numbers(rt: HostRuntime) -> Result<(), Fail> {
     let mut output = empty(&rt)?;
     let count = format_int_padded(&mut output, 42, 4);
@@ -132,7 +132,7 @@ fn whole_numbers(rt: HostRuntime) -> Result<(), Fail> {
 }
 
 #[test]
-#[tactic(auto, using(crate::proofs::NumberLemmas::number_lengths))]
+#[tactic(auto, using(time_fmt::proofs::NumberLemmas::number_lengths))]
 fn signs(rt: HostRuntime) -> Result<(), Fail> {
     for (is_negative, sign_is_mandatory, text) in [
         (true, true, "-"),

@@ -1,11 +1,11 @@
 //! Each component, written into exactly as much room as its width.
 use super::time;
-use crate::component_write_into;
 use std::alloc::Global;
 use std::process::Abort;
 use time_below::format_description::modifier::{Padding, SubsecondDigits, TrailingInput};
 use time_below::format_description::{Component, component_width, modifier};
 use time_below::{Date, Month, OffsetDateTime, UtcOffset};
+use time_fmt::component_write_into;
 use time_provide::DateState;
 
 const PADDINGS: [Padding; 3] = [Padding::Zero, Padding::Space, Padding::None];

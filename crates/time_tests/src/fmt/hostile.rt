@@ -1,6 +1,5 @@
 //! Deep trees, long lists and refusals in the midst of a tree.
 use super::{assert_text, wednesday};
-use crate::{BorrowedItems, ComputeMetadata, Format, Formattable};
 use std::alloc::{AllocError, Global};
 use std::process::Abort;
 use std::test::Fail;
@@ -10,6 +9,7 @@ use time_below::format_description::{
     modifier,
 };
 use time_below::{Date, Month};
+use time_fmt::{BorrowedItems, ComputeMetadata, Format, Formattable};
 use time_provide::DateState;
 
 const DAY: Component = Component::Day(modifier::Day {

@@ -1,9 +1,7 @@
 //! What the front page of the repository shows.
 ghost use Rattle.std.specs.Prelude.{◌≡◌, ◌≤◌, vec_capacity};
 
-use crate::iso8601::{Config, DateKind, TimePrecision};
-use crate::tests::moment;
-use crate::{Iso8601, Rfc3339, stamp_into};
+use super::moment;
 use std::alloc::{AllocError, Global};
 use std::default::Default;
 use std::test::Fail;
@@ -12,6 +10,8 @@ use time_below::format_description::{FormatDescriptionV3, FormatDescriptionV3Inn
 use time_below::{Date, Month, OffsetDateTime, Time, UtcDateTime, UtcOffset};
 use time_digits::ru8;
 use time_fmt::{Format, Formattable};
+use time_known::iso8601::{Config, DateKind, TimePrecision};
+use time_known::{Iso8601, Rfc3339, stamp_into};
 use time_provide::DateState;
 
 /// The description of a date such as `22/11`.

@@ -1,11 +1,11 @@
 //! Descriptions of each kind, with their stored widths.
-use crate::format_description::modifier::{Padding, YearRange, YearRepr};
-use crate::format_description::{
+use std::process::Abort;
+use std::test::Fail;
+use time_below::format_description::modifier::{Padding, YearRange, YearRepr};
+use time_below::format_description::{
     BorrowedFormatItem, Component, FormatDescriptionV3, FormatDescriptionV3Inner as Inner, Group,
     Layer, Node, OwnedFormatItem, component_width, metadata_of_node, metadata_of_nodes, modifier,
 };
-use std::process::Abort;
-use std::test::Fail;
 
 /// The stored width of a description that is no component.
 fn check_stored_width(rt: &impl Abort, inner: Inner<'_>, width: usize) {

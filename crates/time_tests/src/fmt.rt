@@ -7,12 +7,13 @@ mod moments;
 mod times;
 mod trees;
 mod widths;
+mod writers;
 
-use crate::{ComponentProvider, ComputeMetadata, Format, Formattable};
 use std::alloc::Global;
 use std::process::Abort;
 use time_below::format_description::{BorrowedFormatItem, Component, modifier};
 use time_below::{Date, Month, OffsetDateTime, Time, UtcOffset};
+use time_fmt::{ComponentProvider, ComputeMetadata, Format, Formattable};
 
 /// The time of these parts.
 fn time(rt: &impl Abort, hour: u8, minute: u8, second: u8, nanosecond: u32) -> Time {

@@ -1,8 +1,8 @@
 //! Offsets, date-times and timestamps.
-use crate::{
+use std::process::Abort;
+use time_below::{
     ComponentRange, Date, OffsetDateTime, PlainDateTime, Time, Timestamp, UtcDateTime, UtcOffset,
 };
-use std::process::Abort;
 
 fn date_at(rt: &impl Abort, year: i32, ordinal: u16) -> Date {
     let Ok(date) = Date::from_ordinal_date(year, ordinal) else {

@@ -1,10 +1,10 @@
 //! Dates.
 use super::{assert_component, assert_text, wednesday};
-use crate::{ComputeMetadata, Format, Formattable};
 use std::process::Abort;
 use time_below::format_description::modifier::Padding;
 use time_below::format_description::{BorrowedFormatItem, Component, modifier};
 use time_below::{Date, Month, PlainDateTime};
+use time_fmt::{ComputeMetadata, Format, Formattable};
 use time_provide::DateState;
 
 fn date(rt: &impl Abort, year: i32, month: Month, day: u8) -> Date {

@@ -1,8 +1,8 @@
 //! Printed texts of errors, and what they are converted to.
-use crate::{Error, Format};
 use std::convert::TryFrom;
 use std::test::Fail;
 use time_below::{ComponentRange, DifferentVariant};
+use time_fmt::{Error, Format};
 
 #[test]
 fn printed_texts(rt: HostRuntime) -> Result<(), Fail> {

@@ -2,14 +2,14 @@
 ghost use Rattle.std.specs.Prelude.{◌↔◌, IfOk};
 ghost use Rattle.time_known.specs.Stamps.{IsBefore, IsTextBefore, moment_of};
 
-use crate::laws::stamp_order;
-use crate::stamp_into;
-use crate::tests::{moment, refusal_name};
+use super::{moment, refusal_name};
 use std::alloc::Global;
 use std::process::Abort;
 use std::test::Fail;
 use time_below::{Month, UtcDateTime};
 use time_fmt::Format;
+use time_known::laws::stamp_order;
+use time_known::stamp_into;
 
 /// A year, a month and a day, and an hour, a minute, a second and a nanosecond.
 type Parts = ((i32, Month, u8), (u8, u8, u8, u32));

@@ -1,10 +1,11 @@
 //! Each call once, the refusals by their names, and texts that no clause states. Rows of the
 //! calendar, of moments and of the tables of components are proved of the definitions.
 mod dates;
+mod descriptions;
 mod moments;
 
-use crate::{ComponentRange, Time};
 use std::test::Fail;
+use time_below::{ComponentRange, Time};
 
 #[test]
 fn a_time_of_day(rt: HostRuntime) {

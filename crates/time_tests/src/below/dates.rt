@@ -1,6 +1,6 @@
 //! Dates, weekdays and weeks.
-use crate::{ComponentRange, Date, Month, Weekday};
 use std::process::Abort;
+use time_below::{ComponentRange, Date, Month, Weekday};
 
 fn date_of(rt: &impl Abort, year: i32, month: Month, day: u8) -> Date {
     let Ok(date) = Date::from_calendar_date(year, month, day) else {
