@@ -4,14 +4,13 @@ mod dates;
 mod descriptions;
 mod moments;
 
+use crate::values::time_at;
 use std::test::Fail;
 use time_below::{ComponentRange, Time};
 
 #[test]
 fn a_time_of_day(rt: HostRuntime) {
-    let Ok(time) = Time::from_hms_nano(23, 59, 59, 999_999_999) else {
-        panic!(rt; "refused");
-    };
+    let time = time_at(&rt, 23, 59, 59, 999_999_999);
     assert_eq!(rt; time.as_hms_nano(), (23, 59, 59, 999_999_999));
     assert_eq!(rt; time.hour(), 23);
 }

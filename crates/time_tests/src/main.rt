@@ -14,6 +14,10 @@ mod below;
 mod fmt;
 #[cfg(test)]
 mod known;
+#[cfg(test)]
+mod texts;
+#[cfg(test)]
+mod values;
 
 use std::alloc::Global;
 use std::default::Default;

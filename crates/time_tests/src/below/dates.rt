@@ -1,17 +1,10 @@
 //! Dates, weekdays and weeks.
-use std::process::Abort;
+use crate::values::date_at;
 use time_below::{ComponentRange, Date, Month, Weekday};
-
-fn date_of(rt: &impl Abort, year: i32, month: Month, day: u8) -> Date {
-    let Ok(date) = Date::from_calendar_date(year, month, day) else {
-        panic!(rt; "no day {day} of that month in {year}");
-    };
-    date
-}
 
 #[test]
 fn parts_of_a_date(rt: HostRuntime) {
-    let date = date_of(&rt, 1997, Month::November, 12);
+    let date = date_at(&rt, 1997, Month::November, 12);
     assert_eq!(rt; date.to_calendar_date(), (1997, Month::November, 12));
     assert_eq!(rt; u8::from(date.month()), 11);
     assert_eq!(rt; (date.year(), date.ordinal()), (1997, 316));
@@ -19,7 +12,7 @@ fn parts_of_a_date(rt: HostRuntime) {
 
 #[test]
 fn weeks_of_a_date(rt: HostRuntime) {
-    let date = date_of(&rt, 2010, Month::January, 3);
+    let date = date_at(&rt, 2010, Month::January, 3);
     assert_eq!(rt; date.iso_year_week(), (2009, 53));
     assert_eq!(rt; date.monday_based_week(), 0);
     assert_eq!(rt; date.sunday_based_week(), 1);
@@ -27,14 +20,14 @@ fn weeks_of_a_date(rt: HostRuntime) {
 
 #[test]
 fn weekdays_of_dates(rt: HostRuntime) {
-    let leap_day = date_of(&rt, 2000, Month::February, 29);
+    let leap_day = date_at(&rt, 2000, Month::February, 29);
     assert_eq!(rt; leap_day.weekday(), Weekday::Tuesday);
     assert_eq!(rt;
-        date_of(&rt, -999_999, Month::January, 1).weekday(),
+        date_at(&rt, -999_999, Month::January, 1).weekday(),
         Weekday::Monday
     );
     assert_eq!(rt;
-        date_of(&rt, 999_999, Month::December, 31).weekday(),
+        date_at(&rt, 999_999, Month::December, 31).weekday(),
         Weekday::Friday
     );
 }

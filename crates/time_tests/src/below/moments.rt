@@ -1,10 +1,12 @@
 //! Offsets, date-times and timestamps.
+use crate::values::{offset_at, time_at, timestamp_at};
 use std::process::Abort;
 use time_below::{
     ComponentRange, Date, OffsetDateTime, PlainDateTime, Time, Timestamp, UtcDateTime, UtcOffset,
 };
 
-fn date_at(rt: &impl Abort, year: i32, ordinal: u16) -> Date {
+/// The date of this day of the year.
+fn date_on(rt: &impl Abort, year: i32, ordinal: u16) -> Date {
     let Ok(date) = Date::from_ordinal_date(year, ordinal) else {
         panic!(rt; "no ordinal {ordinal} in {year}");
     };
@@ -13,17 +15,7 @@ fn date_at(rt: &impl Abort, year: i32, ordinal: u16) -> Date {
 
 // The last second of a day.
 fn last_second(rt: &impl Abort) -> Time {
-    let Ok(time) = Time::from_hms_nano(23, 59, 59, 5) else {
-        panic!(rt; "no such time");
-    };
-    time
-}
-
-fn offset_of(rt: &impl Abort, hours: i8, minutes: i8, seconds: i8) -> UtcOffset {
-    let Ok(offset) = UtcOffset::from_hms(hours, minutes, seconds) else {
-        panic!(rt; "no such offset");
-    };
-    offset
+    time_at(rt, 23, 59, 59, 5)
 }
 
 #[test]
@@ -34,12 +26,12 @@ fn signs_of_offsets(rt: HostRuntime) {
         ((0, 1, -1), (0, 1, 1)),
         ((-25, -59, -59), (-25, -59, -59)),
     ] {
-        let offset = offset_of(&rt, given.0, given.1, given.2);
+        let offset = offset_at(&rt, given.0, given.1, given.2);
         assert_eq!(rt; offset.as_hms(), settled);
     }
-    let half_hour = offset_of(&rt, 0, -30, 0);
+    let half_hour = offset_at(&rt, 0, -30, 0);
     assert!(rt; half_hour.is_negative() && !half_hour.is_utc());
-    let utc = offset_of(&rt, 0, 0, 0);
+    let utc = offset_at(&rt, 0, 0, 0);
     assert!(rt; utc.is_utc() && !utc.is_negative());
 }
 
@@ -64,9 +56,7 @@ fn parts_of_timestamps(rt: HostRuntime) {
         (31_494_784_780_799, 999_999_999, 31_494_784_780_799_999),
         (-1, 999_500_000, 0),
     ] {
-        let Ok(stamp) = Timestamp::new(seconds, nanosecond) else {
-            panic!(rt; "refused {seconds}");
-        };
+        let stamp = timestamp_at(&rt, seconds, nanosecond);
         assert_eq!(rt; stamp.as_seconds(), seconds);
         assert_eq!(rt; stamp.as_parts(), (seconds, nanosecond));
         assert_eq!(rt; stamp.as_milliseconds(), milliseconds);
@@ -75,9 +65,7 @@ fn parts_of_timestamps(rt: HostRuntime) {
 
 #[test]
 fn dates_and_times_of_timestamps(rt: HostRuntime) {
-    let Ok(stamp) = Timestamp::new(-1, 5) else {
-        panic!(rt; "refused");
-    };
+    let stamp = timestamp_at(&rt, -1, 5);
     assert_eq!(rt; (stamp.date().year(), stamp.date().ordinal()), (1969, 365));
     assert_eq!(rt; stamp.time().as_hms_nano(), (23, 59, 59, 5));
 }
@@ -97,7 +85,7 @@ fn refused_timestamps(rt: HostRuntime) {
 
 #[test]
 fn utc_dates_and_times(rt: HostRuntime) {
-    let utc = UtcDateTime::new(date_at(&rt, 1969, 365), last_second(&rt));
+    let utc = UtcDateTime::new(date_on(&rt, 1969, 365), last_second(&rt));
     assert_eq!(rt; utc.unix_timestamp(), -1);
     assert_eq!(rt; utc.date().ordinal(), 365);
     assert_eq!(rt; utc.time().as_hms_nano(), (23, 59, 59, 5));
@@ -106,9 +94,9 @@ fn utc_dates_and_times(rt: HostRuntime) {
 #[test]
 fn local_dates_and_times(rt: HostRuntime) {
     let local = OffsetDateTime::new_in_offset(
-        date_at(&rt, 999_999, 365),
+        date_on(&rt, 999_999, 365),
         last_second(&rt),
-        offset_of(&rt, -25, -59, -59),
+        offset_at(&rt, -25, -59, -59),
     );
     assert_eq!(rt; local.unix_timestamp(), 31_494_784_874_398);
     assert_eq!(rt; local.date().year(), 999_999);
@@ -118,7 +106,7 @@ fn local_dates_and_times(rt: HostRuntime) {
 
 #[test]
 fn plain_dates_and_times(rt: HostRuntime) {
-    let plain = PlainDateTime::new(date_at(&rt, 2010, 3), last_second(&rt));
+    let plain = PlainDateTime::new(date_on(&rt, 2010, 3), last_second(&rt));
     assert_eq!(rt; plain.date().ordinal(), 3);
     assert_eq!(rt; plain.time().as_hms_nano(), (23, 59, 59, 5));
 }

@@ -1,18 +1,12 @@
 //! Dates.
-use super::{assert_component, assert_text, wednesday};
+use crate::texts::{assert_component, assert_text};
+use crate::values::{date_at, wednesday};
 use std::process::Abort;
 use time_below::format_description::modifier::Padding;
 use time_below::format_description::{BorrowedFormatItem, Component, modifier};
 use time_below::{Date, Month, PlainDateTime};
 use time_fmt::{ComputeMetadata, Format, Formattable};
 use time_provide::DateState;
-
-fn date(rt: &impl Abort, year: i32, month: Month, day: u8) -> Date {
-    let Ok(date) = Date::from_calendar_date(year, month, day) else {
-        panic!(rt; "no date");
-    };
-    date
-}
 
 const DAY: BorrowedFormatItem<'static> = BorrowedFormatItem::Component(Component::Day(
     modifier::Day {
@@ -133,7 +127,7 @@ fn years_by_all_their_digits(rt: HostRuntime) {
         (999_999, Padding::None, "+999999"),
         (-999_999, Padding::Zero, "-999999"),
     ] {
-        let value = date(&rt, year, Month::June, 15);
+        let value = date_at(&rt, year, Month::June, 15);
         let sign_is_mandatory = false;
         let full = Component::CalendarYearFullExtendedRange(
             modifier::CalendarYearFullExtendedRange {
@@ -159,7 +153,7 @@ fn centuries_and_last_digits(rt: HostRuntime) {
         (1997, false, "19", "19"),
         (9_999, true, "+99", "+99"),
     ] {
-        let value = date(&rt, year, Month::June, 15);
+        let value = date_at(&rt, year, Month::June, 15);
         let extended = Component::CalendarYearCenturyExtendedRange(
             modifier::CalendarYearCenturyExtendedRange {
                 padding,
@@ -175,7 +169,7 @@ fn centuries_and_last_digits(rt: HostRuntime) {
         );
         assert_component(&rt, rt.alloc(), narrow, &value, standard, 3);
     }
-    let greatest = date(&rt, 999_999, Month::December, 31);
+    let greatest = date_at(&rt, 999_999, Month::December, 31);
     let extended = Component::CalendarYearCenturyExtendedRange(
         modifier::CalendarYearCenturyExtendedRange {
             padding,
@@ -183,7 +177,7 @@ fn centuries_and_last_digits(rt: HostRuntime) {
         },
     );
     assert_component(&rt, rt.alloc(), extended, &greatest, "+9999", 5);
-    let ancient = date(&rt, -50, Month::June, 15);
+    let ancient = date_at(&rt, -50, Month::June, 15);
     let last_two = Component::CalendarYearLastTwo(modifier::CalendarYearLastTwo { padding });
     assert_component(&rt, rt.alloc(), last_two, &ancient, "50", 2);
     let iso = Component::IsoYearLastTwo(modifier::IsoYearLastTwo { padding });
@@ -192,7 +186,7 @@ fn centuries_and_last_digits(rt: HostRuntime) {
 
 #[test]
 fn standard_ranges_refuse_what_is_outside(rt: HostRuntime) {
-    let value = date(&rt, 10_000, Month::January, 1);
+    let value = date_at(&rt, 10_000, Month::January, 1);
     let padding = Padding::Zero;
     let sign_is_mandatory = false;
     for component in [
@@ -225,7 +219,7 @@ fn standard_ranges_refuse_what_is_outside(rt: HostRuntime) {
 
 #[test]
 fn bytes_before_a_refusal_stay(rt: HostRuntime) {
-    let value = date(&rt, 1997, Month::November, 12);
+    let value = date_at(&rt, 1997, Month::November, 12);
     let items = [
         BorrowedFormatItem::StringLiteral("on "),
         DAY,
@@ -251,7 +245,7 @@ fn bytes_before_a_refusal_stay(rt: HostRuntime) {
 
 #[test]
 fn trees_over_a_date(rt: HostRuntime) {
-    let value = date(&rt, 1997, Month::November, 12);
+    let value = date_at(&rt, 1997, Month::November, 12);
     let month = BorrowedFormatItem::Component(Component::MonthLong(modifier::MonthLong {
         case_sensitive: true,
     }));
@@ -275,7 +269,7 @@ fn trees_over_a_date(rt: HostRuntime) {
 
 #[test]
 fn paddings_of_two_and_three_places(rt: HostRuntime) {
-    let value = date(&rt, 2005, Month::February, 3);
+    let value = date_at(&rt, 2005, Month::February, 3);
     for (padding, day, month, ordinal, week) in [
         (Padding::Zero, "03", "02", "034", "05"),
         (Padding::Space, " 3", " 2", " 34", " 5"),
@@ -340,7 +334,7 @@ const FORMS: [(i32, Padding, bool, &str, &str); 9] = [
 #[test]
 fn forms_of_calendar_years(rt: HostRuntime) {
     for (year, padding, sign_is_mandatory, full, century) in FORMS {
-        let value = date(&rt, year, Month::June, 15);
+        let value = date_at(&rt, year, Month::June, 15);
         for (component, text, width) in [
             (
                 Component::CalendarYearFullExtendedRange(modifier::CalendarYearFullExtendedRange {
@@ -387,7 +381,7 @@ fn forms_of_calendar_years(rt: HostRuntime) {
 #[test]
 fn forms_of_years_of_the_week_calendar(rt: HostRuntime) {
     for (year, padding, sign_is_mandatory, full, century) in FORMS {
-        let value = date(&rt, year, Month::June, 15);
+        let value = date_at(&rt, year, Month::June, 15);
         for (component, text, width) in [
             (
                 Component::IsoYearFullExtendedRange(modifier::IsoYearFullExtendedRange {
@@ -447,7 +441,14 @@ fn all_months_and_weekdays_have_their_names(rt: HostRuntime) {
         let long = Component::MonthLong(modifier::MonthLong {
             case_sensitive: true,
         });
-        assert_component(&rt, rt.alloc(), long, &date(&rt, 2001, month, 1), name, 9);
+        assert_component(
+            &rt,
+            rt.alloc(),
+            long,
+            &date_at(&rt, 2001, month, 1),
+            name,
+            9,
+        );
     }
     for (day, name) in [
         (1, "Monday"),
@@ -465,7 +466,7 @@ fn all_months_and_weekdays_have_their_names(rt: HostRuntime) {
             &rt,
             rt.alloc(),
             long,
-            &date(&rt, 2001, Month::January, day),
+            &date_at(&rt, 2001, Month::January, day),
             name,
             9,
         );
@@ -496,7 +497,7 @@ fn append_date(line: &mut Vec<u8>, date: &Date) -> Result<usize, Format> {
 #[test]
 fn a_date_in_words(rt: HostRuntime) {
     let mut line = Vec::new(rt.alloc());
-    let written = append_date(&mut line, &date(&rt, 2026, Month::November, 22));
+    let written = append_date(&mut line, &date_at(&rt, 2026, Month::November, 22));
     assert!(rt; matches!(&written, Ok(16)));
     assert_eq!(rt; line.as_slice(), b"22 November 2026".as_slice());
 }

@@ -1,5 +1,6 @@
 //! Deep trees, long lists and refusals in the midst of a tree.
-use super::{assert_text, wednesday};
+use crate::texts::assert_text;
+use crate::values::{date_at, wednesday};
 use std::alloc::{AllocError, Global};
 use std::process::Abort;
 use std::test::Fail;
@@ -118,9 +119,7 @@ fn assert_refused_after(
 
 #[test]
 fn a_refusal_ends_the_text_in_the_midst_of_a_tree(rt: HostRuntime) {
-    let Ok(value) = Date::from_calendar_date(1997, Month::November, 12) else {
-        panic!(rt; "no date");
-    };
+    let value = date_at(&rt, 1997, Month::November, 12);
     let hour = Component::Hour24(modifier::Hour24 {
         padding: Padding::Zero,
     });
@@ -135,9 +134,7 @@ fn a_refusal_ends_the_text_in_the_midst_of_a_tree(rt: HostRuntime) {
         BorrowedFormatItem::StringLiteral("d"),
     ];
     assert_refused_after(&rt, rt.alloc(), &outer, &value, "ab", "ab12");
-    let Ok(late) = Date::from_calendar_date(10_000, Month::January, 1) else {
-        panic!(rt; "no date");
-    };
+    let late = date_at(&rt, 10_000, Month::January, 1);
     let year = Component::CalendarYearFullStandardRange(modifier::CalendarYearFullStandardRange {
         padding: Padding::Zero,
         sign_is_mandatory: false,

@@ -1,4 +1,5 @@
 //! Reservations that are refused, and memory that is there.
+use crate::values::wednesday;
 use std::alloc::{AllocError, Global};
 use std::process::Abort;
 use std::test::Fail;
@@ -6,7 +7,7 @@ use time_below::format_description::{
     BorrowedFormatItem, Component, FormatDescriptionV3, FormatDescriptionV3Inner, OwnedFormatItem,
     modifier,
 };
-use time_below::{Date, Month};
+
 use time_fmt::{BorrowedItems, ComputeMetadata, Format, Formattable, Metadata, OwnedItems};
 use time_provide::DateState;
 
@@ -82,9 +83,7 @@ fn assert_refused<D: Formattable>(
     width: usize,
 ) -> Result<(), AllocError> {
     assert_eq!(rt; item.compute_metadata().max_bytes_needed, width);
-    let Ok(value) = Date::from_calendar_date(1997, Month::November, 12) else {
-        panic!(rt; "no date");
-    };
+    let value = wednesday(rt).date();
     let mut state = DateState::default();
     let mut output = Vec::new(alloc);
     output.extend_from_slice(b"before")?;

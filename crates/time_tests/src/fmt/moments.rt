@@ -1,8 +1,9 @@
 //! Offsets, moments and timestamps.
-use super::{assert_component, time};
+use crate::texts::assert_component;
+use crate::values::{date_at, moment, offset_at, time_at, timestamp_at};
 use time_below::format_description::modifier::Padding;
 use time_below::format_description::{Component, modifier};
-use time_below::{Date, Month, OffsetDateTime, Timestamp, UtcDateTime, UtcOffset};
+use time_below::{Month, UtcDateTime};
 use time_provide::TimestampState;
 
 /// The seconds and the milliseconds.
@@ -36,9 +37,7 @@ fn timestamps_at_the_ends_and_around_zero(rt: HostRuntime) {
         (-1, 999_500_000, true, "-1", "+0"),
         (0, 0, true, "+0", "+0"),
     ] {
-        let Ok(value) = Timestamp::new(seconds, nanosecond) else {
-            panic!(rt; "no timestamp");
-        };
+        let value = timestamp_at(&rt, seconds, nanosecond);
         let [whole, thousandths] = stamps(sign_is_mandatory);
         assert_component(&rt, rt.alloc(), whole, &value, second, 15);
         assert_component(&rt, rt.alloc(), thousandths, &value, millisecond, 18);
@@ -56,10 +55,8 @@ fn timestamps_at_the_ends_and_around_zero(rt: HostRuntime) {
 
 #[test]
 fn a_moment_just_before_1970(rt: HostRuntime) {
-    let Ok(date) = Date::from_calendar_date(1969, Month::December, 31) else {
-        panic!(rt; "no date");
-    };
-    let value = UtcDateTime::new(date, time(&rt, 23, 59, 59, 999_500_000));
+    let date = date_at(&rt, 1969, Month::December, 31);
+    let value = UtcDateTime::new(date, time_at(&rt, 23, 59, 59, 999_500_000));
     let [second, millisecond] = stamps(false);
     assert_component(&rt, rt.alloc(), second, &value, "-1", 15);
     assert_component(&rt, rt.alloc(), millisecond, &value, "0", 18);
@@ -79,9 +76,7 @@ fn offsets_keep_their_sign(rt: HostRuntime) {
         ((25, 59, 59), "25", "59", "59"),
         ((0, 0, -1), "-00", "00", "01"),
     ] {
-        let Ok(value) = UtcOffset::from_hms(parts.0, parts.1, parts.2) else {
-            panic!(rt; "no offset");
-        };
+        let value = offset_at(&rt, parts.0, parts.1, parts.2);
         let sign_is_mandatory = false;
         let hours = Component::OffsetHour(modifier::OffsetHour {
             padding,
@@ -112,9 +107,7 @@ const FORMS: [(i8, Padding, bool, &str, &str, &str); 9] = [
 fn forms_of_offsets(rt: HostRuntime) {
     for (sign, padding, sign_is_mandatory, hour, minute, second) in FORMS {
         let parts = if sign < 0 { (-5, -7, -9) } else { (5, 7, 9) };
-        let Ok(value) = UtcOffset::from_hms(parts.0, parts.1, parts.2) else {
-            panic!(rt; "no offset");
-        };
+        let value = offset_at(&rt, parts.0, parts.1, parts.2);
         for (component, text, width) in [
             (
                 Component::OffsetHour(modifier::OffsetHour {
@@ -148,9 +141,7 @@ fn signs_of_timestamps(rt: HostRuntime) {
         (-90, false, "-90", "-90000"),
         (-90, true, "-90", "-90000"),
     ] {
-        let Ok(value) = Timestamp::new(seconds, 0) else {
-            panic!(rt; "no timestamp");
-        };
+        let value = timestamp_at(&rt, seconds, 0);
         let [whole, thousandths] = stamps(sign_is_mandatory);
         assert_component(&rt, rt.alloc(), whole, &value, second, 15);
         assert_component(&rt, rt.alloc(), thousandths, &value, millisecond, 18);
@@ -159,13 +150,7 @@ fn signs_of_timestamps(rt: HostRuntime) {
 
 #[test]
 fn an_offset_ahead_of_utc_is_an_earlier_moment(rt: HostRuntime) {
-    let Ok(date) = Date::from_calendar_date(1970, Month::January, 1) else {
-        panic!(rt; "no date");
-    };
-    let Ok(offset) = UtcOffset::from_hms(1, 0, 0) else {
-        panic!(rt; "no offset");
-    };
-    let value = OffsetDateTime::new_in_offset(date, time(&rt, 0, 0, 0, 0), offset);
+    let value = moment(&rt, (1970, Month::January, 1), (0, 0, 0, 0), (1, 0, 0));
     let [second, millisecond] = stamps(false);
     assert_component(&rt, rt.alloc(), second, &value, "-3600", 15);
     assert_component(&rt, rt.alloc(), millisecond, &value, "-3600000", 18);

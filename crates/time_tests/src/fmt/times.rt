@@ -1,5 +1,6 @@
 //! Times of day.
-use super::{assert_component, assert_text, time};
+use crate::texts::{assert_component, assert_text};
+use crate::values::time_at;
 use time_below::format_description::modifier::{Padding, SubsecondDigits};
 use time_below::format_description::{BorrowedFormatItem, Component, modifier};
 use time_fmt::{Format, Formattable};
@@ -31,7 +32,7 @@ fn hours_of_the_12_hour_clock(rt: HostRuntime) {
             Component::Hour12(modifier::Hour12 {
                 padding: Padding::None,
             }),
-            &time(&rt, hour, 0, 0, 0),
+            &time_at(&rt, hour, 0, 0, 0),
             text,
             2,
         );
@@ -53,7 +54,7 @@ fn halves_of_the_day(rt: HostRuntime) {
                 is_uppercase,
                 case_sensitive: true,
             }),
-            &time(&rt, hour, 0, 0, 0),
+            &time_at(&rt, hour, 0, 0, 0),
             text,
             2,
         );
@@ -78,7 +79,7 @@ fn decimals_of_the_second(rt: HostRuntime) {
             &rt,
             rt.alloc(),
             Component::Subsecond(modifier::Subsecond { digits }),
-            &time(&rt, 0, 0, 0, 120_000_000),
+            &time_at(&rt, 0, 0, 0, 120_000_000),
             text,
             width,
         );
@@ -96,7 +97,7 @@ fn paddings_of_two_places(rt: HostRuntime) {
             &rt,
             rt.alloc(),
             Component::Second(modifier::Second { padding }),
-            &time(&rt, 0, 0, 5, 0),
+            &time_at(&rt, 0, 0, 5, 0),
             text,
             2,
         );
@@ -105,7 +106,7 @@ fn paddings_of_two_places(rt: HostRuntime) {
 
 #[test]
 fn a_compound_is_its_items_in_order(rt: HostRuntime) {
-    let value = time(&rt, 9, 55, 6, 120_000_000);
+    let value = time_at(&rt, 9, 55, 6, 120_000_000);
     let clock = [
         HOUR,
         BorrowedFormatItem::StringLiteral(":"),
@@ -125,7 +126,7 @@ fn a_compound_is_its_items_in_order(rt: HostRuntime) {
 
 #[test]
 fn a_first_is_its_first_item(rt: HostRuntime) {
-    let value = time(&rt, 9, 55, 6, 0);
+    let value = time_at(&rt, 9, 55, 6, 0);
     let items = [MINUTE, SECOND];
     assert_text(
         &rt,
@@ -139,7 +140,7 @@ fn a_first_is_its_first_item(rt: HostRuntime) {
 
 #[test]
 fn an_optional_item_is_written(rt: HostRuntime) {
-    let value = time(&rt, 9, 55, 6, 0);
+    let value = time_at(&rt, 9, 55, 6, 0);
     let second = SECOND;
     assert_text(
         &rt,
@@ -153,7 +154,7 @@ fn an_optional_item_is_written(rt: HostRuntime) {
 
 #[test]
 fn an_empty_first_writes_nothing(rt: HostRuntime) {
-    let value = time(&rt, 9, 55, 6, 0);
+    let value = time_at(&rt, 9, 55, 6, 0);
     assert_text(
         &rt,
         rt.alloc(),
@@ -166,7 +167,7 @@ fn an_empty_first_writes_nothing(rt: HostRuntime) {
 
 #[test]
 fn an_empty_compound_writes_nothing(rt: HostRuntime) {
-    let value = time(&rt, 9, 55, 6, 0);
+    let value = time_at(&rt, 9, 55, 6, 0);
     assert_text(
         &rt,
         rt.alloc(),
@@ -179,7 +180,7 @@ fn an_empty_compound_writes_nothing(rt: HostRuntime) {
 
 #[test]
 fn marks_for_parsers_write_nothing(rt: HostRuntime) {
-    let value = time(&rt, 9, 55, 6, 0);
+    let value = time_at(&rt, 9, 55, 6, 0);
     for component in [
         Component::Ignore(modifier::Ignore { count: 3 }),
         Component::End(modifier::End {
@@ -192,7 +193,7 @@ fn marks_for_parsers_write_nothing(rt: HostRuntime) {
 
 #[test]
 fn a_second_text_stands_behind_the_first(rt: HostRuntime) {
-    let value = time(&rt, 9, 55, 6, 0);
+    let value = time_at(&rt, 9, 55, 6, 0);
     let mut output = Vec::new(rt.alloc());
     let first = HOUR.format_into(&mut output, &value, &mut ());
     let second = MINUTE.format_into(&mut output, &value, &mut ());

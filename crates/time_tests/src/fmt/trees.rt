@@ -1,8 +1,10 @@
 //! Descriptions of each kind, deprecated components, and texts.
-use super::{assert_component, assert_text, time, wednesday};
+use crate::texts::{assert_component, assert_text};
+use crate::values::{date_at, time_at, wednesday};
 use std::alloc::Global;
 use std::process::Abort;
 use std::test::Fail;
+use time_below::Month;
 use time_below::format_description::modifier::{
     MonthRepr, Padding, UnixTimestampPrecision, WeekNumberRepr, WeekdayRepr, YearRange, YearRepr,
 };
@@ -10,7 +12,6 @@ use time_below::format_description::{
     BorrowedFormatItem, Component, FormatDescriptionV3, FormatDescriptionV3Inner, OwnedFormatItem,
     modifier,
 };
-use time_below::{Date, Month};
 use time_fmt::{
     BorrowedItems, ComputeMetadata, Format, Formattable, Metadata, OwnedItems,
     component_write_into, v3_write_into,
@@ -193,7 +194,7 @@ fn byte_literals_have_no_text_guarantee(rt: HostRuntime) {
 
 #[test]
 fn write_into_takes_the_room_that_there_is(rt: HostRuntime) -> Result<(), Fail> {
-    let value = time(&rt, 9, 55, 6, 0);
+    let value = time_at(&rt, 9, 55, 6, 0);
     let mut output = Vec::with_capacity(rt.alloc(), 5)?;
     let text = BorrowedFormatItem::StringLiteral("at ");
     let first = text.write_into(&mut output, &value, &mut ());
@@ -260,7 +261,7 @@ fn deprecated_components_have_the_text_of_the_current_ones(rt: HostRuntime) {
     ] {
         assert_component(&rt, rt.alloc(), component, &value, text, width);
     }
-    let midnight = time(&rt, 0, 0, 0, 0);
+    let midnight = time_at(&rt, 0, 0, 0, 0);
     let hour = Component::Hour(modifier::Hour {
         padding,
         is_12_hour_clock: true,
@@ -270,9 +271,7 @@ fn deprecated_components_have_the_text_of_the_current_ones(rt: HostRuntime) {
 
 #[test]
 fn a_deprecated_year_may_be_out_of_range(rt: HostRuntime) {
-    let Ok(value) = Date::from_calendar_date(10_000, Month::January, 1) else {
-        panic!(rt; "no date");
-    };
+    let value = date_at(&rt, 10_000, Month::January, 1);
     let item = BorrowedFormatItem::Component(Component::Year(modifier::Year {
         padding: Padding::Zero,
         repr: YearRepr::Century,
@@ -289,7 +288,7 @@ fn a_deprecated_year_may_be_out_of_range(rt: HostRuntime) {
 
 #[test]
 fn texts_are_read_lossily_as_a_whole(rt: HostRuntime) -> Result<(), Fail> {
-    let value = time(&rt, 0, 0, 0, 0);
+    let value = time_at(&rt, 0, 0, 0, 0);
     let letter = [
         BorrowedFormatItem::Literal(b"\xc3"),
         BorrowedFormatItem::Literal(b"\xa9"),
@@ -310,7 +309,7 @@ fn texts_are_read_lossily_as_a_whole(rt: HostRuntime) -> Result<(), Fail> {
 
 #[test]
 fn engines_write_where_there_is_room(rt: HostRuntime) -> Result<(), Fail> {
-    let value = time(&rt, 9, 55, 6, 0);
+    let value = time_at(&rt, 9, 55, 6, 0);
     let mut output = Vec::with_capacity(rt.alloc(), 16)?;
     let hour = Component::Hour24(modifier::Hour24 {
         padding: Padding::Zero,

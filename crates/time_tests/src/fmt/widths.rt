@@ -1,10 +1,10 @@
 //! Each component, written into exactly as much room as its width.
-use super::time;
+use crate::values::moment;
 use std::alloc::Global;
 use std::process::Abort;
 use time_below::format_description::modifier::{Padding, SubsecondDigits, TrailingInput};
 use time_below::format_description::{Component, component_width, modifier};
-use time_below::{Date, Month, OffsetDateTime, UtcOffset};
+use time_below::{Month, OffsetDateTime};
 use time_fmt::component_write_into;
 use time_provide::DateState;
 
@@ -25,13 +25,8 @@ const DIGITS: [SubsecondDigits; 10] = [
 
 /// The day at 12:34:56.123456789 -23:45:30.
 fn day_at(rt: &impl Abort, year: i32, month: Month, day: u8) -> OffsetDateTime {
-    let Ok(date) = Date::from_calendar_date(year, month, day) else {
-        panic!(rt; "no date");
-    };
-    let Ok(offset) = UtcOffset::from_hms(-23, -45, -30) else {
-        panic!(rt; "no offset");
-    };
-    OffsetDateTime::new_in_offset(date, time(rt, 12, 34, 56, 123_456_789), offset)
+    let time = (12, 34, 56, 123_456_789);
+    moment(rt, (year, month, day), time, (-23, -45, -30))
 }
 
 /// Writes the component of the value where there is exactly the room of its width, and answers the

@@ -1,7 +1,7 @@
 //! What the front page of the repository shows.
 ghost use Rattle.std.specs.Prelude.{◌≡◌, ◌≤◌, vec_capacity};
 
-use super::moment;
+use crate::values::moment;
 use std::alloc::{AllocError, Global};
 use std::default::Default;
 use std::test::Fail;

@@ -1,5 +1,6 @@
 //! ISO 8601 by a configuration. Each row is tried with both decimal signs.
-use super::{moment, refusal_name};
+use crate::texts::refusal_name;
+use crate::values::{date_at, moment, offset_at, time_at, timestamp_at};
 use std::alloc::Global;
 use std::default::Default;
 use std::process::Abort;
@@ -54,20 +55,6 @@ fn time_format(precision: TimePrecision, separators: bool) -> Iso8601 {
             .set_time_precision(precision)
             .set_use_separators(separators),
     )
-}
-
-fn date_at(rt: &impl Abort, year: i32, month: Month, day: u8) -> Date {
-    moment(rt, (year, month, day), (0, 0, 0, 0), (0, 0, 0)).date()
-}
-
-fn time_at(rt: &impl Abort, hour: u8, minute: u8, second: u8, nanosecond: u32) -> Time {
-    let date = (2000, Month::January, 1);
-    moment(rt, date, (hour, minute, second, nanosecond), (0, 0, 0)).time()
-}
-
-fn offset_at(rt: &impl Abort, hours: i8, minutes: i8, seconds: i8) -> UtcOffset {
-    let date = (2000, Month::January, 1);
-    moment(rt, date, (0, 0, 0, 0), (hours, minutes, seconds)).offset()
 }
 
 /// 1997-11-12 9:55:06 -6:00, with this nanosecond.
@@ -125,7 +112,7 @@ where
     V::State: Drop,
 {
     for (format, _) in by_each_sign(rt, alloc, format, "") {
-        super::assert_refused(rt, alloc, &format, value, name);
+        crate::texts::assert_refused(rt, alloc, &format, value, name);
     }
 }
 
@@ -623,9 +610,7 @@ fn each_type_of_value(rt: HostRuntime) {
     assert_text(&rt, alloc, &Iso8601::default(), &whole, text, 35);
     let utc = UtcDateTime::new(whole.date(), whole.time());
     assert_text(&rt, alloc, &Iso8601::default(), &utc, text, 35);
-    let Ok(timestamp) = Timestamp::new(0, 0) else {
-        panic!(rt; "no timestamp");
-    };
+    let timestamp = timestamp_at(&rt, 0, 0);
     assert_text(&rt, alloc, &Iso8601::default(), &timestamp, text, 35);
     let midnight = "00:00:00.000000000Z";
     assert_text(&rt, alloc, &Iso8601::time_offset(), &utc, midnight, 24);

@@ -1,6 +1,8 @@
 //! RFC 3339 and RFC 2822.
-use super::{assert_refused, assert_text, moment};
-use time_below::{Month, PlainDateTime, Timestamp, UtcDateTime};
+use super::assert_text;
+use crate::texts::assert_refused;
+use crate::values::{moment, timestamp_at};
+use time_below::{Month, PlainDateTime, UtcDateTime};
 use time_fmt::Formattable;
 use time_known::{Rfc2822, Rfc3339};
 use time_provide::DateState;
@@ -132,9 +134,7 @@ fn each_type_of_value(rt: HostRuntime) {
     let alloc = rt.alloc();
     let whole = moment(&rt, (1970, Month::January, 1), (0, 0, 0, 0), (0, 0, 0));
     let (date, time, offset) = (whole.date(), whole.time(), whole.offset());
-    let Ok(timestamp) = Timestamp::new(0, 0) else {
-        panic!(rt; "no timestamp");
-    };
+    let timestamp = timestamp_at(&rt, 0, 0);
     let plain = PlainDateTime::new(date, time);
     let utc = UtcDateTime::new(date, time);
 

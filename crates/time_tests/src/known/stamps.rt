@@ -2,7 +2,8 @@
 ghost use Rattle.std.specs.Prelude.{◌↔◌, IfOk};
 ghost use Rattle.time_known.specs.Stamps.{IsBefore, IsTextBefore, moment_of};
 
-use super::{moment, refusal_name};
+use crate::texts::refusal_name;
+use crate::values::moment;
 use std::alloc::Global;
 use std::process::Abort;
 use std::test::Fail;

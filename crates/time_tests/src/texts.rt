@@ -1,0 +1,89 @@
+//! What calls are compared by: texts, counts, widths and refusals.
+use std::alloc::Global;
+use std::default::Default;
+use std::process::Abort;
+use time_below::format_description::{BorrowedFormatItem, Component};
+use time_fmt::{ComponentProvider, ComputeMetadata, Format, Formattable};
+
+/// Formats the value with a fresh state into an empty vector, and as a text, and compares the texts,
+/// the count and the width.
+pub(crate) fn assert_text<D: Formattable, V: ComponentProvider>(
+    rt: &impl Abort,
+    alloc: Global,
+    item: &D,
+    value: &V,
+    text: &str,
+    width: usize,
+)
+where
+    V::State: Drop,
+{
+    let mut output = Vec::new(alloc);
+    let mut state = V::State::default();
+    let Ok(count) = item.format_into(&mut output, value, &mut state) else {
+        panic!(rt; "refused: {text}");
+    };
+    assert_eq!(rt; output.as_slice(), text.as_bytes());
+    assert_eq!(rt; count, text.len());
+    assert_eq!(rt; item.compute_metadata().max_bytes_needed, width);
+    let Ok(formatted) = item.format(alloc, value, &mut state) else {
+        panic!(rt; "no text: {text}");
+    };
+    assert_eq!(rt; formatted.as_str(), text);
+}
+
+/// The same of one component.
+pub(crate) fn assert_component<V: ComponentProvider>(
+    rt: &impl Abort,
+    alloc: Global,
+    component: Component,
+    value: &V,
+    text: &str,
+    width: usize,
+)
+where
+    V::State: Drop,
+{
+    assert_text(
+        rt,
+        alloc,
+        &BorrowedFormatItem::Component(component),
+        value,
+        text,
+        width,
+    );
+}
+
+/// Formats the value with a fresh state behind a byte, and as a text, and compares the refusals. No
+/// byte is appended.
+pub(crate) fn assert_refused<D: Formattable, V: ComponentProvider>(
+    rt: &impl Abort,
+    alloc: Global,
+    item: &D,
+    value: &V,
+    name: &str,
+)
+where
+    V::State: Drop,
+{
+    let mut output = Vec::new(alloc);
+    let pushed = output.push(b'x');
+    assert!(rt; pushed.is_ok());
+    let mut state = V::State::default();
+    let answer = item.format_into(&mut output, value, &mut state);
+    assert_eq!(rt; refusal_name(&answer), name);
+    assert_eq!(rt; output.as_slice(), b"x".as_slice());
+    let answer = item.format(alloc, value, &mut state);
+    assert_eq!(rt; refusal_name(&answer), name);
+}
+
+/// The name of the component that is refused, or why else there is no text.
+pub(crate) fn refusal_name<T>(answer: &Result<T, Format>) -> &'static str {
+    match answer {
+        Err(Format::InvalidComponent(name)) => name,
+        Err(Format::InsufficientTypeInformation) => "insufficient",
+        Err(Format::ComponentRange(_)) => "range",
+        Err(Format::OutOfMemory) => "memory",
+        Ok(_) => "none",
+    }
+}
