@@ -2,8 +2,15 @@
 use std::alloc::Global;
 use std::default::Default;
 use std::process::Abort;
+use time_below::Date;
+use time_below::format_description::modifier::{Day, Padding};
 use time_below::format_description::{BorrowedFormatItem, Component};
-use time_fmt::{ComponentProvider, ComputeMetadata, Format, Formattable};
+use time_fmt::{ComponentProvider, ComputeMetadata, DateState, Format, Formattable};
+
+/// The day of the month, in two places.
+pub(crate) const DAY: Component = Component::Day(Day {
+    padding: Padding::Zero,
+});
 
 /// Formats the value with a fresh state into an empty vector, and as a text, and compares the texts,
 /// the count and the width.
@@ -77,12 +84,35 @@ where
     assert_eq!(rt; refusal_name(&answer), name);
 }
 
+/// Formats the date with a fresh state behind a byte, and compares the bytes before the refusal, and its
+/// name. The day is then appended with the same state.
+pub(crate) fn assert_refused_after(
+    rt: &impl Abort,
+    alloc: Global,
+    item: &BorrowedFormatItem<'_>,
+    value: &Date,
+    (before, name, after): (&str, &str, &str),
+) {
+    let mut output = Vec::new(alloc);
+    let pushed = output.push(b'x');
+    assert!(rt; pushed.is_ok());
+    let mut state = DateState::default();
+    let refused = item.format_into(&mut output, value, &mut state);
+    assert_eq!(rt; refusal_name(&refused), name);
+    assert_eq!(rt; output.as_slice(), before.as_bytes());
+    let day = BorrowedFormatItem::Component(DAY);
+    let written = day.format_into(&mut output, value, &mut state);
+    assert!(rt; matches!(&written, Ok(2)));
+    assert_eq!(rt; output.as_slice(), after.as_bytes());
+}
+
 /// The name of the component that is refused, or why else there is no text.
 pub(crate) fn refusal_name<T>(answer: &Result<T, Format>) -> &'static str {
     match answer {
         Err(Format::InvalidComponent(name)) => name,
         Err(Format::InsufficientTypeInformation) => "insufficient",
-        Err(Format::ComponentRange(_)) => "range",
+        Err(Format::ComponentRange(range)) if range.is_conditional() => range.name(),
+        Err(Format::ComponentRange(_)) => "unconditional",
         Err(Format::OutOfMemory) => "memory",
         Ok(_) => "none",
     }

@@ -1,18 +1,11 @@
 //! Dates.
-use crate::texts::{assert_component, assert_text};
+use crate::texts::{DAY, assert_component, assert_refused_after, assert_text};
 use crate::values::{date_at, wednesday};
-use std::process::Abort;
 use time_below::format_description::modifier::Padding;
 use time_below::format_description::{BorrowedFormatItem, Component, modifier};
-use time_below::{Date, Month, PlainDateTime};
+use time_below::{Date, Month};
 use time_fmt::{ComputeMetadata, Format, Formattable};
 use time_provide::DateState;
-
-const DAY: BorrowedFormatItem<'static> = BorrowedFormatItem::Component(Component::Day(
-    modifier::Day {
-        padding: Padding::Zero,
-    },
-));
 
 #[test]
 fn parts_of_a_wednesday(rt: HostRuntime) {
@@ -200,20 +193,7 @@ fn standard_ranges_refuse_what_is_outside(rt: HostRuntime) {
         }),
     ] {
         let item = BorrowedFormatItem::Component(component);
-        let mut output = Vec::new(rt.alloc());
-        let mut state = DateState::default();
-        match item.format_into(&mut output, &value, &mut state) {
-            Err(Format::ComponentRange(refusal)) => {
-                assert_eq!(rt; refusal.name(), "year");
-                assert!(rt; refusal.is_conditional());
-            }
-            _ => panic!(rt; "not refused"),
-        }
-        assert!(rt; output.is_empty());
-        // the same state serves the next call
-        let written = DAY.format_into(&mut output, &value, &mut state);
-        assert!(rt; matches!(&written, Ok(2)));
-        assert_eq!(rt; output.as_slice(), b"01".as_slice());
+        assert_refused_after(&rt, rt.alloc(), &item, &value, ("x", "year", "x01"));
     }
 }
 
@@ -222,7 +202,7 @@ fn bytes_before_a_refusal_stay(rt: HostRuntime) {
     let value = date_at(&rt, 1997, Month::November, 12);
     let items = [
         BorrowedFormatItem::StringLiteral("on "),
-        DAY,
+        BorrowedFormatItem::Component(DAY),
         BorrowedFormatItem::StringLiteral(" at "),
         BorrowedFormatItem::Component(Component::Hour24(modifier::Hour24 {
             padding: Padding::Zero,
@@ -230,29 +210,21 @@ fn bytes_before_a_refusal_stay(rt: HostRuntime) {
     ];
     let item = BorrowedFormatItem::Compound(&items);
     assert_eq!(rt; item.compute_metadata().max_bytes_needed, 11);
-    let mut output = Vec::new(rt.alloc());
-    let pushed = output.push(b'x');
-    assert!(rt; pushed.is_ok());
-    let mut state = DateState::default();
-    let refused = item.format_into(&mut output, &value, &mut state);
-    assert!(rt; matches!(&refused, Err(Format::InsufficientTypeInformation)));
-    assert_eq!(rt; output.as_slice(), b"xon 12 at ".as_slice());
-    // the state and the output serve the next call
-    let written = DAY.format_into(&mut output, &value, &mut state);
-    assert!(rt; matches!(&written, Ok(2)));
-    assert_eq!(rt; output.as_slice(), b"xon 12 at 12".as_slice());
+    let texts = ("xon 12 at ", "insufficient", "xon 12 at 12");
+    assert_refused_after(&rt, rt.alloc(), &item, &value, texts);
 }
 
 #[test]
 fn trees_over_a_date(rt: HostRuntime) {
     let value = date_at(&rt, 1997, Month::November, 12);
+    let day = BorrowedFormatItem::Component(DAY);
     let month = BorrowedFormatItem::Component(Component::MonthLong(modifier::MonthLong {
         case_sensitive: true,
     }));
     assert_text(
         &rt,
         rt.alloc(),
-        &BorrowedFormatItem::Optional(&DAY),
+        &BorrowedFormatItem::Optional(&day),
         &value,
         "12",
         2,
@@ -260,7 +232,7 @@ fn trees_over_a_date(rt: HostRuntime) {
     assert_text(
         &rt,
         rt.alloc(),
-        &BorrowedFormatItem::First(&[DAY, month]),
+        &BorrowedFormatItem::First(&[day, month]),
         &value,
         "12",
         2,

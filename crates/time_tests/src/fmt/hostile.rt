@@ -1,21 +1,17 @@
 //! Deep trees, long lists and refusals in the midst of a tree.
-use crate::texts::assert_text;
+use crate::texts::{DAY, assert_refused_after, assert_text};
 use crate::values::{date_at, wednesday};
 use std::alloc::{AllocError, Global};
 use std::process::Abort;
 use std::test::Fail;
+use time_below::Month;
 use time_below::format_description::modifier::Padding;
 use time_below::format_description::{
     BorrowedFormatItem, Component, FormatDescriptionV3, FormatDescriptionV3Inner, OwnedFormatItem,
     modifier,
 };
-use time_below::{Date, Month};
-use time_fmt::{BorrowedItems, ComputeMetadata, Format, Formattable};
+use time_fmt::{BorrowedItems, ComputeMetadata, Formattable};
 use time_provide::DateState;
-
-const DAY: Component = Component::Day(modifier::Day {
-    padding: Padding::Zero,
-});
 
 /// A depth that the documentation promises; on 8 MiB of stack about 40,000 levels are formatted.
 const DEEP: usize = 1_000;
@@ -92,31 +88,6 @@ fn a_list_of_ten_thousand_days(rt: HostRuntime) -> Result<(), Fail> {
     Ok(())
 }
 
-/// Formats the list, which is refused after these bytes, and then the day with the same state.
-fn assert_refused_after(
-    rt: &impl Abort,
-    alloc: Global,
-    items: &[BorrowedFormatItem<'_>],
-    value: &Date,
-    before: &str,
-    after: &str,
-) {
-    let mut output = Vec::new(alloc);
-    let mut state = DateState::default();
-    let refused = BorrowedFormatItem::Compound(items).format_into(&mut output, value, &mut state);
-    assert!(rt;
-        matches!(
-            &refused,
-            Err(Format::InsufficientTypeInformation) | Err(Format::ComponentRange(_))
-        )
-    );
-    assert_eq!(rt; output.as_slice(), before.as_bytes());
-    let day = BorrowedFormatItem::Component(DAY);
-    let written = day.format_into(&mut output, value, &mut state);
-    assert!(rt; matches!(&written, Ok(2)));
-    assert_eq!(rt; output.as_slice(), after.as_bytes());
-}
-
 #[test]
 fn a_refusal_ends_the_text_in_the_midst_of_a_tree(rt: HostRuntime) {
     let value = date_at(&rt, 1997, Month::November, 12);
@@ -133,7 +104,9 @@ fn a_refusal_ends_the_text_in_the_midst_of_a_tree(rt: HostRuntime) {
         BorrowedFormatItem::Compound(&inner),
         BorrowedFormatItem::StringLiteral("d"),
     ];
-    assert_refused_after(&rt, rt.alloc(), &outer, &value, "ab", "ab12");
+    let outer = BorrowedFormatItem::Compound(&outer);
+    let texts = ("xab", "insufficient", "xab12");
+    assert_refused_after(&rt, rt.alloc(), &outer, &value, texts);
     let late = date_at(&rt, 10_000, Month::January, 1);
     let year = Component::CalendarYearFullStandardRange(modifier::CalendarYearFullStandardRange {
         padding: Padding::Zero,
@@ -145,7 +118,8 @@ fn a_refusal_ends_the_text_in_the_midst_of_a_tree(rt: HostRuntime) {
         BorrowedFormatItem::Component(year),
         BorrowedFormatItem::StringLiteral("/"),
     ];
-    assert_refused_after(&rt, rt.alloc(), &items, &late, "01/", "01/01");
+    let item = BorrowedFormatItem::Compound(&items);
+    assert_refused_after(&rt, rt.alloc(), &item, &late, ("x01/", "year", "x01/01"));
 }
 
 /// Compares the text of the literals, as it is read.

@@ -1,13 +1,12 @@
 //! Reservations that are refused, and memory that is there.
+use crate::texts::DAY;
 use crate::values::wednesday;
 use std::alloc::{AllocError, Global};
 use std::process::Abort;
 use std::test::Fail;
 use time_below::format_description::{
     BorrowedFormatItem, Component, FormatDescriptionV3, FormatDescriptionV3Inner, OwnedFormatItem,
-    modifier,
 };
-
 use time_fmt::{BorrowedItems, ComputeMetadata, Format, Formattable, Metadata, OwnedItems};
 use time_provide::DateState;
 
@@ -101,9 +100,7 @@ fn assert_refused<D: Formattable>(
     assert_eq!(rt; output.as_slice(), b"before".as_slice());
     assert_eq!(rt; output.capacity(), capacity);
     assert_eq!(rt; state, DateState::default());
-    let day = BorrowedFormatItem::Component(Component::Day(modifier::Day {
-        padding: modifier::Padding::Zero,
-    }));
+    let day = BorrowedFormatItem::Component(DAY);
     let written = day.format_into(&mut output, &value, &mut state);
     assert!(rt; matches!(&written, Ok(2)));
     assert_eq!(rt; output.as_slice(), b"before12".as_slice());

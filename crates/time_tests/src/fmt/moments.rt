@@ -4,7 +4,6 @@ use crate::values::{date_at, moment, offset_at, time_at, timestamp_at};
 use time_below::format_description::modifier::Padding;
 use time_below::format_description::{Component, modifier};
 use time_below::{Month, UtcDateTime};
-use time_provide::TimestampState;
 
 /// The seconds and the milliseconds.
 fn stamps(sign_is_mandatory: bool) -> [Component; 2] {

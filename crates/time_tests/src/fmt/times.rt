@@ -3,7 +3,7 @@ use crate::texts::{assert_component, assert_text};
 use crate::values::time_at;
 use time_below::format_description::modifier::{Padding, SubsecondDigits};
 use time_below::format_description::{BorrowedFormatItem, Component, modifier};
-use time_fmt::{Format, Formattable};
+use time_fmt::Formattable;
 
 const HOUR: BorrowedFormatItem<'static> = BorrowedFormatItem::Component(Component::Hour24(
     modifier::Hour24 {

@@ -1,26 +1,21 @@
 //! Descriptions of each kind, deprecated components, and texts.
-use crate::texts::{assert_component, assert_text};
+use crate::texts::{DAY, assert_component, assert_refused, assert_text};
 use crate::values::{date_at, time_at, wednesday};
 use std::alloc::Global;
 use std::process::Abort;
 use std::test::Fail;
 use time_below::Month;
 use time_below::format_description::modifier::{
-    MonthRepr, Padding, UnixTimestampPrecision, WeekNumberRepr, WeekdayRepr, YearRange, YearRepr,
+    MonthRepr, Padding, WeekNumberRepr, WeekdayRepr, YearRange, YearRepr,
 };
 use time_below::format_description::{
     BorrowedFormatItem, Component, FormatDescriptionV3, FormatDescriptionV3Inner, OwnedFormatItem,
     modifier,
 };
 use time_fmt::{
-    BorrowedItems, ComputeMetadata, Format, Formattable, Metadata, OwnedItems,
-    component_write_into, v3_write_into,
+    BorrowedItems, ComputeMetadata, Formattable, Metadata, OwnedItems, component_write_into,
+    v3_write_into,
 };
-use time_provide::DateState;
-
-const DAY: Component = Component::Day(modifier::Day {
-    padding: Padding::Zero,
-});
 
 const MONTH: Component = Component::MonthNumerical(modifier::MonthNumerical {
     padding: Padding::Zero,
@@ -280,10 +275,7 @@ fn a_deprecated_year_may_be_out_of_range(rt: HostRuntime) {
         sign_is_mandatory: false,
     }));
     assert_eq!(rt; item.compute_metadata().max_bytes_needed, 5);
-    let mut output = Vec::new(rt.alloc());
-    let refused = item.format_into(&mut output, &value, &mut DateState::default());
-    assert!(rt; matches!(&refused, Err(Format::ComponentRange(_))));
-    assert!(rt; output.is_empty());
+    assert_refused(&rt, rt.alloc(), &item, &value, "year");
 }
 
 #[test]

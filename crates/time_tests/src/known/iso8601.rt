@@ -5,7 +5,7 @@ use std::alloc::Global;
 use std::default::Default;
 use std::process::Abort;
 use std::test::Fail;
-use time_below::{Date, Month, OffsetDateTime, Time, Timestamp, UtcDateTime, UtcOffset};
+use time_below::{Date, Month, OffsetDateTime, Time, UtcDateTime};
 use time_digits::ru8;
 use time_fmt::{ComponentProvider, ComputeMetadata, Formattable};
 use time_known::Iso8601;
