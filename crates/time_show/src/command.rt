@@ -31,14 +31,21 @@ pub fn command_in(line: &[u8]) -> Option<Command>
     ensures { result ≡ command_of line.now }
 {
     let mut fields = Fields::new(line);
-    match fields.next()? {
-        b"time" => time_numbers(fields).map(Command::Time),
-        b"rfc3339" => date_time_numbers(fields).map(Command::Rfc3339),
-        b"rfc2822" => date_time_numbers(fields).map(Command::Rfc2822),
-        b"iso" => date_time_numbers(fields).map(Command::Iso),
-        b"iso-comma" => date_time_numbers(fields).map(Command::IsoComma),
-        b"stamp" => utc_numbers(fields).map(Command::Stamp),
-        _ => None,
+    let name = fields.next()?;
+    if name == b"time".as_slice() {
+        time_numbers(fields).map(Command::Time)
+    } else if name == b"rfc3339".as_slice() {
+        date_time_numbers(fields).map(Command::Rfc3339)
+    } else if name == b"rfc2822".as_slice() {
+        date_time_numbers(fields).map(Command::Rfc2822)
+    } else if name == b"iso".as_slice() {
+        date_time_numbers(fields).map(Command::Iso)
+    } else if name == b"iso-comma".as_slice() {
+        date_time_numbers(fields).map(Command::IsoComma)
+    } else if name == b"stamp".as_slice() {
+        utc_numbers(fields).map(Command::Stamp)
+    } else {
+        None
     }
 }
 
