@@ -1,7 +1,7 @@
 //! The dates of the calendar.
 ghost use Rattle.std.specs.Prelude.{◌≡◌, ◌↔◌, ◌+◌, ◌<◌, ◌≤◌, ◌^◌, nat_le, IsTrue, IsOk, IfOk, IfErr, codes, if◌then◌else◌, pos, ◌+ℤ◌, ◌-ℤ◌, ◌*ℤ◌, unsigned_abs};
 ghost use Rattle.std.specs.Int.{IsInRange};
-ghost use Rattle.time_below.specs.Calendar.{greatest_year, IsYear, IsDate, IsDayOfMonth, month_of, day_of, date_of, day_number, date_at, weekday_of, iso_year_of, iso_week_of, monday_based_week_of, sunday_based_week_of};
+ghost use Rattle.time_below.specs.Calendar.{greatest_year, IsYear, IsDate, IsDayOfMonth, month_of, day_of, date_of, day_number, date_at, weekday_of, thursday_of, iso_year_of, iso_week_of, monday_based_week_of, sunday_based_week_of};
 ghost use Rattle.time_below.specs.ComponentRange.{range_refusal, conditional_range, unconditional_range};
 ghost use Rattle.time_below.specs.Moment.{day_seconds, unix_day};
 ghost use Rattle.time_below.specs.Month.{month_number};
@@ -175,17 +175,25 @@ impl Date {
         Weekday::from_monday((self.days_from_start() % 7) as u8)
     }
 
+    // The Thursday of the date's week, which is counted from Monday.
+    #[inline(always)]
+    #[tactic(auto, using(crate::proofs::CalendarLemmas::thursday_facts))]
+    fn thursday(self) -> Date
+        ensures { result ≡ thursday_of self }
+    {
+        let days = self.days_from_start();
+        Date::from_days(days - days % 7 + 3)
+    }
+
     /// The year of the week calendar, -999,999 to 999,999, and the week of that year, 1 to 53
     /// (ISO 8601-1:2019, week calendar). Week 1 is the one with the year's first Thursday.
-    #[tactic(auto, using(crate::proofs::CalendarLemmas::thursday_facts))]
     pub fn iso_year_week(self) -> (i32, u8)
         ensures year { result.0 ≡ iso_year_of self }
         ensures week { result.1 ≡ iso_week_of self }
         ensures year_range { IsYear result.0 }
         ensures week_range { IsInRange 1 53 result.1 }
     {
-        let days = self.days_from_start();
-        let thursday = Date::from_days(days - days % 7 + 3);
+        let thursday = self.thursday();
         (thursday.year(), ((thursday.ordinal() - 1) / 7 + 1) as u8)
     }
 

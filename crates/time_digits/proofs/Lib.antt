@@ -3,7 +3,10 @@ pub mod DivisionLemmas
 pub mod FractionLemmas
 pub mod LengthLemmas
 pub mod PieceLemmas
+pub mod SingleDigitLemmas
+pub mod SpacePaddedLemmas
 pub mod TableLemmas
 pub mod TurnLemmas
 pub mod WordLemmas
 pub mod WriteLemmas
+pub mod ZeroPaddedLemmas

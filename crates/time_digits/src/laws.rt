@@ -32,7 +32,7 @@ pub fn quotient_by_5243()
 
 /// Each text of a table stands at its place: that of the digit `n` at the byte `n`, and those of the
 /// number `n` in two places at the byte `2 * n`.
-#[tactic(auto, using(crate::proofs::TableLemmas::table_facts))]
+#[tactic(auto, using(crate::proofs::SingleDigitLemmas::digit_at, crate::proofs::ZeroPaddedLemmas::pair_at, crate::proofs::SpacePaddedLemmas::spaced_at))]
 pub fn texts_of_tables()
     ensures digits { (n : ℕ) → n < 10 → take 1 (drop n SINGLE_DIGITS.now) ≡ decimal n }
     ensures zeros { (n : ℕ) → n < 100

@@ -60,7 +60,7 @@ pub fn div_100(n: ru16<0, 9_999>) -> [ru8<0, 99>; 2]
 
 /// The text of the digit `n`, one byte.
 #[inline]
-#[tactic(auto, using(crate::proofs::TableLemmas::table_facts))]
+#[tactic(auto, using(crate::proofs::SingleDigitLemmas::digit_facts))]
 pub fn single_digit(n: ru8<0, 9>) -> &'static str
     ensures text { result.now ≡ decimal n }
     ensures len { length result.now ≡ 1 }
@@ -70,7 +70,7 @@ pub fn single_digit(n: ru8<0, 9>) -> &'static str
 
 /// The one or two digits of `n`, with no padding.
 #[inline]
-#[tactic(auto, using(crate::proofs::TableLemmas::table_facts))]
+#[tactic(auto, using(crate::proofs::ZeroPaddedLemmas::number_facts))]
 pub fn one_to_two_digits_no_padding(n: ru8<0, 99>) -> &'static str
     ensures text { result.now ≡ decimal n }
     ensures some { 1 ≤ length result.now }
@@ -86,7 +86,7 @@ pub fn one_to_two_digits_no_padding(n: ru8<0, 99>) -> &'static str
 
 /// `n` in two places, with a zero in front where it is below 10.
 #[inline]
-#[tactic(auto, using(crate::proofs::TableLemmas::table_facts))]
+#[tactic(auto, using(crate::proofs::ZeroPaddedLemmas::pair_facts))]
 pub fn two_digits_zero_padded(n: ru8<0, 99>) -> &'static str
     ensures text { result.now ≡ zero_padded 2 n }
     ensures len { length result.now ≡ 2 }
@@ -96,7 +96,7 @@ pub fn two_digits_zero_padded(n: ru8<0, 99>) -> &'static str
 
 /// `n` in two places, with a space in front where it is below 10.
 #[inline]
-#[tactic(auto, using(crate::proofs::TableLemmas::table_facts))]
+#[tactic(auto, using(crate::proofs::SpacePaddedLemmas::space_facts))]
 pub fn two_digits_space_padded(n: ru8<0, 99>) -> &'static str
     ensures text { result.now ≡ space_padded 2 n }
     ensures len { length result.now ≡ 2 }

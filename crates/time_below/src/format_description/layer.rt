@@ -1,12 +1,14 @@
 //! One layer of a description, whichever type it is written in.
-ghost use Rattle.std.specs.Prelude.{ℕ, ◌≡◌, ◌<◌};
+ghost use Rattle.std.specs.Prelude.{ℕ, ◌≡◌, ◌<◌, ⊤};
 ghost use Rattle.time_below.specs.Size.{size_below};
 ghost use Rattle.time_below.specs.Tree.{Tree, layer_tree};
 
 use crate::format_description::Component;
+use std::alloc::AllocError;
+use std::clone::Clone;
 
 /// What stands at the head of a description, with the descriptions below it.
-#[derive_where(Clone, Copy)]
+#[derive_where(Copy)]
 pub enum Layer<'a, T> {
     /// Bytes, which need not be UTF-8.
     Bytes(&'a [u8]),
@@ -22,6 +24,16 @@ pub enum Layer<'a, T> {
     Optional(&'a T),
     /// An item that is not written.
     Nothing,
+}
+
+impl<T> Clone for Layer<'_, T> {
+    ghost is_clone = { λ layer copy. copy ≡ layer };
+
+    ghost is_infallible = { λ _. ⊤ };
+
+    fn clone(&self) -> Result<Self, AllocError> {
+        Ok(*self)
+    }
 }
 
 /// A description that shows itself layer by layer.
