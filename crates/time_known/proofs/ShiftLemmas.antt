@@ -1,17 +1,18 @@
 -- What is written of an offset of ISO 8601 is what the format gives.
-use Rattle.std.proofs.Common.{◌≡◌, ℕ, ◌+◌, ◌<◌, ◌++◌, Bool, true, false, List, length-append, append_assoc, sym, ap, ◌∙◌, arith, Result, Ok, Err, Option, Some, None, Vec, ℤ, unsigned_abs}
+use Rattle.std.proofs.Common.{◌≡◌, ℕ, ◌<◌, Bool, true, false, sym, ◌∙◌, arith, Result, Ok, Err, Option, Some, None, Vec, ℤ, unsigned_abs}
 use Rattle.std.specs.Prelude.{codes, nat_lt, ◌&&◌, is_some, IfSome}
 use Rattle.std.proofs.lemmas.Bool.Decides.{nat_tests}
 use Rattle.std.specs.Global.{Global}
 use Rattle.time_below.specs.Offset.{Offset, is_utc}
 use Rattle.time_fmt.specs.declared.error.Format.{Format}
 use Rattle.time_fmt.specs.Description.{of_group}
-use Rattle.time_fmt.specs.Outcome.{Outcome, Appends, Names, done, join, invalid_component}
+use Rattle.time_fmt.specs.Outcome.{Appends, Names, done, invalid_component}
 use Rattle.time_fmt.specs.Room.{Writes}
 use Rattle.time_fmt.proofs.WriteLemmas.{appends_text, appends_nothing}
 use Rattle.time_known.specs.Config.{Choices, has_time}
 use Rattle.time_known.specs.Iso8601.{iso_minutes, iso_offset}
 use Rattle.time_known.specs.WellKnown.{offset_hours_text}
+use Rattle.time_known.proofs.JoinLemmas.{after_bytes, join_appended}
 
 -- what the test for a `Z` says of an offset
 abbrev pub IsTest : Choices → Option Offset → Bool → Type 0
@@ -33,31 +34,6 @@ second_refused c (Some o) v e is_zed s there test plain second above named =
     rw (sym test ∙ plain, wrong) (appends_nothing v e (invalid_component (codes "offset_second")) named)
 second_refused c None v e is_zed s there test plain second above named = cc
 
--- the answer of what was written after so many bytes
-abbrev pub after_bytes : ℕ → Result ℕ Format → Result ℕ Format
-after_bytes m (Ok n) = Ok (m + n)
-after_bytes m (Err e) = Err e
-
--- a text that was written, and then an outcome, are the two joined
-joined_appended : {old mid new : Vec ℕ Global} {m : ℕ} {text : List ℕ} (answer : Result ℕ Format) (o : Outcome)
-    → Writes old mid m text → Appends mid new answer o → Appends old new (after_bytes m answer) (join (done text) o)
-joined_appended {old} {text = text} (Ok n) o first second = record {
-  appended = second.appended ∙ ap (λ (items : List ℕ). items ++ o.bytes) first.appended
-      ∙ append_assoc old.items text o.bytes;
-  counted = (second.counted.0, omega (arith, first.counted, second.counted.1, length-append text o.bytes));
-  named = second.named;
-  grown = omega (arith, first.grown, second.grown, length-append text o.bytes);
-  capacity = second.capacity ∙ first.capacity;
-}
-joined_appended {old} {text = text} (Err e) o first second = record {
-  appended = second.appended ∙ ap (λ (items : List ℕ). items ++ o.bytes) first.appended
-      ∙ append_assoc old.items text o.bytes;
-  counted = second.counted;
-  named = second.named;
-  grown = omega (arith, first.grown, second.grown, length-append text o.bytes);
-  capacity = second.capacity ∙ first.capacity;
-}
-
 -- hours that were written, and then the minutes or their refusal, are the offset
 pub shift_appended : (c : Choices) (x : Option Offset) (mid : Vec ℕ Global) (m : ℕ) {old new : Vec ℕ Global}
     (answer : Result ℕ Format) (is_zed : Bool) (s : ℤ) → is_some x ≡ true → IsTest c x is_zed → is_zed ≡ false
@@ -67,5 +43,6 @@ pub shift_appended : (c : Choices) (x : Option Offset) (mid : Vec ℕ Global) (m
     → Appends old new (after_bytes m answer) (of_group x (iso_offset c))
 shift_appended c (Some o) mid m answer is_zed s there test plain second none hours minutes =
     let right : nat_lt 0 (unsigned_abs o.seconds) ≡ false = rw (← second) (grind (arith, nat_tests)) in
-    rw (sym test ∙ plain, right) (joined_appended answer (iso_minutes c.offset_precision c o) hours minutes)
+    rw (sym test ∙ plain, right) (join_appended answer (done (offset_hours_text o))
+    (iso_minutes c.offset_precision c o) (appends_text hours) minutes)
 shift_appended c None mid m answer is_zed s there test plain second none hours minutes = cc
