@@ -49,14 +49,13 @@ are_true true true false h = cc
 are_true true false c h = cc
 are_true false b c h = cc
 
--- a value that supplies all three has all three
-pub all_groups : (f : Facts) (date time offset : Bool) → is_some f.date ≡ date → is_some f.time ≡ time
-    → is_some f.offset ≡ offset → are_supplied all date time offset ≡ true → AllGroups f
-all_groups f date time offset d t o h =
-    let each = are_true date time offset h in
-    let at_date = there f.date (d ∙ each.first) in
-    let at_time = there f.time (t ∙ each.second) in
-    let at_offset = there f.offset (o ∙ each.third) in
+-- a value that supplies each of the three has all three
+pub supplied_groups : (f : Facts) (date time offset : Bool) → is_some f.date ≡ date → is_some f.time ≡ time
+    → is_some f.offset ≡ offset → date ≡ true → time ≡ true → offset ≡ true → AllGroups f
+supplied_groups f date time offset d t o first second third =
+    let at_date = there f.date (d ∙ first) in
+    let at_time = there f.time (t ∙ second) in
+    let at_offset = there f.offset (o ∙ third) in
     record {
       date = at_date.group;
       time = at_time.group;
@@ -65,6 +64,13 @@ all_groups f date time offset d t o h =
       is_time = at_time.is;
       is_offset = at_offset.is;
     }
+
+-- and so has one that supplies what is needed, where all three are
+pub all_groups : (f : Facts) (date time offset : Bool) → is_some f.date ≡ date → is_some f.time ≡ time
+    → is_some f.offset ≡ offset → are_supplied all date time offset ≡ true → AllGroups f
+all_groups f date time offset d t o h =
+    let each = are_true date time offset h in
+    supplied_groups f date time offset d t o each.first each.second each.third
 
 -- what they give is the outcome
 pub outcome_of_all : {f : Facts} (h : AllGroups f) (outcome : DateFacts → TimeOfDay → Offset → Outcome)
@@ -75,3 +81,8 @@ outcome_of_all h outcome = rw (h.is_date, h.is_time, h.is_offset) refl
 pub at_all : {f : Facts} (h : AllGroups f) (P : DateFacts → TimeOfDay → Offset → Type 0) → IfAll f P
     → P h.date h.time h.offset
 at_all h P all = rw (h.is_date, h.is_time, h.is_offset) at all
+
+-- and the other way round
+pub to_all : {f : Facts} (h : AllGroups f) (P : DateFacts → TimeOfDay → Offset → Type 0)
+    → P h.date h.time h.offset → IfAll f P
+to_all h P one = rw (h.is_date, h.is_time, h.is_offset) one

@@ -43,6 +43,7 @@ use Rattle.time_known.specs.WellKnown.{refused_if, is_outside, of_all_groups, mo
 record Ascii (bytes : List ℕ) : Type 0 where
   is : IsAscii bytes
 
+-- a text that is known to be ASCII
 leaf : (bytes : List ℕ) → IsAscii bytes → Ascii bytes
 leaf bytes h = record { is = h }
 
@@ -50,6 +51,7 @@ leaf bytes h = record { is = h }
 literal : (bytes : List ℕ) → list_all (λ b. nat_lt b 128) bytes ≡ true → Ascii bytes
 literal bytes h = leaf bytes (ascii_test bytes h)
 
+-- the empty text is ASCII
 nil : Ascii []
 nil = leaf [] IsAscii-nil
 
@@ -67,32 +69,40 @@ outcome_of_two : (c : Bool) (a b : Outcome) → Ascii a.bytes → Ascii b.bytes 
 outcome_of_two true a b p q = p
 outcome_of_two false a b p q = q
 
+-- so are the bytes after a test, whether it refuses or not
 unless : (c : Bool) (name : List ℕ) (o : Outcome) → Ascii o.bytes → Ascii (refused_if c name o).bytes
 unless c name o h = outcome_of_two c (refused (invalid_component name)) o nil h
 
 -- ---- parts
 
+-- a padded number is ASCII
 number : (k n : ℕ) → n < 2 ^ 64 → Ascii (zero_padded k n)
 number k n h = leaf (zero_padded k n) (IsAscii-padded 48 k n (omega arith) h)
 
+-- so is a sign
 sign : (is_negative is_wanted : Bool) → Ascii (sign_text is_negative is_wanted)
 sign is_negative is_wanted = leaf (sign_text is_negative is_wanted) (IsAscii-sign_text is_negative is_wanted)
 
+-- so are a month and a day
 month_and_day : (separator : List ℕ) (d : DateFacts) → Ascii separator → DateFits d → Ascii (month_and_day_text separator d)
 month_and_day separator d s h = after (after (after s (number 2 d.month h.month)) s) (number 2 d.day h.day)
 
+-- so is a time to the second
 clock : (separator : List ℕ) (t : TimeOfDay) → Ascii separator → TimeFits t → Ascii (clock_text separator t)
 clock separator t s h =
     after (after (after (after (number 2 t.hour h.hour) s) (number 2 t.minute h.minute)) s) (number 2 t.second h.second)
 
+-- so are the sign and the hours of an offset
 offset_hours : (o : Offset) → OffsetFits o → Ascii (offset_hours_text o)
 offset_hours o h = after (sign (is_negative o) true) (number 2 (unsigned_abs o.hours) h.hours)
 
+-- and so is an offset
 offset : (separator : List ℕ) (o : Offset) → Ascii separator → OffsetFits o → Ascii (offset_text separator o)
 offset separator o s h = after (after (offset_hours o h) s) (number 2 (unsigned_abs o.minutes) h.minutes)
 
 -- ---- RFC 3339
 
+-- a text of RFC 3339 is ASCII
 rfc3339_is_ascii : (d : DateFacts) (t : TimeOfDay) (o : Offset) → DateFits d → TimeFits t → OffsetFits o → Ascii (rfc3339_text d t o)
 rfc3339_is_ascii d t o h k l =
     let colon = literal (codes ":") refl in
@@ -102,6 +112,7 @@ rfc3339_is_ascii d t o h k l =
     let zone = either (is_utc o) (literal (codes "Z") refl) (offset (codes ":") o colon l) in
     after (after (after (after date (literal (codes "T") refl)) (clock (codes ":") t colon k)) fraction) zone
 
+-- so are the bytes of its outcome
 pub rfc3339_ascii : (d : DateFacts) (t : TimeOfDay) (o : Offset) → DateFits d → TimeFits t → OffsetFits o → IsAscii (rfc3339_of_groups d t o).bytes
 rfc3339_ascii d t o h k l =
     let text = done (rfc3339_text d t o) in
@@ -113,6 +124,7 @@ rfc3339_ascii d t o h k l =
 
 -- ---- RFC 2822
 
+-- a text of RFC 2822 is ASCII
 rfc2822_is_ascii : (d : DateFacts) (t : TimeOfDay) (o : Offset) → DateFits d → TimeFits t → OffsetFits o → Ascii (rfc2822_text d t o)
 rfc2822_is_ascii d t o h k l =
     let space = literal (codes " ") refl in
@@ -122,6 +134,7 @@ rfc2822_is_ascii d t o h k l =
     let named = after (after weekday (literal (codes ", ") refl)) date in
     after (after (after (after named space) (clock (codes ":") t (literal (codes ":") refl) k)) space) (offset [] o nil l)
 
+-- so are the bytes of its outcome
 pub rfc2822_ascii : (d : DateFacts) (t : TimeOfDay) (o : Offset) → DateFits d → TimeFits t → OffsetFits o → IsAscii (rfc2822_of_groups d t o).bytes
 rfc2822_ascii d t o h k l =
     let text = done (rfc2822_text d t o) in
@@ -131,13 +144,16 @@ rfc2822_ascii d t o h k l =
 
 -- ---- ISO 8601
 
+-- a year of four or six digits is ASCII
 year_ascii : (is_six_digits : Bool) (y : ℤ) → unsigned_abs y < 2 ^ 64 → Ascii (iso_year is_six_digits y).bytes
 year_ascii true y h = after (sign (int_lt y (pos 0)) true) (number 6 (unsigned_abs y) h)
 year_ascii false y h = unless (is_outside 0 9_999 y) (codes "year") (done (zero_padded 4 (unsigned_abs y))) (number 4 (unsigned_abs y) h)
 
+-- so is a separator, whether it is written or not
 separated : (c : Choices) {bytes : List ℕ} → Ascii bytes → Ascii (separator c bytes)
 separated c h = either c.use_separators h nil
 
+-- so is what follows the year, in each kind of date
 after_year : (k : DateKind) (c : Choices) (d : DateFacts) → DateFits d → Ascii (text_after_year k c d)
 after_year kind.Calendar c d h = month_and_day (separator c (codes "-")) d (separated c (literal (codes "-") refl)) h
 after_year kind.Week c d h =
@@ -157,6 +173,7 @@ joined : (a b : Outcome) → Ascii a.bytes → Ascii b.bytes → Ascii (join a b
 joined a b p q =
     elim a.refusal as (λ r. Ascii (join (record { bytes = a.bytes; refusal = r }) b).bytes) [ None ↦ after p q | Some r ↦ p ]
 
+-- a date is ASCII
 date_ascii : (c : Choices) (d : DateFacts) → DateFits d → IsAscii (iso_date c d).bytes
 date_ascii c d h =
     (joined (iso_year c.year_is_six_digits (year_of_kind c.date_kind d)) (done (text_after_year c.date_kind c d))
@@ -173,6 +190,7 @@ sign_and_decimals s None rest unit = nil
 sign_and_decimals s (Some d) rest unit =
     after (decimal_sign s) (leaf (decimals rest unit d) (IsAscii-fixed d (rest * 10 ^ d / unit)))
 
+-- the units of a time and its decimals are ASCII
 units : (p : TimePrecision) (c : Choices) (t : TimeOfDay) → TimeFits t → Ascii (units_text p c t)
 units (precision.Hour d) c t h = after (number 2 t.hour h.hour) (sign_and_decimals c.decimal_sign d (nanoseconds_of_hour t) 3_600_000_000_000)
 units (precision.Minute d) c t h =
@@ -181,13 +199,16 @@ units (precision.Minute d) c t h =
 units (precision.Second d) c t h =
     after (clock (separator c (codes ":")) t (separated c (literal (codes ":") refl)) h) (sign_and_decimals c.decimal_sign d t.nanosecond 1_000_000_000)
 
+-- a time is ASCII
 time_ascii : (c : Choices) (t : TimeOfDay) → TimeFits t → IsAscii (iso_time c t).bytes
 time_ascii c t h = (after (either (has_time_letter c) (literal (codes "T") refl) nil) (units c.time_precision c t h)).is
 
+-- the minutes of an offset are ASCII
 minutes_ascii : (p : OffsetPrecision) (c : Choices) (o : Offset) → OffsetFits o → Ascii (iso_minutes p c o).bytes
 minutes_ascii offset_precision.Minute c o h = after (separated c (literal (codes ":") refl)) (number 2 (unsigned_abs o.minutes) h.minutes)
 minutes_ascii offset_precision.Hour c o h = unless (nat_lt 0 (unsigned_abs o.minutes)) (codes "offset_minute") (done []) nil
 
+-- an offset is ASCII
 offset_ascii : (c : Choices) (o : Offset) → OffsetFits o → IsAscii (iso_offset c o).bytes
 offset_ascii c o h =
     let hours = done (offset_hours_text o) in
@@ -203,12 +224,15 @@ group_utf8 : {G : Type 0} {P Q : G → Type 0} (group : Option G) (outcome : G �
 group_utf8 None outcome fits each h = empty_utf8
 group_utf8 (Some g) outcome fits each h = IsUtf8-from_ascii (outcome g).bytes (each g (fits g h))
 
+-- a real date is UTF-8
 pub iso_date_utf8 : (c : Choices) (date : Option DateFacts) → IfSome date AreOfDate → IsUtf8 (of_group date (iso_date c)).bytes
 iso_date_utf8 c date h = group_utf8 {P = AreOfDate} {Q = DateFits} date (iso_date c) date_fits (date_ascii c) h
 
+-- a real time is UTF-8
 pub iso_time_utf8 : (c : Choices) (time : Option TimeOfDay) → IfSome time IsTimeOfDay → IsUtf8 (of_group time (iso_time c)).bytes
 iso_time_utf8 c time h = group_utf8 {P = IsTimeOfDay} {Q = TimeFits} time (iso_time c) time_fits (time_ascii c) h
 
+-- a real offset is UTF-8
 pub iso_offset_utf8 : (c : Choices) (offset : Option Offset) → IfSome offset IsOffset → IsUtf8 (of_group offset (iso_offset c)).bytes
 iso_offset_utf8 c offset h = group_utf8 {P = IsOffset} {Q = OffsetFits} offset (iso_offset c) offset_fits (offset_ascii c) h
 
@@ -224,6 +248,7 @@ join_utf8 a b p q =
     elim a.refusal as (λ r. IsUtf8 (join (record { bytes = a.bytes; refusal = r }) b).bytes)
     [ None ↦ IsUtf8-append a.bytes b.bytes p q | Some r ↦ p ]
 
+-- nor is the second looked at where the first was refused
 pub join_refused_utf8 : {old new : Vec ℕ Global} {e : Format} (a b : Outcome) → IsUtf8 a.bytes → Appends old new (Err e) a → IsUtf8 (join a b).bytes
 join_refused_utf8 {e = e} a b p h = refused_first a.bytes a.refusal b e p h.named
 
@@ -240,6 +265,7 @@ of_groups_utf8 (Some d) (Some t) None of_groups each h k l = empty_utf8
 of_groups_utf8 (Some d) (Some t) (Some o) of_groups each h k l =
     IsUtf8-from_ascii (of_groups d t o).bytes (each d t o (date_fits d h) (time_fits t k) (offset_fits o l))
 
+-- the groups of any facts that are real
 pub all_groups_utf8 : (f : Facts) (of_groups : DateFacts → TimeOfDay → Offset → Outcome)
     → ((d : DateFacts) (t : TimeOfDay) (o : Offset) → DateFits d → TimeFits t → OffsetFits o → IsAscii (of_groups d t o).bytes)
     → IfSome f.date AreOfDate → IfSome f.time IsTimeOfDay → IfSome f.offset IsOffset → IsUtf8 (of_all_groups f of_groups).bytes
@@ -254,6 +280,7 @@ lacking_utf8 (Some d) None offset of_groups h = empty_utf8
 lacking_utf8 (Some d) (Some t) None of_groups h = empty_utf8
 lacking_utf8 (Some d) (Some t) (Some o) of_groups h = cc
 
+-- so does one that does not supply a group
 pub lacking_groups_utf8 : (f : Facts) (of_groups : DateFacts → TimeOfDay → Offset → Outcome) (date time offset : Bool)
     → is_some f.date ≡ date → is_some f.time ≡ time → is_some f.offset ≡ offset → are_supplied all date time offset ≡ false
     → IsUtf8 (of_all_groups f of_groups).bytes

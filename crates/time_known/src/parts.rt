@@ -6,12 +6,11 @@ ghost use Rattle.time_below.specs.TimeOfDay.{IsTimeOfDay};
 ghost use Rattle.time_fmt.specs.Room.{HasRoom, Writes};
 ghost use Rattle.time_known.specs.WellKnown.{is_outside, month_and_day_text, clock_text, offset_hours_text};
 
+use crate::pieces::{write_clock, write_pair};
 use time_below::format_description::modifier;
 use time_below::format_description::modifier::Padding;
-use time_digits::ru16;
-use time_fmt::writers::{
-    fmt_day, fmt_hour_24, fmt_minute, fmt_month_numerical, fmt_offset_hour, fmt_second, write,
-};
+use time_digits::{ru8, ru16};
+use time_fmt::writers::{fmt_offset_hour, write};
 use time_provide::ComponentProvider;
 use time_provide::ranges::Year;
 
@@ -28,7 +27,7 @@ pub(crate) fn four_digit_year(year: Year, first: u16) -> Option<ru16<0, 9_999>>
 }
 
 /// Appends the month and the day, of two digits each, and the separator before each of them.
-#[tactic(auto, using(crate::proofs::WritingLemmas::part_lengths))]
+#[tactic(auto, using(crate::proofs::WritingLemmas::joined_lengths))]
 pub(crate) fn write_month_and_day<V: ComponentProvider>(
     output: &mut Vec<u8>,
     value: &V,
@@ -44,19 +43,14 @@ pub(crate) fn write_month_and_day<V: ComponentProvider>(
     ensures capacity { vec_capacity output.new ≡ vec_capacity output.old }
     ensures agrees { V.agrees state.new value.now }
 {
-    let padding = Padding::Zero;
     let dash = write(output, separator);
-    let month = fmt_month_numerical(
-        output,
-        value.month(state),
-        modifier::MonthNumerical { padding },
-    );
+    let month = ru8::within(u8::from(value.month(state)));
+    let month = write_pair(output, month);
     let second_dash = write(output, separator);
-    dash + month + second_dash + fmt_day(output, value.day(state), modifier::Day { padding })
+    dash + month + second_dash + write_pair(output, value.day(state).expand())
 }
 
 /// Appends the hour, the minute and the second, of two digits each, and the separator between them.
-#[tactic(auto, using(crate::proofs::WritingLemmas::part_lengths))]
 pub(crate) fn write_clock_time<V: ComponentProvider>(
     output: &mut Vec<u8>,
     value: &V,
@@ -73,13 +67,7 @@ pub(crate) fn write_clock_time<V: ComponentProvider>(
     ensures capacity { vec_capacity output.new ≡ vec_capacity output.old }
     ensures agrees { V.agrees state.new value.now }
 {
-    let padding = Padding::Zero;
-    let hour = fmt_hour_24(output, value.hour(state), modifier::Hour24 { padding });
-    let colon = write(output, separator);
-    let minute = fmt_minute(output, value.minute(state), modifier::Minute { padding });
-    let second_colon = write(output, separator);
-    let second = fmt_second(output, value.second(state), modifier::Second { padding });
-    hour + colon + minute + second_colon + second
+    write_clock(output, value, state, separator)
 }
 
 /// Appends the sign of the whole offset, and the two digits of its hours.

@@ -1,7 +1,7 @@
-//! Pieces of texts whose lengths the compiler knows. Each is inlined into a function that has taken its
-//! vector out of the borrow, so that the vector's address and length stay in registers, and becomes a
+//! Pieces of texts whose lengths the compiler knows. Each is inlined. In a function that has taken its
+//! vector out of the borrow, so that the vector's address and length stay in registers, it becomes a
 //! few stores at known places.
-ghost use Rattle.std.specs.Prelude.{◌≡◌, ◌+◌, ◌≤◌, codes, length, IsTrue, IfSome, vec_len, vec_capacity};
+ghost use Rattle.std.specs.Prelude.{◌≡◌, ◌+◌, ◌*◌, ◌≤◌, length, IsTrue, IfSome, vec_len, vec_capacity};
 ghost use Rattle.time_below.specs.Offset.{IsOffset};
 ghost use Rattle.time_below.specs.TimeOfDay.{IsTimeOfDay};
 ghost use Rattle.time_below.specs.Month.{month_number};
@@ -25,6 +25,8 @@ use time_provide::ranges::Nanoseconds;
 pub(crate) fn write_pair(output: &mut Vec<u8>, number: ru8<0, 99>) -> usize
     requires room { HasRoom output.old 2 }
     ensures writes { Writes output.old output.new result (zero_padded 2 number) }
+    ensures count { result ≡ 2 }
+    ensures grown { vec_len output.new ≡ vec_len output.old + 2 }
 {
     write(output, two_digits_zero_padded(number))
 }
@@ -34,6 +36,8 @@ pub(crate) fn write_pair(output: &mut Vec<u8>, number: ru8<0, 99>) -> usize
 pub(crate) fn write_four_digits(output: &mut Vec<u8>, number: ru16<0, 9_999>) -> usize
     requires room { HasRoom output.old 4 }
     ensures writes { Writes output.old output.new result (zero_padded 4 number) }
+    ensures count { result ≡ 4 }
+    ensures grown { vec_len output.new ≡ vec_len output.old + 4 }
 {
     let [high, low] = four_digits_zero_padded(number);
     let first = write(output, high);
@@ -45,6 +49,8 @@ pub(crate) fn write_four_digits(output: &mut Vec<u8>, number: ru16<0, 9_999>) ->
 fn write_three(output: &mut Vec<u8>, bytes: [u8; 3]) -> usize
     requires room { HasRoom output.old 3 }
     ensures writes { Writes output.old output.new result bytes }
+    ensures count { result ≡ 3 }
+    ensures grown { vec_len output.new ≡ vec_len output.old + 3 }
 {
     let [first, second, third] = bytes;
     output.push_reserved(first);
@@ -59,6 +65,8 @@ pub(crate) fn write_month_name(output: &mut Vec<u8>, month: Month) -> usize
     requires room { HasRoom output.old 3 }
     ensures writes { Writes output.old output.new result
         (short_name (month_name (month_number month))) }
+    ensures count { result ≡ 3 }
+    ensures grown { vec_len output.new ≡ vec_len output.old + 3 }
 {
     let name = match month {
         Month::January => *b"Jan",
@@ -83,6 +91,8 @@ pub(crate) fn write_weekday_name(output: &mut Vec<u8>, weekday: Weekday) -> usiz
     requires room { HasRoom output.old 3 }
     ensures writes { Writes output.old output.new result
         (short_name (weekday_name (days_from_monday weekday))) }
+    ensures count { result ≡ 3 }
+    ensures grown { vec_len output.new ≡ vec_len output.old + 3 }
 {
     let name = match weekday {
         Weekday::Monday => *b"Mon",
@@ -101,6 +111,8 @@ pub(crate) fn write_weekday_name(output: &mut Vec<u8>, weekday: Weekday) -> usiz
 pub(crate) fn write_nine_digits(output: &mut Vec<u8>, nanosecond: Nanoseconds) -> usize
     requires room { HasRoom output.old 9 }
     ensures writes { Writes output.old output.new result (fixed 9 nanosecond) }
+    ensures count { result ≡ 9 }
+    ensures grown { vec_len output.new ≡ vec_len output.old + 9 }
 {
     let [first, second, third, fourth, fifth] = subsecond_from_nanos(nanosecond);
     let sum = write(output, first);
@@ -125,35 +137,36 @@ pub(crate) fn write_fraction(output: &mut Vec<u8>, nanosecond: Nanoseconds) -> u
     9 - zeros
 }
 
-/// Appends the hour, the minute and the second, of two digits each, and a colon between them.
+/// Appends the hour, the minute and the second, of two digits each, and the separator between them.
 #[inline(always)]
-#[tactic(auto, using(crate::proofs::WritingLemmas::part_lengths))]
+#[tactic(auto, using(crate::proofs::WritingLemmas::joined_lengths))]
 pub(crate) fn write_clock<V: ComponentProvider>(
     output: &mut Vec<u8>,
     value: &V,
     state: &mut V::State,
+    separator: &str,
 ) -> usize
     requires supplied { IsTrue V.SUPPLIES_TIME }
-    requires room { HasRoom output.old 8 }
+    requires room { HasRoom output.old (6 + 2 * length separator.now) }
     requires agrees { V.agrees state.old value.now }
     ensures writes { IfSome (V.facts value.now).time
-        (λ t. Writes output.old output.new result (clock_text (codes ":") t)) }
+        (λ t. Writes output.old output.new result (clock_text separator.now t)) }
     ensures real { IfSome (V.facts value.now).time IsTimeOfDay }
-    ensures within { vec_len output.new ≤ vec_len output.old + 8 }
+    ensures within { vec_len output.new ≤ vec_len output.old + (6 + 2 * length separator.now) }
     ensures capacity { vec_capacity output.new ≡ vec_capacity output.old }
     ensures agrees { V.agrees state.new value.now }
 {
     let hour = write_pair(output, value.hour(state).expand());
-    let colon = write(output, ":");
+    let colon = write(output, separator);
     let minute = write_pair(output, value.minute(state).expand());
-    let second_colon = write(output, ":");
+    let second_colon = write(output, separator);
     hour + colon + minute + second_colon + write_pair(output, value.second(state).expand())
 }
 
 /// Appends the sign of the whole offset, and its hours and its minutes, of two digits each, with the
 /// separator between them.
 #[inline(always)]
-#[tactic(auto, using(crate::proofs::WritingLemmas::part_lengths))]
+#[tactic(auto, using(crate::proofs::WritingLemmas::joined_lengths))]
 pub(crate) fn write_signed_offset<V: ComponentProvider>(
     output: &mut Vec<u8>,
     value: &V,

@@ -126,7 +126,7 @@ fn write_date_time<V: ComponentProvider>(
 
 // Appends `date-time`, of this year, in pieces that are inlined.
 #[inline(always)]
-#[tactic(auto, using(crate::proofs::WritingLemmas::part_lengths))]
+#[tactic(auto, using(crate::proofs::WritingLemmas::joined_lengths))]
 fn append_date_time<V: ComponentProvider>(
     output: &mut Vec<u8>,
     year: ru16<0, 9_999>,
@@ -148,14 +148,14 @@ fn append_date_time<V: ComponentProvider>(
 {
     let date = write_named_date(output, year, value, state);
     let space = write(output, " ");
-    let time = write_clock(output, value, state);
+    let time = write_clock(output, value, state, ":");
     let second_space = write(output, " ");
     date + space + time + second_space + write_signed_offset(output, value, state, "")
 }
 
 // Appends `day-of-week "," date`, of this year.
 #[inline(always)]
-#[tactic(auto, using(crate::proofs::WritingLemmas::part_lengths))]
+#[tactic(auto, using(crate::proofs::WritingLemmas::joined_lengths))]
 fn write_named_date<V: ComponentProvider>(
     output: &mut Vec<u8>,
     year: ru16<0, 9_999>,
@@ -179,7 +179,7 @@ fn write_named_date<V: ComponentProvider>(
 
 // Appends `date`, of this year. The day is read first, since its computation gives the month too.
 #[inline(always)]
-#[tactic(auto, using(crate::proofs::WritingLemmas::part_lengths))]
+#[tactic(auto, using(crate::proofs::WritingLemmas::joined_lengths))]
 fn write_date<V: ComponentProvider>(
     output: &mut Vec<u8>,
     year: ru16<0, 9_999>,

@@ -129,7 +129,7 @@ fn write_date_time<V: ComponentProvider>(
 
 // Appends `date-time`, of this year, in pieces that are inlined.
 #[inline(always)]
-#[tactic(auto, using(crate::proofs::WritingLemmas::part_lengths))]
+#[tactic(auto, using(crate::proofs::WritingLemmas::joined_lengths))]
 fn append_date_time<V: ComponentProvider>(
     output: &mut Vec<u8>,
     year: ru16<0, 9_999>,
@@ -151,14 +151,14 @@ fn append_date_time<V: ComponentProvider>(
 {
     let date = write_full_date(output, year, value, state);
     let letter = write(output, "T");
-    let time = write_clock(output, value, state);
+    let time = write_clock(output, value, state, ":");
     let fraction = write_time_secfrac(output, value, state);
     date + letter + time + fraction + write_time_offset(output, value, state)
 }
 
 // Appends `full-date`, of this year. The day is read first, since its computation gives the month too.
 #[inline(always)]
-#[tactic(auto, using(crate::proofs::WritingLemmas::part_lengths))]
+#[tactic(auto, using(crate::proofs::WritingLemmas::joined_lengths))]
 pub(crate) fn write_full_date<V: ComponentProvider>(
     output: &mut Vec<u8>,
     year: ru16<0, 9_999>,
@@ -211,7 +211,7 @@ fn write_time_secfrac<V: ComponentProvider>(
 
 // Appends `time-offset`.
 #[inline(always)]
-#[tactic(auto, using(crate::proofs::WritingLemmas::part_lengths))]
+#[tactic(auto, using(crate::proofs::WritingLemmas::joined_lengths))]
 pub(crate) fn write_time_offset<V: ComponentProvider>(
     output: &mut Vec<u8>,
     value: &V,

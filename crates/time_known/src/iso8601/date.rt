@@ -1,5 +1,6 @@
 //! The date of a text of ISO 8601-1:2019, section 5.2.
 ghost use Rattle.std.specs.Prelude.{◌≡◌, ◌+◌, ◌*◌, ◌≤◌, ◌++◌, length, unsigned_abs, IsTrue, IfSome, vec_len, vec_capacity};
+ghost use Rattle.time_below.specs.Weekday.{days_from_monday};
 ghost use Rattle.time_digits.specs.Digits.{zero_padded};
 ghost use Rattle.time_fmt.specs.Description.{of_group};
 ghost use Rattle.time_fmt.specs.Outcome.{Appends};
@@ -10,12 +11,15 @@ ghost use Rattle.time_known.specs.Iso8601Width.{iso_date_width, year_width, widt
 
 use crate::iso8601::config::{Config, DateKind};
 use crate::parts::{four_digit_year, write_month_and_day};
+use crate::pieces::write_pair;
+use time_below::Weekday;
 use time_below::format_description::modifier;
 use time_below::format_description::modifier::Padding;
+use time_digits::ru16;
 use time_fmt::Format;
 use time_fmt::writers::{
-    fmt_ordinal, fmt_sign, fmt_week_number_iso, fmt_weekday_monday, format_four_digits_pad_zero,
-    format_six_digits_pad_zero, write,
+    fmt_sign, fmt_weekday_monday, format_four_digits_pad_zero, format_six_digits_pad_zero,
+    format_three_digits, write,
 };
 use time_provide::ComponentProvider;
 use time_provide::ranges::Year;
@@ -61,7 +65,7 @@ fn year_of_kind<V: ComponentProvider>(kind: DateKind, value: &V, state: &mut V::
 }
 
 // Appends the sign and six digits of the year, or four digits of one that has no more.
-#[tactic(auto, using(crate::proofs::WritingLemmas::part_lengths, crate::proofs::IsoWriteLemmas::date_lengths))]
+#[tactic(auto, using(crate::proofs::IsoWriteLemmas::year_lengths))]
 fn write_year(output: &mut Vec<u8>, year: Year, is_six_digits: bool) -> Result<usize, Format>
     requires range { unsigned_abs year ≤ 999_999 }
     requires room { HasRoom output.old (year_width is_six_digits) }
@@ -89,7 +93,8 @@ fn write_after_year<V: ComponentProvider>(
     requires room { HasRoom output.old (width_after_year config.now.date_kind config.now) }
     requires agrees { V.agrees state.old value.now }
     ensures writes { IfSome (V.facts value.now).date
-        (λ d. Writes output.old output.new result (text_after_year config.now.date_kind config.now d)) }
+        (λ d. Writes output.old output.new result
+        (text_after_year config.now.date_kind config.now d)) }
     ensures within { vec_len output.new
         ≤ vec_len output.old + width_after_year config.now.date_kind config.now }
     ensures agrees { V.agrees state.new value.now }
@@ -104,7 +109,7 @@ fn write_after_year<V: ComponentProvider>(
 
 // Appends the letter `W` with two digits of the week, and the weekday from 1, and the separator before
 // each of them.
-#[tactic(auto, using(crate::proofs::WritingLemmas::part_lengths, crate::proofs::IsoWriteLemmas::date_lengths))]
+#[tactic(auto, using(crate::proofs::WritingLemmas::joined_lengths))]
 fn write_week_and_weekday<V: ComponentProvider>(
     output: &mut Vec<u8>,
     value: &V,
@@ -122,17 +127,31 @@ fn write_week_and_weekday<V: ComponentProvider>(
 {
     let dash = write(output, separator);
     let letter = write(output, "W");
-    let padding = Padding::Zero;
-    let week = value.iso_week_number(state);
-    let week = fmt_week_number_iso(output, week, modifier::WeekNumberIso { padding });
+    let week = write_pair(output, value.iso_week_number(state).expand());
     let second_dash = write(output, separator);
-    let from_one = modifier::WeekdayMonday { one_indexed: true };
-    let weekday = fmt_weekday_monday(output, value.weekday(state), from_one);
+    let weekday = write_weekday_from_one(output, value.weekday(state));
     dash + letter + week + second_dash + weekday
 }
 
+// Appends the digit of the weekday, from 1 for Monday.
+#[inline(always)]
+#[tactic(auto, using(crate::proofs::IsoWriteLemmas::weekday_lengths))]
+fn write_weekday_from_one(output: &mut Vec<u8>, weekday: Weekday) -> usize
+    requires room { HasRoom output.old 1 }
+    ensures writes { Writes output.old output.new result
+        (zero_padded 1 (days_from_monday weekday + 1)) }
+    ensures count { result ≡ 1 }
+    ensures grown { vec_len output.new ≡ vec_len output.old + 1 }
+{
+    fmt_weekday_monday(
+        output,
+        weekday,
+        modifier::WeekdayMonday { one_indexed: true },
+    )
+}
+
 // Appends the separator and three digits of the day of the year.
-#[tactic(auto, using(crate::proofs::IsoWriteLemmas::date_lengths))]
+#[tactic(auto, using(crate::proofs::WritingLemmas::joined_lengths))]
 fn write_ordinal<V: ComponentProvider>(
     output: &mut Vec<u8>,
     value: &V,
@@ -149,8 +168,17 @@ fn write_ordinal<V: ComponentProvider>(
     ensures agrees { V.agrees state.new value.now }
 {
     let dash = write(output, separator);
-    let modifier = modifier::Ordinal {
-        padding: Padding::Zero,
-    };
-    dash + fmt_ordinal(output, value.ordinal(state), modifier)
+    dash + write_three_digits(output, value.ordinal(state).expand())
+}
+
+// Appends a number of three digits, with zeros in front.
+#[inline(always)]
+#[tactic(auto, using(crate::proofs::IsoWriteLemmas::ordinal_lengths))]
+fn write_three_digits(output: &mut Vec<u8>, number: ru16<0, 999>) -> usize
+    requires room { HasRoom output.old 3 }
+    ensures writes { Writes output.old output.new result (zero_padded 3 number) }
+    ensures count { result ≡ 3 }
+    ensures grown { vec_len output.new ≡ vec_len output.old + 3 }
+{
+    format_three_digits(output, number, Padding::Zero)
 }

@@ -132,7 +132,7 @@ fn write_default_time<V: ComponentProvider>(
     ensures agrees { V.agrees state.new value.now }
 {
     let letter = write(output, "T");
-    let clock = write_clock(output, value, state);
+    let clock = write_clock(output, value, state, ":");
     let point = write(output, ".");
     letter + clock + point + write_nine_digits(output, value.nanosecond(state))
 }

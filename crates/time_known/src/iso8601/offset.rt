@@ -1,9 +1,10 @@
 //! The offset from UTC of a text of ISO 8601-1:2019, sections 5.3.3 and 5.3.4.
-ghost use Rattle.std.specs.Prelude.{◌+◌, ◌≤◌, IsTrue, IfSome, vec_len};
-ghost use Rattle.time_below.specs.Offset.{IsOffset};
+ghost use Rattle.std.specs.Prelude.{◌≡◌, ◌+◌, ◌≤◌, ◌&&◌, IsTrue, IfSome, vec_len};
+ghost use Rattle.time_below.specs.Offset.{IsOffset, is_utc};
 ghost use Rattle.time_fmt.specs.Description.{of_group};
 ghost use Rattle.time_fmt.specs.Outcome.{Appends};
 ghost use Rattle.time_fmt.specs.Room.{HasRoom};
+ghost use Rattle.time_known.specs.Config.{has_time};
 ghost use Rattle.time_known.specs.Iso8601.{iso_minutes, iso_offset};
 ghost use Rattle.time_known.specs.Iso8601Width.{minutes_width, iso_offset_width};
 
@@ -35,7 +36,7 @@ pub fn format_offset<V: ComponentProvider>(
     ensures within { vec_len output.new ≤ vec_len output.old + iso_offset_width config.now }
     ensures agrees { V.agrees state.new value.now }
 {
-    if config.has_time() && value.offset_is_utc(state) {
+    if is_zed(config, value, state) {
         return Ok(write(output, "Z"));
     }
     if value.offset_second(state).get() != 0 {
@@ -44,6 +45,18 @@ pub fn format_offset<V: ComponentProvider>(
     let hours = write_offset_hours(output, value, state);
     let minutes = write_offset_minutes(config, output, value, state)?;
     Ok(hours + minutes)
+}
+
+// Whether a `Z` is written: for UTC, where the configuration formats a time.
+#[inline(always)]
+fn is_zed<V: ComponentProvider>(config: &Config, value: &V, state: &mut V::State) -> bool
+    requires supplied { IsTrue V.SUPPLIES_OFFSET }
+    requires agrees { V.agrees state.old value.now }
+    ensures value { IfSome (V.facts value.now).offset
+        (λ o. result ≡ has_time config.now.formatted_components && is_utc o) }
+    ensures agrees { V.agrees state.new value.now }
+{
+    config.has_time() && value.offset_is_utc(state)
 }
 
 // Appends the minutes, where the configuration has them; else they are refused unless zero.

@@ -12,11 +12,10 @@ ghost use Rattle.time_known.specs.WellKnown.{clock_text};
 
 use crate::iso8601::config::{Config, DecimalSign, TimePrecision};
 use crate::parts::write_clock_time;
-use time_below::format_description::modifier;
-use time_below::format_description::modifier::Padding;
+use crate::pieces::write_pair;
 use time_digits::ru8;
 use time_fmt::Format;
-use time_fmt::writers::{fmt_hour_24, fmt_minute, format_decimals, write, write_if};
+use time_fmt::writers::{format_decimals, write, write_if};
 use time_provide::ComponentProvider;
 
 const NANOSECONDS_PER_SECOND: u64 = 1_000_000_000;
@@ -59,7 +58,8 @@ fn write_units<V: ComponentProvider>(
     requires room { HasRoom output.old (units_width config.now.time_precision config.now) }
     requires agrees { V.agrees state.old value.now }
     ensures writes { IfSome (V.facts value.now).time
-        (λ t. Writes output.old output.new result (units_text config.now.time_precision config.now t)) }
+        (λ t. Writes output.old output.new result
+        (units_text config.now.time_precision config.now t)) }
     ensures real { IfSome (V.facts value.now).time IsTimeOfDay }
     ensures within { vec_len output.new
         ≤ vec_len output.old + units_width config.now.time_precision config.now }
@@ -100,8 +100,7 @@ fn write_to_hour<V: ComponentProvider>(
         ≤ vec_len output.old + (2 + decimal_part_width decimal_digits) }
     ensures agrees { V.agrees state.new value.now }
 {
-    let padding = Padding::Zero;
-    let hour = fmt_hour_24(output, value.hour(state), modifier::Hour24 { padding });
+    let hour = write_pair(output, value.hour(state).expand());
     let rest = nanoseconds_of_hour(value, state);
     let sign = config.decimal_sign();
     hour + write_decimals(output, rest, NANOSECONDS_PER_HOUR, sign, decimal_digits)
@@ -131,10 +130,9 @@ fn write_to_minute<V: ComponentProvider>(
         + (4 + length (separator config.now (codes ":")) + decimal_part_width decimal_digits) }
     ensures agrees { V.agrees state.new value.now }
 {
-    let padding = Padding::Zero;
-    let hour = fmt_hour_24(output, value.hour(state), modifier::Hour24 { padding });
+    let hour = write_pair(output, value.hour(state).expand());
     let colon = write(output, config.separator(":"));
-    let minute = fmt_minute(output, value.minute(state), modifier::Minute { padding });
+    let minute = write_pair(output, value.minute(state).expand());
     let rest = nanoseconds_of_minute(value, state);
     let sign = config.decimal_sign();
     hour + colon
