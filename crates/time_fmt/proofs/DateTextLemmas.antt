@@ -139,5 +139,3 @@ pub ruleset year_lengths = (length-extended_year_text, length-standard_year_text
 pub ruleset century_lengths = (length-extended_century_text, length-standard_century_text)
 
 pub ruleset day_lengths = (two_places, three_places)
-
-pub ruleset date_text_lengths = (two_places, three_places, length-extended_year_text, length-standard_year_text, length-extended_century_text, length-standard_century_text, length-month_name, length-weekday_name, length-short_name, length-monday_digit, length-sunday_digit)

@@ -32,7 +32,6 @@ use time_provide::ComponentProvider;
 /// Appends the text of a component that is met often and never refused, where the value supplies its
 /// part, and answers the number of bytes. Of any other component it writes nothing, and answers nothing.
 #[inline(always)]
-#[tactic(auto, using(crate::proofs::TextLemmas::text_lengths, crate::proofs::DateTextLemmas::date_text_lengths, crate::proofs::DecimalLemmas::decimal_lengths))]
 pub(crate) fn write_common<V: ComponentProvider>(
     component: Component,
     output: &mut Vec<u8>,
@@ -104,7 +103,6 @@ pub fn component_write_into<V: ComponentProvider>(
 
 /// The same of a component that is not deprecated.
 #[inline]
-#[tactic(auto, using(crate::proofs::TextLemmas::text_lengths, crate::proofs::DateTextLemmas::date_text_lengths, crate::proofs::DecimalLemmas::decimal_lengths))]
 fn current_write_into<V: ComponentProvider>(
     component: Component,
     output: &mut Vec<u8>,
