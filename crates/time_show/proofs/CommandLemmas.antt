@@ -50,9 +50,3 @@ pub iso_comma_name : (xs : List ℕ) → length xs ≡ 9 → get_or xs 0 0 ≡ 1
     → get_or xs 8 0 ≡ 97 → xs ≡ codes "iso-comma"
 iso_comma_name (a ∷ b ∷ c ∷ d ∷ e ∷ f ∷ g ∷ h ∷ i ∷ []) len p q r s t u v w x = rw (p, q, r, s, t, u, v, w, x) refl
 iso_comma_name xs len p q r s t u v w x = absurd (grind arith)
-
--- a text of seven bytes, by each of them
-pub seven_bytes : (xs : List ℕ) (a b c d e f g : ℕ) → length xs ≡ 7 → get_or xs 0 0 ≡ a → get_or xs 1 0 ≡ b → get_or xs 2 0 ≡ c
-    → get_or xs 3 0 ≡ d → get_or xs 4 0 ≡ e → get_or xs 5 0 ≡ f → get_or xs 6 0 ≡ g → xs ≡ a ∷ b ∷ c ∷ d ∷ e ∷ f ∷ g ∷ []
-seven_bytes (h ∷ i ∷ j ∷ k ∷ l ∷ m ∷ n ∷ []) a b c d e f g len p q r s t u v = rw (p, q, r, s, t, u, v) refl
-seven_bytes xs a b c d e f g len p q r s t u v = absurd (grind arith)

@@ -2,8 +2,6 @@
 use Rattle.std.specs.Prelude.{ℕ, ℤ, Option, Some, None, List, [], ◌∷◌, codes, bytes_eq, option_map, option_and_then, if◌then◌else◌}
 use Rattle.time_show.specs.declared.command.Command.{Command}
 use Rattle.time_show.specs.declared.command.Command.TheVariants.{Time, Rfc3339, Rfc2822, Iso, IsoComma, Stamp}
-use Rattle.time_show.specs.declared.command.Name.{Name}
-use Rattle.time_show.specs.declared.command.Name.TheVariants as name
 use Rattle.time_show.specs.declared.value.DateTimeNumbers.{DateTimeNumbers}
 use Rattle.time_show.specs.declared.value.TimeNumbers.{TimeNumbers}
 use Rattle.time_show.specs.declared.value.UtcNumbers.{UtcNumbers}
@@ -35,30 +33,17 @@ utc_numbers (Some (year ∷ month ∷ day ∷ hour ∷ minute ∷ second ∷ nan
     })
 utc_numbers _ = None
 
--- the command of a name
-abbrev pub name_of : List ℕ → Option Name
-name_of field =
-    if bytes_eq field (codes "time") then Some name.Time
-    else (if bytes_eq field (codes "rfc3339") then Some name.Rfc3339
-    else (if bytes_eq field (codes "rfc2822") then Some name.Rfc2822
-    else (if bytes_eq field (codes "iso") then Some name.Iso
-    else (if bytes_eq field (codes "iso-comma") then Some name.IsoComma
-    else (if bytes_eq field (codes "stamp") then Some name.Stamp
-    else None)))))
-
--- a command of this name, with the numbers that the fields spell
-abbrev pub with_numbers : Name → List (List ℕ) → Option Command
-with_numbers name.Time fields = option_map Time (time_numbers (numbers_of fields))
-with_numbers name.Rfc3339 fields = option_map Rfc3339 (date_time_numbers (numbers_of fields))
-with_numbers name.Rfc2822 fields = option_map Rfc2822 (date_time_numbers (numbers_of fields))
-with_numbers name.Iso fields = option_map Iso (date_time_numbers (numbers_of fields))
-with_numbers name.IsoComma fields = option_map IsoComma (date_time_numbers (numbers_of fields))
-with_numbers name.Stamp fields = option_map Stamp (utc_numbers (numbers_of fields))
-
 -- a name, and the fields after it
 abbrev pub command_of_fields : List (List ℕ) → Option Command
 command_of_fields [] = None
-command_of_fields (field ∷ fields) = option_and_then (λ command. with_numbers command fields) (name_of field)
+command_of_fields (name ∷ fields) =
+    if bytes_eq name (codes "time") then option_map Time (time_numbers (numbers_of fields))
+    else (if bytes_eq name (codes "rfc3339") then option_map Rfc3339 (date_time_numbers (numbers_of fields))
+    else (if bytes_eq name (codes "rfc2822") then option_map Rfc2822 (date_time_numbers (numbers_of fields))
+    else (if bytes_eq name (codes "iso") then option_map Iso (date_time_numbers (numbers_of fields))
+    else (if bytes_eq name (codes "iso-comma") then option_map IsoComma (date_time_numbers (numbers_of fields))
+    else (if bytes_eq name (codes "stamp") then option_map Stamp (utc_numbers (numbers_of fields))
+    else None)))))
 
 -- what a line asks for, if it is a command and not too long
 abbrev pub command_of : List ℕ → Option Command

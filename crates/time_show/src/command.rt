@@ -1,6 +1,6 @@
 //! What a line asks for.
 ghost use Rattle.std.specs.Prelude.{◌≡◌, ◌≤◌, length};
-ghost use Rattle.time_show.specs.Command.{command_of, name_of, time_numbers, date_time_numbers, utc_numbers};
+ghost use Rattle.time_show.specs.Command.{command_of, time_numbers, date_time_numbers, utc_numbers};
 ghost use Rattle.time_show.specs.Fields.{numbers_of};
 
 use crate::fields::{Fields, numbers};
@@ -25,45 +25,19 @@ pub enum Command {
     Stamp(UtcNumbers),
 }
 
-/// The name of a command.
-#[derive(Clone, Copy)]
-enum Name {
-    Time,
-    Rfc3339,
-    Rfc2822,
-    Iso,
-    IsoComma,
-    Stamp,
-}
-
 /// The command that a line is, and nothing for a line that is none.
 pub fn command_in(line: &[u8]) -> Option<Command>
     requires { length line.now ≤ LINE_LIMIT }
     ensures { result ≡ command_of line.now }
 {
     let mut fields = Fields::new(line);
-    match name_in(fields.next()?)? {
-        Name::Time => time_numbers(fields).map(Command::Time),
-        Name::Rfc3339 => date_time_numbers(fields).map(Command::Rfc3339),
-        Name::Rfc2822 => date_time_numbers(fields).map(Command::Rfc2822),
-        Name::Iso => date_time_numbers(fields).map(Command::Iso),
-        Name::IsoComma => date_time_numbers(fields).map(Command::IsoComma),
-        Name::Stamp => utc_numbers(fields).map(Command::Stamp),
-    }
-}
-
-/// The command whose name a field is, without its numbers.
-#[inline(always)]
-fn name_in(field: &[u8]) -> Option<Name>
-    ensures { result ≡ name_of field.now }
-{
-    match field {
-        b"time" => Some(Name::Time),
-        b"rfc3339" => Some(Name::Rfc3339),
-        b"rfc2822" => Some(Name::Rfc2822),
-        b"iso" => Some(Name::Iso),
-        b"iso-comma" => Some(Name::IsoComma),
-        b"stamp" => Some(Name::Stamp),
+    match fields.next()? {
+        b"time" => time_numbers(fields).map(Command::Time),
+        b"rfc3339" => date_time_numbers(fields).map(Command::Rfc3339),
+        b"rfc2822" => date_time_numbers(fields).map(Command::Rfc2822),
+        b"iso" => date_time_numbers(fields).map(Command::Iso),
+        b"iso-comma" => date_time_numbers(fields).map(Command::IsoComma),
+        b"stamp" => utc_numbers(fields).map(Command::Stamp),
         _ => None,
     }
 }
