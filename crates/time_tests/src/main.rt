@@ -1,5 +1,5 @@
-//! The rows of all crates, by public calls alone: tests of what no contract says, in one crate, so that
-//! no library is proved once more beside its tests.
+//! The rows of `time_below`, `time_fmt` and `time_known`, by public calls alone: tests of what no contract
+//! says, in one crate, so that these libraries are not proved once more beside their tests.
 //!
 //! The program formats by several descriptions, and tells what came of each call. Run by
 //! `rt try --fail-alloc N` it has the Nth of its requests for memory refused. A call that is refused
