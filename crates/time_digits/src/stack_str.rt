@@ -85,26 +85,27 @@ impl<const N: usize> StackTrailingStr<N> {
 #[cfg(test)]
 mod tests {
     use super::*;
+    use crate::same::assert_same;
 
     #[test]
     fn first_bytes(rt: HostRuntime) {
         let text = StackStr::new(*b"12000", 2);
-        assert_eq!(rt; text.as_str(), "12");
-        assert_eq!(rt; text.len(), 2);
+        assert_same(&rt, text.as_str(), "12");
+        assert_same(&rt, text.len(), 2);
         let copy = text;
-        assert_eq!(rt; copy.as_str(), text.as_str());
-        assert_eq!(rt; StackStr::new(*b"12", 2).as_str(), "12");
-        assert_eq!(rt; StackStr::new(*b"12", 0).as_str(), "");
+        assert_same(&rt, copy.as_str(), text.as_str());
+        assert_same(&rt, StackStr::new(*b"12", 2).as_str(), "12");
+        assert_same(&rt, StackStr::new(*b"12", 0).as_str(), "");
     }
 
     #[test]
     fn last_bytes(rt: HostRuntime) {
         let text = StackTrailingStr::new(*b"00042", 3);
-        assert_eq!(rt; text.as_str(), "42");
-        assert_eq!(rt; text.len(), 2);
+        assert_same(&rt, text.as_str(), "42");
+        assert_same(&rt, text.len(), 2);
         let copy = text;
-        assert_eq!(rt; copy.as_str(), text.as_str());
-        assert_eq!(rt; StackTrailingStr::new(*b"42", 0).as_str(), "42");
-        assert_eq!(rt; StackTrailingStr::new(*b"42", 2).as_str(), "");
+        assert_same(&rt, copy.as_str(), text.as_str());
+        assert_same(&rt, StackTrailingStr::new(*b"42", 0).as_str(), "42");
+        assert_same(&rt, StackTrailingStr::new(*b"42", 2).as_str(), "");
     }
 }

@@ -1,9 +1,15 @@
 //! Which entries a state holds, and components of dates, times and moments from outside.
+use std::fmt::Debug;
 use std::process::Abort;
 use time_below::{Date, Month, Time, Timestamp, UtcOffset};
 
 mod components;
 mod states;
+
+// One comparison for all types, so that no test proves it again.
+fn assert_same<T: PartialEq + Debug + Copy>(rt: &impl Abort, found: T, wanted: T) {
+    assert_eq!(rt; found, wanted);
+}
 
 fn date_at(rt: &impl Abort, year: i32, month: Month, day: u8) -> Date {
     let Ok(date) = Date::from_calendar_date(year, month, day) else {

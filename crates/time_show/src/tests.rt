@@ -5,9 +5,16 @@ mod streams;
 mod values;
 
 use std::alloc::Global;
+use std::fmt::Debug;
 use std::io;
 use std::io::{ErrorKind, Read, Write};
+use std::process::Abort;
 use std::test::Fail;
+
+/// One comparison for all types, so that no test proves it again.
+fn assert_same<T: PartialEq + Debug + Copy>(rt: &impl Abort, found: T, wanted: T) {
+    assert_eq!(rt; found, wanted);
+}
 
 /// The stored run.
 const INPUT: &[u8] = b"time 9 55 6 120000000\ntime 0 0 0 0\ntime 24 0 0 0\ntime 1 2\n\
@@ -16,7 +23,7 @@ rfc2822 1899 12 31 0 0 0 0 0 0 0\niso 1997 11 12 9 55 6 0 -6 0 0\niso 2000 1 1 0
 iso-comma 1997 11 12 9 55 6 0 -6 0 0\nstamp 1997 11 12 15 55 6 0";
 
 /// Its answers, one after another.
-const ANSWERS: [&[u8]; 11] = [
+const ANSWERS: &[&[u8]] = &[
     b"ok 11 18 09:55:06.12\n",
     b"ok 10 18 00:00:00.0\n",
     b"refused 0 hour\n",

@@ -48,7 +48,7 @@ const DATE: [bool; 2] = [true, false];
 const TIME: [bool; 2] = [false, true];
 
 // What a fresh state of a date holds after each method, and what one of a moment holds beside it.
-const ENTRIES: [(Method, [bool; 4], [bool; 2]); 21] = [
+const ENTRIES: &[(Method, [bool; 4], [bool; 2])] = &[
     (Method::Day, DAY_AND_MONTH, DATE),
     (Method::Month, MONTH, DATE),
     (Method::Ordinal, NOTHING, DATE),
@@ -168,8 +168,8 @@ fn either(a: [bool; 4], b: [bool; 4]) -> [bool; 4] {
 
 // After two methods in turn the state holds the entries of both: what is held is kept.
 fn check_entries<V: ComponentProvider<State = DateState>>(rt: &impl Abort, value: &V) {
-    for (first, of_first, _) in ENTRIES {
-        for (second, of_second, _) in ENTRIES {
+    for &(first, of_first, _) in ENTRIES {
+        for &(second, of_second, _) in ENTRIES {
             let state = state_after(value, first, second);
             assert_eq!(rt;
                 held(&state),
@@ -210,8 +210,8 @@ fn entries_of_offset_date_times(rt: HostRuntime) {
 #[test]
 fn entries_of_moments(rt: HostRuntime) {
     let moment = moment_at(&rt, -1, 999_500_000);
-    for (first, of_first, beside_first) in ENTRIES {
-        for (second, of_second, beside_second) in ENTRIES {
+    for &(first, of_first, beside_first) in ENTRIES {
+        for &(second, of_second, beside_second) in ENTRIES {
             let state = state_after(&moment, first, second);
             assert_eq!(rt;
                 held(&state.date_state),

@@ -3,13 +3,14 @@ ghost use Rattle.std.specs.Prelude.{ℕ, List, IfOk};
 ghost use Rattle.time_show.specs.Answer.{AreAnswers};
 ghost use Rattle.time_show.specs.Lines.{lines_of};
 
+use super::assert_same;
 use crate::laws::lines_spell_their_text;
 use crate::run::{ShowError, run};
 use std::alloc::Global;
 use std::test::Fail;
 
 /// A line and its answer.
-const LINES: [(&[u8], &[u8]); 54] = [
+const LINES: &[(&[u8], &[u8])] = &[
     (b"time 9 55 6 999999999\n", b"ok 18 18 09:55:06.999999999\n"),
     (b"time -0 0 0 0\n", b"ok 10 18 00:00:00.0\n"),
     (b"time 23 59 59 1\n", b"ok 18 18 23:59:59.000000001\n"),
@@ -106,15 +107,15 @@ fn answers_each_line(rt: HostRuntime) -> Result<(), Fail> {
     for (line, answer) in LINES.iter() {
         let mut source = *line;
         let mut output = Vec::new(rt.alloc());
-        assert_eq!(rt; run(rt.alloc(), &mut source, &mut output), Ok(()));
-        assert_eq!(rt; output.as_slice(), *answer);
+        assert_same(&rt, run(rt.alloc(), &mut source, &mut output), Ok(()));
+        assert_same(&rt, output.as_slice(), *answer);
         all.extend_from_slice(line)?;
         expected.extend_from_slice(answer)?;
     }
     let mut source = all.as_slice();
     let mut output = Vec::new(rt.alloc());
-    assert_eq!(rt; run(rt.alloc(), &mut source, &mut output), Ok(()));
-    assert_eq!(rt; output.as_slice(), expected.as_slice());
+    assert_same(&rt, run(rt.alloc(), &mut source, &mut output), Ok(()));
+    assert_same(&rt, output.as_slice(), expected.as_slice());
     Ok(())
 }
 
@@ -128,7 +129,7 @@ fn answers_a_good_line_after_a_long_one(rt: HostRuntime) -> Result<(), Fail> {
         input.extend_from_slice(b"\ntime 0 0 0 0")?;
         let mut source = input.as_slice();
         let mut output = Vec::new(rt.alloc());
-        assert_eq!(rt; run(rt.alloc(), &mut source, &mut output), Ok(()));
+        assert_same(&rt, run(rt.alloc(), &mut source, &mut output), Ok(()));
         assert_eq!(rt;
             output.as_slice(),
             b"bad line\nok 10 18 00:00:00.0\n".as_slice(),
@@ -149,7 +150,7 @@ fn answers_many_lines(rt: HostRuntime) -> Result<(), Fail> {
     }
     let mut source = input.as_slice();
     let mut output = Vec::new(rt.alloc());
-    assert_eq!(rt; run(rt.alloc(), &mut source, &mut output), Ok(()));
+    assert_same(&rt, run(rt.alloc(), &mut source, &mut output), Ok(()));
     assert!(rt; output.as_slice() == expected.as_slice());
     Ok(())
 }
@@ -166,9 +167,10 @@ fn answer_all(alloc: Global, input: &[u8]) -> Result<Vec<u8>, ShowError>
 
 #[test]
 fn answers_known_bytes(rt: HostRuntime) -> Result<(), Fail> {
-    assert_eq!(rt;
+    assert_same(
+        &rt,
         answer_all(rt.alloc(), b"time 0 0 0 0").map(|text| text.len()),
-        Ok(20)
+        Ok(20),
     );
     Ok(())
 }

@@ -1,6 +1,7 @@
 //! The run where memory is refused.
 ghost use Rattle.std.specs.Prelude.{◌≤◌};
 
+use super::assert_same;
 use crate::run::run;
 use std::alloc::{AllocError, Global};
 use std::io;
@@ -37,7 +38,7 @@ fn goes_on_after_a_refusal(rt: HostRuntime) {
         bytes: [0; 128],
         len: 0,
     };
-    assert_eq!(rt; run(rt.alloc(), &mut source, &mut page), Ok(()));
+    assert_same(&rt, run(rt.alloc(), &mut source, &mut page), Ok(()));
     let written = &page.bytes[..page.len];
     let all: [&[u8]; 4] = [
         b"ok 10 18 01:00:00.0\nbad line\nok 10 18 02:00:00.0\nok 10 18 03:00:00.0\n",
@@ -69,8 +70,8 @@ fn assert_answer(rt: &impl Abort, alloc: Global, answer: &[u8]) {
         bytes: [0; 128],
         len: 0,
     };
-    assert_eq!(rt; run(alloc, &mut source, &mut page), Ok(()));
-    assert_eq!(rt; &page.bytes[..page.len], answer);
+    assert_same(&rt, run(alloc, &mut source, &mut page), Ok(()));
+    assert_same(&rt, &page.bytes[..page.len], answer);
 }
 
 /// Where no memory is left the value is refused. One of the smallest vectors given back is enough

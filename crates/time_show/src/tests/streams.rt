@@ -1,4 +1,5 @@
 //! Readers that give little, writers that take little, and such as fail.
+use super::assert_same;
 use crate::run::{ShowError, run, status};
 use crate::tests::{ANSWERS, INPUT, Sink, Source, answers};
 use std::test::Fail;
@@ -14,10 +15,11 @@ fn answers_all_lines(rt: HostRuntime) -> Result<(), Fail> {
         let mut sink = Sink::new(rt.alloc(), step, 1000);
         let outcome = run(rt.alloc(), &mut source, &mut sink);
         assert_eq!(rt; outcome, Ok(()), "at {step}");
-        assert_eq!(rt; status(&outcome), 0);
-        assert_eq!(rt;
+        assert_same(&rt, status(&outcome), 0);
+        assert_same(
+            &rt,
             sink.bytes.as_slice(),
-            answers(rt.alloc(), ANSWERS.len())?.as_slice()
+            answers(rt.alloc(), ANSWERS.len())?.as_slice(),
         );
     }
     Ok(())
@@ -32,19 +34,24 @@ fn writes_before_each_read(rt: HostRuntime) -> Result<(), Fail> {
         calls: 3,
     };
     let mut sink = Sink::new(rt.alloc(), 100, 2);
-    assert_eq!(rt; run(rt.alloc(), &mut source, &mut sink), Ok(()));
-    assert_eq!(rt; sink.calls, 0);
+    assert_same(&rt, run(rt.alloc(), &mut source, &mut sink), Ok(()));
+    assert_same(&rt, sink.calls, 0);
     let mut source = Source {
         bytes: b"time 0 0 0 0\nno\nno\n",
         step: 13,
         calls: 1,
     };
     let mut sink = Sink::new(rt.alloc(), 100, 2);
-    assert_eq!(rt;
+    assert_same(
+        &rt,
         run(rt.alloc(), &mut source, &mut sink),
-        Err(ShowError::Read)
+        Err(ShowError::Read),
     );
-    assert_eq!(rt; sink.bytes.as_slice(), b"ok 10 18 00:00:00.0\n".as_slice());
+    assert_same(
+        &rt,
+        sink.bytes.as_slice(),
+        b"ok 10 18 00:00:00.0\n".as_slice(),
+    );
     Ok(())
 }
 
@@ -63,7 +70,7 @@ fn fails_at_each_read(rt: HostRuntime) -> Result<(), Fail> {
         let mut output = Vec::new(rt.alloc());
         let outcome = run(rt.alloc(), &mut source, &mut output);
         assert_eq!(rt; outcome, Err(ShowError::Read), "at {calls}");
-        assert_eq!(rt; status(&outcome), 1);
+        assert_same(&rt, status(&outcome), 1);
         assert_eq!(rt;
             output.as_slice(),
             answers(rt.alloc(), count)?.as_slice(),
@@ -83,7 +90,7 @@ fn fails_at_each_write(rt: HostRuntime) -> Result<(), Fail> {
             sink.takes_none = takes_none;
             let outcome = run(rt.alloc(), &mut source, &mut sink);
             assert_eq!(rt; outcome, Err(ShowError::Write), "at {calls}");
-            assert_eq!(rt; status(&outcome), 1);
+            assert_same(&rt, status(&outcome), 1);
             assert_eq!(rt;
                 sink.bytes.as_slice(),
                 &all.as_slice()[..calls],
@@ -135,15 +142,15 @@ fn makes_as_many_reads_as_there_are_bytes(rt: HostRuntime) -> Result<(), Fail> {
         calls: 100_001,
     };
     let mut output = Vec::new(rt.alloc());
-    assert_eq!(rt; run(rt.alloc(), &mut source, &mut output), Ok(()));
-    assert_eq!(rt; source.calls, 0);
+    assert_same(&rt, run(rt.alloc(), &mut source, &mut output), Ok(()));
+    assert_same(&rt, source.calls, 0);
     assert!(rt; output.as_slice() == expected.as_slice());
     Ok(())
 }
 
 /// How many answers of 9 bytes and then of 20 and of 21 bytes one block asks for, and what each
 /// write takes. The buffer holds 4,096 bytes.
-const WRITES: [((usize, usize, usize), &[usize]); 4] = [
+const WRITES: &[((usize, usize, usize), &[usize])] = &[
     // They fill the buffer to its last byte.
     ((444, 5, 0), &[4096]),
     // One more goes out behind a full buffer.
@@ -156,7 +163,7 @@ const WRITES: [((usize, usize, usize), &[usize]); 4] = [
 
 #[test]
 fn writes_whole_answers(rt: HostRuntime) -> Result<(), Fail> {
-    for ((nine, twenty, twenty_one), lengths) in WRITES {
+    for &((nine, twenty, twenty_one), lengths) in WRITES {
         let mut source = Vec::new(rt.alloc());
         for _ in 0..nine {
             source.extend_from_slice(b"no\n")?;
@@ -168,8 +175,12 @@ fn writes_whole_answers(rt: HostRuntime) -> Result<(), Fail> {
             source.extend_from_slice(b"time 9 55 6 120000000\n")?;
         }
         let mut sink = Sink::new(rt.alloc(), 8192, 100);
-        assert_eq!(rt; run(rt.alloc(), &mut source.as_slice(), &mut sink), Ok(()));
-        assert_eq!(rt; sink.lengths.as_slice(), lengths);
+        assert_same(
+            &rt,
+            run(rt.alloc(), &mut source.as_slice(), &mut sink),
+            Ok(()),
+        );
+        assert_same(&rt, sink.lengths.as_slice(), lengths);
     }
     Ok(())
 }

@@ -1,4 +1,5 @@
 //! The values that numbers give, and the names of the parts that are out of range.
+use super::assert_same;
 use crate::command::date_time_numbers;
 use crate::fields::Fields;
 use crate::value::{
@@ -8,7 +9,7 @@ use std::process::Abort;
 use time_below::{Month, OffsetDateTime};
 
 /// The names of the parts, in the order of the fields.
-const NAMES: [&str; 10] = [
+const NAMES: &[&str; 10] = &[
     "year",
     "month",
     "day",
@@ -22,7 +23,7 @@ const NAMES: [&str; 10] = [
 ];
 
 /// Numbers in their ranges, each followed by one past its range.
-const EDGES: [[(i32, i32); 10]; 3] = [
+const EDGES: &[[(i32, i32); 10]] = &[
     // Above the greatest.
     [
         (999_999, 1_000_000),
@@ -103,7 +104,7 @@ fn the_first_part_that_is_out_of_range_is_named(rt: HostRuntime) {
             for k in 0..10usize {
                 all[k] = if k < i { edges[k].0 } else { edges[k].1 };
             }
-            assert_eq!(rt; refused(all), Some(NAMES[i]));
+            assert_same(&rt, refused(all), Some(NAMES[i]));
         }
     }
 }
@@ -116,14 +117,14 @@ fn a_part_alone_is_named(rt: HostRuntime) {
         for k in 0..10usize {
             all[k] = edges[k].0;
         }
-        assert_eq!(rt; refused(all), None);
+        assert_same(&rt, refused(all), None);
         for i in 0..10usize {
             let mut one = all;
             one[i] = edges[i].1;
-            assert_eq!(rt; refused(one), Some(NAMES[i]));
+            assert_same(&rt, refused(one), Some(NAMES[i]));
             if i != 6 {
                 one[i] = 999_999_999;
-                assert_eq!(rt; refused(one), Some(NAMES[i]));
+                assert_same(&rt, refused(one), Some(NAMES[i]));
             }
         }
     }
@@ -140,9 +141,10 @@ fn the_month_sets_the_days(rt: HostRuntime) {
         ([1999, 12, 31], false),
     ] {
         let expected = if is_refused { Some("day") } else { None };
-        assert_eq!(rt;
+        assert_same(
+            &rt,
             refused([date[0], date[1], date[2], 0, 0, 0, 0, 0, 0, 0]),
-            expected
+            expected,
         );
     }
 }
@@ -161,12 +163,13 @@ fn value(rt: &impl Abort, line: &[u8]) -> OffsetDateTime {
 #[test]
 fn ten_numbers_give_a_date_and_time(rt: HostRuntime) {
     let value = value(&rt, b"1997 11 12 9 55 6 120000000 -6 0 0");
-    assert_eq!(rt;
+    assert_same(
+        &rt,
         value.date().to_calendar_date(),
-        (1997, Month::November, 12)
+        (1997, Month::November, 12),
     );
-    assert_eq!(rt; value.time().as_hms_nano(), (9, 55, 6, 120_000_000));
-    assert_eq!(rt; value.offset().as_hms(), (-6, 0, 0));
+    assert_same(&rt, value.time().as_hms_nano(), (9, 55, 6, 120_000_000));
+    assert_same(&rt, value.offset().as_hms(), (-6, 0, 0));
     for line in [
         b"1997 11 12 9 55 6 0 -6 0".as_slice(),
         b"1997 11 12 9 55 6 0 -6 0 0 0".as_slice(),
@@ -185,6 +188,6 @@ fn mixed_signs_are_settled(rt: HostRuntime) {
         (b"2000 1 1 0 0 0 0 -1 30 0".as_slice(), (-1, -30, 0)),
         (b"2000 1 1 0 0 0 0 0 1 -1".as_slice(), (0, 1, 1)),
     ] {
-        assert_eq!(rt; value(&rt, line).offset().as_hms(), parts);
+        assert_same(&rt, value(&rt, line).offset().as_hms(), parts);
     }
 }

@@ -1,0 +1,58 @@
+//! Each call once, the refusals by their names, and texts that no clause states. Rows of the
+//! calendar, of moments and of the tables of components are proved of the definitions.
+mod dates;
+mod descriptions;
+mod moments;
+
+use crate::texts::{assert_same, assert_that};
+use crate::values::time_at;
+use std::test::Fail;
+use time_below::{ComponentRange, Time};
+
+#[test]
+fn a_time_of_day(rt: HostRuntime) {
+    let time = time_at(&rt, 23, 59, 59, 999_999_999);
+    assert_same(&rt, time.as_hms_nano(), (23, 59, 59, 999_999_999));
+    assert_same(&rt, time.hour(), 23);
+}
+
+const REFUSED: &[(u8, u8, u8, u32, &str)] = &[
+    (24, 60, 60, 1_000_000_000, "hour"),
+    (23, 60, 60, 1_000_000_000, "minute"),
+    (23, 59, 60, 1_000_000_000, "second"),
+    (23, 59, 59, 1_000_000_000, "nanosecond"),
+];
+
+#[test]
+fn refused_times(rt: HostRuntime) {
+    for &(hour, minute, second, nanosecond, name) in REFUSED {
+        let Err(refusal) = Time::from_hms_nano(hour, minute, second, nanosecond) else {
+            panic!(rt; "accepted {name}");
+        };
+        assert_same(&rt, refusal, ComponentRange::unconditional(name));
+    }
+}
+
+#[test]
+fn refusals_are_shown(rt: HostRuntime) -> Result<(), Fail> {
+    let hour = ComponentRange::unconditional("hour");
+    assert_same(
+        &rt,
+        hour.to_string(rt.alloc())?.as_str(),
+        "The hour component is out of range.",
+    );
+    let day = ComponentRange::conditional("day");
+    assert_same(
+        &rt,
+        day.to_string(rt.alloc())?.as_str(),
+        "The day component is out of range, given the other components.",
+    );
+    Ok(())
+}
+
+#[test]
+fn parts_of_a_refusal(rt: HostRuntime) {
+    let refusal = ComponentRange::conditional("day");
+    assert_same(&rt, refusal.name(), "day");
+    assert_that(&rt, refusal.is_conditional());
+}

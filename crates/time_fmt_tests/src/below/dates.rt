@@ -1,0 +1,89 @@
+//! Dates, weekdays and weeks.
+use crate::texts::assert_same;
+use crate::values::date_at;
+use std::process::Abort;
+use time_below::{ComponentRange, Date, Month, Weekday};
+
+#[test]
+fn parts_of_a_date(rt: HostRuntime) {
+    let date = date_at(&rt, 1997, Month::November, 12);
+    assert_same(&rt, date.to_calendar_date(), (1997, Month::November, 12));
+    assert_same(&rt, u8::from(date.month()), 11);
+    assert_same(&rt, (date.year(), date.ordinal()), (1997, 316));
+}
+
+#[test]
+fn weeks_of_a_date(rt: HostRuntime) {
+    let date = date_at(&rt, 2010, Month::January, 3);
+    assert_same(&rt, date.iso_year_week(), (2009, 53));
+    assert_same(&rt, date.monday_based_week(), 0);
+    assert_same(&rt, date.sunday_based_week(), 1);
+}
+
+#[test]
+fn weekdays_of_dates(rt: HostRuntime) {
+    let leap_day = date_at(&rt, 2000, Month::February, 29);
+    assert_same(&rt, leap_day.weekday(), Weekday::Tuesday);
+    assert_same(
+        &rt,
+        date_at(&rt, -999_999, Month::January, 1).weekday(),
+        Weekday::Monday,
+    );
+    assert_same(
+        &rt,
+        date_at(&rt, 999_999, Month::December, 31).weekday(),
+        Weekday::Friday,
+    );
+}
+
+const REFUSED_DATES: &[(i32, Month, u8, &str, bool)] = &[
+    (1_000_000, Month::January, 0, "year", false),
+    (1900, Month::February, 29, "day", true),
+    (2023, Month::January, 0, "day", true),
+];
+
+/// Compares the name that is refused, and whether it depends on other parts.
+fn assert_refusal(rt: &impl Abort, refusal: ComponentRange, name: &str, is_conditional: bool) {
+    assert_eq!(rt; refusal.name(), name);
+    assert!(rt; refusal.is_conditional() == is_conditional);
+}
+
+#[test]
+fn refused_calendar_dates(rt: HostRuntime) {
+    for &(year, month, day, name, is_conditional) in REFUSED_DATES {
+        let Err(refusal) = Date::from_calendar_date(year, month, day) else {
+            panic!(rt; "accepted day {day} of {year}");
+        };
+        assert_refusal(&rt, refusal, name, is_conditional);
+    }
+}
+
+const REFUSED_ORDINALS: &[(i32, u16, &str, bool)] = &[
+    (-1_000_000, 0, "year", false),
+    (2023, 366, "ordinal", true),
+];
+
+#[test]
+fn ordinal_dates(rt: HostRuntime) {
+    let Ok(date) = Date::from_ordinal_date(2024, 366) else {
+        panic!(rt; "refused");
+    };
+    assert_same(&rt, date.ordinal(), 366);
+    for &(year, ordinal, name, is_conditional) in REFUSED_ORDINALS {
+        let Err(refusal) = Date::from_ordinal_date(year, ordinal) else {
+            panic!(rt; "accepted ordinal {ordinal} of {year}");
+        };
+        assert_refusal(&rt, refusal, name, is_conditional);
+    }
+}
+
+const NUMBERED: &[(Weekday, u8, u8)] = &[(Weekday::Monday, 0, 1), (Weekday::Sunday, 6, 0)];
+
+#[test]
+fn numbers_of_weekdays(rt: HostRuntime) {
+    for &(weekday, from_monday, from_sunday) in NUMBERED {
+        assert_same(&rt, weekday.number_days_from_monday(), from_monday);
+        assert_same(&rt, weekday.number_days_from_sunday(), from_sunday);
+        assert_same(&rt, weekday.number_from_monday(), from_monday + 1);
+    }
+}

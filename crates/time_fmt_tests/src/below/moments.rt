@@ -1,0 +1,125 @@
+//! Offsets, date-times and timestamps.
+use crate::texts::{assert_same, assert_that};
+use crate::values::{offset_at, time_at, timestamp_at};
+use std::process::Abort;
+use time_below::{
+    ComponentRange, Date, OffsetDateTime, PlainDateTime, Time, Timestamp, UtcDateTime, UtcOffset,
+};
+
+/// The date of this day of the year.
+fn date_on(rt: &impl Abort, year: i32, ordinal: u16) -> Date {
+    let Ok(date) = Date::from_ordinal_date(year, ordinal) else {
+        panic!(rt; "no ordinal {ordinal} in {year}");
+    };
+    date
+}
+
+// The last second of a day.
+fn last_second(rt: &impl Abort) -> Time {
+    time_at(rt, 23, 59, 59, 5)
+}
+
+const OFFSETS: &[((i8, i8, i8), (i8, i8, i8))] = &[
+    ((1, -30, 0), (1, 30, 0)),
+    ((-1, 30, 0), (-1, -30, 0)),
+    ((0, 1, -1), (0, 1, 1)),
+    ((-25, -59, -59), (-25, -59, -59)),
+];
+
+#[test]
+fn signs_of_offsets(rt: HostRuntime) {
+    for &(given, settled) in OFFSETS {
+        let offset = offset_at(&rt, given.0, given.1, given.2);
+        assert_same(&rt, offset.as_hms(), settled);
+    }
+    let half_hour = offset_at(&rt, 0, -30, 0);
+    assert_that(&rt, half_hour.is_negative() && !half_hour.is_utc());
+    let utc = offset_at(&rt, 0, 0, 0);
+    assert_that(&rt, utc.is_utc() && !utc.is_negative());
+}
+
+const REFUSED_OFFSETS: &[(i8, i8, i8, &str)] = &[
+    (26, 60, 60, "hours"),
+    (0, 60, 60, "minutes"),
+    (-25, -59, -60, "seconds"),
+    (i8::MIN, 0, 0, "hours"),
+];
+
+#[test]
+fn refused_offsets(rt: HostRuntime) {
+    for &(hours, minutes, seconds, name) in REFUSED_OFFSETS {
+        let Err(refusal) = UtcOffset::from_hms(hours, minutes, seconds) else {
+            panic!(rt; "accepted {name}");
+        };
+        assert_same(&rt, refusal, ComponentRange::unconditional(name));
+    }
+}
+
+const TIMESTAMPS: &[(i64, u32, i64)] = &[
+    (31_494_784_780_799, 999_999_999, 31_494_784_780_799_999),
+    (-1, 999_500_000, 0),
+];
+
+#[test]
+fn parts_of_timestamps(rt: HostRuntime) {
+    for &(seconds, nanosecond, milliseconds) in TIMESTAMPS {
+        let stamp = timestamp_at(&rt, seconds, nanosecond);
+        assert_same(&rt, stamp.as_seconds(), seconds);
+        assert_same(&rt, stamp.as_parts(), (seconds, nanosecond));
+        assert_same(&rt, stamp.as_milliseconds(), milliseconds);
+    }
+}
+
+#[test]
+fn dates_and_times_of_timestamps(rt: HostRuntime) {
+    let stamp = timestamp_at(&rt, -1, 5);
+    assert_same(
+        &rt,
+        (stamp.date().year(), stamp.date().ordinal()),
+        (1969, 365),
+    );
+    assert_same(&rt, stamp.time().as_hms_nano(), (23, 59, 59, 5));
+}
+
+const REFUSED_TIMESTAMPS: &[(i64, u32, &str)] = &[
+    (31_494_784_780_800, 1_000_000_000, "seconds"),
+    (0, 1_000_000_000, "nanosecond"),
+];
+
+#[test]
+fn refused_timestamps(rt: HostRuntime) {
+    for &(seconds, nanosecond, name) in REFUSED_TIMESTAMPS {
+        let Err(refusal) = Timestamp::new(seconds, nanosecond) else {
+            panic!(rt; "accepted {seconds}");
+        };
+        assert_same(&rt, refusal, ComponentRange::unconditional(name));
+    }
+}
+
+#[test]
+fn utc_dates_and_times(rt: HostRuntime) {
+    let utc = UtcDateTime::new(date_on(&rt, 1969, 365), last_second(&rt));
+    assert_same(&rt, utc.unix_timestamp(), -1);
+    assert_same(&rt, utc.date().ordinal(), 365);
+    assert_same(&rt, utc.time().as_hms_nano(), (23, 59, 59, 5));
+}
+
+#[test]
+fn local_dates_and_times(rt: HostRuntime) {
+    let local = OffsetDateTime::new_in_offset(
+        date_on(&rt, 999_999, 365),
+        last_second(&rt),
+        offset_at(&rt, -25, -59, -59),
+    );
+    assert_same(&rt, local.unix_timestamp(), 31_494_784_874_398);
+    assert_same(&rt, local.date().year(), 999_999);
+    assert_same(&rt, local.time().hour(), 23);
+    assert_same(&rt, local.offset().as_hms(), (-25, -59, -59));
+}
+
+#[test]
+fn plain_dates_and_times(rt: HostRuntime) {
+    let plain = PlainDateTime::new(date_on(&rt, 2010, 3), last_second(&rt));
+    assert_same(&rt, plain.date().ordinal(), 3);
+    assert_same(&rt, plain.time().as_hms_nano(), (23, 59, 59, 5));
+}

@@ -1,0 +1,99 @@
+//! Printed texts of errors, and what they are converted to.
+use crate::texts::{assert_same, assert_that};
+use std::alloc::Global;
+use std::convert::TryFrom;
+use std::fmt::Display;
+use std::process::Abort;
+use std::test::Fail;
+use time_below::{ComponentRange, DifferentVariant};
+use time_fmt::{Error, Format};
+
+/// Compares a printed text.
+fn assert_printed<T: Display>(
+    rt: &impl Abort,
+    alloc: Global,
+    value: &T,
+    text: &str,
+) -> Result<(), Fail> {
+    let printed = format!(in alloc; "{value}")?;
+    assert_same(rt, printed.as_str(), text);
+    Ok(())
+}
+
+/// The same of an error by itself, and inside the outer one.
+fn assert_both_printed(
+    rt: &impl Abort,
+    alloc: Global,
+    error: Format,
+    text: &str,
+) -> Result<(), Fail> {
+    assert_printed(rt, alloc, &error, text)?;
+    assert_printed(rt, alloc, &Error::from(error), text)
+}
+
+const UNCONDITIONAL: &str = "The hour component is out of range.";
+
+const CONDITIONAL: &str = "The day component is out of range, given the other components.";
+
+const INSUFFICIENT: &str =
+    "The type being formatted does not contain sufficient information to format a \
+    component.";
+
+#[test]
+fn printed_texts(rt: HostRuntime) -> Result<(), Fail> {
+    let alloc = rt.alloc();
+    assert_both_printed(
+        &rt,
+        alloc,
+        Format::InsufficientTypeInformation,
+        INSUFFICIENT,
+    )?;
+    let text = "The year component cannot be formatted into the requested format.";
+    assert_both_printed(&rt, alloc, Format::InvalidComponent("year"), text)?;
+    let hour = Format::ComponentRange(ComponentRange::unconditional("hour"));
+    assert_both_printed(&rt, alloc, hour, UNCONDITIONAL)?;
+    let day = Format::ComponentRange(ComponentRange::conditional("day"));
+    assert_both_printed(&rt, alloc, day, CONDITIONAL)?;
+    assert_both_printed(
+        &rt,
+        alloc,
+        Format::OutOfMemory,
+        "Memory could not be reserved.",
+    )
+}
+
+#[test]
+fn printed_texts_of_other_errors(rt: HostRuntime) -> Result<(), Fail> {
+    let range = Error::ComponentRange(ComponentRange::conditional("day"));
+    assert_printed(&rt, rt.alloc(), &range, CONDITIONAL)?;
+    let text = "The error is of a different variant.";
+    assert_printed(&rt, rt.alloc(), &DifferentVariant, text)
+}
+
+#[test]
+fn a_range_is_given_back(rt: HostRuntime) {
+    let range = ComponentRange::conditional("day");
+    assert_that(
+        &rt,
+        matches!(ComponentRange::try_from(Format::from(range)), Ok(same) if same == range),
+    );
+    for other in [
+        Format::InsufficientTypeInformation,
+        Format::InvalidComponent("year"),
+        Format::OutOfMemory,
+    ] {
+        assert_that(
+            &rt,
+            matches!(ComponentRange::try_from(other), Err(DifferentVariant)),
+        );
+    }
+}
+
+#[test]
+fn a_format_is_given_back(rt: HostRuntime) {
+    let format = Format::try_from(Error::from(Format::OutOfMemory));
+    assert_that(&rt, matches!(&format, Ok(Format::OutOfMemory)));
+    let range = Error::ComponentRange(ComponentRange::unconditional("hour"));
+    let other = Format::try_from(range);
+    assert_that(&rt, matches!(&other, Err(DifferentVariant)));
+}

@@ -1,0 +1,179 @@
+//! Stamps, and their order.
+ghost use Rattle.std.specs.Prelude.{◌↔◌, IfOk};
+ghost use Rattle.time_known.specs.Stamps.{IsBefore, IsTextBefore, moment_of};
+
+use crate::texts::{assert_same, assert_that, refusal_name};
+use crate::values::moment;
+use std::alloc::Global;
+use std::process::Abort;
+use std::test::Fail;
+use time_below::{Month, UtcDateTime};
+use time_fmt::Format;
+use time_known::laws::stamp_order;
+use time_known::stamp_into;
+
+/// A year, a month and a day, and an hour, a minute, a second and a nanosecond.
+type Parts = ((i32, Month, u8), (u8, u8, u8, u32));
+
+/// Twenty moments, from the first to the last.
+const MOMENTS: &[Parts] = &[
+    ((0, Month::January, 1), (0, 0, 0, 0)),
+    ((0, Month::January, 1), (0, 0, 0, 1)),
+    ((0, Month::December, 31), (23, 59, 59, 999_999_999)),
+    ((1, Month::January, 1), (0, 0, 0, 0)),
+    ((99, Month::December, 31), (23, 59, 59, 0)),
+    ((999, Month::December, 31), (23, 59, 59, 999_999_999)),
+    ((1000, Month::January, 1), (0, 0, 0, 0)),
+    ((1900, Month::February, 28), (23, 59, 59, 0)),
+    ((1900, Month::March, 1), (0, 0, 0, 0)),
+    ((1969, Month::December, 31), (23, 59, 59, 999_999_999)),
+    ((1970, Month::January, 1), (0, 0, 0, 0)),
+    ((1970, Month::January, 1), (0, 0, 0, 1)),
+    ((1997, Month::November, 12), (9, 55, 6, 0)),
+    ((1997, Month::November, 12), (15, 55, 6, 0)),
+    ((1997, Month::November, 12), (15, 55, 6, 100_000_000)),
+    ((1997, Month::December, 1), (0, 0, 0, 0)),
+    ((2000, Month::February, 29), (12, 0, 0, 0)),
+    ((2000, Month::March, 1), (0, 0, 0, 0)),
+    ((9999, Month::December, 31), (23, 59, 59, 0)),
+    ((9999, Month::December, 31), (23, 59, 59, 999_999_999)),
+];
+
+fn utc(rt: &impl Abort, (date, time): Parts) -> UtcDateTime {
+    let value = moment(rt, date, time, (0, 0, 0));
+    UtcDateTime::new(value.date(), value.time())
+}
+
+fn stamp(rt: &impl Abort, alloc: Global, parts: Parts) -> Vec<u8> {
+    let mut output = Vec::new(alloc);
+    let answer = stamp_into(&mut output, &utc(rt, parts));
+    assert!(rt; matches!(&answer, Ok(30)));
+    output
+}
+
+/// The stamps of two moments, which are in the order of the moments: what a caller learns from
+/// `stamp_into` and the law of order.
+fn two_stamps(
+    alloc: Global,
+    first: &UtcDateTime,
+    second: &UtcDateTime,
+) -> Result<(Vec<u8>, Vec<u8>), Format>
+    ensures { IfOk result (λ stamps. IsTextBefore stamps.0.items stamps.1.items
+        ↔ IsBefore (moment_of first.now) (moment_of second.now)) }
+{
+    let mut earlier = Vec::new(alloc);
+    stamp_into(&mut earlier, first)?;
+    let mut later = Vec::new(alloc);
+    stamp_into(&mut later, second)?;
+    stamp_order();
+    Ok((earlier, later))
+}
+
+#[test]
+fn a_moment_and_the_next_one(rt: HostRuntime) {
+    let midnight = utc(&rt, ((1970, Month::January, 1), (0, 0, 0, 0)));
+    let next = utc(&rt, ((1970, Month::January, 1), (0, 0, 0, 1)));
+    let Ok((earlier, later)) = two_stamps(rt.alloc(), &midnight, &next) else {
+        panic!(rt; "no stamps");
+    };
+    assert_that(&rt, earlier < later);
+}
+
+const TEXTS: &[(Parts, &str)] = &[
+    (
+        ((1997, Month::November, 12), (15, 55, 6, 0)),
+        "1997-11-12T15:55:06.000000000Z",
+    ),
+    (
+        ((1969, Month::December, 31), (23, 59, 59, 999_999_999)),
+        "1969-12-31T23:59:59.999999999Z",
+    ),
+    (
+        ((1970, Month::January, 1), (0, 0, 0, 0)),
+        "1970-01-01T00:00:00.000000000Z",
+    ),
+    (
+        ((0, Month::January, 1), (0, 0, 0, 0)),
+        "0000-01-01T00:00:00.000000000Z",
+    ),
+];
+
+#[test]
+fn texts_of_stamps(rt: HostRuntime) {
+    for &(parts, text) in TEXTS {
+        assert_same(
+            &rt,
+            stamp(&rt, rt.alloc(), parts).as_slice(),
+            text.as_bytes(),
+        );
+    }
+}
+
+const FAR_DATES: &[(i32, Month, u8)] = &[
+    (10_000, Month::January, 1),
+    (-1, Month::December, 31),
+    (999_999, Month::January, 1),
+    (65_536, Month::January, 1),
+];
+
+#[test]
+fn a_year_of_more_digits_is_refused(rt: HostRuntime) -> Result<(), Fail> {
+    let mut output = Vec::with_capacity(rt.alloc(), 36)?;
+    output.push(b'x')?;
+    for &date in FAR_DATES {
+        let answer = stamp_into(&mut output, &utc(&rt, (date, (0, 0, 0, 0))));
+        assert_same(&rt, refusal_name(&answer), "year");
+        assert_same(&rt, output.as_slice(), b"x".as_slice());
+    }
+    let good = utc(&rt, ((1970, Month::January, 1), (0, 0, 0, 0)));
+    assert_that(&rt, matches!(stamp_into(&mut output, &good), Ok(30)));
+    assert_same(
+        &rt,
+        output.as_slice(),
+        b"x1970-01-01T00:00:00.000000000Z".as_slice(),
+    );
+    Ok(())
+}
+
+/// Room for 35 bytes is kept, and where it is missing the output grows once.
+#[test]
+fn room_of_stamps(rt: HostRuntime) -> Result<(), Fail> {
+    let good = utc(&rt, ((1970, Month::January, 1), (0, 0, 0, 0)));
+    let mut output = Vec::with_capacity(rt.alloc(), 35)?;
+    let capacity = output.capacity();
+    assert_that(&rt, matches!(stamp_into(&mut output, &good), Ok(30)));
+    assert_same(&rt, output.capacity(), capacity);
+    let answer = stamp_into(&mut output, &good);
+    if matches!(&answer, Err(Format::OutOfMemory)) {
+        assert_same(&rt, output.len(), 30);
+        assert_same(&rt, output.capacity(), capacity);
+    } else {
+        assert_that(&rt, matches!(&answer, Ok(30)));
+        assert_same(&rt, output.len(), 60);
+        assert_that(&rt, 65 <= output.capacity());
+    }
+    Ok(())
+}
+
+/// The texts, sorted, are in the order of the moments.
+#[test]
+fn the_order_of_stamps_is_that_of_moments(rt: HostRuntime) -> Result<(), Fail> {
+    let mut texts = Vec::new(rt.alloc());
+    for i in 0..20usize {
+        texts.push(stamp(&rt, rt.alloc(), MOMENTS[7 * i % 20]))?;
+    }
+    texts.sort()?;
+    let mut before = None;
+    for (parts, text) in MOMENTS.iter().zip(texts.iter()) {
+        let value = utc(&rt, *parts);
+        let moment = Some((value.unix_timestamp(), value.time().as_hms_nano().3));
+        assert_that(&rt, before < moment);
+        before = moment;
+        assert_same(
+            &rt,
+            text.as_slice(),
+            stamp(&rt, rt.alloc(), *parts).as_slice(),
+        );
+    }
+    Ok(())
+}

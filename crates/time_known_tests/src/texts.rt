@@ -1,0 +1,80 @@
+//! What the texts of well-known formats are compared by.
+use std::alloc::Global;
+use std::default::Default;
+use std::fmt::Debug;
+use std::process::Abort;
+use time_fmt::{ComponentProvider, ComputeMetadata, Format, Formattable};
+
+/// One comparison for all types, so that no test proves it again.
+pub(crate) fn assert_same<T: PartialEq + Debug + Copy>(rt: &impl Abort, found: T, wanted: T) {
+    assert_eq!(rt; found, wanted);
+}
+
+/// What a test wants to be so.
+pub(crate) fn assert_that(rt: &impl Abort, is_so: bool) {
+    assert!(rt; is_so);
+}
+
+/// Formats the value with a fresh state into an empty vector, and as a text, and compares the texts,
+/// the count and the width, and that the text is sure to be UTF-8.
+pub(crate) fn assert_text<D: Formattable, V: ComponentProvider>(
+    rt: &impl Abort,
+    alloc: Global,
+    format: &D,
+    value: &V,
+    text: &str,
+    width: usize,
+)
+where
+    V::State: Drop,
+{
+    let metadata = format.compute_metadata();
+    assert_that(rt, metadata.guaranteed_utf8);
+    assert_same(rt, metadata.max_bytes_needed, width);
+    let mut output = Vec::new(alloc);
+    let mut state = V::State::default();
+    let Ok(count) = format.format_into(&mut output, value, &mut state) else {
+        panic!(rt; "refused: {text}");
+    };
+    assert_same(rt, output.as_slice(), text.as_bytes());
+    assert_same(rt, count, text.len());
+    let Ok(formatted) = format.format(alloc, value, &mut state) else {
+        panic!(rt; "no text: {text}");
+    };
+    assert_same(rt, formatted.as_str(), text);
+}
+
+/// Formats the value with a fresh state behind a byte, and as a text, and compares the refusals. No
+/// byte is appended.
+pub(crate) fn assert_refused<D: Formattable, V: ComponentProvider>(
+    rt: &impl Abort,
+    alloc: Global,
+    format: &D,
+    value: &V,
+    name: &str,
+)
+where
+    V::State: Drop,
+{
+    let mut output = Vec::new(alloc);
+    let pushed = output.push(b'x');
+    assert_that(rt, pushed.is_ok());
+    let mut state = V::State::default();
+    let answer = format.format_into(&mut output, value, &mut state);
+    assert_same(rt, refusal_name(&answer), name);
+    assert_same(rt, output.as_slice(), b"x".as_slice());
+    let answer = format.format(alloc, value, &mut state);
+    assert_same(rt, refusal_name(&answer), name);
+}
+
+/// The name of the component that is refused, or why else there is no text. Formats here refuse no
+/// component for its range.
+pub(crate) fn refusal_name<T>(answer: &Result<T, Format>) -> &'static str {
+    match answer {
+        Err(Format::InvalidComponent(name)) => name,
+        Err(Format::InsufficientTypeInformation) => "insufficient",
+        Err(Format::ComponentRange(_)) => "range",
+        Err(Format::OutOfMemory) => "memory",
+        Ok(_) => "none",
+    }
+}

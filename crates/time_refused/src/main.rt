@@ -1,0 +1,160 @@
+//! The program formats by several descriptions, and tells what came of each call. Run by
+//! `rt try --fail-alloc N` it has the Nth of its requests for memory refused. A call that is refused
+//! leaves output and state as they were, and the same call then gives the right text.
+#![tactic(auto)]
+
+ghost use Rattle.std.specs.Prelude.{◌≡◌, ◌↔◌, if◌then◌else◌};
+
+use std::alloc::Global;
+use std::default::Default;
+use std::io;
+use time_below::format_description::modifier::{Day, MonthNumerical, Padding};
+use time_below::format_description::{BorrowedFormatItem, Component};
+use time_below::{Date, Month, OffsetDateTime, Time, UtcOffset};
+use time_fmt::{BorrowedItems, Format, Formattable};
+use time_known::Rfc3339;
+use time_provide::DateState;
+
+/// The text of the example by RFC 3339, of 25 bytes.
+const STAMP: &str = "1997-11-12T09:55:06-06:00";
+
+/// What came of a call.
+#[derive(Clone, Copy, PartialEq, Eq)]
+enum Came {
+    /// The right text at once.
+    Right,
+    /// The want of memory, which changed nothing, and then the right text.
+    RightAfterRefusal,
+    /// Anything else.
+    Wrong,
+}
+
+impl Came {
+    fn name(self) -> &'static str {
+        match self {
+            Came::Right => "right",
+            Came::RightAfterRefusal => "refused, and then right",
+            Came::Wrong => "wrong",
+        }
+    }
+
+    /// Right, if the text is, and else wrong.
+    fn of(is_right: bool) -> Came
+        ensures { result ≡ (if is_right then Came.Right else Came.Wrong) }
+    {
+        if is_right { Came::Right } else { Came::Wrong }
+    }
+
+    /// What came, where the call was refused before it.
+    fn after_refusal(self) -> Came
+        ensures { result ≡ Came.RightAfterRefusal ↔ self ≡ Came.Right }
+    {
+        match self {
+            Came::Right => Came::RightAfterRefusal,
+            Came::RightAfterRefusal | Came::Wrong => Came::Wrong,
+        }
+    }
+}
+
+/// 1997-11-12 9:55:06 -6:00, if it is a value.
+fn example() -> Option<OffsetDateTime> {
+    let Ok(date) = Date::from_calendar_date(1997, Month::November, 12) else {
+        return None;
+    };
+    let Ok(time) = Time::from_hms_nano(9, 55, 6, 0) else {
+        return None;
+    };
+    let Ok(offset) = UtcOffset::from_hms(-6, 0, 0) else {
+        return None;
+    };
+    Some(OffsetDateTime::new_in_offset(date, time, offset))
+}
+
+/// Appends the text to this vector, and once more where memory was refused.
+fn appended<D: Formattable>(
+    output: &mut Vec<u8>,
+    description: &D,
+    value: &OffsetDateTime,
+    text: &str,
+) -> Came {
+    let capacity = output.capacity();
+    let mut state = DateState::default();
+    match description.format_into(output, value, &mut state) {
+        Ok(_) => return Came::of(output.as_slice() == text.as_bytes()),
+        Err(Format::OutOfMemory) => {}
+        Err(_) => return Came::Wrong,
+    }
+    if !output.is_empty() || output.capacity() != capacity || state != DateState::default() {
+        return Came::Wrong;
+    }
+    let second = description.format_into(output, value, &mut state);
+    Came::of(second.is_ok() && output.as_slice() == text.as_bytes()).after_refusal()
+}
+
+/// Appends the text to a new vector of this capacity.
+fn appended_to_new<D: Formattable>(
+    alloc: Global,
+    capacity: usize,
+    description: &D,
+    value: &OffsetDateTime,
+    text: &str,
+) -> Came {
+    match Vec::with_capacity(alloc, capacity) {
+        Ok(mut output) => appended(&mut output, description, value, text),
+        // There is no call without a vector.
+        Err(_) => Came::Right.after_refusal(),
+    }
+}
+
+/// Formats the text, and once more where memory was refused.
+fn formatted<D: Formattable>(
+    alloc: Global,
+    description: &D,
+    value: &OffsetDateTime,
+    text: &str,
+) -> Came {
+    let mut state = DateState::default();
+    match description.format(alloc, value, &mut state) {
+        Ok(written) => return Came::of(written.as_str() == text),
+        Err(Format::OutOfMemory) => {}
+        Err(_) => return Came::Wrong,
+    }
+    match description.format(alloc, value, &mut state) {
+        Ok(written) => Came::of(written.as_str() == text).after_refusal(),
+        Err(_) => Came::Wrong,
+    }
+}
+
+/// Writes what came of a call.
+fn tell(rt: &HostRuntime, call: &str, came: Came) -> io::Result<()> {
+    println!(rt; "{call}: {}", came.name())
+}
+
+fn main(rt: HostRuntime) -> io::Result<()> {
+    let Some(value) = example() else {
+        return println!(rt; "no value");
+    };
+    let padding = Padding::Zero;
+    let items = [
+        BorrowedFormatItem::Component(Component::Day(Day { padding })),
+        BorrowedFormatItem::StringLiteral("/"),
+        BorrowedFormatItem::Component(Component::MonthNumerical(MonthNumerical { padding })),
+    ];
+    let list = BorrowedItems(&items);
+    let torn = BorrowedFormatItem::Literal(b"\xc3");
+    let nothing = BorrowedFormatItem::Compound(&[]);
+    let alloc = rt.alloc();
+
+    let came = appended_to_new(alloc, 0, &list, &value, "12/11");
+    tell(&rt, "a list, no room", came)?;
+    let came = appended_to_new(alloc, 4, &list, &value, "12/11");
+    tell(&rt, "a list, one byte short", came)?;
+    let came = appended_to_new(alloc, 34, &Rfc3339, &value, STAMP);
+    tell(&rt, "RFC 3339, one byte short", came)?;
+    let came = formatted(alloc, &list, &value, "12/11");
+    tell(&rt, "the text of a list", came)?;
+    let came = formatted(alloc, &torn, &value, "\u{fffd}");
+    tell(&rt, "the text of a byte that is none", came)?;
+    let came = formatted(alloc, &nothing, &value, "");
+    tell(&rt, "the text of an empty list", came)
+}
