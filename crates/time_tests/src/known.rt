@@ -1,4 +1,5 @@
 //! The well-known formats: texts, counts and refusals of worked rows.
+mod exact_room;
 mod front_page;
 mod iso8601;
 mod laws;
