@@ -122,6 +122,13 @@ iso_week_of d = ((thursday_of d).ordinal - 1) / 7 + 1
 abbrev pub monday_based_week_of : OrdinalDate → ℕ
 monday_based_week_of d = (d.ordinal + 6 - weekday_of d) / 7
 
+-- how many of the first n days of a year are such a weekday, by its days from Monday
+unfoldable pub days_of_name : ℕ → ℤ → ℕ → ℕ
+days_of_name weekday y zero = 0
+days_of_name weekday y (suc n) =
+    days_of_name weekday y n
+    + (if weekday_of (record { year = y; ordinal = suc n }) == weekday then 1 else 0)
+
 -- the days from Sunday, 0 to 6, of the days from Monday
 abbrev pub from_sunday : ℕ → ℕ
 from_sunday from_monday = (from_monday + 1) % 7

@@ -1,7 +1,7 @@
 //! Laws of the calendar and of offsets: what their definitions come to. Each body is empty.
 ghost use Rattle.std.specs.Prelude.{◌≡◌, ◌+◌, ◌%◌, ℕ, ℤ, pos, ◌+ℤ◌};
 ghost use Rattle.std.specs.Int.{IsInRange};
-ghost use Rattle.time_below.specs.Calendar.{OrdinalDate, IsDate, IsYear, IsDayNumber, IsDayOfMonth, day_number, date_at, next_day, month_of, day_of, date_of, weekday_of, iso_year_of, iso_week_of};
+ghost use Rattle.time_below.specs.Calendar.{OrdinalDate, IsDate, IsYear, IsDayNumber, IsDayOfMonth, day_number, date_at, next_day, month_of, day_of, date_of, weekday_of, iso_year_of, iso_week_of, days_of_name, monday_based_week_of, sunday_based_week_of};
 ghost use Rattle.time_below.specs.TimeOfDay.{IsTimeOfDay};
 ghost use Rattle.time_below.specs.Offset.{Offset, IsOffset, Settles, settled};
 ghost use Rattle.time_below.specs.Moment.{Moment, DateAndTime, OffsetDateAndTime, IsMoment, IsTimestampSecond, IsNearTimestampSecond, utc_date, utc_time, utc_date_and_time, unix_seconds, local_unix_seconds};
@@ -43,6 +43,15 @@ pub fn one_date_for_each_day_of_week()
     ensures week { (d : OrdinalDate) → IsDate d → IsInRange 1 53 (iso_week_of d) }
     ensures date { (d e : OrdinalDate) → IsDate d → IsDate e → iso_year_of d ≡ iso_year_of e
         → iso_week_of d ≡ iso_week_of e → weekday_of d ≡ weekday_of e → d ≡ e }
+{}
+
+/// The Monday-based and the Sunday-based week of a date are the numbers of Mondays, and of Sundays,
+/// that its year has had by then, that day counted.
+pub fn weeks_count_their_first_days()
+    ensures mondays { (d : OrdinalDate) → IsDate d
+        → monday_based_week_of d ≡ days_of_name 0 d.year d.ordinal }
+    ensures sundays { (d : OrdinalDate) → IsDate d
+        → sunday_based_week_of d ≡ days_of_name 6 d.year d.ordinal }
 {}
 
 /// The UTC date and time of a moment have its Unix seconds, and no others do. Those of a date and

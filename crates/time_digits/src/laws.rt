@@ -1,9 +1,10 @@
 //! Facts about the definitions that the contracts of this crate speak of, and about its constants.
 //! Nothing here is run.
-ghost use Rattle.std.specs.Prelude.{◌≡◌, ℕ, ◌+◌, ◌*◌, ◌/◌, ◌%◌, ◌^◌, ◌<◌, ◌≤◌, [], ◌∷◌, ◌++◌, take, drop, decimal};
+ghost use Rattle.std.specs.Prelude.{◌≡◌, ℕ, ◌+◌, ◌*◌, ◌/◌, ◌%◌, ◌^◌, ◌<◌, ◌≤◌, [], ◌∷◌, ◌++◌, length, take, drop, decimal};
 ghost use Rattle.time_digits.specs.Digits.{zero_padded, space_padded};
 ghost use Rattle.time_digits.specs.Fraction.{IsOnlyTrimmedFraction};
 
+use crate::num_fmt::{DIV_100_FACTOR, DIV_100_SHIFT};
 use crate::tables::{SINGLE_DIGITS, SPACE_PADDED_PAIRS, ZERO_PADDED_PAIRS};
 
 /// The decimal text of a number of at most 64 digits is one digit below 10, else the text of the
@@ -23,15 +24,19 @@ pub fn trimmed_fraction_is_shortest()
 {}
 
 /// The product of a number and 5243, shifted right by 19 bits, which divides it by 2 ^ 19, is the
-/// quotient of the number by 100, for each number from 0 to 43,698 and not for the next one.
+/// quotient of the number by 100, for each number from 0 to 43,698 and not for the next one. These are
+/// the two constants of `div_100`.
 #[tactic(auto, using(crate::proofs::DivisionLemmas::quotient_by_5243))]
 pub fn quotient_by_5243()
     ensures up_to { (n : ℕ) → n ≤ 43_698 → n * 5243 / 2 ^ 19 ≡ n / 100 }
     ensures no_further { 43_699 * 5243 / 2 ^ 19 ≡ 43_699 / 100 + 1 }
+    ensures factor { DIV_100_FACTOR ≡ 5243 }
+    ensures shift { DIV_100_SHIFT ≡ 19 }
 {}
 
 /// Each text of a table stands at its place: that of the digit `n` at the byte `n`, and those of the
-/// number `n` in two places at the byte `2 * n`.
+/// number `n` in two places at the byte `2 * n`. Nothing else is in a table: the first has 10 bytes,
+/// the others 200.
 #[tactic(auto, using(crate::proofs::SingleDigitLemmas::digit_at, crate::proofs::ZeroPaddedLemmas::pair_at, crate::proofs::SpacePaddedLemmas::spaced_at))]
 pub fn texts_of_tables()
     ensures digits { (n : ℕ) → n < 10 → take 1 (drop n SINGLE_DIGITS.now) ≡ decimal n }
@@ -39,4 +44,7 @@ pub fn texts_of_tables()
         → take 2 (drop (2 * n) ZERO_PADDED_PAIRS.now) ≡ zero_padded 2 n }
     ensures spaces { (n : ℕ) → n < 100
         → take 2 (drop (2 * n) SPACE_PADDED_PAIRS.now) ≡ space_padded 2 n }
+    ensures digits_len { length SINGLE_DIGITS.now ≡ 10 }
+    ensures zeros_len { length ZERO_PADDED_PAIRS.now ≡ 200 }
+    ensures spaces_len { length SPACE_PADDED_PAIRS.now ≡ 200 }
 {}

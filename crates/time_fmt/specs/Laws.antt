@@ -1,11 +1,18 @@
 -- Laws of descriptions and of what is known of their texts.
-use Rattle.std.specs.Prelude.{◌≡◌, ◌≤◌, []}
+use Rattle.std.specs.Prelude.{◌≡◌, ◌≤◌, [], ℕ, Bool}
 use Rattle.time_below.specs.Facts.{Facts}
 use Rattle.time_below.specs.Tree.{Tree, Trees, all_of, first_of, end, more, unmarked}
+use Rattle.time_below.specs.Width.{tree_width, is_guaranteed_text}
 use Rattle.time_below.specs.declared.format_description.metadata.Metadata.{Metadata}
 use Rattle.time_fmt.specs.Description.{tree_outcome}
 use Rattle.time_below.specs.Metadata.{greatest_usize, of_nothing, of_both}
 use Rattle.time_fmt.specs.Outcome.{Outcome, done, join}
+
+-- what a description gives for the components of a value, its width and its guarantee are those of the tree
+pub record Means (outcome_of : Facts → Outcome) (width : ℕ) (is_guaranteed : Bool) (tree : Tree) : Type 0 where
+  pub same_outcome : (f : Facts) → outcome_of f ≡ tree_outcome tree f
+  pub same_width : width ≡ tree_width tree
+  pub same_guarantee : is_guaranteed ≡ is_guaranteed_text tree
 
 -- trees that are equal once bytes are read as texts, and deprecated components as current ones
 abbrev pub EqualTreesHaveEqualOutcomes : Type 0

@@ -74,6 +74,7 @@ pub trait Formattable: ComputeMetadata {
         // Where there is room the capacity stays, and else it grows to what is needed or is doubled.
         ensures in_place { HasRoom output.old (Self.width_of self.now)
             → vec_capacity output.new ≡ vec_capacity output.old }
+        ensures grown { vec_capacity output.old ≤ vec_capacity output.new }
         ensures bounded { vec_capacity output.new ≤ max (2 * vec_capacity output.old)
             (vec_len output.old + Self.width_of self.now) }
 
@@ -112,6 +113,8 @@ pub trait Formattable: ComputeMetadata {
             → string_bytes text ≡ (outcome_of self.now (V.facts value.now)).bytes) }
         ensures exact { IfOk result (λ text. IsTrue (Self.is_guaranteed self.now)
             → string_bytes text ≡ (outcome_of self.now (V.facts value.now)).bytes) }
+        ensures guaranteed { result ≢ Err Format.OutOfMemory
+            → IsTextIf (Self.is_guaranteed self.now) (outcome_of self.now (V.facts value.now)) }
         ensures spelled { IfOk result (λ _. reads_as self.now (V.facts value.now)
             (outcome_of self.now (V.facts value.now)).bytes) }
         ensures complete { OnOk result ((outcome_of self.now (V.facts value.now)).refusal ≡ None) }
@@ -142,6 +145,7 @@ fn make_room(output: &mut Vec<u8>, width: usize) -> Result<(), AllocError>
     ensures room { OnOk result (HasRoom output.new width) }
     ensures in_place { HasRoom output.old width
         → IsOk result × (vec_capacity output.new ≡ vec_capacity output.old) }
+    ensures grown { vec_capacity output.old ≤ vec_capacity output.new }
     ensures bounded { vec_capacity output.new ≤ max (2 * vec_capacity output.old)
         (vec_len output.old + width) }
     ensures refused { OnErr result (vec_capacity output.new ≡ vec_capacity output.old) }

@@ -1,5 +1,69 @@
 //! Laws of descriptions: the contract of each function is the law, and its body does nothing.
-ghost use Rattle.time_fmt.specs.Laws.{EqualTreesHaveEqualOutcomes, FirstIsItsFirstItem, ListIsItsItemsInOrder, OutcomesAreAMonoid, MetadataIsACommutativeMonoid};
+ghost use Rattle.std.specs.Prelude.{◌≡◌, map, true};
+ghost use Rattle.time_below.specs.Tree.{all_of, borrowed_tree, owned_tree, v3_tree, trees};
+ghost use Rattle.time_below.specs.Width.{component_width};
+ghost use Rattle.time_fmt.specs.Laws.{Means, EqualTreesHaveEqualOutcomes, FirstIsItsFirstItem, ListIsItsItemsInOrder, OutcomesAreAMonoid, MetadataIsACommutativeMonoid};
+ghost use Rattle.time_fmt.specs.Longest.{ReachesWidth};
+
+use crate::formattable::{BorrowedItems, Formattable, OwnedItems};
+use crate::metadata::ComputeMetadata;
+use time_below::format_description::{
+    BorrowedFormatItem, Component, FormatDescriptionV3, OwnedFormatItem,
+};
+
+/// The width of a component is that of the table, and it has the guarantee. Where it is not
+/// deprecated, its text on one of two values is as long as the width.
+pub fn component_has_its_width(component: Component)
+    ensures width { ⟦<Component as ComputeMetadata>⟧.width_of component
+        ≡ component_width component }
+    ensures guarantee { ⟦<Component as ComputeMetadata>⟧.is_guaranteed component ≡ true }
+    ensures reached { ReachesWidth component }
+{}
+
+/// A borrowed item has the outcome, the width and the guarantee of its tree.
+pub fn borrowed_item_means_its_tree(item: &BorrowedFormatItem<'_>)
+    ensures { Means
+        (⟦<BorrowedFormatItem<'static> as Formattable>⟧.outcome_of item.now)
+        (⟦<BorrowedFormatItem<'static> as ComputeMetadata>⟧.width_of item.now)
+        (⟦<BorrowedFormatItem<'static> as ComputeMetadata>⟧.is_guaranteed item.now)
+        (borrowed_tree item.now) }
+{}
+
+/// An owned item has the outcome, the width and the guarantee of its tree.
+pub fn owned_item_means_its_tree(item: &OwnedFormatItem)
+    ensures { Means
+        (⟦<OwnedFormatItem as Formattable>⟧.outcome_of item.now)
+        (⟦<OwnedFormatItem as ComputeMetadata>⟧.width_of item.now)
+        (⟦<OwnedFormatItem as ComputeMetadata>⟧.is_guaranteed item.now)
+        (owned_tree item.now) }
+{}
+
+/// A version 3 description has the outcome, the width and the guarantee of its tree.
+pub fn v3_description_means_its_tree(description: &FormatDescriptionV3<'_>)
+    ensures { Means
+        (⟦<FormatDescriptionV3<'static> as Formattable>⟧.outcome_of description.now)
+        (⟦<FormatDescriptionV3<'static> as ComputeMetadata>⟧.width_of description.now)
+        (⟦<FormatDescriptionV3<'static> as ComputeMetadata>⟧.is_guaranteed description.now)
+        (v3_tree description.now) }
+{}
+
+/// Borrowed items have the outcome, the width and the guarantee of the list of their trees.
+pub fn borrowed_items_mean_their_list(items: BorrowedItems<'_>)
+    ensures { Means
+        (⟦<BorrowedItems<'static> as Formattable>⟧.outcome_of items.entry)
+        (⟦<BorrowedItems<'static> as ComputeMetadata>⟧.width_of items.entry)
+        (⟦<BorrowedItems<'static> as ComputeMetadata>⟧.is_guaranteed items.entry)
+        (all_of (trees (map borrowed_tree items.entry.0.now))) }
+{}
+
+/// Owned items have the outcome, the width and the guarantee of the list of their trees.
+pub fn owned_items_mean_their_list(items: OwnedItems<'_>)
+    ensures { Means
+        (⟦<OwnedItems<'static> as Formattable>⟧.outcome_of items.entry)
+        (⟦<OwnedItems<'static> as ComputeMetadata>⟧.width_of items.entry)
+        (⟦<OwnedItems<'static> as ComputeMetadata>⟧.is_guaranteed items.entry)
+        (all_of (trees (map owned_tree items.entry.0.now))) }
+{}
 
 /// Two descriptions, of whichever types, whose trees are equal once bytes are read as texts and
 /// deprecated components as current ones, append the same bytes and give the same refusal.

@@ -33,9 +33,9 @@ joined_are_canonical c w =
     let law = completed_are_canonical (iso8601_is_written c w) in
     record {
       completed = λ text v fits e. law.completed text v fits (outcome_is c v w ∙ e);
-      canonical = λ text v spelled canonical.
-          let is = law.canonical text v spelled canonical in
-          (is.0, sym (outcome_is c v w) ∙ is.1);
+      canonical = λ text v canonical.
+          let is = law.canonical text v canonical in
+          (is.0, is.1, sym (outcome_is c v w) ∙ is.2);
     }
 
 -- the groups that are there are those of a real date, a real time and a real offset

@@ -9,7 +9,7 @@ use Rattle.time_below.specs.Moment.{OffsetDateAndTime}
 use Rattle.time_digits.specs.Digits.{fixed, padded}
 use Rattle.time_digits.specs.Fraction.{trimmed_fraction}
 use Rattle.time_fmt.specs.Outcome.{done}
-use Rattle.time_known.specs.Laws.{IsValue, IsCanonical}
+use Rattle.time_known.specs.Laws.{IsValue}
 use Rattle.time_known.specs.Rfc2822.{rfc2822_of}
 use Rattle.time_known.specs.Rfc2822Grammar.{Rfc2822Spells, to_whole_second}
 use Rattle.time_known.specs.Rfc3339.{rfc3339_of}
@@ -53,7 +53,7 @@ spelled_3339 : Rfc3339Spells value text_3339
 spelled_3339 = ((completed_are_canonical rfc3339_is_written).completed text_3339 value fits completed_3339).0
 
 -- it is canonical
-canonical_3339 : IsCanonical IsCanonicalRfc3339 text_3339
+canonical_3339 : IsCanonicalRfc3339 value text_3339
 canonical_3339 = ((completed_are_canonical rfc3339_is_written).completed text_3339 value fits completed_3339).1
 
 -- it spells no other value
@@ -78,7 +78,7 @@ spelled_2822 : Rfc2822Spells (to_whole_second value) text_2822
 spelled_2822 = ((completed_are_canonical rfc2822_is_written).completed text_2822 value fits completed_2822).0
 
 -- it is canonical
-canonical_2822 : IsCanonical Rfc2822Spells text_2822
+canonical_2822 : Rfc2822Spells (to_whole_second value) text_2822
 canonical_2822 = ((completed_are_canonical rfc2822_is_written).completed text_2822 value fits completed_2822).1
 
 -- it spells no other value

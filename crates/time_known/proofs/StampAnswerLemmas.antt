@@ -1,5 +1,5 @@
 -- What the answer of a call that appends a stamp says.
-use Rattle.std.proofs.Common.{◌≡◌, ◌≢◌, ◌⊎◌, inl, inr, ◌++◌, ℕ, true, false, append-nil, refl, sym, ap, subst, ◌∙◌, ⊎_elim, Option, Some, None, Result, Ok, Err, Vec}
+use Rattle.std.proofs.Common.{◌≡◌, ◌+◌, vec_len, ◌≢◌, ◌⊎◌, inl, inr, ◌++◌, ℕ, true, false, append-nil, refl, sym, ap, subst, ◌∙◌, ⊎_elim, Option, Some, None, Result, Ok, Err, Vec}
 use Rattle.std.specs.Prelude.{◌↔◌, codes, IfOk, IfErr, OnErr, IsOk, IsSomeAnd}
 use Rattle.std.specs.Global.{Global}
 use Rattle.std.proofs.lemmas.Bool.{cases_Bool}
@@ -106,6 +106,14 @@ completed_length (Ok n) {v = v} a =
     let adds = (at_default a).appends (λ e. cc) in
     adds.counted.1 ∙ (stamps_are_completed v (completed_has_stamp (Ok n) a)).has_length
 completed_length (Err e) a = tt
+
+-- and the output is longer by that
+pub completed_longer : {old new : Vec ℕ Global} (answer : Result ℕ Format) {c : Choices} {v : DateAndTime}
+    → Answered old new answer c v → IfOk answer (λ _. vec_len new ≡ vec_len old + stamp_length)
+completed_longer {old} {new} (Ok n) {v = v} a =
+    let adds = (at_default a).appends (λ e. cc) in
+    adds.grown ∙ ap (λ k. vec_len old + k) (stamps_are_completed v (completed_has_stamp (Ok n) a)).has_length
+completed_longer (Err e) a = tt
 
 -- no refusal is named where there is none
 named_none : (o : Outcome) (e : Format) → o.refusal ≡ None → IsSomeAnd o.refusal (Names e) → ⊥

@@ -2,7 +2,7 @@
 use Rattle.std.specs.Prelude.{◌≡◌, ℕ, List, Some}
 use Rattle.time_below.specs.Facts.{Facts, date_facts}
 use Rattle.time_below.specs.Moment.{OffsetDateAndTime}
-use Rattle.time_known.specs.Laws.{IsValue, IsCanonical}
+use Rattle.time_known.specs.Laws.{IsValue}
 use Rattle.time_known.specs.Rules.{Rule}
 
 -- The facts are those of a local date, a time and an offset, all in their ranges; the text spells what
@@ -15,4 +15,4 @@ pub record ReadsAs (kept : OffsetDateAndTime → OffsetDateAndTime) (Spells Cano
   pub time : f.time ≡ Some value.time
   pub offset : f.offset ≡ Some value.offset
   pub spelled : Spells (kept value) text
-  pub canonical : IsCanonical Canonical text
+  pub canonical : Canonical (kept value) text

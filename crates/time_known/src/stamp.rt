@@ -22,6 +22,7 @@ pub fn stamp_into(output: &mut Vec<u8>, value: &UtcDateTime) -> Result<usize, Fo
     ensures appended { IfOk result
         (λ _. output.new.items ≡ output.old.items ++ stamp_text value.now) }
     ensures length { IfOk result (λ count. count ≡ stamp_length) }
+    ensures longer { IfOk result (λ _. vec_len output.new ≡ vec_len output.old + stamp_length) }
     ensures is_stamp { IfOk result (λ _. HasStamp value.now) }
 
     // Other years are refused by their name, and nothing else is. No byte comes before a refusal.
@@ -34,6 +35,7 @@ pub fn stamp_into(output: &mut Vec<u8>, value: &UtcDateTime) -> Result<usize, Fo
     // Where there is room the capacity stays, and else it grows to what is needed or is doubled.
     ensures in_place { HasRoom output.old stamp_width
         → vec_capacity output.new ≡ vec_capacity output.old }
+    ensures grown { vec_capacity output.old ≤ vec_capacity output.new }
     ensures bounded { vec_capacity output.new
         ≤ max (2 * vec_capacity output.old) (vec_len output.old + stamp_width) }
 

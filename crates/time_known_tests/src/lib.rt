@@ -5,6 +5,8 @@
 
 pub mod front_page;
 #[cfg(test)]
+mod exact_room;
+#[cfg(test)]
 mod iso8601;
 #[cfg(test)]
 mod laws;

@@ -3,6 +3,7 @@
 
 pub mod component_provider;
 mod date_state;
+pub mod laws;
 mod providers;
 pub mod ranges;
 #[cfg(test)]

@@ -8,27 +8,26 @@ use Rattle.std.proofs.lemmas.Bool.{cases_lt}
 use Rattle.std.specs.Option.{MatchOption}
 use Rattle.std.proofs.lemmas.Bool.Decides.{eqb_tells}
 use Rattle.std.specs.List.{flat_map, AllByRecursion, onto_first, position, position_or_len}
-use Rattle.time_show.specs.declared.bytes.TheConstants.{LINE_FEED}
-use Rattle.time_show.specs.Lines.{lines_of, whole_lines_of, unended_of, onto_whole, onto_rest, last_line_of, with_line_feed, IsOneLine, LinesSpell}
+use Rattle.time_show.specs.Lines.{line_feed, lines_of, whole_lines_of, unended_of, onto_whole, onto_rest, last_line_of, with_line_feed, IsOneLine, LinesSpell}
 
 -- the end of a list, as a slice gives it
 pub slice-end : (i : ℕ) (xs : List ℕ) → take (length xs - i) (drop i xs) ≡ drop i xs
 slice-end i xs = grind (arith, common_steps, pieces)
 
 -- a byte that is no line feed goes to the front of the first line of a text whose whole lines and rest are these, and of more bytes
-onto_first-more : (b : ℕ) (lines : List (List ℕ)) (rest more : List ℕ) → b ≢ LINE_FEED →
+onto_first-more : (b : ℕ) (lines : List (List ℕ)) (rest more : List ℕ) → b ≢ line_feed →
     onto_first b (lines ++ lines_of (rest ++ more)) ≡ onto_whole b lines ++ lines_of (onto_rest b lines rest ++ more)
 onto_first-more b [] rest more ne = grind arith
 onto_first-more b (line ∷ lines) rest more ne = refl
 
 -- the same of the whole lines
-onto_whole-more : (b : ℕ) (lines : List (List ℕ)) (rest more : List ℕ) → b ≢ LINE_FEED →
+onto_whole-more : (b : ℕ) (lines : List (List ℕ)) (rest more : List ℕ) → b ≢ line_feed →
     onto_whole b (lines ++ whole_lines_of (rest ++ more)) ≡ onto_whole b lines ++ whole_lines_of (onto_rest b lines rest ++ more)
 onto_whole-more b [] rest more ne = grind arith
 onto_whole-more b (line ∷ lines) rest more ne = refl
 
 -- and of the bytes after the last line feed
-onto_rest-more : (b : ℕ) (lines : List (List ℕ)) (rest more : List ℕ) → b ≢ LINE_FEED →
+onto_rest-more : (b : ℕ) (lines : List (List ℕ)) (rest more : List ℕ) → b ≢ line_feed →
     onto_rest b (lines ++ whole_lines_of (rest ++ more)) (unended_of (rest ++ more)) ≡ unended_of (onto_rest b lines rest ++ more)
 onto_rest-more b [] rest more ne = grind arith
 onto_rest-more b (line ∷ lines) rest more ne = refl
@@ -36,7 +35,7 @@ onto_rest-more b (line ∷ lines) rest more ne = refl
 -- The lines of a longer text are the whole lines so far and those of the rest with more bytes.
 pub lines_of-append : (bytes more : List ℕ) → lines_of (bytes ++ more) ≡ whole_lines_of bytes ++ lines_of (unended_of bytes ++ more)
 lines_of-append [] more = refl
-lines_of-append (b ∷ bytes) more = elim (eqb_tells b LINE_FEED) [
+lines_of-append (b ∷ bytes) more = elim (eqb_tells b line_feed) [
   | inl t ↦ rw (t.0, lines_of-append bytes more)
   | inr t ↦ rw (t.0, lines_of-append bytes more) (onto_first-more b (whole_lines_of bytes) (unended_of bytes) more t.1)
 ]
@@ -45,7 +44,7 @@ lines_of-append (b ∷ bytes) more = elim (eqb_tells b LINE_FEED) [
 pub whole_lines_of-append : (bytes more : List ℕ) →
     whole_lines_of (bytes ++ more) ≡ whole_lines_of bytes ++ whole_lines_of (unended_of bytes ++ more)
 whole_lines_of-append [] more = refl
-whole_lines_of-append (b ∷ bytes) more = elim (eqb_tells b LINE_FEED) [
+whole_lines_of-append (b ∷ bytes) more = elim (eqb_tells b line_feed) [
   | inl t ↦ rw (t.0, whole_lines_of-append bytes more)
   | inr t ↦ rw (t.0, whole_lines_of-append bytes more) (onto_whole-more b (whole_lines_of bytes) (unended_of bytes) more t.1)
 ]
@@ -53,7 +52,7 @@ whole_lines_of-append (b ∷ bytes) more = elim (eqb_tells b LINE_FEED) [
 -- and of the bytes after its last line feed
 pub unended_of-append : (bytes more : List ℕ) → unended_of (bytes ++ more) ≡ unended_of (unended_of bytes ++ more)
 unended_of-append [] more = refl
-unended_of-append (b ∷ bytes) more = elim (eqb_tells b LINE_FEED) [
+unended_of-append (b ∷ bytes) more = elim (eqb_tells b line_feed) [
   | inl t ↦ rw t.0 (unended_of-append bytes more)
   | inr t ↦ rw (t.0, whole_lines_of-append bytes more, unended_of-append bytes more) (onto_rest-more b (whole_lines_of bytes) (unended_of bytes) more t.1)
 ]
@@ -80,19 +79,19 @@ IsOneLine-append [] ys p q = q
 IsOneLine-append (b ∷ xs) ys p q = (p.0, IsOneLine-append xs ys p.1 q)
 
 -- a byte that is no line feed keeps the rest free of them
-onto_rest-one : (b : ℕ) (lines : List (List ℕ)) (rest : List ℕ) → b ≢ LINE_FEED → IsOneLine rest → IsOneLine (onto_rest b lines rest)
+onto_rest-one : (b : ℕ) (lines : List (List ℕ)) (rest : List ℕ) → b ≢ line_feed → IsOneLine rest → IsOneLine (onto_rest b lines rest)
 onto_rest-one b [] rest ne p = (ne, p)
 onto_rest-one b (line ∷ lines) rest ne p = p
 
 -- and the whole lines
-onto_whole-one : (b : ℕ) (lines : List (List ℕ)) → b ≢ LINE_FEED → AllByRecursion IsOneLine lines → AllByRecursion IsOneLine (onto_whole b lines)
+onto_whole-one : (b : ℕ) (lines : List (List ℕ)) → b ≢ line_feed → AllByRecursion IsOneLine lines → AllByRecursion IsOneLine (onto_whole b lines)
 onto_whole-one b [] ne p = p
 onto_whole-one b (line ∷ lines) ne p = ((ne, p.0), p.1)
 
 -- no line feed comes after the last one
 pub unended_of-is_one : (bytes : List ℕ) → IsOneLine (unended_of bytes)
 unended_of-is_one [] = tt
-unended_of-is_one (b ∷ bytes) = elim (eqb_tells b LINE_FEED) [
+unended_of-is_one (b ∷ bytes) = elim (eqb_tells b line_feed) [
   | inl t ↦ rw t.0 (unended_of-is_one bytes)
   | inr t ↦ rw t.0 (onto_rest-one b (whole_lines_of bytes) (unended_of bytes) t.1 (unended_of-is_one bytes))
 ]
@@ -100,7 +99,7 @@ unended_of-is_one (b ∷ bytes) = elim (eqb_tells b LINE_FEED) [
 -- no whole line has one inside
 whole_lines_of-are_one : (bytes : List ℕ) → AllByRecursion IsOneLine (whole_lines_of bytes)
 whole_lines_of-are_one [] = tt
-whole_lines_of-are_one (b ∷ bytes) = elim (eqb_tells b LINE_FEED) [
+whole_lines_of-are_one (b ∷ bytes) = elim (eqb_tells b line_feed) [
   | inl t ↦ rw t.0 (tt, whole_lines_of-are_one bytes)
   | inr t ↦ rw t.0 (onto_whole-one b (whole_lines_of bytes) t.1 (whole_lines_of-are_one bytes))
 ]
@@ -111,78 +110,78 @@ lines_of-rest bytes =
     ap lines_of (sym (append-nil bytes)) ∙ lines_of-append bytes [] ∙ rw (append-nil (unended_of bytes), lines_of-one (unended_of bytes) (unended_of-is_one bytes))
 
 -- a line with its line feed is one whole line
-whole_lines_of-ended : (line : List ℕ) → IsOneLine line → whole_lines_of (line ++ LINE_FEED ∷ []) ≡ line ∷ []
+whole_lines_of-ended : (line : List ℕ) → IsOneLine line → whole_lines_of (line ++ line_feed ∷ []) ≡ line ∷ []
 whole_lines_of-ended [] p = refl
 whole_lines_of-ended (b ∷ line) p = grind (arith, whole_lines_of-ended line p.1, p.0)
 
 -- nothing comes after its line feed
-unended_of-ended : (line : List ℕ) → IsOneLine line → unended_of (line ++ LINE_FEED ∷ []) ≡ []
+unended_of-ended : (line : List ℕ) → IsOneLine line → unended_of (line ++ line_feed ∷ []) ≡ []
 unended_of-ended [] p = refl
 unended_of-ended (b ∷ line) p = grind (arith, whole_lines_of-ended line p.1, unended_of-ended line p.1, p.0)
 
 -- bytes up to a line feed complete the line that a text has begun
 pub whole_lines_of-fed : (bytes line : List ℕ) → IsOneLine line →
-    whole_lines_of (bytes ++ (line ++ LINE_FEED ∷ [])) ≡ whole_lines_of bytes ++ (unended_of bytes ++ line) ∷ []
+    whole_lines_of (bytes ++ (line ++ line_feed ∷ [])) ≡ whole_lines_of bytes ++ (unended_of bytes ++ line) ∷ []
 whole_lines_of-fed bytes line p =
     let one : IsOneLine (unended_of bytes ++ line) = IsOneLine-append (unended_of bytes) line (unended_of-is_one bytes) p in
-    whole_lines_of-append bytes (line ++ LINE_FEED ∷ [])
-    ∙ rw (← append_assoc (unended_of bytes) line (LINE_FEED ∷ []), whole_lines_of-append (unended_of bytes ++ line) (LINE_FEED ∷ []), whole_lines_of-one (unended_of bytes ++ line) one, unended_of-one (unended_of bytes ++ line) one)
+    whole_lines_of-append bytes (line ++ line_feed ∷ [])
+    ∙ rw (← append_assoc (unended_of bytes) line (line_feed ∷ []), whole_lines_of-append (unended_of bytes ++ line) (line_feed ∷ []), whole_lines_of-one (unended_of bytes ++ line) one, unended_of-one (unended_of bytes ++ line) one)
     (ap (λ lines. whole_lines_of bytes ++ lines) (whole_lines_of-ended (unended_of bytes ++ line) one))
 
 -- nothing comes after that line feed
-pub unended_of-fed : (bytes line : List ℕ) → IsOneLine line → unended_of (bytes ++ (line ++ LINE_FEED ∷ [])) ≡ []
+pub unended_of-fed : (bytes line : List ℕ) → IsOneLine line → unended_of (bytes ++ (line ++ line_feed ∷ [])) ≡ []
 unended_of-fed bytes line p =
     let one : IsOneLine (unended_of bytes ++ line) = IsOneLine-append (unended_of bytes) line (unended_of-is_one bytes) p in
-    unended_of-append bytes (line ++ LINE_FEED ∷ []) ∙ rw (← append_assoc (unended_of bytes) line (LINE_FEED ∷ [])) (unended_of-ended (unended_of bytes ++ line) one)
+    unended_of-append bytes (line ++ line_feed ∷ []) ∙ rw (← append_assoc (unended_of bytes) line (line_feed ∷ [])) (unended_of-ended (unended_of bytes ++ line) one)
 
 -- one more, in the two forms
 one_more : (n : ℕ) → 1 + n ≡ suc n
 one_more n = omega arith
 
 -- a byte that is no line feed, before some first bytes that are one line
-one_line-cons : (b n : ℕ) (bytes : List ℕ) → b ≢ LINE_FEED → IsOneLine (take n bytes) → IsOneLine (take (1 + n) (b ∷ bytes))
+one_line-cons : (b n : ℕ) (bytes : List ℕ) → b ≢ line_feed → IsOneLine (take n bytes) → IsOneLine (take (1 + n) (b ∷ bytes))
 one_line-cons b n bytes ne p = rw (one_more n) (ne, p)
 
 -- up to the first line feed there is none
-one_line-front : (bytes : List ℕ) → IsOneLine (take (position_or_len (λ b. b == LINE_FEED) bytes) bytes)
+one_line-front : (bytes : List ℕ) → IsOneLine (take (position_or_len (λ b. b == line_feed) bytes) bytes)
 one_line-front [] = tt
-one_line-front (b ∷ bytes) = elim (eqb_tells b LINE_FEED) [
+one_line-front (b ∷ bytes) = elim (eqb_tells b line_feed) [
   | inl t ↦ rw t.0 tt
-  | inr t ↦ rw t.0 (one_line-cons b (position_or_len (λ b. b == LINE_FEED) bytes) bytes t.1 (one_line-front bytes))
+  | inr t ↦ rw t.0 (one_line-cons b (position_or_len (λ b. b == line_feed) bytes) bytes t.1 (one_line-front bytes))
 ]
 
 -- where no line feed is found there is none
-one_line-none : (bytes : List ℕ) → length bytes ≤ position_or_len (λ b. b == LINE_FEED) bytes → IsOneLine bytes
-one_line-none bytes le = rw (take_all (position_or_len (λ b. b == LINE_FEED) bytes) bytes le) at (one_line-front bytes)
+one_line-none : (bytes : List ℕ) → length bytes ≤ position_or_len (λ b. b == line_feed) bytes → IsOneLine bytes
+one_line-none bytes le = rw (take_all (position_or_len (λ b. b == line_feed) bytes) bytes le) at (one_line-front bytes)
 
 -- the first line feed that is found
 pub record EndsAt (bytes : List ℕ) (end : ℕ) : Type 0 where
   pub front : IsOneLine (take end bytes)
-  pub whole : bytes ≡ take end bytes ++ LINE_FEED ∷ drop (end + 1) bytes
+  pub whole : bytes ≡ take end bytes ++ line_feed ∷ drop (end + 1) bytes
 
 -- a text round the place of a line feed
-found-at : (bytes : List ℕ) (end : ℕ) → end < length bytes → get_or bytes end 0 ≡ LINE_FEED → bytes ≡ take end bytes ++ LINE_FEED ∷ drop (end + 1) bytes
+found-at : (bytes : List ℕ) (end : ℕ) → end < length bytes → get_or bytes end 0 ≡ line_feed → bytes ≡ take end bytes ++ line_feed ∷ drop (end + 1) bytes
 found-at bytes end lt is =
-    let rest : drop end bytes ≡ LINE_FEED ∷ drop (suc end) bytes = rw (drop-cons bytes end 0 lt, is) in
+    let rest : drop end bytes ≡ line_feed ∷ drop (suc end) bytes = rw (drop-cons bytes end 0 lt, is) in
     rw (add-one end) (sym (ap (λ more. take end bytes ++ more) (sym rest) ∙ take-append-drop end bytes))
 
 -- before the place that is found there is none
-ends-front : (bytes : List ℕ) (end : ℕ) → Some end ≡ position (λ b. b == LINE_FEED) bytes → IsOneLine (take end bytes)
-ends-front bytes end e = elim (cases_lt (position_or_len (λ b. b == LINE_FEED) bytes) (length bytes)) [
-  | inl t ↦ let same : end ≡ position_or_len (λ b. b == LINE_FEED) bytes = grind arith in rw same (one_line-front bytes)
+ends-front : (bytes : List ℕ) (end : ℕ) → Some end ≡ position (λ b. b == line_feed) bytes → IsOneLine (take end bytes)
+ends-front bytes end e = elim (cases_lt (position_or_len (λ b. b == line_feed) bytes) (length bytes)) [
+  | inl t ↦ let same : end ≡ position_or_len (λ b. b == line_feed) bytes = grind arith in rw same (one_line-front bytes)
   | inr t ↦ absurd (grind arith)
 ]
 
 -- what passes the test is a line feed
-is_line_feed : (b : ℕ) → (b == LINE_FEED) ≡ true → b ≡ LINE_FEED
+is_line_feed : (b : ℕ) → (b == line_feed) ≡ true → b ≡ line_feed
 is_line_feed b h = grind arith
 
 -- a search for a line feed finds the end of the first line, or shows that the text is one line
-pub line-found : (bytes : List ℕ) (place : Option ℕ) → place ≡ position (λ b. b == LINE_FEED) bytes →
+pub line-found : (bytes : List ℕ) (place : Option ℕ) → place ≡ position (λ b. b == line_feed) bytes →
     MatchOption place (IsOneLine bytes) (λ end. EndsAt bytes end)
 line-found bytes None e = one_line-none bytes (grind arith)
 line-found bytes (Some end) e =
-    let found = position-Some (λ b. b == LINE_FEED) bytes end 0 (sym e) in
+    let found = position-Some (λ b. b == line_feed) bytes end 0 (sym e) in
     record { front = ends-front bytes end e; whole = found-at bytes end found.0 (is_line_feed (get_or bytes end 0) found.1) }
 
 -- bytes with no line feed, after a text, leave its whole lines

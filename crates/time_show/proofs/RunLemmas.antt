@@ -2,11 +2,10 @@
 use Rattle.std.proofs.Common.{ℕ, Ok, Err, ◌≡◌, ◌≢◌, ◌++◌, List, [], ◌∷◌, Option, Some, None, refl, ap, sym, ◌∙◌, arith, rules, append-nil, append_assoc}
 use Rattle.std.proofs.lemmas.Grind.{common_steps}
 use Rattle.std.specs.Io.KnownBytes.{Appends, Consumes}
-use Rattle.time_show.specs.declared.bytes.TheConstants.{LINE_FEED}
 use Rattle.time_show.specs.declared.run.ShowError.TheVariants.{Write}
 use Rattle.time_show.specs.Answer.{IsAnswer, AreAnswers, BreaksOff}
 use Rattle.time_show.specs.LineBuffer.{kept_of, kept_with}
-use Rattle.time_show.specs.Lines.{lines_of, whole_lines_of, unended_of, last_line_of, IsOneLine}
+use Rattle.time_show.specs.Lines.{line_feed, lines_of, whole_lines_of, unended_of, last_line_of, IsOneLine}
 use Rattle.time_show.specs.OutputBuffer.{buffered, Accepts, AppendsStart, CutsOff}
 use Rattle.time_show.specs.Run.{RunState, state, output_of, UpTo, AcceptsAnswer, CutsAnswerOff, AnswersOn, CutsAnswersOff, AnswersRest, CutsRestOff, Ran}
 use Rattle.time_show.proofs.OutputBufferLemmas.{Appends-then, Accepts-none, Accepts-flushed, Accepts-then, CutsOff-after, CutsOff-flushed}
@@ -139,7 +138,7 @@ AnswersOn-kept bytes s one before text upto = (
 
 -- the bytes complete the line, the line is answered, and a new one begins
 pub AnswersOn-line : (bytes : List ℕ) (kept : Option (List ℕ)) (old new : RunState) → IsOneLine bytes → old.kept ≡ kept_with kept bytes →
-    AcceptsAnswer old new → AnswersOn (bytes ++ LINE_FEED ∷ []) (state kept old.held old.waiting) (state (Some []) new.held new.waiting)
+    AcceptsAnswer old new → AnswersOn (bytes ++ line_feed ∷ []) (state kept old.held old.waiting) (state (Some []) new.held new.waiting)
 AnswersOn-line bytes kept old new one with_bytes p before text upto =
     let is : old.kept ≡ kept_of (unended_of before ++ bytes) = with_bytes ∙ rw upto.rest (kept_of-more (unended_of before) bytes) in
     let answer : (answer : List ℕ) × IsAnswer (unended_of before ++ bytes) answer × Accepts (output_of old) (output_of new) answer =
@@ -154,15 +153,15 @@ AnswersOn-line bytes kept old new one with_bytes p before text upto =
 
 -- the bytes complete the line, and its answer is cut off
 pub CutsAnswersOff-line : (bytes rest : List ℕ) (kept : Option (List ℕ)) (old : RunState) (held : Option (List ℕ)) → IsOneLine bytes → old.kept ≡ kept_with kept bytes →
-    CutsAnswerOff old held → CutsAnswersOff (bytes ++ LINE_FEED ∷ rest) (state kept old.held old.waiting) held
+    CutsAnswerOff old held → CutsAnswersOff (bytes ++ line_feed ∷ rest) (state kept old.held old.waiting) held
 CutsAnswersOff-line bytes rest kept old held one with_bytes p before text upto =
     let is : old.kept ≡ kept_of (unended_of before ++ bytes) = with_bytes ∙ rw upto.rest (kept_of-more (unended_of before) bytes) in
     let answer : (answer : List ℕ) × IsAnswer (unended_of before ++ bytes) answer × CutsOff (output_of old) held answer =
     p (unended_of before ++ bytes) is in (
-      bytes ++ LINE_FEED ∷ [],
+      bytes ++ line_feed ∷ [],
       rest,
       answer.0,
-      rw (append_assoc bytes (LINE_FEED ∷ []) rest),
+      rw (append_assoc bytes (line_feed ∷ []) rest),
       rw (whole_lines_of-fed before bytes one) (AreAnswers-more (whole_lines_of before) (unended_of before ++ bytes) text answer.0 upto.answered answer.1),
       answer.2,
     )

@@ -4,16 +4,21 @@ use Rattle.std.specs.List.{slice_split, list_all}
 use Rattle.std.proofs.Common.{Bor}
 use Rattle.std.specs.Char.{is_ascii_digit}
 use Rattle.std.specs.Str.Parse.{digits_value}
-use Rattle.time_show.specs.declared.bytes.TheConstants.{MINUS, SPACE}
-use Rattle.time_show.specs.declared.fields.TheConstants.{DIGITS_LIMIT}
+
+-- the byte between two fields, and the one before the digits of a negative number
+abbrev pub space : ℕ
+space = 32
+
+abbrev pub minus : ℕ
+minus = 45
 
 -- what stands between the spaces: two spaces in a row have an empty field between them
 abbrev pub fields_of : List ℕ → List (List ℕ)
-fields_of line = slice_split (λ b. b == SPACE) line
+fields_of line = slice_split (λ b. b == space) line
 
 -- one to nine decimal digits
 abbrev pub is_natural : List ℕ → Bool
-is_natural field = nat_lt 0 (length field) && nat_le (length field) DIGITS_LIMIT && list_all is_ascii_digit field
+is_natural field = nat_lt 0 (length field) && nat_le (length field) 9 && list_all is_ascii_digit field
 
 -- the number that one to nine decimal digits spell
 abbrev pub natural_of : List ℕ → Option ℕ
@@ -23,7 +28,7 @@ natural_of field = if is_natural field then Some (digits_value 10 field) else No
 abbrev pub number_of : List ℕ → Option ℤ
 number_of [] = None
 number_of (b ∷ digits) =
-    if b == MINUS then option_map (λ n. neg_ℤ (pos n)) (natural_of digits) else option_map pos (natural_of (b ∷ digits))
+    if b == minus then option_map (λ n. neg_ℤ (pos n)) (natural_of digits) else option_map pos (natural_of (b ∷ digits))
 
 -- the number before the others, where all of them are numbers
 abbrev pub onto_numbers : Option ℤ → Option (List ℤ) → Option (List ℤ)

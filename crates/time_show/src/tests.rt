@@ -1,8 +1,11 @@
 //! The program's lines, and the run over readers and writers that fail.
 mod lines;
+mod long_lines;
 mod memory;
+mod once;
 mod streams;
 mod values;
+mod waiting;
 
 use std::alloc::Global;
 use std::fmt::Debug;

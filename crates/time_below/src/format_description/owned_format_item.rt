@@ -7,7 +7,7 @@ use crate::format_description::{Component, Layer, Node};
 /// A description that owns its parts.
 ///
 /// It is walked by recursion: 1,000 levels of items in items are formatted on a stack of 8 MiB, as a
-/// test shows, and about 40,000 were when it was measured.
+/// test shows, and more than 34,000 were when it was measured, at up to 241 bytes a level.
 #[derive(Drop)]
 pub enum OwnedFormatItem {
     /// Bytes, which need not be UTF-8.

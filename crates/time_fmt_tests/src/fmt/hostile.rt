@@ -13,7 +13,7 @@ use time_below::format_description::{
 use time_fmt::{BorrowedItems, ComputeMetadata, Formattable};
 use time_provide::DateState;
 
-/// A depth that the documentation promises; on 8 MiB of stack about 40,000 levels are formatted.
+/// A depth that the documentation promises.
 const DEEP: usize = 1_000;
 
 fn nested_borrowed(

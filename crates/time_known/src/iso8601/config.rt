@@ -1,6 +1,5 @@
 //! The choices of ISO 8601-1:2019 that a text is written by.
-ghost use Rattle.std.specs.Prelude.{◌≡◌};
-ghost use Rattle.std.specs.Bool.{OnTrue};
+ghost use Rattle.std.specs.Prelude.{◌≡◌, ◌↔◌, IsTrue};
 ghost use Rattle.time_known.specs.Config.{default_choices, separator, decimal_sign_text, has_time_letter, has_date, has_time, has_offset, groups_of};
 
 use crate::groups::Groups;
@@ -235,7 +234,7 @@ impl Config {
 
     // Whether it is the default configuration.
     pub(super) fn is_default(&self) -> bool
-        ensures { OnTrue result (self.now ≡ default_choices) }
+        ensures { IsTrue result ↔ (self.now ≡ default_choices) }
     {
         *self == Config::default()
     }

@@ -15,9 +15,9 @@ pub(super) fn width(config: &Config) -> usize
     if config.is_default() {
         return 35;
     }
-    let date = date_width(config);
-    let time = time_width(config);
-    let offset = offset_width(config);
+    let date = config.date_width();
+    let time = config.time_width();
+    let offset = config.offset_width();
     match config.formatted_components() {
         FormattedComponents::None => 0,
         FormattedComponents::Date => date,
@@ -29,31 +29,51 @@ pub(super) fn width(config: &Config) -> usize
     }
 }
 
-fn date_width(config: &Config) -> usize
-    ensures width { result ≡ iso_date_width config.now }
-    ensures most { result ≤ 13 }
-{
-    let year = if config.year_is_six_digits() { 7 } else { 4 };
-    let dash = config.separator("-").len();
-    let rest = match config.date_kind() {
-        DateKind::Calendar | DateKind::Week => 4 + 2 * dash,
-        DateKind::Ordinal => 3 + dash,
-    };
-    year + rest
-}
+impl Config {
+    /// The most bytes of the date by this configuration, which `format_date` needs room for: 7 to 13.
+    /// It is told whether or not the configuration formats dates.
+    pub fn date_width(&self) -> usize
+        ensures width { result ≡ iso_date_width self.now }
+        ensures most { result ≤ 13 }
+    {
+        let year = if self.year_is_six_digits() { 7 } else { 4 };
+        let dash = self.separator("-").len();
+        let rest = match self.date_kind() {
+            DateKind::Calendar | DateKind::Week => 4 + 2 * dash,
+            DateKind::Ordinal => 3 + dash,
+        };
+        year + rest
+    }
 
-fn time_width(config: &Config) -> usize
-    ensures width { result ≡ iso_time_width config.now }
-    ensures most { result ≤ 265 }
-{
-    let letter = if config.has_time_letter() { 1 } else { 0 };
-    let colon = config.separator(":").len();
-    let units = match config.time_precision() {
-        TimePrecision::Hour { decimal_digits } => 2 + decimals_width(decimal_digits),
-        TimePrecision::Minute { decimal_digits } => 4 + colon + decimals_width(decimal_digits),
-        TimePrecision::Second { decimal_digits } => 6 + 2 * colon + decimals_width(decimal_digits),
-    };
-    letter + units
+    /// The most bytes of the time by this configuration, which `format_time` needs room for: 2 to 265.
+    /// It is told whether or not the configuration formats times.
+    pub fn time_width(&self) -> usize
+        ensures width { result ≡ iso_time_width self.now }
+        ensures most { result ≤ 265 }
+    {
+        let letter = if self.has_time_letter() { 1 } else { 0 };
+        let colon = self.separator(":").len();
+        let units = match self.time_precision() {
+            TimePrecision::Hour { decimal_digits } => 2 + decimals_width(decimal_digits),
+            TimePrecision::Minute { decimal_digits } => 4 + colon + decimals_width(decimal_digits),
+            TimePrecision::Second { decimal_digits } => 6
+                + 2 * colon
+                + decimals_width(decimal_digits),
+        };
+        letter + units
+    }
+
+    /// The most bytes of the offset by this configuration, which `format_offset` needs room for: 3 to
+    /// 6. It is told whether or not the configuration formats offsets.
+    pub fn offset_width(&self) -> usize
+        ensures width { result ≡ iso_offset_width self.now }
+        ensures most { result ≤ 6 }
+    {
+        match self.offset_precision() {
+            OffsetPrecision::Hour => 3,
+            OffsetPrecision::Minute => 5 + self.separator(":").len(),
+        }
+    }
 }
 
 // The decimal sign and the decimals, if any are wanted.
@@ -64,15 +84,5 @@ fn decimals_width(decimal_digits: Option<ru8<1, 255>>) -> usize
     match decimal_digits {
         Some(digits) => 1 + digits.get() as usize,
         None => 0,
-    }
-}
-
-fn offset_width(config: &Config) -> usize
-    ensures width { result ≡ iso_offset_width config.now }
-    ensures most { result ≤ 6 }
-{
-    match config.offset_precision() {
-        OffsetPrecision::Hour => 3,
-        OffsetPrecision::Minute => 5 + config.separator(":").len(),
     }
 }

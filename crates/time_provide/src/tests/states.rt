@@ -6,6 +6,8 @@ use std::default::Default;
 use std::process::Abort;
 use time_below::{OffsetDateTime, PlainDateTime, UtcDateTime};
 
+mod other_values;
+
 #[derive(Clone, Copy, Debug)]
 enum Method {
     Day,

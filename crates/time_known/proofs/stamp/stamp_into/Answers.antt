@@ -1,9 +1,14 @@
-use Rattle.time_known.proofs.StampAnswerLemmas.{answered, completed_has_stamp, completed_length, completed_years, year_named, refused_unchanged}
+use Rattle.time_known.proofs.StampAnswerLemmas.{answered, completed_has_stamp, completed_length, completed_longer, completed_years, year_named, refused_unchanged}
 use Rattle.time_known.proofs.stamp.stamp_into.Goals as goal
 
 pub returns-clause-length : goal.returns-clause-length
 returns-clause-length c =
     completed_length c.format_into.result (answered c.default.ensures c.format_into.ensures.appends
+    c.format_into.ensures.spelled c.format_into.ensures.unchanged)
+
+pub returns-clause-longer : goal.returns-clause-longer
+returns-clause-longer c =
+    completed_longer c.format_into.result (answered c.default.ensures c.format_into.ensures.appends
     c.format_into.ensures.spelled c.format_into.ensures.unchanged)
 
 pub returns-clause-is_stamp : goal.returns-clause-is_stamp

@@ -1,8 +1,7 @@
 use Rattle.std.proofs.Common.{ℕ, List, [], ◌∷◌, ◌++◌, ◌≡◌, ◌+◌, ◌-◌, length, take, drop, Option, Some, None, refl, ap, ◌∙◌, append_assoc}
 use Rattle.std.proofs.lemmas.Result.{err_from_is_err_and}
-use Rattle.time_show.specs.declared.bytes.TheConstants.{LINE_FEED}
 use Rattle.time_show.specs.LineBuffer.{kept_with}
-use Rattle.time_show.specs.Lines.{IsOneLine}
+use Rattle.time_show.specs.Lines.{line_feed, IsOneLine}
 use Rattle.time_show.specs.Run.{state, AcceptsAnswer, CutsAnswerOff, AnswersOn, CutsAnswersOff}
 use Rattle.time_show.proofs.LinesLemmas.{EndsAt, line-found, slice-end}
 use Rattle.time_show.proofs.RunLemmas.{AnswersOn-none, AnswersOn-then, AnswersOn-kept, AnswersOn-line, CutsAnswersOff-line, CutsAnswersOff-after}
@@ -10,10 +9,10 @@ use Rattle.time_show.proofs.run.feed.Goals as goal
 
 -- the bytes of a line and its line feed, taken from what is left
 next-line : (bytes fed rest : List ℕ) (end : ℕ) → bytes ≡ fed ++ rest → EndsAt rest end →
-    bytes ≡ (fed ++ (take end rest ++ LINE_FEED ∷ [])) ++ drop (end + 1) rest
+    bytes ≡ (fed ++ (take end rest ++ line_feed ∷ [])) ++ drop (end + 1) rest
 next-line bytes fed rest end whole ends =
     whole ∙ ap (λ more. fed ++ more) ends.whole
-    ∙ rw (append_assoc fed (take end rest ++ LINE_FEED ∷ []) (drop (end + 1) rest), append_assoc (take end rest) (LINE_FEED ∷ []) (drop (end + 1) rest))
+    ∙ rw (append_assoc fed (take end rest ++ line_feed ∷ []) (drop (end + 1) rest), append_assoc (take end rest) (line_feed ∷ []) (drop (end + 1) rest))
 
 -- one more line is answered
 step : (bytes fed rest : List ℕ) (end : ℕ) (k0 k1 k2 k3 h0 h1 h2 : Option (List ℕ)) (w0 w1 w2 : List ℕ) →
@@ -21,9 +20,9 @@ step : (bytes fed rest : List ℕ) (end : ℕ) (k0 k1 k2 k3 h0 h1 h2 : Option (L
     AnswersOn fed (state k0 h0 w0) (state k1 h1 w1) → AcceptsAnswer (state k2 h1 w1) (state k2 h2 w2) →
     (fed : List ℕ) × (bytes ≡ fed ++ take (length rest - (end + 1)) (drop (end + 1) rest)) × AnswersOn fed (state k0 h0 w0) (state k3 h2 w2)
 step bytes fed rest end k0 k1 k2 k3 h0 h1 h2 w0 w1 w2 whole ends kept empty on accepts = (
-  fed ++ (take end rest ++ LINE_FEED ∷ []),
+  fed ++ (take end rest ++ line_feed ∷ []),
   rw (slice-end (end + 1) rest) (next-line bytes fed rest end whole ends),
-  rw empty (AnswersOn-then fed (take end rest ++ LINE_FEED ∷ []) (state k0 h0 w0) (state k1 h1 w1) (state (Some []) h2 w2) on
+  rw empty (AnswersOn-then fed (take end rest ++ line_feed ∷ []) (state k0 h0 w0) (state k1 h1 w1) (state (Some []) h2 w2) on
       (AnswersOn-line (take end rest) k1 (state k2 h1 w1) (state k2 h2 w2) ends.front kept accepts)),
 )
 
@@ -33,7 +32,7 @@ stop : (bytes fed rest : List ℕ) (end : ℕ) (k0 k1 k2 h0 h1 h2 : Option (List
     AnswersOn fed (state k0 h0 w0) (state k1 h1 w1) → CutsAnswerOff (state k2 h1 w1) h2 → CutsAnswersOff bytes (state k0 h0 w0) h2
 stop bytes fed rest end k0 k1 k2 h0 h1 h2 w0 w1 whole ends kept on cuts =
     rw (whole ∙ ap (λ more. fed ++ more) ends.whole)
-    (CutsAnswersOff-after fed (take end rest ++ LINE_FEED ∷ drop (end + 1) rest) (state k0 h0 w0) (state k1 h1 w1) h2 on
+    (CutsAnswersOff-after fed (take end rest ++ line_feed ∷ drop (end + 1) rest) (state k0 h0 w0) (state k1 h1 w1) h2 on
     (CutsAnswersOff-line (take end rest) (drop (end + 1) rest) k1 (state k2 h1 w1) h2 ends.front kept cuts))
 
 -- the rest has no line feed

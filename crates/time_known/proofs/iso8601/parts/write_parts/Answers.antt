@@ -19,7 +19,7 @@ parts_are g c =
     let choices = c.args.config.now in
     let f = g.V.ComponentProvider.facts value in
     let law = g.met.V.ComponentProvider in
-    let is_default : choices ≡ default_choices = c.if-is_default.ensures in
+    let is_default : choices ≡ default_choices = c.if-is_default.ensures.0 (cc) in
     let yes : has_groups choices.formatted_components f ≡ true =
     rw (law.supplies_date value, law.supplies_time value, law.supplies_offset value) c.requires.supplied in
     all_parts choices f (ap (λ (c : Choices). c.formatted_components) is_default) yes

@@ -1,0 +1,191 @@
+//! The longest example in a vector of exactly the width, by each format and each choice, and the stamp
+//! that finds no room behind another one.
+ghost use Rattle.std.specs.Prelude.{◌≡◌, ◌≤◌, IfOk, vec_capacity};
+
+use crate::values::moment;
+use std::alloc::{AllocError, Global};
+use std::default::Default;
+use std::process::Abort;
+use std::test::Fail;
+use time_below::{Month, OffsetDateTime, UtcDateTime};
+use time_digits::ru8;
+use time_fmt::{ComputeMetadata, Format, Formattable};
+use time_known::iso8601::{
+    Config, DateKind, DecimalSign, FormattedComponents, OffsetPrecision, TimePrecision,
+    format_date, format_offset, format_time,
+};
+use time_known::{Iso8601, Rfc2822, Rfc3339, stamp_into};
+use time_provide::DateState;
+
+/// 1997-11-12 9:55:06.123456789 -6:00, whose texts are as long as the widths.
+fn longest(rt: &impl Abort) -> OffsetDateTime {
+    moment(
+        rt,
+        (1997, Month::November, 12),
+        (9, 55, 6, 123_456_789),
+        (-6, 0, 0),
+    )
+}
+
+/// Writes the longest example into a vector of exactly the width, which the text fills.
+fn assert_fills<D: Formattable>(
+    rt: &impl Abort,
+    alloc: Global,
+    format: &D,
+) -> Result<(), AllocError> {
+    let width = format.compute_metadata().max_bytes_needed;
+    if width == usize::MAX {
+        panic!(rt; "too wide");
+    }
+    let mut output = Vec::with_capacity(alloc, width)?;
+    let answer = format.write_into(&mut output, &longest(rt), &mut DateState::default());
+    assert!(rt; matches!(&answer, Ok(count) if *count == width));
+    assert_eq!(rt; output.len(), width);
+    assert_eq!(rt; output.capacity(), width);
+    Ok(())
+}
+
+#[test]
+fn each_format_fills_its_width(rt: HostRuntime) -> Result<(), Fail> {
+    assert_fills(&rt, rt.alloc(), &Rfc3339)?;
+    assert_fills(&rt, rt.alloc(), &Rfc2822)?;
+    assert_fills(&rt, rt.alloc(), &Iso8601::default())?;
+    Ok(())
+}
+
+/// A caller that proves the room of each part by the widths that the configuration tells.
+fn append_parts(
+    config: &Config,
+    output: &mut Vec<u8>,
+    value: &OffsetDateTime,
+) -> Result<usize, Format> {
+    let mut state = DateState::default();
+    let width = config.date_width() + config.time_width() + config.offset_width();
+    if output.reserve(width).is_err() {
+        return Err(Format::OutOfMemory);
+    }
+    let date = format_date(config, output, value, &mut state)?;
+    let time = format_time(config, output, value, &mut state)?;
+    let offset = format_offset(config, output, value, &mut state)?;
+    Ok(date + time + offset)
+}
+
+/// The configuration fills its width, with separators and without, and so do its parts together.
+fn assert_config_fills(rt: &impl Abort, alloc: Global, config: Config) -> Result<(), AllocError> {
+    for use_separators in [false, true] {
+        let config = config.set_use_separators(use_separators);
+        assert_fills(rt, alloc, &Iso8601::new(config))?;
+        let width = config.date_width() + config.time_width() + config.offset_width();
+        let mut output = Vec::with_capacity(alloc, width)?;
+        let answer = append_parts(&config, &mut output, &longest(rt));
+        assert!(rt; matches!(&answer, Ok(count) if *count == width));
+        assert_eq!(rt; output.capacity(), width);
+    }
+    Ok(())
+}
+
+const PARTS: &[FormattedComponents] = &[
+    FormattedComponents::Date,
+    FormattedComponents::Time,
+    FormattedComponents::Offset,
+    FormattedComponents::DateTime,
+    FormattedComponents::DateTimeOffset,
+    FormattedComponents::TimeOffset,
+];
+
+#[test]
+fn each_choice_of_parts(rt: HostRuntime) -> Result<(), Fail> {
+    for parts in PARTS {
+        let config = Config::default().set_formatted_components(*parts);
+        assert_config_fills(&rt, rt.alloc(), config)?;
+    }
+    Ok(())
+}
+
+const KINDS: &[DateKind] = &[DateKind::Calendar, DateKind::Week, DateKind::Ordinal];
+
+#[test]
+fn each_choice_of_a_date(rt: HostRuntime) -> Result<(), Fail> {
+    for kind in KINDS {
+        let config = Config::default().set_date_kind(*kind);
+        assert_config_fills(&rt, rt.alloc(), config)?;
+        assert_config_fills(&rt, rt.alloc(), config.set_year_is_six_digits(true))?;
+    }
+    Ok(())
+}
+
+/// The number of decimals, where it is not 0.
+fn hours(decimals: u8) -> TimePrecision {
+    TimePrecision::Hour {
+        decimal_digits: ru8::new(decimals),
+    }
+}
+
+fn minutes(decimals: u8) -> TimePrecision {
+    TimePrecision::Minute {
+        decimal_digits: ru8::new(decimals),
+    }
+}
+
+fn seconds(decimals: u8) -> TimePrecision {
+    TimePrecision::Second {
+        decimal_digits: ru8::new(decimals),
+    }
+}
+
+const DECIMALS: &[u8] = &[0, 1, 9, 10, 255];
+
+#[test]
+fn each_choice_of_a_time(rt: HostRuntime) -> Result<(), Fail> {
+    let config = Config::default().set_decimal_sign(DecimalSign::Comma);
+    for &decimals in DECIMALS {
+        assert_config_fills(&rt, rt.alloc(), config.set_time_precision(hours(decimals)))?;
+        assert_config_fills(
+            &rt,
+            rt.alloc(),
+            config.set_time_precision(minutes(decimals)),
+        )?;
+        assert_config_fills(
+            &rt,
+            rt.alloc(),
+            config.set_time_precision(seconds(decimals)),
+        )?;
+    }
+    Ok(())
+}
+
+#[test]
+fn each_choice_of_an_offset(rt: HostRuntime) -> Result<(), Fail> {
+    let hours = Config::default().set_offset_precision(OffsetPrecision::Hour);
+    assert_config_fills(&rt, rt.alloc(), hours)?;
+    let minutes = Config::default().set_offset_precision(OffsetPrecision::Minute);
+    assert_config_fills(&rt, rt.alloc(), minutes)?;
+    Ok(())
+}
+
+/// Two stamps have 60 bytes, whether or not there was room: what a caller learns from `stamp_into`.
+fn two_stamps(output: &mut Vec<u8>, value: &UtcDateTime) -> Result<usize, Format>
+    ensures count { IfOk result (λ count. count ≡ 60) }
+    ensures grown { vec_capacity output.old ≤ vec_capacity output.new }
+{
+    let before = output.len();
+    stamp_into(output, value)?;
+    stamp_into(output, value)?;
+    Ok(output.len() - before)
+}
+
+/// The second stamp makes room where the first left too little.
+#[test]
+fn stamps_behind_others(rt: HostRuntime) -> Result<(), Fail> {
+    let value = longest(&rt);
+    let value = UtcDateTime::new(value.date(), value.time());
+    let mut output = Vec::with_capacity(rt.alloc(), 35)?;
+    assert!(rt; matches!(stamp_into(&mut output, &value), Ok(30)));
+    assert_eq!(rt; output.capacity(), 35);
+    assert!(rt; matches!(stamp_into(&mut output, &value), Ok(30)));
+    assert_eq!(rt; output.len(), 60);
+    assert!(rt; 65 <= output.capacity());
+    assert!(rt; matches!(two_stamps(&mut output, &value), Ok(60)));
+    assert_eq!(rt; output.len(), 120);
+    Ok(())
+}
