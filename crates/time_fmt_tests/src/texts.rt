@@ -86,7 +86,7 @@ where
 {
     let mut output = Vec::new(alloc);
     let pushed = output.push(b'x');
-    assert!(rt; pushed.is_ok());
+    assert_that(rt, pushed.is_ok());
     let mut state = V::State::default();
     let answer = item.format_into(&mut output, value, &mut state);
     assert_same(rt, refusal_name(&answer), name);
@@ -106,14 +106,14 @@ pub(crate) fn assert_refused_after(
 ) {
     let mut output = Vec::new(alloc);
     let pushed = output.push(b'x');
-    assert!(rt; pushed.is_ok());
+    assert_that(rt, pushed.is_ok());
     let mut state = DateState::default();
     let refused = item.format_into(&mut output, value, &mut state);
     assert_same(rt, refusal_name(&refused), name);
     assert_same(rt, output.as_slice(), before.as_bytes());
     let day = BorrowedFormatItem::Component(DAY);
     let written = day.format_into(&mut output, value, &mut state);
-    assert!(rt; matches!(&written, Ok(2)));
+    assert_that(rt, matches!(&written, Ok(2)));
     assert_same(rt, output.as_slice(), after.as_bytes());
 }
 

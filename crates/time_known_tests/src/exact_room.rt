@@ -2,6 +2,7 @@
 //! that finds no room behind another one.
 ghost use Rattle.std.specs.Prelude.{◌≡◌, ◌≤◌, IfOk, vec_capacity};
 
+use crate::texts::{assert_same, assert_that};
 use crate::values::moment;
 use std::alloc::{AllocError, Global};
 use std::default::Default;
@@ -39,9 +40,9 @@ fn assert_fills<D: Formattable>(
     }
     let mut output = Vec::with_capacity(alloc, width)?;
     let answer = format.write_into(&mut output, &longest(rt), &mut DateState::default());
-    assert!(rt; matches!(&answer, Ok(count) if *count == width));
-    assert_eq!(rt; output.len(), width);
-    assert_eq!(rt; output.capacity(), width);
+    assert_that(rt, matches!(&answer, Ok(count) if *count == width));
+    assert_same(rt, output.len(), width);
+    assert_same(rt, output.capacity(), width);
     Ok(())
 }
 
@@ -78,8 +79,8 @@ fn assert_config_fills(rt: &impl Abort, alloc: Global, config: Config) -> Result
         let width = config.date_width() + config.time_width() + config.offset_width();
         let mut output = Vec::with_capacity(alloc, width)?;
         let answer = append_parts(&config, &mut output, &longest(rt));
-        assert!(rt; matches!(&answer, Ok(count) if *count == width));
-        assert_eq!(rt; output.capacity(), width);
+        assert_that(rt, matches!(&answer, Ok(count) if *count == width));
+        assert_same(rt, output.capacity(), width);
     }
     Ok(())
 }
@@ -180,12 +181,12 @@ fn stamps_behind_others(rt: HostRuntime) -> Result<(), Fail> {
     let value = longest(&rt);
     let value = UtcDateTime::new(value.date(), value.time());
     let mut output = Vec::with_capacity(rt.alloc(), 35)?;
-    assert!(rt; matches!(stamp_into(&mut output, &value), Ok(30)));
-    assert_eq!(rt; output.capacity(), 35);
-    assert!(rt; matches!(stamp_into(&mut output, &value), Ok(30)));
-    assert_eq!(rt; output.len(), 60);
-    assert!(rt; 65 <= output.capacity());
-    assert!(rt; matches!(two_stamps(&mut output, &value), Ok(60)));
-    assert_eq!(rt; output.len(), 120);
+    assert_that(&rt, matches!(stamp_into(&mut output, &value), Ok(30)));
+    assert_same(&rt, output.capacity(), 35);
+    assert_that(&rt, matches!(stamp_into(&mut output, &value), Ok(30)));
+    assert_same(&rt, output.len(), 60);
+    assert_that(&rt, 65 <= output.capacity());
+    assert_that(&rt, matches!(two_stamps(&mut output, &value), Ok(60)));
+    assert_same(&rt, output.len(), 120);
     Ok(())
 }

@@ -133,8 +133,8 @@ where
         let mut output = Vec::new(alloc);
         let mut state = V::State::default();
         let answer = format.format_into(&mut output, value, &mut state);
-        assert_eq!(rt; refusal_name(&answer), name);
-        assert_eq!(rt; output.as_slice(), text.as_bytes());
+        assert_same(rt, refusal_name(&answer), name);
+        assert_same(rt, output.as_slice(), text.as_bytes());
     }
 }
 
@@ -334,16 +334,16 @@ fn assert_long_decimals(
 ) {
     let mut output = Vec::new(alloc);
     let answer = format.format_into(&mut output, value, &mut ());
-    assert!(rt; matches!(&answer, Ok(length) if *length == output.len()));
-    assert_eq!(rt; format.compute_metadata().max_bytes_needed, output.len());
+    assert_that(rt, matches!(&answer, Ok(length) if *length == output.len()));
+    assert_same(rt, format.compute_metadata().max_bytes_needed, output.len());
     let Some((text, decimals)) = output.as_slice().split_at_checked(whole.len()) else {
         panic!(rt; "short: {whole}");
     };
-    assert_eq!(rt; text, whole.as_bytes());
-    assert_eq!(rt; decimals.len(), count as usize);
+    assert_same(rt, text, whole.as_bytes());
+    assert_same(rt, decimals.len(), count as usize);
     for (place, digit) in decimals.iter().enumerate() {
         let known = first.as_bytes().get(place).copied();
-        assert_eq!(rt; *digit, known.unwrap_or(others));
+        assert_same(rt, *digit, known.unwrap_or(others));
     }
 }
 
@@ -531,7 +531,7 @@ fn assert_named(
     parts: FormattedComponents,
     text: &str,
 ) {
-    assert_eq!(rt; format.config(), with_parts(parts));
+    assert_same(rt, format.config(), with_parts(parts));
     assert_text(rt, alloc, &format, &example(rt, 0), text, text.len());
 }
 
@@ -642,12 +642,12 @@ fn assert_parts(rt: &impl Abort, alloc: Global, sign: DecimalSign, text: &str) -
     let mut state = DateState::default();
     let mut output = Vec::with_capacity(alloc, 34)?;
     let date = format_date(&nothing, &mut output, &value, &mut state);
-    assert!(rt; matches!(&date, Ok(10)));
+    assert_that(rt, matches!(&date, Ok(10)));
     let time = format_time(&nothing, &mut output, &value, &mut state);
-    assert!(rt; matches!(&time, Ok(18)));
+    assert_that(rt, matches!(&time, Ok(18)));
     let offset = format_offset(&nothing, &mut output, &value, &mut state);
-    assert!(rt; matches!(&offset, Ok(6)));
-    assert_eq!(rt; output.as_slice(), text.as_bytes());
+    assert_that(rt, matches!(&offset, Ok(6)));
+    assert_same(rt, output.as_slice(), text.as_bytes());
     Ok(())
 }
 

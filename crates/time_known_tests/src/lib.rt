@@ -3,9 +3,9 @@
 //! page of the repository shows stands here too.
 #![tactic(auto)]
 
-pub mod front_page;
 #[cfg(test)]
 mod exact_room;
+pub mod front_page;
 #[cfg(test)]
 mod iso8601;
 #[cfg(test)]

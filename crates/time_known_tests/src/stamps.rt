@@ -47,7 +47,7 @@ fn utc(rt: &impl Abort, (date, time): Parts) -> UtcDateTime {
 fn stamp(rt: &impl Abort, alloc: Global, parts: Parts) -> Vec<u8> {
     let mut output = Vec::new(alloc);
     let answer = stamp_into(&mut output, &utc(rt, parts));
-    assert!(rt; matches!(&answer, Ok(30)));
+    assert_that(rt, matches!(&answer, Ok(30)));
     output
 }
 

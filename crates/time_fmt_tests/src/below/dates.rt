@@ -1,5 +1,5 @@
 //! Dates, weekdays and weeks.
-use crate::texts::assert_same;
+use crate::texts::{assert_same, assert_that};
 use crate::values::date_at;
 use std::process::Abort;
 use time_below::{ComponentRange, Date, Month, Weekday};
@@ -44,8 +44,8 @@ const REFUSED_DATES: &[(i32, Month, u8, &str, bool)] = &[
 
 /// Compares the name that is refused, and whether it depends on other parts.
 fn assert_refusal(rt: &impl Abort, refusal: ComponentRange, name: &str, is_conditional: bool) {
-    assert_eq!(rt; refusal.name(), name);
-    assert!(rt; refusal.is_conditional() == is_conditional);
+    assert_same(rt, refusal.name(), name);
+    assert_that(rt, refusal.is_conditional() == is_conditional);
 }
 
 #[test]

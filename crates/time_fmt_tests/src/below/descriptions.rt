@@ -11,8 +11,11 @@ use time_below::format_description::{
 /// The stored width of a description that is no component.
 fn check_stored_width(rt: &impl Abort, inner: Inner<'_>, width: usize) {
     let description = FormatDescriptionV3::new(inner);
-    assert_eq!(rt; description.max_bytes_needed(), width);
-    assert!(rt; !matches!(description.inner().layer(), Layer::Component(_)));
+    assert_same(rt, description.max_bytes_needed(), width);
+    assert_that(
+        rt,
+        !matches!(description.inner().layer(), Layer::Component(_)),
+    );
 }
 
 fn month_name() -> Component {

@@ -146,7 +146,7 @@ fn assert_read(rt: &impl Abort, alloc: Global, items: &[BorrowedFormatItem<'_>],
     let Ok(formatted) = item.format(alloc, &value, &mut DateState::default()) else {
         panic!(rt; "refused: {text}");
     };
-    assert_eq!(rt; formatted.as_str(), text);
+    assert_same(rt, formatted.as_str(), text);
 }
 
 #[test]

@@ -1,5 +1,5 @@
 //! Long texts, long outputs and deep trees. Memory is there, so the want of it is not answered.
-use crate::texts::{DAY, assert_text};
+use crate::texts::{DAY, assert_same, assert_text, assert_that};
 use crate::values::wednesday;
 use std::alloc::{AllocError, Global};
 use std::process::Abort;
@@ -30,9 +30,9 @@ fn a_text_behind_a_megabyte(rt: HostRuntime) -> Result<(), Fail> {
     let mut output = vec![in rt.alloc(); b'x'; BEYOND]?;
     let item = BorrowedFormatItem::Component(DAY);
     let answer = item.format_into(&mut output, &value, &mut DateState::default());
-    assert!(rt; matches!(&answer, Ok(2)));
-    assert_eq!(rt; output.len(), BEYOND + 2);
-    assert!(rt; output.as_slice().ends_with(b"x12".as_slice()));
+    assert_that(&rt, matches!(&answer, Ok(2)));
+    assert_same(&rt, output.len(), BEYOND + 2);
+    assert_that(&rt, output.as_slice().ends_with(b"x12".as_slice()));
     Ok(())
 }
 
@@ -44,12 +44,13 @@ fn a_hundred_thousand_bytes_that_are_no_text(rt: HostRuntime) -> Result<(), Fail
     let Ok(text) = item.format(rt.alloc(), &wednesday(&rt), &mut DateState::default()) else {
         panic!(rt; "no text");
     };
-    assert_eq!(rt; text.len(), 3 * LONG);
-    assert!(rt;
+    assert_same(&rt, text.len(), 3 * LONG);
+    assert_that(
+        &rt,
         text.as_str()
             .as_bytes()
             .chunks(3)
-            .all(|letter| letter == b"\xef\xbf\xbd".as_slice())
+            .all(|letter| letter == b"\xef\xbf\xbd".as_slice()),
     );
     Ok(())
 }

@@ -1,4 +1,5 @@
 //! Each component, written into exactly as much room as its width.
+use crate::texts::{assert_same, assert_that};
 use crate::values::moment;
 use std::alloc::Global;
 use std::process::Abort;
@@ -38,10 +39,10 @@ fn written(rt: &impl Abort, alloc: Global, component: &Component, value: &Offset
     };
     let mut state = DateState::default();
     match component_write_into(component, &mut output, value, &mut state) {
-        Ok(count) => assert_eq!(rt; count, output.len()),
-        Err(_) => assert!(rt; output.is_empty()),
+        Ok(count) => assert_same(rt, count, output.len()),
+        Err(_) => assert_that(rt, output.is_empty()),
     }
-    assert_eq!(rt; output.capacity(), width);
+    assert_same(rt, output.capacity(), width);
     output.len()
 }
 
@@ -54,7 +55,7 @@ fn assert_filled(
 ) {
     let first = written(rt, alloc, &component, extended);
     let second = written(rt, alloc, &component, standard);
-    assert_eq!(rt; first.max(second), component_width(&component));
+    assert_same(rt, first.max(second), component_width(&component));
 }
 
 fn padded(padding: Padding) -> [Component; 14] {

@@ -19,8 +19,8 @@ fn empty(rt: &HostRuntime) -> Result<Vec<u8>, AllocError>
 
 /// Compares what was appended to an empty vector, and the answer.
 fn assert_written(rt: &impl Abort, output: &Vec<u8>, count: usize, text: &str) {
-    assert_eq!(rt; output.as_slice(), text.as_bytes());
-    assert_eq!(rt; count, text.len());
+    assert_same(rt, output.as_slice(), text.as_bytes());
+    assert_same(rt, count, text.len());
 }
 
 const TWO: &[(u8, Padding, &str)] = &[
