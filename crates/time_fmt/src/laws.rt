@@ -1,6 +1,8 @@
 //! Laws of descriptions: the contract of each function is the law, and its body does nothing.
 ghost use Rattle.time_fmt.specs.Laws.{EqualTreesHaveEqualOutcomes, FirstIsItsFirstItem, ListIsItsItemsInOrder, OutcomesAreAMonoid, MetadataIsACommutativeMonoid};
 
+pub mod parts;
+
 /// Two descriptions, of whichever types, whose trees are equal once bytes are read as texts and
 /// deprecated components as current ones, append the same bytes and give the same refusal.
 pub fn equal_trees_have_equal_outcomes()
