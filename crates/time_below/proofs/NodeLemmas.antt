@@ -29,7 +29,8 @@ pub record Summed (sum : Metadata) (all left : Trees) (all_size left_size : ℕ)
   pub width : min (sum.max_bytes_needed + trees_width left) greatest_usize ≡ min (trees_width all) greatest_usize
   pub text : (sum.guaranteed_utf8 && are_guaranteed_text left) ≡ are_guaranteed_text all
 
-and_assoc : (a b c : Bool) → ((a && b) && c) ≡ (a && (b && c))
+-- of three tests the order does not matter in which they are joined
+pub and_assoc : (a b c : Bool) → ((a && b) && c) ≡ (a && (b && c))
 and_assoc true b c = refl
 and_assoc false b c = refl
 

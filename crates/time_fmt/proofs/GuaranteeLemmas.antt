@@ -206,3 +206,7 @@ text_more t ts f first others h =
 pub text_stops : (t : Tree) (ts : Trees) (f : Facts) → IsTextIf (is_guaranteed_text t) (tree_outcome t f) → join (tree_outcome t f) (trees_outcome ts f) ≡ tree_outcome t f
     → IsTextIf (are_guaranteed_text (more t ts)) (trees_outcome (more t ts) f)
 text_stops t ts f first stops h = rw stops (first (both_true (is_guaranteed_text t) (are_guaranteed_text ts) h).0)
+
+-- one outcome after another is a text where both are
+pub text_both : (p q : Bool) (a b : Outcome) → IsTextIf p a → IsTextIf q b → IsTextIf (p && q) (join a b)
+text_both p q a b first second h = let both = both_true p q h in joined_utf8 a b (first both.0) (second both.1)

@@ -2,12 +2,13 @@ pub mod ConversionLemmas
 pub mod DateTextLemmas
 pub mod DecimalLemmas
 pub mod Engine
-pub mod GroupLemmas
 pub mod GuaranteeLemmas
 pub mod RealLemmas
 pub mod LawLemmas
 pub mod LongDivisionLemmas
 pub mod LongestLemmas
 pub mod NumberLemmas
+pub mod PartLemmas
 pub mod TextLemmas
+pub mod TrimLemmas
 pub mod WriteLemmas

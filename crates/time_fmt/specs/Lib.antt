@@ -2,10 +2,12 @@ pub mod DateText
 pub mod Decimals
 pub mod Description
 pub mod Errors
+pub mod Examples
 pub mod Guarantee
 pub mod Laws
 pub mod Longest
 pub mod Lossy
 pub mod Outcome
+pub mod Parts
 pub mod Room
 pub mod Text

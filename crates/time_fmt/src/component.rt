@@ -8,29 +8,13 @@ ghost use Rattle.time_fmt.specs.Guarantee.{IsRealPart};
 ghost use Rattle.time_fmt.specs.Outcome.{Appends};
 ghost use Rattle.time_fmt.specs.Room.{HasRoom};
 
-mod group;
-mod year;
-
-use crate::component::group::is_supplied;
-use crate::component::year::{extended_century, last_two, standard_century, standard_year};
 use crate::error::Format;
-use crate::writers::{
-    fmt_calendar_year_century_extended_range, fmt_calendar_year_century_standard_range,
-    fmt_calendar_year_full_extended_range, fmt_calendar_year_full_standard_range,
-    fmt_calendar_year_last_two, fmt_day, fmt_hour_12, fmt_hour_24,
-    fmt_iso_year_century_extended_range, fmt_iso_year_century_standard_range,
-    fmt_iso_year_full_extended_range, fmt_iso_year_full_standard_range, fmt_iso_year_last_two,
-    fmt_minute, fmt_month_long, fmt_month_numerical, fmt_month_short, fmt_offset_hour,
-    fmt_offset_minute, fmt_offset_second, fmt_ordinal, fmt_period, fmt_second, fmt_subsecond,
-    fmt_unix_timestamp_millisecond, fmt_unix_timestamp_second, fmt_week_number_iso,
-    fmt_week_number_monday, fmt_week_number_sunday, fmt_weekday_long, fmt_weekday_monday,
-    fmt_weekday_short, fmt_weekday_sunday,
-};
+use crate::modifier::Modifier;
 use time_below::format_description::Component;
 use time_provide::ComponentProvider;
 
-/// Appends the text of a component that is met often and never refused, where the value supplies its
-/// part, and answers the number of bytes. Of any other component it writes nothing, and answers nothing.
+/// Appends the text of a component that is met often, and answers the number of bytes. Of any other
+/// component, and of one that is refused, it writes nothing, and answers nothing.
 #[inline(always)]
 pub(crate) fn write_common<V: ComponentProvider>(
     component: Component,
@@ -49,32 +33,41 @@ pub(crate) fn write_common<V: ComponentProvider>(
     ensures agrees { V.agrees state.new value.now }
 {
     match component {
-        Component::Day(modifier) if V::SUPPLIES_DATE => {
-            Some(fmt_day(output, value.day(state), modifier))
+        Component::Day(part) => write_unless_refused(part, output, value, state),
+        Component::MonthNumerical(part) => write_unless_refused(part, output, value, state),
+        Component::CalendarYearFullExtendedRange(part) => {
+            write_unless_refused(part, output, value, state)
         }
-        Component::MonthNumerical(modifier) if V::SUPPLIES_DATE => {
-            Some(fmt_month_numerical(output, value.month(state), modifier))
-        }
-        Component::CalendarYearFullExtendedRange(modifier) if V::SUPPLIES_DATE => {
-            Some(fmt_calendar_year_full_extended_range(
-                output,
-                value.calendar_year(state),
-                modifier,
-            ))
-        }
-        Component::Hour24(modifier) if V::SUPPLIES_TIME => {
-            Some(fmt_hour_24(output, value.hour(state), modifier))
-        }
-        Component::Minute(modifier) if V::SUPPLIES_TIME => {
-            Some(fmt_minute(output, value.minute(state), modifier))
-        }
-        Component::Second(modifier) if V::SUPPLIES_TIME => {
-            Some(fmt_second(output, value.second(state), modifier))
-        }
-        Component::Subsecond(modifier) if V::SUPPLIES_TIME => {
-            Some(fmt_subsecond(output, value.nanosecond(state), modifier))
-        }
+        Component::Hour24(part) => write_unless_refused(part, output, value, state),
+        Component::Minute(part) => write_unless_refused(part, output, value, state),
+        Component::Second(part) => write_unless_refused(part, output, value, state),
+        Component::Subsecond(part) => write_unless_refused(part, output, value, state),
         _ => None,
+    }
+}
+
+// The same of any component that is not deprecated, by its own choices.
+#[inline(always)]
+fn write_unless_refused<M: Modifier, V: ComponentProvider>(
+    part: M,
+    output: &mut Vec<u8>,
+    value: &V,
+    state: &mut V::State,
+) -> Option<usize>
+    requires room { HasRoom output.old (component_width (M.component_of part)) }
+    requires agrees { V.agrees state.old value.now }
+    ensures appends { MatchOption result (output.new ≡ output.old)
+        (λ count. Appends output.old output.new (Ok count)
+        (component_outcome (M.component_of part) (V.facts value.now))) }
+    ensures within { vec_len output.new
+        ≤ vec_len output.old + component_width (M.component_of part) }
+    ensures real { IfSome result
+        (λ _. IsRealPart (group_of (current_component (M.component_of part))) (V.facts value.now)) }
+    ensures agrees { V.agrees state.new value.now }
+{
+    match part.write(output, value, state) {
+        Ok(count) => Some(count),
+        Err(_) => None,
     }
 }
 
@@ -118,133 +111,40 @@ fn current_write_into<V: ComponentProvider>(
     ensures real { IsRealPart (group_of component) (V.facts value.now) }
     ensures agrees { V.agrees state.new value.now }
 {
-    if !is_supplied::<V>(component.group()) {
-        return Err(Format::InsufficientTypeInformation);
-    }
     match component {
-        Component::Day(modifier) => { Ok(fmt_day(output, value.day(state), modifier)) }
-        Component::MonthShort(modifier) => {
-            Ok(fmt_month_short(output, value.month(state), modifier))
-        }
-        Component::MonthLong(modifier) => {
-            Ok(fmt_month_long(output, value.month(state), modifier))
-        }
-        Component::MonthNumerical(modifier) => {
-            Ok(fmt_month_numerical(output, value.month(state), modifier))
-        }
-        Component::Ordinal(modifier) => { Ok(fmt_ordinal(output, value.ordinal(state), modifier)) }
-        Component::WeekdayShort(modifier) => {
-            Ok(fmt_weekday_short(output, value.weekday(state), modifier))
-        }
-        Component::WeekdayLong(modifier) => {
-            Ok(fmt_weekday_long(output, value.weekday(state), modifier))
-        }
-        Component::WeekdaySunday(modifier) => {
-            Ok(fmt_weekday_sunday(output, value.weekday(state), modifier))
-        }
-        Component::WeekdayMonday(modifier) => {
-            Ok(fmt_weekday_monday(output, value.weekday(state), modifier))
-        }
-        Component::WeekNumberIso(modifier) => {
-            Ok(fmt_week_number_iso(output, value.iso_week_number(state), modifier))
-        }
-        Component::WeekNumberSunday(modifier) => {
-            Ok(fmt_week_number_sunday(output, value.sunday_based_week(state), modifier))
-        }
-        Component::WeekNumberMonday(modifier) => {
-            Ok(fmt_week_number_monday(output, value.monday_based_week(state), modifier))
-        }
-        Component::CalendarYearFullExtendedRange(modifier) => {
-            Ok(fmt_calendar_year_full_extended_range(output, value.calendar_year(state), modifier))
-        }
-        Component::CalendarYearFullStandardRange(modifier) => {
-            match standard_year(value.calendar_year(state)) {
-                Ok(year) => Ok(fmt_calendar_year_full_standard_range(output, year, modifier)),
-                Err(refusal) => Err(refusal),
-            }
-        }
-        Component::CalendarYearCenturyExtendedRange(modifier) => {
-            let year = value.calendar_year(state);
-            let century = extended_century(year);
-            Ok(fmt_calendar_year_century_extended_range(
-                output,
-                century,
-                year.is_negative(),
-                modifier,
-            ))
-        }
-        Component::CalendarYearCenturyStandardRange(modifier) => {
-            let year = value.calendar_year(state);
-            match standard_century(year) {
-                Ok(century) => Ok(fmt_calendar_year_century_standard_range(
-                    output,
-                    century,
-                    year.is_negative(),
-                    modifier,
-                )),
-                Err(refusal) => Err(refusal),
-            }
-        }
-        Component::CalendarYearLastTwo(modifier) => {
-            Ok(fmt_calendar_year_last_two(output, last_two(value.calendar_year(state)), modifier))
-        }
-        Component::IsoYearFullExtendedRange(modifier) => {
-            Ok(fmt_iso_year_full_extended_range(output, value.iso_year(state), modifier))
-        }
-        Component::IsoYearFullStandardRange(modifier) => {
-            match standard_year(value.iso_year(state)) {
-                Ok(year) => Ok(fmt_iso_year_full_standard_range(output, year, modifier)),
-                Err(refusal) => Err(refusal),
-            }
-        }
-        Component::IsoYearCenturyExtendedRange(modifier) => {
-            let year = value.iso_year(state);
-            let century = extended_century(year);
-            Ok(fmt_iso_year_century_extended_range(output, century, year.is_negative(), modifier))
-        }
-        Component::IsoYearCenturyStandardRange(modifier) => {
-            let year = value.iso_year(state);
-            match standard_century(year) {
-                Ok(century) => Ok(fmt_iso_year_century_standard_range(
-                    output,
-                    century,
-                    year.is_negative(),
-                    modifier,
-                )),
-                Err(refusal) => Err(refusal),
-            }
-        }
-        Component::IsoYearLastTwo(modifier) => {
-            Ok(fmt_iso_year_last_two(output, last_two(value.iso_year(state)), modifier))
-        }
-        Component::Hour12(modifier) => { Ok(fmt_hour_12(output, value.hour(state), modifier)) }
-        Component::Hour24(modifier) => { Ok(fmt_hour_24(output, value.hour(state), modifier)) }
-        Component::Minute(modifier) => { Ok(fmt_minute(output, value.minute(state), modifier)) }
-        Component::Period(modifier) => { Ok(fmt_period(output, value.period(state), modifier)) }
-        Component::Second(modifier) => { Ok(fmt_second(output, value.second(state), modifier)) }
-        Component::Subsecond(modifier) => {
-            Ok(fmt_subsecond(output, value.nanosecond(state), modifier))
-        }
-        Component::OffsetHour(modifier) => {
-            let is_negative = value.offset_is_negative(state);
-            Ok(fmt_offset_hour(output, is_negative, value.offset_hour(state), modifier))
-        }
-        Component::OffsetMinute(modifier) => {
-            Ok(fmt_offset_minute(output, value.offset_minute(state), modifier))
-        }
-        Component::OffsetSecond(modifier) => {
-            Ok(fmt_offset_second(output, value.offset_second(state), modifier))
-        }
-        Component::UnixTimestampSecond(modifier) => {
-            Ok(fmt_unix_timestamp_second(output, value.unix_timestamp_seconds(state), modifier))
-        }
-        Component::UnixTimestampMillisecond(modifier) => {
-            Ok(fmt_unix_timestamp_millisecond(
-                output,
-                value.unix_timestamp_milliseconds(state),
-                modifier,
-            ))
-        }
+        Component::Day(part) => part.write(output, value, state),
+        Component::MonthShort(part) => part.write(output, value, state),
+        Component::MonthLong(part) => part.write(output, value, state),
+        Component::MonthNumerical(part) => part.write(output, value, state),
+        Component::Ordinal(part) => part.write(output, value, state),
+        Component::WeekdayShort(part) => part.write(output, value, state),
+        Component::WeekdayLong(part) => part.write(output, value, state),
+        Component::WeekdaySunday(part) => part.write(output, value, state),
+        Component::WeekdayMonday(part) => part.write(output, value, state),
+        Component::WeekNumberIso(part) => part.write(output, value, state),
+        Component::WeekNumberSunday(part) => part.write(output, value, state),
+        Component::WeekNumberMonday(part) => part.write(output, value, state),
+        Component::CalendarYearFullExtendedRange(part) => part.write(output, value, state),
+        Component::CalendarYearFullStandardRange(part) => part.write(output, value, state),
+        Component::CalendarYearCenturyExtendedRange(part) => part.write(output, value, state),
+        Component::CalendarYearCenturyStandardRange(part) => part.write(output, value, state),
+        Component::CalendarYearLastTwo(part) => part.write(output, value, state),
+        Component::IsoYearFullExtendedRange(part) => part.write(output, value, state),
+        Component::IsoYearFullStandardRange(part) => part.write(output, value, state),
+        Component::IsoYearCenturyExtendedRange(part) => part.write(output, value, state),
+        Component::IsoYearCenturyStandardRange(part) => part.write(output, value, state),
+        Component::IsoYearLastTwo(part) => part.write(output, value, state),
+        Component::Hour12(part) => part.write(output, value, state),
+        Component::Hour24(part) => part.write(output, value, state),
+        Component::Minute(part) => part.write(output, value, state),
+        Component::Period(part) => part.write(output, value, state),
+        Component::Second(part) => part.write(output, value, state),
+        Component::Subsecond(part) => part.write(output, value, state),
+        Component::OffsetHour(part) => part.write(output, value, state),
+        Component::OffsetMinute(part) => part.write(output, value, state),
+        Component::OffsetSecond(part) => part.write(output, value, state),
+        Component::UnixTimestampSecond(part) => part.write(output, value, state),
+        Component::UnixTimestampMillisecond(part) => part.write(output, value, state),
         Component::Ignore(_) | Component::End(_) => Ok(0),
         Component::Month(_)
         | Component::Weekday(_)

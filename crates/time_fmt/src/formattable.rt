@@ -8,12 +8,14 @@ ghost use Rattle.time_fmt.specs.Room.{HasRoom};
 
 mod engine;
 mod lists;
+mod parts;
 mod trees;
 
 use crate::error::Format;
 use crate::metadata::ComputeMetadata;
 use bstr::ByteVec;
 pub use lists::{BorrowedItems, OwnedItems};
+pub use parts::Literal;
 use std::alloc::{AllocError, Global};
 use time_provide::ComponentProvider;
 pub use trees::v3_write_into;

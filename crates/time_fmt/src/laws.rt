@@ -65,6 +65,8 @@ pub fn owned_items_mean_their_list(items: OwnedItems<'_>)
         (all_of (trees (map owned_tree items.entry.0.now))) }
 {}
 
+pub mod parts;
+
 /// Two descriptions, of whichever types, whose trees are equal once bytes are read as texts and
 /// deprecated components as current ones, append the same bytes and give the same refusal.
 pub fn equal_trees_have_equal_outcomes()

@@ -3,14 +3,18 @@
 
 mod component;
 mod error;
+pub mod examples;
 mod formattable;
 pub mod laws;
 mod metadata;
+mod modifier;
+pub mod parts;
 pub mod writers;
 
 pub use component::component_write_into;
 pub use error::{Error, Format};
-pub use formattable::{BorrowedItems, Formattable, OwnedItems, v3_write_into};
+pub use formattable::{BorrowedItems, Formattable, Literal, OwnedItems, v3_write_into};
 pub use metadata::ComputeMetadata;
+pub use modifier::Modifier;
 pub use time_below::format_description::Metadata;
 pub use time_provide::{ComponentProvider, DateState, TimestampState};

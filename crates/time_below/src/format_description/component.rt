@@ -232,7 +232,9 @@ pub fn component_width(component: &Component) -> usize
     }
 }
 
-fn subsecond_width(digits: SubsecondDigits) -> usize
+/// The most bytes that so many decimals of a second have.
+#[inline(always)]
+pub fn subsecond_width(digits: SubsecondDigits) -> usize
     ensures { result ≡ subsecond_width digits }
 {
     match digits {

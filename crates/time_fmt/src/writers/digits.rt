@@ -4,7 +4,7 @@ ghost use Rattle.time_digits.specs.Digits.{zero_padded};
 ghost use Rattle.time_fmt.specs.Room.{HasRoom, Writes};
 ghost use Rattle.time_fmt.specs.Text.{padded_text, sign_text};
 
-use crate::writers::plain::{write, write_if, write_many};
+use crate::writers::plain::{write, write_if, write_many, write_pair};
 use time_below::format_description::modifier::Padding;
 use time_digits::num_fmt::{
     five_digits_zero_padded, four_digits_space_padded, four_digits_zero_padded,
@@ -15,7 +15,7 @@ use time_digits::num_fmt::{
 use time_digits::{ru8, ru16, ru32};
 
 /// Appends a minus, or a plus where it is wanted.
-#[inline]
+#[inline(always)]
 pub fn fmt_sign(output: &mut Vec<u8>, is_negative: bool, sign_is_mandatory: bool) -> usize
     requires room { HasRoom output.old (length (sign_text is_negative sign_is_mandatory)) }
     ensures writes { Writes output.old output.new result (sign_text is_negative sign_is_mandatory) }
@@ -43,7 +43,7 @@ pub fn format_two_digits(output: &mut Vec<u8>, value: ru8<0, 99>, padding: Paddi
     ensures writes { Writes output.old output.new result (padded_text padding 2 value) }
 {
     match padding {
-        Padding::Zero => write(output, two_digits_zero_padded(value)),
+        Padding::Zero => write_pair(output, two_digits_zero_padded(value)),
         rare => write_two_places(output, value, rare),
     }
 }
@@ -106,8 +106,8 @@ pub fn format_four_digits_pad_zero(output: &mut Vec<u8>, value: ru16<0, 9_999>) 
     ensures writes { Writes output.old output.new result (zero_padded 4 value) }
 {
     let [high, low] = four_digits_zero_padded(value);
-    let count = write(output, high);
-    count + write(output, low)
+    let count = write_pair(output, high);
+    count + write_pair(output, low)
 }
 
 /// Appends a number in five places, with zeros in front.

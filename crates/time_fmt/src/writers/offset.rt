@@ -1,14 +1,18 @@
-//! The components of an offset from UTC.
+//! The components of an offset from UTC: their texts, widths and writers.
 ghost use Rattle.std.specs.Prelude.{length, unsigned_abs};
+ghost use Rattle.time_below.specs.declared.format_description.component.Component.TheVariants as component;
 ghost use Rattle.time_fmt.specs.Room.{HasRoom, Writes};
 ghost use Rattle.time_fmt.specs.Text.{padded_text, offset_hour_text};
 
+use crate::error::Format;
+use crate::modifier::Modifier;
 use crate::writers::digits::{fmt_sign, format_two_digits};
 use time_below::format_description::modifier;
+use time_provide::ComponentProvider;
 use time_provide::ranges::{OffsetHours, OffsetMinutes, OffsetSeconds};
 
 /// Appends the sign of the whole offset, and its hour, 0 to 25, in two places.
-#[inline]
+#[inline(always)]
 #[tactic(auto, using(crate::proofs::TextLemmas::signed_parts))]
 pub fn fmt_offset_hour(
     output: &mut Vec<u8>,
@@ -25,8 +29,32 @@ pub fn fmt_offset_hour(
     sign + format_two_digits(output, hour.abs().expand(), modifier.padding)
 }
 
+impl Modifier for modifier::OffsetHour {
+    ghost component_of = { component.OffsetHour };
+
+    #[inline(always)]
+    fn width(self) -> usize {
+        3
+    }
+
+    #[inline(always)]
+    #[tactic(auto, using(crate::proofs::TextLemmas::text_lengths))]
+    fn write<V: ComponentProvider>(
+        self,
+        output: &mut Vec<u8>,
+        value: &V,
+        state: &mut V::State,
+    ) -> Result<usize, Format> {
+        if !V::SUPPLIES_OFFSET {
+            return Err(Format::InsufficientTypeInformation);
+        }
+        let is_negative = value.offset_is_negative(state);
+        Ok(fmt_offset_hour(output, is_negative, value.offset_hour(state), self))
+    }
+}
+
 /// Appends the minute of the offset, 0 to 59, in two places, without a sign.
-#[inline]
+#[inline(always)]
 pub fn fmt_offset_minute(
     output: &mut Vec<u8>,
     minute: OffsetMinutes,
@@ -40,8 +68,31 @@ pub fn fmt_offset_minute(
     format_two_digits(output, minute.abs().expand(), modifier.padding)
 }
 
+impl Modifier for modifier::OffsetMinute {
+    ghost component_of = { component.OffsetMinute };
+
+    #[inline(always)]
+    fn width(self) -> usize {
+        2
+    }
+
+    #[inline(always)]
+    #[tactic(auto, using(crate::proofs::TextLemmas::two_places))]
+    fn write<V: ComponentProvider>(
+        self,
+        output: &mut Vec<u8>,
+        value: &V,
+        state: &mut V::State,
+    ) -> Result<usize, Format> {
+        if !V::SUPPLIES_OFFSET {
+            return Err(Format::InsufficientTypeInformation);
+        }
+        Ok(fmt_offset_minute(output, value.offset_minute(state), self))
+    }
+}
+
 /// Appends the second of the offset, 0 to 59, in two places, without a sign.
-#[inline]
+#[inline(always)]
 pub fn fmt_offset_second(
     output: &mut Vec<u8>,
     second: OffsetSeconds,
@@ -53,4 +104,27 @@ pub fn fmt_offset_second(
         (padded_text modifier.padding 2 (unsigned_abs second)) }
 {
     format_two_digits(output, second.abs().expand(), modifier.padding)
+}
+
+impl Modifier for modifier::OffsetSecond {
+    ghost component_of = { component.OffsetSecond };
+
+    #[inline(always)]
+    fn width(self) -> usize {
+        2
+    }
+
+    #[inline(always)]
+    #[tactic(auto, using(crate::proofs::TextLemmas::two_places))]
+    fn write<V: ComponentProvider>(
+        self,
+        output: &mut Vec<u8>,
+        value: &V,
+        state: &mut V::State,
+    ) -> Result<usize, Format> {
+        if !V::SUPPLIES_OFFSET {
+            return Err(Format::InsufficientTypeInformation);
+        }
+        Ok(fmt_offset_second(output, value.offset_second(state), self))
+    }
 }

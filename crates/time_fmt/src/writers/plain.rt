@@ -83,6 +83,21 @@ pub fn write(output: &mut Vec<u8>, text: &str) -> usize
     write_bytes(output, text.as_bytes())
 }
 
+// Appends a text of two bytes. What becomes part of a large function is counted before anything is
+// folded, so this has no case for other lengths.
+#[inline(always)]
+pub(super) fn write_pair(output: &mut Vec<u8>, text: &str) -> usize
+    requires pair { length text.now ≡ 2 }
+    requires room { HasRoom output.old 2 }
+    ensures writes { Writes output.old output.new result text.now }
+{
+    let bytes = text.as_bytes();
+    let (first, second) = (bytes[0], bytes[1]);
+    output.push_reserved(first);
+    output.push_reserved(second);
+    2
+}
+
 /// Appends the texts one after another, and answers the number of their bytes.
 #[inline]
 pub fn write_many(output: &mut Vec<u8>, texts: &[&str]) -> usize
@@ -97,7 +112,7 @@ pub fn write_many(output: &mut Vec<u8>, texts: &[&str]) -> usize
 }
 
 /// Appends the text if it is wanted, and answers the number of bytes appended.
-#[inline]
+#[inline(always)]
 pub fn write_if(output: &mut Vec<u8>, is_wanted: bool, text: &str) -> usize
     requires room { HasRoom output.old (length (if is_wanted then text.now else [])) }
     ensures writes { Writes output.old output.new result (if is_wanted then text.now else []) }

@@ -1,10 +1,14 @@
-//! The seconds and milliseconds since 1970-01-01T00:00:00 UTC.
+//! The seconds and milliseconds since 1970-01-01T00:00:00 UTC: their texts, widths and writers.
 ghost use Rattle.std.specs.Prelude.{length};
+ghost use Rattle.time_below.specs.declared.format_description.component.Component.TheVariants as component;
 ghost use Rattle.time_fmt.specs.Room.{HasRoom, Writes};
 ghost use Rattle.time_fmt.specs.Text.{timestamp_text};
 
+use crate::error::Format;
+use crate::modifier::Modifier;
 use crate::writers::digits::{fmt_sign, format_u64_pad_none};
 use time_below::format_description::modifier;
+use time_provide::ComponentProvider;
 
 /// Appends the seconds since 1970-01-01T00:00:00 UTC, a sign and all their digits.
 #[inline]
@@ -21,6 +25,29 @@ pub fn fmt_unix_timestamp_second(
     format_signed(output, seconds, modifier.sign_is_mandatory)
 }
 
+impl Modifier for modifier::UnixTimestampSecond {
+    ghost component_of = { component.UnixTimestampSecond };
+
+    #[inline(always)]
+    fn width(self) -> usize {
+        15
+    }
+
+    #[inline(always)]
+    #[tactic(auto, using(crate::proofs::TextLemmas::text_lengths))]
+    fn write<V: ComponentProvider>(
+        self,
+        output: &mut Vec<u8>,
+        value: &V,
+        state: &mut V::State,
+    ) -> Result<usize, Format> {
+        if !V::SUPPLIES_TIMESTAMP {
+            return Err(Format::InsufficientTypeInformation);
+        }
+        Ok(fmt_unix_timestamp_second(output, value.unix_timestamp_seconds(state), self))
+    }
+}
+
 /// Appends the milliseconds since 1970-01-01T00:00:00 UTC, a sign and all their digits.
 #[inline]
 pub fn fmt_unix_timestamp_millisecond(
@@ -34,6 +61,29 @@ pub fn fmt_unix_timestamp_millisecond(
         (timestamp_text modifier.sign_is_mandatory milliseconds) }
 {
     format_signed(output, milliseconds, modifier.sign_is_mandatory)
+}
+
+impl Modifier for modifier::UnixTimestampMillisecond {
+    ghost component_of = { component.UnixTimestampMillisecond };
+
+    #[inline(always)]
+    fn width(self) -> usize {
+        18
+    }
+
+    #[inline(always)]
+    #[tactic(auto, using(crate::proofs::TextLemmas::text_lengths))]
+    fn write<V: ComponentProvider>(
+        self,
+        output: &mut Vec<u8>,
+        value: &V,
+        state: &mut V::State,
+    ) -> Result<usize, Format> {
+        if !V::SUPPLIES_TIMESTAMP {
+            return Err(Format::InsufficientTypeInformation);
+        }
+        Ok(fmt_unix_timestamp_millisecond(output, value.unix_timestamp_milliseconds(state), self))
+    }
 }
 
 // The sign, and all digits.

@@ -1,19 +1,25 @@
-//! Years, centuries and the last two digits of a year.
+//! Whole years: their texts, widths and writers.
 //!
 //! The calendar year and the year of the week calendar have the same texts.
-ghost use Rattle.std.specs.Prelude.{Bool, ◌||◌, nat_lt, length, unsigned_abs};
+ghost use Rattle.std.specs.Prelude.{◌≡◌, ◌↔◌, ◌≤◌, IsOk, IfOk, IfErr, codes, length, unsigned_abs};
+ghost use Rattle.time_below.specs.ComponentRange.{conditional_range};
+ghost use Rattle.time_below.specs.declared.format_description.component.Component.TheVariants as component;
 ghost use Rattle.time_fmt.specs.DateText.{extended_year_text, standard_year_text};
-ghost use Rattle.time_fmt.specs.DateText.{extended_century_text, standard_century_text};
+ghost use Rattle.time_fmt.specs.Outcome.{Names, out_of_range};
 ghost use Rattle.time_fmt.specs.Room.{HasRoom, Writes};
 ghost use Rattle.time_fmt.specs.Text.{padded_text};
 
-use crate::writers::digits::{fmt_sign, format_four_digits, format_two_digits};
+use crate::error::Format;
+use crate::modifier::Modifier;
+use crate::writers::digits::{fmt_sign, format_four_digits};
 use crate::writers::plain::write_many;
+use time_below::ComponentRange;
 use time_below::format_description::modifier;
 use time_below::format_description::modifier::Padding;
-use time_digits::num_fmt::{four_to_six_digits, one_to_four_digits_no_padding};
-use time_digits::{ru8, ru16, ru32};
-use time_provide::ranges::{ExtendedCentury, LastTwo, StandardCentury, StandardYear, Year};
+use time_digits::num_fmt::four_to_six_digits;
+use time_digits::{ri16, ru16, ru32};
+use time_provide::ComponentProvider;
+use time_provide::ranges::{StandardYear, Year};
 
 /// Appends the sign and four places of the year, -999,999 to 999,999, or all its digits and a sign
 /// from 10,000 on.
@@ -31,6 +37,29 @@ pub fn fmt_calendar_year_full_extended_range(
     write_extended_year(output, year, modifier.padding, modifier.sign_is_mandatory)
 }
 
+impl Modifier for modifier::CalendarYearFullExtendedRange {
+    ghost component_of = { component.CalendarYearFullExtendedRange };
+
+    #[inline(always)]
+    fn width(self) -> usize {
+        7
+    }
+
+    #[inline(always)]
+    #[tactic(auto, using(crate::proofs::DateTextLemmas::year_lengths))]
+    fn write<V: ComponentProvider>(
+        self,
+        output: &mut Vec<u8>,
+        value: &V,
+        state: &mut V::State,
+    ) -> Result<usize, Format> {
+        if !V::SUPPLIES_DATE {
+            return Err(Format::InsufficientTypeInformation);
+        }
+        Ok(fmt_calendar_year_full_extended_range(output, value.calendar_year(state), self))
+    }
+}
+
 /// Appends the sign and four places of the year, -9,999 to 9,999.
 #[inline]
 pub fn fmt_calendar_year_full_standard_range(
@@ -44,6 +73,32 @@ pub fn fmt_calendar_year_full_standard_range(
         (standard_year_text modifier.padding modifier.sign_is_mandatory year) }
 {
     write_standard_year(output, year, modifier.padding, modifier.sign_is_mandatory)
+}
+
+impl Modifier for modifier::CalendarYearFullStandardRange {
+    ghost component_of = { component.CalendarYearFullStandardRange };
+
+    #[inline(always)]
+    fn width(self) -> usize {
+        5
+    }
+
+    #[inline(always)]
+    #[tactic(auto, using(crate::proofs::DateTextLemmas::year_lengths))]
+    fn write<V: ComponentProvider>(
+        self,
+        output: &mut Vec<u8>,
+        value: &V,
+        state: &mut V::State,
+    ) -> Result<usize, Format> {
+        if !V::SUPPLIES_DATE {
+            return Err(Format::InsufficientTypeInformation);
+        }
+        match standard_year(value.calendar_year(state)) {
+            Ok(year) => Ok(fmt_calendar_year_full_standard_range(output, year, self)),
+            Err(refusal) => Err(refusal),
+        }
+    }
 }
 
 /// Appends the sign and four places of the week calendar's year, -999,999 to 999,999
@@ -62,6 +117,29 @@ pub fn fmt_iso_year_full_extended_range(
     write_extended_year(output, year, modifier.padding, modifier.sign_is_mandatory)
 }
 
+impl Modifier for modifier::IsoYearFullExtendedRange {
+    ghost component_of = { component.IsoYearFullExtendedRange };
+
+    #[inline(always)]
+    fn width(self) -> usize {
+        7
+    }
+
+    #[inline(always)]
+    #[tactic(auto, using(crate::proofs::DateTextLemmas::year_lengths))]
+    fn write<V: ComponentProvider>(
+        self,
+        output: &mut Vec<u8>,
+        value: &V,
+        state: &mut V::State,
+    ) -> Result<usize, Format> {
+        if !V::SUPPLIES_DATE {
+            return Err(Format::InsufficientTypeInformation);
+        }
+        Ok(fmt_iso_year_full_extended_range(output, value.iso_year(state), self))
+    }
+}
+
 /// Appends the sign and four places of the week calendar's year, -9,999 to 9,999 (ISO 8601-1:2019).
 #[inline]
 pub fn fmt_iso_year_full_standard_range(
@@ -77,132 +155,30 @@ pub fn fmt_iso_year_full_standard_range(
     write_standard_year(output, year, modifier.padding, modifier.sign_is_mandatory)
 }
 
-/// Appends the year's sign and two places of its century, or all its digits and a sign from 100 on.
-#[inline]
-pub fn fmt_calendar_year_century_extended_range(
-    output: &mut Vec<u8>,
-    century: ExtendedCentury,
-    is_negative: bool,
-    modifier: modifier::CalendarYearCenturyExtendedRange,
-) -> usize
-    requires room { HasRoom output.old
-        (length (extended_century_text modifier.padding modifier.sign_is_mandatory
-        is_negative (unsigned_abs century))) }
-    ensures writes { Writes output.old output.new result
-        (extended_century_text modifier.padding modifier.sign_is_mandatory
-        is_negative (unsigned_abs century)) }
-{
-    let century = century.abs();
-    write_extended_century(
-        output,
-        century,
-        is_negative,
-        modifier.padding,
-        modifier.sign_is_mandatory,
-    )
-}
+impl Modifier for modifier::IsoYearFullStandardRange {
+    ghost component_of = { component.IsoYearFullStandardRange };
 
-/// Appends the year's sign and two places of its century.
-#[inline]
-pub fn fmt_calendar_year_century_standard_range(
-    output: &mut Vec<u8>,
-    century: StandardCentury,
-    is_negative: bool,
-    modifier: modifier::CalendarYearCenturyStandardRange,
-) -> usize
-    requires room { HasRoom output.old
-        (length (standard_century_text modifier.padding modifier.sign_is_mandatory
-        is_negative (unsigned_abs century))) }
-    ensures writes { Writes output.old output.new result
-        (standard_century_text modifier.padding modifier.sign_is_mandatory
-        is_negative (unsigned_abs century)) }
-{
-    let century = century.abs();
-    write_standard_century(
-        output,
-        century,
-        is_negative,
-        modifier.padding,
-        modifier.sign_is_mandatory,
-    )
-}
+    #[inline(always)]
+    fn width(self) -> usize {
+        5
+    }
 
-/// Appends the sign and two places of the century of the week calendar's year, or all its digits
-/// and a sign from 100 on. The sign is that of the year.
-#[inline]
-pub fn fmt_iso_year_century_extended_range(
-    output: &mut Vec<u8>,
-    century: ExtendedCentury,
-    is_negative: bool,
-    modifier: modifier::IsoYearCenturyExtendedRange,
-) -> usize
-    requires room { HasRoom output.old
-        (length (extended_century_text modifier.padding modifier.sign_is_mandatory
-        is_negative (unsigned_abs century))) }
-    ensures writes { Writes output.old output.new result
-        (extended_century_text modifier.padding modifier.sign_is_mandatory
-        is_negative (unsigned_abs century)) }
-{
-    let century = century.abs();
-    write_extended_century(
-        output,
-        century,
-        is_negative,
-        modifier.padding,
-        modifier.sign_is_mandatory,
-    )
-}
-
-/// Appends the sign and two places of the century of the week calendar's year. The sign is that of
-/// the year.
-#[inline]
-pub fn fmt_iso_year_century_standard_range(
-    output: &mut Vec<u8>,
-    century: StandardCentury,
-    is_negative: bool,
-    modifier: modifier::IsoYearCenturyStandardRange,
-) -> usize
-    requires room { HasRoom output.old
-        (length (standard_century_text modifier.padding modifier.sign_is_mandatory
-        is_negative (unsigned_abs century))) }
-    ensures writes { Writes output.old output.new result
-        (standard_century_text modifier.padding modifier.sign_is_mandatory
-        is_negative (unsigned_abs century)) }
-{
-    let century = century.abs();
-    write_standard_century(
-        output,
-        century,
-        is_negative,
-        modifier.padding,
-        modifier.sign_is_mandatory,
-    )
-}
-
-/// Appends the last two digits of the year, 0 to 99, in two places.
-#[inline]
-pub fn fmt_calendar_year_last_two(
-    output: &mut Vec<u8>,
-    last_two: LastTwo,
-    modifier: modifier::CalendarYearLastTwo,
-) -> usize
-    requires room { HasRoom output.old (length (padded_text modifier.padding 2 last_two)) }
-    ensures writes { Writes output.old output.new result (padded_text modifier.padding 2 last_two) }
-{
-    format_two_digits(output, last_two, modifier.padding)
-}
-
-/// Appends the last two digits of the week calendar's year, 0 to 99, in two places.
-#[inline]
-pub fn fmt_iso_year_last_two(
-    output: &mut Vec<u8>,
-    last_two: LastTwo,
-    modifier: modifier::IsoYearLastTwo,
-) -> usize
-    requires room { HasRoom output.old (length (padded_text modifier.padding 2 last_two)) }
-    ensures writes { Writes output.old output.new result (padded_text modifier.padding 2 last_two) }
-{
-    format_two_digits(output, last_two, modifier.padding)
+    #[inline(always)]
+    #[tactic(auto, using(crate::proofs::DateTextLemmas::year_lengths))]
+    fn write<V: ComponentProvider>(
+        self,
+        output: &mut Vec<u8>,
+        value: &V,
+        state: &mut V::State,
+    ) -> Result<usize, Format> {
+        if !V::SUPPLIES_DATE {
+            return Err(Format::InsufficientTypeInformation);
+        }
+        match standard_year(value.iso_year(state)) {
+            Ok(year) => Ok(fmt_iso_year_full_standard_range(output, year, self)),
+            Err(refusal) => Err(refusal),
+        }
+    }
 }
 
 // Most years have four digits and no sign.
@@ -258,38 +234,6 @@ fn write_standard_year(
     sign + format_four_digits(output, year.abs(), padding)
 }
 
-fn write_extended_century(
-    output: &mut Vec<u8>,
-    century: ru16<0, 9_999>,
-    is_negative: bool,
-    padding: Padding,
-    sign_is_mandatory: bool,
-) -> usize
-    requires room { HasRoom output.old
-        (length (extended_century_text padding sign_is_mandatory is_negative century)) }
-    ensures writes { Writes output.old output.new result
-        (extended_century_text padding sign_is_mandatory is_negative century) }
-{
-    let sign = fmt_sign(output, is_negative, sign_is_mandatory || century.get() > 99);
-    sign + write_century_digits(output, century, padding)
-}
-
-fn write_standard_century(
-    output: &mut Vec<u8>,
-    century: ru8<0, 99>,
-    is_negative: bool,
-    padding: Padding,
-    sign_is_mandatory: bool,
-) -> usize
-    requires room { HasRoom output.old
-        (length (standard_century_text padding sign_is_mandatory is_negative century)) }
-    ensures writes { Writes output.old output.new result
-        (standard_century_text padding sign_is_mandatory is_negative century) }
-{
-    let sign = fmt_sign(output, is_negative, sign_is_mandatory);
-    sign + format_two_digits(output, century, padding)
-}
-
 // Appends a year in four places, or all its digits.
 #[tactic(auto, using(crate::proofs::DateTextLemmas::whole_year))]
 fn write_year_digits(output: &mut Vec<u8>, year: ru32<0, 999_999>, padding: Padding) -> usize
@@ -304,16 +248,16 @@ fn write_year_digits(output: &mut Vec<u8>, year: ru32<0, 999_999>, padding: Padd
     }
 }
 
-// Appends a century in two places, or all its digits.
-#[tactic(auto, using(crate::proofs::DateTextLemmas::whole_century))]
-fn write_century_digits(output: &mut Vec<u8>, century: ru16<0, 9_999>, padding: Padding) -> usize
-    requires room { HasRoom output.old (length (padded_text padding 2 century)) }
-    ensures writes { Writes output.old output.new result (padded_text padding 2 century) }
+// The year, if it has at most four digits.
+fn standard_year(year: Year) -> Result<StandardYear, Format>
+    ensures accepted { IsOk result ↔ (unsigned_abs year ≤ 9_999) }
+    ensures value { IfOk result (λ y. y ≡ year) }
+    ensures refusal { IfErr result
+        (λ e. Names e (out_of_range (conditional_range (codes "year")))) }
 {
-    let number = century.get();
-    if number < 100 {
-        format_two_digits(output, ru8::new(number as u8).unwrap(), padding)
-    } else {
-        write_many(output, &one_to_four_digits_no_padding(century))
+    let number = year.get();
+    if number.unsigned_abs() > 9_999 {
+        return Err(Format::ComponentRange(ComponentRange::conditional("year")));
     }
+    Ok(ri16::new(number as i16).unwrap())
 }

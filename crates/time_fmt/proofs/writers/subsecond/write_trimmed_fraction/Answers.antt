@@ -2,7 +2,7 @@ use Rattle.std.proofs.Common.{sym, subst, List, ℕ}
 use Rattle.std.specs.Str.Parse.{AllDigits}
 use Rattle.time_digits.proofs.DigitLemmas.{fixed_digits}
 use Rattle.time_fmt.proofs.DecimalLemmas.{eight_of_word, kept_of_nine}
-use Rattle.time_fmt.proofs.writers.time.write_trimmed_fraction.Goals as goal
+use Rattle.time_fmt.proofs.writers.subsecond.write_trimmed_fraction.Goals as goal
 
 pub zeros_to_drop-dropped-requires : goal.zeros_to_drop-dropped-requires
 zeros_to_drop-dropped-requires c =

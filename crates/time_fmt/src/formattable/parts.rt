@@ -1,0 +1,151 @@
+//! Descriptions that are known when they are compiled: a text, the choices of a component, and a pair of
+//! descriptions.
+ghost use Rattle.std.specs.Char.{is_ascii};
+ghost use Rattle.std.specs.List.{list_all};
+ghost use Rattle.std.specs.Prelude.{◌≡◌, ◌+◌, ◌&&◌, length, true};
+ghost use Rattle.time_below.specs.Width.{component_width};
+ghost use Rattle.time_fmt.specs.Description.{component_outcome};
+ghost use Rattle.time_fmt.specs.Outcome.{done, join};
+ghost use Rattle.time_fmt.specs.Room.{HasRoom, Writes};
+
+use crate::error::Format;
+use crate::formattable::{Formattable, make_room};
+use crate::metadata::ComputeMetadata;
+use crate::modifier::Modifier;
+use std::mem::{forget, replace};
+use time_below::format_description::Metadata;
+use time_provide::ComponentProvider;
+
+/// A text as it is, of so many bytes. It is sure to be UTF-8 where it is ASCII.
+#[derive(Clone, Copy)]
+pub struct Literal<const N: usize>(pub [u8; N]);
+
+impl<const N: usize> ComputeMetadata for Literal<N> {
+    ghost width_of = { λ text. length text.0 };
+
+    ghost is_guaranteed = { λ text. list_all is_ascii text.0 };
+
+    #[inline(always)]
+    fn compute_metadata(&self) -> Metadata {
+        Metadata {
+            max_bytes_needed: N,
+            guaranteed_utf8: is_text(self.0.as_slice()),
+        }
+    }
+}
+
+impl<const N: usize> Formattable for Literal<N> {
+    ghost outcome_of = { λ text _. done text.0 };
+
+    #[inline(always)]
+    fn write_into<V: ComponentProvider>(
+        &self,
+        output: &mut Vec<u8>,
+        _value: &V,
+        _state: &mut V::State,
+    ) -> Result<usize, Format> {
+        Ok(write_each(output, self.0.as_slice()))
+    }
+}
+
+// Whether the bytes are ASCII.
+#[inline]
+fn is_text(bytes: &[u8]) -> bool
+    ensures { result ≡ list_all is_ascii bytes.now }
+{
+    bytes.iter().all(|byte| byte.is_ascii())
+}
+
+// Appends the bytes. Where their number is known, the loop is a few stores.
+#[inline(always)]
+fn write_each(output: &mut Vec<u8>, bytes: &[u8]) -> usize
+    requires room { HasRoom output.old (length bytes.now) }
+    ensures writes { Writes output.old output.new result bytes.now }
+{
+    for byte in bytes {
+        output.push_reserved(*byte);
+    }
+    bytes.len()
+}
+
+/// One description after the other.
+impl<A: ComputeMetadata, B: ComputeMetadata> ComputeMetadata for (A, B) {
+    ghost width_of = { λ both. A.width_of both.0 + B.width_of both.1 };
+
+    ghost is_guaranteed = { λ both. A.is_guaranteed both.0 && B.is_guaranteed both.1 };
+
+    #[inline(always)]
+    fn compute_metadata(&self) -> Metadata {
+        self.0.compute_metadata() + self.1.compute_metadata()
+    }
+}
+
+impl<A: Formattable, B: Formattable> Formattable for (A, B) {
+    ghost outcome_of = { λ both facts.
+        join (A.outcome_of both.0 facts) (B.outcome_of both.1 facts) };
+
+    #[inline(always)]
+    fn write_into<V: ComponentProvider>(
+        &self,
+        output: &mut Vec<u8>,
+        value: &V,
+        state: &mut V::State,
+    ) -> Result<usize, Format> {
+        match self.0.write_into(output, value, state) {
+            Ok(first) => match self.1.write_into(output, value, state) {
+                Ok(second) => Ok(first + second),
+                Err(refusal) => Err(refusal),
+            },
+            Err(refusal) => Err(refusal),
+        }
+    }
+
+    // As of any description, but part of the caller, where the choices are known. The vector is taken
+    // out meanwhile, so that the compiler sees that its block does not move.
+    #[inline(always)]
+    fn format_into<V: ComponentProvider>(
+        &self,
+        output: &mut Vec<u8>,
+        value: &V,
+        state: &mut V::State,
+    ) -> Result<usize, Format> {
+        let width = self.compute_metadata().max_bytes_needed;
+        if width == usize::MAX || make_room(output, width).is_err() {
+            return Err(Format::OutOfMemory);
+        }
+        let alloc = *output.allocator();
+        let mut taken = replace(output, Vec::new(alloc));
+        let written = self.write_into(&mut taken, value, state);
+        forget(replace(output, taken));
+        written
+    }
+}
+
+/// The choices of one component.
+impl<M: Modifier> ComputeMetadata for M {
+    ghost width_of = { λ part. component_width (M.component_of part) };
+
+    ghost is_guaranteed = { λ _. true };
+
+    #[inline(always)]
+    fn compute_metadata(&self) -> Metadata {
+        Metadata {
+            max_bytes_needed: self.width(),
+            guaranteed_utf8: true,
+        }
+    }
+}
+
+impl<M: Modifier> Formattable for M {
+    ghost outcome_of = { λ part. component_outcome (M.component_of part) };
+
+    #[inline(always)]
+    fn write_into<V: ComponentProvider>(
+        &self,
+        output: &mut Vec<u8>,
+        value: &V,
+        state: &mut V::State,
+    ) -> Result<usize, Format> {
+        self.write(output, value, state)
+    }
+}

@@ -1,0 +1,167 @@
+//! The decimals of the second: their texts, width and writer.
+ghost use Rattle.std.specs.Prelude.{◌≡◌, ◌<◌, length};
+ghost use Rattle.time_below.specs.declared.format_description.component.Component.TheVariants as component;
+ghost use Rattle.time_digits.specs.Digits.{fixed};
+ghost use Rattle.time_digits.specs.Fraction.{trimmed_fraction};
+ghost use Rattle.time_fmt.specs.Room.{HasRoom, Writes};
+ghost use Rattle.time_fmt.specs.Text.{subsecond_text};
+
+use crate::error::Format;
+use crate::modifier::Modifier;
+use crate::writers::digits::{
+    format_five_digits_pad_zero, format_four_digits_pad_zero, format_single_digit,
+    format_six_digits_pad_zero, format_three_digits, format_two_digits,
+};
+use crate::writers::plain::{write, write_bytes, write_many, write_pair};
+use time_below::format_description::modifier::{Padding, SubsecondDigits};
+use time_below::format_description::{modifier, subsecond_width};
+use time_digits::num_fmt::{subsecond_from_nanos, zeros_to_drop};
+use time_digits::{ru8, ru16, ru32};
+use time_provide::ComponentProvider;
+use time_provide::ranges::Nanoseconds;
+
+/// Appends the first decimals of the second, one to nine, or as many as are needed, at least one.
+#[inline]
+#[tactic(auto, using(crate::proofs::DecimalLemmas::first_decimals))]
+pub fn fmt_subsecond(
+    output: &mut Vec<u8>,
+    nanosecond: Nanoseconds,
+    modifier: modifier::Subsecond,
+) -> usize
+    requires room { HasRoom output.old (length (subsecond_text modifier.digits nanosecond)) }
+    ensures writes { Writes output.old output.new result
+        (subsecond_text modifier.digits nanosecond) }
+{
+    let number = nanosecond.get();
+    match modifier.digits {
+        SubsecondDigits::One => {
+            format_single_digit(output, ru8::new((number / 100_000_000) as u8).unwrap())
+        }
+        SubsecondDigits::Two => {
+            let first = ru8::new((number / 10_000_000) as u8).unwrap();
+            format_two_digits(output, first, Padding::Zero)
+        }
+        SubsecondDigits::Three => {
+            let first = ru16::new((number / 1_000_000) as u16).unwrap();
+            format_three_digits(output, first, Padding::Zero)
+        }
+        SubsecondDigits::Four => {
+            format_four_digits_pad_zero(output, ru16::new((number / 100_000) as u16).unwrap())
+        }
+        SubsecondDigits::Five => {
+            format_five_digits_pad_zero(output, ru32::new(number / 10_000).unwrap())
+        }
+        SubsecondDigits::Six => {
+            format_six_digits_pad_zero(output, ru32::new(number / 1_000).unwrap())
+        }
+        SubsecondDigits::Seven => format_seven_digits(output, number / 100),
+        SubsecondDigits::Eight => format_eight_digits(output, number / 10),
+        SubsecondDigits::Nine => write_many(output, &subsecond_from_nanos(nanosecond)),
+        SubsecondDigits::OneOrMore => write_trimmed_fraction(output, nanosecond),
+    }
+}
+
+impl Modifier for modifier::Subsecond {
+    ghost component_of = { component.Subsecond };
+
+    #[inline(always)]
+    fn width(self) -> usize {
+        subsecond_width(self.digits)
+    }
+
+    #[inline(always)]
+    #[tactic(auto, using(crate::proofs::DecimalLemmas::subsecond_lengths))]
+    fn write<V: ComponentProvider>(
+        self,
+        output: &mut Vec<u8>,
+        value: &V,
+        state: &mut V::State,
+    ) -> Result<usize, Format> {
+        if !V::SUPPLIES_TIME {
+            return Err(Format::InsufficientTypeInformation);
+        }
+        let nanosecond = value.nanosecond(state);
+        match self.digits {
+            SubsecondDigits::OneOrMore => Ok(write_fraction(output, nanosecond)),
+            _ => Ok(fmt_subsecond(output, nanosecond, self)),
+        }
+    }
+}
+
+// Appends the nine digits, and takes the zeros at their end away again, but for the first digit. There
+// has to be room for nine.
+#[inline(always)]
+#[tactic(auto, using(crate::proofs::TrimLemmas::digit_lengths))]
+fn write_fraction(output: &mut Vec<u8>, nanosecond: Nanoseconds) -> usize
+    requires room { HasRoom output.old 9 }
+    ensures writes { Writes output.old output.new result (trimmed_fraction nanosecond) }
+{
+    write_nine_digits(output, nanosecond);
+    let last_eight = *output.last_chunk::<8>().unwrap();
+    let zeros = zeros_to_drop(u64::from_le_bytes(last_eight)) as usize;
+    output.truncate(output.len() - zeros);
+    9 - zeros
+}
+
+// Appends the nine digits.
+#[inline(always)]
+fn write_nine_digits(output: &mut Vec<u8>, nanosecond: Nanoseconds) -> usize
+    requires room { HasRoom output.old 9 }
+    ensures writes { Writes output.old output.new result (fixed 9 nanosecond) }
+{
+    let [first, second, third, fourth, fifth] = subsecond_from_nanos(nanosecond);
+    let sum = write(output, first);
+    let sum = sum + write_pair(output, second);
+    let sum = sum + write_pair(output, third);
+    let sum = sum + write_pair(output, fourth);
+    sum + write_pair(output, fifth)
+}
+
+// Appends the nine digits without the zeros at their end, at least one digit.
+fn write_trimmed_fraction(output: &mut Vec<u8>, nanosecond: Nanoseconds) -> usize
+    requires room { HasRoom output.old (length (trimmed_fraction nanosecond)) }
+    ensures writes { Writes output.old output.new result (trimmed_fraction nanosecond) }
+{
+    let digits = nine_digits(nanosecond);
+    let last_eight = *digits.last_chunk::<8>().unwrap();
+    let dropped = zeros_to_drop(u64::from_le_bytes(last_eight));
+    write_bytes(output, &digits[..digits.len() - dropped as usize])
+}
+
+// The nine digits of a number of nanoseconds.
+#[inline]
+fn nine_digits(nanosecond: Nanoseconds) -> [u8; 9]
+    ensures { result ≡ fixed 9 nanosecond }
+{
+    let [first, second, third, fourth, fifth] = subsecond_from_nanos(nanosecond);
+    let first = first.as_bytes();
+    let (second, third) = (second.as_bytes(), third.as_bytes());
+    let (fourth, fifth) = (fourth.as_bytes(), fifth.as_bytes());
+    [
+        first[0], second[0], second[1], third[0], third[1], fourth[0], fourth[1], fifth[0],
+        fifth[1],
+    ]
+}
+
+// Appends a number in seven places, with zeros in front.
+#[tactic(auto, using(crate::proofs::DecimalLemmas::two_parts))]
+fn format_seven_digits(output: &mut Vec<u8>, number: u32) -> usize
+    requires digits { number < 10_000_000 }
+    requires room { HasRoom output.old 7 }
+    ensures writes { Writes output.old output.new result (fixed 7 number) }
+{
+    let first = format_single_digit(output, ru8::new((number / 1_000_000) as u8).unwrap());
+    first + format_six_digits_pad_zero(output, ru32::new(number % 1_000_000).unwrap())
+}
+
+// Appends a number in eight places, with zeros in front.
+#[tactic(auto, using(crate::proofs::DecimalLemmas::two_parts))]
+fn format_eight_digits(output: &mut Vec<u8>, number: u32) -> usize
+    requires digits { number < 100_000_000 }
+    requires room { HasRoom output.old 8 }
+    ensures writes { Writes output.old output.new result (fixed 8 number) }
+{
+    let first = ru8::new((number / 1_000_000) as u8).unwrap();
+    let count = format_two_digits(output, first, Padding::Zero);
+    count + format_six_digits_pad_zero(output, ru32::new(number % 1_000_000).unwrap())
+}

@@ -1,0 +1,312 @@
+//! The weekday and the weeks of the year: their texts, widths and writers.
+ghost use Rattle.std.specs.Prelude.{◌≡◌, ◌≤◌, length, decimal};
+ghost use Rattle.time_below.specs.Calendar.{from_sunday};
+ghost use Rattle.time_below.specs.declared.format_description.component.Component.TheVariants as component;
+ghost use Rattle.time_below.specs.Weekday.{days_from_monday};
+ghost use Rattle.time_fmt.specs.DateText.{weekday_name, short_name, indexed};
+ghost use Rattle.time_fmt.specs.Room.{HasRoom, Writes};
+ghost use Rattle.time_fmt.specs.Text.{padded_text};
+
+use crate::error::Format;
+use crate::modifier::Modifier;
+use crate::writers::digits::{format_single_digit, format_two_digits};
+use crate::writers::plain::{write, write_bytes};
+use time_below::Weekday;
+use time_below::format_description::modifier;
+use time_digits::ru8;
+use time_provide::ComponentProvider;
+use time_provide::ranges::{IsoWeekNumber, MondayBasedWeek, SundayBasedWeek};
+
+/// Appends the first three letters of the weekday's English name.
+#[inline]
+pub fn fmt_weekday_short(
+    output: &mut Vec<u8>,
+    weekday: Weekday,
+    modifier: modifier::WeekdayShort,
+) -> usize
+    requires room { HasRoom output.old
+        (length (short_name (weekday_name (days_from_monday weekday)))) }
+    ensures writes { Writes output.old output.new result
+        (short_name (weekday_name (days_from_monday weekday))) }
+{
+    let _ = modifier;
+    write_bytes(output, &name_of_weekday(weekday).as_bytes()[..3])
+}
+
+impl Modifier for modifier::WeekdayShort {
+    ghost component_of = { component.WeekdayShort };
+
+    #[inline(always)]
+    fn width(self) -> usize {
+        3
+    }
+
+    #[inline(always)]
+    #[tactic(auto, using(crate::proofs::DateTextLemmas::name_lengths))]
+    fn write<V: ComponentProvider>(
+        self,
+        output: &mut Vec<u8>,
+        value: &V,
+        state: &mut V::State,
+    ) -> Result<usize, Format> {
+        if !V::SUPPLIES_DATE {
+            return Err(Format::InsufficientTypeInformation);
+        }
+        Ok(fmt_weekday_short(output, value.weekday(state), self))
+    }
+}
+
+/// Appends the weekday's English name.
+#[inline]
+pub fn fmt_weekday_long(
+    output: &mut Vec<u8>,
+    weekday: Weekday,
+    modifier: modifier::WeekdayLong,
+) -> usize
+    requires room { HasRoom output.old (length (weekday_name (days_from_monday weekday))) }
+    ensures writes { Writes output.old output.new result (weekday_name (days_from_monday weekday)) }
+{
+    let _ = modifier;
+    write(output, name_of_weekday(weekday))
+}
+
+impl Modifier for modifier::WeekdayLong {
+    ghost component_of = { component.WeekdayLong };
+
+    #[inline(always)]
+    fn width(self) -> usize {
+        9
+    }
+
+    #[inline(always)]
+    #[tactic(auto, using(crate::proofs::DateTextLemmas::name_lengths))]
+    fn write<V: ComponentProvider>(
+        self,
+        output: &mut Vec<u8>,
+        value: &V,
+        state: &mut V::State,
+    ) -> Result<usize, Format> {
+        if !V::SUPPLIES_DATE {
+            return Err(Format::InsufficientTypeInformation);
+        }
+        Ok(fmt_weekday_long(output, value.weekday(state), self))
+    }
+}
+
+/// Appends the days from Sunday, 0 to 6, or 1 to 7 where Sunday is 1.
+#[inline]
+pub fn fmt_weekday_sunday(
+    output: &mut Vec<u8>,
+    weekday: Weekday,
+    modifier: modifier::WeekdaySunday,
+) -> usize
+    requires room { HasRoom output.old
+        (length (decimal (indexed modifier.one_indexed (from_sunday (days_from_monday weekday))))) }
+    ensures writes { Writes output.old output.new result
+        (decimal (indexed modifier.one_indexed (from_sunday (days_from_monday weekday)))) }
+{
+    write_weekday_digit(
+        output,
+        weekday.number_days_from_sunday(),
+        modifier.one_indexed,
+    )
+}
+
+impl Modifier for modifier::WeekdaySunday {
+    ghost component_of = { component.WeekdaySunday };
+
+    #[inline(always)]
+    fn width(self) -> usize {
+        1
+    }
+
+    #[inline(always)]
+    #[tactic(auto, using(crate::proofs::DateTextLemmas::weekday_digit_lengths))]
+    fn write<V: ComponentProvider>(
+        self,
+        output: &mut Vec<u8>,
+        value: &V,
+        state: &mut V::State,
+    ) -> Result<usize, Format> {
+        if !V::SUPPLIES_DATE {
+            return Err(Format::InsufficientTypeInformation);
+        }
+        Ok(fmt_weekday_sunday(output, value.weekday(state), self))
+    }
+}
+
+/// Appends the days from Monday, 0 to 6, or 1 to 7 where Monday is 1.
+#[inline]
+pub fn fmt_weekday_monday(
+    output: &mut Vec<u8>,
+    weekday: Weekday,
+    modifier: modifier::WeekdayMonday,
+) -> usize
+    requires room { HasRoom output.old
+        (length (decimal (indexed modifier.one_indexed (days_from_monday weekday)))) }
+    ensures writes { Writes output.old output.new result
+        (decimal (indexed modifier.one_indexed (days_from_monday weekday))) }
+{
+    write_weekday_digit(
+        output,
+        weekday.number_days_from_monday(),
+        modifier.one_indexed,
+    )
+}
+
+impl Modifier for modifier::WeekdayMonday {
+    ghost component_of = { component.WeekdayMonday };
+
+    #[inline(always)]
+    fn width(self) -> usize {
+        1
+    }
+
+    #[inline(always)]
+    #[tactic(auto, using(crate::proofs::DateTextLemmas::weekday_digit_lengths))]
+    fn write<V: ComponentProvider>(
+        self,
+        output: &mut Vec<u8>,
+        value: &V,
+        state: &mut V::State,
+    ) -> Result<usize, Format> {
+        if !V::SUPPLIES_DATE {
+            return Err(Format::InsufficientTypeInformation);
+        }
+        Ok(fmt_weekday_monday(output, value.weekday(state), self))
+    }
+}
+
+/// Appends the week of the week calendar, 1 to 53, in two places (ISO 8601-1:2019).
+#[inline]
+pub fn fmt_week_number_iso(
+    output: &mut Vec<u8>,
+    week: IsoWeekNumber,
+    modifier: modifier::WeekNumberIso,
+) -> usize
+    requires room { HasRoom output.old (length (padded_text modifier.padding 2 week)) }
+    ensures writes { Writes output.old output.new result (padded_text modifier.padding 2 week) }
+{
+    format_two_digits(output, week.expand(), modifier.padding)
+}
+
+impl Modifier for modifier::WeekNumberIso {
+    ghost component_of = { component.WeekNumberIso };
+
+    #[inline(always)]
+    fn width(self) -> usize {
+        2
+    }
+
+    #[inline(always)]
+    #[tactic(auto, using(crate::proofs::TextLemmas::two_places))]
+    fn write<V: ComponentProvider>(
+        self,
+        output: &mut Vec<u8>,
+        value: &V,
+        state: &mut V::State,
+    ) -> Result<usize, Format> {
+        if !V::SUPPLIES_DATE {
+            return Err(Format::InsufficientTypeInformation);
+        }
+        Ok(fmt_week_number_iso(output, value.iso_week_number(state), self))
+    }
+}
+
+/// Appends the week of the year by its Sundays, 0 to 53, in two places.
+#[inline]
+pub fn fmt_week_number_sunday(
+    output: &mut Vec<u8>,
+    week: SundayBasedWeek,
+    modifier: modifier::WeekNumberSunday,
+) -> usize
+    requires room { HasRoom output.old (length (padded_text modifier.padding 2 week)) }
+    ensures writes { Writes output.old output.new result (padded_text modifier.padding 2 week) }
+{
+    format_two_digits(output, week.expand(), modifier.padding)
+}
+
+impl Modifier for modifier::WeekNumberSunday {
+    ghost component_of = { component.WeekNumberSunday };
+
+    #[inline(always)]
+    fn width(self) -> usize {
+        2
+    }
+
+    #[inline(always)]
+    #[tactic(auto, using(crate::proofs::TextLemmas::two_places))]
+    fn write<V: ComponentProvider>(
+        self,
+        output: &mut Vec<u8>,
+        value: &V,
+        state: &mut V::State,
+    ) -> Result<usize, Format> {
+        if !V::SUPPLIES_DATE {
+            return Err(Format::InsufficientTypeInformation);
+        }
+        Ok(fmt_week_number_sunday(output, value.sunday_based_week(state), self))
+    }
+}
+
+/// Appends the week of the year by its Mondays, 0 to 53, in two places.
+#[inline]
+pub fn fmt_week_number_monday(
+    output: &mut Vec<u8>,
+    week: MondayBasedWeek,
+    modifier: modifier::WeekNumberMonday,
+) -> usize
+    requires room { HasRoom output.old (length (padded_text modifier.padding 2 week)) }
+    ensures writes { Writes output.old output.new result (padded_text modifier.padding 2 week) }
+{
+    format_two_digits(output, week.expand(), modifier.padding)
+}
+
+impl Modifier for modifier::WeekNumberMonday {
+    ghost component_of = { component.WeekNumberMonday };
+
+    #[inline(always)]
+    fn width(self) -> usize {
+        2
+    }
+
+    #[inline(always)]
+    #[tactic(auto, using(crate::proofs::TextLemmas::two_places))]
+    fn write<V: ComponentProvider>(
+        self,
+        output: &mut Vec<u8>,
+        value: &V,
+        state: &mut V::State,
+    ) -> Result<usize, Format> {
+        if !V::SUPPLIES_DATE {
+            return Err(Format::InsufficientTypeInformation);
+        }
+        Ok(fmt_week_number_monday(output, value.monday_based_week(state), self))
+    }
+}
+
+// The English name of a weekday, of at least three letters.
+fn name_of_weekday(weekday: Weekday) -> &'static str
+    ensures name { result.now ≡ weekday_name (days_from_monday weekday) }
+    ensures least { 3 ≤ length result.now }
+{
+    match weekday {
+        Weekday::Monday => "Monday",
+        Weekday::Tuesday => "Tuesday",
+        Weekday::Wednesday => "Wednesday",
+        Weekday::Thursday => "Thursday",
+        Weekday::Friday => "Friday",
+        Weekday::Saturday => "Saturday",
+        Weekday::Sunday => "Sunday",
+    }
+}
+
+// Appends the days from the first day of a week, counted from 0 or from 1 on.
+fn write_weekday_digit(output: &mut Vec<u8>, days: u8, one_indexed: bool) -> usize
+    requires days { days ≤ 6 }
+    requires room { HasRoom output.old (length (decimal (indexed one_indexed days))) }
+    ensures writes { Writes output.old output.new result (decimal (indexed one_indexed days)) }
+{
+    let digit = if one_indexed { days + 1 } else { days };
+    format_single_digit(output, ru8::new(digit).unwrap())
+}
