@@ -1,40 +1,49 @@
-//! What the front page of the repository shows: its functions, and what they write.
-ghost use Rattle.std.specs.Prelude.{◌≡◌, ◌≤◌, vec_capacity};
+//! The recipes of the front page of the repository.
+ghost use Rattle.std.specs.Prelude.{◌≡◌, vec_capacity};
 
 #[cfg(test)]
 mod tests;
 
-use std::alloc::{AllocError, Global};
+use std::alloc::Global;
 use std::default::Default;
-use time_below::format_description::modifier::{Day, MonthNumerical, Padding};
-use time_below::format_description::{FormatDescriptionV3, FormatDescriptionV3Inner};
-use time_below::{Date, Month, OffsetDateTime, Time, UtcDateTime, UtcOffset};
+use time_below::format_description::modifier::{
+    CalendarYearFullStandardRange, Day, MonthLong, Padding,
+};
+use time_below::format_description::{BorrowedFormatItem, Component};
+use time_below::{Date, OffsetDateTime, Timestamp, UtcDateTime};
 use time_digits::ru8;
-use time_fmt::{Format, Formattable};
-use time_known::iso8601::{Config, DateKind, TimePrecision};
-use time_known::{Iso8601, Rfc3339, stamp_into};
-use time_provide::DateState;
+use time_fmt::parts::*;
+use time_fmt::{ComponentProvider, ComputeMetadata, Format, TimestampState};
+use time_known::iso8601::{Config, DecimalSign, TimePrecision};
+use time_known::{Iso8601, Rfc2822, Rfc3339, stamp_into};
 
-/// The description of a date such as `22/11`.
-pub fn day_and_month(alloc: Global) -> Result<FormatDescriptionV3<'static>, AllocError> {
-    let padding = Padding::Zero;
-    let items = vec![in alloc;
-        FormatDescriptionV3Inner::Day(Day { padding }),
-        FormatDescriptionV3Inner::BorrowedLiteral("/"),
-        FormatDescriptionV3Inner::MonthNumerical(MonthNumerical { padding }),
-    ]?;
-    Ok(FormatDescriptionV3::new(FormatDescriptionV3Inner::OwnedCompound(items)))
+/// Appends a date and time such as `2026-11-22 09:55:06`, and answers the number of its bytes.
+pub fn append_date_time(line: &mut Vec<u8>, moment: &OffsetDateTime) -> Result<usize, Format> {
+    text!(
+        YEAR, b"-", MONTH, b"-", DAY, b" ", HOUR, b":", MINUTE, b":", SECOND
+    )
+    .format_into(line, moment, &mut DateState::default())
 }
 
-/// Makes the line of a moment, in a vector that is kept for all lines: 35 bytes, and a line feed.
-pub fn fill_line(line: &mut Vec<u8>, moment: &OffsetDateTime) -> Result<usize, Format>
-    requires room { 36 ≤ vec_capacity line.old }
-    ensures kept { vec_capacity line.new ≡ vec_capacity line.old }
-{
-    line.clear();
-    let count = Rfc3339.write_into(line, moment, &mut DateState::default())?;
-    line.push_reserved(b'\n');
-    Ok(count + 1)
+/// Appends a date such as `22 November 2026`, by a list that could be made when the program runs.
+pub fn append_date(line: &mut Vec<u8>, date: &Date) -> Result<usize, Format> {
+    let items = [
+        BorrowedFormatItem::Component(Component::Day(Day {
+            padding: Padding::None,
+        })),
+        BorrowedFormatItem::StringLiteral(" "),
+        BorrowedFormatItem::Component(Component::MonthLong(MonthLong {
+            case_sensitive: true,
+        })),
+        BorrowedFormatItem::StringLiteral(" "),
+        BorrowedFormatItem::Component(Component::CalendarYearFullStandardRange(
+            CalendarYearFullStandardRange {
+                padding: Padding::Zero,
+                sign_is_mandatory: false,
+            },
+        )),
+    ];
+    BorrowedFormatItem::Compound(&items).format_into(line, date, &mut DateState::default())
 }
 
 /// Appends a stamp such as `2026-11-22T09:55:06.12Z`.
@@ -42,17 +51,49 @@ pub fn append_stamp(line: &mut Vec<u8>, moment: &OffsetDateTime) -> Result<usize
     Rfc3339.format_into(line, moment, &mut DateState::default())
 }
 
-/// Appends a stamp such as `2026-W47-7T09:55:06.120Z`.
-pub fn append_week_stamp(line: &mut Vec<u8>, moment: &OffsetDateTime) -> Result<usize, Format> {
+/// Appends the date of a mail, such as `Sun, 22 Nov 2026 09:55:06 +0000`.
+pub fn append_mail_date(line: &mut Vec<u8>, moment: &OffsetDateTime) -> Result<usize, Format> {
+    Rfc2822.format_into(line, moment, &mut DateState::default())
+}
+
+/// Appends a text such as `2026-11-22T09:55:06,120Z`, by ISO 8601 with milliseconds and a comma.
+pub fn append_milliseconds(line: &mut Vec<u8>, moment: &OffsetDateTime) -> Result<usize, Format> {
     let config = Config::default()
-        .set_date_kind(DateKind::Week)
+        .set_decimal_sign(DecimalSign::Comma)
         .set_time_precision(TimePrecision::Second {
             decimal_digits: ru8::new(3),
         });
     Iso8601::new(config).format_into(line, moment, &mut DateState::default())
 }
 
-/// Appends an entry such as `1997-11-12T15:55:06.000000000Z up`.
+/// Appends the moment of these Unix seconds such as `1970-01-01T00:00:00Z`, if it is one.
+pub fn append_unix_time(line: &mut Vec<u8>, seconds: i64) -> Option<Result<usize, Format>> {
+    let Ok(timestamp) = Timestamp::new(seconds, 0) else {
+        return None;
+    };
+    Some(Rfc3339.format_into(line, &timestamp, &mut TimestampState::default()))
+}
+
+/// Writes the text of any value by any description into a vector that is kept for all texts, in the
+/// place of the one before it. Takes no memory: a text that is wider than the vector is not begun.
+pub fn write_kept<D: Formattable, V: ComponentProvider>(
+    kept: &mut Vec<u8>,
+    description: &D,
+    value: &V,
+    state: &mut V::State,
+) -> Result<usize, Format>
+    requires { V.agrees state.old value.now }
+    ensures { vec_capacity kept.new ≡ vec_capacity kept.old }
+{
+    kept.clear();
+    let width = description.compute_metadata().max_bytes_needed;
+    if width == usize::MAX || kept.capacity() < width {
+        return Err(Format::OutOfMemory);
+    }
+    description.write_into(kept, value, state)
+}
+
+/// Appends an entry such as `2026-11-22T09:55:06.120000000Z up`, which sorts as its moment does.
 pub fn append_entry(log: &mut Vec<u8>, moment: &UtcDateTime) -> Result<usize, Format> {
     let count = stamp_into(log, moment)?;
     match log.extend_from_slice(b" up") {
@@ -61,16 +102,17 @@ pub fn append_entry(log: &mut Vec<u8>, moment: &UtcDateTime) -> Result<usize, Fo
     }
 }
 
-/// Noon of the day in UTC, if there is such a day.
-pub fn noon(year: i32, month: Month, day: u8) -> Option<OffsetDateTime> {
-    let Ok(date) = Date::from_calendar_date(year, month, day) else {
-        return None;
-    };
-    let Ok(time) = Time::from_hms_nano(12, 0, 0, 0) else {
-        return None;
-    };
-    let Ok(offset) = UtcOffset::from_hms(0, 0, 0) else {
-        return None;
-    };
-    Some(OffsetDateTime::new_in_offset(date, time, offset))
+/// The stamp as a text of its own.
+pub fn stamp_text(alloc: Global, moment: &OffsetDateTime) -> Result<String, Format> {
+    Rfc3339.format(alloc, moment, &mut DateState::default())
+}
+
+/// Why a value was not formatted.
+pub fn reason(refusal: &Format) -> &'static str {
+    match refusal {
+        Format::InsufficientTypeInformation => "the value has no such part",
+        Format::InvalidComponent(name) => name,
+        Format::ComponentRange(range) => range.name(),
+        Format::OutOfMemory => "memory was refused",
+    }
 }

@@ -1,13 +1,16 @@
 //! The texts of the front page.
-use super::{append_entry, append_stamp, append_week_stamp, day_and_month, fill_line, noon};
+use super::{
+    append_date, append_date_time, append_entry, append_mail_date, append_milliseconds,
+    append_stamp, append_unix_time, reason, stamp_text, write_kept,
+};
 use crate::texts::{assert_same, assert_that};
 use crate::values::moment;
 use std::default::Default;
 use std::process::Abort;
 use std::test::Fail;
 use time_below::{Month, OffsetDateTime, UtcDateTime};
-use time_fmt::Formattable;
-use time_provide::DateState;
+use time_fmt::{DateState, Format};
+use time_known::Rfc3339;
 
 /// 2026-11-22 9:55:06.12 UTC, a Sunday.
 fn sunday(rt: &impl Abort) -> OffsetDateTime {
@@ -19,19 +22,73 @@ fn sunday(rt: &impl Abort) -> OffsetDateTime {
     )
 }
 
-#[test]
-fn a_stamp_of_a_sunday(rt: HostRuntime) {
-    let mut line = Vec::new(rt.alloc());
-    assert_that(&rt, matches!(append_stamp(&mut line, &sunday(&rt)), Ok(23)));
-    assert_same(&rt, line.as_slice(), b"2026-11-22T09:55:06.12Z".as_slice());
+/// Compares the text and its count.
+fn assert_line(rt: &impl Abort, written: Result<usize, Format>, line: &Vec<u8>, text: &str) {
+    assert_that(rt, matches!(&written, Ok(count) if *count == text.len()));
+    assert_same(rt, line.as_slice(), text.as_bytes());
 }
 
 #[test]
-fn a_stamp_of_the_week(rt: HostRuntime) {
+fn a_fixed_text(rt: HostRuntime) {
     let mut line = Vec::new(rt.alloc());
-    let written = append_week_stamp(&mut line, &sunday(&rt));
-    assert_that(&rt, matches!(written, Ok(24)));
-    assert_same(&rt, line.as_slice(), b"2026-W47-7T09:55:06.120Z".as_slice());
+    let written = append_date_time(&mut line, &sunday(&rt));
+    assert_line(&rt, written, &line, "2026-11-22 09:55:06");
+}
+
+#[test]
+fn a_text_by_a_list(rt: HostRuntime) {
+    let mut line = Vec::new(rt.alloc());
+    let written = append_date(&mut line, &sunday(&rt).date());
+    assert_line(&rt, written, &line, "22 November 2026");
+}
+
+#[test]
+fn a_stamp(rt: HostRuntime) {
+    let mut line = Vec::new(rt.alloc());
+    let written = append_stamp(&mut line, &sunday(&rt));
+    assert_line(&rt, written, &line, "2026-11-22T09:55:06.12Z");
+}
+
+#[test]
+fn a_date_of_a_mail(rt: HostRuntime) {
+    let mut line = Vec::new(rt.alloc());
+    let written = append_mail_date(&mut line, &sunday(&rt));
+    assert_line(&rt, written, &line, "Sun, 22 Nov 2026 09:55:06 +0000");
+}
+
+#[test]
+fn milliseconds_behind_a_comma(rt: HostRuntime) {
+    let mut line = Vec::new(rt.alloc());
+    let written = append_milliseconds(&mut line, &sunday(&rt));
+    assert_line(&rt, written, &line, "2026-11-22T09:55:06,120Z");
+}
+
+#[test]
+fn a_moment_of_unix_time(rt: HostRuntime) {
+    let mut line = Vec::new(rt.alloc());
+    match append_unix_time(&mut line, 0) {
+        Some(written) => assert_line(&rt, written, &line, "1970-01-01T00:00:00Z"),
+        None => panic!(rt; "no moment"),
+    }
+    assert_that(&rt, append_unix_time(&mut line, i64::MAX).is_none());
+}
+
+#[test]
+fn a_vector_that_is_kept(rt: HostRuntime) -> Result<(), Fail> {
+    let mut kept = Vec::with_capacity(rt.alloc(), 35)?;
+    for _ in 0..2 {
+        let written = write_kept(&mut kept, &Rfc3339, &sunday(&rt), &mut DateState::default());
+        assert_line(&rt, written, &kept, "2026-11-22T09:55:06.12Z");
+    }
+    let mut short = Vec::with_capacity(rt.alloc(), 34)?;
+    let refused = write_kept(
+        &mut short,
+        &Rfc3339,
+        &sunday(&rt),
+        &mut DateState::default(),
+    );
+    assert_that(&rt, matches!(&refused, Err(Format::OutOfMemory)));
+    Ok(())
 }
 
 #[test]
@@ -39,33 +96,19 @@ fn an_entry_of_a_log(rt: HostRuntime) {
     let value = sunday(&rt);
     let utc = UtcDateTime::new(value.date(), value.time());
     let mut line = Vec::new(rt.alloc());
-    assert_that(&rt, matches!(append_entry(&mut line, &utc), Ok(33)));
-    let entry = b"2026-11-22T09:55:06.120000000Z up".as_slice();
-    assert_same(&rt, line.as_slice(), entry);
+    let written = append_entry(&mut line, &utc);
+    assert_line(&rt, written, &line, "2026-11-22T09:55:06.120000000Z up");
 }
 
 #[test]
-fn a_day_and_a_month(rt: HostRuntime) -> Result<(), Fail> {
-    let description = day_and_month(rt.alloc())?;
-    let date = sunday(&rt).date();
-    let mut line = Vec::new(rt.alloc());
-    let written = description.format_into(&mut line, &date, &mut DateState::default());
-    assert_that(&rt, matches!(&written, Ok(5)));
-    assert_same(&rt, line.as_slice(), b"22/11".as_slice());
-    Ok(())
-}
-
-#[test]
-fn a_line_that_is_kept(rt: HostRuntime) -> Result<(), Fail> {
-    let mut line = Vec::with_capacity(rt.alloc(), 36)?;
-    let first = noon(2026, Month::November, 22);
-    let Some(first) = first else {
-        panic!(rt; "no noon");
+fn a_text_of_its_own(rt: HostRuntime) {
+    let Ok(text) = stamp_text(rt.alloc(), &sunday(&rt)) else {
+        panic!(rt; "refused");
     };
-    assert_that(&rt, matches!(fill_line(&mut line, &first), Ok(21)));
-    assert_same(&rt, line.as_slice(), b"2026-11-22T12:00:00Z\n".as_slice());
-    assert_that(&rt, matches!(fill_line(&mut line, &first), Ok(21)));
-    assert_same(&rt, line.as_slice(), b"2026-11-22T12:00:00Z\n".as_slice());
-    assert_that(&rt, noon(2026, Month::February, 29).is_none());
-    Ok(())
+    assert_same(&rt, text.as_str(), "2026-11-22T09:55:06.12Z");
+}
+
+#[test]
+fn a_refusal_by_its_variant(rt: HostRuntime) {
+    assert_same(&rt, reason(&Format::InvalidComponent("year")), "year");
 }
