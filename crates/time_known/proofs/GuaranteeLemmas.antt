@@ -1,11 +1,11 @@
 -- The texts of the well-known formats are ASCII, and so they are UTF-8.
 use Rattle.std.proofs.Common.{◌≡◌, refl, sym, ap, subst, ℕ, ◌+◌, ◌*◌, ◌/◌, ◌<◌, ◌^◌, ◌==◌, arith, Bool, true, false, List, [], ◌++◌, IsAscii, IsUtf8, IsSomeAnd, Option, Some, None, Err, Vec, ℤ, pos, unsigned_abs, if◌then◌else◌}
 use Rattle.std.specs.List.{list_all}
-use Rattle.std.specs.Prelude.{codes, int_lt, nat_lt, ◌&&◌, is_some, IfSome}
+use Rattle.std.specs.Prelude.{codes, int_lt, nat_lt, ◌&&◌, is_some}
 use Rattle.std.proofs.lemmas.Str.{IsAscii-append, IsAscii-take, IsUtf8-append, IsUtf8-from_ascii}
 use Rattle.std.specs.Global.{Global}
 use Rattle.std.proofs.lemmas.Str.Ascii.{IsAscii-nil}
-use Rattle.time_below.specs.Facts.{Facts, DateFacts}
+use Rattle.time_below.specs.Facts.{Facts, DateFacts, group_or, the_date, the_time, the_offset}
 use Rattle.time_below.specs.Offset.{Offset, IsOffset, is_negative, is_utc}
 use Rattle.time_below.specs.TimeOfDay.{TimeOfDay, IsTimeOfDay}
 use Rattle.time_digits.specs.Digits.{zero_padded}
@@ -13,11 +13,11 @@ use Rattle.time_digits.specs.Fraction.{trimmed_fraction}
 use Rattle.time_digits.proofs.DigitLemmas.{IsAscii-fixed}
 use Rattle.time_digits.proofs.FractionLemmas.{IsAscii-trimmed_fraction}
 use Rattle.time_digits.proofs.LengthLemmas.{IsAscii-padded}
-use Rattle.time_fmt.specs.Description.{of_group}
 use Rattle.time_fmt.specs.Decimals.{decimals}
 use Rattle.time_fmt.specs.Text.{sign_text}
 use Rattle.time_fmt.specs.DateText.{month_name, weekday_name, short_name}
 use Rattle.time_fmt.specs.declared.error.Format.{Format}
+use Rattle.time_fmt.specs.Description.{of_group}
 use Rattle.time_fmt.specs.Outcome.{Outcome, Refusal, Appends, Names, done, refused, join, invalid_component}
 use Rattle.time_fmt.proofs.GuaranteeLemmas.{ascii_test, empty_utf8, IsAscii-sign_text, IsAscii-month_name, IsAscii-weekday_name}
 use Rattle.time_fmt.proofs.RealLemmas.{DateFits, TimeFits, OffsetFits, date_fits, time_fits, offset_fits}
@@ -31,10 +31,10 @@ use Rattle.time_known.specs.declared.iso8601.config.OffsetPrecision.{OffsetPreci
 use Rattle.time_known.specs.declared.iso8601.config.OffsetPrecision.TheVariants as offset_precision
 use Rattle.time_known.specs.declared.iso8601.config.TimePrecision.{TimePrecision}
 use Rattle.time_known.specs.declared.iso8601.config.TimePrecision.TheVariants as precision
-use Rattle.time_known.specs.Groups.{are_supplied}
+use Rattle.time_known.specs.Groups.{are_supplied, at_groups}
 use Rattle.time_known.specs.declared.iso8601.config.FormattedComponents.{FormattedComponents}
-use Rattle.time_known.specs.Iso8601.{iso8601_outcome, iso8601_outcome_of, iso_date, iso_time, iso_offset, iso_year, year_of_kind, text_after_year, units_text, decimal_part, nanoseconds_of_hour, nanoseconds_of_minute, iso_minutes}
-use Rattle.time_known.proofs.GroupLemmas.{all}
+use Rattle.time_known.specs.Iso8601.{iso8601_outcome, iso8601_outcome_of, iso_date, iso_time, iso_offset, iso_year, year_of_kind, text_after_year, units_text, decimal_part, nanoseconds_of_hour, nanoseconds_of_minute, iso_minutes, iso_of_groups}
+use Rattle.time_known.proofs.GroupLemmas.{all, HasAll, outcome_of_all}
 use Rattle.time_known.specs.Rfc2822.{rfc2822_of_groups, rfc2822_text}
 use Rattle.time_known.specs.Rfc3339.{rfc3339_of_groups, rfc3339_text}
 use Rattle.time_known.specs.WellKnown.{refused_if, is_outside, of_all_groups, month_and_day_text, clock_text, offset_hours_text, offset_text}
@@ -218,23 +218,35 @@ offset_ascii c o h =
     (outcome_of_two (has_time c.formatted_components && is_utc o) (done (codes "Z"))
     (refused_if (nat_lt 0 (unsigned_abs o.seconds)) (codes "offset_second") (join hours minutes)) (literal (codes "Z") refl) signed).is
 
--- what a group gives, if it is there and real
-group_utf8 : {G : Type 0} {P Q : G → Type 0} (group : Option G) (outcome : G → Outcome) → ((g : G) → P g → Q g)
-    → ((g : G) → Q g → IsAscii (outcome g).bytes) → IfSome group P → IsUtf8 (of_group group outcome).bytes
-group_utf8 None outcome fits each h = empty_utf8
-group_utf8 (Some g) outcome fits each h = IsUtf8-from_ascii (outcome g).bytes (each g (fits g h))
-
 -- a real date is UTF-8
-pub iso_date_utf8 : (c : Choices) (date : Option DateFacts) → IfSome date AreOfDate → IsUtf8 (of_group date (iso_date c)).bytes
-iso_date_utf8 c date h = group_utf8 {P = AreOfDate} {Q = DateFits} date (iso_date c) date_fits (date_ascii c) h
+pub iso_date_utf8 : (c : Choices) (d : DateFacts) → AreOfDate d → IsUtf8 (iso_date c d).bytes
+iso_date_utf8 c d h = IsUtf8-from_ascii (iso_date c d).bytes (date_ascii c d (date_fits d h))
 
 -- a real time is UTF-8
-pub iso_time_utf8 : (c : Choices) (time : Option TimeOfDay) → IfSome time IsTimeOfDay → IsUtf8 (of_group time (iso_time c)).bytes
-iso_time_utf8 c time h = group_utf8 {P = IsTimeOfDay} {Q = TimeFits} time (iso_time c) time_fits (time_ascii c) h
+pub iso_time_utf8 : (c : Choices) (t : TimeOfDay) → IsTimeOfDay t → IsUtf8 (iso_time c t).bytes
+iso_time_utf8 c t h = IsUtf8-from_ascii (iso_time c t).bytes (time_ascii c t (time_fits t h))
 
 -- a real offset is UTF-8
-pub iso_offset_utf8 : (c : Choices) (offset : Option Offset) → IfSome offset IsOffset → IsUtf8 (of_group offset (iso_offset c)).bytes
-iso_offset_utf8 c offset h = group_utf8 {P = IsOffset} {Q = OffsetFits} offset (iso_offset c) offset_fits (offset_ascii c) h
+pub iso_offset_utf8 : (c : Choices) (o : Offset) → IsOffset o → IsUtf8 (iso_offset c o).bytes
+iso_offset_utf8 c o h = IsUtf8-from_ascii (iso_offset c o).bytes (offset_ascii c o (offset_fits o h))
+
+-- what a group gives: nothing, where it is not there
+group_utf8 : {G : Type 0} {P : G → Type 0} (group : Option G) (other : G) (outcome : G → Outcome)
+    → ((g : G) → P g → IsUtf8 (outcome g).bytes) → P (group_or other group) → IsUtf8 (of_group group outcome).bytes
+group_utf8 None other outcome each h = empty_utf8
+group_utf8 (Some g) other outcome each h = each g h
+
+-- what a date gives, if it is there
+pub of_date_utf8 : (c : Choices) (f : Facts) → AreOfDate (the_date f) → IsUtf8 (of_group f.date (iso_date c)).bytes
+of_date_utf8 c f h = group_utf8 {P = AreOfDate} f.date _ (iso_date c) (iso_date_utf8 c) h
+
+-- what a time gives
+pub of_time_utf8 : (c : Choices) (f : Facts) → IsTimeOfDay (the_time f) → IsUtf8 (of_group f.time (iso_time c)).bytes
+of_time_utf8 c f h = group_utf8 {P = IsTimeOfDay} f.time _ (iso_time c) (iso_time_utf8 c) h
+
+-- what an offset gives
+pub of_offset_utf8 : (c : Choices) (f : Facts) → IsOffset (the_offset f) → IsUtf8 (of_group f.offset (iso_offset c)).bytes
+of_offset_utf8 c f h = group_utf8 {P = IsOffset} f.offset _ (iso_offset c) (iso_offset_utf8 c) h
 
 -- nothing follows what is refused
 refused_first : (bytes : List ℕ) (refusal : Option Refusal) (b : Outcome) (e : Format) → IsUtf8 bytes → IsSomeAnd refusal (Names e)
@@ -254,22 +266,28 @@ join_refused_utf8 {e = e} a b p h = refused_first a.bytes a.refusal b e p h.name
 
 -- ---- outcomes
 
--- of the groups of a value that is real
-of_groups_utf8 : (date : Option DateFacts) (time : Option TimeOfDay) (offset : Option Offset) (of_groups : DateFacts → TimeOfDay → Offset → Outcome)
-    → ((d : DateFacts) (t : TimeOfDay) (o : Offset) → DateFits d → TimeFits t → OffsetFits o → IsAscii (of_groups d t o).bytes)
-    → IfSome date AreOfDate → IfSome time IsTimeOfDay → IfSome offset IsOffset
-    → IsUtf8 (of_all_groups (record { date = date; time = time; offset = offset; stamp = None }) of_groups).bytes
-of_groups_utf8 None time offset of_groups each h k l = empty_utf8
-of_groups_utf8 (Some d) None offset of_groups each h k l = empty_utf8
-of_groups_utf8 (Some d) (Some t) None of_groups each h k l = empty_utf8
-of_groups_utf8 (Some d) (Some t) (Some o) of_groups each h k l =
-    IsUtf8-from_ascii (of_groups d t o).bytes (each d t o (date_fits d h) (time_fits t k) (offset_fits o l))
+-- an outcome that is the same has the same bytes
+pub same_utf8 : (a b : Outcome) → a ≡ b → IsUtf8 b.bytes → IsUtf8 a.bytes
+same_utf8 a b e h = let P : Outcome → Type 0 = λ o. IsUtf8 o.bytes in subst P (sym e) h
 
--- the groups of any facts that are real
-pub all_groups_utf8 : (f : Facts) (of_groups : DateFacts → TimeOfDay → Offset → Outcome)
+-- a real time and a real offset
+pub time_and_offset_utf8 : (c : Choices) (t : TimeOfDay) (o : Offset) → IsTimeOfDay t → IsOffset o
+    → IsUtf8 (join (iso_time c t) (iso_offset c o)).bytes
+time_and_offset_utf8 c t o h k = join_utf8 (iso_time c t) (iso_offset c o) (iso_time_utf8 c t h) (iso_offset_utf8 c o k)
+
+-- a real date before them
+pub iso_groups_utf8 : (c : Choices) (d : DateFacts) (t : TimeOfDay) (o : Offset) → AreOfDate d → IsTimeOfDay t → IsOffset o
+    → IsUtf8 (iso_of_groups c d t o).bytes
+iso_groups_utf8 c d t o h k l =
+    join_utf8 (iso_date c d) (join (iso_time c t) (iso_offset c o)) (iso_date_utf8 c d h) (time_and_offset_utf8 c t o k l)
+
+-- the groups of a value that is real
+pub all_groups_utf8 : (f : Facts) → HasAll f → (of_groups : DateFacts → TimeOfDay → Offset → Outcome)
     → ((d : DateFacts) (t : TimeOfDay) (o : Offset) → DateFits d → TimeFits t → OffsetFits o → IsAscii (of_groups d t o).bytes)
-    → IfSome f.date AreOfDate → IfSome f.time IsTimeOfDay → IfSome f.offset IsOffset → IsUtf8 (of_all_groups f of_groups).bytes
-all_groups_utf8 f of_groups each h k l = of_groups_utf8 f.date f.time f.offset of_groups each h k l
+    → AreOfDate (the_date f) → IsTimeOfDay (the_time f) → IsOffset (the_offset f) → IsUtf8 (of_all_groups f of_groups).bytes
+all_groups_utf8 f all_there of_groups each h k l =
+    same_utf8 _ _ (outcome_of_all f all_there of_groups) (IsUtf8-from_ascii (at_groups of_groups f).bytes
+    (each (the_date f) (the_time f) (the_offset f) (date_fits _ h) (time_fits _ k) (offset_fits _ l)))
 
 -- a value that lacks a group gives no byte
 lacking_utf8 : (date : Option DateFacts) (time : Option TimeOfDay) (offset : Option Offset) (of_groups : DateFacts → TimeOfDay → Offset → Outcome)
@@ -295,7 +313,3 @@ pub utf8_of_parts : (parts : FormattedComponents) (c : Choices) (f : Facts) → 
     → IsUtf8 (iso8601_outcome_of parts c f).bytes → IsUtf8 (iso8601_outcome c f).bytes
 utf8_of_parts parts c f e h =
     let P : FormattedComponents → Type 0 = λ q. IsUtf8 (iso8601_outcome_of q c f).bytes in subst P (sym e) h
-
--- an outcome that is the same has the same bytes
-pub same_utf8 : (a b : Outcome) → a ≡ b → IsUtf8 b.bytes → IsUtf8 a.bytes
-same_utf8 a b e h = let P : Outcome → Type 0 = λ o. IsUtf8 o.bytes in subst P (sym e) h

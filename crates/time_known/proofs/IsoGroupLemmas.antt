@@ -2,15 +2,16 @@
 use Rattle.std.proofs.Common.{◌≡◌, Bool, true, false, refl, sym, ap, ◌∙◌, arith, Option, Some, None}
 use Rattle.std.specs.Prelude.{is_some}
 use Rattle.std.proofs.lemmas.Grind.{common_steps}
-use Rattle.time_below.specs.Facts.{Facts}
+use Rattle.time_below.specs.Facts.{Facts, the_date, the_time}
 use Rattle.time_fmt.specs.Description.{of_group}
 use Rattle.time_fmt.specs.Outcome.{Outcome, refused, join, insufficient}
+use Rattle.time_fmt.proofs.GroupLemmas.{of_the_date, of_the_time, of_the_offset}
 use Rattle.time_known.specs.Config.{Choices, groups_of}
 use Rattle.time_known.specs.declared.groups.Groups.{Groups}
 use Rattle.time_known.specs.declared.iso8601.config.FormattedComponents.{FormattedComponents}
 use Rattle.time_known.specs.declared.iso8601.config.FormattedComponents.TheVariants as components
-use Rattle.time_known.specs.Groups.{are_supplied}
-use Rattle.time_known.specs.Iso8601.{iso_date, iso_time, iso_offset, iso8601_outcome, iso8601_outcome_of}
+use Rattle.time_known.specs.Groups.{are_supplied, at_groups}
+use Rattle.time_known.specs.Iso8601.{iso_date, iso_time, iso_of_groups, iso8601_outcome, iso8601_outcome_of}
 
 -- whether the facts have the groups that are formatted
 abbrev pub has_groups : FormattedComponents → Facts → Bool
@@ -42,24 +43,6 @@ lacking c read f needed e groups h =
     ∙ lacking_of read.formatted_components read f
     (ap (λ (g : Groups). are_supplied g (is_some f.date) (is_some f.time) (is_some f.offset)) (sym groups) ∙ h)
 
--- where two groups are there, what they give is joined
-two_groups : {G H : Type 0} (x : Option G) (y : Option H) (A : G → Outcome) (B : H → Outcome)
-    → is_some x ≡ true → is_some y ≡ true
-    → of_group x (λ g. of_group y (λ h. join (A g) (B h))) ≡ join (of_group x A) (of_group y B)
-two_groups (Some g) (Some h) A B p q = refl
-two_groups None y A B p q = cc
-two_groups (Some g) None A B p q = cc
-
--- the same of three
-three_groups : {G H I : Type 0} (x : Option G) (y : Option H) (z : Option I) (A : G → Outcome) (B : H → Outcome) (C : I → Outcome)
-    → is_some x ≡ true → is_some y ≡ true → is_some z ≡ true
-    → of_group x (λ g. of_group y (λ h. of_group z (λ i. join (A g) (join (B h) (C i)))))
-    ≡ join (of_group x A) (join (of_group y B) (of_group z C))
-three_groups (Some g) (Some h) (Some i) A B C p q r = refl
-three_groups None y z A B C p q r = cc
-three_groups (Some g) None z A B C p q r = cc
-three_groups (Some g) (Some h) None A B C p q r = cc
-
 -- where a date and a time are needed and supplied, both are there
 date_time_bits : (a b c : Bool) → are_supplied (groups_of components.DateTime) a b c ≡ true → (a ≡ true) × (b ≡ true)
 date_time_bits true true c h = (refl, refl)
@@ -77,18 +60,15 @@ all_bits false b c h = cc
 -- of facts that have both, the date and the time
 pub date_and_time : (c : Choices) (f : Facts) → c.formatted_components ≡ components.DateTime
     → has_groups c.formatted_components f ≡ true
-    → iso8601_outcome c f ≡ join (of_group f.date (iso_date c)) (of_group f.time (iso_time c))
+    → iso8601_outcome c f ≡ join (iso_date c (the_date f)) (iso_time c (the_time f))
 date_and_time c f e h =
     let bits = date_time_bits _ _ _ (ap (λ parts. has_groups parts f) (sym e) ∙ h) in
-    ap (λ parts. iso8601_outcome_of parts c f) e
-    ∙ two_groups f.date f.time (iso_date c) (iso_time c) bits.0 bits.1
+    ap (λ parts. iso8601_outcome_of parts c f) e ∙ of_the_date f _ bits.0 ∙ of_the_time f _ bits.1
 
 -- of facts that have all three, the date, the time and the offset
 pub all_parts : (c : Choices) (f : Facts) → c.formatted_components ≡ components.DateTimeOffset
-    → has_groups c.formatted_components f ≡ true
-    → iso8601_outcome c f
-    ≡ join (of_group f.date (iso_date c)) (join (of_group f.time (iso_time c)) (of_group f.offset (iso_offset c)))
+    → has_groups c.formatted_components f ≡ true → iso8601_outcome c f ≡ at_groups (iso_of_groups c) f
 all_parts c f e h =
     let bits = all_bits _ _ _ (ap (λ parts. has_groups parts f) (sym e) ∙ h) in
     ap (λ parts. iso8601_outcome_of parts c f) e
-    ∙ three_groups f.date f.time f.offset (iso_date c) (iso_time c) (iso_offset c) bits.0 bits.1 bits.2
+    ∙ of_the_date f _ bits.0 ∙ of_the_time f _ bits.1 ∙ of_the_offset f _ bits.2

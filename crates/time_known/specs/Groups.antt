@@ -1,6 +1,6 @@
 -- The groups of a value that a text is made of.
-use Rattle.std.specs.Prelude.{Bool, ◌&&◌, ◌||◌, not, IfSome}
-use Rattle.time_below.specs.Facts.{Facts, DateFacts}
+use Rattle.std.specs.Prelude.{Bool, ◌&&◌, ◌||◌, not, IsTrue}
+use Rattle.time_below.specs.Facts.{Facts, DateFacts, the_date, the_time, the_offset}
 use Rattle.time_below.specs.Offset.{Offset}
 use Rattle.time_below.specs.TimeOfDay.{TimeOfDay}
 use Rattle.time_known.specs.declared.groups.Groups.{Groups}
@@ -10,6 +10,10 @@ abbrev pub are_supplied : Groups → Bool → Bool → Bool → Bool
 are_supplied needed date time offset =
     (date || not needed.date) && (time || not needed.time) && (offset || not needed.offset)
 
--- what is said of the date, the time and the offset of a value that has all three
-abbrev pub IfAll : Facts → (DateFacts → TimeOfDay → Offset → Type 0) → Type 0
-IfAll f P = IfSome f.date (λ d. IfSome f.time (λ t. IfSome f.offset (λ o. P d t o)))
+-- what the date, the time and the offset of a value that has all three give
+abbrev pub at_groups : {A : Type 0} → (DateFacts → TimeOfDay → Offset → A) → Facts → A
+at_groups of f = of (the_date f) (the_time f) (the_offset f)
+
+-- a date, a time and an offset are supplied
+abbrev pub AreAllSupplied : Bool → Bool → Bool → Type 0
+AreAllSupplied date time offset = IsTrue date × IsTrue time × IsTrue offset

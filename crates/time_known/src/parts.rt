@@ -1,12 +1,12 @@
 //! The parts that the texts of the well-known formats share. Each appends its text where there is room
 //! for it, takes no memory and answers the number of bytes appended.
-ghost use Rattle.std.specs.Prelude.{◌≡◌, ◌+◌, ◌*◌, ◌≤◌, length, is_none, unsigned_abs, IsTrue, IfSome, vec_len, vec_capacity};
+ghost use Rattle.std.specs.Prelude.{◌≡◌, ◌+◌, ◌*◌, length, is_none, unsigned_abs, IsTrue, IfSome};
+ghost use Rattle.time_below.specs.Facts.{the_date, the_offset};
 ghost use Rattle.time_below.specs.Offset.{IsOffset};
-ghost use Rattle.time_below.specs.TimeOfDay.{IsTimeOfDay};
-ghost use Rattle.time_fmt.specs.Room.{HasRoom, Writes};
-ghost use Rattle.time_known.specs.WellKnown.{is_outside, month_and_day_text, clock_text, offset_hours_text};
+ghost use Rattle.time_fmt.specs.Room.{HasRoom, WritesUpTo};
+ghost use Rattle.time_known.specs.WellKnown.{is_outside, month_and_day_text, offset_hours_text};
 
-use crate::pieces::{write_clock, write_pair};
+use crate::pieces::write_pair;
 use time_below::format_description::modifier;
 use time_below::format_description::modifier::Padding;
 use time_digits::{ru8, ru16};
@@ -37,10 +37,8 @@ pub(crate) fn write_month_and_day<V: ComponentProvider>(
     requires supplied { IsTrue V.SUPPLIES_DATE }
     requires room { HasRoom output.old (4 + 2 * length separator.now) }
     requires agrees { V.agrees state.old value.now }
-    ensures writes { IfSome (V.facts value.now).date
-        (λ d. Writes output.old output.new result (month_and_day_text separator.now d)) }
-    ensures within { vec_len output.new ≤ vec_len output.old + (4 + 2 * length separator.now) }
-    ensures capacity { vec_capacity output.new ≡ vec_capacity output.old }
+    ensures writes { WritesUpTo (4 + 2 * length separator.now) output.old output.new result
+        (month_and_day_text separator.now (the_date (V.facts value.now))) }
     ensures agrees { V.agrees state.new value.now }
 {
     let dash = write(output, separator);
@@ -48,26 +46,6 @@ pub(crate) fn write_month_and_day<V: ComponentProvider>(
     let month = write_pair(output, month);
     let second_dash = write(output, separator);
     dash + month + second_dash + write_pair(output, value.day(state).expand())
-}
-
-/// Appends the hour, the minute and the second, of two digits each, and the separator between them.
-pub(crate) fn write_clock_time<V: ComponentProvider>(
-    output: &mut Vec<u8>,
-    value: &V,
-    state: &mut V::State,
-    separator: &str,
-) -> usize
-    requires supplied { IsTrue V.SUPPLIES_TIME }
-    requires room { HasRoom output.old (6 + 2 * length separator.now) }
-    requires agrees { V.agrees state.old value.now }
-    ensures writes { IfSome (V.facts value.now).time
-        (λ t. Writes output.old output.new result (clock_text separator.now t)) }
-    ensures real { IfSome (V.facts value.now).time IsTimeOfDay }
-    ensures within { vec_len output.new ≤ vec_len output.old + (6 + 2 * length separator.now) }
-    ensures capacity { vec_capacity output.new ≡ vec_capacity output.old }
-    ensures agrees { V.agrees state.new value.now }
-{
-    write_clock(output, value, state, separator)
 }
 
 /// Appends the sign of the whole offset, and the two digits of its hours.
@@ -80,11 +58,9 @@ pub(crate) fn write_offset_hours<V: ComponentProvider>(
     requires supplied { IsTrue V.SUPPLIES_OFFSET }
     requires room { HasRoom output.old 3 }
     requires agrees { V.agrees state.old value.now }
-    ensures writes { IfSome (V.facts value.now).offset
-        (λ o. Writes output.old output.new result (offset_hours_text o)) }
-    ensures real { IfSome (V.facts value.now).offset IsOffset }
-    ensures within { vec_len output.new ≤ vec_len output.old + 3 }
-    ensures capacity { vec_capacity output.new ≡ vec_capacity output.old }
+    ensures writes { WritesUpTo 3 output.old output.new result
+        (offset_hours_text (the_offset (V.facts value.now))) }
+    ensures real { IsOffset (the_offset (V.facts value.now)) }
     ensures agrees { V.agrees state.new value.now }
 {
     let is_negative = value.offset_is_negative(state);

@@ -1,10 +1,10 @@
 //! The date of a text of ISO 8601-1:2019, section 5.2.
-ghost use Rattle.std.specs.Prelude.{◌≡◌, ◌+◌, ◌*◌, ◌≤◌, ◌++◌, length, unsigned_abs, IsTrue, IfSome, vec_len, vec_capacity};
+ghost use Rattle.std.specs.Prelude.{◌≡◌, ◌+◌, ◌*◌, ◌≤◌, ◌++◌, length, unsigned_abs, IsTrue, vec_len};
+ghost use Rattle.time_below.specs.Facts.{the_date};
 ghost use Rattle.time_below.specs.Weekday.{days_from_monday};
 ghost use Rattle.time_digits.specs.Digits.{zero_padded};
-ghost use Rattle.time_fmt.specs.Description.{of_group};
 ghost use Rattle.time_fmt.specs.Outcome.{Appends};
-ghost use Rattle.time_fmt.specs.Room.{HasRoom, Writes};
+ghost use Rattle.time_fmt.specs.Room.{HasRoom, WritesJust, WritesUpTo};
 ghost use Rattle.time_provide.specs.Real.{AreOfDate};
 ghost use Rattle.time_known.specs.Iso8601.{iso_date, iso_year, year_of_kind, text_after_year, week_and_weekday_text};
 ghost use Rattle.time_known.specs.Iso8601Width.{iso_date_width, year_width, width_after_year};
@@ -39,8 +39,8 @@ pub fn format_date<V: ComponentProvider>(
     requires room { HasRoom output.old (iso_date_width config.now) }
     requires agrees { V.agrees state.old value.now }
     ensures appends { Appends output.old output.new result
-        (of_group (V.facts value.now).date (iso_date config.now)) }
-    ensures real { IfSome (V.facts value.now).date AreOfDate }
+        (iso_date config.now (the_date (V.facts value.now))) }
+    ensures real { AreOfDate (the_date (V.facts value.now)) }
     ensures within { vec_len output.new ≤ vec_len output.old + iso_date_width config.now }
     ensures agrees { V.agrees state.new value.now }
 {
@@ -53,8 +53,8 @@ pub fn format_date<V: ComponentProvider>(
 fn year_of_kind<V: ComponentProvider>(kind: DateKind, value: &V, state: &mut V::State) -> Year
     requires supplied { IsTrue V.SUPPLIES_DATE }
     requires agrees { V.agrees state.old value.now }
-    ensures value { IfSome (V.facts value.now).date (λ d. result ≡ year_of_kind kind d) }
-    ensures real { IfSome (V.facts value.now).date AreOfDate }
+    ensures value { result ≡ year_of_kind kind (the_date (V.facts value.now)) }
+    ensures real { AreOfDate (the_date (V.facts value.now)) }
     ensures range { unsigned_abs result ≤ 999_999 }
     ensures agrees { V.agrees state.new value.now }
 {
@@ -92,11 +92,9 @@ fn write_after_year<V: ComponentProvider>(
     requires supplied { IsTrue V.SUPPLIES_DATE }
     requires room { HasRoom output.old (width_after_year config.now.date_kind config.now) }
     requires agrees { V.agrees state.old value.now }
-    ensures writes { IfSome (V.facts value.now).date
-        (λ d. Writes output.old output.new result
-        (text_after_year config.now.date_kind config.now d)) }
-    ensures within { vec_len output.new
-        ≤ vec_len output.old + width_after_year config.now.date_kind config.now }
+    ensures writes { WritesUpTo (width_after_year config.now.date_kind config.now)
+        output.old output.new result
+        (text_after_year config.now.date_kind config.now (the_date (V.facts value.now))) }
     ensures agrees { V.agrees state.new value.now }
 {
     let dash = config.separator("-");
@@ -119,10 +117,8 @@ fn write_week_and_weekday<V: ComponentProvider>(
     requires supplied { IsTrue V.SUPPLIES_DATE }
     requires room { HasRoom output.old (4 + 2 * length separator.now) }
     requires agrees { V.agrees state.old value.now }
-    ensures writes { IfSome (V.facts value.now).date
-        (λ d. Writes output.old output.new result (week_and_weekday_text separator.now d)) }
-    ensures within { vec_len output.new ≤ vec_len output.old + (4 + 2 * length separator.now) }
-    ensures capacity { vec_capacity output.new ≡ vec_capacity output.old }
+    ensures writes { WritesUpTo (4 + 2 * length separator.now) output.old output.new result
+        (week_and_weekday_text separator.now (the_date (V.facts value.now))) }
     ensures agrees { V.agrees state.new value.now }
 {
     let dash = write(output, separator);
@@ -138,10 +134,8 @@ fn write_week_and_weekday<V: ComponentProvider>(
 #[tactic(auto, using(crate::proofs::IsoWriteLemmas::weekday_lengths))]
 fn write_weekday_from_one(output: &mut Vec<u8>, weekday: Weekday) -> usize
     requires room { HasRoom output.old 1 }
-    ensures writes { Writes output.old output.new result
+    ensures writes { WritesJust 1 output.old output.new result
         (zero_padded 1 (days_from_monday weekday + 1)) }
-    ensures count { result ≡ 1 }
-    ensures grown { vec_len output.new ≡ vec_len output.old + 1 }
 {
     fmt_weekday_monday(
         output,
@@ -161,10 +155,8 @@ fn write_ordinal<V: ComponentProvider>(
     requires supplied { IsTrue V.SUPPLIES_DATE }
     requires room { HasRoom output.old (3 + length separator.now) }
     requires agrees { V.agrees state.old value.now }
-    ensures writes { IfSome (V.facts value.now).date
-        (λ d. Writes output.old output.new result (separator.now ++ zero_padded 3 d.ordinal)) }
-    ensures within { vec_len output.new ≤ vec_len output.old + (3 + length separator.now) }
-    ensures capacity { vec_capacity output.new ≡ vec_capacity output.old }
+    ensures writes { WritesUpTo (3 + length separator.now) output.old output.new result
+        (separator.now ++ zero_padded 3 (the_date (V.facts value.now)).ordinal) }
     ensures agrees { V.agrees state.new value.now }
 {
     let dash = write(output, separator);
@@ -176,9 +168,7 @@ fn write_ordinal<V: ComponentProvider>(
 #[tactic(auto, using(crate::proofs::IsoWriteLemmas::ordinal_lengths))]
 fn write_three_digits(output: &mut Vec<u8>, number: ru16<0, 999>) -> usize
     requires room { HasRoom output.old 3 }
-    ensures writes { Writes output.old output.new result (zero_padded 3 number) }
-    ensures count { result ≡ 3 }
-    ensures grown { vec_len output.new ≡ vec_len output.old + 3 }
+    ensures writes { WritesJust 3 output.old output.new result (zero_padded 3 number) }
 {
     format_three_digits(output, number, Padding::Zero)
 }

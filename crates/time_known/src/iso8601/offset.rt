@@ -1,7 +1,7 @@
 //! The offset from UTC of a text of ISO 8601-1:2019, sections 5.3.3 and 5.3.4.
-ghost use Rattle.std.specs.Prelude.{◌≡◌, ◌+◌, ◌≤◌, ◌&&◌, IsTrue, IfSome, vec_len};
+ghost use Rattle.std.specs.Prelude.{◌≡◌, ◌+◌, ◌≤◌, ◌&&◌, IsTrue, vec_len};
+ghost use Rattle.time_below.specs.Facts.{the_offset};
 ghost use Rattle.time_below.specs.Offset.{IsOffset, is_utc};
-ghost use Rattle.time_fmt.specs.Description.{of_group};
 ghost use Rattle.time_fmt.specs.Outcome.{Appends};
 ghost use Rattle.time_fmt.specs.Room.{HasRoom};
 ghost use Rattle.time_known.specs.Config.{has_time};
@@ -31,8 +31,8 @@ pub fn format_offset<V: ComponentProvider>(
     requires room { HasRoom output.old (iso_offset_width config.now) }
     requires agrees { V.agrees state.old value.now }
     ensures appends { Appends output.old output.new result
-        (of_group (V.facts value.now).offset (iso_offset config.now)) }
-    ensures real { IfSome (V.facts value.now).offset IsOffset }
+        (iso_offset config.now (the_offset (V.facts value.now))) }
+    ensures real { IsOffset (the_offset (V.facts value.now)) }
     ensures within { vec_len output.new ≤ vec_len output.old + iso_offset_width config.now }
     ensures agrees { V.agrees state.new value.now }
 {
@@ -52,8 +52,8 @@ pub fn format_offset<V: ComponentProvider>(
 fn is_zed<V: ComponentProvider>(config: &Config, value: &V, state: &mut V::State) -> bool
     requires supplied { IsTrue V.SUPPLIES_OFFSET }
     requires agrees { V.agrees state.old value.now }
-    ensures value { IfSome (V.facts value.now).offset
-        (λ o. result ≡ has_time config.now.formatted_components && is_utc o) }
+    ensures value { result ≡ has_time config.now.formatted_components
+        && is_utc (the_offset (V.facts value.now)) }
     ensures agrees { V.agrees state.new value.now }
 {
     config.has_time() && value.offset_is_utc(state)
@@ -70,9 +70,8 @@ fn write_offset_minutes<V: ComponentProvider>(
     requires supplied { IsTrue V.SUPPLIES_OFFSET }
     requires room { HasRoom output.old (minutes_width config.now.offset_precision config.now) }
     requires agrees { V.agrees state.old value.now }
-    ensures appends { IfSome (V.facts value.now).offset
-        (λ o. Appends output.old output.new result
-        (iso_minutes config.now.offset_precision config.now o)) }
+    ensures appends { Appends output.old output.new result
+        (iso_minutes config.now.offset_precision config.now (the_offset (V.facts value.now))) }
     ensures within { vec_len output.new
         ≤ vec_len output.old + minutes_width config.now.offset_precision config.now }
     ensures agrees { V.agrees state.new value.now }

@@ -1,17 +1,16 @@
 //! The parts of a text, one after another.
-ghost use Rattle.std.specs.Prelude.{◌≡◌, ◌+◌, ◌≤◌, IsTrue, IsUtf8, IfSome, OnOk, vec_len};
+ghost use Rattle.std.specs.Prelude.{◌≡◌, ◌+◌, ◌≤◌, IsTrue, IsUtf8, OnOk, vec_len};
+ghost use Rattle.time_below.specs.Facts.{the_date, the_time, the_offset};
 ghost use Rattle.time_below.specs.Offset.{IsOffset};
 ghost use Rattle.time_below.specs.TimeOfDay.{IsTimeOfDay};
-ghost use Rattle.time_fmt.specs.Description.{of_group};
 ghost use Rattle.time_fmt.specs.Outcome.{Appends, join};
 ghost use Rattle.time_fmt.specs.Room.{HasRoom};
 ghost use Rattle.time_provide.specs.Real.{AreOfDate};
 ghost use Rattle.time_known.specs.Config.{groups_of};
-ghost use Rattle.time_known.specs.Groups.{are_supplied};
-ghost use Rattle.time_known.specs.Iso8601.{iso8601_outcome, iso_date, iso_time, iso_offset};
+ghost use Rattle.time_known.specs.Groups.{AreAllSupplied, are_supplied, at_groups};
+ghost use Rattle.time_known.specs.Iso8601.{iso8601_outcome, iso_date, iso_time, iso_offset, iso_of_groups};
 ghost use Rattle.time_known.specs.Iso8601Width.{iso8601_width, iso_date_width, iso_time_width, iso_offset_width};
 
-use crate::groups::Groups;
 use crate::iso8601::config::{Config, FormattedComponents};
 use crate::iso8601::date::format_date;
 use crate::iso8601::default_text::write_default;
@@ -38,13 +37,13 @@ pub(super) fn write_parts<V: ComponentProvider>(
         (iso8601_outcome config.now (V.facts value.now)) }
     ensures real { OnOk result
         (config.now.formatted_components ≡ FormattedComponents.DateTimeOffset
-        → IfSome (V.facts value.now).date AreOfDate × IfSome (V.facts value.now).time IsTimeOfDay
-        × IfSome (V.facts value.now).offset IsOffset) }
+        → AreOfDate (the_date (V.facts value.now)) × IsTimeOfDay (the_time (V.facts value.now))
+        × IsOffset (the_offset (V.facts value.now))) }
     ensures within { vec_len output.new ≤ vec_len output.old + iso8601_width config.now }
     ensures text { IsUtf8 (iso8601_outcome config.now (V.facts value.now)).bytes }
     ensures agrees { V.agrees state.new value.now }
 {
-    if config.is_default() && Groups::ALL.are_supplied_by::<V>() {
+    if config.is_default() {
         if let Some(count) = write_default(config, output, value, state) {
             return Ok(count);
         }
@@ -68,8 +67,8 @@ fn write_each<V: ComponentProvider>(
         (iso8601_outcome config.now (V.facts value.now)) }
     ensures real { OnOk result
         (config.now.formatted_components ≡ FormattedComponents.DateTimeOffset
-        → IfSome (V.facts value.now).date AreOfDate × IfSome (V.facts value.now).time IsTimeOfDay
-        × IfSome (V.facts value.now).offset IsOffset) }
+        → AreOfDate (the_date (V.facts value.now)) × IsTimeOfDay (the_time (V.facts value.now))
+        × IsOffset (the_offset (V.facts value.now))) }
     ensures within { vec_len output.new ≤ vec_len output.old + iso8601_width config.now }
     ensures text { IsUtf8 (iso8601_outcome config.now (V.facts value.now)).bytes }
     ensures agrees { V.agrees state.new value.now }
@@ -97,12 +96,12 @@ fn format_date_and_time<V: ComponentProvider>(
     requires room { HasRoom output.old (iso_date_width config.now + iso_time_width config.now) }
     requires agrees { V.agrees state.old value.now }
     ensures appends { Appends output.old output.new result
-        (join (of_group (V.facts value.now).date (iso_date config.now))
-        (of_group (V.facts value.now).time (iso_time config.now))) }
+        (join (iso_date config.now (the_date (V.facts value.now)))
+        (iso_time config.now (the_time (V.facts value.now)))) }
     ensures within { vec_len output.new
         ≤ vec_len output.old + (iso_date_width config.now + iso_time_width config.now) }
-    ensures text { IsUtf8 (join (of_group (V.facts value.now).date (iso_date config.now))
-        (of_group (V.facts value.now).time (iso_time config.now))).bytes }
+    ensures text { IsUtf8 (join (iso_date config.now (the_date (V.facts value.now)))
+        (iso_time config.now (the_time (V.facts value.now)))).bytes }
     ensures agrees { V.agrees state.new value.now }
 {
     let date = format_date(config, output, value, state)?;
@@ -116,24 +115,18 @@ fn format_all<V: ComponentProvider>(
     value: &V,
     state: &mut V::State,
 ) -> Result<usize, Format>
-    requires date { IsTrue V.SUPPLIES_DATE }
-    requires time { IsTrue V.SUPPLIES_TIME }
-    requires offset { IsTrue V.SUPPLIES_OFFSET }
+    requires supplied { AreAllSupplied V.SUPPLIES_DATE V.SUPPLIES_TIME V.SUPPLIES_OFFSET }
     requires room { HasRoom output.old
         (iso_date_width config.now + iso_time_width config.now + iso_offset_width config.now) }
     requires agrees { V.agrees state.old value.now }
     ensures appends { Appends output.old output.new result
-        (join (of_group (V.facts value.now).date (iso_date config.now))
-        (join (of_group (V.facts value.now).time (iso_time config.now))
-        (of_group (V.facts value.now).offset (iso_offset config.now)))) }
-    ensures real { OnOk result (IfSome (V.facts value.now).date AreOfDate
-        × IfSome (V.facts value.now).time IsTimeOfDay
-        × IfSome (V.facts value.now).offset IsOffset) }
+        (at_groups (iso_of_groups config.now) (V.facts value.now)) }
+    ensures real { OnOk result (AreOfDate (the_date (V.facts value.now))
+        × IsTimeOfDay (the_time (V.facts value.now))
+        × IsOffset (the_offset (V.facts value.now))) }
     ensures within { vec_len output.new ≤ vec_len output.old
         + (iso_date_width config.now + iso_time_width config.now + iso_offset_width config.now) }
-    ensures text { IsUtf8 (join (of_group (V.facts value.now).date (iso_date config.now))
-        (join (of_group (V.facts value.now).time (iso_time config.now))
-        (of_group (V.facts value.now).offset (iso_offset config.now)))).bytes }
+    ensures text { IsUtf8 (at_groups (iso_of_groups config.now) (V.facts value.now)).bytes }
     ensures agrees { V.agrees state.new value.now }
 {
     let date = format_date(config, output, value, state)?;
@@ -152,14 +145,14 @@ fn format_time_and_offset<V: ComponentProvider>(
     requires room { HasRoom output.old (iso_time_width config.now + iso_offset_width config.now) }
     requires agrees { V.agrees state.old value.now }
     ensures appends { Appends output.old output.new result
-        (join (of_group (V.facts value.now).time (iso_time config.now))
-        (of_group (V.facts value.now).offset (iso_offset config.now))) }
-    ensures real { OnOk result (IfSome (V.facts value.now).time IsTimeOfDay
-        × IfSome (V.facts value.now).offset IsOffset) }
+        (join (iso_time config.now (the_time (V.facts value.now)))
+        (iso_offset config.now (the_offset (V.facts value.now)))) }
+    ensures real { OnOk result (IsTimeOfDay (the_time (V.facts value.now))
+        × IsOffset (the_offset (V.facts value.now))) }
     ensures within { vec_len output.new
         ≤ vec_len output.old + (iso_time_width config.now + iso_offset_width config.now) }
-    ensures text { IsUtf8 (join (of_group (V.facts value.now).time (iso_time config.now))
-        (of_group (V.facts value.now).offset (iso_offset config.now))).bytes }
+    ensures text { IsUtf8 (join (iso_time config.now (the_time (V.facts value.now)))
+        (iso_offset config.now (the_offset (V.facts value.now)))).bytes }
     ensures agrees { V.agrees state.new value.now }
 {
     let time = format_time(config, output, value, state)?;

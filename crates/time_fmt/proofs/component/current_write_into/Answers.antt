@@ -1,4 +1,4 @@
-use Rattle.std.proofs.Common.{◌≡◌, arith, false, rules}
+use Rattle.std.proofs.Common.{◌≡◌, arith, true, false, rules}
 use Rattle.std.proofs.lemmas.Grind.{common_steps}
 use Rattle.time_fmt.proofs.TextLemmas.{two_places, length-offset_hour_text, length-seconds_text, length-milliseconds_text}
 use Rattle.time_fmt.proofs.DateTextLemmas.{three_places, length-extended_year_text, length-standard_year_text, length-extended_century_text, length-standard_century_text, length-month_name, length-weekday_name, length-short_name, length-monday_digit, length-sunday_digit}
@@ -6,7 +6,7 @@ use Rattle.time_fmt.proofs.DecimalLemmas.{length-subsecond_text}
 use Rattle.std.specs.Prelude.{is_some}
 use Rattle.time_below.specs.Group.{group_of}
 use Rattle.time_fmt.specs.Description.{is_supplied}
-use Rattle.time_fmt.proofs.GroupLemmas.{insufficient_of}
+use Rattle.time_fmt.proofs.GroupLemmas.{insufficient_of, of_the_date}
 use Rattle.time_fmt.proofs.component.current_write_into.Goals as goal
 
 pub returns-then-not-is_supplied-clause-appends : goal.returns-then-not-is_supplied-clause-appends
@@ -165,7 +165,11 @@ pub returns-in-CalendarYearCenturyExtendedRange-clause-within : goal.returns-in-
 returns-in-CalendarYearCenturyExtendedRange-clause-within g c = grind (arith, length-extended_century_text)
 
 pub returns-in-CalendarYearCenturyExtendedRange-clause-appends : goal.returns-in-CalendarYearCenturyExtendedRange-clause-appends
-returns-in-CalendarYearCenturyExtendedRange-clause-appends g c = grind (arith, common_steps, g.met.V.ComponentProvider.supplies_date)
+returns-in-CalendarYearCenturyExtendedRange-clause-appends g c =
+    let value = c.args.value.now in
+    let f = g.V.ComponentProvider.facts value in
+    let there : is_some f.date ≡ true = grind (arith, common_steps, g.met.V.ComponentProvider.supplies_date) in
+    rw (c.in-CalendarYearCenturyExtendedRange.is, of_the_date f _ there) grind (arith, common_steps)
 
 pub fmt_calendar_year_century_standard_range-requires : goal.fmt_calendar_year_century_standard_range-requires
 fmt_calendar_year_century_standard_range-requires g c = record { room = grind (arith, length-standard_century_text) }

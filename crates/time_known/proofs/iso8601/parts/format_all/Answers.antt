@@ -1,55 +1,14 @@
-use Rattle.std.proofs.Common.{◌≡◌, Ok, Err, rules}
-use Rattle.time_fmt.specs.Description.{of_group}
-use Rattle.time_fmt.specs.Outcome.{join}
-use Rattle.time_known.specs.Iso8601.{iso_date, iso_time, iso_offset}
 use Rattle.time_known.proofs.GuaranteeLemmas.{join_utf8, join_refused_utf8, iso_date_utf8}
-use Rattle.time_known.proofs.JoinLemmas.{join_refused, join_appended}
 use Rattle.time_known.proofs.iso8601.parts.format_all.Goals as goal
 
 pub returns-in_err-date-clause-text : goal.returns-in_err-date-clause-text
 returns-in_err-date-clause-text g c =
-    let f = g.V.ComponentProvider.facts c.args.value.now in
-    let choices = c.args.config.now in
-    join_refused_utf8 (of_group f.date (iso_date choices)) (join (of_group f.time (iso_time choices)) (of_group f.offset (iso_offset choices)))
-    (iso_date_utf8 choices f.date c.in_err-date.ensures.real) c.in_err-date.ensures.appends
+    join_refused_utf8 _ _ (iso_date_utf8 c.args.config.now _ c.in_err-date.ensures.real) c.in_err-date.ensures.appends
 
 pub returns-in_err-format_time_and_offset-clause-text : goal.returns-in_err-format_time_and_offset-clause-text
 returns-in_err-format_time_and_offset-clause-text g c =
-    let f = g.V.ComponentProvider.facts c.args.value.now in
-    let choices = c.args.config.now in
-    join_utf8 (of_group f.date (iso_date choices)) (join (of_group f.time (iso_time choices)) (of_group f.offset (iso_offset choices)))
-    (iso_date_utf8 choices f.date c.in_ok-date.ensures.real) c.in_err-format_time_and_offset.ensures.text
+    join_utf8 _ _ (iso_date_utf8 c.args.config.now _ c.in_ok-date.ensures.real) c.in_err-format_time_and_offset.ensures.text
 
 pub returns-clause-text : goal.returns-clause-text
 returns-clause-text g c =
-    let f = g.V.ComponentProvider.facts c.args.value.now in
-    let choices = c.args.config.now in
-    join_utf8 (of_group f.date (iso_date choices)) (join (of_group f.time (iso_time choices)) (of_group f.offset (iso_offset choices)))
-    (iso_date_utf8 choices f.date c.in_ok-date.ensures.real) c.in_ok-format_time_and_offset.ensures.text
-
-pub returns-in_err-date-clause-appends : goal.returns-in_err-date-clause-appends
-returns-in_err-date-clause-appends g c =
-    let f = g.V.ComponentProvider.facts c.args.value.now in
-    let choices = c.args.config.now in
-    let same : c.from_residual.result ≡ Err c.in_err-date.field-0.0 = search rules in
-    rw same (join_refused (of_group f.date (iso_date choices))
-    (join (of_group f.time (iso_time choices)) (of_group f.offset (iso_offset choices)))
-    c.in_err-date.ensures.appends)
-
-pub returns-in_err-format_time_and_offset-clause-appends : goal.returns-in_err-format_time_and_offset-clause-appends
-returns-in_err-format_time_and_offset-clause-appends g c =
-    let f = g.V.ComponentProvider.facts c.args.value.now in
-    let choices = c.args.config.now in
-    let same : c.from_residual-in_err-format_time_and_offset.result ≡ Err c.in_err-format_time_and_offset.field-0.0 =
-    search rules in
-    rw same (join_appended (Err c.in_err-format_time_and_offset.field-0.0) (of_group f.date (iso_date choices))
-    (join (of_group f.time (iso_time choices)) (of_group f.offset (iso_offset choices)))
-    c.in_ok-date.ensures.appends c.in_err-format_time_and_offset.ensures.appends)
-
-pub returns-clause-appends : goal.returns-clause-appends
-returns-clause-appends g c =
-    let f = g.V.ComponentProvider.facts c.args.value.now in
-    let choices = c.args.config.now in
-    join_appended (Ok c.in_ok-format_time_and_offset.field-0) (of_group f.date (iso_date choices))
-    (join (of_group f.time (iso_time choices)) (of_group f.offset (iso_offset choices)))
-    c.in_ok-date.ensures.appends c.in_ok-format_time_and_offset.ensures.appends
+    join_utf8 _ _ (iso_date_utf8 c.args.config.now _ c.in_ok-date.ensures.real) c.in_ok-format_time_and_offset.ensures.text

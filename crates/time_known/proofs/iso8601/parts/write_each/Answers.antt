@@ -1,6 +1,6 @@
 use Rattle.std.proofs.Common.{◌≡◌, true, sym, ◌∙◌}
 use Rattle.time_known.specs.declared.iso8601.config.FormattedComponents.TheVariants as components
-use Rattle.time_known.proofs.GuaranteeLemmas.{utf8_of_parts, same_utf8, iso_date_utf8, iso_time_utf8, iso_offset_utf8}
+use Rattle.time_known.proofs.GuaranteeLemmas.{utf8_of_parts, same_utf8, of_date_utf8, of_time_utf8, of_offset_utf8}
 use Rattle.time_known.proofs.IsoGroupLemmas.{has_groups, date_and_time, all_parts}
 use Rattle.time_known.proofs.iso8601.parts.write_each.Goals as goal
 
@@ -31,21 +31,21 @@ returns-in-Date-clause-text g c =
     let choices = c.args.config.now in
     let f = g.V.ComponentProvider.facts c.args.value.now in
     utf8_of_parts components.Date choices f (sym c.formatted_components.ensures ∙ c.in-Date.is)
-    (iso_date_utf8 choices f.date c.format_date.ensures.real)
+    (of_date_utf8 choices f c.format_date.ensures.real)
 
 pub returns-in-Time-clause-text : goal.returns-in-Time-clause-text
 returns-in-Time-clause-text g c =
     let choices = c.args.config.now in
     let f = g.V.ComponentProvider.facts c.args.value.now in
     utf8_of_parts components.Time choices f (sym c.formatted_components.ensures ∙ c.in-Time.is)
-    (iso_time_utf8 choices f.time c.format_time.ensures.real)
+    (of_time_utf8 choices f c.format_time.ensures.real)
 
 pub returns-in-Offset-clause-text : goal.returns-in-Offset-clause-text
 returns-in-Offset-clause-text g c =
     let choices = c.args.config.now in
     let f = g.V.ComponentProvider.facts c.args.value.now in
     utf8_of_parts components.Offset choices f (sym c.formatted_components.ensures ∙ c.in-Offset.is)
-    (iso_offset_utf8 choices f.offset c.format_offset.ensures.real)
+    (of_offset_utf8 choices f c.format_offset.ensures.real)
 
 pub returns-in-DateTimeOffset-clause-text : goal.returns-in-DateTimeOffset-clause-text
 returns-in-DateTimeOffset-clause-text g c =
