@@ -1,13 +1,13 @@
--- Facts that have a date, a time and an offset, and the outcome that these give.
+-- Facts that have the groups that are needed, and the outcome that these give.
 use Rattle.std.proofs.Common.{◌≡◌, Bool, true, false, refl, ◌∙◌, Option, Some, None}
-use Rattle.std.specs.Prelude.{is_some}
-use Rattle.time_below.specs.Facts.{Facts, DateFacts, group_or}
+use Rattle.std.specs.Prelude.{◌&&◌, ◌||◌, not, is_some}
+use Rattle.time_below.specs.Facts.{Facts, DateFacts, group_or, the_date, the_time, the_offset}
 use Rattle.time_below.specs.Offset.{Offset}
 use Rattle.time_below.specs.TimeOfDay.{TimeOfDay}
-use Rattle.time_fmt.specs.Outcome.{Outcome}
-use Rattle.time_fmt.proofs.GroupLemmas.{of_the_date, of_the_time, of_the_offset}
+use Rattle.time_fmt.specs.Description.{of_group}
+use Rattle.time_fmt.specs.Outcome.{Outcome, refused, insufficient}
 use Rattle.time_known.specs.declared.groups.Groups.{Groups}
-use Rattle.time_known.specs.Groups.{are_supplied, at_groups}
+use Rattle.time_known.specs.Groups.{has_groups, at_groups}
 use Rattle.time_known.specs.WellKnown.{of_all_groups}
 
 -- a group that is there is the one that is named
@@ -15,29 +15,71 @@ pub there : {G : Type 0} (other : G) (x : Option G) → is_some x ≡ true → x
 there other (Some group) h = refl
 there other None h = cc
 
+-- a group that is not there is refused
+pub unsupplied : {G : Type 0} (group : Option G) (outcome : G → Outcome) → is_some group ≡ false
+    → of_group group outcome ≡ refused insufficient
+unsupplied None outcome h = refl
+unsupplied (Some g) outcome h = cc
+
+-- one that is there gives the outcome
+of_supplied : {G : Type 0} (group : Option G) (other : G) (outcome : G → Outcome) → is_some group ≡ true
+    → of_group group outcome ≡ outcome (group_or other group)
+of_supplied None other outcome h = cc
+of_supplied (Some g) other outcome h = refl
+
+-- so does the date of a value that has one, by the name that clauses give it
+pub of_the_date : (f : Facts) (outcome : DateFacts → Outcome) → is_some f.date ≡ true
+    → of_group f.date outcome ≡ outcome (the_date f)
+of_the_date f outcome h = of_supplied f.date _ outcome h
+
+-- and its time of day
+pub of_the_time : (f : Facts) (outcome : TimeOfDay → Outcome) → is_some f.time ≡ true
+    → of_group f.time outcome ≡ outcome (the_time f)
+of_the_time f outcome h = of_supplied f.time _ outcome h
+
+-- and its offset
+pub of_the_offset : (f : Facts) (outcome : Offset → Outcome) → is_some f.offset ≡ true
+    → of_group f.offset outcome ≡ outcome (the_offset f)
+of_the_offset f outcome h = of_supplied f.offset _ outcome h
+
+-- both tests hold
+both : (a b : Bool) → (a && b) ≡ true → (a ≡ true) × (b ≡ true)
+both true b h = (refl, h)
+both false b h = cc
+
+-- a group that is needed and supplied is there
+supplied : (is_there is_needed : Bool) → (is_there || not is_needed) ≡ true → is_needed ≡ true → is_there ≡ true
+supplied true is_needed h e = refl
+supplied false true h e = cc
+supplied false false h e = cc
+
+-- the groups that are needed are there
+pub record HasNeeded (needed : Groups) (f : Facts) : Type 0 where
+  pub date : needed.date ≡ true → is_some f.date ≡ true
+  pub time : needed.time ≡ true → is_some f.time ≡ true
+  pub offset : needed.offset ≡ true → is_some f.offset ≡ true
+
+pub has_needed : (needed : Groups) (f : Facts) → has_groups needed f ≡ true → HasNeeded needed f
+has_needed needed f h =
+    let first = both _ _ h in
+    let two = both _ _ first.0 in
+    record { date = supplied _ _ two.0; time = supplied _ _ two.1; offset = supplied _ _ first.1 }
+
+-- all three are needed
+abbrev pub all : Groups
+all = record { date = true; time = true; offset = true }
+
 -- a date, a time and an offset are there
 pub record HasAll (f : Facts) : Type 0 where
   pub date : is_some f.date ≡ true
   pub time : is_some f.time ≡ true
   pub offset : is_some f.offset ≡ true
 
--- all three are needed
-abbrev pub all : Groups
-all = record { date = true; time = true; offset = true }
-
--- where all three are needed, all three are supplied
-bits : (a b c : Bool) → are_supplied all a b c ≡ true → (a ≡ true) × (b ≡ true) × (c ≡ true)
-bits true true true h = (refl, refl, refl)
-bits true true false h = cc
-bits true false c h = cc
-bits false b c h = cc
-
--- so a value that supplies what is needed has all three
-pub has_all : (f : Facts) (date time offset : Bool) → is_some f.date ≡ date → is_some f.time ≡ time
-    → is_some f.offset ≡ offset → are_supplied all date time offset ≡ true → HasAll f
-has_all f date time offset d t o h =
-    let each = bits date time offset h in
-    record { date = d ∙ each.0; time = t ∙ each.1; offset = o ∙ each.2 }
+-- so they are where all three are needed
+pub has_all : (f : Facts) → has_groups all f ≡ true → HasAll f
+has_all f h =
+    let needed = has_needed all f h in
+    record { date = needed.date refl; time = needed.time refl; offset = needed.offset refl }
 
 -- what they give is the outcome
 pub outcome_of_all : (f : Facts) → HasAll f → (outcome : DateFacts → TimeOfDay → Offset → Outcome)

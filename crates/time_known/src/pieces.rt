@@ -1,17 +1,16 @@
 //! Pieces of texts whose lengths the compiler knows. Each is inlined. In a function that has taken its
 //! vector out of the borrow, so that the vector's address and length stay in registers, it becomes a
 //! few stores at known places.
-ghost use Rattle.std.specs.Prelude.{◌≡◌, ◌+◌, ◌*◌, length, IsTrue};
+ghost use Rattle.std.specs.Prelude.{◌≡◌, ◌+◌, ◌*◌, length, is_none, unsigned_abs, IsTrue, IfSome};
 ghost use Rattle.time_below.specs.Facts.{the_time, the_offset};
-ghost use Rattle.time_below.specs.Offset.{IsOffset};
-ghost use Rattle.time_below.specs.TimeOfDay.{IsTimeOfDay};
 ghost use Rattle.time_below.specs.Month.{month_number};
 ghost use Rattle.time_below.specs.Weekday.{days_from_monday};
 ghost use Rattle.time_digits.specs.Digits.{fixed, zero_padded};
 ghost use Rattle.time_digits.specs.Fraction.{trimmed_fraction};
 ghost use Rattle.time_fmt.specs.DateText.{month_name, weekday_name, short_name};
 ghost use Rattle.time_fmt.specs.Room.{HasRoom, Writes, WritesJust, WritesUpTo};
-ghost use Rattle.time_known.specs.WellKnown.{clock_text, offset_text};
+ghost use Rattle.time_provide.specs.Real.{AgreesOnTime};
+ghost use Rattle.time_known.specs.WellKnown.{clock_text, is_outside, offset_text};
 
 use std::mem::{forget, replace};
 use time_below::{Month, Weekday};
@@ -20,9 +19,9 @@ use time_digits::{
 };
 use time_fmt::writers::{write, write_if_else};
 use time_provide::ComponentProvider;
-use time_provide::ranges::Nanoseconds;
+use time_provide::ranges::{Nanoseconds, Year};
 
-/// Takes the vector out of its borrow, so that the compiler sees that its block does not move.
+// Takes the vector out of its borrow, so that the compiler sees that its block does not move.
 #[inline(always)]
 pub(crate) fn take_out(output: &mut Vec<u8>) -> Vec<u8>
     ensures { result ≡ output.old }
@@ -31,7 +30,7 @@ pub(crate) fn take_out(output: &mut Vec<u8>) -> Vec<u8>
     replace(output, Vec::new(alloc))
 }
 
-/// Puts it back. The empty one in its place has no memory to give back, and is not tested for it.
+// Puts it back. The empty one in its place has no memory to give back, and is not tested for it.
 #[inline(always)]
 pub(crate) fn put_back(output: &mut Vec<u8>, taken: Vec<u8>)
     ensures { output.new ≡ taken }
@@ -39,7 +38,19 @@ pub(crate) fn put_back(output: &mut Vec<u8>, taken: Vec<u8>)
     forget(replace(output, taken));
 }
 
-/// Appends a number of two digits, with a zero in front where it is below 10.
+// The year as a number of four digits, if it is from the first to 9,999.
+pub(crate) fn four_digit_year(year: Year, first: u16) -> Option<ru16<0, 9_999>>
+    ensures outside { is_none result ≡ is_outside first 9_999 year }
+    ensures value { IfSome result (λ y. y ≡ unsigned_abs year) }
+{
+    let number = year.get();
+    if number < first as i32 || number > 9_999 {
+        return None;
+    }
+    Some(ru16::within(number.unsigned_abs() as u16))
+}
+
+// Appends a number of two digits, with a zero in front where it is below 10.
 #[inline(always)]
 pub(crate) fn write_pair(output: &mut Vec<u8>, number: ru8<0, 99>) -> usize
     requires room { HasRoom output.old 2 }
@@ -48,7 +59,7 @@ pub(crate) fn write_pair(output: &mut Vec<u8>, number: ru8<0, 99>) -> usize
     write(output, two_digits_zero_padded(number))
 }
 
-/// Appends a number of four digits, with zeros in front.
+// Appends a number of four digits, with zeros in front.
 #[inline(always)]
 pub(crate) fn write_four_digits(output: &mut Vec<u8>, number: ru16<0, 9_999>) -> usize
     requires room { HasRoom output.old 4 }
@@ -59,7 +70,7 @@ pub(crate) fn write_four_digits(output: &mut Vec<u8>, number: ru16<0, 9_999>) ->
     first + write(output, low)
 }
 
-/// Appends three bytes.
+// Appends three bytes.
 #[inline(always)]
 fn write_three(output: &mut Vec<u8>, bytes: [u8; 3]) -> usize
     requires room { HasRoom output.old 3 }
@@ -72,7 +83,7 @@ fn write_three(output: &mut Vec<u8>, bytes: [u8; 3]) -> usize
     3
 }
 
-/// Appends the first three letters of the month's English name.
+// Appends the first three letters of the month's English name.
 #[inline(always)]
 pub(crate) fn write_month_name(output: &mut Vec<u8>, month: Month) -> usize
     requires room { HasRoom output.old 3 }
@@ -96,7 +107,7 @@ pub(crate) fn write_month_name(output: &mut Vec<u8>, month: Month) -> usize
     write_three(output, name)
 }
 
-/// Appends the first three letters of the weekday's English name.
+// Appends the first three letters of the weekday's English name.
 #[inline(always)]
 pub(crate) fn write_weekday_name(output: &mut Vec<u8>, weekday: Weekday) -> usize
     requires room { HasRoom output.old 3 }
@@ -115,7 +126,7 @@ pub(crate) fn write_weekday_name(output: &mut Vec<u8>, weekday: Weekday) -> usiz
     write_three(output, name)
 }
 
-/// Appends the nine digits of a fraction of a second.
+// Appends the nine digits of a fraction of a second.
 #[inline(always)]
 pub(crate) fn write_nine_digits(output: &mut Vec<u8>, nanosecond: Nanoseconds) -> usize
     requires room { HasRoom output.old 9 }
@@ -129,8 +140,8 @@ pub(crate) fn write_nine_digits(output: &mut Vec<u8>, nanosecond: Nanoseconds) -
     sum + write(output, fifth)
 }
 
-/// Appends the nine digits of a fraction of a second, without the zeros at their end; the first of
-/// them stays.
+// Appends the nine digits of a fraction of a second, without the zeros at their end; the first of
+// them stays.
 #[inline(always)]
 #[tactic(auto, using(crate::proofs::PieceLemmas::digit_lengths))]
 pub(crate) fn write_fraction(output: &mut Vec<u8>, nanosecond: Nanoseconds) -> usize
@@ -144,7 +155,7 @@ pub(crate) fn write_fraction(output: &mut Vec<u8>, nanosecond: Nanoseconds) -> u
     9 - zeros
 }
 
-/// Appends the hour, the minute and the second, of two digits each, and the separator between them.
+// Appends the hour, the minute and the second, of two digits each, and the separator between them.
 #[inline(always)]
 #[tactic(auto, using(crate::proofs::WritingLemmas::joined_lengths))]
 pub(crate) fn write_clock<V: ComponentProvider>(
@@ -158,8 +169,7 @@ pub(crate) fn write_clock<V: ComponentProvider>(
     requires agrees { V.agrees state.old value.now }
     ensures writes { WritesUpTo (6 + 2 * length separator.now) output.old output.new result
         (clock_text separator.now (the_time (V.facts value.now))) }
-    ensures real { IsTimeOfDay (the_time (V.facts value.now)) }
-    ensures agrees { V.agrees state.new value.now }
+    ensures agrees { AgreesOnTime (V.agrees state.new value.now) (V.facts value.now) }
 {
     let hour = write_pair(output, value.hour(state).expand());
     let colon = write(output, separator);
@@ -168,8 +178,8 @@ pub(crate) fn write_clock<V: ComponentProvider>(
     hour + colon + minute + second_colon + write_pair(output, value.second(state).expand())
 }
 
-/// Appends the sign of the whole offset, and its hours and its minutes, of two digits each, with the
-/// separator between them.
+// Appends the sign of the whole offset, and its hours and its minutes, of two digits each, with the
+// separator between them.
 #[inline(always)]
 #[tactic(auto, using(crate::proofs::WritingLemmas::joined_lengths))]
 pub(crate) fn write_signed_offset<V: ComponentProvider>(
@@ -183,7 +193,6 @@ pub(crate) fn write_signed_offset<V: ComponentProvider>(
     requires agrees { V.agrees state.old value.now }
     ensures writes { WritesUpTo (5 + length separator.now) output.old output.new result
         (offset_text separator.now (the_offset (V.facts value.now))) }
-    ensures real { IsOffset (the_offset (V.facts value.now)) }
     ensures agrees { V.agrees state.new value.now }
 {
     let is_negative = value.offset_is_negative(state);

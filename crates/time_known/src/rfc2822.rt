@@ -1,22 +1,20 @@
 //! RFC 2822.
-ghost use Rattle.std.specs.Prelude.{◌≡◌, ◌+◌, IsTrue, IfOk, OnOk, IfErr, true, unsigned_abs};
+ghost use Rattle.std.specs.Prelude.{◌≡◌, ◌+◌, IsTrue, IfOk, IfErr, true, unsigned_abs};
 ghost use Rattle.time_below.specs.Facts.{the_date, the_time, the_offset};
-ghost use Rattle.time_below.specs.Offset.{IsOffset};
-ghost use Rattle.time_below.specs.TimeOfDay.{IsTimeOfDay};
-ghost use Rattle.time_fmt.specs.Outcome.{done, refused, invalid_component};
+ghost use Rattle.time_fmt.specs.Outcome.{refused, invalid_component};
 ghost use Rattle.time_fmt.specs.Room.{HasRoom, WritesUpTo};
-ghost use Rattle.time_provide.specs.Real.{AreOfDate};
-ghost use Rattle.time_known.specs.Groups.{AreAllSupplied, at_groups};
+ghost use Rattle.time_provide.specs.Real.{AgreesOnTime};
+ghost use Rattle.time_known.specs.Groups.{Accepts, AreAllSupplied, SuppliesDateIn, at_groups};
 ghost use Rattle.time_known.specs.Longest.{FillsRfc2822Width};
 ghost use Rattle.time_known.specs.ReadBack.{ReadsAs};
-ghost use Rattle.time_known.specs.Rfc2822.{rfc2822_width, rfc2822_outcome, rfc2822_of_groups, rfc2822_text, named_date_text, date_text};
+ghost use Rattle.time_known.specs.Rfc2822.{rfc2822_outcome, rfc2822_of_groups, rfc2822_text, named_date_text, date_text};
+ghost use Rattle.time_known.specs.Rfc2822.{rfc2822_width, named_date_width, date_width};
 ghost use Rattle.time_known.specs.Rfc2822Grammar.{Rfc2822Spells, to_whole_second};
 
 use crate::groups::Groups;
-use crate::parts::four_digit_year;
 use crate::pieces::{
-    put_back, take_out, write_clock, write_four_digits, write_month_name, write_pair,
-    write_signed_offset, write_weekday_name,
+    four_digit_year, put_back, take_out, write_clock, write_four_digits, write_month_name,
+    write_pair, write_signed_offset, write_weekday_name,
 };
 use time_digits::ru16;
 use time_fmt::writers::write;
@@ -30,6 +28,9 @@ use time_provide::ComponentProvider;
 #[derive(Debug, Clone, Copy, PartialEq, Eq)]
 pub struct Rfc2822;
 
+// The bytes of such a text.
+const WIDTH: usize = 31;
+
 impl ComputeMetadata for Rfc2822 {
     ghost width_of = { λ _. rfc2822_width };
 
@@ -39,7 +40,7 @@ impl ComputeMetadata for Rfc2822 {
 
     fn compute_metadata(&self) -> Metadata {
         Metadata {
-            max_bytes_needed: 31,
+            max_bytes_needed: WIDTH,
             guaranteed_utf8: true,
         }
     }
@@ -82,12 +83,8 @@ fn accepted_year<V: ComponentProvider>(
     ensures refused { IfErr result
         (λ name. at_groups rfc2822_of_groups (V.facts value.now)
         ≡ refused (invalid_component name.now)) }
-    ensures year { IfOk result
-        (λ year. year ≡ unsigned_abs (the_date (V.facts value.now)).year) }
-    ensures accepted { OnOk result (at_groups rfc2822_of_groups (V.facts value.now)
-        ≡ done (at_groups rfc2822_text (V.facts value.now))) }
-    ensures real { OnOk result (AreOfDate (the_date (V.facts value.now))
-        × IsOffset (the_offset (V.facts value.now))) }
+    ensures accepted { IfOk result
+        (Accepts rfc2822_of_groups rfc2822_text (V.facts value.now)) }
     ensures agrees { V.agrees state.new value.now }
 {
     let Some(year) = four_digit_year(value.calendar_year(state), 1900) else {
@@ -114,8 +111,7 @@ fn append_date_time<V: ComponentProvider>(
     requires agrees { V.agrees state.old value.now }
     ensures writes { WritesUpTo rfc2822_width output.old output.new result
         (at_groups rfc2822_text (V.facts value.now)) }
-    ensures real { IsTimeOfDay (the_time (V.facts value.now)) }
-    ensures agrees { V.agrees state.new value.now }
+    ensures agrees { AgreesOnTime (V.agrees state.new value.now) (V.facts value.now) }
 {
     let date = write_named_date(output, year, value, state);
     let space = write(output, " ");
@@ -133,11 +129,10 @@ fn write_named_date<V: ComponentProvider>(
     value: &V,
     state: &mut V::State,
 ) -> usize
-    requires supplied { IsTrue V.SUPPLIES_DATE }
-    requires year { year ≡ unsigned_abs (the_date (V.facts value.now)).year }
-    requires room { HasRoom output.old 16 }
+    requires date { SuppliesDateIn year V.SUPPLIES_DATE (V.facts value.now) }
+    requires room { HasRoom output.old named_date_width }
     requires agrees { V.agrees state.old value.now }
-    ensures writes { WritesUpTo 16 output.old output.new result
+    ensures writes { WritesUpTo named_date_width output.old output.new result
         (named_date_text (the_date (V.facts value.now))) }
     ensures agrees { V.agrees state.new value.now }
 {
@@ -155,11 +150,10 @@ fn write_date<V: ComponentProvider>(
     value: &V,
     state: &mut V::State,
 ) -> usize
-    requires supplied { IsTrue V.SUPPLIES_DATE }
-    requires year { year ≡ unsigned_abs (the_date (V.facts value.now)).year }
-    requires room { HasRoom output.old 11 }
+    requires date { SuppliesDateIn year V.SUPPLIES_DATE (V.facts value.now) }
+    requires room { HasRoom output.old date_width }
     requires agrees { V.agrees state.old value.now }
-    ensures writes { WritesUpTo 11 output.old output.new result
+    ensures writes { WritesUpTo date_width output.old output.new result
         (date_text (the_date (V.facts value.now))) }
     ensures agrees { V.agrees state.new value.now }
 {

@@ -1,22 +1,20 @@
 //! RFC 3339.
-ghost use Rattle.std.specs.Prelude.{◌≡◌, ◌+◌, IsTrue, IfOk, OnOk, IfErr, true, unsigned_abs};
+ghost use Rattle.std.specs.Prelude.{◌≡◌, ◌+◌, IsTrue, IfOk, IfErr, true, unsigned_abs};
 ghost use Rattle.time_below.specs.Facts.{the_date, the_time, the_offset};
-ghost use Rattle.time_below.specs.Offset.{IsOffset};
-ghost use Rattle.time_below.specs.TimeOfDay.{IsTimeOfDay};
-ghost use Rattle.time_fmt.specs.Outcome.{done, refused, invalid_component};
+ghost use Rattle.time_fmt.specs.Outcome.{refused, invalid_component};
 ghost use Rattle.time_fmt.specs.Room.{HasRoom, WritesUpTo};
-ghost use Rattle.time_provide.specs.Real.{AreOfDate};
-ghost use Rattle.time_known.specs.Groups.{AreAllSupplied, at_groups};
+ghost use Rattle.time_provide.specs.Real.{AgreesOnTime};
+ghost use Rattle.time_known.specs.Groups.{Accepts, AreAllSupplied, SuppliesDateIn, at_groups};
 ghost use Rattle.time_known.specs.Longest.{FillsRfc3339Width};
 ghost use Rattle.time_known.specs.ReadBack.{ReadsAs};
-ghost use Rattle.time_known.specs.Rfc3339.{rfc3339_width, rfc3339_outcome, rfc3339_of_groups, rfc3339_text, full_date_text, time_secfrac_text, time_offset_text};
+ghost use Rattle.time_known.specs.Rfc3339.{rfc3339_outcome, rfc3339_of_groups, rfc3339_text, full_date_text, time_secfrac_text, time_offset_text};
+ghost use Rattle.time_known.specs.Rfc3339.{rfc3339_width, full_date_width, time_secfrac_width, time_offset_width};
 ghost use Rattle.time_known.specs.Rfc3339Grammar.{Rfc3339Spells, IsCanonicalRfc3339};
 
 use crate::groups::Groups;
-use crate::parts::four_digit_year;
 use crate::pieces::{
-    put_back, take_out, write_clock, write_four_digits, write_fraction, write_pair,
-    write_signed_offset,
+    four_digit_year, put_back, take_out, write_clock, write_four_digits, write_fraction,
+    write_pair, write_signed_offset,
 };
 use time_digits::{ru8, ru16};
 use time_fmt::writers::write;
@@ -31,6 +29,9 @@ use time_provide::ComponentProvider;
 #[derive(Debug, Clone, Copy, PartialEq, Eq)]
 pub struct Rfc3339;
 
+// The most bytes of such a text.
+const WIDTH: usize = 35;
+
 impl ComputeMetadata for Rfc3339 {
     ghost width_of = { λ _. rfc3339_width };
 
@@ -40,7 +41,7 @@ impl ComputeMetadata for Rfc3339 {
 
     fn compute_metadata(&self) -> Metadata {
         Metadata {
-            max_bytes_needed: 35,
+            max_bytes_needed: WIDTH,
             guaranteed_utf8: true,
         }
     }
@@ -83,12 +84,8 @@ fn accepted_year<V: ComponentProvider>(
     ensures refused { IfErr result
         (λ name. at_groups rfc3339_of_groups (V.facts value.now)
         ≡ refused (invalid_component name.now)) }
-    ensures year { IfOk result
-        (λ year. year ≡ unsigned_abs (the_date (V.facts value.now)).year) }
-    ensures accepted { OnOk result (at_groups rfc3339_of_groups (V.facts value.now)
-        ≡ done (at_groups rfc3339_text (V.facts value.now))) }
-    ensures real { OnOk result (AreOfDate (the_date (V.facts value.now))
-        × IsOffset (the_offset (V.facts value.now))) }
+    ensures accepted { IfOk result
+        (Accepts rfc3339_of_groups rfc3339_text (V.facts value.now)) }
     ensures agrees { V.agrees state.new value.now }
 {
     let Some(year) = four_digit_year(value.calendar_year(state), 0) else {
@@ -118,8 +115,7 @@ fn append_date_time<V: ComponentProvider>(
     requires agrees { V.agrees state.old value.now }
     ensures writes { WritesUpTo rfc3339_width output.old output.new result
         (at_groups rfc3339_text (V.facts value.now)) }
-    ensures real { IsTimeOfDay (the_time (V.facts value.now)) }
-    ensures agrees { V.agrees state.new value.now }
+    ensures agrees { AgreesOnTime (V.agrees state.new value.now) (V.facts value.now) }
 {
     let date = write_full_date(output, year, value, state);
     let letter = write(output, "T");
@@ -137,11 +133,10 @@ pub(crate) fn write_full_date<V: ComponentProvider>(
     value: &V,
     state: &mut V::State,
 ) -> usize
-    requires supplied { IsTrue V.SUPPLIES_DATE }
-    requires year { year ≡ unsigned_abs (the_date (V.facts value.now)).year }
-    requires room { HasRoom output.old 10 }
+    requires date { SuppliesDateIn year V.SUPPLIES_DATE (V.facts value.now) }
+    requires room { HasRoom output.old full_date_width }
     requires agrees { V.agrees state.old value.now }
-    ensures writes { WritesUpTo 10 output.old output.new result
+    ensures writes { WritesUpTo full_date_width output.old output.new result
         (full_date_text (the_date (V.facts value.now))) }
     ensures agrees { V.agrees state.new value.now }
 {
@@ -163,9 +158,9 @@ fn write_time_secfrac<V: ComponentProvider>(
     state: &mut V::State,
 ) -> usize
     requires supplied { IsTrue V.SUPPLIES_TIME }
-    requires room { HasRoom output.old 10 }
+    requires room { HasRoom output.old time_secfrac_width }
     requires agrees { V.agrees state.old value.now }
-    ensures writes { WritesUpTo 10 output.old output.new result
+    ensures writes { WritesUpTo time_secfrac_width output.old output.new result
         (time_secfrac_text (the_time (V.facts value.now)).nanosecond) }
     ensures agrees { V.agrees state.new value.now }
 {
@@ -186,9 +181,9 @@ pub(crate) fn write_time_offset<V: ComponentProvider>(
     state: &mut V::State,
 ) -> usize
     requires supplied { IsTrue V.SUPPLIES_OFFSET }
-    requires room { HasRoom output.old 6 }
+    requires room { HasRoom output.old time_offset_width }
     requires agrees { V.agrees state.old value.now }
-    ensures writes { WritesUpTo 6 output.old output.new result
+    ensures writes { WritesUpTo time_offset_width output.old output.new result
         (time_offset_text (the_offset (V.facts value.now))) }
     ensures agrees { V.agrees state.new value.now }
 {

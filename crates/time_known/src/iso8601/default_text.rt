@@ -1,26 +1,23 @@
 //! The text of the default configuration, which most callers ask for, in pieces that are inlined.
-ghost use Rattle.std.specs.Prelude.{◌≡◌, ◌+◌, ◌≤◌, IsTrue, IfSome, OnSome, MatchOption, Ok, unsigned_abs, vec_len};
-ghost use Rattle.time_below.specs.Facts.{the_date, the_time, the_offset};
-ghost use Rattle.time_below.specs.Offset.{IsOffset};
-ghost use Rattle.time_below.specs.TimeOfDay.{IsTimeOfDay};
-ghost use Rattle.time_fmt.specs.Outcome.{Appends, done};
+ghost use Rattle.std.specs.Prelude.{◌≡◌, IsTrue, IfSome, OnSome, MatchOption, Ok, unsigned_abs};
+ghost use Rattle.time_below.specs.Facts.{the_date, the_time};
+ghost use Rattle.time_fmt.specs.Outcome.{AppendsUpTo};
 ghost use Rattle.time_fmt.specs.Room.{HasRoom, WritesUpTo};
-ghost use Rattle.time_provide.specs.Real.{AreOfDate};
+ghost use Rattle.time_provide.specs.Real.{AgreesOnTime, AreReal};
 ghost use Rattle.time_known.specs.Config.{default_choices};
-ghost use Rattle.time_known.specs.DefaultText.{default_text, default_time_text};
-ghost use Rattle.time_known.specs.Groups.{AreAllSupplied, at_groups};
+ghost use Rattle.time_known.specs.DefaultText.{default_text, default_time_text, default_time_width, default_width};
+ghost use Rattle.time_known.specs.Groups.{Accepts, AreAllSupplied, at_groups};
 ghost use Rattle.time_known.specs.Iso8601.{iso_of_groups};
 
 use crate::iso8601::config::Config;
-use crate::parts::four_digit_year;
-use crate::pieces::{put_back, take_out, write_clock, write_nine_digits};
+use crate::pieces::{four_digit_year, put_back, take_out, write_clock, write_nine_digits};
 use crate::rfc3339::{write_full_date, write_time_offset};
 use time_digits::ru16;
 use time_fmt::writers::write;
 use time_provide::ComponentProvider;
 
-/// Appends the text of the default configuration, where nothing of the value is refused; else it
-/// appends nothing.
+// Appends the text of the default configuration, where nothing of the value is refused; else it
+// appends nothing.
 #[inline(always)]
 pub(super) fn write_default<V: ComponentProvider>(
     config: &Config,
@@ -30,15 +27,12 @@ pub(super) fn write_default<V: ComponentProvider>(
 ) -> Option<usize>
     requires default { config.now ≡ default_choices }
     requires supplied { AreAllSupplied V.SUPPLIES_DATE V.SUPPLIES_TIME V.SUPPLIES_OFFSET }
-    requires room { HasRoom output.old 35 }
+    requires room { HasRoom output.old default_width }
     requires agrees { V.agrees state.old value.now }
     ensures appends { MatchOption result (output.new ≡ output.old)
-        (λ n. Appends output.old output.new (Ok n)
+        (λ n. AppendsUpTo default_width output.old output.new (Ok n)
         (at_groups (iso_of_groups config.now) (V.facts value.now))) }
-    ensures real { OnSome result (AreOfDate (the_date (V.facts value.now))
-        × IsTimeOfDay (the_time (V.facts value.now))
-        × IsOffset (the_offset (V.facts value.now))) }
-    ensures within { vec_len output.new ≤ vec_len output.old + 35 }
+    ensures real { OnSome result (AreReal (V.facts value.now)) }
     ensures agrees { V.agrees state.new value.now }
 {
     let Some(year) = accepted_year(config, value, state) else {
@@ -60,12 +54,8 @@ fn accepted_year<V: ComponentProvider>(
     requires default { config.now ≡ default_choices }
     requires supplied { AreAllSupplied V.SUPPLIES_DATE V.SUPPLIES_TIME V.SUPPLIES_OFFSET }
     requires agrees { V.agrees state.old value.now }
-    ensures year { IfSome result
-        (λ year. year ≡ unsigned_abs (the_date (V.facts value.now)).year) }
-    ensures accepted { OnSome result (at_groups (iso_of_groups config.now) (V.facts value.now)
-        ≡ done (at_groups default_text (V.facts value.now))) }
-    ensures real { OnSome result (AreOfDate (the_date (V.facts value.now))
-        × IsOffset (the_offset (V.facts value.now))) }
+    ensures accepted { IfSome result
+        (Accepts (iso_of_groups config.now) default_text (V.facts value.now)) }
     ensures agrees { V.agrees state.new value.now }
 {
     let Some(year) = four_digit_year(value.calendar_year(state), 0) else {
@@ -88,12 +78,11 @@ fn append_default<V: ComponentProvider>(
 ) -> usize
     requires supplied { AreAllSupplied V.SUPPLIES_DATE V.SUPPLIES_TIME V.SUPPLIES_OFFSET }
     requires year { year ≡ unsigned_abs (the_date (V.facts value.now)).year }
-    requires room { HasRoom output.old 35 }
+    requires room { HasRoom output.old default_width }
     requires agrees { V.agrees state.old value.now }
-    ensures writes { WritesUpTo 35 output.old output.new result
+    ensures writes { WritesUpTo default_width output.old output.new result
         (at_groups default_text (V.facts value.now)) }
-    ensures real { IsTimeOfDay (the_time (V.facts value.now)) }
-    ensures agrees { V.agrees state.new value.now }
+    ensures agrees { AgreesOnTime (V.agrees state.new value.now) (V.facts value.now) }
 {
     let date = write_full_date(output, year, value, state);
     let time = write_default_time(output, value, state);
@@ -109,12 +98,11 @@ fn write_default_time<V: ComponentProvider>(
     state: &mut V::State,
 ) -> usize
     requires supplied { IsTrue V.SUPPLIES_TIME }
-    requires room { HasRoom output.old 19 }
+    requires room { HasRoom output.old default_time_width }
     requires agrees { V.agrees state.old value.now }
-    ensures writes { WritesUpTo 19 output.old output.new result
+    ensures writes { WritesUpTo default_time_width output.old output.new result
         (default_time_text (the_time (V.facts value.now))) }
-    ensures real { IsTimeOfDay (the_time (V.facts value.now)) }
-    ensures agrees { V.agrees state.new value.now }
+    ensures agrees { AgreesOnTime (V.agrees state.new value.now) (V.facts value.now) }
 {
     let letter = write(output, "T");
     let clock = write_clock(output, value, state, ":");

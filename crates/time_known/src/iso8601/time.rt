@@ -1,10 +1,10 @@
 //! The time of day of a text of ISO 8601-1:2019, section 5.3.
-ghost use Rattle.std.specs.Prelude.{◌≡◌, ◌+◌, ◌*◌, ◌<◌, ◌≤◌, ◌++◌, codes, length, IsTrue, vec_len};
+ghost use Rattle.std.specs.Prelude.{◌≡◌, ◌+◌, ◌*◌, ◌<◌, ◌≤◌, ◌++◌, codes, length, IsTrue};
 ghost use Rattle.time_below.specs.Facts.{the_time};
-ghost use Rattle.time_below.specs.TimeOfDay.{IsTimeOfDay};
 ghost use Rattle.time_digits.specs.Digits.{zero_padded};
-ghost use Rattle.time_fmt.specs.Outcome.{Appends};
+ghost use Rattle.time_fmt.specs.Outcome.{AppendsUpTo};
 ghost use Rattle.time_fmt.specs.Room.{HasRoom, WritesUpTo};
+ghost use Rattle.time_provide.specs.Real.{AgreesOnTime};
 ghost use Rattle.time_known.specs.Config.{separator};
 ghost use Rattle.time_known.specs.Iso8601.{iso_time, decimal_part, units_text, nanoseconds_of_hour, nanoseconds_of_minute};
 ghost use Rattle.time_known.specs.Iso8601Width.{iso_time_width, decimal_part_width, units_width};
@@ -36,11 +36,9 @@ pub fn format_time<V: ComponentProvider>(
     requires supplied { IsTrue V.SUPPLIES_TIME }
     requires room { HasRoom output.old (iso_time_width config.now) }
     requires agrees { V.agrees state.old value.now }
-    ensures appends { Appends output.old output.new result
+    ensures appends { AppendsUpTo (iso_time_width config.now) output.old output.new result
         (iso_time config.now (the_time (V.facts value.now))) }
-    ensures real { IsTimeOfDay (the_time (V.facts value.now)) }
-    ensures within { vec_len output.new ≤ vec_len output.old + iso_time_width config.now }
-    ensures agrees { V.agrees state.new value.now }
+    ensures agrees { AgreesOnTime (V.agrees state.new value.now) (V.facts value.now) }
 {
     let letter = write_if(output, config.has_time_letter(), "T");
     Ok(letter + write_units(config, output, value, state))
@@ -59,8 +57,7 @@ fn write_units<V: ComponentProvider>(
     ensures writes { WritesUpTo (units_width config.now.time_precision config.now)
         output.old output.new result
         (units_text config.now.time_precision config.now (the_time (V.facts value.now))) }
-    ensures real { IsTimeOfDay (the_time (V.facts value.now)) }
-    ensures agrees { V.agrees state.new value.now }
+    ensures agrees { AgreesOnTime (V.agrees state.new value.now) (V.facts value.now) }
 {
     match config.time_precision() {
         TimePrecision::Hour { decimal_digits } => {
@@ -91,8 +88,7 @@ fn write_to_hour<V: ComponentProvider>(
         (zero_padded 2 (the_time (V.facts value.now)).hour
         ++ decimal_part config.now.decimal_sign decimal_digits
         (nanoseconds_of_hour (the_time (V.facts value.now))) NANOSECONDS_PER_HOUR) }
-    ensures real { IsTimeOfDay (the_time (V.facts value.now)) }
-    ensures agrees { V.agrees state.new value.now }
+    ensures agrees { AgreesOnTime (V.agrees state.new value.now) (V.facts value.now) }
 {
     let hour = write_pair(output, value.hour(state).expand());
     let rest = nanoseconds_of_hour(value, state);
@@ -120,8 +116,7 @@ fn write_to_minute<V: ComponentProvider>(
         ++ zero_padded 2 (the_time (V.facts value.now)).minute
         ++ decimal_part config.now.decimal_sign decimal_digits
         (nanoseconds_of_minute (the_time (V.facts value.now))) NANOSECONDS_PER_MINUTE) }
-    ensures real { IsTimeOfDay (the_time (V.facts value.now)) }
-    ensures agrees { V.agrees state.new value.now }
+    ensures agrees { AgreesOnTime (V.agrees state.new value.now) (V.facts value.now) }
 {
     let hour = write_pair(output, value.hour(state).expand());
     let colon = write(output, config.separator(":"));
@@ -151,8 +146,7 @@ fn write_to_second<V: ComponentProvider>(
         (clock_text (separator config.now (codes ":")) (the_time (V.facts value.now))
         ++ decimal_part config.now.decimal_sign decimal_digits
         (the_time (V.facts value.now)).nanosecond NANOSECONDS_PER_SECOND) }
-    ensures real { IsTimeOfDay (the_time (V.facts value.now)) }
-    ensures agrees { V.agrees state.new value.now }
+    ensures agrees { AgreesOnTime (V.agrees state.new value.now) (V.facts value.now) }
 {
     let clock = write_clock(output, value, state, config.separator(":"));
     let rest = u64::from(value.nanosecond(state).get());
