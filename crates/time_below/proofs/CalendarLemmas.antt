@@ -2,7 +2,7 @@
 use Rattle.std.proofs.Common.{◌≡◌, ℕ, zero, suc, ◌+◌, ◌-◌, ◌*◌, ◌/◌, ◌%◌, ◌<◌, ◌≤◌, Bool, refl, sym, ap, ◌∙◌, arith, ℤ, pos, negsuc, ◌+ℤ◌, ◌-ℤ◌, ◌*ℤ◌, unsigned_abs, to_z-of_z}
 use Rattle.std.proofs.lemmas.Int.{ints}
 use Rattle.std.specs.Int.{int_div_euclid, int_rem_euclid}
-use Rattle.time_below.specs.Calendar.{OrdinalDate, day_number, weekday_of, date_at, thursday_of, days_before, greatest_year}
+use Rattle.time_below.specs.Calendar.{OrdinalDate, day_number, days_in_year, weekday_of, date_at, thursday_of, days_before, greatest_year}
 use Rattle.time_below.specs.Moment.{utc_date, second_of_day, day_seconds, unix_day, seconds_before}
 
 -- the days of n years of the calendar that begin where 400 years begin
@@ -113,3 +113,16 @@ second_from_start (pos a) n e =
 second_from_start (negsuc a) n e =
     let h : n + suc a ≡ seconds_before = omega (arith, ints) in
     omega arith
+
+-- no year has more than 366 days
+pub days_below : (y : ℤ) → days_in_year y ≤ 366
+days_below y = grind arith
+
+-- a remainder by seven is below seven
+below_seven : (z : ℤ) → unsigned_abs (int_rem_euclid z (pos 7)) < 7
+below_seven (pos a) = omega arith
+below_seven (negsuc a) = omega arith
+
+-- a weekday is one of seven
+pub weekday_below : (d : OrdinalDate) → weekday_of d < 7
+weekday_below d = below_seven (day_number d)

@@ -1,7 +1,12 @@
 -- The signs of an offset's parts.
-use Rattle.std.proofs.Common.{◌≡◌, ℕ, zero, suc, refl, sym, ap, ◌∙◌, arith, ℤ, pos, neg_ℤ, ◌<ℤ◌, ◌≤ℤ◌, unsigned_abs}
+use Rattle.std.proofs.Common.{◌≡◌, ℕ, zero, suc, ◌+◌, ◌<◌, ◌≤◌, ◌⊎◌, inl, inr, ⊎_elim, Bool, true, false, refl, sym, ap, ◌∙◌, arith}
+use Rattle.std.proofs.Common.{ℤ, pos, negsuc, neg_ℤ, ◌<ℤ◌, ◌≤ℤ◌, unsigned_abs}
+use Rattle.std.specs.Prelude.{int_lt, ◌||◌}
+use Rattle.std.proofs.lemmas.Bool.{cases_lt}
+use Rattle.std.proofs.lemmas.Bool.Decides.{nat_tests}
 use Rattle.std.proofs.lemmas.Int.{ints, by_lt_z}
 use Rattle.time_below.specs.Offset.{Offset, AreOffsetParts, HasNoOtherSign, IsOffset, Settles, signed_like, settled}
+use Rattle.time_below.specs.Offset.{is_negative, is_utc, signed, signed_offset, utc}
 
 -- after a part above zero the size itself stands
 like_positive : (lead x : ℤ) → pos 0 <ℤ lead → signed_like lead x ≡ pos (unsigned_abs x)
@@ -122,3 +127,105 @@ only_settled h m s o k =
     same_parts h _ _ o.hours o.minutes o.seconds k.hours_kept
     (alike h m o.minutes (rw k.hours_kept at k.minutes_like_hours) k.minutes_size k.minutes_kept)
     (alike h (signed_like m s) o.seconds (rw k.hours_kept at k.seconds_like_hours) size at_zero)
+
+-- ---- offsets without seconds
+
+-- a number with a sign has its size
+pub abs_signed : (b : Bool) (n : ℕ) → unsigned_abs (signed b n) ≡ n
+abs_signed false n = refl
+abs_signed true n = size_negated n
+
+-- a number is its size with its sign
+pub signed_size : (y : ℤ) → y ≡ signed (int_lt y (pos 0)) (unsigned_abs y)
+signed_size (pos n) = let e : int_lt (pos n) (pos 0) ≡ false = grind (arith, nat_tests) in rw e refl
+signed_size (negsuc n) = refl
+
+-- a number of size zero is zero
+size_zero : (z : ℤ) → unsigned_abs z ≡ 0 → z ≡ pos 0
+size_zero (pos a) e = ap pos e
+size_zero (negsuc a) e = absurd (omega arith)
+
+-- two parts with one sign have the sign of the offset
+own_sign : (h m : ℤ) → HasNoOtherSign h m
+    → (signed (int_lt h (pos 0) || int_lt m (pos 0) || false) (unsigned_abs h) ≡ h)
+    × (signed (int_lt h (pos 0) || int_lt m (pos 0) || false) (unsigned_abs m) ≡ m)
+own_sign (pos a) (pos b) h =
+    let n : int_lt (pos a) (pos 0) || int_lt (pos b) (pos 0) || false ≡ false = grind (arith, nat_tests) in
+    rw n (refl, refl)
+own_sign (pos zero) (negsuc b) h = (refl, refl)
+own_sign (pos (suc a)) (negsuc b) h = absurd (omega (arith, ints))
+own_sign (negsuc a) (pos zero) h = (refl, refl)
+own_sign (negsuc a) (pos (suc b)) h = absurd (omega (arith, ints))
+own_sign (negsuc a) (negsuc b) h = (refl, refl)
+
+-- which is that of its hours or its minutes, where it has no seconds
+negative_of : (o : Offset) → o.seconds ≡ pos 0
+    → is_negative o ≡ int_lt o.hours (pos 0) || int_lt o.minutes (pos 0) || false
+negative_of o e = ap (λ s. int_lt o.hours (pos 0) || int_lt o.minutes (pos 0) || int_lt s (pos 0)) e
+
+-- so it is its sign, its hours and its minutes
+pub offset_is : (o : Offset) → IsOffset o → unsigned_abs o.seconds ≡ 0
+    → o ≡ signed_offset (is_negative o) (unsigned_abs o.hours) (unsigned_abs o.minutes)
+offset_is o h e =
+    let zero = size_zero o.seconds e in
+    let own = own_sign o.hours o.minutes h.1 in
+    let n = negative_of o zero in
+    same_parts _ _ _ o.hours o.minutes o.seconds (sym (ap (λ b. signed b (unsigned_abs o.hours)) n ∙ own.0))
+    (sym (ap (λ b. signed b (unsigned_abs o.minutes)) n ∙ own.1)) zero
+
+-- an offset made with a sign has that sign, unless it is zero
+pub is_negative-signed_offset : (b : Bool) (h m : ℕ) → 0 < h + m → is_negative (signed_offset b h m) ≡ b
+is_negative-signed_offset false h m some = grind (arith, nat_tests)
+is_negative-signed_offset true zero zero some = absurd (omega arith)
+is_negative-signed_offset true zero (suc m) some = refl
+is_negative-signed_offset true (suc h) m some = refl
+
+-- two parts of one sign
+one_sign : (b : Bool) (x y : ℕ) → HasNoOtherSign (signed b x) (signed b y)
+one_sign false x y = both_above _ _ x y refl refl
+one_sign true x y = both_below _ _ x y refl refl
+
+-- and a part that is zero
+zero_sign : (b : Bool) (x : ℕ) → HasNoOtherSign (signed b x) (pos 0)
+zero_sign false x = both_above _ _ x 0 refl refl
+zero_sign true x = both_below _ _ x 0 refl refl
+
+-- so an offset made with a sign is in its ranges
+pub IsOffset-signed_offset : (b : Bool) (h m : ℕ) → h ≤ 25 → m < 60 → IsOffset (signed_offset b h m)
+IsOffset-signed_offset b h m p q =
+    let hours = abs_signed b h in
+    let minutes = abs_signed b m in
+    ((omega (arith, hours), omega (arith, minutes), omega arith), one_sign b h m, zero_sign b h, zero_sign b m)
+
+-- an offset without seconds has hours or minutes, or is zero
+pub some_or_zero : (o : Offset) → unsigned_abs o.seconds ≡ 0
+    → (0 < unsigned_abs o.hours + unsigned_abs o.minutes) ⊎ (o ≡ utc)
+some_or_zero o e =
+    ⊎_elim (λ (h : 0 < unsigned_abs o.hours + unsigned_abs o.minutes). inl h)
+    (λ (h : unsigned_abs o.hours + unsigned_abs o.minutes ≤ 0).
+    inr (same_parts _ _ _ o.hours o.minutes o.seconds (size_zero o.hours (omega arith))
+    (size_zero o.minutes (omega arith)) (size_zero o.seconds e)))
+    (cases_lt 0 (unsigned_abs o.hours + unsigned_abs o.minutes))
+
+-- one with hours or minutes is not zero
+pub not_utc : (o : Offset) → 0 < unsigned_abs o.hours + unsigned_abs o.minutes → o ≡ utc → ⊥
+not_utc o some e =
+    let z : unsigned_abs o.hours + unsigned_abs o.minutes ≡ 0 =
+    ap (λ (p : Offset). unsigned_abs p.hours + unsigned_abs p.minutes) e in
+    omega arith
+
+-- nor does the test call it UTC
+pub is_utc-not : (o : Offset) → 0 < unsigned_abs o.hours + unsigned_abs o.minutes → is_utc o ≡ false
+is_utc-not o some = grind (arith, nat_tests)
+
+-- an offset that the test calls UTC is zero
+pub utc_from_test : (o : Offset) → is_utc o ≡ true → o ≡ utc
+utc_from_test o e =
+    let zeros : (unsigned_abs o.hours ≡ 0) × (unsigned_abs o.minutes ≡ 0) × (unsigned_abs o.seconds ≡ 0) =
+    (grind (arith, nat_tests), grind (arith, nat_tests), grind (arith, nat_tests)) in
+    same_parts _ _ _ o.hours o.minutes o.seconds (size_zero o.hours zeros.0) (size_zero o.minutes zeros.1)
+    (size_zero o.seconds zeros.2)
+
+-- and the other way round
+pub is_utc-utc : (o : Offset) → o ≡ utc → is_utc o ≡ true
+is_utc-utc o e = ap is_utc e

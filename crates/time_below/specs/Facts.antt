@@ -1,5 +1,5 @@
 -- What the values of each type supply to a description.
-use Rattle.std.specs.Prelude.{ℕ, ℤ, Option, Some, None}
+use Rattle.std.specs.Prelude.{ℕ, ℤ, pos, Option, Some, None}
 use Rattle.time_below.specs.Calendar.{OrdinalDate, month_of, day_of, weekday_of, iso_year_of, iso_week_of, monday_based_week_of, sunday_based_week_of}
 use Rattle.time_below.specs.TimeOfDay.{TimeOfDay}
 use Rattle.time_below.specs.Offset.{Offset, utc}
@@ -84,3 +84,24 @@ facts_of_timestamp m =
       offset = Some utc;
       stamp = Some m;
     }
+
+-- a group that is there, or the other where it is not
+abbrev pub group_or : {G : Type 0} → G → Option G → G
+group_or other None = other
+group_or other (Some group) = group
+
+-- the date of a value that has one; of others nothing is said
+abbrev pub the_date : Facts → DateFacts
+the_date f = group_or (date_facts (record { year = pos 0; ordinal = 1 })) f.date
+
+-- its time of day
+abbrev pub the_time : Facts → TimeOfDay
+the_time f = group_or (record { hour = 0; minute = 0; second = 0; nanosecond = 0 }) f.time
+
+-- its offset
+abbrev pub the_offset : Facts → Offset
+the_offset f = group_or utc f.offset
+
+-- its moment
+abbrev pub the_stamp : Facts → Moment
+the_stamp f = group_or (record { seconds = pos 0; nanosecond = 0 }) f.stamp

@@ -1,5 +1,8 @@
 -- The months of the calendar.
-use Rattle.std.specs.Prelude.{ℕ}
+use Rattle.std.specs.Prelude.{◌≡◌, ℕ, Result, MatchResult, codes}
+use Rattle.std.specs.Int.{IsInRange}
+use Rattle.time_below.specs.ComponentRange.{range_refusal, unconditional_range}
+use Rattle.time_below.specs.declared.component_range.ComponentRange.{ComponentRange}
 use Rattle.time_below.specs.declared.month.Month.{Month}
 use Rattle.time_below.specs.declared.month.Month.TheVariants.{January, February, March, April, May, June, July, August, September, October, November, December}
 
@@ -17,3 +20,9 @@ month_number September = 9
 month_number October = 10
 month_number November = 11
 month_number December = 12
+
+-- what is made of a number: the month of that number, or the refusal of one that is not from 1 to 12
+abbrev pub IsMadeOf : ℕ → Result Month ComponentRange → Type 0
+IsMadeOf number made =
+    MatchResult made (λ month. month_number month ≡ number)
+    (λ refusal. (¬ IsInRange 1 12 number) × (range_refusal refusal ≡ unconditional_range (codes "month")))

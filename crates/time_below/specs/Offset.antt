@@ -1,5 +1,5 @@
 -- The offset of local time from UTC (ISO 8601-1:2019, 4.3.13).
-use Rattle.std.specs.Prelude.{◌≡◌, ℤ, ◌≤◌, pos, neg_ℤ, ◌+ℤ◌, ◌*ℤ◌, ◌<ℤ◌, ◌≤ℤ◌, unsigned_abs, int_lt, if◌then◌else◌, Bool, ◌||◌, ◌&&◌, ◌==◌}
+use Rattle.std.specs.Prelude.{◌≡◌, ℕ, ℤ, ◌≤◌, pos, neg_ℤ, ◌+ℤ◌, ◌*ℤ◌, ◌<ℤ◌, ◌≤ℤ◌, unsigned_abs, int_lt, if◌then◌else◌, Bool, ◌||◌, ◌&&◌, ◌==◌}
 
 -- its parts, which never have two signs
 pub record Offset : Type 0 where
@@ -57,6 +57,15 @@ is_utc o = (unsigned_abs o.hours == 0) && (unsigned_abs o.minutes == 0) && (unsi
 -- the offset of UTC itself
 abbrev pub utc : Offset
 utc = record { hours = pos 0; minutes = pos 0; seconds = pos 0 }
+
+-- a number with its sign
+abbrev pub signed : Bool → ℕ → ℤ
+signed is_negative n = if is_negative then neg_ℤ (pos n) else pos n
+
+-- hours and minutes that have the same sign
+abbrev pub signed_offset : Bool → ℕ → ℕ → Offset
+signed_offset is_negative hour minute =
+    record { hours = signed is_negative hour; minutes = signed is_negative minute; seconds = pos 0 }
 
 -- the whole offset in seconds
 abbrev pub offset_seconds : Offset → ℤ

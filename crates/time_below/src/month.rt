@@ -3,6 +3,9 @@ ghost use Rattle.std.specs.Prelude.{◌≡◌};
 ghost use Rattle.std.specs.Int.{IsInRange};
 ghost use Rattle.time_below.specs.Month.{month_number};
 
+use crate::component_range::ComponentRange;
+use std::convert::TryFrom;
+
 /// A month of the Gregorian calendar.
 #[derive(Debug, Clone, Copy, PartialEq, Eq)]
 pub enum Month {
@@ -52,6 +55,23 @@ impl Month {
             11 => Month::November,
             _ => Month::December,
         }
+    }
+}
+
+/// The month of a number from 1 to 12. Any other number is refused as the component `month`, whatever the
+/// others are.
+impl TryFrom<u8> for Month {
+    type Error = ComponentRange;
+
+    ghost use Rattle.time_below.specs.Month.{IsMadeOf};
+
+    ghost try_from_gives = { IsMadeOf };
+
+    fn try_from(number: u8) -> Result<Month, ComponentRange> {
+        if number < 1 || number > 12 {
+            return Err(ComponentRange::unconditional("month"));
+        }
+        Ok(Month::from_number(number))
     }
 }
 

@@ -105,7 +105,7 @@ replicate-push zero = refl
 replicate-push (suc k) = ap (λ bs. 48 ∷ bs) (replicate-push k)
 
 -- the fixed digits of zero are zeros
-fixed-zero : (k : ℕ) → fixed k 0 ≡ replicate k 48
+pub fixed-zero : (k : ℕ) → fixed k 0 ≡ replicate k 48
 unfolding fixed
 fixed-zero zero = refl
 fixed-zero (suc k) = rw (fixed-zero k, replicate-push k) refl

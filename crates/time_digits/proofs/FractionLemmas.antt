@@ -1,12 +1,15 @@
 -- Decimals without the zeros at their end.
 use Rattle.std.proofs.Common.{◌≡◌, ℕ, zero, suc, ◌+◌, ◌-◌, ◌/◌, ◌%◌, ◌≤◌, ◌==◌, ◌&&◌, true, false, List, [], ◌∷◌, ◌++◌, length, take, drop, replicate, refl, sym, ap, ◌∙◌, arith, ⊎_elim, IsAscii}
+use Rattle.std.proofs.Common.{◌*◌, ◌^◌, ◌<◌, ap₂}
 use Rattle.std.specs.Str.Parse.{AllDigits}
 use Rattle.std.proofs.lemmas.Bool.{cases_Bool, and_parts, eqb-true}
 use Rattle.std.proofs.lemmas.Fmt.{IsAscii-from_digits}
 use Rattle.std.proofs.lemmas.List.{append_cancel_right, take_at}
+use Rattle.std.proofs.lemmas.Nat.{pow-add, div-mul-add}
+use Rattle.std.proofs.Math.Nat.{one-le-pow}
 use Rattle.time_digits.specs.Digits.{fixed}
 use Rattle.time_digits.specs.Fraction.{are_zeros, without_last_zeros, trimmed, trimmed_fraction, last_zeros, IsTrimmedFraction, IsOnlyTrimmedFraction}
-use Rattle.time_digits.proofs.DigitLemmas.{fixed_digits, fixed-one, fixed-append}
+use Rattle.time_digits.proofs.DigitLemmas.{fixed_digits, fixed-one, fixed-append, fixed-mod, fixed-zero}
 use Rattle.time_digits.proofs.LengthLemmas.{length-fixed, length-without_last_zeros, last_zeros-le, length-trimmed, trimmed_some}
 pub use Rattle.time_digits.proofs.LengthLemmas.{length-trimmed_fraction}
 
@@ -143,3 +146,28 @@ pub trimmed_fraction-take : (n : ℕ) → trimmed_fraction n ≡ take (9 - last_
 unfolding trimmed_fraction
 trimmed_fraction-take n =
     rw (fixed-nine n) (rw (length-fixed 8 n) at (trimmed-take (48 + n / 100_000_000 % 10) (fixed 8 n)))
+
+-- ---- more than nine places
+
+-- a multiple is divided without a remainder
+multiple : (n p : ℕ) → 0 < p → (n * p / p ≡ n) × (n * p % p ≡ 0)
+multiple n p h =
+    let q = div-mul-add n p 0 h in
+    let e : n * p + 0 ≡ n * p = omega arith in
+    let d : n * p / p ≡ n = rw e at q in
+    (d, grind (arith, d))
+
+-- of a number over 10 ^ 9, the places beyond the ninth are zeros
+pub nine_places : (n d : ℕ) → 9 ≤ d → fixed d (n * 10 ^ d / 1_000_000_000) ≡ fixed 9 n ++ replicate (d - 9) 48
+nine_places n d h =
+    let k = d - 9 in
+    let p = 10 ^ k in
+    let all : 9 + k ≡ d = omega arith in
+    let power : 10 ^ d ≡ 1_000_000_000 * p = rw all at (pow-add 10 9 k) in
+    let some : 0 < p = one-le-pow k 10 (omega arith) in
+    let m = multiple n p some in
+    let product : n * 10 ^ d ≡ 1_000_000_000 * (n * p) = rw power (grind arith) in
+    let quotient : n * 10 ^ d / 1_000_000_000 ≡ n * p = omega (arith, product) in
+    let split : fixed d (n * p) ≡ fixed 9 (n * p / p) ++ fixed k (n * p) = rw all at (fixed-append 9 k (n * p)) in
+    let last : fixed k (n * p) ≡ replicate k 48 = sym (fixed-mod k (n * p)) ∙ ap (fixed k) m.1 ∙ fixed-zero k in
+    ap (fixed d) quotient ∙ split ∙ ap₂ (λ i t. fixed 9 i ++ t) m.0 last

@@ -2,11 +2,14 @@
 use Rattle.std.proofs.Common.{◌≡◌, ℕ, zero, suc, ◌+◌, ◌-◌, ◌*◌, ◌/◌, ◌%◌, ◌^◌, ◌<◌, ◌≤◌, List, [], ◌∷◌, length, replicate, true, false, ap, ⊎_elim, arith, length-append, decimal, IsAscii}
 use Rattle.std.proofs.Math.Nat.{pow-suc, one-le-pow, div-le_self}
 use Rattle.std.proofs.lemmas.Bool.{cases_Bool}
-use Rattle.std.proofs.lemmas.Fmt.{decimal_digit, decimal_step, decimal_nonempty, length-decimal-le, IsAscii-decimal}
+use Rattle.std.proofs.lemmas.Fmt.{decimal_digit, decimal_step, decimal_nonempty, length-decimal-le}
 use Rattle.std.proofs.lemmas.List.{length-replicate}
 use Rattle.std.proofs.lemmas.List.Elements.{All-replicate}
 use Rattle.std.proofs.lemmas.Str.{IsAscii-append}
-use Rattle.std.proofs.lemmas.Str.Ascii.{IsAscii-from_all}
+use Rattle.std.proofs.lemmas.Str.Ascii.{IsAscii-from_all, IsAscii-nil}
+use Rattle.std.proofs.lemmas.Bool.Decides.{nat_tests}
+use Rattle.std.specs.Fmt.{digit_glyph, digits, digits_onto}
+use Rattle.std.specs.Prelude.{Bool, nat_lt, ◌==◌, ◌++◌, if◌then◌else◌}
 use Rattle.time_digits.specs.Digits.{fixed, padded}
 use Rattle.time_digits.specs.Fraction.{are_zeros, without_last_zeros, last_zeros, trimmed, trimmed_fraction}
 use Rattle.time_digits.proofs.DivisionLemmas.{div-ten-pow}
@@ -105,12 +108,37 @@ unfolding padded
 length-padded-le fill k n most places digits =
     omega (arith, length-append (replicate {A = ℕ} (k - length (decimal n)) fill) (decimal n), length-replicate (k - length (decimal n)) fill)
 
--- padded by an ASCII byte, it is ASCII
-pub IsAscii-padded : (fill k n : ℕ) → fill < 128 → n < 2 ^ 64 → IsAscii (padded fill k n)
+-- a digit is ASCII
+IsAscii-glyph : (d : ℕ) → d < 10 → IsAscii (digit_glyph false d ∷ [])
+IsAscii-glyph d small zero = let e : nat_lt d 10 ≡ true = grind (arith, nat_tests) in rw e (omega arith)
+IsAscii-glyph d small (suc i) = omega arith
+
+-- and so are digits in front of what is ASCII, however many there are
+IsAscii-onto : (k n : ℕ) (text : List ℕ) → IsAscii text → IsAscii (digits_onto k 10 false n text)
+IsAscii-onto zero n text h = h
+IsAscii-onto (suc k) n text h =
+    let more = IsAscii-append (digit_glyph false (n % 10) ∷ []) text (IsAscii-glyph (n % 10) (omega arith)) h in
+    by (n / 10 == 0) _ _ more (IsAscii-onto k (n / 10) _ more) where
+      by : (b : Bool) (x y : List ℕ) → IsAscii x → IsAscii y → IsAscii (if b then x else y)
+      by true x y p q = p
+      by false x y p q = q
+
+-- the text of any number is ASCII
+IsAscii-number : (n : ℕ) → IsAscii (decimal n)
+unfolding digits
+IsAscii-number n = IsAscii-onto 64 n [] IsAscii-nil
+
+-- padded by an ASCII byte, too
+pub IsAscii-filled : (fill k n : ℕ) → fill < 128 → IsAscii (padded fill k n)
 unfolding padded
-IsAscii-padded fill k n low fits =
+IsAscii-filled fill k n low =
     let front = replicate {A = ℕ} (k - length (decimal n)) fill in
-    IsAscii-append front (decimal n) (IsAscii-from_all front (All-replicate (λ b. b < 128) (k - length (decimal n)) fill low)) (IsAscii-decimal n fits)
+    IsAscii-append front (decimal n)
+    (IsAscii-from_all front (All-replicate (λ b. b < 128) (k - length (decimal n)) fill low)) (IsAscii-number n)
+
+-- so is one of 64 bits
+pub IsAscii-padded : (fill k n : ℕ) → fill < 128 → n < 2 ^ 64 → IsAscii (padded fill k n)
+IsAscii-padded fill k n low fits = IsAscii-filled fill k n low
 
 -- ---- trimmed fractions
 

@@ -1,5 +1,6 @@
 pub mod DigitLemmas
 pub mod DivisionLemmas
+pub mod FractionEndLemmas
 pub mod FractionLemmas
 pub mod LengthLemmas
 pub mod PieceLemmas
@@ -7,6 +8,7 @@ pub mod SingleDigitLemmas
 pub mod SpacePaddedLemmas
 pub mod TableLemmas
 pub mod TurnLemmas
+pub mod ValueLemmas
 pub mod WordLemmas
 pub mod WriteLemmas
 pub mod ZeroPaddedLemmas

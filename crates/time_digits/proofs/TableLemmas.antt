@@ -16,7 +16,7 @@ same_below f g n e i h =
     ∙ ap (λ t. get_or t i []) e ∙ get_or-map-range_with_len g 0 n i i [] h (omega arith)
 
 -- the test says that the bytes are ASCII
-ascii_test : (bs : List ℕ) → list_all (λ b. nat_lt b 128) bs ≡ true → IsAscii bs
+pub ascii_test : (bs : List ℕ) → list_all (λ b. nat_lt b 128) bs ≡ true → IsAscii bs
 ascii_test bs h =
     IsAscii-from_all bs (All-weaker (λ b. IsTrue (nat_lt b 128)) (λ b. b < 128) (λ b. ltb-true b 128) bs (AllPass-from_list_all (λ b. nat_lt b 128) bs h))
 

@@ -4,7 +4,7 @@ use Rattle.std.proofs.lemmas.List.{append-nil}
 use Rattle.std.specs.Global.{Global}
 use Rattle.time_fmt.specs.declared.error.Format.{Format}
 use Rattle.time_fmt.specs.Outcome.{Refusal, Names, Appends, done, refused}
-use Rattle.time_fmt.specs.Room.{Writes}
+use Rattle.time_fmt.specs.Room.{Writes, WritesUpTo}
 
 -- what was written first, and then the rest, is the one text after the other
 pub writes_then : {old mid new : Vec ℕ Global} {m n : ℕ} {a b : List ℕ} → Writes old mid m a → Writes mid new n b
@@ -20,6 +20,12 @@ writes_then {old} {a = a} {b = b} first second = record {
 pub appends_text : {old new : Vec ℕ Global} {n : ℕ} {text : List ℕ} → Writes old new n text
     → Appends old new (Ok n) (done text)
 appends_text w =
+    record { appended = w.appended; counted = (refl, w.counted); named = tt; grown = w.grown; capacity = w.capacity }
+
+-- so is one of at most so many bytes
+pub appends_up_to : {width : ℕ} {old new : Vec ℕ Global} {n : ℕ} {text : List ℕ} → WritesUpTo width old new n text
+    → Appends old new (Ok n) (done text)
+appends_up_to w =
     record { appended = w.appended; counted = (refl, w.counted); named = tt; grown = w.grown; capacity = w.capacity }
 
 -- a refusal before any byte appends nothing

@@ -1,5 +1,5 @@
 -- Outcomes: bytes, and perhaps a refusal after them.
-use Rattle.std.specs.Prelude.{ℕ, ◌≡◌, ◌+◌, List, [], ◌++◌, length, Option, Some, None, Result, IfOk, IfErr, IsSomeAnd, vec_len, vec_capacity, Vec}
+use Rattle.std.specs.Prelude.{ℕ, ◌≡◌, ◌+◌, ◌≤◌, List, [], ◌++◌, length, Option, Some, None, Result, IfOk, IfErr, IsSomeAnd, vec_len, vec_capacity, Vec}
 use Rattle.std.specs.Global.{Global}
 use Rattle.time_below.specs.ComponentRange.{RangeRefusal, range_refusal}
 use Rattle.time_fmt.specs.declared.error.Format.{Format}
@@ -43,6 +43,11 @@ pub record Appends (old new : Vec ℕ Global) (answer : Result ℕ Format) (o : 
   pub named : IfErr answer (λ e. IsSomeAnd o.refusal (Names e))
   pub grown : vec_len new ≡ vec_len old + length o.bytes
   pub capacity : vec_capacity new ≡ vec_capacity old
+
+-- the same, within so many bytes
+pub record AppendsUpTo (width : ℕ) (old new : Vec ℕ Global) (answer : Result ℕ Format) (o : Outcome) : Type 0 where
+  pub appends : Appends old new answer o
+  pub within : vec_len new ≤ vec_len old + width
 
 -- the same, where the capacity may change
 pub record Adds (old new : Vec ℕ Global) (answer : Result ℕ Format) (o : Outcome) : Type 0 where

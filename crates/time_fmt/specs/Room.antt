@@ -13,3 +13,19 @@ pub record Writes (old new : Vec ℕ Global) (count : ℕ) (text : List ℕ) : T
   pub counted : count ≡ length text
   pub grown : vec_len new ≡ vec_len old + length text
   pub capacity : vec_capacity new ≡ vec_capacity old
+
+-- the same, of a text of at most so many bytes
+pub record WritesUpTo (width : ℕ) (old new : Vec ℕ Global) (count : ℕ) (text : List ℕ) : Type 0 where
+  pub appended : new.items ≡ old.items ++ text
+  pub counted : count ≡ length text
+  pub grown : vec_len new ≡ vec_len old + length text
+  pub capacity : vec_capacity new ≡ vec_capacity old
+  pub within : length text ≤ width
+
+-- the same, of a text of just so many bytes
+pub record WritesJust (width : ℕ) (old new : Vec ℕ Global) (count : ℕ) (text : List ℕ) : Type 0 where
+  pub appended : new.items ≡ old.items ++ text
+  pub counted : count ≡ width
+  pub grown : vec_len new ≡ vec_len old + width
+  pub capacity : vec_capacity new ≡ vec_capacity old
+  pub long : length text ≡ width

@@ -1,5 +1,6 @@
 //! Components, descriptions and writers: the texts, counts and widths of worked rows, and what happens
 //! where memory is refused.
+mod components_table;
 mod dates;
 mod errors;
 mod hostile;

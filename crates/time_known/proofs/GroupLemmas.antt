@@ -1,88 +1,87 @@
--- The groups of facts that have a date, a time and an offset, and what is said of them.
-use Rattle.std.proofs.Common.{◌≡◌, Bool, true, false, refl, subst, ◌∙◌, Option, Some, None}
-use Rattle.std.specs.Prelude.{IfSome, is_some}
-use Rattle.time_below.specs.Facts.{Facts, DateFacts}
+-- Facts that have the groups that are needed, and the outcome that these give.
+use Rattle.std.proofs.Common.{◌≡◌, Bool, true, false, refl, ◌∙◌, Option, Some, None}
+use Rattle.std.specs.Prelude.{◌&&◌, ◌||◌, not, is_some}
+use Rattle.time_below.specs.Facts.{Facts, DateFacts, group_or, the_date, the_time, the_offset}
 use Rattle.time_below.specs.Offset.{Offset}
 use Rattle.time_below.specs.TimeOfDay.{TimeOfDay}
-use Rattle.time_fmt.specs.Outcome.{Outcome}
+use Rattle.time_fmt.specs.Description.{of_group}
+use Rattle.time_fmt.specs.Outcome.{Outcome, refused, insufficient}
 use Rattle.time_known.specs.declared.groups.Groups.{Groups}
-use Rattle.time_known.specs.Groups.{are_supplied, IfAll}
+use Rattle.time_known.specs.Groups.{has_groups, at_groups}
 use Rattle.time_known.specs.WellKnown.{of_all_groups}
 
--- what is said of a group, if it is there, holds of the one that is there
-pub at_group : {G : Type 0} {x : Option G} {group : G} (P : G → Type 0) → x ≡ Some group → IfSome x P → P group
-at_group P e h = subst (λ y. IfSome y P) e h
+-- a group that is there is the one that is named
+pub there : {G : Type 0} (other : G) (x : Option G) → is_some x ≡ true → x ≡ Some (group_or other x)
+there other (Some group) h = refl
+there other None h = cc
 
--- the group that is there
-pub record Group {G : Type 0} (x : Option G) : Type 0 where
-  pub group : G
-  pub is : x ≡ Some group
+-- a group that is not there is refused
+pub unsupplied : {G : Type 0} (group : Option G) (outcome : G → Outcome) → is_some group ≡ false
+    → of_group group outcome ≡ refused insufficient
+unsupplied None outcome h = refl
+unsupplied (Some g) outcome h = cc
 
--- a group that is there
-there : {G : Type 0} (x : Option G) → is_some x ≡ true → Group x
-there (Some group) h = record { group = group; is = refl }
-there None h = cc
+-- one that is there gives the outcome
+of_supplied : {G : Type 0} (group : Option G) (other : G) (outcome : G → Outcome) → is_some group ≡ true
+    → of_group group outcome ≡ outcome (group_or other group)
+of_supplied None other outcome h = cc
+of_supplied (Some g) other outcome h = refl
 
--- the date, the time and the offset that are there
-pub record AllGroups (f : Facts) : Type 0 where
-  pub date : DateFacts
-  pub time : TimeOfDay
-  pub offset : Offset
-  pub is_date : f.date ≡ Some date
-  pub is_time : f.time ≡ Some time
-  pub is_offset : f.offset ≡ Some offset
+-- so does the date of a value that has one, by the name that clauses give it
+pub of_the_date : (f : Facts) (outcome : DateFacts → Outcome) → is_some f.date ≡ true
+    → of_group f.date outcome ≡ outcome (the_date f)
+of_the_date f outcome h = of_supplied f.date _ outcome h
+
+-- and its time of day
+pub of_the_time : (f : Facts) (outcome : TimeOfDay → Outcome) → is_some f.time ≡ true
+    → of_group f.time outcome ≡ outcome (the_time f)
+of_the_time f outcome h = of_supplied f.time _ outcome h
+
+-- and its offset
+pub of_the_offset : (f : Facts) (outcome : Offset → Outcome) → is_some f.offset ≡ true
+    → of_group f.offset outcome ≡ outcome (the_offset f)
+of_the_offset f outcome h = of_supplied f.offset _ outcome h
+
+-- both tests hold
+both : (a b : Bool) → (a && b) ≡ true → (a ≡ true) × (b ≡ true)
+both true b h = (refl, h)
+both false b h = cc
+
+-- a group that is needed and supplied is there
+supplied : (is_there is_needed : Bool) → (is_there || not is_needed) ≡ true → is_needed ≡ true → is_there ≡ true
+supplied true is_needed h e = refl
+supplied false true h e = cc
+supplied false false h e = cc
+
+-- the groups that are needed are there
+pub record HasNeeded (needed : Groups) (f : Facts) : Type 0 where
+  pub date : needed.date ≡ true → is_some f.date ≡ true
+  pub time : needed.time ≡ true → is_some f.time ≡ true
+  pub offset : needed.offset ≡ true → is_some f.offset ≡ true
+
+pub has_needed : (needed : Groups) (f : Facts) → has_groups needed f ≡ true → HasNeeded needed f
+has_needed needed f h =
+    let first = both _ _ h in
+    let two = both _ _ first.0 in
+    record { date = supplied _ _ two.0; time = supplied _ _ two.1; offset = supplied _ _ first.1 }
 
 -- all three are needed
 abbrev pub all : Groups
 all = record { date = true; time = true; offset = true }
 
--- three tests hold
-record AreTrue (a b c : Bool) : Type 0 where
-  first : a ≡ true
-  second : b ≡ true
-  third : c ≡ true
+-- a date, a time and an offset are there
+pub record HasAll (f : Facts) : Type 0 where
+  pub date : is_some f.date ≡ true
+  pub time : is_some f.time ≡ true
+  pub offset : is_some f.offset ≡ true
 
--- where all three are needed, all three are supplied
-are_true : (a b c : Bool) → are_supplied all a b c ≡ true → AreTrue a b c
-are_true true true true h = record { first = refl; second = refl; third = refl }
-are_true true true false h = cc
-are_true true false c h = cc
-are_true false b c h = cc
-
--- a value that supplies each of the three has all three
-pub supplied_groups : (f : Facts) (date time offset : Bool) → is_some f.date ≡ date → is_some f.time ≡ time
-    → is_some f.offset ≡ offset → date ≡ true → time ≡ true → offset ≡ true → AllGroups f
-supplied_groups f date time offset d t o first second third =
-    let at_date = there f.date (d ∙ first) in
-    let at_time = there f.time (t ∙ second) in
-    let at_offset = there f.offset (o ∙ third) in
-    record {
-      date = at_date.group;
-      time = at_time.group;
-      offset = at_offset.group;
-      is_date = at_date.is;
-      is_time = at_time.is;
-      is_offset = at_offset.is;
-    }
-
--- and so has one that supplies what is needed, where all three are
-pub all_groups : (f : Facts) (date time offset : Bool) → is_some f.date ≡ date → is_some f.time ≡ time
-    → is_some f.offset ≡ offset → are_supplied all date time offset ≡ true → AllGroups f
-all_groups f date time offset d t o h =
-    let each = are_true date time offset h in
-    supplied_groups f date time offset d t o each.first each.second each.third
+-- so they are where all three are needed
+pub has_all : (f : Facts) → has_groups all f ≡ true → HasAll f
+has_all f h =
+    let needed = has_needed all f h in
+    record { date = needed.date refl; time = needed.time refl; offset = needed.offset refl }
 
 -- what they give is the outcome
-pub outcome_of_all : {f : Facts} (h : AllGroups f) (outcome : DateFacts → TimeOfDay → Offset → Outcome)
-    → of_all_groups f outcome ≡ outcome h.date h.time h.offset
-outcome_of_all h outcome = rw (h.is_date, h.is_time, h.is_offset) refl
-
--- what is said of all three holds of them
-pub at_all : {f : Facts} (h : AllGroups f) (P : DateFacts → TimeOfDay → Offset → Type 0) → IfAll f P
-    → P h.date h.time h.offset
-at_all h P all = rw (h.is_date, h.is_time, h.is_offset) at all
-
--- and the other way round
-pub to_all : {f : Facts} (h : AllGroups f) (P : DateFacts → TimeOfDay → Offset → Type 0)
-    → P h.date h.time h.offset → IfAll f P
-to_all h P one = rw (h.is_date, h.is_time, h.is_offset) one
+pub outcome_of_all : (f : Facts) → HasAll f → (outcome : DateFacts → TimeOfDay → Offset → Outcome)
+    → of_all_groups f outcome ≡ at_groups outcome f
+outcome_of_all f h outcome = of_the_date f _ h.date ∙ of_the_time f _ h.time ∙ of_the_offset f _ h.offset

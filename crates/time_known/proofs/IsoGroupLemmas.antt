@@ -1,29 +1,21 @@
 -- Which groups of a value a text of ISO 8601 is made of.
-use Rattle.std.proofs.Common.{◌≡◌, Bool, true, false, refl, sym, ap, ◌∙◌, arith, Option, Some, None}
-use Rattle.std.specs.Prelude.{is_some}
+use Rattle.std.proofs.Common.{◌≡◌, ℕ, true, false, refl, sym, ap, subst, ◌∙◌, arith, Option, Some, None, Result, Vec}
+use Rattle.std.specs.Global.{Global}
 use Rattle.std.proofs.lemmas.Grind.{common_steps}
-use Rattle.time_below.specs.Facts.{Facts}
-use Rattle.time_fmt.specs.Description.{of_group}
-use Rattle.time_fmt.specs.Outcome.{Outcome, refused, join, insufficient}
+use Rattle.time_below.specs.Facts.{Facts, the_date, the_time}
+use Rattle.time_fmt.specs.declared.error.Format.{Format}
+use Rattle.time_fmt.specs.Outcome.{Outcome, AppendsUpTo, refused, join, insufficient}
 use Rattle.time_known.specs.Config.{Choices, groups_of}
 use Rattle.time_known.specs.declared.groups.Groups.{Groups}
 use Rattle.time_known.specs.declared.iso8601.config.FormattedComponents.{FormattedComponents}
 use Rattle.time_known.specs.declared.iso8601.config.FormattedComponents.TheVariants as components
-use Rattle.time_known.specs.Groups.{are_supplied}
-use Rattle.time_known.specs.Iso8601.{iso_date, iso_time, iso_offset, iso8601_outcome, iso8601_outcome_of}
+use Rattle.time_known.specs.Groups.{has_groups, at_groups}
+use Rattle.time_known.specs.Iso8601.{iso_date, iso_time, iso_of_groups, iso8601_outcome, iso8601_outcome_of}
+use Rattle.time_known.specs.Iso8601Width.{iso8601_width, iso8601_width_of}
+use Rattle.time_known.proofs.GroupLemmas.{unsupplied, of_the_date, of_the_time, has_needed, has_all, outcome_of_all}
 
--- whether the facts have the groups that are formatted
-abbrev pub has_groups : FormattedComponents → Facts → Bool
-has_groups parts f = are_supplied (groups_of parts) (is_some f.date) (is_some f.time) (is_some f.offset)
-
--- a group that is not there is refused
-unsupplied : {G : Type 0} (group : Option G) (outcome : G → Outcome) → is_some group ≡ false
-    → of_group group outcome ≡ refused insufficient
-unsupplied None outcome h = refl
-unsupplied (Some g) outcome h = cc
-
--- the same of each choice of parts, by itself
-lacking_of : (parts : FormattedComponents) (c : Choices) (f : Facts) → has_groups parts f ≡ false
+-- facts that lack a group which is formatted are refused
+lacking_of : (parts : FormattedComponents) (c : Choices) (f : Facts) → has_groups (groups_of parts) f ≡ false
     → iso8601_outcome_of parts c f ≡ refused insufficient
 lacking_of components.None c f h = refl
 lacking_of components.Date c f h = grind (arith, common_steps, unsupplied)
@@ -33,62 +25,33 @@ lacking_of components.DateTime c f h = grind (arith, common_steps, unsupplied)
 lacking_of components.DateTimeOffset c f h = grind (arith, common_steps, unsupplied)
 lacking_of components.TimeOffset c f h = grind (arith, common_steps, unsupplied)
 
--- Facts that lack a group which is formatted are refused. The test reads the choices once more.
-pub lacking : (c read : Choices) (f : Facts) (needed : Groups) → read ≡ c → needed ≡ groups_of read.formatted_components
-    → are_supplied needed (is_some f.date) (is_some f.time) (is_some f.offset) ≡ false
+-- the same, where the test reads the choices once more
+pub lacking : (c read : Choices) (f : Facts) (needed : Groups) → read ≡ c
+    → needed ≡ groups_of read.formatted_components → has_groups needed f ≡ false
     → iso8601_outcome c f ≡ refused insufficient
 lacking c read f needed e groups h =
     ap (λ (choices : Choices). iso8601_outcome choices f) (sym e)
-    ∙ lacking_of read.formatted_components read f
-    (ap (λ (g : Groups). are_supplied g (is_some f.date) (is_some f.time) (is_some f.offset)) (sym groups) ∙ h)
+    ∙ lacking_of read.formatted_components read f (ap (λ (g : Groups). has_groups g f) (sym groups) ∙ h)
 
--- where two groups are there, what they give is joined
-two_groups : {G H : Type 0} (x : Option G) (y : Option H) (A : G → Outcome) (B : H → Outcome)
-    → is_some x ≡ true → is_some y ≡ true
-    → of_group x (λ g. of_group y (λ h. join (A g) (B h))) ≡ join (of_group x A) (of_group y B)
-two_groups (Some g) (Some h) A B p q = refl
-two_groups None y A B p q = cc
-two_groups (Some g) None A B p q = cc
-
--- the same of three
-three_groups : {G H I : Type 0} (x : Option G) (y : Option H) (z : Option I) (A : G → Outcome) (B : H → Outcome) (C : I → Outcome)
-    → is_some x ≡ true → is_some y ≡ true → is_some z ≡ true
-    → of_group x (λ g. of_group y (λ h. of_group z (λ i. join (A g) (join (B h) (C i)))))
-    ≡ join (of_group x A) (join (of_group y B) (of_group z C))
-three_groups (Some g) (Some h) (Some i) A B C p q r = refl
-three_groups None y z A B C p q r = cc
-three_groups (Some g) None z A B C p q r = cc
-three_groups (Some g) (Some h) None A B C p q r = cc
-
--- where a date and a time are needed and supplied, both are there
-date_time_bits : (a b c : Bool) → are_supplied (groups_of components.DateTime) a b c ≡ true → (a ≡ true) × (b ≡ true)
-date_time_bits true true c h = (refl, refl)
-date_time_bits true false c h = cc
-date_time_bits false b c h = cc
-
--- where all three are needed and supplied, all are there
-all_bits : (a b c : Bool) → are_supplied (groups_of components.DateTimeOffset) a b c ≡ true
-    → (a ≡ true) × (b ≡ true) × (c ≡ true)
-all_bits true true true h = (refl, refl, refl)
-all_bits true true false h = cc
-all_bits true false c h = cc
-all_bits false b c h = cc
-
--- of facts that have both, the date and the time
+-- the date and the time of facts that have both
 pub date_and_time : (c : Choices) (f : Facts) → c.formatted_components ≡ components.DateTime
-    → has_groups c.formatted_components f ≡ true
-    → iso8601_outcome c f ≡ join (of_group f.date (iso_date c)) (of_group f.time (iso_time c))
+    → has_groups (groups_of c.formatted_components) f ≡ true
+    → iso8601_outcome_of components.DateTime c f ≡ join (iso_date c (the_date f)) (iso_time c (the_time f))
 date_and_time c f e h =
-    let bits = date_time_bits _ _ _ (ap (λ parts. has_groups parts f) (sym e) ∙ h) in
-    ap (λ parts. iso8601_outcome_of parts c f) e
-    ∙ two_groups f.date f.time (iso_date c) (iso_time c) bits.0 bits.1
+    let needed = has_needed (groups_of components.DateTime) f (ap (λ parts. has_groups (groups_of parts) f) (sym e) ∙ h) in
+    of_the_date f _ (needed.date refl) ∙ of_the_time f _ (needed.time refl)
 
--- of facts that have all three, the date, the time and the offset
+-- the date, the time and the offset of facts that have all three
 pub all_parts : (c : Choices) (f : Facts) → c.formatted_components ≡ components.DateTimeOffset
-    → has_groups c.formatted_components f ≡ true
-    → iso8601_outcome c f
-    ≡ join (of_group f.date (iso_date c)) (join (of_group f.time (iso_time c)) (of_group f.offset (iso_offset c)))
+    → has_groups (groups_of c.formatted_components) f ≡ true
+    → iso8601_outcome_of components.DateTimeOffset c f ≡ at_groups (iso_of_groups c) f
 all_parts c f e h =
-    let bits = all_bits _ _ _ (ap (λ parts. has_groups parts f) (sym e) ∙ h) in
-    ap (λ parts. iso8601_outcome_of parts c f) e
-    ∙ three_groups f.date f.time f.offset (iso_date c) (iso_time c) (iso_offset c) bits.0 bits.1 bits.2
+    outcome_of_all f (has_all f (ap (λ parts. has_groups (groups_of parts) f) (sym e) ∙ h)) (iso_of_groups c)
+
+-- what is appended by the parts that are chosen is appended by the choices
+pub by_choice : {old new : Vec ℕ Global} {answer : Result ℕ Format} (c : Choices) (f : Facts)
+    (parts : FormattedComponents) → c.formatted_components ≡ parts
+    → AppendsUpTo (iso8601_width_of parts c) old new answer (iso8601_outcome_of parts c f)
+    → AppendsUpTo (iso8601_width c) old new answer (iso8601_outcome c f)
+by_choice {old} {new} {answer} c f parts e h =
+    subst (λ p. AppendsUpTo (iso8601_width_of p c) old new answer (iso8601_outcome_of p c f)) (sym e) h

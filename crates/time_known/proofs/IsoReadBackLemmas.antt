@@ -1,33 +1,27 @@
 -- A completed text of ISO 8601 spells the value whose groups were formatted.
-use Rattle.std.proofs.Common.{◌≡◌, ℕ, Bool, true, sym, ap, subst, ◌∙◌, Ok, Err, None, Result, Vec}
-use Rattle.std.specs.Prelude.{IfSome, IfOk, OnOk, is_some}
+use Rattle.std.proofs.Common.{◌≡◌, ℕ, true, sym, ap, subst, ◌∙◌, Ok, Err, None, Result, Vec}
+use Rattle.std.specs.Prelude.{IfOk, OnOk}
 use Rattle.std.specs.Global.{Global}
-use Rattle.time_below.specs.Facts.{Facts, DateFacts, date_facts}
-use Rattle.time_below.specs.Offset.{Offset, IsOffset}
-use Rattle.time_below.specs.TimeOfDay.{TimeOfDay, IsTimeOfDay}
+use Rattle.time_below.specs.Facts.{Facts, date_facts}
 use Rattle.time_fmt.specs.declared.error.Format.{Format}
-use Rattle.time_fmt.specs.Outcome.{Outcome, Appends, join}
-use Rattle.time_provide.specs.Real.{AreOfDate}
+use Rattle.time_fmt.specs.Outcome.{Outcome, Appends}
+use Rattle.time_provide.specs.Real.{AreReal}
 use Rattle.time_known.specs.Config.{Choices, IsWhole, groups_of}
 use Rattle.time_known.specs.declared.iso8601.config.FormattedComponents.TheVariants as components
-use Rattle.time_known.specs.Groups.{are_supplied}
-use Rattle.time_known.specs.Iso8601.{iso_date, iso_time, iso_offset, iso8601_outcome, iso8601_outcome_of}
+use Rattle.time_known.specs.Groups.{has_groups}
+use Rattle.time_known.specs.Iso8601.{iso_of_groups, iso8601_outcome, iso8601_outcome_of}
 use Rattle.time_known.specs.Iso8601Grammar.{Iso8601Spells, IsCanonicalIso8601, iso8601_reads_as}
 use Rattle.time_known.specs.Laws.{IsValue, CompletedAreCanonical}
 use Rattle.time_known.specs.ReadBack.{ReadsAs}
 use Rattle.time_known.specs.WellKnown.{of_all_groups}
-use Rattle.time_known.proofs.GroupLemmas.{AllGroups, all_groups}
+use Rattle.time_known.proofs.GroupLemmas.{has_all}
 use Rattle.time_known.proofs.Iso8601Lemmas.{outcome_is, iso8601_is_written}
 use Rattle.time_known.proofs.LawLemmas.{completed_are_canonical}
 use Rattle.time_known.proofs.ReadBackLemmas.{reads_as}
 
--- what the three groups give
-abbrev of_groups : Choices → DateFacts → TimeOfDay → Offset → Outcome
-of_groups c d t o = join (iso_date c d) (join (iso_time c t) (iso_offset c o))
-
 -- their completed texts are the canonical ones
 joined_are_canonical : (c : Choices) → IsWhole c
-    → CompletedAreCanonical IsValue (λ v. of_groups c (date_facts v.date) v.time v.offset) (λ v. v)
+    → CompletedAreCanonical IsValue (λ v. iso_of_groups c (date_facts v.date) v.time v.offset) (λ v. v)
     (Iso8601Spells c) (IsCanonicalIso8601 c)
 joined_are_canonical c w =
     let law = completed_are_canonical (iso8601_is_written c w) in
@@ -38,35 +32,27 @@ joined_are_canonical c w =
           (is.0, is.1, sym (outcome_is c v w) ∙ is.2);
     }
 
--- the groups that are there are those of a real date, a real time and a real offset
-abbrev AreReal : Facts → Type 0
-AreReal f = IfSome f.date AreOfDate × IfSome f.time IsTimeOfDay × IfSome f.offset IsOffset
-
 -- where nothing is refused, the bytes spell the value whose groups they are
-iso8601_reads : (c : Choices) (f : Facts) (date time offset : Bool)
-    → is_some f.date ≡ date → is_some f.time ≡ time → is_some f.offset ≡ offset
-    → are_supplied (groups_of c.formatted_components) date time offset ≡ true
+iso8601_reads : (c : Choices) (f : Facts) → has_groups (groups_of c.formatted_components) f ≡ true
     → (c.formatted_components ≡ components.DateTimeOffset → AreReal f)
     → (iso8601_outcome c f).refusal ≡ None
     → iso8601_reads_as c f (iso8601_outcome c f).bytes
-iso8601_reads c f date time offset d t o supplied real complete w =
-    let needed = ap (λ parts. are_supplied (groups_of parts) date time offset) (sym w.components) ∙ supplied in
-    let all : AllGroups f = all_groups f date time offset d t o needed in
+iso8601_reads c f there real complete w =
+    let all = has_all f (ap (λ parts. has_groups (groups_of parts) f) (sym w.components) ∙ there) in
     let are_real = real w.components in
-    let same : iso8601_outcome c f ≡ of_all_groups f (of_groups c) =
+    let same : iso8601_outcome c f ≡ of_all_groups f (iso_of_groups c) =
     ap (λ parts. iso8601_outcome_of parts c f) w.components in
-    let read = reads_as (of_groups c) (joined_are_canonical c w) all are_real.0 are_real.1 are_real.2
+    let read = reads_as (iso_of_groups c) (joined_are_canonical c w) f all are_real.date are_real.time are_real.offset
     (sym (ap (λ (x : Outcome). x.refusal) same) ∙ complete) in
     subst (λ (x : Outcome). ReadsAs (λ v. v) (Iso8601Spells c) (IsCanonicalIso8601 c) f x.bytes) (sym same) read
 
 -- where a text is completed, it spells the value
-pub completed_reads : {old new : Vec ℕ Global} (answer : Result ℕ Format) (read c : Choices) (f : Facts) (date time offset : Bool)
-    → read ≡ c → is_some f.date ≡ date → is_some f.time ≡ time → is_some f.offset ≡ offset
-    → are_supplied (groups_of read.formatted_components) date time offset ≡ true
+pub completed_reads : {old new : Vec ℕ Global} (answer : Result ℕ Format) (read c : Choices) (f : Facts)
+    → read ≡ c → has_groups (groups_of read.formatted_components) f ≡ true
     → OnOk answer (read.formatted_components ≡ components.DateTimeOffset → AreReal f)
     → Appends old new answer (iso8601_outcome read f)
     → IfOk answer (λ _. iso8601_reads_as c f (iso8601_outcome c f).bytes)
-completed_reads (Ok n) read c f date time offset e d t o supplied real appends =
+completed_reads (Ok n) read c f e there real appends =
     subst (λ (choices : Choices). iso8601_reads_as choices f (iso8601_outcome choices f).bytes) e
-    (iso8601_reads read f date time offset d t o supplied real appends.counted.0)
-completed_reads (Err r) read c f date time offset e d t o supplied real appends = tt
+    (iso8601_reads read f there real appends.counted.0)
+completed_reads (Err r) read c f e there real appends = tt

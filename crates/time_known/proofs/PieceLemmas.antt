@@ -8,7 +8,7 @@ use Rattle.time_digits.specs.Digits.{fixed}
 use Rattle.time_digits.specs.Fraction.{trimmed_fraction, last_zeros}
 use Rattle.time_digits.proofs.FractionLemmas.{last_of_nine, trimmed_fraction-take}
 use Rattle.time_digits.proofs.LengthLemmas.{length-fixed, last_zeros-le}
-use Rattle.time_fmt.specs.Room.{Writes}
+use Rattle.time_fmt.specs.Room.{Writes, WritesJust}
 
 -- how many digits there are
 pub ruleset digit_lengths = (length-fixed, length-append)
@@ -37,7 +37,7 @@ length-without_zeros n gone dropped =
     rw (kept, dropped) (length-take-le (9 - last_zeros (fixed 8 n)) (fixed 9 n) (omega (arith, length-fixed 9 n)))
 
 -- nine digits that were written, and the zeros at their end taken away again, are the trimmed fraction written
-pub writes_trimmed : (n gone : ℕ) (old mid new : Vec ℕ Global) (count : ℕ) → Writes old mid count (fixed 9 n)
+pub writes_trimmed : (n gone : ℕ) (old mid new : Vec ℕ Global) (count : ℕ) → WritesJust 9 old mid count (fixed 9 n)
     → length mid.items ≡ vec_len mid → gone ≡ last_zeros (fixed 8 n)
     → new.items ≡ take (vec_len mid - gone) mid.items → vec_len new + (vec_len mid - (vec_len mid - gone)) ≡ vec_len mid
     → vec_capacity new ≡ vec_capacity mid → Writes old new (9 - gone) (trimmed_fraction n)

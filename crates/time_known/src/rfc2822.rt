@@ -1,23 +1,21 @@
 //! RFC 2822.
-ghost use Rattle.std.specs.Prelude.{◌≡◌, ◌+◌, ◌≤◌, IsTrue, IfSome, IfOk, OnOk, IfErr, true, unsigned_abs, vec_len, vec_capacity};
-ghost use Rattle.time_below.specs.Offset.{IsOffset};
-ghost use Rattle.time_below.specs.TimeOfDay.{IsTimeOfDay};
-ghost use Rattle.time_fmt.specs.Outcome.{done, refused, invalid_component};
-ghost use Rattle.time_fmt.specs.Room.{HasRoom, Writes};
-ghost use Rattle.time_provide.specs.Real.{AreOfDate};
-ghost use Rattle.time_known.specs.Groups.{IfAll};
+ghost use Rattle.std.specs.Prelude.{◌≡◌, ◌+◌, IsTrue, IfOk, IfErr, true, unsigned_abs};
+ghost use Rattle.time_below.specs.Facts.{the_date, the_time, the_offset};
+ghost use Rattle.time_fmt.specs.Outcome.{refused, invalid_component};
+ghost use Rattle.time_fmt.specs.Room.{HasRoom, WritesUpTo};
+ghost use Rattle.time_provide.specs.Real.{AgreesOnTime};
+ghost use Rattle.time_known.specs.Groups.{Accepts, AreAllSupplied, SuppliesDateIn, at_groups};
 ghost use Rattle.time_known.specs.Longest.{FillsRfc2822Width};
 ghost use Rattle.time_known.specs.ReadBack.{ReadsAs};
-ghost use Rattle.time_known.specs.Rfc2822.{rfc2822_width, rfc2822_outcome, rfc2822_text, named_date_text, date_text};
+ghost use Rattle.time_known.specs.Rfc2822.{rfc2822_outcome, rfc2822_of_groups, rfc2822_text, named_date_text, date_text};
+ghost use Rattle.time_known.specs.Rfc2822.{rfc2822_width, named_date_width, date_width};
 ghost use Rattle.time_known.specs.Rfc2822Grammar.{Rfc2822Spells, to_whole_second};
 
 use crate::groups::Groups;
-use crate::parts::four_digit_year;
 use crate::pieces::{
-    write_clock, write_four_digits, write_month_name, write_pair, write_signed_offset,
-    write_weekday_name,
+    four_digit_year, put_back, take_out, write_clock, write_four_digits, write_month_name,
+    write_pair, write_signed_offset, write_weekday_name,
 };
-use std::mem::{forget, replace};
 use time_digits::ru16;
 use time_fmt::writers::write;
 use time_fmt::{ComputeMetadata, Format, Formattable, Metadata};
@@ -30,6 +28,9 @@ use time_provide::ComponentProvider;
 #[derive(Debug, Clone, Copy, PartialEq, Eq)]
 pub struct Rfc2822;
 
+// The bytes of such a text.
+const WIDTH: usize = 31;
+
 impl ComputeMetadata for Rfc2822 {
     ghost width_of = { λ _. rfc2822_width };
 
@@ -39,7 +40,7 @@ impl ComputeMetadata for Rfc2822 {
 
     fn compute_metadata(&self) -> Metadata {
         Metadata {
-            max_bytes_needed: 31,
+            max_bytes_needed: WIDTH,
             guaranteed_utf8: true,
         }
     }
@@ -60,7 +61,12 @@ impl Formattable for Rfc2822 {
             return Err(Format::InsufficientTypeInformation);
         }
         match accepted_year(value, state) {
-            Ok(year) => Ok(write_date_time(output, year, value, state)),
+            Ok(year) => {
+                let mut taken = take_out(output);
+                let count = append_date_time(&mut taken, year, value, state);
+                put_back(output, taken);
+                Ok(count)
+            }
             Err(name) => Err(Format::InvalidComponent(name)),
         }
     }
@@ -72,18 +78,13 @@ fn accepted_year<V: ComponentProvider>(
     value: &V,
     state: &mut V::State,
 ) -> Result<ru16<0, 9_999>, &'static str>
-    requires date { IsTrue V.SUPPLIES_DATE }
-    requires time { IsTrue V.SUPPLIES_TIME }
-    requires offset { IsTrue V.SUPPLIES_OFFSET }
+    requires supplied { AreAllSupplied V.SUPPLIES_DATE V.SUPPLIES_TIME V.SUPPLIES_OFFSET }
     requires agrees { V.agrees state.old value.now }
     ensures refused { IfErr result
-        (λ name. rfc2822_outcome (V.facts value.now) ≡ refused (invalid_component name.now)) }
-    ensures year { IfOk result
-        (λ year. IfSome (V.facts value.now).date (λ d. year ≡ unsigned_abs d.year)) }
-    ensures accepted { OnOk result (IfAll (V.facts value.now)
-        (λ d t o. rfc2822_outcome (V.facts value.now) ≡ done (rfc2822_text d t o))) }
-    ensures real { OnOk result (IfSome (V.facts value.now).date AreOfDate
-        × IfSome (V.facts value.now).offset IsOffset) }
+        (λ name. at_groups rfc2822_of_groups (V.facts value.now)
+        ≡ refused (invalid_component name.now)) }
+    ensures accepted { IfOk result
+        (Accepts rfc2822_of_groups rfc2822_text (V.facts value.now)) }
     ensures agrees { V.agrees state.new value.now }
 {
     let Some(year) = four_digit_year(value.calendar_year(state), 1900) else {
@@ -95,35 +96,6 @@ fn accepted_year<V: ComponentProvider>(
     Ok(year)
 }
 
-// Appends `date-time`, of this year. The vector is taken out meanwhile, so that the compiler sees that
-// its block does not move.
-#[inline]
-fn write_date_time<V: ComponentProvider>(
-    output: &mut Vec<u8>,
-    year: ru16<0, 9_999>,
-    value: &V,
-    state: &mut V::State,
-) -> usize
-    requires date { IsTrue V.SUPPLIES_DATE }
-    requires time { IsTrue V.SUPPLIES_TIME }
-    requires offset { IsTrue V.SUPPLIES_OFFSET }
-    requires year { IfSome (V.facts value.now).date (λ d. year ≡ unsigned_abs d.year) }
-    requires room { HasRoom output.old rfc2822_width }
-    requires agrees { V.agrees state.old value.now }
-    ensures writes { IfAll (V.facts value.now)
-        (λ d t o. Writes output.old output.new result (rfc2822_text d t o)) }
-    ensures real { IfSome (V.facts value.now).time IsTimeOfDay }
-    ensures within { vec_len output.new ≤ vec_len output.old + rfc2822_width }
-    ensures capacity { vec_capacity output.new ≡ vec_capacity output.old }
-    ensures agrees { V.agrees state.new value.now }
-{
-    let alloc = *output.allocator();
-    let mut taken = replace(output, Vec::new(alloc));
-    let count = append_date_time(&mut taken, year, value, state);
-    forget(replace(output, taken));
-    count
-}
-
 // Appends `date-time`, of this year, in pieces that are inlined.
 #[inline(always)]
 #[tactic(auto, using(crate::proofs::WritingLemmas::joined_lengths))]
@@ -133,18 +105,13 @@ fn append_date_time<V: ComponentProvider>(
     value: &V,
     state: &mut V::State,
 ) -> usize
-    requires date { IsTrue V.SUPPLIES_DATE }
-    requires time { IsTrue V.SUPPLIES_TIME }
-    requires offset { IsTrue V.SUPPLIES_OFFSET }
-    requires year { IfSome (V.facts value.now).date (λ d. year ≡ unsigned_abs d.year) }
+    requires supplied { AreAllSupplied V.SUPPLIES_DATE V.SUPPLIES_TIME V.SUPPLIES_OFFSET }
+    requires year { year ≡ unsigned_abs (the_date (V.facts value.now)).year }
     requires room { HasRoom output.old rfc2822_width }
     requires agrees { V.agrees state.old value.now }
-    ensures writes { IfAll (V.facts value.now)
-        (λ d t o. Writes output.old output.new result (rfc2822_text d t o)) }
-    ensures real { IfSome (V.facts value.now).time IsTimeOfDay }
-    ensures within { vec_len output.new ≤ vec_len output.old + rfc2822_width }
-    ensures capacity { vec_capacity output.new ≡ vec_capacity output.old }
-    ensures agrees { V.agrees state.new value.now }
+    ensures writes { WritesUpTo rfc2822_width output.old output.new result
+        (at_groups rfc2822_text (V.facts value.now)) }
+    ensures agrees { AgreesOnTime (V.agrees state.new value.now) (V.facts value.now) }
 {
     let date = write_named_date(output, year, value, state);
     let space = write(output, " ");
@@ -162,14 +129,11 @@ fn write_named_date<V: ComponentProvider>(
     value: &V,
     state: &mut V::State,
 ) -> usize
-    requires supplied { IsTrue V.SUPPLIES_DATE }
-    requires year { IfSome (V.facts value.now).date (λ d. year ≡ unsigned_abs d.year) }
-    requires room { HasRoom output.old 16 }
+    requires date { SuppliesDateIn year V.SUPPLIES_DATE (V.facts value.now) }
+    requires room { HasRoom output.old named_date_width }
     requires agrees { V.agrees state.old value.now }
-    ensures writes { IfSome (V.facts value.now).date
-        (λ d. Writes output.old output.new result (named_date_text d)) }
-    ensures within { vec_len output.new ≤ vec_len output.old + 16 }
-    ensures capacity { vec_capacity output.new ≡ vec_capacity output.old }
+    ensures writes { WritesUpTo named_date_width output.old output.new result
+        (named_date_text (the_date (V.facts value.now))) }
     ensures agrees { V.agrees state.new value.now }
 {
     let weekday = write_weekday_name(output, value.weekday(state));
@@ -186,14 +150,11 @@ fn write_date<V: ComponentProvider>(
     value: &V,
     state: &mut V::State,
 ) -> usize
-    requires supplied { IsTrue V.SUPPLIES_DATE }
-    requires year { IfSome (V.facts value.now).date (λ d. year ≡ unsigned_abs d.year) }
-    requires room { HasRoom output.old 11 }
+    requires date { SuppliesDateIn year V.SUPPLIES_DATE (V.facts value.now) }
+    requires room { HasRoom output.old date_width }
     requires agrees { V.agrees state.old value.now }
-    ensures writes { IfSome (V.facts value.now).date
-        (λ d. Writes output.old output.new result (date_text d)) }
-    ensures within { vec_len output.new ≤ vec_len output.old + 11 }
-    ensures capacity { vec_capacity output.new ≡ vec_capacity output.old }
+    ensures writes { WritesUpTo date_width output.old output.new result
+        (date_text (the_date (V.facts value.now))) }
     ensures agrees { V.agrees state.new value.now }
 {
     let day = value.day(state);

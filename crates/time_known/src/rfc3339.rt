@@ -1,22 +1,21 @@
 //! RFC 3339.
-ghost use Rattle.std.specs.Prelude.{◌≡◌, ◌+◌, ◌≤◌, IsTrue, IfSome, IfOk, OnOk, IfErr, true, unsigned_abs, vec_len, vec_capacity};
-ghost use Rattle.time_below.specs.Offset.{IsOffset};
-ghost use Rattle.time_below.specs.TimeOfDay.{IsTimeOfDay};
-ghost use Rattle.time_fmt.specs.Outcome.{done, refused, invalid_component};
-ghost use Rattle.time_fmt.specs.Room.{HasRoom, Writes};
-ghost use Rattle.time_provide.specs.Real.{AreOfDate};
-ghost use Rattle.time_known.specs.Groups.{IfAll};
+ghost use Rattle.std.specs.Prelude.{◌≡◌, ◌+◌, IsTrue, IfOk, IfErr, true, unsigned_abs};
+ghost use Rattle.time_below.specs.Facts.{the_date, the_time, the_offset};
+ghost use Rattle.time_fmt.specs.Outcome.{refused, invalid_component};
+ghost use Rattle.time_fmt.specs.Room.{HasRoom, WritesUpTo};
+ghost use Rattle.time_provide.specs.Real.{AgreesOnTime};
+ghost use Rattle.time_known.specs.Groups.{Accepts, AreAllSupplied, SuppliesDateIn, at_groups};
 ghost use Rattle.time_known.specs.Longest.{FillsRfc3339Width};
 ghost use Rattle.time_known.specs.ReadBack.{ReadsAs};
-ghost use Rattle.time_known.specs.Rfc3339.{rfc3339_width, rfc3339_outcome, rfc3339_text, full_date_text, time_secfrac_text, time_offset_text};
+ghost use Rattle.time_known.specs.Rfc3339.{rfc3339_outcome, rfc3339_of_groups, rfc3339_text, full_date_text, time_secfrac_text, time_offset_text};
+ghost use Rattle.time_known.specs.Rfc3339.{rfc3339_width, full_date_width, time_secfrac_width, time_offset_width};
 ghost use Rattle.time_known.specs.Rfc3339Grammar.{Rfc3339Spells, IsCanonicalRfc3339};
 
 use crate::groups::Groups;
-use crate::parts::four_digit_year;
 use crate::pieces::{
-    write_clock, write_four_digits, write_fraction, write_pair, write_signed_offset,
+    four_digit_year, put_back, take_out, write_clock, write_four_digits, write_fraction,
+    write_pair, write_signed_offset,
 };
-use std::mem::{forget, replace};
 use time_digits::{ru8, ru16};
 use time_fmt::writers::write;
 use time_fmt::{ComputeMetadata, Format, Formattable, Metadata};
@@ -30,6 +29,9 @@ use time_provide::ComponentProvider;
 #[derive(Debug, Clone, Copy, PartialEq, Eq)]
 pub struct Rfc3339;
 
+// The most bytes of such a text.
+const WIDTH: usize = 35;
+
 impl ComputeMetadata for Rfc3339 {
     ghost width_of = { λ _. rfc3339_width };
 
@@ -39,7 +41,7 @@ impl ComputeMetadata for Rfc3339 {
 
     fn compute_metadata(&self) -> Metadata {
         Metadata {
-            max_bytes_needed: 35,
+            max_bytes_needed: WIDTH,
             guaranteed_utf8: true,
         }
     }
@@ -60,7 +62,12 @@ impl Formattable for Rfc3339 {
             return Err(Format::InsufficientTypeInformation);
         }
         match accepted_year(value, state) {
-            Ok(year) => Ok(write_date_time(output, year, value, state)),
+            Ok(year) => {
+                let mut taken = take_out(output);
+                let count = append_date_time(&mut taken, year, value, state);
+                put_back(output, taken);
+                Ok(count)
+            }
             Err(name) => Err(Format::InvalidComponent(name)),
         }
     }
@@ -72,18 +79,13 @@ fn accepted_year<V: ComponentProvider>(
     value: &V,
     state: &mut V::State,
 ) -> Result<ru16<0, 9_999>, &'static str>
-    requires date { IsTrue V.SUPPLIES_DATE }
-    requires time { IsTrue V.SUPPLIES_TIME }
-    requires offset { IsTrue V.SUPPLIES_OFFSET }
+    requires supplied { AreAllSupplied V.SUPPLIES_DATE V.SUPPLIES_TIME V.SUPPLIES_OFFSET }
     requires agrees { V.agrees state.old value.now }
     ensures refused { IfErr result
-        (λ name. rfc3339_outcome (V.facts value.now) ≡ refused (invalid_component name.now)) }
-    ensures year { IfOk result
-        (λ year. IfSome (V.facts value.now).date (λ d. year ≡ unsigned_abs d.year)) }
-    ensures accepted { OnOk result (IfAll (V.facts value.now)
-        (λ d t o. rfc3339_outcome (V.facts value.now) ≡ done (rfc3339_text d t o))) }
-    ensures real { OnOk result (IfSome (V.facts value.now).date AreOfDate
-        × IfSome (V.facts value.now).offset IsOffset) }
+        (λ name. at_groups rfc3339_of_groups (V.facts value.now)
+        ≡ refused (invalid_component name.now)) }
+    ensures accepted { IfOk result
+        (Accepts rfc3339_of_groups rfc3339_text (V.facts value.now)) }
     ensures agrees { V.agrees state.new value.now }
 {
     let Some(year) = four_digit_year(value.calendar_year(state), 0) else {
@@ -98,35 +100,6 @@ fn accepted_year<V: ComponentProvider>(
     Ok(year)
 }
 
-// Appends `date-time`, of this year. The vector is taken out meanwhile, so that the compiler sees that
-// its block does not move.
-#[inline]
-fn write_date_time<V: ComponentProvider>(
-    output: &mut Vec<u8>,
-    year: ru16<0, 9_999>,
-    value: &V,
-    state: &mut V::State,
-) -> usize
-    requires date { IsTrue V.SUPPLIES_DATE }
-    requires time { IsTrue V.SUPPLIES_TIME }
-    requires offset { IsTrue V.SUPPLIES_OFFSET }
-    requires year { IfSome (V.facts value.now).date (λ d. year ≡ unsigned_abs d.year) }
-    requires room { HasRoom output.old rfc3339_width }
-    requires agrees { V.agrees state.old value.now }
-    ensures writes { IfAll (V.facts value.now)
-        (λ d t o. Writes output.old output.new result (rfc3339_text d t o)) }
-    ensures real { IfSome (V.facts value.now).time IsTimeOfDay }
-    ensures within { vec_len output.new ≤ vec_len output.old + rfc3339_width }
-    ensures capacity { vec_capacity output.new ≡ vec_capacity output.old }
-    ensures agrees { V.agrees state.new value.now }
-{
-    let alloc = *output.allocator();
-    let mut taken = replace(output, Vec::new(alloc));
-    let count = append_date_time(&mut taken, year, value, state);
-    forget(replace(output, taken));
-    count
-}
-
 // Appends `date-time`, of this year, in pieces that are inlined.
 #[inline(always)]
 #[tactic(auto, using(crate::proofs::WritingLemmas::joined_lengths))]
@@ -136,18 +109,13 @@ fn append_date_time<V: ComponentProvider>(
     value: &V,
     state: &mut V::State,
 ) -> usize
-    requires date { IsTrue V.SUPPLIES_DATE }
-    requires time { IsTrue V.SUPPLIES_TIME }
-    requires offset { IsTrue V.SUPPLIES_OFFSET }
-    requires year { IfSome (V.facts value.now).date (λ d. year ≡ unsigned_abs d.year) }
+    requires supplied { AreAllSupplied V.SUPPLIES_DATE V.SUPPLIES_TIME V.SUPPLIES_OFFSET }
+    requires year { year ≡ unsigned_abs (the_date (V.facts value.now)).year }
     requires room { HasRoom output.old rfc3339_width }
     requires agrees { V.agrees state.old value.now }
-    ensures writes { IfAll (V.facts value.now)
-        (λ d t o. Writes output.old output.new result (rfc3339_text d t o)) }
-    ensures real { IfSome (V.facts value.now).time IsTimeOfDay }
-    ensures within { vec_len output.new ≤ vec_len output.old + rfc3339_width }
-    ensures capacity { vec_capacity output.new ≡ vec_capacity output.old }
-    ensures agrees { V.agrees state.new value.now }
+    ensures writes { WritesUpTo rfc3339_width output.old output.new result
+        (at_groups rfc3339_text (V.facts value.now)) }
+    ensures agrees { AgreesOnTime (V.agrees state.new value.now) (V.facts value.now) }
 {
     let date = write_full_date(output, year, value, state);
     let letter = write(output, "T");
@@ -165,14 +133,11 @@ pub(crate) fn write_full_date<V: ComponentProvider>(
     value: &V,
     state: &mut V::State,
 ) -> usize
-    requires supplied { IsTrue V.SUPPLIES_DATE }
-    requires year { IfSome (V.facts value.now).date (λ d. year ≡ unsigned_abs d.year) }
-    requires room { HasRoom output.old 10 }
+    requires date { SuppliesDateIn year V.SUPPLIES_DATE (V.facts value.now) }
+    requires room { HasRoom output.old full_date_width }
     requires agrees { V.agrees state.old value.now }
-    ensures writes { IfSome (V.facts value.now).date
-        (λ d. Writes output.old output.new result (full_date_text d)) }
-    ensures within { vec_len output.new ≤ vec_len output.old + 10 }
-    ensures capacity { vec_capacity output.new ≡ vec_capacity output.old }
+    ensures writes { WritesUpTo full_date_width output.old output.new result
+        (full_date_text (the_date (V.facts value.now))) }
     ensures agrees { V.agrees state.new value.now }
 {
     let day = value.day(state);
@@ -193,12 +158,10 @@ fn write_time_secfrac<V: ComponentProvider>(
     state: &mut V::State,
 ) -> usize
     requires supplied { IsTrue V.SUPPLIES_TIME }
-    requires room { HasRoom output.old 10 }
+    requires room { HasRoom output.old time_secfrac_width }
     requires agrees { V.agrees state.old value.now }
-    ensures writes { IfSome (V.facts value.now).time
-        (λ t. Writes output.old output.new result (time_secfrac_text t.nanosecond)) }
-    ensures within { vec_len output.new ≤ vec_len output.old + 10 }
-    ensures capacity { vec_capacity output.new ≡ vec_capacity output.old }
+    ensures writes { WritesUpTo time_secfrac_width output.old output.new result
+        (time_secfrac_text (the_time (V.facts value.now)).nanosecond) }
     ensures agrees { V.agrees state.new value.now }
 {
     let nanosecond = value.nanosecond(state);
@@ -218,12 +181,10 @@ pub(crate) fn write_time_offset<V: ComponentProvider>(
     state: &mut V::State,
 ) -> usize
     requires supplied { IsTrue V.SUPPLIES_OFFSET }
-    requires room { HasRoom output.old 6 }
+    requires room { HasRoom output.old time_offset_width }
     requires agrees { V.agrees state.old value.now }
-    ensures writes { IfSome (V.facts value.now).offset
-        (λ o. Writes output.old output.new result (time_offset_text o)) }
-    ensures within { vec_len output.new ≤ vec_len output.old + 6 }
-    ensures capacity { vec_capacity output.new ≡ vec_capacity output.old }
+    ensures writes { WritesUpTo time_offset_width output.old output.new result
+        (time_offset_text (the_offset (V.facts value.now))) }
     ensures agrees { V.agrees state.new value.now }
 {
     if value.offset_is_utc(state) {

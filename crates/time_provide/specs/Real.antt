@@ -1,7 +1,11 @@
--- What holds of the date of every value: the calendar has it, and its components are its own.
+-- What a call of a provider keeps and shows: the state agrees with the value, and the group that was
+-- asked is real.
 use Rattle.std.specs.Prelude.{◌≡◌}
 use Rattle.time_below.specs.Calendar.{OrdinalDate, IsDate}
-use Rattle.time_below.specs.Facts.{DateFacts, date_facts}
+use Rattle.time_below.specs.Facts.{Facts, DateFacts, date_facts, the_date, the_time, the_offset, the_stamp}
+use Rattle.time_below.specs.Moment.{IsNearMoment}
+use Rattle.time_below.specs.Offset.{IsOffset}
+use Rattle.time_below.specs.TimeOfDay.{IsTimeOfDay}
 
 -- the date with this year and this day of the year
 abbrev pub date_in : DateFacts → OrdinalDate
@@ -11,3 +15,29 @@ date_in f = record { year = f.year; ordinal = f.ordinal }
 pub record AreOfDate (f : DateFacts) : Type 0 where
   pub date : IsDate (date_in f)
   pub components : f ≡ date_facts (date_in f)
+
+-- a state agrees with a value of these facts, whose date is one of the calendar
+pub record AgreesOnDate (Agrees : Type 0) (f : Facts) : Type 0 where
+  pub agrees : Agrees
+  pub real : AreOfDate (the_date f)
+
+-- the same of the time of day
+pub record AgreesOnTime (Agrees : Type 0) (f : Facts) : Type 0 where
+  pub agrees : Agrees
+  pub real : IsTimeOfDay (the_time f)
+
+-- of the offset
+pub record AgreesOnOffset (Agrees : Type 0) (f : Facts) : Type 0 where
+  pub agrees : Agrees
+  pub real : IsOffset (the_offset f)
+
+-- and of the moment
+pub record AgreesOnMoment (Agrees : Type 0) (f : Facts) : Type 0 where
+  pub agrees : Agrees
+  pub real : IsNearMoment (the_stamp f)
+
+-- the date, the time and the offset of a value that has all three are real
+pub record AreReal (f : Facts) : Type 0 where
+  pub date : AreOfDate (the_date f)
+  pub time : IsTimeOfDay (the_time f)
+  pub offset : IsOffset (the_offset f)

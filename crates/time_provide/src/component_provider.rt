@@ -1,13 +1,13 @@
 //! The components of a value.
-ghost use Rattle.std.specs.Prelude.{◌≡◌, ◌≤◌, ◌<◌, Bool, IsTrue, IfSome, is_some, unsigned_abs};
+ghost use Rattle.std.specs.Prelude.{◌≡◌, ◌≤◌, ◌<◌, Bool, IsTrue, is_some, unsigned_abs};
 ghost use Rattle.std.specs.Int.{IsInRange};
-ghost use Rattle.time_below.specs.Facts.{Facts, DateFacts};
-ghost use Rattle.time_below.specs.Moment.{Moment, IsNearMoment, milliseconds};
+ghost use Rattle.time_below.specs.Facts.{Facts, the_date, the_time, the_offset, the_stamp};
+ghost use Rattle.time_below.specs.Moment.{Moment, milliseconds};
 ghost use Rattle.time_below.specs.Month.{month_number};
-ghost use Rattle.time_below.specs.Offset.{Offset, IsOffset, is_negative, is_utc};
-ghost use Rattle.time_below.specs.TimeOfDay.{TimeOfDay, IsTimeOfDay, period_of};
+ghost use Rattle.time_below.specs.Offset.{Offset, is_negative, is_utc};
+ghost use Rattle.time_below.specs.TimeOfDay.{TimeOfDay, period_of};
 ghost use Rattle.time_below.specs.Weekday.{days_from_monday};
-ghost use Rattle.time_provide.specs.Real.{AreOfDate};
+ghost use Rattle.time_provide.specs.Real.{AgreesOnDate, AgreesOnTime, AgreesOnOffset, AgreesOnMoment};
 
 use crate::ranges::{
     Day, Hours, IsoWeekNumber, Minutes, MondayBasedWeek, Nanoseconds, OffsetHours, OffsetMinutes,
@@ -19,10 +19,9 @@ use time_below::{Month, Period, Weekday};
 /// Gives the components of a value, group by group.
 ///
 /// A method may keep in the state what it computed. It may be called where the value supplies its
-/// group and the state agrees with the value, and the state agrees afterwards.
-///
-/// A call also shows that the group is real: a date of the calendar with its own components, a time
-/// of day in its ranges, an offset in its ranges and of one sign, a moment in its range.
+/// group and the state agrees with the value, and the state agrees afterwards. So does the group, in
+/// that it is real: a date of the calendar with its own components, a time of day in its ranges, an
+/// offset in its ranges and of one sign, a moment in its range.
 pub trait ComponentProvider {
     /// What earlier calls for the same value computed.
     type State: Default;
@@ -57,185 +56,164 @@ pub trait ComponentProvider {
     fn day(&self, state: &mut Self::State) -> Day
         requires supplied { IsTrue SUPPLIES_DATE }
         requires agrees { agrees state.old self.now }
-        ensures value { IfSome (facts self.now).date (λ d. result ≡ d.day) }
+        ensures value { result ≡ (the_date (facts self.now)).day }
         ensures range { IsInRange 1 31 result }
-        ensures real { IfSome (facts self.now).date AreOfDate }
-        ensures agrees { agrees state.new self.now };
+        ensures agrees { AgreesOnDate (agrees state.new self.now) (facts self.now) };
 
     /// The month.
     fn month(&self, state: &mut Self::State) -> Month
         requires supplied { IsTrue SUPPLIES_DATE }
         requires agrees { agrees state.old self.now }
-        ensures value { IfSome (facts self.now).date (λ d. month_number result ≡ d.month) }
-        ensures real { IfSome (facts self.now).date AreOfDate }
-        ensures agrees { agrees state.new self.now };
+        ensures value { month_number result ≡ (the_date (facts self.now)).month }
+        ensures agrees { AgreesOnDate (agrees state.new self.now) (facts self.now) };
 
     /// The day of the year, 1 to 366.
     fn ordinal(&self, state: &mut Self::State) -> Ordinal
         requires supplied { IsTrue SUPPLIES_DATE }
         requires agrees { agrees state.old self.now }
-        ensures value { IfSome (facts self.now).date (λ d. result ≡ d.ordinal) }
+        ensures value { result ≡ (the_date (facts self.now)).ordinal }
         ensures range { IsInRange 1 366 result }
-        ensures real { IfSome (facts self.now).date AreOfDate }
-        ensures agrees { agrees state.new self.now };
+        ensures agrees { AgreesOnDate (agrees state.new self.now) (facts self.now) };
 
     /// The day of the week.
     fn weekday(&self, state: &mut Self::State) -> Weekday
         requires supplied { IsTrue SUPPLIES_DATE }
         requires agrees { agrees state.old self.now }
-        ensures value { IfSome (facts self.now).date (λ d. days_from_monday result ≡ d.weekday) }
-        ensures real { IfSome (facts self.now).date AreOfDate }
-        ensures agrees { agrees state.new self.now };
+        ensures value { days_from_monday result ≡ (the_date (facts self.now)).weekday }
+        ensures agrees { AgreesOnDate (agrees state.new self.now) (facts self.now) };
 
     /// The week of the week calendar, 1 to 53 (ISO 8601-1:2019, week date).
     fn iso_week_number(&self, state: &mut Self::State) -> IsoWeekNumber
         requires supplied { IsTrue SUPPLIES_DATE }
         requires agrees { agrees state.old self.now }
-        ensures value { IfSome (facts self.now).date (λ d. result ≡ d.iso_week) }
+        ensures value { result ≡ (the_date (facts self.now)).iso_week }
         ensures range { IsInRange 1 53 result }
-        ensures real { IfSome (facts self.now).date AreOfDate }
-        ensures agrees { agrees state.new self.now };
+        ensures agrees { AgreesOnDate (agrees state.new self.now) (facts self.now) };
 
     /// The week of the year, 0 to 53, where week 1 begins on the first Monday.
     fn monday_based_week(&self, state: &mut Self::State) -> MondayBasedWeek
         requires supplied { IsTrue SUPPLIES_DATE }
         requires agrees { agrees state.old self.now }
-        ensures value { IfSome (facts self.now).date (λ d. result ≡ d.monday_based_week) }
+        ensures value { result ≡ (the_date (facts self.now)).monday_based_week }
         ensures range { result ≤ 53 }
-        ensures real { IfSome (facts self.now).date AreOfDate }
-        ensures agrees { agrees state.new self.now };
+        ensures agrees { AgreesOnDate (agrees state.new self.now) (facts self.now) };
 
     /// The week of the year, 0 to 53, where week 1 begins on the first Sunday.
     fn sunday_based_week(&self, state: &mut Self::State) -> SundayBasedWeek
         requires supplied { IsTrue SUPPLIES_DATE }
         requires agrees { agrees state.old self.now }
-        ensures value { IfSome (facts self.now).date (λ d. result ≡ d.sunday_based_week) }
+        ensures value { result ≡ (the_date (facts self.now)).sunday_based_week }
         ensures range { result ≤ 53 }
-        ensures real { IfSome (facts self.now).date AreOfDate }
-        ensures agrees { agrees state.new self.now };
+        ensures agrees { AgreesOnDate (agrees state.new self.now) (facts self.now) };
 
     /// The year, -999,999 to 999,999.
     fn calendar_year(&self, state: &mut Self::State) -> Year
         requires supplied { IsTrue SUPPLIES_DATE }
         requires agrees { agrees state.old self.now }
-        ensures value { IfSome (facts self.now).date (λ d. result ≡ d.year) }
+        ensures value { result ≡ (the_date (facts self.now)).year }
         ensures range { unsigned_abs result ≤ 999_999 }
-        ensures real { IfSome (facts self.now).date AreOfDate }
-        ensures agrees { agrees state.new self.now };
+        ensures agrees { AgreesOnDate (agrees state.new self.now) (facts self.now) };
 
     /// The year of the week calendar, -999,999 to 999,999.
     fn iso_year(&self, state: &mut Self::State) -> Year
         requires supplied { IsTrue SUPPLIES_DATE }
         requires agrees { agrees state.old self.now }
-        ensures value { IfSome (facts self.now).date (λ d. result ≡ d.iso_year) }
+        ensures value { result ≡ (the_date (facts self.now)).iso_year }
         ensures range { unsigned_abs result ≤ 999_999 }
-        ensures real { IfSome (facts self.now).date AreOfDate }
-        ensures agrees { agrees state.new self.now };
+        ensures agrees { AgreesOnDate (agrees state.new self.now) (facts self.now) };
 
     /// The hour of the day, 0 to 23.
     fn hour(&self, state: &mut Self::State) -> Hours
         requires supplied { IsTrue SUPPLIES_TIME }
         requires agrees { agrees state.old self.now }
-        ensures value { IfSome (facts self.now).time (λ t. result ≡ t.hour) }
+        ensures value { result ≡ (the_time (facts self.now)).hour }
         ensures range { result ≤ 23 }
-        ensures real { IfSome (facts self.now).time IsTimeOfDay }
-        ensures agrees { agrees state.new self.now };
+        ensures agrees { AgreesOnTime (agrees state.new self.now) (facts self.now) };
 
     /// The minute of the hour, 0 to 59.
     fn minute(&self, state: &mut Self::State) -> Minutes
         requires supplied { IsTrue SUPPLIES_TIME }
         requires agrees { agrees state.old self.now }
-        ensures value { IfSome (facts self.now).time (λ t. result ≡ t.minute) }
+        ensures value { result ≡ (the_time (facts self.now)).minute }
         ensures range { result ≤ 59 }
-        ensures real { IfSome (facts self.now).time IsTimeOfDay }
-        ensures agrees { agrees state.new self.now };
+        ensures agrees { AgreesOnTime (agrees state.new self.now) (facts self.now) };
 
     /// The half of the day: before noon, or from noon on.
     fn period(&self, state: &mut Self::State) -> Period
         requires supplied { IsTrue SUPPLIES_TIME }
         requires agrees { agrees state.old self.now }
-        ensures value { IfSome (facts self.now).time (λ t. result ≡ period_of t) }
-        ensures real { IfSome (facts self.now).time IsTimeOfDay }
-        ensures agrees { agrees state.new self.now };
+        ensures value { result ≡ period_of (the_time (facts self.now)) }
+        ensures agrees { AgreesOnTime (agrees state.new self.now) (facts self.now) };
 
     /// The second of the minute, 0 to 59.
     fn second(&self, state: &mut Self::State) -> Seconds
         requires supplied { IsTrue SUPPLIES_TIME }
         requires agrees { agrees state.old self.now }
-        ensures value { IfSome (facts self.now).time (λ t. result ≡ t.second) }
+        ensures value { result ≡ (the_time (facts self.now)).second }
         ensures range { result ≤ 59 }
-        ensures real { IfSome (facts self.now).time IsTimeOfDay }
-        ensures agrees { agrees state.new self.now };
+        ensures agrees { AgreesOnTime (agrees state.new self.now) (facts self.now) };
 
     /// The nanosecond of the second, 0 to 999,999,999.
     fn nanosecond(&self, state: &mut Self::State) -> Nanoseconds
         requires supplied { IsTrue SUPPLIES_TIME }
         requires agrees { agrees state.old self.now }
-        ensures value { IfSome (facts self.now).time (λ t. result ≡ t.nanosecond) }
+        ensures value { result ≡ (the_time (facts self.now)).nanosecond }
         ensures range { result ≤ 999_999_999 }
-        ensures real { IfSome (facts self.now).time IsTimeOfDay }
-        ensures agrees { agrees state.new self.now };
+        ensures agrees { AgreesOnTime (agrees state.new self.now) (facts self.now) };
 
     /// Whether some part of the offset is below zero.
     fn offset_is_negative(&self, state: &mut Self::State) -> bool
         requires supplied { IsTrue SUPPLIES_OFFSET }
         requires agrees { agrees state.old self.now }
-        ensures value { IfSome (facts self.now).offset (λ o. result ≡ is_negative o) }
-        ensures real { IfSome (facts self.now).offset IsOffset }
-        ensures agrees { agrees state.new self.now };
+        ensures value { result ≡ is_negative (the_offset (facts self.now)) }
+        ensures agrees { AgreesOnOffset (agrees state.new self.now) (facts self.now) };
 
     /// Whether all parts of the offset are zero.
     fn offset_is_utc(&self, state: &mut Self::State) -> bool
         requires supplied { IsTrue SUPPLIES_OFFSET }
         requires agrees { agrees state.old self.now }
-        ensures value { IfSome (facts self.now).offset (λ o. result ≡ is_utc o) }
-        ensures real { IfSome (facts self.now).offset IsOffset }
-        ensures agrees { agrees state.new self.now };
+        ensures value { result ≡ is_utc (the_offset (facts self.now)) }
+        ensures agrees { AgreesOnOffset (agrees state.new self.now) (facts self.now) };
 
     /// The hour of the offset from UTC, -25 to 25.
     fn offset_hour(&self, state: &mut Self::State) -> OffsetHours
         requires supplied { IsTrue SUPPLIES_OFFSET }
         requires agrees { agrees state.old self.now }
-        ensures value { IfSome (facts self.now).offset (λ o. result ≡ o.hours) }
+        ensures value { result ≡ (the_offset (facts self.now)).hours }
         ensures range { unsigned_abs result ≤ 25 }
-        ensures real { IfSome (facts self.now).offset IsOffset }
-        ensures agrees { agrees state.new self.now };
+        ensures agrees { AgreesOnOffset (agrees state.new self.now) (facts self.now) };
 
     /// The minute of the offset from UTC, -59 to 59.
     fn offset_minute(&self, state: &mut Self::State) -> OffsetMinutes
         requires supplied { IsTrue SUPPLIES_OFFSET }
         requires agrees { agrees state.old self.now }
-        ensures value { IfSome (facts self.now).offset (λ o. result ≡ o.minutes) }
+        ensures value { result ≡ (the_offset (facts self.now)).minutes }
         ensures range { unsigned_abs result ≤ 59 }
-        ensures real { IfSome (facts self.now).offset IsOffset }
-        ensures agrees { agrees state.new self.now };
+        ensures agrees { AgreesOnOffset (agrees state.new self.now) (facts self.now) };
 
     /// The second of the offset from UTC, -59 to 59.
     fn offset_second(&self, state: &mut Self::State) -> OffsetSeconds
         requires supplied { IsTrue SUPPLIES_OFFSET }
         requires agrees { agrees state.old self.now }
-        ensures value { IfSome (facts self.now).offset (λ o. result ≡ o.seconds) }
+        ensures value { result ≡ (the_offset (facts self.now)).seconds }
         ensures range { unsigned_abs result ≤ 59 }
-        ensures real { IfSome (facts self.now).offset IsOffset }
-        ensures agrees { agrees state.new self.now };
+        ensures agrees { AgreesOnOffset (agrees state.new self.now) (facts self.now) };
 
     /// The seconds since 1970-01-01T00:00:00 UTC, rounded down, at most 14 digits.
     fn unix_timestamp_seconds(&self, state: &mut Self::State) -> i64
         requires supplied { IsTrue SUPPLIES_TIMESTAMP }
         requires agrees { agrees state.old self.now }
-        ensures value { IfSome (facts self.now).stamp (λ s. result ≡ s.seconds) }
+        ensures value { result ≡ (the_stamp (facts self.now)).seconds }
         ensures range { unsigned_abs result < 100_000_000_000_000 }
-        ensures real { IfSome (facts self.now).stamp IsNearMoment }
-        ensures agrees { agrees state.new self.now };
+        ensures agrees { AgreesOnMoment (agrees state.new self.now) (facts self.now) };
 
     /// The milliseconds since 1970-01-01T00:00:00 UTC, rounded toward zero, at most 17 digits.
     fn unix_timestamp_milliseconds(&self, state: &mut Self::State) -> i64
         requires supplied { IsTrue SUPPLIES_TIMESTAMP }
         requires agrees { agrees state.old self.now }
-        ensures value { IfSome (facts self.now).stamp (λ s. result ≡ milliseconds s) }
+        ensures value { result ≡ milliseconds (the_stamp (facts self.now)) }
         ensures range { unsigned_abs result < 100_000_000_000_000_000 }
-        ensures real { IfSome (facts self.now).stamp IsNearMoment }
-        ensures agrees { agrees state.new self.now };
+        ensures agrees { AgreesOnMoment (agrees state.new self.now) (facts self.now) };
 
     // The groups that are there are those that the constants name.
     ghost supplies_date: { (value : Self) → is_some (facts value).date ≡ SUPPLIES_DATE };

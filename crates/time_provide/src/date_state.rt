@@ -20,8 +20,7 @@ pub struct DateState {
 }
 
 impl DateState {
-    // The day of the month. Where it is absent, it is kept with the month. Reading a number that is
-    // held shows that it is in its range, here and below.
+    // The day of the month. Where it is absent, it is kept with the month.
     pub(crate) fn day(&mut self, date: Date) -> Day
         requires { Agrees self.old (date_facts date) }
         ensures value { result ≡ day_of date }

@@ -128,20 +128,7 @@ fn month_of(number: u32) -> Month
     requires { IsInRange 1 12 number }
     ensures { month_number result ≡ number }
 {
-    match number {
-        1 => Month::January,
-        2 => Month::February,
-        3 => Month::March,
-        4 => Month::April,
-        5 => Month::May,
-        6 => Month::June,
-        7 => Month::July,
-        8 => Month::August,
-        9 => Month::September,
-        10 => Month::October,
-        11 => Month::November,
-        _ => Month::December,
-    }
+    Month::try_from(number as u8).unwrap()
 }
 
 /// The date of these numbers.

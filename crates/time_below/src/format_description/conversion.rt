@@ -7,7 +7,7 @@ use crate::format_description::modifier::{
 };
 use crate::format_description::{Component, modifier};
 
-/// By the number or the name, as is chosen.
+// By the number or the name, as is chosen.
 #[inline(never)]
 pub(crate) fn current_month(modifier: modifier::Month) -> Component
     ensures converted { result ≡ current_component (Component.Month modifier) }
@@ -26,7 +26,7 @@ pub(crate) fn current_month(modifier: modifier::Month) -> Component
     }
 }
 
-/// By the name or a digit, as is chosen.
+// By the name or a digit, as is chosen.
 #[inline(never)]
 pub(crate) fn current_weekday(modifier: modifier::Weekday) -> Component
     ensures converted { result ≡ current_component (Component.Weekday modifier) }
@@ -48,7 +48,7 @@ pub(crate) fn current_weekday(modifier: modifier::Weekday) -> Component
     }
 }
 
-/// By the weeks that are chosen.
+// By the weeks that are chosen.
 #[inline(never)]
 pub(crate) fn current_week_number(modifier: modifier::WeekNumber) -> Component
     ensures converted { result ≡ current_component (Component.WeekNumber modifier) }
@@ -67,7 +67,7 @@ pub(crate) fn current_week_number(modifier: modifier::WeekNumber) -> Component
     }
 }
 
-/// Of the clock that is chosen.
+// Of the clock that is chosen.
 #[inline(never)]
 pub(crate) fn current_hour(modifier: modifier::Hour) -> Component
     ensures converted { result ≡ current_component (Component.Hour modifier) }
@@ -83,7 +83,7 @@ pub(crate) fn current_hour(modifier: modifier::Hour) -> Component
     }
 }
 
-/// In the unit that is chosen.
+// In the unit that is chosen.
 #[inline(never)]
 pub(crate) fn current_unix_timestamp(modifier: modifier::UnixTimestamp) -> Component
     ensures converted { result ≡ current_component (Component.UnixTimestamp modifier) }
@@ -103,7 +103,7 @@ pub(crate) fn current_unix_timestamp(modifier: modifier::UnixTimestamp) -> Compo
     }
 }
 
-/// Of the calendar, the part and the range that are chosen.
+// Of the calendar, the part and the range that are chosen.
 #[inline(never)]
 pub(crate) fn current_year(modifier: modifier::Year) -> Component
     ensures converted { result ≡ current_component (Component.Year modifier) }

@@ -1,21 +1,21 @@
 //! The date of a text of ISO 8601-1:2019, section 5.2.
-ghost use Rattle.std.specs.Prelude.{◌≡◌, ◌+◌, ◌*◌, ◌≤◌, ◌++◌, length, unsigned_abs, IsTrue, IfSome, vec_len, vec_capacity};
+ghost use Rattle.std.specs.Prelude.{◌≡◌, ◌+◌, ◌*◌, ◌≤◌, ◌++◌, length, unsigned_abs, IsTrue, vec_len};
+ghost use Rattle.time_below.specs.Facts.{the_date};
 ghost use Rattle.time_below.specs.Weekday.{days_from_monday};
 ghost use Rattle.time_digits.specs.Digits.{zero_padded};
-ghost use Rattle.time_fmt.specs.Description.{of_group};
-ghost use Rattle.time_fmt.specs.Outcome.{Appends};
-ghost use Rattle.time_fmt.specs.Room.{HasRoom, Writes};
-ghost use Rattle.time_provide.specs.Real.{AreOfDate};
+ghost use Rattle.time_fmt.specs.Outcome.{Appends, AppendsUpTo};
+ghost use Rattle.time_fmt.specs.Room.{HasRoom, WritesJust, WritesUpTo};
+ghost use Rattle.time_provide.specs.Real.{AgreesOnDate};
 ghost use Rattle.time_known.specs.Iso8601.{iso_date, iso_year, year_of_kind, text_after_year, week_and_weekday_text};
+ghost use Rattle.time_known.specs.WellKnown.{month_and_day_text};
 ghost use Rattle.time_known.specs.Iso8601Width.{iso_date_width, year_width, width_after_year};
 
 use crate::iso8601::config::{Config, DateKind};
-use crate::parts::{four_digit_year, write_month_and_day};
-use crate::pieces::write_pair;
+use crate::pieces::{four_digit_year, write_pair};
 use time_below::Weekday;
 use time_below::format_description::modifier;
 use time_below::format_description::modifier::Padding;
-use time_digits::ru16;
+use time_digits::{ru8, ru16};
 use time_fmt::Format;
 use time_fmt::writers::{
     fmt_sign, fmt_weekday_monday, format_four_digits_pad_zero, format_six_digits_pad_zero,
@@ -38,11 +38,9 @@ pub fn format_date<V: ComponentProvider>(
     requires supplied { IsTrue V.SUPPLIES_DATE }
     requires room { HasRoom output.old (iso_date_width config.now) }
     requires agrees { V.agrees state.old value.now }
-    ensures appends { Appends output.old output.new result
-        (of_group (V.facts value.now).date (iso_date config.now)) }
-    ensures real { IfSome (V.facts value.now).date AreOfDate }
-    ensures within { vec_len output.new ≤ vec_len output.old + iso_date_width config.now }
-    ensures agrees { V.agrees state.new value.now }
+    ensures appends { AppendsUpTo (iso_date_width config.now) output.old output.new result
+        (iso_date config.now (the_date (V.facts value.now))) }
+    ensures agrees { AgreesOnDate (V.agrees state.new value.now) (V.facts value.now) }
 {
     let year = year_of_kind(config.date_kind(), value, state);
     let count = write_year(output, year, config.year_is_six_digits())?;
@@ -53,10 +51,9 @@ pub fn format_date<V: ComponentProvider>(
 fn year_of_kind<V: ComponentProvider>(kind: DateKind, value: &V, state: &mut V::State) -> Year
     requires supplied { IsTrue V.SUPPLIES_DATE }
     requires agrees { V.agrees state.old value.now }
-    ensures value { IfSome (V.facts value.now).date (λ d. result ≡ year_of_kind kind d) }
-    ensures real { IfSome (V.facts value.now).date AreOfDate }
+    ensures value { result ≡ year_of_kind kind (the_date (V.facts value.now)) }
     ensures range { unsigned_abs result ≤ 999_999 }
-    ensures agrees { V.agrees state.new value.now }
+    ensures agrees { AgreesOnDate (V.agrees state.new value.now) (V.facts value.now) }
 {
     match kind {
         DateKind::Calendar | DateKind::Ordinal => value.calendar_year(state),
@@ -92,11 +89,9 @@ fn write_after_year<V: ComponentProvider>(
     requires supplied { IsTrue V.SUPPLIES_DATE }
     requires room { HasRoom output.old (width_after_year config.now.date_kind config.now) }
     requires agrees { V.agrees state.old value.now }
-    ensures writes { IfSome (V.facts value.now).date
-        (λ d. Writes output.old output.new result
-        (text_after_year config.now.date_kind config.now d)) }
-    ensures within { vec_len output.new
-        ≤ vec_len output.old + width_after_year config.now.date_kind config.now }
+    ensures writes { WritesUpTo (width_after_year config.now.date_kind config.now)
+        output.old output.new result
+        (text_after_year config.now.date_kind config.now (the_date (V.facts value.now))) }
     ensures agrees { V.agrees state.new value.now }
 {
     let dash = config.separator("-");
@@ -105,6 +100,28 @@ fn write_after_year<V: ComponentProvider>(
         DateKind::Week => write_week_and_weekday(output, value, state, dash),
         DateKind::Ordinal => write_ordinal(output, value, state, dash),
     }
+}
+
+// Appends the month and the day, of two digits each, and the separator before each of them.
+#[tactic(auto, using(crate::proofs::WritingLemmas::joined_lengths))]
+fn write_month_and_day<V: ComponentProvider>(
+    output: &mut Vec<u8>,
+    value: &V,
+    state: &mut V::State,
+    separator: &str,
+) -> usize
+    requires supplied { IsTrue V.SUPPLIES_DATE }
+    requires room { HasRoom output.old (4 + 2 * length separator.now) }
+    requires agrees { V.agrees state.old value.now }
+    ensures writes { WritesUpTo (4 + 2 * length separator.now) output.old output.new result
+        (month_and_day_text separator.now (the_date (V.facts value.now))) }
+    ensures agrees { V.agrees state.new value.now }
+{
+    let dash = write(output, separator);
+    let month = ru8::within(u8::from(value.month(state)));
+    let month = write_pair(output, month);
+    let second_dash = write(output, separator);
+    dash + month + second_dash + write_pair(output, value.day(state).expand())
 }
 
 // Appends the letter `W` with two digits of the week, and the weekday from 1, and the separator before
@@ -119,10 +136,8 @@ fn write_week_and_weekday<V: ComponentProvider>(
     requires supplied { IsTrue V.SUPPLIES_DATE }
     requires room { HasRoom output.old (4 + 2 * length separator.now) }
     requires agrees { V.agrees state.old value.now }
-    ensures writes { IfSome (V.facts value.now).date
-        (λ d. Writes output.old output.new result (week_and_weekday_text separator.now d)) }
-    ensures within { vec_len output.new ≤ vec_len output.old + (4 + 2 * length separator.now) }
-    ensures capacity { vec_capacity output.new ≡ vec_capacity output.old }
+    ensures writes { WritesUpTo (4 + 2 * length separator.now) output.old output.new result
+        (week_and_weekday_text separator.now (the_date (V.facts value.now))) }
     ensures agrees { V.agrees state.new value.now }
 {
     let dash = write(output, separator);
@@ -138,10 +153,8 @@ fn write_week_and_weekday<V: ComponentProvider>(
 #[tactic(auto, using(crate::proofs::IsoWriteLemmas::weekday_lengths))]
 fn write_weekday_from_one(output: &mut Vec<u8>, weekday: Weekday) -> usize
     requires room { HasRoom output.old 1 }
-    ensures writes { Writes output.old output.new result
+    ensures writes { WritesJust 1 output.old output.new result
         (zero_padded 1 (days_from_monday weekday + 1)) }
-    ensures count { result ≡ 1 }
-    ensures grown { vec_len output.new ≡ vec_len output.old + 1 }
 {
     fmt_weekday_monday(
         output,
@@ -161,10 +174,8 @@ fn write_ordinal<V: ComponentProvider>(
     requires supplied { IsTrue V.SUPPLIES_DATE }
     requires room { HasRoom output.old (3 + length separator.now) }
     requires agrees { V.agrees state.old value.now }
-    ensures writes { IfSome (V.facts value.now).date
-        (λ d. Writes output.old output.new result (separator.now ++ zero_padded 3 d.ordinal)) }
-    ensures within { vec_len output.new ≤ vec_len output.old + (3 + length separator.now) }
-    ensures capacity { vec_capacity output.new ≡ vec_capacity output.old }
+    ensures writes { WritesUpTo (3 + length separator.now) output.old output.new result
+        (separator.now ++ zero_padded 3 (the_date (V.facts value.now)).ordinal) }
     ensures agrees { V.agrees state.new value.now }
 {
     let dash = write(output, separator);
@@ -176,9 +187,7 @@ fn write_ordinal<V: ComponentProvider>(
 #[tactic(auto, using(crate::proofs::IsoWriteLemmas::ordinal_lengths))]
 fn write_three_digits(output: &mut Vec<u8>, number: ru16<0, 999>) -> usize
     requires room { HasRoom output.old 3 }
-    ensures writes { Writes output.old output.new result (zero_padded 3 number) }
-    ensures count { result ≡ 3 }
-    ensures grown { vec_len output.new ≡ vec_len output.old + 3 }
+    ensures writes { WritesJust 3 output.old output.new result (zero_padded 3 number) }
 {
     format_three_digits(output, number, Padding::Zero)
 }

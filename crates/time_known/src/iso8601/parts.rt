@@ -1,17 +1,16 @@
 //! The parts of a text, one after another.
-ghost use Rattle.std.specs.Prelude.{◌≡◌, ◌+◌, ◌≤◌, IsTrue, IsUtf8, IfSome, OnOk, vec_len};
+ghost use Rattle.std.specs.Prelude.{◌≡◌, ◌+◌, IsTrue, OnOk};
+ghost use Rattle.time_below.specs.Facts.{the_date, the_time, the_offset};
 ghost use Rattle.time_below.specs.Offset.{IsOffset};
 ghost use Rattle.time_below.specs.TimeOfDay.{IsTimeOfDay};
-ghost use Rattle.time_fmt.specs.Description.{of_group};
-ghost use Rattle.time_fmt.specs.Outcome.{Appends, join};
+ghost use Rattle.time_fmt.specs.Outcome.{AppendsUpTo, join};
 ghost use Rattle.time_fmt.specs.Room.{HasRoom};
-ghost use Rattle.time_provide.specs.Real.{AreOfDate};
+ghost use Rattle.time_provide.specs.Real.{AreReal};
 ghost use Rattle.time_known.specs.Config.{groups_of};
-ghost use Rattle.time_known.specs.Groups.{are_supplied};
-ghost use Rattle.time_known.specs.Iso8601.{iso8601_outcome, iso_date, iso_time, iso_offset};
+ghost use Rattle.time_known.specs.Groups.{AreAllSupplied, are_supplied, at_groups};
+ghost use Rattle.time_known.specs.Iso8601.{iso8601_outcome, iso_date, iso_time, iso_offset, iso_of_groups};
 ghost use Rattle.time_known.specs.Iso8601Width.{iso8601_width, iso_date_width, iso_time_width, iso_offset_width};
 
-use crate::groups::Groups;
 use crate::iso8601::config::{Config, FormattedComponents};
 use crate::iso8601::date::format_date;
 use crate::iso8601::default_text::write_default;
@@ -20,9 +19,9 @@ use crate::iso8601::time::format_time;
 use time_fmt::Format;
 use time_provide::ComponentProvider;
 
-/// Appends the parts that are formatted, of a value that supplies their groups. Nothing to format is
-/// refused. The default configuration has a way of its own, but for values of which something is
-/// refused.
+// Appends the parts that are formatted, of a value that supplies their groups. Nothing to format is
+// refused. The default configuration has a way of its own, but for values of which something is
+// refused.
 #[inline(always)]
 pub(super) fn write_parts<V: ComponentProvider>(
     config: &Config,
@@ -34,17 +33,14 @@ pub(super) fn write_parts<V: ComponentProvider>(
         V.SUPPLIES_DATE V.SUPPLIES_TIME V.SUPPLIES_OFFSET) }
     requires room { HasRoom output.old (iso8601_width config.now) }
     requires agrees { V.agrees state.old value.now }
-    ensures appends { Appends output.old output.new result
+    ensures appends { AppendsUpTo (iso8601_width config.now) output.old output.new result
         (iso8601_outcome config.now (V.facts value.now)) }
     ensures real { OnOk result
         (config.now.formatted_components ≡ FormattedComponents.DateTimeOffset
-        → IfSome (V.facts value.now).date AreOfDate × IfSome (V.facts value.now).time IsTimeOfDay
-        × IfSome (V.facts value.now).offset IsOffset) }
-    ensures within { vec_len output.new ≤ vec_len output.old + iso8601_width config.now }
-    ensures text { IsUtf8 (iso8601_outcome config.now (V.facts value.now)).bytes }
+        → AreReal (V.facts value.now)) }
     ensures agrees { V.agrees state.new value.now }
 {
-    if config.is_default() && Groups::ALL.are_supplied_by::<V>() {
+    if config.is_default() {
         if let Some(count) = write_default(config, output, value, state) {
             return Ok(count);
         }
@@ -64,14 +60,11 @@ fn write_each<V: ComponentProvider>(
         V.SUPPLIES_DATE V.SUPPLIES_TIME V.SUPPLIES_OFFSET) }
     requires room { HasRoom output.old (iso8601_width config.now) }
     requires agrees { V.agrees state.old value.now }
-    ensures appends { Appends output.old output.new result
+    ensures appends { AppendsUpTo (iso8601_width config.now) output.old output.new result
         (iso8601_outcome config.now (V.facts value.now)) }
     ensures real { OnOk result
         (config.now.formatted_components ≡ FormattedComponents.DateTimeOffset
-        → IfSome (V.facts value.now).date AreOfDate × IfSome (V.facts value.now).time IsTimeOfDay
-        × IfSome (V.facts value.now).offset IsOffset) }
-    ensures within { vec_len output.new ≤ vec_len output.old + iso8601_width config.now }
-    ensures text { IsUtf8 (iso8601_outcome config.now (V.facts value.now)).bytes }
+        → AreReal (V.facts value.now)) }
     ensures agrees { V.agrees state.new value.now }
 {
     match config.formatted_components() {
@@ -92,17 +85,13 @@ fn format_date_and_time<V: ComponentProvider>(
     value: &V,
     state: &mut V::State,
 ) -> Result<usize, Format>
-    requires date { IsTrue V.SUPPLIES_DATE }
-    requires time { IsTrue V.SUPPLIES_TIME }
+    requires supplied { IsTrue V.SUPPLIES_DATE × IsTrue V.SUPPLIES_TIME }
     requires room { HasRoom output.old (iso_date_width config.now + iso_time_width config.now) }
     requires agrees { V.agrees state.old value.now }
-    ensures appends { Appends output.old output.new result
-        (join (of_group (V.facts value.now).date (iso_date config.now))
-        (of_group (V.facts value.now).time (iso_time config.now))) }
-    ensures within { vec_len output.new
-        ≤ vec_len output.old + (iso_date_width config.now + iso_time_width config.now) }
-    ensures text { IsUtf8 (join (of_group (V.facts value.now).date (iso_date config.now))
-        (of_group (V.facts value.now).time (iso_time config.now))).bytes }
+    ensures appends { AppendsUpTo (iso_date_width config.now + iso_time_width config.now)
+        output.old output.new result
+        (join (iso_date config.now (the_date (V.facts value.now)))
+        (iso_time config.now (the_time (V.facts value.now)))) }
     ensures agrees { V.agrees state.new value.now }
 {
     let date = format_date(config, output, value, state)?;
@@ -116,24 +105,15 @@ fn format_all<V: ComponentProvider>(
     value: &V,
     state: &mut V::State,
 ) -> Result<usize, Format>
-    requires date { IsTrue V.SUPPLIES_DATE }
-    requires time { IsTrue V.SUPPLIES_TIME }
-    requires offset { IsTrue V.SUPPLIES_OFFSET }
+    requires supplied { AreAllSupplied V.SUPPLIES_DATE V.SUPPLIES_TIME V.SUPPLIES_OFFSET }
     requires room { HasRoom output.old
         (iso_date_width config.now + iso_time_width config.now + iso_offset_width config.now) }
     requires agrees { V.agrees state.old value.now }
-    ensures appends { Appends output.old output.new result
-        (join (of_group (V.facts value.now).date (iso_date config.now))
-        (join (of_group (V.facts value.now).time (iso_time config.now))
-        (of_group (V.facts value.now).offset (iso_offset config.now)))) }
-    ensures real { OnOk result (IfSome (V.facts value.now).date AreOfDate
-        × IfSome (V.facts value.now).time IsTimeOfDay
-        × IfSome (V.facts value.now).offset IsOffset) }
-    ensures within { vec_len output.new ≤ vec_len output.old
-        + (iso_date_width config.now + iso_time_width config.now + iso_offset_width config.now) }
-    ensures text { IsUtf8 (join (of_group (V.facts value.now).date (iso_date config.now))
-        (join (of_group (V.facts value.now).time (iso_time config.now))
-        (of_group (V.facts value.now).offset (iso_offset config.now)))).bytes }
+    ensures appends { AppendsUpTo
+        (iso_date_width config.now + iso_time_width config.now + iso_offset_width config.now)
+        output.old output.new result
+        (at_groups (iso_of_groups config.now) (V.facts value.now)) }
+    ensures real { OnOk result (AreReal (V.facts value.now)) }
     ensures agrees { V.agrees state.new value.now }
 {
     let date = format_date(config, output, value, state)?;
@@ -147,19 +127,15 @@ fn format_time_and_offset<V: ComponentProvider>(
     value: &V,
     state: &mut V::State,
 ) -> Result<usize, Format>
-    requires time { IsTrue V.SUPPLIES_TIME }
-    requires offset { IsTrue V.SUPPLIES_OFFSET }
+    requires supplied { IsTrue V.SUPPLIES_TIME × IsTrue V.SUPPLIES_OFFSET }
     requires room { HasRoom output.old (iso_time_width config.now + iso_offset_width config.now) }
     requires agrees { V.agrees state.old value.now }
-    ensures appends { Appends output.old output.new result
-        (join (of_group (V.facts value.now).time (iso_time config.now))
-        (of_group (V.facts value.now).offset (iso_offset config.now))) }
-    ensures real { OnOk result (IfSome (V.facts value.now).time IsTimeOfDay
-        × IfSome (V.facts value.now).offset IsOffset) }
-    ensures within { vec_len output.new
-        ≤ vec_len output.old + (iso_time_width config.now + iso_offset_width config.now) }
-    ensures text { IsUtf8 (join (of_group (V.facts value.now).time (iso_time config.now))
-        (of_group (V.facts value.now).offset (iso_offset config.now))).bytes }
+    ensures appends { AppendsUpTo (iso_time_width config.now + iso_offset_width config.now)
+        output.old output.new result
+        (join (iso_time config.now (the_time (V.facts value.now)))
+        (iso_offset config.now (the_offset (V.facts value.now)))) }
+    ensures real { OnOk result (IsTimeOfDay (the_time (V.facts value.now))
+        × IsOffset (the_offset (V.facts value.now))) }
     ensures agrees { V.agrees state.new value.now }
 {
     let time = format_time(config, output, value, state)?;

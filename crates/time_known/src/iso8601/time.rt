@@ -1,18 +1,17 @@
 //! The time of day of a text of ISO 8601-1:2019, section 5.3.
-ghost use Rattle.std.specs.Prelude.{◌≡◌, ◌+◌, ◌*◌, ◌<◌, ◌≤◌, ◌++◌, codes, length, IsTrue, IfSome, vec_len, vec_capacity};
-ghost use Rattle.time_below.specs.TimeOfDay.{IsTimeOfDay};
+ghost use Rattle.std.specs.Prelude.{◌≡◌, ◌+◌, ◌*◌, ◌<◌, ◌≤◌, ◌++◌, codes, length, IsTrue};
+ghost use Rattle.time_below.specs.Facts.{the_time};
 ghost use Rattle.time_digits.specs.Digits.{zero_padded};
-ghost use Rattle.time_fmt.specs.Description.{of_group};
-ghost use Rattle.time_fmt.specs.Outcome.{Appends};
-ghost use Rattle.time_fmt.specs.Room.{HasRoom, Writes};
+ghost use Rattle.time_fmt.specs.Outcome.{AppendsUpTo};
+ghost use Rattle.time_fmt.specs.Room.{HasRoom, WritesUpTo};
+ghost use Rattle.time_provide.specs.Real.{AgreesOnTime};
 ghost use Rattle.time_known.specs.Config.{separator};
 ghost use Rattle.time_known.specs.Iso8601.{iso_time, decimal_part, units_text, nanoseconds_of_hour, nanoseconds_of_minute};
 ghost use Rattle.time_known.specs.Iso8601Width.{iso_time_width, decimal_part_width, units_width};
 ghost use Rattle.time_known.specs.WellKnown.{clock_text};
 
 use crate::iso8601::config::{Config, DecimalSign, TimePrecision};
-use crate::parts::write_clock_time;
-use crate::pieces::write_pair;
+use crate::pieces::{write_clock, write_pair};
 use time_digits::ru8;
 use time_fmt::Format;
 use time_fmt::writers::{format_decimals, write, write_if};
@@ -37,11 +36,9 @@ pub fn format_time<V: ComponentProvider>(
     requires supplied { IsTrue V.SUPPLIES_TIME }
     requires room { HasRoom output.old (iso_time_width config.now) }
     requires agrees { V.agrees state.old value.now }
-    ensures appends { Appends output.old output.new result
-        (of_group (V.facts value.now).time (iso_time config.now)) }
-    ensures real { IfSome (V.facts value.now).time IsTimeOfDay }
-    ensures within { vec_len output.new ≤ vec_len output.old + iso_time_width config.now }
-    ensures agrees { V.agrees state.new value.now }
+    ensures appends { AppendsUpTo (iso_time_width config.now) output.old output.new result
+        (iso_time config.now (the_time (V.facts value.now))) }
+    ensures agrees { AgreesOnTime (V.agrees state.new value.now) (V.facts value.now) }
 {
     let letter = write_if(output, config.has_time_letter(), "T");
     Ok(letter + write_units(config, output, value, state))
@@ -57,13 +54,10 @@ fn write_units<V: ComponentProvider>(
     requires supplied { IsTrue V.SUPPLIES_TIME }
     requires room { HasRoom output.old (units_width config.now.time_precision config.now) }
     requires agrees { V.agrees state.old value.now }
-    ensures writes { IfSome (V.facts value.now).time
-        (λ t. Writes output.old output.new result
-        (units_text config.now.time_precision config.now t)) }
-    ensures real { IfSome (V.facts value.now).time IsTimeOfDay }
-    ensures within { vec_len output.new
-        ≤ vec_len output.old + units_width config.now.time_precision config.now }
-    ensures agrees { V.agrees state.new value.now }
+    ensures writes { WritesUpTo (units_width config.now.time_precision config.now)
+        output.old output.new result
+        (units_text config.now.time_precision config.now (the_time (V.facts value.now))) }
+    ensures agrees { AgreesOnTime (V.agrees state.new value.now) (V.facts value.now) }
 {
     match config.time_precision() {
         TimePrecision::Hour { decimal_digits } => {
@@ -90,15 +84,11 @@ fn write_to_hour<V: ComponentProvider>(
     requires supplied { IsTrue V.SUPPLIES_TIME }
     requires room { HasRoom output.old (2 + decimal_part_width decimal_digits) }
     requires agrees { V.agrees state.old value.now }
-    ensures writes { IfSome (V.facts value.now).time
-        (λ t. Writes output.old output.new result
-        (zero_padded 2 t.hour
+    ensures writes { WritesUpTo (2 + decimal_part_width decimal_digits) output.old output.new result
+        (zero_padded 2 (the_time (V.facts value.now)).hour
         ++ decimal_part config.now.decimal_sign decimal_digits
-        (nanoseconds_of_hour t) NANOSECONDS_PER_HOUR)) }
-    ensures real { IfSome (V.facts value.now).time IsTimeOfDay }
-    ensures within { vec_len output.new
-        ≤ vec_len output.old + (2 + decimal_part_width decimal_digits) }
-    ensures agrees { V.agrees state.new value.now }
+        (nanoseconds_of_hour (the_time (V.facts value.now))) NANOSECONDS_PER_HOUR) }
+    ensures agrees { AgreesOnTime (V.agrees state.new value.now) (V.facts value.now) }
 {
     let hour = write_pair(output, value.hour(state).expand());
     let rest = nanoseconds_of_hour(value, state);
@@ -119,16 +109,14 @@ fn write_to_minute<V: ComponentProvider>(
     requires room { HasRoom output.old
         (4 + length (separator config.now (codes ":")) + decimal_part_width decimal_digits) }
     requires agrees { V.agrees state.old value.now }
-    ensures writes { IfSome (V.facts value.now).time
-        (λ t. Writes output.old output.new result
-        (zero_padded 2 t.hour ++ separator config.now (codes ":") ++ zero_padded 2 t.minute
+    ensures writes { WritesUpTo
+        (4 + length (separator config.now (codes ":")) + decimal_part_width decimal_digits)
+        output.old output.new result
+        (zero_padded 2 (the_time (V.facts value.now)).hour ++ separator config.now (codes ":")
+        ++ zero_padded 2 (the_time (V.facts value.now)).minute
         ++ decimal_part config.now.decimal_sign decimal_digits
-        (nanoseconds_of_minute t) NANOSECONDS_PER_MINUTE)) }
-    ensures real { IfSome (V.facts value.now).time IsTimeOfDay }
-    ensures within { vec_len output.new
-        ≤ vec_len output.old
-        + (4 + length (separator config.now (codes ":")) + decimal_part_width decimal_digits) }
-    ensures agrees { V.agrees state.new value.now }
+        (nanoseconds_of_minute (the_time (V.facts value.now))) NANOSECONDS_PER_MINUTE) }
+    ensures agrees { AgreesOnTime (V.agrees state.new value.now) (V.facts value.now) }
 {
     let hour = write_pair(output, value.hour(state).expand());
     let colon = write(output, config.separator(":"));
@@ -152,17 +140,15 @@ fn write_to_second<V: ComponentProvider>(
     requires room { HasRoom output.old
         (6 + 2 * length (separator config.now (codes ":")) + decimal_part_width decimal_digits) }
     requires agrees { V.agrees state.old value.now }
-    ensures writes { IfSome (V.facts value.now).time
-        (λ t. Writes output.old output.new result (clock_text (separator config.now (codes ":")) t
+    ensures writes { WritesUpTo
+        (6 + 2 * length (separator config.now (codes ":")) + decimal_part_width decimal_digits)
+        output.old output.new result
+        (clock_text (separator config.now (codes ":")) (the_time (V.facts value.now))
         ++ decimal_part config.now.decimal_sign decimal_digits
-        t.nanosecond NANOSECONDS_PER_SECOND)) }
-    ensures real { IfSome (V.facts value.now).time IsTimeOfDay }
-    ensures within { vec_len output.new
-        ≤ vec_len output.old
-        + (6 + 2 * length (separator config.now (codes ":")) + decimal_part_width decimal_digits) }
-    ensures agrees { V.agrees state.new value.now }
+        (the_time (V.facts value.now)).nanosecond NANOSECONDS_PER_SECOND) }
+    ensures agrees { AgreesOnTime (V.agrees state.new value.now) (V.facts value.now) }
 {
-    let clock = write_clock_time(output, value, state, config.separator(":"));
+    let clock = write_clock(output, value, state, config.separator(":"));
     let rest = u64::from(value.nanosecond(state).get());
     let sign = config.decimal_sign();
     clock + write_decimals(output, rest, NANOSECONDS_PER_SECOND, sign, decimal_digits)
@@ -172,7 +158,7 @@ fn write_to_second<V: ComponentProvider>(
 fn nanoseconds_of_hour<V: ComponentProvider>(value: &V, state: &mut V::State) -> u64
     requires supplied { IsTrue V.SUPPLIES_TIME }
     requires agrees { V.agrees state.old value.now }
-    ensures value { IfSome (V.facts value.now).time (λ t. result ≡ nanoseconds_of_hour t) }
+    ensures value { result ≡ nanoseconds_of_hour (the_time (V.facts value.now)) }
     ensures range { result < NANOSECONDS_PER_HOUR }
     ensures agrees { V.agrees state.new value.now }
 {
@@ -184,7 +170,7 @@ fn nanoseconds_of_hour<V: ComponentProvider>(value: &V, state: &mut V::State) ->
 fn nanoseconds_of_minute<V: ComponentProvider>(value: &V, state: &mut V::State) -> u64
     requires supplied { IsTrue V.SUPPLIES_TIME }
     requires agrees { V.agrees state.old value.now }
-    ensures value { IfSome (V.facts value.now).time (λ t. result ≡ nanoseconds_of_minute t) }
+    ensures value { result ≡ nanoseconds_of_minute (the_time (V.facts value.now)) }
     ensures range { result < NANOSECONDS_PER_MINUTE }
     ensures agrees { V.agrees state.new value.now }
 {
@@ -205,9 +191,8 @@ fn write_decimals(
     requires part { rest < unit }
     requires unit { unit ≤ NANOSECONDS_PER_HOUR }
     requires room { HasRoom output.old (decimal_part_width decimal_digits) }
-    ensures writes { Writes output.old output.new result
+    ensures writes { WritesUpTo (decimal_part_width decimal_digits) output.old output.new result
         (decimal_part decimal_sign decimal_digits rest unit) }
-    ensures within { vec_len output.new ≤ vec_len output.old + decimal_part_width decimal_digits }
 {
     let Some(digits) = decimal_digits else {
         return 0;

@@ -7,8 +7,8 @@ use crate::iso8601::config::{
 };
 use time_digits::ru8;
 
-/// The width of the parts that are formatted. That of the default configuration, which most callers
-/// ask for, is not computed.
+// The width of the parts that are formatted. That of the default configuration, which most callers
+// ask for, is not computed.
 pub(super) fn width(config: &Config) -> usize
     ensures { result ≡ iso8601_width config.now }
 {

@@ -37,12 +37,12 @@ impl ComponentProvider for Date {
     const SUPPLIES_TIMESTAMP: bool = false;
 
     fn day(&self, state: &mut DateState) -> Day {
-        let _is_date = (*self).ordinal();
+        let _in_range = (*self).ordinal();
         state.day(*self)
     }
 
     fn month(&self, state: &mut DateState) -> Month {
-        let _is_date = (*self).ordinal();
+        let _in_range = (*self).ordinal();
         state.month(*self)
     }
 
@@ -51,22 +51,22 @@ impl ComponentProvider for Date {
     }
 
     fn weekday(&self, _state: &mut DateState) -> Weekday {
-        let _is_date = (*self).ordinal();
+        let _in_range = (*self).ordinal();
         (*self).weekday()
     }
 
     fn iso_week_number(&self, state: &mut DateState) -> IsoWeekNumber {
-        let _is_date = (*self).ordinal();
+        let _in_range = (*self).ordinal();
         state.iso_week(*self)
     }
 
     fn monday_based_week(&self, _state: &mut DateState) -> MondayBasedWeek {
-        let _is_date = (*self).ordinal();
+        let _in_range = (*self).ordinal();
         ru8::within((*self).monday_based_week())
     }
 
     fn sunday_based_week(&self, _state: &mut DateState) -> SundayBasedWeek {
-        let _is_date = (*self).ordinal();
+        let _in_range = (*self).ordinal();
         ru8::within((*self).sunday_based_week())
     }
 
@@ -75,7 +75,7 @@ impl ComponentProvider for Date {
     }
 
     fn iso_year(&self, state: &mut DateState) -> Year {
-        let _is_date = (*self).ordinal();
+        let _in_range = (*self).ordinal();
         state.iso_year(*self)
     }
 

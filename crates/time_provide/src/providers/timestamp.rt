@@ -126,7 +126,7 @@ impl ComponentProvider for Timestamp {
     }
 
     fn unix_timestamp_milliseconds(&self, _state: &mut TimestampState) -> i64 {
-        let _is_moment = self.as_seconds();
+        let _in_range = self.as_seconds();
         self.as_milliseconds()
     }
 

@@ -119,12 +119,12 @@ impl ComponentProvider for UtcOffset {
     }
 
     fn offset_is_negative(&self, _state: &mut ()) -> bool {
-        let _is_offset = self.as_hms();
+        let _in_range = self.as_hms();
         self.is_negative()
     }
 
     fn offset_is_utc(&self, _state: &mut ()) -> bool {
-        let _is_offset = self.as_hms();
+        let _in_range = self.as_hms();
         self.is_utc()
     }
 

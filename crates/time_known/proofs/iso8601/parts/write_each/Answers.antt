@@ -1,7 +1,8 @@
 use Rattle.std.proofs.Common.{◌≡◌, true, sym, ◌∙◌}
+use Rattle.time_known.specs.Config.{groups_of}
+use Rattle.time_known.specs.Groups.{has_groups}
 use Rattle.time_known.specs.declared.iso8601.config.FormattedComponents.TheVariants as components
-use Rattle.time_known.proofs.GuaranteeLemmas.{utf8_of_parts, same_utf8, iso_date_utf8, iso_time_utf8, iso_offset_utf8}
-use Rattle.time_known.proofs.IsoGroupLemmas.{has_groups, date_and_time, all_parts}
+use Rattle.time_known.proofs.IsoGroupLemmas.{by_choice, date_and_time, all_parts}
 use Rattle.time_known.proofs.iso8601.parts.write_each.Goals as goal
 
 pub returns-in-DateTime-clause-appends : goal.returns-in-DateTime-clause-appends
@@ -10,10 +11,11 @@ returns-in-DateTime-clause-appends g c =
     let choices = c.args.config.now in
     let f = g.V.ComponentProvider.facts value in
     let law = g.met.V.ComponentProvider in
-    let yes : has_groups choices.formatted_components f ≡ true =
+    let chosen = sym c.formatted_components.ensures ∙ c.in-DateTime.is in
+    let there : has_groups (groups_of choices.formatted_components) f ≡ true =
     rw (law.supplies_date value, law.supplies_time value, law.supplies_offset value) c.requires.supplied in
-    rw (date_and_time choices f (sym c.formatted_components.ensures ∙ c.in-DateTime.is) yes)
-    c.format_date_and_time.ensures.appends
+    by_choice choices f components.DateTime chosen
+    (rw (date_and_time choices f chosen there) c.format_date_and_time.ensures.appends)
 
 pub returns-in-DateTimeOffset-clause-appends : goal.returns-in-DateTimeOffset-clause-appends
 returns-in-DateTimeOffset-clause-appends g c =
@@ -21,38 +23,8 @@ returns-in-DateTimeOffset-clause-appends g c =
     let choices = c.args.config.now in
     let f = g.V.ComponentProvider.facts value in
     let law = g.met.V.ComponentProvider in
-    let yes : has_groups choices.formatted_components f ≡ true =
+    let chosen = sym c.formatted_components.ensures ∙ c.in-DateTimeOffset.is in
+    let there : has_groups (groups_of choices.formatted_components) f ≡ true =
     rw (law.supplies_date value, law.supplies_time value, law.supplies_offset value) c.requires.supplied in
-    rw (all_parts choices f (sym c.formatted_components.ensures ∙ c.in-DateTimeOffset.is) yes)
-    c.format_all.ensures.appends
-
-pub returns-in-Date-clause-text : goal.returns-in-Date-clause-text
-returns-in-Date-clause-text g c =
-    let choices = c.args.config.now in
-    let f = g.V.ComponentProvider.facts c.args.value.now in
-    utf8_of_parts components.Date choices f (sym c.formatted_components.ensures ∙ c.in-Date.is)
-    (iso_date_utf8 choices f.date c.format_date.ensures.real)
-
-pub returns-in-Time-clause-text : goal.returns-in-Time-clause-text
-returns-in-Time-clause-text g c =
-    let choices = c.args.config.now in
-    let f = g.V.ComponentProvider.facts c.args.value.now in
-    utf8_of_parts components.Time choices f (sym c.formatted_components.ensures ∙ c.in-Time.is)
-    (iso_time_utf8 choices f.time c.format_time.ensures.real)
-
-pub returns-in-Offset-clause-text : goal.returns-in-Offset-clause-text
-returns-in-Offset-clause-text g c =
-    let choices = c.args.config.now in
-    let f = g.V.ComponentProvider.facts c.args.value.now in
-    utf8_of_parts components.Offset choices f (sym c.formatted_components.ensures ∙ c.in-Offset.is)
-    (iso_offset_utf8 choices f.offset c.format_offset.ensures.real)
-
-pub returns-in-DateTimeOffset-clause-text : goal.returns-in-DateTimeOffset-clause-text
-returns-in-DateTimeOffset-clause-text g c =
-    let value = c.args.value.now in
-    let choices = c.args.config.now in
-    let f = g.V.ComponentProvider.facts value in
-    let law = g.met.V.ComponentProvider in
-    let yes : has_groups choices.formatted_components f ≡ true =
-    rw (law.supplies_date value, law.supplies_time value, law.supplies_offset value) c.requires.supplied in
-    same_utf8 _ _ (all_parts choices f (sym c.formatted_components.ensures ∙ c.in-DateTimeOffset.is) yes) c.format_all.ensures.text
+    by_choice choices f components.DateTimeOffset chosen
+    (rw (all_parts choices f chosen there) c.format_all.ensures.appends)

@@ -1,0 +1,46 @@
+#!/usr/bin/env python3
+"""Compares the tables of `docs/COMPONENTS.md` with the rows that a test formats, and tells what differs.
+
+Each row has a component by its name, all its choices by name and value, its width and its example.
+"""
+
+import pathlib
+import re
+import sys
+
+TOP = pathlib.Path(__file__).resolve().parent.parent
+ROW = re.compile(r"^\| `(\w+)` \| (.*?) \| .* \| (\d+) \| (-|`.*`) \|$", re.M)
+TESTED = re.compile(r"Component::(\w+)\(\s*modifier::\w+ \{(.*?)\}\s*\),\s*\"(.*?)\",\s*(\d+),?\s*\)", re.S)
+
+
+def choices(text):
+    return sorted((name, value.split("::")[-1]) for name, value in re.findall(r"(\w+): ([\w:]+)", text))
+
+
+def documented():
+    text = (TOP / "docs/COMPONENTS.md").read_text()
+    return [(name, choices(fields), "" if example == "-" else example[1:-1], width)
+            for name, fields, width, example in ROW.findall(text)]
+
+
+def tested():
+    paths = list(TOP.glob("crates/*/src/fmt/components_table.rt"))
+    return [(name, choices(fields), example, width)
+            for path in paths for name, fields, example, width in TESTED.findall(path.read_text())]
+
+
+def main():
+    rows, tests = documented(), tested()
+    for row in rows:
+        if row not in tests:
+            print(f"not tested: {row}")
+    for row in tests:
+        if row not in rows:
+            print(f"not in the table: {row}")
+    same = sorted(map(repr, rows)) == sorted(map(repr, tests))
+    print(f"{len(rows)} rows, {len(tests)} tested: {'the same' if same else 'they differ'}")
+    return 0 if same and rows else 1
+
+
+if __name__ == "__main__":
+    sys.exit(main())
