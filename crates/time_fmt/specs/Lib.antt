@@ -2,7 +2,6 @@ pub mod DateText
 pub mod Decimals
 pub mod Description
 pub mod Errors
-pub mod Examples
 pub mod Guarantee
 pub mod Laws
 pub mod Longest

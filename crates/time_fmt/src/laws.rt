@@ -5,6 +5,8 @@ ghost use Rattle.time_below.specs.Width.{component_width};
 ghost use Rattle.time_fmt.specs.Laws.{Means, EqualTreesHaveEqualOutcomes, FirstIsItsFirstItem, ListIsItsItemsInOrder, OutcomesAreAMonoid, MetadataIsACommutativeMonoid};
 ghost use Rattle.time_fmt.specs.Longest.{ReachesWidth};
 
+pub mod parts;
+
 use crate::formattable::{BorrowedItems, Formattable, OwnedItems};
 use crate::metadata::ComputeMetadata;
 use time_below::format_description::{
@@ -64,8 +66,6 @@ pub fn owned_items_mean_their_list(items: OwnedItems<'_>)
         (⟦<OwnedItems<'static> as ComputeMetadata>⟧.is_guaranteed items.entry)
         (all_of (trees (map owned_tree items.entry.0.now))) }
 {}
-
-pub mod parts;
 
 /// Two descriptions, of whichever types, whose trees are equal once bytes are read as texts and
 /// deprecated components as current ones, append the same bytes and give the same refusal.

@@ -3,7 +3,6 @@
 
 mod component;
 mod error;
-pub mod examples;
 mod formattable;
 pub mod laws;
 mod metadata;

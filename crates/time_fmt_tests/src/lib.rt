@@ -4,6 +4,7 @@
 
 #[cfg(test)]
 mod below;
+pub mod examples;
 #[cfg(test)]
 mod fmt;
 #[cfg(test)]

@@ -7,7 +7,7 @@ mod tests;
 use std::alloc::Global;
 use std::default::Default;
 use time_below::format_description::modifier::{
-    CalendarYearFullStandardRange, Day, MonthLong, Padding,
+    CalendarYearFullStandardRange, Day, MonthLong, Padding, Subsecond, SubsecondDigits,
 };
 use time_below::format_description::{BorrowedFormatItem, Component};
 use time_below::{Date, OffsetDateTime, Timestamp, UtcDateTime};
@@ -17,10 +17,25 @@ use time_fmt::{ComponentProvider, ComputeMetadata, Format, TimestampState};
 use time_known::iso8601::{Config, DecimalSign, TimePrecision};
 use time_known::{Iso8601, Rfc2822, Rfc3339, stamp_into};
 
-/// Appends a date and time such as `2026-11-22 09:55:06`, and answers the number of its bytes.
+/// Appends a date and time such as `2026-11-22 09:55:06.120`, and answers the number of its bytes.
 pub fn append_date_time(line: &mut Vec<u8>, moment: &OffsetDateTime) -> Result<usize, Format> {
+    let thousandths = Subsecond {
+        digits: SubsecondDigits::Three,
+    };
     text!(
-        YEAR, b"-", MONTH, b"-", DAY, b" ", HOUR, b":", MINUTE, b":", SECOND
+        YEAR,
+        b"-",
+        MONTH,
+        b"-",
+        DAY,
+        b" ",
+        HOUR,
+        b":",
+        MINUTE,
+        b":",
+        SECOND,
+        b".",
+        thousandths
     )
     .format_into(line, moment, &mut DateState::default())
 }

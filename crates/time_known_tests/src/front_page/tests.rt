@@ -32,7 +32,7 @@ fn assert_line(rt: &impl Abort, written: Result<usize, Format>, line: &Vec<u8>, 
 fn a_fixed_text(rt: HostRuntime) {
     let mut line = Vec::new(rt.alloc());
     let written = append_date_time(&mut line, &sunday(&rt));
-    assert_line(&rt, written, &line, "2026-11-22 09:55:06");
+    assert_line(&rt, written, &line, "2026-11-22 09:55:06.120");
 }
 
 #[test]

@@ -4,15 +4,13 @@ ghost use Rattle.std.specs.Prelude.{◌≢◌, Err};
 ghost use Rattle.time_below.specs.Facts.{facts_of_offset_date_time};
 ghost use Rattle.time_fmt.specs.declared.error.Format.TheVariants as Format;
 ghost use Rattle.time_fmt.specs.Description.{trees_outcome};
-ghost use Rattle.time_fmt.specs.Examples.{date_time_items};
+ghost use Rattle.time_fmt_tests.specs.Examples.{date_time_items};
 ghost use Rattle.time_fmt.specs.Outcome.{Adds};
 
-use crate::error::Format;
-use crate::parts::{DAY, Formattable, HOUR, MINUTE, MONTH, SECOND, YEAR};
-use crate::text;
 use std::default::Default;
 use time_below::OffsetDateTime;
-use time_provide::DateState;
+use time_fmt::Format;
+use time_fmt::parts::*;
 
 /// Appends a date and time as `1997-11-12 09:55:06`: what the list of these eleven items gives.
 ///
