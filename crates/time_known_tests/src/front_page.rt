@@ -7,7 +7,7 @@ mod tests;
 use std::alloc::Global;
 use std::default::Default;
 use time_below::format_description::modifier::{
-    CalendarYearFullStandardRange, Day, MonthLong, Padding, Subsecond, SubsecondDigits,
+    CalendarYearFullStandardRange, Day, MonthLong, Padding,
 };
 use time_below::format_description::{BorrowedFormatItem, Component};
 use time_below::{Date, OffsetDateTime, Timestamp, UtcDateTime};
@@ -17,27 +17,13 @@ use time_fmt::{ComponentProvider, ComputeMetadata, Format, TimestampState};
 use time_known::iso8601::{Config, DecimalSign, TimePrecision};
 use time_known::{Iso8601, Rfc2822, Rfc3339, stamp_into};
 
-/// Appends a date and time such as `2026-11-22 09:55:06.120`, and answers the number of its bytes.
-pub fn append_date_time(line: &mut Vec<u8>, moment: &OffsetDateTime) -> Result<usize, Format> {
-    let thousandths = Subsecond {
-        digits: SubsecondDigits::Three,
-    };
-    text!(
-        YEAR,
-        b"-",
-        MONTH,
-        b"-",
-        DAY,
-        b" ",
-        HOUR,
-        b":",
-        MINUTE,
-        b":",
-        SECOND,
-        b".",
-        thousandths
+/// Appends the time of a log line such as `09:55:06.120`, and answers the number of its bytes.
+pub fn append_log_time(line: &mut Vec<u8>, moment: &OffsetDateTime) -> Result<usize, Format> {
+    text!(HOUR, b":", MINUTE, b":", SECOND, b".", THREE_DECIMALS).format_into(
+        line,
+        moment,
+        &mut DateState::default(),
     )
-    .format_into(line, moment, &mut DateState::default())
 }
 
 /// Appends a date such as `22 November 2026`, by a list that could be made when the program runs.

@@ -1,6 +1,6 @@
 //! The texts of the front page.
 use super::{
-    append_date, append_date_time, append_entry, append_mail_date, append_milliseconds,
+    append_date, append_entry, append_log_time, append_mail_date, append_milliseconds,
     append_stamp, append_unix_time, reason, stamp_text, write_kept,
 };
 use crate::texts::{assert_same, assert_that};
@@ -31,8 +31,8 @@ fn assert_line(rt: &impl Abort, written: Result<usize, Format>, line: &Vec<u8>, 
 #[test]
 fn a_fixed_text(rt: HostRuntime) {
     let mut line = Vec::new(rt.alloc());
-    let written = append_date_time(&mut line, &sunday(&rt));
-    assert_line(&rt, written, &line, "2026-11-22 09:55:06.120");
+    let written = append_log_time(&mut line, &sunday(&rt));
+    assert_line(&rt, written, &line, "09:55:06.120");
 }
 
 #[test]
