@@ -17,10 +17,10 @@ use crate::modifier::Modifier;
 /// of them are ASCII.
 pub fn literal_means_its_bytes<const N: usize>(text: Literal<N>)
     ensures outcome { (f : Facts)
-        → ⟦<Literal<N> as Formattable>⟧.outcome_of text f ≡ done text.0 }
-    ensures width { ⟦<Literal<N> as ComputeMetadata>⟧.width_of text ≡ length text.0 }
-    ensures guarantee { ⟦<Literal<N> as ComputeMetadata>⟧.is_guaranteed text
-        ≡ list_all is_ascii text.0 }
+        → ⟦<Literal<N> as Formattable>⟧.outcome_of text.entry f ≡ done text.entry.0 }
+    ensures width { ⟦<Literal<N> as ComputeMetadata>⟧.width_of text.entry ≡ length text.entry.0 }
+    ensures guarantee { ⟦<Literal<N> as ComputeMetadata>⟧.is_guaranteed text.entry
+        ≡ list_all is_ascii text.entry.0 }
 {}
 
 /// The choices of a component have its outcome and its width, and always the guarantee.
