@@ -53,7 +53,7 @@ pub fn format_two_digits(output: &mut Vec<u8>, value: ru8<0, 99>, padding: Paddi
 }
 
 // The same apart, since most numbers have zeros in front.
-#[inline(always)]
+#[inline]
 fn write_two_rarely(output: &mut Vec<u8>, value: ru8<0, 99>, padding: Padding) -> usize
     requires room { HasRoom output.old (length (padded_text padding 2 value)) }
     ensures writes { Writes output.old output.new result (padded_text padding 2 value) }
@@ -104,7 +104,7 @@ pub fn format_four_digits(output: &mut Vec<u8>, value: ru16<0, 9_999>, padding: 
 }
 
 // The same apart, since most numbers have zeros in front.
-#[inline(always)]
+#[inline]
 fn write_four_rarely(output: &mut Vec<u8>, value: ru16<0, 9_999>, padding: Padding) -> usize
     requires room { HasRoom output.old (length (padded_text padding 4 value)) }
     ensures writes { Writes output.old output.new result (padded_text padding 4 value) }

@@ -44,7 +44,7 @@ pub fn write_bytes(output: &mut Vec<u8>, bytes: &[u8]) -> usize
 
 // Appends the bytes by the writer of long texts. (A function of its own, as each rare way is, so that the
 // place for what it answers is made ready on that way alone.)
-#[inline(always)]
+#[inline]
 fn write_long(output: &mut Vec<u8>, bytes: &[u8])
     requires room { HasRoom output.old (length bytes.now) }
     ensures appended { output.new.items ≡ output.old.items ++ bytes.now }

@@ -91,7 +91,7 @@ impl Modifier for modifier::Subsecond {
 }
 
 // Any number of decimals, apart, since few texts have another than three or as many as are needed.
-#[inline(always)]
+#[inline]
 fn write_rare_decimals(
     output: &mut Vec<u8>,
     nanosecond: Nanoseconds,
@@ -162,16 +162,18 @@ fn write_fraction(output: &mut Vec<u8>, nanosecond: Nanoseconds) -> usize
 
 // Appends the nine digits.
 #[inline(always)]
+#[tactic(auto, using(crate::proofs::DecimalLemmas::nine_digits))]
 fn write_nine_digits(output: &mut Vec<u8>, nanosecond: Nanoseconds) -> usize
     requires room { HasRoom output.old 9 }
     ensures writes { Writes output.old output.new result (fixed 9 nanosecond) }
 {
-    let [first, second, third, fourth, fifth] = subsecond_from_nanos(nanosecond);
-    output.push_reserved(first.as_bytes()[0]);
-    let sum = 1 + write_pair(output, second);
-    let sum = sum + write_pair(output, third);
-    let sum = sum + write_pair(output, fourth);
-    sum + write_pair(output, fifth)
+    let number = nanosecond.get();
+    let first_five = number / 10_000;
+    let first = format_single_digit(output, ru8::new((first_five / 10_000) as u8).unwrap());
+    let next = ru16::new((first_five % 10_000) as u16).unwrap();
+    let count = first + format_four_digits_pad_zero(output, next);
+    let last = ru16::new((number % 10_000) as u16).unwrap();
+    count + format_four_digits_pad_zero(output, last)
 }
 
 // Appends the nine digits without the zeros at their end, at least one digit.

@@ -202,7 +202,7 @@ fn write_extended_year(
 }
 
 // Any year, apart.
-#[inline(always)]
+#[inline]
 fn write_rare_year(
     output: &mut Vec<u8>,
     year: Year,
