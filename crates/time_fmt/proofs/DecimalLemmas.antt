@@ -13,7 +13,7 @@ use Rattle.time_digits.specs.Fraction.{trimmed_fraction, last_zeros}
 use Rattle.time_digits.proofs.FractionLemmas.{last_of_nine, length-trimmed_fraction, trimmed_fraction-take}
 use Rattle.time_digits.proofs.WordLemmas.{digits_of_word}
 use Rattle.time_fmt.specs.Text.{subsecond_text}
-use Rattle.time_fmt.proofs.NumberLemmas.{two_zeros, six_zeros}
+use Rattle.time_fmt.proofs.NumberLemmas.{two_zeros, four_zeros, six_zeros}
 
 -- the first bytes of two texts are those of the first
 take_front : (xs ys : List ℕ) (k : ℕ) → length xs ≡ k → take k (xs ++ ys) ≡ xs
@@ -52,6 +52,19 @@ pub nine_decimals : (n : ℕ) → take 9 (fixed 9 n) ≡ fixed 9 n
 nine_decimals n = take_all 9 (fixed 9 n) (omega (arith, length-fixed 9 n))
 
 pub ruleset first_decimals = (one_decimal, two_decimals, three_decimals, four_decimals, five_decimals, six_decimals, seven_decimals, eight_decimals, nine_decimals, length-fixed)
+
+-- nine digits by the first, the next four and the last four
+pub nine_parts : (n : ℕ) → n < 1_000_000_000
+    → (decimal (n / 10_000 / 10_000) ++ zero_padded 4 (n / 10_000 % 10_000)) ++ zero_padded 4 (n % 10_000) ≡ fixed 9 n
+nine_parts n h =
+    let first = decimal_one (n / 10_000 / 10_000) (omega arith) in
+    let next = zero_padded_is 3 (n / 10_000 % 10_000) (omega arith) (omega arith) ∙ fixed-mod 4 (n / 10_000) in
+    let last = zero_padded_is 3 (n % 10_000) (omega arith) (omega arith) ∙ fixed-mod 4 n in
+    let five =
+    ap (λ xs. xs ++ zero_padded 4 (n / 10_000 % 10_000)) first ∙ ap (λ ys. fixed 1 (n / 10_000 / 10_000) ++ ys) next ∙ sym (fixed-append 1 4 (n / 10_000)) in
+    ap (λ xs. xs ++ zero_padded 4 (n % 10_000)) five ∙ ap (λ ys. fixed 5 (n / 10_000) ++ ys) last ∙ sym (fixed-append 5 4 n)
+
+pub ruleset nine_digits = (nine_parts, length-digit, four_zeros, length-append, append_assoc)
 
 -- a number by its first digits and its last six
 pub seven_parts : (n : ℕ) → n < 10_000_000 → decimal (n / 1_000_000) ++ zero_padded 6 (n % 1_000_000) ≡ fixed 7 n

@@ -41,9 +41,31 @@ pub(crate) fn write_common<V: ComponentProvider>(
         Component::Hour24(part) => write_unless_refused(part, output, value, state),
         Component::Minute(part) => write_unless_refused(part, output, value, state),
         Component::Second(part) => write_unless_refused(part, output, value, state),
-        Component::Subsecond(part) => write_unless_refused(part, output, value, state),
+        Component::Subsecond(part) => write_apart(part, output, value, state),
         _ => None,
     }
+}
+
+// The same of a component whose writer is long, apart from the loop.
+#[inline(never)]
+fn write_apart<M: Modifier, V: ComponentProvider>(
+    part: M,
+    output: &mut Vec<u8>,
+    value: &V,
+    state: &mut V::State,
+) -> Option<usize>
+    requires room { HasRoom output.old (component_width (M.component_of part)) }
+    requires agrees { V.agrees state.old value.now }
+    ensures appends { MatchOption result (output.new ≡ output.old)
+        (λ count. Appends output.old output.new (Ok count)
+        (component_outcome (M.component_of part) (V.facts value.now))) }
+    ensures within { vec_len output.new
+        ≤ vec_len output.old + component_width (M.component_of part) }
+    ensures real { IfSome result
+        (λ _. IsRealPart (group_of (current_component (M.component_of part))) (V.facts value.now)) }
+    ensures agrees { V.agrees state.new value.now }
+{
+    write_unless_refused(part, output, value, state)
 }
 
 // The same of any component that is not deprecated, by its own choices.

@@ -233,7 +233,6 @@ pub fn component_width(component: &Component) -> usize
 }
 
 /// The most bytes that so many decimals of a second have.
-#[inline(always)]
 pub fn subsecond_width(digits: SubsecondDigits) -> usize
     ensures { result ≡ subsecond_width digits }
 {

@@ -12,7 +12,7 @@ use crate::error::Format;
 use crate::formattable::{Formattable, make_room};
 use crate::metadata::ComputeMetadata;
 use crate::modifier::Modifier;
-use std::mem::{forget, replace};
+use crate::writers::{put_back, take_out};
 use time_below::format_description::Metadata;
 use time_provide::ComponentProvider;
 
@@ -113,10 +113,9 @@ impl<A: Formattable, B: Formattable> Formattable for (A, B) {
         if width == usize::MAX || make_room(output, width).is_err() {
             return Err(Format::OutOfMemory);
         }
-        let alloc = *output.allocator();
-        let mut taken = replace(output, Vec::new(alloc));
+        let mut taken = take_out(output);
         let written = self.write_into(&mut taken, value, state);
-        forget(replace(output, taken));
+        put_back(output, taken);
         written
     }
 }

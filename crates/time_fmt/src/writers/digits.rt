@@ -4,7 +4,7 @@ ghost use Rattle.time_digits.specs.Digits.{zero_padded};
 ghost use Rattle.time_fmt.specs.Room.{HasRoom, Writes};
 ghost use Rattle.time_fmt.specs.Text.{padded_text, sign_text};
 
-use crate::writers::plain::{write, write_if, write_many, write_pair};
+use crate::writers::plain::{put_back, take_out, write, write_many, write_pair};
 use time_below::format_description::modifier::Padding;
 use time_digits::num_fmt::{
     five_digits_zero_padded, four_digits_space_padded, four_digits_zero_padded,
@@ -21,9 +21,13 @@ pub fn fmt_sign(output: &mut Vec<u8>, is_negative: bool, sign_is_mandatory: bool
     ensures writes { Writes output.old output.new result (sign_text is_negative sign_is_mandatory) }
 {
     if is_negative {
-        write(output, "-")
+        output.push_reserved(b'-');
+        1
+    } else if sign_is_mandatory {
+        output.push_reserved(b'+');
+        1
     } else {
-        write_if(output, sign_is_mandatory, "+")
+        0
     }
 }
 
@@ -44,21 +48,34 @@ pub fn format_two_digits(output: &mut Vec<u8>, value: ru8<0, 99>, padding: Paddi
 {
     match padding {
         Padding::Zero => write_pair(output, two_digits_zero_padded(value)),
-        rare => write_two_places(output, value, rare),
+        rare => write_two_rarely(output, value, rare),
     }
 }
 
 // The same apart, since most numbers have zeros in front.
-#[inline(never)]
-fn write_two_places(output: &mut Vec<u8>, value: ru8<0, 99>, padding: Padding) -> usize
+#[inline]
+fn write_two_rarely(output: &mut Vec<u8>, value: ru8<0, 99>, padding: Padding) -> usize
     requires room { HasRoom output.old (length (padded_text padding 2 value)) }
     ensures writes { Writes output.old output.new result (padded_text padding 2 value) }
 {
-    match padding {
-        Padding::Zero => write(output, two_digits_zero_padded(value)),
-        Padding::Space => write(output, two_digits_space_padded(value)),
-        Padding::None => write(output, one_to_two_digits_no_padding(value)),
-    }
+    let (taken, count) = write_two_places(take_out(output), value, padding);
+    put_back(output, taken);
+    count
+}
+
+// The same of a vector that was taken out.
+#[inline(never)]
+fn write_two_places(output: Vec<u8>, value: ru8<0, 99>, padding: Padding) -> (Vec<u8>, usize)
+    requires room { HasRoom output (length (padded_text padding 2 value)) }
+    ensures writes { Writes output result.0 result.1 (padded_text padding 2 value) }
+{
+    let mut taken = output;
+    let count = match padding {
+        Padding::Zero => write(&mut taken, two_digits_zero_padded(value)),
+        Padding::Space => write(&mut taken, two_digits_space_padded(value)),
+        Padding::None => write(&mut taken, one_to_two_digits_no_padding(value)),
+    };
+    (taken, count)
 }
 
 /// Appends a number of at most three digits, in three places.
@@ -82,21 +99,34 @@ pub fn format_four_digits(output: &mut Vec<u8>, value: ru16<0, 9_999>, padding: 
 {
     match padding {
         Padding::Zero => format_four_digits_pad_zero(output, value),
-        rare => write_four_places(output, value, rare),
+        rare => write_four_rarely(output, value, rare),
     }
 }
 
 // The same apart, since most numbers have zeros in front.
-#[inline(never)]
-fn write_four_places(output: &mut Vec<u8>, value: ru16<0, 9_999>, padding: Padding) -> usize
+#[inline]
+fn write_four_rarely(output: &mut Vec<u8>, value: ru16<0, 9_999>, padding: Padding) -> usize
     requires room { HasRoom output.old (length (padded_text padding 4 value)) }
     ensures writes { Writes output.old output.new result (padded_text padding 4 value) }
 {
-    match padding {
-        Padding::Zero => format_four_digits_pad_zero(output, value),
-        Padding::Space => write_many(output, &four_digits_space_padded(value)),
-        Padding::None => write_many(output, &one_to_four_digits_no_padding(value)),
-    }
+    let (taken, count) = write_four_places(take_out(output), value, padding);
+    put_back(output, taken);
+    count
+}
+
+// The same of a vector that was taken out.
+#[inline(never)]
+fn write_four_places(output: Vec<u8>, value: ru16<0, 9_999>, padding: Padding) -> (Vec<u8>, usize)
+    requires room { HasRoom output (length (padded_text padding 4 value)) }
+    ensures writes { Writes output result.0 result.1 (padded_text padding 4 value) }
+{
+    let mut taken = output;
+    let count = match padding {
+        Padding::Zero => format_four_digits_pad_zero(&mut taken, value),
+        Padding::Space => write_many(&mut taken, &four_digits_space_padded(value)),
+        Padding::None => write_many(&mut taken, &one_to_four_digits_no_padding(value)),
+    };
+    (taken, count)
 }
 
 /// Appends a number in four places, with zeros in front.

@@ -1,7 +1,8 @@
 //! The decimals of the second: their texts, width and writer.
 ghost use Rattle.std.specs.Prelude.{◌≡◌, ◌<◌, length};
 ghost use Rattle.time_below.specs.declared.format_description.component.Component.TheVariants as component;
-ghost use Rattle.time_digits.specs.Digits.{fixed};
+ghost use Rattle.time_below.specs.declared.format_description.modifier.SubsecondDigits.TheVariants as SubsecondDigits;
+ghost use Rattle.time_digits.specs.Digits.{fixed, zero_padded};
 ghost use Rattle.time_digits.specs.Fraction.{trimmed_fraction};
 ghost use Rattle.time_fmt.specs.Room.{HasRoom, Writes};
 ghost use Rattle.time_fmt.specs.Text.{subsecond_text};
@@ -12,10 +13,10 @@ use crate::writers::digits::{
     format_five_digits_pad_zero, format_four_digits_pad_zero, format_single_digit,
     format_six_digits_pad_zero, format_three_digits, format_two_digits,
 };
-use crate::writers::plain::{write, write_bytes, write_many, write_pair};
+use crate::writers::plain::{put_back, take_out, write_bytes, write_many, write_pair};
 use time_below::format_description::modifier::{Padding, SubsecondDigits};
 use time_below::format_description::{modifier, subsecond_width};
-use time_digits::num_fmt::{subsecond_from_nanos, zeros_to_drop};
+use time_digits::num_fmt::{subsecond_from_nanos, three_digits_zero_padded, zeros_to_drop};
 use time_digits::{ru8, ru16, ru32};
 use time_provide::ComponentProvider;
 use time_provide::ranges::Nanoseconds;
@@ -82,10 +83,66 @@ impl Modifier for modifier::Subsecond {
         }
         let nanosecond = value.nanosecond(state);
         match self.digits {
+            SubsecondDigits::Three => Ok(write_three_decimals(output, nanosecond)),
             SubsecondDigits::OneOrMore => Ok(write_fraction(output, nanosecond)),
-            _ => Ok(fmt_subsecond(output, nanosecond, self)),
+            rare => Ok(write_rare_decimals(output, nanosecond, rare)),
         }
     }
+}
+
+// Any number of decimals, apart, since few texts have another than three or as many as are needed.
+#[inline]
+fn write_rare_decimals(
+    output: &mut Vec<u8>,
+    nanosecond: Nanoseconds,
+    digits: SubsecondDigits,
+) -> usize
+    requires room { HasRoom output.old (length (subsecond_text digits nanosecond)) }
+    ensures writes { Writes output.old output.new result (subsecond_text digits nanosecond) }
+{
+    let (taken, count) = write_decimals(take_out(output), nanosecond, digits);
+    put_back(output, taken);
+    count
+}
+
+// The same of a vector that was taken out.
+#[inline(never)]
+fn write_decimals(
+    output: Vec<u8>,
+    nanosecond: Nanoseconds,
+    digits: SubsecondDigits,
+) -> (Vec<u8>, usize)
+    requires room { HasRoom output (length (subsecond_text digits nanosecond)) }
+    ensures writes { Writes output result.0 result.1 (subsecond_text digits nanosecond) }
+{
+    let mut taken = output;
+    let count = fmt_subsecond(&mut taken, nanosecond, modifier::Subsecond { digits });
+    (taken, count)
+}
+
+// Appends the first three of the nine digits.
+#[inline(always)]
+#[tactic(auto, using(crate::proofs::DecimalLemmas::first_decimals))]
+fn write_three_decimals(output: &mut Vec<u8>, nanosecond: Nanoseconds) -> usize
+    requires room { HasRoom output.old 3 }
+    ensures writes { Writes output.old output.new result
+        (subsecond_text SubsecondDigits.Three nanosecond) }
+{
+    write_three_digits(
+        output,
+        ru16::new((nanosecond.get() / 1_000_000) as u16).unwrap(),
+    )
+}
+
+// Appends three digits.
+#[inline(always)]
+fn write_three_digits(output: &mut Vec<u8>, number: ru16<0, 999>) -> usize
+    requires room { HasRoom output.old 3 }
+    ensures writes { Writes output.old output.new result (zero_padded 3 number) }
+{
+    let [first, pair] = three_digits_zero_padded(number);
+    output.push_reserved(first.as_bytes()[0]);
+    1 + write_pair(output, pair)
 }
 
 // Appends the nine digits, and takes the zeros at their end away again, but for the first digit. There
@@ -105,16 +162,18 @@ fn write_fraction(output: &mut Vec<u8>, nanosecond: Nanoseconds) -> usize
 
 // Appends the nine digits.
 #[inline(always)]
+#[tactic(auto, using(crate::proofs::DecimalLemmas::nine_digits))]
 fn write_nine_digits(output: &mut Vec<u8>, nanosecond: Nanoseconds) -> usize
     requires room { HasRoom output.old 9 }
     ensures writes { Writes output.old output.new result (fixed 9 nanosecond) }
 {
-    let [first, second, third, fourth, fifth] = subsecond_from_nanos(nanosecond);
-    let sum = write(output, first);
-    let sum = sum + write_pair(output, second);
-    let sum = sum + write_pair(output, third);
-    let sum = sum + write_pair(output, fourth);
-    sum + write_pair(output, fifth)
+    let number = nanosecond.get();
+    let first_five = number / 10_000;
+    let first = format_single_digit(output, ru8::new((first_five / 10_000) as u8).unwrap());
+    let next = ru16::new((first_five % 10_000) as u16).unwrap();
+    let count = first + format_four_digits_pad_zero(output, next);
+    let last = ru16::new((number % 10_000) as u16).unwrap();
+    count + format_four_digits_pad_zero(output, last)
 }
 
 // Appends the nine digits without the zeros at their end, at least one digit.

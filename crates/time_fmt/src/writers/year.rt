@@ -12,7 +12,7 @@ ghost use Rattle.time_fmt.specs.Text.{padded_text};
 use crate::error::Format;
 use crate::modifier::Modifier;
 use crate::writers::digits::{fmt_sign, format_four_digits};
-use crate::writers::plain::write_many;
+use crate::writers::plain::{put_back, take_out, write_many};
 use time_below::ComponentRange;
 use time_below::format_description::modifier;
 use time_below::format_description::modifier::Padding;
@@ -198,12 +198,12 @@ fn write_extended_year(
     if !sign_is_mandatory && 0 <= number && number <= 9_999 {
         return format_four_digits(output, ru16::new(number as u16).unwrap(), padding);
     }
-    write_signed_year(output, year, padding, sign_is_mandatory)
+    write_rare_year(output, year, padding, sign_is_mandatory)
 }
 
-// Any year.
-#[inline(never)]
-fn write_signed_year(
+// Any year, apart.
+#[inline]
+fn write_rare_year(
     output: &mut Vec<u8>,
     year: Year,
     padding: Padding,
@@ -214,9 +214,28 @@ fn write_signed_year(
     ensures writes { Writes output.old output.new result
         (extended_year_text padding sign_is_mandatory year) }
 {
+    let (taken, count) = write_signed_year(take_out(output), year, padding, sign_is_mandatory);
+    put_back(output, taken);
+    count
+}
+
+// Any year, of a vector that was taken out.
+#[inline(never)]
+fn write_signed_year(
+    output: Vec<u8>,
+    year: Year,
+    padding: Padding,
+    sign_is_mandatory: bool,
+) -> (Vec<u8>, usize)
+    requires room { HasRoom output (length (extended_year_text padding sign_is_mandatory year)) }
+    ensures writes { Writes output result.0 result.1
+        (extended_year_text padding sign_is_mandatory year) }
+{
+    let mut taken = output;
     let number = year.get();
-    let sign = fmt_sign(output, number < 0, sign_is_mandatory || number > 9_999);
-    sign + write_year_digits(output, year.abs(), padding)
+    let sign = fmt_sign(&mut taken, number < 0, sign_is_mandatory || number > 9_999);
+    let count = sign + write_year_digits(&mut taken, year.abs(), padding);
+    (taken, count)
 }
 
 fn write_standard_year(
