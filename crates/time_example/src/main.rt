@@ -1,6 +1,8 @@
 //! The program of the front page: a line of a log, and a refusal taken apart.
 #![tactic(auto)]
 
+ghost use Rattle.std.specs.Prelude.{◌+◌, ◌≤◌, vec_len};
+
 use std::default::Default;
 use std::io;
 use std::io::Write;
@@ -24,7 +26,9 @@ fn moment(year: i32) -> Option<OffsetDateTime> {
 }
 
 /// Appends a line such as `2026-11-22T09:55:06.12-06:00 (Sunday, 22 November): opened`.
-fn append_line(log: &mut Vec<u8>, moment: &OffsetDateTime) -> Result<usize, Format> {
+fn append_line(log: &mut Vec<u8>, moment: &OffsetDateTime) -> Result<usize, Format>
+    ensures at_most { vec_len log.new ≤ vec_len log.old + 70 }
+{
     let stamp = text!(Rfc3339, b" (", WEEKDAY, b", ", DAY, b" ", MONTH_LONG, b")");
     text!(stamp, b": opened\n").format_into(log, moment, &mut DateState::default())
 }
