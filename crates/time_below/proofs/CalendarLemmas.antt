@@ -1,8 +1,10 @@
 -- The calendar on numbers that are not negative: years and days are counted from -999999-01-01.
-use Rattle.std.proofs.Common.{◌≡◌, ℕ, zero, suc, ◌+◌, ◌-◌, ◌*◌, ◌/◌, ◌%◌, ◌<◌, ◌≤◌, Bool, refl, sym, ap, ◌∙◌, arith, ℤ, pos, negsuc, ◌+ℤ◌, ◌-ℤ◌, ◌*ℤ◌, unsigned_abs, to_z-of_z}
+use Rattle.std.proofs.Common.{◌≡◌, ℕ, zero, suc, ◌+◌, ◌-◌, ◌*◌, ◌/◌, ◌%◌, ◌<◌, ◌≤◌, Bool, refl, sym, ap, ◌∙◌, arith, ℤ}
+use Rattle.std.proofs.Common.{pos, negsuc, ◌+ℤ◌, ◌-ℤ◌, ◌*ℤ◌, unsigned_abs, to_z-of_z}
 use Rattle.std.proofs.lemmas.Int.{ints}
 use Rattle.std.specs.Int.{int_div_euclid, int_rem_euclid}
-use Rattle.time_below.specs.Calendar.{OrdinalDate, day_number, days_in_year, weekday_of, date_at, thursday_of, days_before, greatest_year}
+use Rattle.time_below.specs.Calendar.{OrdinalDate, day_number, days_in_year, weekday_of, date_at, thursday_of}
+use Rattle.time_below.specs.Calendar.{days_before, greatest_year}
 use Rattle.time_below.specs.Moment.{utc_date, second_of_day, day_seconds, unix_day, seconds_before}
 
 -- the days of n years of the calendar that begin where 400 years begin
@@ -43,7 +45,8 @@ weekday_from_start (negsuc a) n e =
 
 -- and whole cycles of 400 years
 cycle-parts : (q : ℤ) (n : ℕ) → q +ℤ pos 1_460_970_000 ≡ pos n
-    → (int_div_euclid q (pos 146_097) +ℤ pos 10_000 ≡ pos (n / 146_097)) × (unsigned_abs (int_rem_euclid q (pos 146_097)) ≡ n % 146_097)
+    → (int_div_euclid q (pos 146_097) +ℤ pos 10_000 ≡ pos (n / 146_097))
+    × (unsigned_abs (int_rem_euclid q (pos 146_097)) ≡ n % 146_097)
 cycle-parts (pos a) n e =
     let h : n ≡ a + 1_460_970_000 = omega (arith, ints) in
     rw h (omega (arith, ints), omega arith)
@@ -70,13 +73,18 @@ pub date_at_shifted : (z : ℤ) (n : ℕ) → z +ℤ pos days_before ≡ pos n
 unfolding date_at
 date_at_shifted z n e =
     let parts = cycle-parts (pos 4 *ℤ z +ℤ pos 3) (4 * n + 3) (omega (arith, ints)) in
-    let day : 4 * (unsigned_abs (int_rem_euclid (pos 4 *ℤ z +ℤ pos 3) (pos 146_097)) / 4) + 3 ≡ (4 * n + 3) % 146_097 / 4 * 4 + 3 =
+    let day : 4 * (unsigned_abs (int_rem_euclid (pos 4 *ℤ z +ℤ pos 3) (pos 146_097)) / 4) + 3
+    ≡ (4 * n + 3) % 146_097 / 4 * 4 + 3 =
     omega arith in
     same_date _ _ _ _ (rw day (omega (arith, ints))) (rw day refl)
 
 -- the date of so many days from the start
 pub date_at_from_start : (n : ℕ)
-    → date_at (pos n -ℤ pos days_before) ≡ record { year = pos (years_at n) -ℤ pos greatest_year; ordinal = place_at n + 1 }
+    → date_at (pos n -ℤ pos days_before) ≡ record {
+      year = pos (years_at n) -ℤ pos greatest_year;
+      ordinal =
+          place_at n + 1;
+    }
 date_at_from_start n = date_at_shifted (pos n -ℤ pos days_before) n (omega (arith, ints))
 
 -- the Thursday of the week, by the days from the start

@@ -1,13 +1,18 @@
 -- The UTC date and time of a moment, and its milliseconds.
-use Rattle.std.proofs.Common.{◌≡◌, ℕ, ◌+◌, ◌*◌, ◌/◌, ◌%◌, ◌<◌, refl, sym, ap, ◌∙◌, arith, ℤ, pos, negsuc, ◌+ℤ◌, ◌-ℤ◌, ◌*ℤ◌, unsigned_abs}
+use Rattle.std.proofs.Common.{◌≡◌, ℕ, ◌+◌, ◌*◌, ◌/◌, ◌%◌, ◌<◌, refl, sym, ap, ◌∙◌, arith, ℤ, pos, negsuc, ◌+ℤ◌, ◌-ℤ◌}
+use Rattle.std.proofs.Common.{◌*ℤ◌, unsigned_abs}
 use Rattle.std.proofs.lemmas.Int.{ints}
 use Rattle.std.specs.Int.{int_div_euclid}
 use Rattle.time_below.specs.Calendar.{OrdinalDate, IsDate, IsDayNumber, day_number, date_at, days_before, days_in_all}
 use Rattle.time_below.specs.TimeOfDay.{TimeOfDay, IsTimeOfDay, seconds_from_midnight, time_at}
 use Rattle.time_below.specs.Offset.{Offset, AreOffsetParts, IsOffset, offset_seconds}
-use Rattle.time_below.specs.Moment.{Moment, DateAndTime, OffsetDateAndTime, IsMoment, IsTimestampSecond, IsNearTimestampSecond, unix_seconds, local_unix_seconds, utc_date, utc_time, utc_date_and_time, second_of_day, day_seconds, unix_day, seconds_before, seconds_in_all}
+use Rattle.time_below.specs.Moment.{Moment, DateAndTime, OffsetDateAndTime, IsMoment, IsTimestampSecond}
+use Rattle.time_below.specs.Moment.{IsNearTimestampSecond, unix_seconds, local_unix_seconds, utc_date, utc_time}
+use Rattle.time_below.specs.Moment.{utc_date_and_time, second_of_day, day_seconds, unix_day, seconds_before}
+use Rattle.time_below.specs.Moment.{seconds_in_all}
 use Rattle.time_below.proofs.CalendarLemmas.{utc_day, second_from_start}
-use Rattle.time_below.proofs.YearLemmas.{IsDayNumber-day_number, IsDate-date_at, date_at-day_number, day_number_back, days_from_start, days_before_end, is_day_number}
+use Rattle.time_below.proofs.YearLemmas.{IsDayNumber-day_number, IsDate-date_at, date_at-day_number, day_number_back}
+use Rattle.time_below.proofs.YearLemmas.{days_from_start, days_before_end, is_day_number}
 
 -- the seconds from -999999-01-01
 
@@ -90,7 +95,8 @@ parts_of k p h = (omega arith, omega arith)
 
 -- equal parts make equal times
 same_time : (h a m b s c n : ℕ) → h ≡ a → m ≡ b → s ≡ c
-    → ◌≡◌ {A = TimeOfDay} (record { hour = h; minute = m; second = s; nanosecond = n }) (record { hour = a; minute = b; second = c; nanosecond = n })
+    → ◌≡◌ {A = TimeOfDay} (record { hour = h; minute = m; second = s; nanosecond = n })
+    (record { hour = a; minute = b; second = c; nanosecond = n })
 same_time h a m b s c n hours minutes seconds = rw (hours, minutes, seconds) refl
 
 -- a time is the one so many seconds after midnight
@@ -141,8 +147,12 @@ day_back t h r =
     let shifted = unix_shifted d k p e in
     let parts = parts_of k p (within_day t.time r) in
     let same =
-    same_day (day_of_second (unix_seconds t)) d _ k (utc_day (unix_seconds t) (k * day_seconds + p) shifted) parts.0 e in
-    (ap date_at same ∙ date_at-day_number t.date h, second_from_start (unix_seconds t) (k * day_seconds + p) shifted ∙ parts.1)
+    same_day (day_of_second (unix_seconds t)) d _ k (utc_day (unix_seconds t) (k * day_seconds + p) shifted) parts.0 e
+    in (
+      ap date_at same ∙ date_at-day_number t.date h,
+      second_from_start (unix_seconds t) (k * day_seconds + p) shifted
+          ∙ parts.1,
+    )
 
 -- equal parts make equal dates with times
 same_date_and_time : (d e : OrdinalDate) (t u : TimeOfDay) → d ≡ e → t ≡ u

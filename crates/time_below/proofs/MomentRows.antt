@@ -56,16 +56,19 @@ abbrev IsLocallyAt : ℤ → OrdinalDate → TimeOfDay → Offset → Type 0
 IsLocallyAt seconds date time offset =
     local_unix_seconds (record { date = date; time = time; offset = offset }) ≡ seconds
 
-west_of_greenwich : IsLocallyAt (pos 879_350_106) (day_in (pos 1997) 316) (clock 9 55 6) (offset_of (neg_ℤ (pos 6)) (pos 0) (pos 0))
+west_of_greenwich : IsLocallyAt (pos 879_350_106) (day_in (pos 1997) 316) (clock 9 55 6)
+    (offset_of (neg_ℤ (pos 6)) (pos 0) (pos 0))
 west_of_greenwich = refl
 
 east_of_greenwich : IsLocallyAt (pos 0) (day_in (pos 1970) 1) (clock 1 30 0) (offset_of (pos 1) (pos 30) (pos 0))
 east_of_greenwich = refl
 
-past_the_last_moment : IsLocallyAt (pos 31_494_784_874_398) (day_in (pos 999_999) 365) (clock 23 59 59) (offset_of (neg_ℤ (pos 25)) (neg_ℤ (pos 59)) (neg_ℤ (pos 59)))
+past_the_last_moment : IsLocallyAt (pos 31_494_784_874_398) (day_in (pos 999_999) 365) (clock 23 59 59)
+    (offset_of (neg_ℤ (pos 25)) (neg_ℤ (pos 59)) (neg_ℤ (pos 59)))
 past_the_last_moment = refl
 
-before_the_first_moment : IsLocallyAt (neg_ℤ (pos 31_619_087_690_399)) (day_in (neg_ℤ (pos 999_999)) 1) (clock 0 0 0) (offset_of (pos 25) (pos 59) (pos 59))
+before_the_first_moment : IsLocallyAt (neg_ℤ (pos 31_619_087_690_399)) (day_in (neg_ℤ (pos 999_999)) 1) (clock 0 0 0)
+    (offset_of (pos 25) (pos 59) (pos 59))
 before_the_first_moment = refl
 
 -- the milliseconds of whole seconds and a nanosecond

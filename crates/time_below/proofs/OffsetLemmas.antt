@@ -1,5 +1,6 @@
 -- The signs of an offset's parts.
-use Rattle.std.proofs.Common.{◌≡◌, ℕ, zero, suc, ◌+◌, ◌<◌, ◌≤◌, ◌⊎◌, inl, inr, ⊎_elim, Bool, true, false, refl, sym, ap, ◌∙◌, arith}
+use Rattle.std.proofs.Common.{◌≡◌, ℕ, zero, suc, ◌+◌, ◌<◌, ◌≤◌, ◌⊎◌, inl, inr, ⊎_elim, Bool, true, false, refl, sym, ap}
+use Rattle.std.proofs.Common.{◌∙◌, arith}
 use Rattle.std.proofs.Common.{ℤ, pos, negsuc, neg_ℤ, ◌<ℤ◌, ◌≤ℤ◌, unsigned_abs}
 use Rattle.std.specs.Prelude.{int_lt, ◌||◌}
 use Rattle.std.proofs.lemmas.Bool.{cases_lt}
@@ -43,16 +44,25 @@ by_sign P lead above below at_zero =
 
 -- a part that takes the sign of another has not the other sign
 no_other_sign : (lead x : ℤ) → HasNoOtherSign lead (signed_like lead x)
-no_other_sign lead x =
-    (λ h. omega (arith, ints, like_positive lead x h), λ h. omega (arith, ints, like_negative lead x h, negated (unsigned_abs x)))
+no_other_sign lead x = (
+  λ h. omega (arith, ints, like_positive lead x h),
+  λ h. omega (
+    arith,
+    ints,
+    like_negative lead x h,
+    negated (unsigned_abs x),
+  ),
+)
 
 -- nor have two parts that take the sign of a third
 no_other_sign_among : (h m s : ℤ)
     → HasNoOtherSign (signed_like h m) (signed_like h (signed_like m s))
 no_other_sign_among h m s =
     by_sign (HasNoOtherSign (signed_like h m) (signed_like h (signed_like m s))) h
-    (λ k. both_above _ _ (unsigned_abs m) (unsigned_abs (signed_like m s)) (like_positive h m k) (like_positive h (signed_like m s) k))
-    (λ k. both_below _ _ (unsigned_abs m) (unsigned_abs (signed_like m s)) (like_negative h m k) (like_negative h (signed_like m s) k))
+    (λ k. both_above _ _ (unsigned_abs m) (unsigned_abs (signed_like m s)) (like_positive h m k)
+    (like_positive h (signed_like m s) k))
+    (λ k. both_below _ _ (unsigned_abs m) (unsigned_abs (signed_like m s)) (like_negative h m k)
+    (like_negative h (signed_like m s) k))
     (λ k. rw k (no_other_sign m s))
 
 -- a number and its negative have one size
@@ -72,8 +82,12 @@ size_kept lead x =
 IsOffset-settled : (h m s : ℤ) → AreOffsetParts h m s → IsOffset (settled h m s)
 IsOffset-settled h m s parts =
     let minutes = size_kept h m in
-    let seconds = size_kept h (signed_like m s) ∙ size_kept m s in
-    ((parts.0, omega (arith, minutes, parts.1), omega (arith, seconds, parts.2)), no_other_sign h m, no_other_sign h (signed_like m s), no_other_sign_among h m s)
+    let seconds = size_kept h (signed_like m s) ∙ size_kept m s in (
+      (parts.0, omega (arith, minutes, parts.1), omega (arith, seconds, parts.2)),
+      no_other_sign h m,
+      no_other_sign h (signed_like m s),
+      no_other_sign_among h m s,
+    )
 
 -- the same of parts that are known to be the settled ones
 pub IsOffset-parts : (h m s x y : ℤ) → x ≡ signed_like h m → y ≡ signed_like h (signed_like m s)

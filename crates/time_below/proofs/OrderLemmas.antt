@@ -1,5 +1,6 @@
 -- The order of dates and times: by their parts, as by their seconds and nanoseconds.
-use Rattle.std.proofs.Common.{◌≡◌, ℕ, zero, suc, ◌+◌, ◌-◌, ◌*◌, ◌<◌, ◌≤◌, ◌⊎◌, Bool, refl, sym, ap, ap₂, subst, ◌∙◌, arith, ⊎_elim, inl, inr}
+use Rattle.std.proofs.Common.{◌≡◌, ℕ, zero, suc, ◌+◌, ◌-◌, ◌*◌, ◌<◌, ◌≤◌, ◌⊎◌, Bool, refl, sym, ap, ap₂, subst, ◌∙◌}
+use Rattle.std.proofs.Common.{arith, ⊎_elim, inl, inr}
 use Rattle.std.proofs.Common.{ℤ, pos, ◌+ℤ◌, ◌<ℤ◌, unsigned_abs}
 use Rattle.std.specs.Prelude.{◌↔◌}
 use Rattle.std.proofs.lemmas.Int.{ints}
@@ -8,7 +9,8 @@ use Rattle.std.proofs.lemmas.Bool.Decides.{nat_tests}
 use Rattle.std.specs.declared.cmp.Ordering.{Ordering}
 use Rattle.std.specs.declared.cmp.Ordering.TheVariants.{Less, Equal, Greater}
 use Rattle.std.specs.Ordering.{nat_cmp, ordering_then}
-use Rattle.time_below.specs.Calendar.{OrdinalDate, IsDate, month_of, day_of, days_in_month, days_in_year, days_of_months, is_leap_year}
+use Rattle.time_below.specs.Calendar.{OrdinalDate, IsDate, month_of, day_of, days_in_month, days_in_year}
+use Rattle.time_below.specs.Calendar.{days_of_months, is_leap_year}
 use Rattle.time_below.specs.Moment.{DateAndTime, unix_seconds}
 use Rattle.time_below.specs.TimeOfDay.{IsTimeOfDay, seconds_from_midnight}
 use Rattle.time_below.proofs.CalendarLemmas.{days_of_years, day_number_from_start}

@@ -2,7 +2,8 @@
 use Rattle.std.proofs.Common.{◌≡◌, ap, sym, ◌∙◌, List, map, Bor}
 use Rattle.time_below.specs.Tree.{Tree, trees, all_of, borrowed_tree, borrowed_layer}
 use Rattle.time_below.specs.declared.format_description.borrowed_format_item.BorrowedFormatItem as borrowed
-use Rattle.time_below.specs.declared.format_description.borrowed_format_item.BorrowedFormatItem.TheVariants as borrowed_item
+use Rattle.time_below.specs.declared.format_description.borrowed_format_item.BorrowedFormatItem.TheVariants as
+    borrowed_item
 use Rattle.time_below.specs.declared.format_description.borrowed_format_item.BorrowedFormatItem.TheOpen as open_borrowed
 
 -- a compound of borrowed items has the list of their trees

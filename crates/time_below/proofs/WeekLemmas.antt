@@ -2,9 +2,11 @@
 use Rattle.std.proofs.Common.{◌≡◌, ℕ, ◌+◌, ◌-◌, ◌/◌, ◌%◌, ◌≤◌, sym, ap, ◌∙◌, arith, ℤ, pos, ◌+ℤ◌, ◌-ℤ◌, unsigned_abs}
 use Rattle.std.proofs.lemmas.Int.{ints}
 use Rattle.std.specs.Int.{IsInRange, int_rem_euclid}
-use Rattle.time_below.specs.Calendar.{OrdinalDate, IsDate, IsYear, IsDayNumber, day_number, weekday_of, thursday_of, iso_year_of, iso_week_of, days_before, greatest_year}
+use Rattle.time_below.specs.Calendar.{OrdinalDate, IsDate, IsYear, IsDayNumber, day_number, weekday_of, thursday_of}
+use Rattle.time_below.specs.Calendar.{iso_year_of, iso_week_of, days_before, greatest_year}
 use Rattle.time_below.proofs.CalendarLemmas.{days_of_years, day_number_from_start, weekday_from_start}
-use Rattle.time_below.proofs.YearLemmas.{years_from_start, days_from_start, days_before_end, is_day_number, IsDayNumber-day_number, IsDate-date_at, day_number_back, same_day_number}
+use Rattle.time_below.proofs.YearLemmas.{years_from_start, days_from_start, days_before_end, is_day_number}
+use Rattle.time_below.proofs.YearLemmas.{IsDayNumber-day_number, IsDate-date_at, day_number_back, same_day_number}
 
 -- the day number of the Thursday in the week of a day
 abbrev thursday_number : ℤ → ℤ

@@ -47,20 +47,30 @@ current_hour false m = component.Hour24 (record { padding = m.padding })
 
 -- the seconds or milliseconds since 1970
 abbrev pub current_unix_timestamp : UnixTimestampPrecision → UnixTimestamp → Component
-current_unix_timestamp precision.Second m = component.UnixTimestampSecond (record { sign_is_mandatory = m.sign_is_mandatory })
-current_unix_timestamp precision.Millisecond m = component.UnixTimestampMillisecond (record { sign_is_mandatory = m.sign_is_mandatory })
+current_unix_timestamp precision.Second m = component.UnixTimestampSecond
+    (record { sign_is_mandatory = m.sign_is_mandatory })
+current_unix_timestamp precision.Millisecond m = component.UnixTimestampMillisecond
+    (record { sign_is_mandatory = m.sign_is_mandatory })
 
 -- a year, of the week calendar or not: the range is that of a whole year or a century, and not of two digits
 abbrev pub current_year : Bool → YearRepr → YearRange → Year → Component
-current_year true year.Full range.Extended m = component.IsoYearFullExtendedRange (record { padding = m.padding; sign_is_mandatory = m.sign_is_mandatory })
-current_year true year.Full range.Standard m = component.IsoYearFullStandardRange (record { padding = m.padding; sign_is_mandatory = m.sign_is_mandatory })
-current_year true year.Century range.Extended m = component.IsoYearCenturyExtendedRange (record { padding = m.padding; sign_is_mandatory = m.sign_is_mandatory })
-current_year true year.Century range.Standard m = component.IsoYearCenturyStandardRange (record { padding = m.padding; sign_is_mandatory = m.sign_is_mandatory })
+current_year true year.Full range.Extended m = component.IsoYearFullExtendedRange
+    (record { padding = m.padding; sign_is_mandatory = m.sign_is_mandatory })
+current_year true year.Full range.Standard m = component.IsoYearFullStandardRange
+    (record { padding = m.padding; sign_is_mandatory = m.sign_is_mandatory })
+current_year true year.Century range.Extended m = component.IsoYearCenturyExtendedRange
+    (record { padding = m.padding; sign_is_mandatory = m.sign_is_mandatory })
+current_year true year.Century range.Standard m = component.IsoYearCenturyStandardRange
+    (record { padding = m.padding; sign_is_mandatory = m.sign_is_mandatory })
 current_year true year.LastTwo size m = component.IsoYearLastTwo (record { padding = m.padding })
-current_year false year.Full range.Extended m = component.CalendarYearFullExtendedRange (record { padding = m.padding; sign_is_mandatory = m.sign_is_mandatory })
-current_year false year.Full range.Standard m = component.CalendarYearFullStandardRange (record { padding = m.padding; sign_is_mandatory = m.sign_is_mandatory })
-current_year false year.Century range.Extended m = component.CalendarYearCenturyExtendedRange (record { padding = m.padding; sign_is_mandatory = m.sign_is_mandatory })
-current_year false year.Century range.Standard m = component.CalendarYearCenturyStandardRange (record { padding = m.padding; sign_is_mandatory = m.sign_is_mandatory })
+current_year false year.Full range.Extended m = component.CalendarYearFullExtendedRange
+    (record { padding = m.padding; sign_is_mandatory = m.sign_is_mandatory })
+current_year false year.Full range.Standard m = component.CalendarYearFullStandardRange
+    (record { padding = m.padding; sign_is_mandatory = m.sign_is_mandatory })
+current_year false year.Century range.Extended m = component.CalendarYearCenturyExtendedRange
+    (record { padding = m.padding; sign_is_mandatory = m.sign_is_mandatory })
+current_year false year.Century range.Standard m = component.CalendarYearCenturyStandardRange
+    (record { padding = m.padding; sign_is_mandatory = m.sign_is_mandatory })
 current_year false year.LastTwo size m = component.CalendarYearLastTwo (record { padding = m.padding })
 
 -- a component that is not deprecated stays as it is

@@ -1,9 +1,11 @@
 -- What the values of each type supply to a description.
 use Rattle.std.specs.Prelude.{ℕ, ℤ, pos, Option, Some, None}
-use Rattle.time_below.specs.Calendar.{OrdinalDate, month_of, day_of, weekday_of, iso_year_of, iso_week_of, monday_based_week_of, sunday_based_week_of}
+use Rattle.time_below.specs.Calendar.{OrdinalDate, month_of, day_of, weekday_of, iso_year_of, iso_week_of}
+use Rattle.time_below.specs.Calendar.{monday_based_week_of, sunday_based_week_of}
 use Rattle.time_below.specs.TimeOfDay.{TimeOfDay}
 use Rattle.time_below.specs.Offset.{Offset, utc}
-use Rattle.time_below.specs.Moment.{Moment, DateAndTime, OffsetDateAndTime, unix_seconds, local_unix_seconds, utc_date, utc_time}
+use Rattle.time_below.specs.Moment.{Moment, DateAndTime, OffsetDateAndTime, unix_seconds, local_unix_seconds, utc_date}
+use Rattle.time_below.specs.Moment.{utc_time}
 
 -- the components of a date: the weekday as days from Monday, the weeks of a year of each kind
 pub record DateFacts : Type 0 where

@@ -21,7 +21,15 @@ of_both a b = record {
 
 -- of a tree, and of several one after another
 abbrev pub tree_metadata : Tree → Metadata
-tree_metadata t = record { max_bytes_needed = min (tree_width t) greatest_usize; guaranteed_utf8 = is_guaranteed_text t }
+tree_metadata t = record {
+  max_bytes_needed = min (tree_width t) greatest_usize;
+  guaranteed_utf8 =
+      is_guaranteed_text t;
+}
 
 abbrev pub trees_metadata : Trees → Metadata
-trees_metadata ts = record { max_bytes_needed = min (trees_width ts) greatest_usize; guaranteed_utf8 = are_guaranteed_text ts }
+trees_metadata ts = record {
+  max_bytes_needed = min (trees_width ts) greatest_usize;
+  guaranteed_utf8 =
+      are_guaranteed_text ts;
+}

@@ -4,7 +4,8 @@ use Rattle.std.specs.Int.{IsInRange}
 use Rattle.time_below.specs.ComponentRange.{range_refusal, unconditional_range}
 use Rattle.time_below.specs.declared.component_range.ComponentRange.{ComponentRange}
 use Rattle.time_below.specs.declared.month.Month.{Month}
-use Rattle.time_below.specs.declared.month.Month.TheVariants.{January, February, March, April, May, June, July, August, September, October, November, December}
+use Rattle.time_below.specs.declared.month.Month.TheVariants.{January, February, March, April, May, June, July, August}
+use Rattle.time_below.specs.declared.month.Month.TheVariants.{September, October, November, December}
 
 -- the number of a month, 1 to 12
 abbrev pub month_number : Month → ℕ

@@ -2,7 +2,8 @@
 use Rattle.std.specs.Prelude.{ℕ}
 use Rattle.time_below.specs.Calendar.{from_sunday}
 use Rattle.time_below.specs.declared.weekday.Weekday.{Weekday}
-use Rattle.time_below.specs.declared.weekday.Weekday.TheVariants.{Monday, Tuesday, Wednesday, Thursday, Friday, Saturday, Sunday}
+use Rattle.time_below.specs.declared.weekday.Weekday.TheVariants.{Monday, Tuesday, Wednesday, Thursday, Friday}
+use Rattle.time_below.specs.declared.weekday.Weekday.TheVariants.{Saturday, Sunday}
 
 -- how many days after Monday, 0 to 6
 abbrev pub days_from_monday : Weekday → ℕ

@@ -12,7 +12,8 @@ use Rattle.time_below.specs.declared.format_description.modifier.UnixTimestampPr
 use Rattle.time_below.specs.declared.format_description.modifier.UnixTimestampPrecision.TheVariants as precision
 use Rattle.time_below.specs.declared.format_description.modifier.SubsecondDigits.{SubsecondDigits}
 use Rattle.time_below.specs.declared.format_description.modifier.SubsecondDigits.TheVariants as digits
-use Rattle.time_below.specs.Tree.{Tree, Trees, byte_literal, text_literal, of_component, all_of, first_of, nothing, end, more}
+use Rattle.time_below.specs.Tree.{Tree, Trees, byte_literal, text_literal, of_component, all_of, first_of, nothing, end}
+use Rattle.time_below.specs.Tree.{more}
 
 -- the decimals that are chosen, or all nine
 abbrev pub subsecond_width : SubsecondDigits → ℕ

@@ -1,7 +1,9 @@
 -- The texts of numbers: their first digits, and then their last ones.
 --
 -- A crate above finds here the lemmas on lengths too that go with these.
-use Rattle.std.proofs.Common.{◌≡◌, ℕ, zero, suc, ◌+◌, ◌-◌, ◌*◌, ◌/◌, ◌%◌, ◌^◌, ◌<◌, ◌≤◌, [], ◌∷◌, ◌++◌, length, replicate, refl, sym, ap, ap₂, ◌∙◌, arith, length-append, append_assoc, decimal, IsAscii, ⊎_elim}
+use Rattle.std.proofs.Common.{◌≡◌, ℕ, zero, suc, ◌+◌, ◌-◌, ◌*◌, ◌/◌, ◌%◌, ◌^◌, ◌<◌, ◌≤◌, [], ◌∷◌, ◌++◌, length}
+use Rattle.std.proofs.Common.{replicate, refl, sym, ap, ap₂, ◌∙◌, arith, length-append, append_assoc, decimal, IsAscii}
+use Rattle.std.proofs.Common.{⊎_elim}
 use Rattle.std.proofs.Math.Nat.{pow-suc, one-le-pow}
 use Rattle.std.proofs.Math.Arith.{mod-mul}
 use Rattle.std.proofs.lemmas.Fmt.{decimal_digit, decimal_step, decimal_step_wide, IsAscii-from_digits}
@@ -30,7 +32,8 @@ fixed-one n = refl
 pub fixed_digits : (k n : ℕ) → AllDigits 10 (fixed k n)
 unfolding fixed
 fixed_digits zero n = tt
-fixed_digits (suc k) n = digits_push 10 (fixed k (n / 10)) (48 + n % 10) (fixed_digits k (n / 10)) (omega (arith, digit_value_digit (48 + n % 10) (omega arith, omega arith)))
+fixed_digits (suc k) n = digits_push 10 (fixed k (n / 10)) (48 + n % 10) (fixed_digits k (n / 10))
+    (omega (arith, digit_value_digit (48 + n % 10) (omega arith, omega arith)))
 
 -- so the text is ASCII
 pub IsAscii-fixed : (k n : ℕ) → IsAscii (fixed k n)
@@ -82,7 +85,8 @@ unfolding padded
 padded_whole fill k n h = let e : k - length (decimal n) ≡ 0 = omega arith in rw e refl
 
 -- a number that leaves the first j places free has the padding there
-pub padded_short : (fill j k n : ℕ) → length (decimal n) ≤ k → padded fill (j + k) n ≡ replicate j fill ++ padded fill k n
+pub padded_short : (fill j k n : ℕ) → length (decimal n) ≤ k → padded fill (j + k) n ≡ replicate j fill
+    ++ padded fill k n
 unfolding padded
 padded_short fill j k n h =
     let places : (j + k) - length (decimal n) ≡ j + (k - length (decimal n)) = omega arith in
@@ -91,13 +95,16 @@ padded_short fill j k n h =
     ∙ append_assoc (replicate j fill) (replicate (k - length (decimal n)) fill) (decimal n)
 
 -- from 10 ^ k on, only what stands before the last k digits is padded
-pub padded-split : (fill j k n : ℕ) → 10 ^ k ≤ n → n < 2 ^ 64 → padded fill (j + k) n ≡ padded fill j (n / 10 ^ k) ++ fixed k n
+pub padded-split : (fill j k n : ℕ) → 10 ^ k ≤ n → n < 2 ^ 64 → padded fill (j + k) n ≡ padded fill j (n / 10 ^ k)
+    ++ fixed k n
 unfolding padded
 padded-split fill j k n low high =
     let d = decimal-split k n low high in
     let rest = decimal (n / 10 ^ k) in
-    let places : (j + k) - length (decimal n) ≡ j - length rest = omega (arith, ap length d, length-append rest (fixed k n), length-fixed k n) in
-    ap₂ (λ m bs. replicate m fill ++ bs) places d ∙ sym (append_assoc (replicate (j - length rest) fill) rest (fixed k n))
+    let places : (j + k) - length (decimal n)
+    ≡ j - length rest = omega (arith, ap length d, length-append rest (fixed k n), length-fixed k n) in
+    ap₂ (λ m bs. replicate m fill ++ bs) places d
+    ∙ sym (append_assoc (replicate (j - length rest) fill) rest (fixed k n))
 
 -- a zero more at the end is a zero more in front
 replicate-push : (k : ℕ) → replicate {A = ℕ} k 48 ++ 48 ∷ [] ≡ 48 ∷ replicate {A = ℕ} k 48

@@ -1,5 +1,6 @@
 -- Decimals without the zeros at their end.
-use Rattle.std.proofs.Common.{◌≡◌, ℕ, zero, suc, ◌+◌, ◌-◌, ◌/◌, ◌%◌, ◌≤◌, ◌==◌, ◌&&◌, true, false, List, [], ◌∷◌, ◌++◌, length, take, drop, replicate, refl, sym, ap, ◌∙◌, arith, ⊎_elim, IsAscii}
+use Rattle.std.proofs.Common.{◌≡◌, ℕ, zero, suc, ◌+◌, ◌-◌, ◌/◌, ◌%◌, ◌≤◌, ◌==◌, ◌&&◌, true, false, List, [], ◌∷◌, ◌++◌}
+use Rattle.std.proofs.Common.{length, take, drop, replicate, refl, sym, ap, ◌∙◌, arith, ⊎_elim, IsAscii}
 use Rattle.std.proofs.Common.{◌*◌, ◌^◌, ◌<◌, ap₂}
 use Rattle.std.specs.Str.Parse.{AllDigits}
 use Rattle.std.proofs.lemmas.Bool.{cases_Bool, and_parts, eqb-true}
@@ -8,9 +9,11 @@ use Rattle.std.proofs.lemmas.List.{append_cancel_right, take_at}
 use Rattle.std.proofs.lemmas.Nat.{pow-add, div-mul-add}
 use Rattle.std.proofs.Math.Nat.{one-le-pow}
 use Rattle.time_digits.specs.Digits.{fixed}
-use Rattle.time_digits.specs.Fraction.{are_zeros, without_last_zeros, trimmed, trimmed_fraction, last_zeros, IsTrimmedFraction, IsOnlyTrimmedFraction}
+use Rattle.time_digits.specs.Fraction.{are_zeros, without_last_zeros, trimmed, trimmed_fraction, last_zeros}
+use Rattle.time_digits.specs.Fraction.{IsTrimmedFraction, IsOnlyTrimmedFraction}
 use Rattle.time_digits.proofs.DigitLemmas.{fixed_digits, fixed-one, fixed-append, fixed-mod, fixed-zero}
-use Rattle.time_digits.proofs.LengthLemmas.{length-fixed, length-without_last_zeros, last_zeros-le, length-trimmed, trimmed_some}
+use Rattle.time_digits.proofs.LengthLemmas.{length-fixed, length-without_last_zeros, last_zeros-le, length-trimmed}
+use Rattle.time_digits.proofs.LengthLemmas.{trimmed_some}
 pub use Rattle.time_digits.proofs.LengthLemmas.{length-trimmed_fraction}
 
 -- ---- zeros
@@ -38,7 +41,8 @@ pub zeros_none : (d : ℕ) (ds : List ℕ) → are_zeros (d ∷ ds) ≡ true →
 zeros_none d ds e = rw e refl
 
 -- a byte stays that is not followed by zeros alone
-pub not_zeros : (d : ℕ) (ds : List ℕ) → are_zeros (d ∷ ds) ≡ false → without_last_zeros (d ∷ ds) ≡ d ∷ without_last_zeros ds
+pub not_zeros : (d : ℕ) (ds : List ℕ) → are_zeros (d ∷ ds) ≡ false → without_last_zeros (d ∷ ds)
+    ≡ d ∷ without_last_zeros ds
 not_zeros d ds e = rw e refl
 
 -- so nothing is left of zeros
@@ -59,7 +63,8 @@ filled (d ∷ ds) =
     let all : suc (length ds) - 0 ≡ suc (length ds) = omega arith in
     rw (zeros_none d ds e, all) (sym (zeros_are (d ∷ ds) e)))
     (λ (e : are_zeros (d ∷ ds) ≡ false).
-    let count : suc (length ds) - suc (length (without_last_zeros ds)) ≡ length ds - length (without_last_zeros ds) = omega arith in
+    let count : suc (length ds) - suc (length (without_last_zeros ds)) ≡ length ds - length (without_last_zeros ds) =
+    omega arith in
     rw (not_zeros d ds e, count) (ap (λ bs. d ∷ bs) (filled ds)))
     (cases_Bool (are_zeros (d ∷ ds)))
 
@@ -79,7 +84,8 @@ trimmed-append (d ∷ ds) k some = ap (λ bs. d ∷ bs) (without_last_zeros-appe
 trimmed_filled : (ds : List ℕ) → trimmed ds ++ replicate (length ds - length (trimmed ds)) 48 ≡ ds
 trimmed_filled [] = refl
 trimmed_filled (d ∷ ds) =
-    let count : suc (length ds) - suc (length (without_last_zeros ds)) ≡ length ds - length (without_last_zeros ds) = omega arith in
+    let count : suc (length ds) - suc (length (without_last_zeros ds)) ≡ length ds - length (without_last_zeros ds) =
+    omega arith in
     rw count (ap (λ bs. d ∷ bs) (filled ds))
 
 -- ---- the trimmed fraction of a number
@@ -93,7 +99,13 @@ trimmed_fraction_is n =
     let fill : trimmed ds ++ replicate (9 - length (trimmed ds)) 48 ≡ ds = rw nine at (trimmed_filled ds) in
     let digits : AllDigits 10 (trimmed ds ++ replicate (9 - length (trimmed ds)) 48) = rw fill (fixed_digits 9 n) in
     record {
-      fraction = record { digits = digits_front (trimmed ds) _ digits; some = trimmed_some ds (omega arith); most = omega (arith, length-trimmed ds); filled = fill };
+      fraction = record {
+        digits = digits_front (trimmed ds) _ digits;
+        some = trimmed_some ds (omega arith);
+        most =
+            omega (arith, length-trimmed ds);
+        filled = fill;
+      };
       shortest = λ other h.
           let same : trimmed ds ≡ trimmed other = rw h.filled at (trimmed-append other (9 - length other) h.some) in
           omega (arith, ap length same, length-trimmed other);
@@ -109,7 +121,11 @@ same_fraction n text other s t =
 
 -- so the trimmed fraction is the shortest text, and no other is
 pub only_trimmed_fraction : (n : ℕ) → IsOnlyTrimmedFraction n
-only_trimmed_fraction n = (trimmed_fraction_is n, λ text h. same_fraction n text (trimmed_fraction n) h (trimmed_fraction_is n))
+only_trimmed_fraction n = (
+  trimmed_fraction_is n,
+  λ text h. same_fraction n text (trimmed_fraction n) h
+      (trimmed_fraction_is n),
+)
 
 -- its bytes are digits, so ASCII
 pub IsAscii-trimmed_fraction : (n : ℕ) → IsAscii (trimmed_fraction n)

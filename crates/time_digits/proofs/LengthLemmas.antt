@@ -1,5 +1,6 @@
 -- How long the texts of numbers are, and that padded ones are ASCII.
-use Rattle.std.proofs.Common.{◌≡◌, ℕ, zero, suc, ◌+◌, ◌-◌, ◌*◌, ◌/◌, ◌%◌, ◌^◌, ◌<◌, ◌≤◌, List, [], ◌∷◌, length, replicate, true, false, ap, ⊎_elim, arith, length-append, decimal, IsAscii}
+use Rattle.std.proofs.Common.{◌≡◌, ℕ, zero, suc, ◌+◌, ◌-◌, ◌*◌, ◌/◌, ◌%◌, ◌^◌, ◌<◌, ◌≤◌, List, [], ◌∷◌, length}
+use Rattle.std.proofs.Common.{replicate, true, false, ap, ⊎_elim, arith, length-append, decimal, IsAscii}
 use Rattle.std.proofs.Math.Nat.{pow-suc, one-le-pow, div-le_self}
 use Rattle.std.proofs.lemmas.Bool.{cases_Bool}
 use Rattle.std.proofs.lemmas.Fmt.{decimal_digit, decimal_step, decimal_nonempty, length-decimal-le}
@@ -9,7 +10,7 @@ use Rattle.std.proofs.lemmas.Str.{IsAscii-append}
 use Rattle.std.proofs.lemmas.Str.Ascii.{IsAscii-from_all, IsAscii-nil}
 use Rattle.std.proofs.lemmas.Bool.Decides.{nat_tests}
 use Rattle.std.specs.Fmt.{digit_glyph, digits, digits_onto}
-use Rattle.std.specs.Prelude.{Bool, nat_lt, ◌==◌, ◌++◌, if◌then◌else◌}
+use Rattle.std.specs.Prelude.{Bool, nat_lt, ◌==◌, if◌then◌else◌}
 use Rattle.time_digits.specs.Digits.{fixed, padded}
 use Rattle.time_digits.specs.Fraction.{are_zeros, without_last_zeros, last_zeros, trimmed, trimmed_fraction}
 use Rattle.time_digits.proofs.DivisionLemmas.{div-ten-pow}
@@ -29,7 +30,8 @@ pub some_digit : (n : ℕ) → n < 2 ^ 64 → 1 ≤ length (decimal n)
 some_digit n fits = omega (arith, decimal_nonempty n fits)
 
 -- a number from 10 ^ k on has k digits more than its quotient by 10 ^ k
-pub length-decimal_quotient : (k n : ℕ) → 10 ^ k ≤ n → n < 2 ^ 64 → length (decimal n) ≡ length (decimal (n / 10 ^ k)) + k
+pub length-decimal_quotient : (k n : ℕ) → 10 ^ k ≤ n → n < 2 ^ 64 → length (decimal n)
+    ≡ length (decimal (n / 10 ^ k)) + k
 length-decimal_quotient zero n low fits =
     let all : n / 1 ≡ n = omega arith in
     rw all (omega arith)
@@ -43,11 +45,20 @@ length-decimal_quotient (suc k) n low fits =
 
 -- so it has more than k
 pub decimal_longer : (k n : ℕ) → 10 ^ k ≤ n → n < 2 ^ 64 → k < length (decimal n)
-decimal_longer k n low fits = omega (arith, length-decimal_quotient k n low fits, decimal_nonempty (n / 10 ^ k) (omega (arith, div-le_self n (10 ^ k))))
+decimal_longer k n low fits = omega (
+  arith,
+  length-decimal_quotient k n low fits,
+  decimal_nonempty (n / 10 ^ k) (omega (arith, div-le_self n (10 ^ k))),
+)
 
 -- from 10 ^ k on, and below the next power, it has k + 1 of them
 pub length-decimal : (k n : ℕ) → 10 ^ k ≤ n → n < 10 ^ suc k → n < 2 ^ 64 → length (decimal n) ≡ suc k
-length-decimal k n low high fits = omega (arith, decimal_longer k n low fits, length-decimal-le (suc k) n (omega arith) high fits)
+length-decimal k n low high fits = omega (
+  arith,
+  decimal_longer k n low fits,
+  length-decimal-le (suc k) n (omega arith)
+      high fits,
+)
 
 -- below 10 it has one, below 100 at most two, and so on
 pub length-digit : (n : ℕ) → n < 10 → length (decimal n) ≡ 1
@@ -100,13 +111,21 @@ pub ruleset count_facts = (length-decimal_at, length-decimal_zero)
 pub length-padded : (fill k n : ℕ) → length (decimal n) ≤ k → length (padded fill k n) ≡ k
 unfolding padded
 length-padded fill k n fits =
-    omega (arith, length-append (replicate {A = ℕ} (k - length (decimal n)) fill) (decimal n), length-replicate (k - length (decimal n)) fill)
+    omega (
+      arith,
+      length-append (replicate {A = ℕ} (k - length (decimal n)) fill) (decimal n),
+      length-replicate (k - length (decimal n)) fill,
+    )
 
 -- it is no longer than the longer of the places and the digits
 pub length-padded-le : (fill k n most : ℕ) → k ≤ most → length (decimal n) ≤ most → length (padded fill k n) ≤ most
 unfolding padded
 length-padded-le fill k n most places digits =
-    omega (arith, length-append (replicate {A = ℕ} (k - length (decimal n)) fill) (decimal n), length-replicate (k - length (decimal n)) fill)
+    omega (
+      arith,
+      length-append (replicate {A = ℕ} (k - length (decimal n)) fill) (decimal n),
+      length-replicate (k - length (decimal n)) fill,
+    )
 
 -- a digit is ASCII
 IsAscii-glyph : (d : ℕ) → d < 10 → IsAscii (digit_glyph false d ∷ [])

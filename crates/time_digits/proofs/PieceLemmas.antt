@@ -1,12 +1,16 @@
 -- Texts in pieces: what stands before the last digits, and then these.
-use Rattle.std.proofs.Common.{◌≡◌, ℕ, suc, ◌+◌, ◌-◌, ◌/◌, ◌%◌, ◌^◌, ◌<◌, ◌≤◌, List, [], ◌∷◌, ◌++◌, length, refl, sym, ap, ap₂, ◌∙◌, arith, append_assoc, get_or, decimal}
+use Rattle.std.proofs.Common.{◌≡◌, ℕ, suc, ◌+◌, ◌-◌, ◌/◌, ◌%◌, ◌^◌, ◌<◌, ◌≤◌, List, [], ◌∷◌, ◌++◌, length, refl, sym}
+use Rattle.std.proofs.Common.{ap, ap₂, ◌∙◌, arith, append_assoc, get_or, decimal}
 use Rattle.std.proofs.Math.Nat.{one-le-pow, div-le_self}
 use Rattle.std.proofs.lemmas.List.{append-nil}
 use Rattle.std.specs.Borrow.{Bor}
 use Rattle.time_digits.specs.Digits.{fixed, padded, zero_padded, space_padded}
 use Rattle.time_digits.specs.Pieces.{joined, piece_lengths}
-use Rattle.time_digits.proofs.DigitLemmas.{fixed-append, fixed-mod, decimal-split, padded_whole, padded_short, padded-split, zero_padded_is}
-use Rattle.time_digits.proofs.LengthLemmas.{some_digit, length-fixed, length-digit, decimal_longer, length-decimal_two, length-decimal_three, length-decimal_four, length-three_whole, length-four_whole, length-before_four, length-before_none, length-padded}
+use Rattle.time_digits.proofs.DigitLemmas.{fixed-append, fixed-mod, decimal-split, padded_whole, padded_short}
+use Rattle.time_digits.proofs.DigitLemmas.{padded-split, zero_padded_is}
+use Rattle.time_digits.proofs.LengthLemmas.{some_digit, length-fixed, length-digit, decimal_longer, length-decimal_two}
+use Rattle.time_digits.proofs.LengthLemmas.{length-decimal_three, length-decimal_four, length-three_whole}
+use Rattle.time_digits.proofs.LengthLemmas.{length-four_whole, length-before_four, length-before_none, length-padded}
 
 -- the last k places of n, with zeros
 last_zero_padded : (k n : ℕ) → n < 2 ^ 64 → zero_padded (suc k) (n % 10 ^ suc k) ≡ fixed (suc k) n
@@ -16,11 +20,14 @@ last_zero_padded k n h =
     zero_padded_is k (n % 10 ^ suc k) below (omega arith) ∙ fixed-mod (suc k) n
 
 -- from 10 ^ (k + 1) on, n in j + k + 1 places is its quotient in j of them, and the last ones
-split_pieces : (fill j k n : ℕ) → 10 ^ suc k ≤ n → n < 2 ^ 64 → padded fill j (n / 10 ^ suc k) ++ zero_padded (suc k) (n % 10 ^ suc k) ≡ padded fill (j + suc k) n
-split_pieces fill j k n low h = ap (λ bs. padded fill j (n / 10 ^ suc k) ++ bs) (last_zero_padded k n h) ∙ sym (padded-split fill j (suc k) n low h)
+split_pieces : (fill j k n : ℕ) → 10 ^ suc k ≤ n → n < 2 ^ 64 → padded fill j (n / 10 ^ suc k)
+    ++ zero_padded (suc k) (n % 10 ^ suc k) ≡ padded fill (j + suc k) n
+split_pieces fill j k n low h = ap (λ bs. padded fill j (n / 10 ^ suc k) ++ bs) (last_zero_padded k n h)
+    ∙ sym (padded-split fill j (suc k) n low h)
 
 -- with zeros that holds of each number that fits
-zero_pieces : (j k n : ℕ) → n / 10 ^ suc k < 10 ^ suc j → n < 10 ^ suc (j + suc k) → n < 2 ^ 64 → zero_padded (suc j) (n / 10 ^ suc k) ++ zero_padded (suc k) (n % 10 ^ suc k) ≡ zero_padded (suc (j + suc k)) n
+zero_pieces : (j k n : ℕ) → n / 10 ^ suc k < 10 ^ suc j → n < 10 ^ suc (j + suc k) → n < 2 ^ 64
+    → zero_padded (suc j) (n / 10 ^ suc k) ++ zero_padded (suc k) (n % 10 ^ suc k) ≡ zero_padded (suc (j + suc k)) n
 zero_pieces j k n below whole h =
     let one = one-le-pow (suc k) 10 (omega arith) in
     let small : n / 10 ^ suc k < 2 ^ 64 = omega (arith, div-le_self n (10 ^ suc k)) in
@@ -44,7 +51,8 @@ three_zero_padded n h =
     ended _ _ _ (rw (one_place 48 (n / 100) (omega arith)) at (zero_pieces 0 1 n (omega arith) h (omega arith)))
 
 -- with spaces it is the same from 100 on
-pub three_spaced : (n : ℕ) → 100 ≤ n → n < 1000 → decimal (n / 100) ++ (zero_padded 2 (n % 100) ++ []) ≡ space_padded 3 n
+pub three_spaced : (n : ℕ) → 100 ≤ n → n < 1000 → decimal (n / 100) ++ (zero_padded 2 (n % 100) ++ [])
+    ≡ space_padded 3 n
 three_spaced n low h =
     ended _ _ _ (rw (one_place 32 (n / 100) (omega arith)) at (split_pieces 32 1 1 n low (omega arith)))
 
@@ -59,16 +67,28 @@ pub three_whole : (n : ℕ) → 100 ≤ n → n < 2 ^ 64 → zero_padded 3 n ≡
 three_whole n low h = padded_whole 48 3 n (omega (arith, decimal_longer 2 n low h))
 
 -- for the calls of three places
-pub ruleset three_places = (three_zero_padded, three_spaced, three_spaced_low, three_whole, length-decimal_three, length-three_whole, length-decimal_two, some_digit, length-padded)
+pub ruleset three_places = (
+  three_zero_padded,
+  three_spaced,
+  three_spaced_low,
+  three_whole,
+  length-decimal_three,
+  length-three_whole,
+  length-decimal_two,
+  some_digit,
+  length-padded,
+)
 
 -- ---- four places
 
 -- a number below 10,000 with zeros: two pairs
-pub four_zero_padded : (n : ℕ) → n < 10_000 → zero_padded 2 (n / 100) ++ (zero_padded 2 (n % 100) ++ []) ≡ zero_padded 4 n
+pub four_zero_padded : (n : ℕ) → n < 10_000 → zero_padded 2 (n / 100) ++ (zero_padded 2 (n % 100) ++ [])
+    ≡ zero_padded 4 n
 four_zero_padded n h = ended _ _ _ (zero_pieces 1 1 n (omega arith) h (omega arith))
 
 -- with spaces in the first pair alone, from 100 on
-pub four_spaced : (n : ℕ) → 100 ≤ n → n < 10_000 → space_padded 2 (n / 100) ++ (zero_padded 2 (n % 100) ++ []) ≡ space_padded 4 n
+pub four_spaced : (n : ℕ) → 100 ≤ n → n < 10_000 → space_padded 2 (n / 100) ++ (zero_padded 2 (n % 100) ++ [])
+    ≡ space_padded 4 n
 four_spaced n low h = ended _ _ _ (split_pieces 32 2 1 n low (omega arith))
 
 -- and below 100 two spaces, and the last two places with spaces
@@ -82,7 +102,17 @@ pub four_whole : (n : ℕ) → 1000 ≤ n → n < 2 ^ 64 → zero_padded 4 n ≡
 four_whole n low h = padded_whole 48 4 n (omega (arith, decimal_longer 3 n low h))
 
 -- for the calls of four places
-pub ruleset four_places = (four_zero_padded, four_spaced, four_spaced_low, four_whole, length-decimal_four, length-four_whole, length-decimal_two, some_digit, length-padded)
+pub ruleset four_places = (
+  four_zero_padded,
+  four_spaced,
+  four_spaced_low,
+  four_whole,
+  length-decimal_four,
+  length-four_whole,
+  length-decimal_two,
+  some_digit,
+  length-padded,
+)
 
 -- ---- five places and more, the last four of them in two pieces
 
@@ -96,12 +126,14 @@ zero_four n h = sym (zero_padded_is 3 n h (omega arith))
 
 -- from 10,000 on the text is that of the quotient, and they
 pub five_or_six : (n : ℕ) → 10_000 ≤ n → n < 2 ^ 64 → decimal (n / 10_000) ++ fixed 4 n ≡ zero_padded 4 n
-five_or_six n low h = sym (decimal-split 4 n low h) ∙ sym (padded_whole 48 4 n (omega (arith, decimal_longer 4 n low h)))
+five_or_six n low h = sym (decimal-split 4 n low h)
+    ∙ sym (padded_whole 48 4 n (omega (arith, decimal_longer 4 n low h)))
 
 -- a number below 100,000 with zeros: its first digit, and they
 pub five_zero_padded : (n : ℕ) → n < 100_000 → decimal (n / 10_000) ++ fixed 4 n ≡ zero_padded 5 n
 five_zero_padded n h =
-    rw (four_last n (omega arith), one_place 48 (n / 10_000) (omega arith)) at (zero_pieces 0 3 n (omega arith) h (omega arith))
+    rw (four_last n (omega arith), one_place 48 (n / 10_000) (omega arith)) at
+    (zero_pieces 0 3 n (omega arith) h (omega arith))
 
 -- a number below 1,000,000 with zeros: its first pair, and they
 pub six_zero_padded : (n : ℕ) → n < 1_000_000 → zero_padded 2 (n / 10_000) ++ fixed 4 n ≡ zero_padded 6 n
@@ -114,15 +146,20 @@ nine_fixed n h = rw (zero_padded_is 4 (n / 10_000) (omega arith) (omega arith)) 
 -- ---- pieces that are taken over from another list of pieces
 
 -- two pieces of another list of two are all of it
-pub two_of : (last : List (Bor (List ℕ))) (d : Bor (List ℕ)) → piece_lengths last ≡ 2 ∷ 2 ∷ [] → (get_or last 0 d).now ++ ((get_or last 1 d).now ++ []) ≡ joined last
+pub two_of : (last : List (Bor (List ℕ))) (d : Bor (List ℕ)) → piece_lengths last ≡ 2 ∷ 2 ∷ [] → (get_or last 0 d).now
+    ++ ((get_or last 1 d).now ++ []) ≡ joined last
 two_of [] d e = cc
 two_of (x ∷ []) d e = cc
 two_of (x ∷ y ∷ []) d e = refl
 two_of (x ∷ y ∷ z ∷ more) d e = cc
 
 -- three of one list and two of another are both lists
-pub five_of : (first last : List (Bor (List ℕ))) (d : Bor (List ℕ)) → piece_lengths first ≡ 1 ∷ 2 ∷ 2 ∷ [] → piece_lengths last ≡ 2 ∷ 2 ∷ []
-    → (get_or first 0 d).now ++ ((get_or first 1 d).now ++ ((get_or first 2 d).now ++ ((get_or last 0 d).now ++ ((get_or last 1 d).now ++ [])))) ≡ joined first ++ joined last
+pub five_of : (first last : List (Bor (List ℕ))) (d : Bor (List ℕ)) → piece_lengths first ≡ 1 ∷ 2 ∷ 2 ∷ []
+    → piece_lengths last ≡ 2 ∷ 2 ∷ []
+    → (get_or first 0 d).now
+    ++ ((get_or first 1 d).now
+    ++ ((get_or first 2 d).now ++ ((get_or last 0 d).now ++ ((get_or last 1 d).now ++ [])))) ≡ joined first
+    ++ joined last
 five_of [] last d e f = cc
 five_of (x ∷ []) last d e f = cc
 five_of (x ∷ y ∷ []) last d e f = cc
@@ -130,7 +167,8 @@ five_of (x ∷ y ∷ z ∷ []) last d e f = rw (two_of last d f, append-nil, app
 five_of (x ∷ y ∷ z ∷ w ∷ more) last d e f = cc
 
 -- a piece before such two keeps its own length
-pub lengths_before : (front n : ℕ) (last : List (Bor (List ℕ))) (d : Bor (List ℕ)) → piece_lengths last ≡ 2 ∷ 2 ∷ [] → front ≡ length (decimal n) - 4
+pub lengths_before : (front n : ℕ) (last : List (Bor (List ℕ))) (d : Bor (List ℕ)) → piece_lengths last ≡ 2 ∷ 2 ∷ []
+    → front ≡ length (decimal n) - 4
     → front ∷ length (get_or last 0 d).now ∷ length (get_or last 1 d).now ∷ [] ≡ (length (decimal n) - 4) ∷ 2 ∷ 2 ∷ []
 lengths_before front n [] d e f = cc
 lengths_before front n (x ∷ []) d e f = cc
@@ -138,4 +176,21 @@ lengths_before front n (x ∷ y ∷ []) d e f = cc
 lengths_before front n (x ∷ y ∷ z ∷ more) d e f = cc
 
 -- for the calls of more places
-pub ruleset six_places = (two_of, five_of, lengths_before, four_last, zero_four, five_or_six, five_zero_padded, six_zero_padded, nine_fixed, length-before_four, length-before_none, length-fixed, length-digit, length-decimal_two, some_digit, length-padded)
+pub ruleset six_places = (
+  two_of,
+  five_of,
+  lengths_before,
+  four_last,
+  zero_four,
+  five_or_six,
+  five_zero_padded,
+  six_zero_padded,
+  nine_fixed,
+  length-before_four,
+  length-before_none,
+  length-fixed,
+  length-digit,
+  length-decimal_two,
+  some_digit,
+  length-padded,
+)

@@ -1,5 +1,7 @@
 -- A number that is written from its last digits on, so many a turn.
-use Rattle.std.proofs.Common.{◌≡◌, ℕ, zero, suc, ◌+◌, ◌-◌, ◌/◌, ◌%◌, ◌^◌, ◌<◌, ◌≤◌, ◌≢◌, List, [], ◌++◌, length, drop, refl, sym, ap, ◌∙◌, arith, append_assoc, length-append, length-drop, decimal, ⊎_elim, ◌⊎◌, inl, inr, subst}
+use Rattle.std.proofs.Common.{◌≡◌, ℕ, zero, suc, ◌+◌, ◌-◌, ◌/◌, ◌%◌, ◌^◌, ◌<◌, ◌≤◌, ◌≢◌, List, [], ◌++◌, length, drop}
+use Rattle.std.proofs.Common.{refl, sym, ap, ◌∙◌, arith, append_assoc, length-append, length-drop, decimal, ⊎_elim, ◌⊎◌}
+use Rattle.std.proofs.Common.{inl, inr, subst}
 use Rattle.std.proofs.Math.Nat.{one-le-pow, div-le_self}
 use Rattle.std.proofs.lemmas.List.{append-nil, drop_all}
 use Rattle.std.proofs.lemmas.Bool.{cases_lt}
@@ -22,12 +24,15 @@ significant_some zero some = absurd (omega arith)
 significant_some (suc n) some = refl
 
 -- from 10 ^ k on, the last k + 1 digits stand behind those of the quotient by 10 ^ (k + 1)
-significant-split : (k n : ℕ) → 10 ^ k ≤ n → n < 2 ^ 64 → significant n ≡ significant (n / 10 ^ suc k) ++ fixed (suc k) n
+significant-split : (k n : ℕ) → 10 ^ k ≤ n → n < 2 ^ 64 → significant n ≡ significant (n / 10 ^ suc k)
+    ++ fixed (suc k) n
 significant-split k n low fits =
     ⊎_elim (λ (less : n < 10 ^ suc k).
-    let none : n / 10 ^ suc k ≡ 0 = omega (arith, div_below n (10 ^ suc k) 1 (one-le-pow (suc k) 10 (omega arith)) (omega arith)) in
+    let none : n / 10 ^ suc k
+    ≡ 0 = omega (arith, div_below n (10 ^ suc k) 1 (one-le-pow (suc k) 10 (omega arith)) (omega arith)) in
     let some : 0 < n = omega (arith, one-le-pow k 10 (omega arith)) in
-    rw none (significant_some n some ∙ sym (padded_whole 48 (suc k) n (decimal_longer k n low fits)) ∙ zero_padded_is k n less fits))
+    rw none (significant_some n some ∙ sym (padded_whole 48 (suc k) n (decimal_longer k n low fits))
+    ∙ zero_padded_is k n less fits))
     (λ (more : 10 ^ suc k ≤ n).
     let some : 0 < n = omega (arith, one-le-pow (suc k) 10 (omega arith)) in
     let front : 0 < n / 10 ^ suc k = le-div 1 n (10 ^ suc k) (one-le-pow (suc k) 10 (omega arith)) (omega arith) in
@@ -35,9 +40,11 @@ significant-split k n low fits =
     (cases_lt n (10 ^ suc k))
 
 -- so there are k + 1 more of them
-length-significant : (k n : ℕ) → 10 ^ k ≤ n → n < 2 ^ 64 → length (significant n) ≡ length (significant (n / 10 ^ suc k)) + suc k
+length-significant : (k n : ℕ) → 10 ^ k ≤ n → n < 2 ^ 64 → length (significant n)
+    ≡ length (significant (n / 10 ^ suc k)) + suc k
 length-significant k n low fits =
-    ap length (significant-split k n low fits) ∙ length-append (significant (n / 10 ^ suc k)) (fixed (suc k) n) ∙ ap (λ m. length (significant (n / 10 ^ suc k)) + m) (length-fixed (suc k) n)
+    ap length (significant-split k n low fits) ∙ length-append (significant (n / 10 ^ suc k)) (fixed (suc k) n)
+    ∙ ap (λ m. length (significant (n / 10 ^ suc k)) + m) (length-fixed (suc k) n)
 
 -- a number of 64 bits has at most 20
 length-significant_word : (n : ℕ) → n < 2 ^ 64 → length (significant n) ≤ 20
@@ -58,15 +65,25 @@ pub record IsPending (value rest start : ℕ) (bytes : List ℕ) : Type 0 where
 pub nothing_written : (value : ℕ) (bytes : List ℕ) → value < 2 ^ 64 → length bytes ≡ 20 → IsPending value value 20 bytes
 nothing_written value bytes fits size =
     let none : drop 20 bytes ≡ [] = drop_all 20 bytes (omega arith) in
-    record { size = size; within = omega arith; below = omega arith; room = length-significant_word value fits; text = rw (none, append-nil) refl }
+    record {
+      size = size;
+      within = omega arith;
+      below = omega arith;
+      room = length-significant_word value fits;
+      text =
+          rw (none, append-nil) refl;
+    }
 
 -- a turn of k + 1 digits has room where there is more than k of them left
-pub places_left : (k value rest start : ℕ) (bytes : List ℕ) → IsPending value rest start bytes → 10 ^ k ≤ rest → rest < 2 ^ 64 → suc k ≤ start
+pub places_left : (k value rest start : ℕ) (bytes : List ℕ) → IsPending value rest start bytes → 10 ^ k ≤ rest
+    → rest < 2 ^ 64 → suc k ≤ start
 places_left k value rest start bytes p low fits = omega (arith, p.room, length-significant k rest low fits)
 
 -- and after it the quotient by 10 ^ (k + 1) is left
-pub more_written : (k value rest start : ℕ) (bytes after : List ℕ) → IsPending value rest start bytes → 10 ^ k ≤ rest → rest < 2 ^ 64
-    → after ≡ put (start - suc k) (suc k) bytes (fixed (suc k) (rest % 10 ^ suc k)) → IsPending value (rest / 10 ^ suc k) (start - suc k) after
+pub more_written : (k value rest start : ℕ) (bytes after : List ℕ) → IsPending value rest start bytes → 10 ^ k ≤ rest
+    → rest < 2 ^ 64
+    → after ≡ put (start - suc k) (suc k) bytes (fixed (suc k) (rest % 10 ^ suc k))
+    → IsPending value (rest / 10 ^ suc k) (start - suc k) after
 more_written k value rest start bytes after p low fits written =
     let places = places_left k value rest start bytes p low fits in
     let digits = rw fixed-mod at written in
@@ -74,22 +91,26 @@ more_written k value rest start bytes after p low fits written =
     let room : start - suc k + suc k ≤ length bytes = omega (arith, p.size, p.within) in
     let front = significant (rest / 10 ^ suc k) in
     record {
-      size = ap length digits ∙ length-put (start - suc k) (suc k) bytes (fixed (suc k) rest) room (length-fixed (suc k) rest) ∙ p.size;
+      size = ap length digits ∙ length-put (start - suc k) (suc k) bytes (fixed (suc k) rest) room
+          (length-fixed (suc k) rest) ∙ p.size;
       within = omega (arith, p.within);
       below = omega (arith, p.below, div-le_self rest (10 ^ suc k));
       room = omega (arith, p.room, length-significant k rest low fits);
       text = rw (digits, drop-put (start - suc k) (suc k) bytes (fixed (suc k) rest) (omega (arith, room)), end)
-          (sym (append_assoc front (fixed (suc k) rest) (drop start bytes)) ∙ ap (λ ds. ds ++ drop start bytes) (sym (significant-split k rest low fits)) ∙ p.text);
+          (sym (append_assoc front (fixed (suc k) rest) (drop start bytes))
+          ∙ ap (λ ds. ds ++ drop start bytes) (sym (significant-split k rest low fits)) ∙ p.text);
     }
 
 -- ---- the end
 
 -- with nothing left all is written, but for zero
-pub none_left : (value start : ℕ) (bytes : List ℕ) → IsPending value 0 start bytes → 0 < value → drop start bytes ≡ decimal value
+pub none_left : (value start : ℕ) (bytes : List ℕ) → IsPending value 0 start bytes → 0 < value → drop start bytes
+    ≡ decimal value
 none_left value start bytes p some = p.text ∙ significant_some value some
 
 -- nothing of zero is written yet
-zero_left : (value rest start : ℕ) (bytes : List ℕ) → IsPending value rest start bytes → value ≡ 0 → (start ≡ 20) × (drop start bytes ≡ [])
+zero_left : (value rest start : ℕ) (bytes : List ℕ) → IsPending value rest start bytes → value ≡ 0 → (start ≡ 20)
+    × (drop start bytes ≡ [])
 zero_left value rest start bytes p none =
     let left : rest ≡ 0 = omega (arith, p.below) in
     let nothing : drop start bytes ≡ [] = rw (left, none) at p.text in
@@ -100,22 +121,34 @@ abbrev pub IsLast : ℕ → ℕ → Type 0
 IsLast value rest = (rest ≢ 0) ⊎ ((rest ≡ 0) × (value ≡ 0))
 
 -- the last digit has room
-pub last_place : (value rest start : ℕ) (bytes : List ℕ) → IsPending value rest start bytes → rest ≤ 9 → IsLast value rest → 1 ≤ start
+pub last_place : (value rest start : ℕ) (bytes : List ℕ) → IsPending value rest start bytes → rest ≤ 9
+    → IsLast value rest → 1 ≤ start
 last_place value rest start bytes p one (inl some) = places_left 0 value rest start bytes p (omega arith) (omega arith)
 last_place value rest start bytes p one (inr none) =
     let left = zero_left value rest start bytes p none.1 in
     omega (arith, left.0)
 
 -- and with it all is written
-pub all_written : (value rest start : ℕ) (bytes after : List ℕ) → IsPending value rest start bytes → rest ≤ 9 → IsLast value rest → after ≡ put (start - 1) 1 bytes (fixed 1 rest)
+pub all_written : (value rest start : ℕ) (bytes after : List ℕ) → IsPending value rest start bytes → rest ≤ 9
+    → IsLast value rest → after ≡ put (start - 1) 1 bytes (fixed 1 rest)
     → drop (start - 1) after ≡ decimal value
 all_written value rest start bytes after p one (inl some) written =
     let digit : rest % 10 ≡ rest = omega arith in
     let last : rest / 10 ≡ 0 = omega arith in
     let P : ℕ → Type 0 = λ r. IsPending value r (start - 1) after in
-    let done : IsPending value 0 (start - 1) after = subst P last (more_written 0 value rest start bytes after p (omega arith) (omega arith) (rw (sym digit) at written)) in
+    let done : IsPending value 0 (start - 1) after =
+    subst P last (more_written 0 value rest start bytes after p (omega arith) (omega arith)
+    (rw (sym digit) at written)) in
     none_left value (start - 1) after done (omega (arith, p.below))
 all_written value rest start bytes after p one (inr none) written =
     let left = zero_left value rest start bytes p none.1 in
     let end : start - 1 + 1 ≡ start = omega (arith, left.0) in
-    rw (written, drop-put (start - 1) 1 bytes (fixed 1 rest) (omega (arith, p.size, p.within)), end, left.1, append-nil, none.1, none.0) (sym (decimal_one 0 (omega arith)))
+    rw (
+      written,
+      drop-put (start - 1) 1 bytes (fixed 1 rest) (omega (arith, p.size, p.within)),
+      end,
+      left.1,
+      append-nil,
+      none.1,
+      none.0,
+    ) (sym (decimal_one 0 (omega arith)))

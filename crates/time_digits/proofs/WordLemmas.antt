@@ -1,5 +1,6 @@
 -- Words of eight digits, and the zeros that end them.
-use Rattle.std.proofs.Common.{◌≡◌, ℕ, zero, suc, ◌+◌, ◌-◌, ◌*◌, ◌/◌, ◌^◌, ◌<◌, ◌≤◌, ◌≢◌, ◌==◌, List, [], ◌∷◌, length, get_or, refl, sym, ap, ◌∙◌, arith, true, false, ⊎_elim, w64}
+use Rattle.std.proofs.Common.{◌≡◌, ℕ, zero, suc, ◌+◌, ◌-◌, ◌*◌, ◌/◌, ◌^◌, ◌<◌, ◌≤◌, ◌≢◌, ◌==◌, List, [], ◌∷◌, length}
+use Rattle.std.proofs.Common.{get_or, refl, sym, ap, ◌∙◌, arith, true, false, ⊎_elim, w64}
 use Rattle.std.specs.Int.{to_le_bytes, from_le_bytes, leading_zeros, IsInRange}
 use Rattle.std.specs.Int.Bits.{bit_xor, xor_zero_r}
 use Rattle.std.specs.Str.Parse.{AllDigits}
@@ -32,7 +33,8 @@ values_word (d ∷ ds) = values_word ds * 256 + (d - 48)
 xor_digit : (d : ℕ) → IsInRange 48 57 d → bit_xor d 48 ≡ d - 48
 xor_digit d h =
     let e : 3 * 2 ^ 4 + (d - 48) ≡ d = omega arith in
-    let high : bit_xor (3 * 2 ^ 4 + (d - 48)) (3 * 2 ^ 4 + 0) ≡ 0 * 2 ^ 4 + bit_xor (d - 48) 0 = xor_block 4 3 3 (d - 48) 0 (omega arith) (omega arith) in
+    let high : bit_xor (3 * 2 ^ 4 + (d - 48)) (3 * 2 ^ 4 + 0) ≡ 0 * 2 ^ 4 + bit_xor (d - 48) 0 =
+    xor_block 4 3 3 (d - 48) 0 (omega arith) (omega arith) in
     omega (arith, rw (e, xor_zero_r) at high)
 
 -- the exclusive or of a word of digits with as many zeros is the word of their values
@@ -40,7 +42,9 @@ xor_digits : (ds : List ℕ) → AllDigits 10 ds → bit_xor (word_of ds) (zeros
 xor_digits [] h = refl
 xor_digits (d ∷ ds) h =
     let here = digit_from_value d h.0 in
-    let both : bit_xor (word_of ds * 2 ^ 8 + d) (zeros_word (length ds) * 2 ^ 8 + 48) ≡ bit_xor (word_of ds) (zeros_word (length ds)) * 2 ^ 8 + bit_xor d 48 = xor_block 8 (word_of ds) (zeros_word (length ds)) d 48 (omega arith) (omega arith) in
+    let both : bit_xor (word_of ds * 2 ^ 8 + d) (zeros_word (length ds) * 2 ^ 8 + 48)
+    ≡ bit_xor (word_of ds) (zeros_word (length ds)) * 2 ^ 8 + bit_xor d 48 =
+    xor_block 8 (word_of ds) (zeros_word (length ds)) d 48 (omega arith) (omega arith) in
     rw (xor_digits ds h.1, xor_digit d here) at both
 
 -- a byte more is 256 times as much
@@ -74,11 +78,13 @@ values_below [] h = omega arith
 values_below (d ∷ ds) h =
     let here = digit_from_value d h.0 in
     ⊎_elim (λ (e : are_zeros (d ∷ ds) ≡ true). rw (zeros_none d ds e) (omega (arith, values_zero (d ∷ ds) e)))
-    (λ (e : are_zeros (d ∷ ds) ≡ false). rw (not_zeros d ds e) (omega (arith, here, values_below ds h.1, pow-byte (length (without_last_zeros ds)))))
+    (λ (e : are_zeros (d ∷ ds) ≡ false).
+    rw (not_zeros d ds e) (omega (arith, here, values_below ds h.1, pow-byte (length (without_last_zeros ds)))))
     (cases_Bool (are_zeros (d ∷ ds)))
 
 -- and no fewer
-values_above : (ds : List ℕ) (m : ℕ) → AllDigits 10 ds → length (without_last_zeros ds) ≡ suc m → 2 ^ (8 * m) ≤ values_word ds
+values_above : (ds : List ℕ) (m : ℕ) → AllDigits 10 ds → length (without_last_zeros ds) ≡ suc m
+    → 2 ^ (8 * m) ≤ values_word ds
 values_above [] m h e = cc
 values_above (d ∷ ds) zero h e =
     ⊎_elim (λ (all : are_zeros (d ∷ ds) ≡ true). absurd (omega (arith, rw (zeros_none d ds all) at e)))
@@ -97,7 +103,8 @@ zero_bytes : (x m k leading bits : ℕ) → leading + bits ≡ 8 * k → m ≤ k
 zero_bytes x m k leading bits count within long short below above =
     let upper : bits ≤ 8 * m =
     ⊎_elim (λ (h : 8 * m < bits).
-    let more : 2 ^ suc (8 * m) ≤ 2 ^ bits = pow-le-pow_right {n = 2} (omega arith) {i = suc (8 * m)} {j = bits} (omega arith) in
+    let more : 2 ^ suc (8 * m) ≤ 2 ^ bits = pow-le-pow_right {n = 2} (omega arith) {i = suc (8 * m)} {j = bits}
+    (omega arith) in
     absurd (omega (arith, more, pow-suc 2 (8 * m))))
     (λ (h : bits ≤ 8 * m). h)
     (cases_lt (8 * m) bits) in
@@ -113,7 +120,8 @@ zero_bytes x m k leading bits count within long short below above =
         (cases_lt (8 * j) bits)
 
 -- so many bytes of zero bits lead the exclusive or of eight digits with eight zeros
-leading_zeros-values : (ds : List ℕ) → length ds ≡ 8 → AllDigits 10 ds → leading_zeros w64 (values_word ds) / 8 ≡ last_zeros ds
+leading_zeros-values : (ds : List ℕ) → length ds ≡ 8 → AllDigits 10 ds → leading_zeros w64 (values_word ds) / 8
+    ≡ last_zeros ds
 unfolding last_zeros
 leading_zeros-values ds eight h =
     let m = length (without_last_zeros ds) in
@@ -121,17 +129,20 @@ leading_zeros-values ds eight h =
     let below : values_word ds < 2 ^ (8 * m) = values_below ds h in
     let most : 2 ^ (8 * m) ≤ 2 ^ 64 = pow-le-pow_right {n = 2} (omega arith) {i = 8 * m} {j = 64} (omega arith) in
     let found = leading_length 64 (values_word ds) (omega (arith, below, most)) in
-    rw eight (zero_bytes (values_word ds) m 8 (leading_zeros w64 (values_word ds)) found.0 found.1 within found.2 found.3 below (λ j e. values_above ds j h e))
+    rw eight (zero_bytes (values_word ds) m 8 (leading_zeros w64 (values_word ds)) found.0 found.1 within found.2
+    found.3 below (λ j e. values_above ds j h e))
 
 -- the word is what its bytes spell
 word_of-to_le_bytes : (word : ℕ) → word < 2 ^ 64 → word_of (to_le_bytes w64 word) ≡ word
 word_of-to_le_bytes word fits = omega (arith, from_le_bytes-to_le_bytes_8 word fits)
 
 -- the exclusive or with eight zeros shows how many of them end eight digits
-pub last_zeros_by_word : (word : ℕ) → word < 2 ^ 64 → AllDigits 10 (to_le_bytes w64 word) → leading_zeros w64 (bit_xor word 0x3030_3030_3030_3030) / 8 ≡ last_zeros (to_le_bytes w64 word)
+pub last_zeros_by_word : (word : ℕ) → word < 2 ^ 64 → AllDigits 10 (to_le_bytes w64 word)
+    → leading_zeros w64 (bit_xor word 0x3030_3030_3030_3030) / 8 ≡ last_zeros (to_le_bytes w64 word)
 last_zeros_by_word word fits h =
     let ds = to_le_bytes w64 word in
-    let x : bit_xor word 0x3030_3030_3030_3030 ≡ values_word ds = rw (word_of-to_le_bytes word fits) at (xor_digits ds h) in
+    let x : bit_xor word 0x3030_3030_3030_3030 ≡ values_word ds = rw (word_of-to_le_bytes word fits) at
+    (xor_digits ds h) in
     rw x (leading_zeros-values ds refl h)
 
 -- for the call that counts them
@@ -140,7 +151,8 @@ pub ruleset word_facts = (last_zeros_by_word, last_zeros-le)
 -- ---- a word that was read from eight digits of a number
 
 -- its bytes are the digits again
-pub digits_of_word : (bs : List ℕ) (n word : ℕ) → bs ≡ fixed 8 n → word ≡ from_le_bytes w64 bs → to_le_bytes w64 word ≡ fixed 8 n
+pub digits_of_word : (bs : List ℕ) (n word : ℕ) → bs ≡ fixed 8 n → word ≡ from_le_bytes w64 bs → to_le_bytes w64 word
+    ≡ fixed 8 n
 digits_of_word bs n word digits read =
     let below : (i : ℕ) → get_or bs i 0 < 256 = λ i. omega (arith, rw (sym digits) at (IsAscii-fixed 8 n i)) in
     le_bytes_8 bs word (ap length digits ∙ length-fixed 8 n) below read ∙ digits

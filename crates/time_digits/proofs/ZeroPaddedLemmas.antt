@@ -9,7 +9,8 @@ use Rattle.time_digits.proofs.TableLemmas.{same_below}
 use Rattle.time_digits.specs.declared.tables.TheConstants.{ZERO_PADDED_PAIRS}
 
 -- each pair with zeros stands at twice its number
-pairs_are : map (λ n. take 2 (drop (2 * n) ZERO_PADDED_PAIRS.now)) (range_with_len 0 100) ≡ map (zero_padded 2) (range_with_len 0 100)
+pairs_are : map (λ n. take 2 (drop (2 * n) ZERO_PADDED_PAIRS.now)) (range_with_len 0 100)
+    ≡ map (zero_padded 2) (range_with_len 0 100)
 unfolding digits padded
 pairs_are = refl
 
@@ -17,7 +18,8 @@ pub pair_at : (n : ℕ) → n < 100 → take 2 (drop (2 * n) ZERO_PADDED_PAIRS.n
 pair_at n h = same_below (λ k. take 2 (drop (2 * k) ZERO_PADDED_PAIRS.now)) (zero_padded 2) 100 pairs_are n h
 
 -- below 10 the last digit of its pair is the number's text
-last_are : map (λ n. take 1 (drop (2 * n + 1) ZERO_PADDED_PAIRS.now)) (range_with_len 0 10) ≡ map decimal (range_with_len 0 10)
+last_are : map (λ n. take 1 (drop (2 * n + 1) ZERO_PADDED_PAIRS.now)) (range_with_len 0 10)
+    ≡ map decimal (range_with_len 0 10)
 unfolding digits
 last_are = refl
 

@@ -1,5 +1,6 @@
 -- Texts of numbers, as bytes: 48 is the digit 0, 32 a space.
-use Rattle.std.specs.Prelude.{ℕ, zero, suc, ◌+◌, ◌-◌, ◌/◌, ◌%◌, List, [], ◌∷◌, ◌++◌, length, replicate, Bool, nat_lt, decimal}
+use Rattle.std.specs.Prelude.{ℕ, zero, suc, ◌+◌, ◌-◌, ◌/◌, ◌%◌, List, [], ◌∷◌, ◌++◌, length, replicate, Bool, nat_lt}
+use Rattle.std.specs.Prelude.{decimal}
 use Rattle.std.specs.List.{list_all}
 pub use Rattle.time_digits.specs.Pieces.{joined, piece_lengths}
 

@@ -1,6 +1,7 @@
 -- Changes of different fields may be exchanged.
 use Rattle.std.proofs.Common.{◌≡◌, ◌≢◌, refl}
-use Rattle.time_known.specs.Changes.{Field, the_components, the_separators, the_year, the_date, the_time, the_offset, the_sign, choice_of, with_choice}
+use Rattle.time_known.specs.Changes.{Field, the_components, the_separators, the_year, the_date, the_time, the_offset}
+use Rattle.time_known.specs.Changes.{the_sign, choice_of, with_choice}
 use Rattle.time_known.specs.Config.{Choices}
 
 -- in either order, each of the two fields has its new choice and the others are as they were

@@ -1,5 +1,6 @@
 -- The texts of the well-known formats are ASCII, and so UTF-8, whatever the numbers in them are.
-use Rattle.std.proofs.Common.{◌≡◌, refl, arith, ℕ, Bool, true, false, List, [], ◌++◌, IsAscii, IsUtf8, Option, Some, None}
+use Rattle.std.proofs.Common.{◌≡◌, refl, arith, ℕ, Bool, true, false, List, [], ◌++◌, IsAscii, IsUtf8, Option, Some}
+use Rattle.std.proofs.Common.{None}
 use Rattle.std.proofs.Common.{ℤ, pos, unsigned_abs, if◌then◌else◌, ◌==◌, ◌+◌, ◌*◌, ◌/◌, ◌^◌}
 use Rattle.std.specs.List.{list_all}
 use Rattle.std.specs.Prelude.{codes, int_lt, nat_lt, ◌&&◌}
@@ -9,14 +10,12 @@ use Rattle.time_below.specs.Facts.{Facts, DateFacts}
 use Rattle.time_below.specs.Offset.{Offset, is_negative, is_utc}
 use Rattle.time_below.specs.TimeOfDay.{TimeOfDay}
 use Rattle.time_digits.specs.Digits.{zero_padded}
-use Rattle.time_digits.specs.Fraction.{trimmed_fraction}
 use Rattle.time_digits.proofs.DigitLemmas.{IsAscii-fixed}
 use Rattle.time_digits.proofs.FractionLemmas.{IsAscii-trimmed_fraction}
 use Rattle.time_digits.proofs.LengthLemmas.{IsAscii-filled}
 use Rattle.time_digits.proofs.TableLemmas.{ascii_test}
 use Rattle.time_fmt.specs.Text.{sign_text}
 use Rattle.time_fmt.specs.DateText.{month_name, weekday_name, short_name}
-use Rattle.time_fmt.specs.Decimals.{decimals}
 use Rattle.time_fmt.specs.Description.{of_group}
 use Rattle.time_fmt.specs.Outcome.{Outcome, done, refused, join, invalid_component}
 use Rattle.time_fmt.proofs.GuaranteeLemmas.{IsAscii-sign_text, IsAscii-month_name, IsAscii-weekday_name}
@@ -32,11 +31,13 @@ use Rattle.time_known.specs.declared.iso8601.config.OffsetPrecision.TheVariants 
 use Rattle.time_known.specs.declared.iso8601.config.TimePrecision.{TimePrecision}
 use Rattle.time_known.specs.declared.iso8601.config.TimePrecision.TheVariants as precision
 use Rattle.time_known.specs.Iso8601.{iso8601_outcome, iso8601_outcome_of, iso_date, iso_time, iso_offset, iso_year}
-use Rattle.time_known.specs.Iso8601.{text_after_year, units_text, decimal_part, iso_minutes, iso_of_groups, year_of_kind}
+use Rattle.time_known.specs.Iso8601.{text_after_year, units_text, decimal_part, iso_minutes, iso_of_groups}
+use Rattle.time_known.specs.Iso8601.{year_of_kind}
 use Rattle.time_known.specs.Iso8601.{nanoseconds_of_hour, nanoseconds_of_minute}
 use Rattle.time_known.specs.Rfc2822.{rfc2822_outcome, rfc2822_of_groups, rfc2822_text}
 use Rattle.time_known.specs.Rfc3339.{rfc3339_outcome, rfc3339_of_groups, rfc3339_text}
-use Rattle.time_known.specs.WellKnown.{refused_if, is_outside, of_all_groups, clock_text, offset_hours_text, offset_text}
+use Rattle.time_known.specs.WellKnown.{refused_if, is_outside, of_all_groups, clock_text, offset_hours_text}
+use Rattle.time_known.specs.WellKnown.{offset_text}
 
 -- a text that is ASCII
 record Ascii (bytes : List ℕ) : Type 0 where
@@ -123,7 +124,8 @@ rfc3339_is_ascii : (d : DateFacts) (t : TimeOfDay) (o : Offset) → Ascii (rfc33
 rfc3339_is_ascii d t o =
     let dash = literal (codes "-") refl in
     let colon = literal (codes ":") refl in
-    let date = after (number 4 (unsigned_abs d.year)) (after (after (after dash (number 2 d.month)) dash) (number 2 d.day)) in
+    let date = after (number 4 (unsigned_abs d.year)) (after (after (after dash (number 2 d.month)) dash)
+    (number 2 d.day)) in
     let fraction = after (literal (codes ".") refl) (leaf (IsAscii-trimmed_fraction t.nanosecond)) in
     after (after (after (after date (literal (codes "T") refl)) (clock t colon))
     (either (t.nanosecond == 0) nil fraction)) (either (is_utc o) (literal (codes "Z") refl) (offset o colon))
@@ -159,7 +161,8 @@ rfc2822_utf8 f = IsUtf8-from_ascii (rfc2822_outcome f).bytes (of_all f rfc2822_o
 
 year : (is_six_digits : Bool) (y : ℤ) → Ascii (iso_year is_six_digits y).bytes
 year true y = after (sign (int_lt y (pos 0)) true) (number 6 (unsigned_abs y))
-year false y = tested (is_outside 0 9_999 y) (codes "year") (done (zero_padded 4 (unsigned_abs y))) (number 4 (unsigned_abs y))
+year false y = tested (is_outside 0 9_999 y) (codes "year") (done (zero_padded 4 (unsigned_abs y)))
+    (number 4 (unsigned_abs y))
 
 separated : (c : Choices) {bytes : List ℕ} → Ascii bytes → Ascii (separator c bytes)
 separated c h = either c.use_separators h nil

@@ -1,10 +1,10 @@
 -- Which groups of a value a text of ISO 8601 is made of.
-use Rattle.std.proofs.Common.{◌≡◌, ℕ, true, false, refl, sym, ap, subst, ◌∙◌, arith, Option, Some, None, Result, Vec}
+use Rattle.std.proofs.Common.{◌≡◌, ℕ, true, false, refl, sym, ap, subst, ◌∙◌, arith, Result, Vec}
 use Rattle.std.specs.Global.{Global}
 use Rattle.std.proofs.lemmas.Grind.{common_steps}
 use Rattle.time_below.specs.Facts.{Facts, the_date, the_time}
 use Rattle.time_fmt.specs.declared.error.Format.{Format}
-use Rattle.time_fmt.specs.Outcome.{Outcome, AppendsUpTo, refused, join, insufficient}
+use Rattle.time_fmt.specs.Outcome.{AppendsUpTo, refused, join, insufficient}
 use Rattle.time_known.specs.Config.{Choices, groups_of}
 use Rattle.time_known.specs.declared.groups.Groups.{Groups}
 use Rattle.time_known.specs.declared.iso8601.config.FormattedComponents.{FormattedComponents}
@@ -38,7 +38,8 @@ pub date_and_time : (c : Choices) (f : Facts) → c.formatted_components ≡ com
     → has_groups (groups_of c.formatted_components) f ≡ true
     → iso8601_outcome_of components.DateTime c f ≡ join (iso_date c (the_date f)) (iso_time c (the_time f))
 date_and_time c f e h =
-    let needed = has_needed (groups_of components.DateTime) f (ap (λ parts. has_groups (groups_of parts) f) (sym e) ∙ h) in
+    let needed = has_needed (groups_of components.DateTime) f (ap (λ parts. has_groups (groups_of parts) f) (sym e)
+    ∙ h) in
     of_the_date f _ (needed.date refl) ∙ of_the_time f _ (needed.time refl)
 
 -- the date, the time and the offset of facts that have all three

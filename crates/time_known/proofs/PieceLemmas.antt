@@ -1,5 +1,6 @@
 -- Digits that were written behind a text, and zeros that were taken away again.
-use Rattle.std.proofs.Common.{◌≡◌, ℕ, ◌+◌, ◌-◌, ◌≤◌, List, ◌++◌, length, take, drop, refl, sym, ap, ◌∙◌, arith, length-append, Vec}
+use Rattle.std.proofs.Common.{◌≡◌, ℕ, ◌+◌, ◌-◌, ◌≤◌, List, ◌++◌, length, take, drop, refl, sym, ap, ◌∙◌, arith}
+use Rattle.std.proofs.Common.{length-append, Vec}
 use Rattle.std.proofs.lemmas.List.{length-take-le}
 use Rattle.std.proofs.Math.Seq.{drop-append-add, take-append-add}
 use Rattle.std.specs.Global.{Global}
@@ -28,7 +29,8 @@ without_zeros n gone old bs digits dropped =
     let most : gone ≤ 8 = omega (arith, dropped, last_zeros-le (fixed 8 n), length-fixed 8 n) in
     let at : length bs - gone ≡ length old + (9 - gone) =
     omega (arith, ap length digits, length-append old (fixed 9 n), length-fixed 9 n, most) in
-    rw (at, digits, take-append-add old (fixed 9 n) (9 - gone), dropped) (ap (λ (bs : List ℕ). old ++ bs) (sym (trimmed_fraction-take n)))
+    rw (at, digits, take-append-add old (fixed 9 n) (9 - gone), dropped)
+    (ap (λ (bs : List ℕ). old ++ bs) (sym (trimmed_fraction-take n)))
 
 -- the trimmed fraction has as many digits as there are zeros less than nine
 pub length-without_zeros : (n gone : ℕ) → gone ≡ last_zeros (fixed 8 n) → length (trimmed_fraction n) ≡ 9 - gone

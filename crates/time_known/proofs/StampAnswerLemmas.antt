@@ -1,5 +1,6 @@
 -- What the answer of a call that appends a stamp says.
-use Rattle.std.proofs.Common.{◌≡◌, ◌+◌, vec_len, ◌≢◌, ◌⊎◌, inl, inr, ◌++◌, ℕ, true, false, append-nil, refl, sym, ap, subst, ◌∙◌, ⊎_elim, Option, Some, None, Result, Ok, Err, Vec}
+use Rattle.std.proofs.Common.{◌≡◌, ◌+◌, vec_len, ◌≢◌, ◌⊎◌, inl, inr, ◌++◌, ℕ, true, false, append-nil, refl, sym, ap, subst, ◌∙◌}
+use Rattle.std.proofs.Common.{⊎_elim, Option, Some, None, Result, Ok, Err, Vec}
 use Rattle.std.specs.Prelude.{◌↔◌, codes, IfOk, IfErr, OnErr, IsOk, IsSomeAnd}
 use Rattle.std.specs.Global.{Global}
 use Rattle.std.proofs.lemmas.Bool.{cases_Bool}
@@ -16,7 +17,8 @@ use Rattle.time_known.specs.Iso8601Grammar.{iso8601_reads_as}
 use Rattle.time_known.specs.Stamps.{stamp_of, stamp_text, stamp_length, IsStampYear, HasStamp}
 use Rattle.time_known.specs.WellKnown.{is_outside}
 use Rattle.time_known.proofs.OutcomeLemmas.{IsYearWithin, within}
-use Rattle.time_known.proofs.StampLemmas.{year_within, stamp_year, stamp_done, default_is_whole, stamps_are_completed, year_refused}
+use Rattle.time_known.proofs.StampLemmas.{year_within, stamp_year, stamp_done, default_is_whole, stamps_are_completed}
+use Rattle.time_known.proofs.StampLemmas.{year_refused}
 
 -- the choices of the call
 abbrev pub outcome_by : Choices → DateAndTime → Outcome
@@ -65,7 +67,8 @@ either_year v =
 year_of_completed : (v : DateAndTime) → (stamp_of v).refusal ≡ None → IsYearWithin 0 9_999 v.date.year
 year_of_completed v none =
     ⊎_elim (λ (e : stamp_of v ≡ refused (invalid_component (codes "year"))).
-    absurd (let some : Some (invalid_component (codes "year")) ≡ None = sym (ap (λ (o : Outcome). o.refusal) e) ∙ none in cc))
+    absurd (let some : Some (invalid_component (codes "year")) ≡ None = sym (ap (λ (o : Outcome). o.refusal) e)
+    ∙ none in cc))
     (λ (h : IsYearWithin 0 9_999 v.date.year). h)
     (either_year v)
 

@@ -8,4 +8,11 @@ use Rattle.time_fmt.proofs.TextLemmas.{length-sign_text}
 pub ruleset joined_lengths = (length-append, append_assoc)
 
 -- how long the parts are, one after another
-pub ruleset part_lengths = (two_zeros, four_zeros, length-trimmed_fraction, length-sign_text, length-append, append_assoc)
+pub ruleset part_lengths = (
+  two_zeros,
+  four_zeros,
+  length-trimmed_fraction,
+  length-sign_text,
+  length-append,
+  append_assoc,
+)

@@ -141,7 +141,8 @@ pub(crate) fn write_nine_digits(output: &mut Vec<u8>, nanosecond: Nanoseconds) -
 }
 
 // Appends the nine digits of a fraction of a second, without the zeros at their end; the first of
-// them stays.
+// them stays. There is room for all nine, so that they are stored at once and the length is cut; where
+// there is room for the text alone, or no vector, the bytes that are kept are taken from an array.
 #[inline(always)]
 #[tactic(auto, using(crate::proofs::PieceLemmas::digit_lengths))]
 pub(crate) fn write_fraction(output: &mut Vec<u8>, nanosecond: Nanoseconds) -> usize

@@ -1,4 +1,5 @@
-use Rattle.time_below.proofs.MomentLemmas.{IsDate-utc_date, IsTimeOfDay-utc_time, unix_seconds-utc, only_utc, IsTimestampSecond-unix_seconds}
+use Rattle.time_below.proofs.MomentLemmas.{IsDate-utc_date, IsTimeOfDay-utc_time, unix_seconds-utc, only_utc}
+use Rattle.time_below.proofs.MomentLemmas.{IsTimestampSecond-unix_seconds}
 use Rattle.time_below.proofs.laws.one_date_and_time_for_each_moment.Goals as goal
 
 pub returns-clause-date : goal.returns-clause-date

@@ -1,4 +1,5 @@
-use Rattle.time_below.proofs.MonthLemmas.{month_of_date, day_of_date, date_of-month_and_day, IsDate-date_of, month_of-date_of, day_of-date_of}
+use Rattle.time_below.proofs.MonthLemmas.{month_of_date, day_of_date, date_of-month_and_day, IsDate-date_of}
+use Rattle.time_below.proofs.MonthLemmas.{month_of-date_of, day_of-date_of}
 use Rattle.time_below.proofs.laws.one_date_for_each_day_of_month.Goals as goal
 
 pub returns-clause-month : goal.returns-clause-month

@@ -7,7 +7,8 @@ use Rattle.time_digits.proofs.DigitLemmas.{fixed_digits}
 use Rattle.time_digits.proofs.FractionLemmas.{last_of_nine, trimmed_fraction-take, IsAscii-trimmed_fraction}
 use Rattle.time_digits.proofs.WordLemmas.{digits_of_word}
 use Rattle.time_digits.proofs.num_fmt.truncated_subsecond_from_nanos.Goals as goal
-use Rattle.time_digits.proofs.num_fmt.truncated_subsecond_from_nanos.Goals.{After-from_le_bytes, After-zeros_to_drop-dropped}
+use Rattle.time_digits.proofs.num_fmt.truncated_subsecond_from_nanos.Goals.{After-from_le_bytes}
+use Rattle.time_digits.proofs.num_fmt.truncated_subsecond_from_nanos.Goals.{After-zeros_to_drop-dropped}
 
 -- the word holds the last eight digits
 last_eight : (c : After-from_le_bytes) → to_le_bytes w64 c.from_le_bytes.result ≡ fixed 8 c.args.n
@@ -22,13 +23,16 @@ zeros_to_drop-dropped-requires c =
     record { digits = subst P (sym (last_eight c)) (fixed_digits 8 c.args.n) }
 
 -- what is kept is the trimmed fraction
-kept : (c : After-zeros_to_drop-dropped) → take (9 - c.zeros_to_drop-dropped.result) c.nine_digits-bytes.result ≡ trimmed_fraction c.args.n
-kept c = rw (c.nine_digits-bytes.ensures, c.zeros_to_drop-dropped.ensures.value, last_eight c.before) (sym (trimmed_fraction-take c.args.n))
+kept : (c : After-zeros_to_drop-dropped) → take (9 - c.zeros_to_drop-dropped.result) c.nine_digits-bytes.result
+    ≡ trimmed_fraction c.args.n
+kept c = rw (c.nine_digits-bytes.ensures, c.zeros_to_drop-dropped.ensures.value, last_eight c.before)
+    (sym (trimmed_fraction-take c.args.n))
 
 pub new-requires : goal.new-requires
 new-requires c =
     let after = (goal.at.new-requires c).After-zeros_to_drop-dropped in
-    let ascii : IsAscii (take (9 - c.zeros_to_drop-dropped.result) c.nine_digits-bytes.result) = rw (kept after) (IsAscii-trimmed_fraction c.args.n) in
+    let ascii : IsAscii (take (9 - c.zeros_to_drop-dropped.result) c.nine_digits-bytes.result) =
+    rw (kept after) (IsAscii-trimmed_fraction c.args.n) in
     (omega arith, (omega arith, (omega arith, ascii)))
 
 pub returns-clause-text : goal.returns-clause-text

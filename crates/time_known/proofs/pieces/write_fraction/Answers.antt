@@ -16,7 +16,8 @@ word_is c =
     let chunk = rw c.unwrap-last_eight.ensures at c.last_chunk.ensures.cases in
     let written = c.deref.ensures.value ∙ c.write_nine_digits.ensures.writes.appended in
     let digits = chunk.1.same ∙ last_eight c.args.nanosecond c.args.output.now.items c.deref.result.now written in
-    digits_of_word c.unwrap-last_eight.result.now c.args.nanosecond c.from_le_bytes.result digits c.from_le_bytes.ensures
+    digits_of_word c.unwrap-last_eight.result.now c.args.nanosecond c.from_le_bytes.result digits
+    c.from_le_bytes.ensures
 
 pub zeros_to_drop-zeros-requires : goal.zeros_to_drop-zeros-requires
 zeros_to_drop-zeros-requires c =

@@ -13,4 +13,5 @@ decreases-metadata_of_nodes g l = sizes (map g.T.Node.size l.nodes.now)
 abbrev pub invariant-metadata_of_nodes-loop-node : goal.invariant-metadata_of_nodes-loop-node
 invariant-metadata_of_nodes-loop-node g l =
     let left = drop l.node-index l.nodes in
-    Summed l.sum (trees (map g.T.Node.tree l.nodes)) (trees (map g.T.Node.tree left)) (sizes (map g.T.Node.size l.nodes)) (sizes (map g.T.Node.size left))
+    Summed l.sum (trees (map g.T.Node.tree l.nodes)) (trees (map g.T.Node.tree left))
+    (sizes (map g.T.Node.size l.nodes)) (sizes (map g.T.Node.size left))

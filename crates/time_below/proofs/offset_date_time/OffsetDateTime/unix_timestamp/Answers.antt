@@ -19,7 +19,8 @@ returns-clause-value c =
     rw (← c.self.view_is)
     (held_is c.unix_timestamp.result c.whole_seconds.result c.unix_timestamp.ensures.range c.whole_seconds.ensures.range
     ∙ ap (λ s. s -ℤ c.whole_seconds.result) local
-    ∙ ap (λ o. unix_seconds (record { date = c.self.inside.date; time = c.self.inside.time }) -ℤ o) c.whole_seconds.ensures.value)
+    ∙ ap (λ o. unix_seconds (record { date = c.self.inside.date; time = c.self.inside.time }) -ℤ o)
+    c.whole_seconds.ensures.value)
 
 pub returns-clause-range : goal.returns-clause-range
 returns-clause-range c =

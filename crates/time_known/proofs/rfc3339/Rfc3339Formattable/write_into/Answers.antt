@@ -14,7 +14,11 @@ returns-in-Ok-clause-appends g c =
     let value = c.args.value.now in
     let f = g.V.ComponentProvider.facts value in
     let all = has_all f (c.are_supplied_by.ensures.there value ∙ c.if-not-are_supplied_by.false) in
-    rw (outcome_of_all f all rfc3339_of_groups ∙ c.in-Ok.ensures.accepted.completed, c.put_back.ensures, ← c.take_out-taken.ensures)
+    rw (
+      outcome_of_all f all rfc3339_of_groups ∙ c.in-Ok.ensures.accepted.completed,
+      c.put_back.ensures,
+      ← c.take_out-taken.ensures,
+    )
     (appends_up_to c.append_date_time-count.ensures.writes)
 
 pub returns-in-Ok-clause-spelled : goal.returns-in-Ok-clause-spelled
