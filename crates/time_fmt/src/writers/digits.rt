@@ -64,6 +64,7 @@ fn write_two_rarely(output: &mut Vec<u8>, value: ru8<0, 99>, padding: Padding) -
 }
 
 // The same of a vector that was taken out.
+#[cold]
 #[inline(never)]
 fn write_two_places(output: Vec<u8>, value: ru8<0, 99>, padding: Padding) -> (Vec<u8>, usize)
     requires room { HasRoom output (length (padded_text padding 2 value)) }
@@ -115,6 +116,7 @@ fn write_four_rarely(output: &mut Vec<u8>, value: ru16<0, 9_999>, padding: Paddi
 }
 
 // The same of a vector that was taken out.
+#[cold]
 #[inline(never)]
 fn write_four_places(output: Vec<u8>, value: ru16<0, 9_999>, padding: Padding) -> (Vec<u8>, usize)
     requires room { HasRoom output (length (padded_text padding 4 value)) }

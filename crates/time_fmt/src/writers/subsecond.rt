@@ -106,6 +106,7 @@ fn write_rare_decimals(
 }
 
 // The same of a vector that was taken out.
+#[cold]
 #[inline(never)]
 fn write_decimals(
     output: Vec<u8>,

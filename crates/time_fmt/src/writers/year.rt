@@ -220,6 +220,7 @@ fn write_rare_year(
 }
 
 // Any year, of a vector that was taken out.
+#[cold]
 #[inline(never)]
 fn write_signed_year(
     output: Vec<u8>,
