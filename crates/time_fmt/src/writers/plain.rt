@@ -37,22 +37,21 @@ pub fn write_bytes(output: &mut Vec<u8>, bytes: &[u8]) -> usize
             output.push_reserved(*a);
             output.push_reserved(*b);
         }
-        _ => write_long(output, bytes),
+        _ => write_in_blocks(output, bytes),
     }
     bytes.len()
 }
 
-// Appends the bytes by the writer of long texts.
+/// Appends the bytes of a name, or of its beginning.
 #[inline]
-fn write_long(output: &mut Vec<u8>, bytes: &[u8])
-    requires room { HasRoom output.old (length bytes.now) }
-    ensures appended { output.new.items ≡ output.old.items ++ bytes.now }
-    ensures grown { vec_len output.new ≡ vec_len output.old + length bytes.now }
-    ensures capacity { vec_capacity output.new ≡ vec_capacity output.old }
+pub(super) fn write_name(output: &mut Vec<u8>, name: &[u8]) -> usize
+    requires room { HasRoom output.old (length name.now) }
+    ensures writes { Writes output.old output.new result name.now }
 {
     let mut taken = take_out(output);
-    write_in_blocks(&mut taken, bytes);
+    write_in_blocks(&mut taken, name);
     put_back(output, taken);
+    name.len()
 }
 
 /// Appends the bytes, eight at a time. `extend_from_slice` has no clause that the capacity stays. The
