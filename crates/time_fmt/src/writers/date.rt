@@ -9,7 +9,7 @@ ghost use Rattle.time_fmt.specs.Text.{padded_text};
 use crate::error::Format;
 use crate::modifier::Modifier;
 use crate::writers::digits::{format_three_digits, format_two_digits};
-use crate::writers::plain::{write, write_bytes};
+use crate::writers::plain::write_name;
 use time_below::Month;
 use time_below::format_description::modifier;
 use time_digits::ru8;
@@ -56,7 +56,7 @@ pub fn fmt_month_short(output: &mut Vec<u8>, month: Month, modifier: modifier::M
         (short_name (month_name (month_number month))) }
 {
     let _ = modifier;
-    write_bytes(output, &name_of_month(month).as_bytes()[..3])
+    write_name(output, &name_of_month(month).as_bytes()[..3])
 }
 
 impl Modifier for modifier::MonthShort {
@@ -89,7 +89,7 @@ pub fn fmt_month_long(output: &mut Vec<u8>, month: Month, modifier: modifier::Mo
     ensures writes { Writes output.old output.new result (month_name (month_number month)) }
 {
     let _ = modifier;
-    write(output, name_of_month(month))
+    write_name(output, name_of_month(month).as_bytes())
 }
 
 impl Modifier for modifier::MonthLong {

@@ -58,7 +58,8 @@ fn write_two_rarely(output: &mut Vec<u8>, value: ru8<0, 99>, padding: Padding) -
     requires room { HasRoom output.old (length (padded_text padding 2 value)) }
     ensures writes { Writes output.old output.new result (padded_text padding 2 value) }
 {
-    let (taken, count) = write_two_places(take_out(output), value, padding);
+    let mut taken = take_out(output);
+    let count = write_two_places(&mut taken, value, padding);
     put_back(output, taken);
     count
 }
@@ -66,17 +67,15 @@ fn write_two_rarely(output: &mut Vec<u8>, value: ru8<0, 99>, padding: Padding) -
 // The same of a vector that was taken out.
 #[cold]
 #[inline(never)]
-fn write_two_places(output: Vec<u8>, value: ru8<0, 99>, padding: Padding) -> (Vec<u8>, usize)
-    requires room { HasRoom output (length (padded_text padding 2 value)) }
-    ensures writes { Writes output result.0 result.1 (padded_text padding 2 value) }
+fn write_two_places(output: &mut Vec<u8>, value: ru8<0, 99>, padding: Padding) -> usize
+    requires room { HasRoom output.old (length (padded_text padding 2 value)) }
+    ensures writes { Writes output.old output.new result (padded_text padding 2 value) }
 {
-    let mut taken = output;
-    let count = match padding {
-        Padding::Zero => write(&mut taken, two_digits_zero_padded(value)),
-        Padding::Space => write(&mut taken, two_digits_space_padded(value)),
-        Padding::None => write(&mut taken, one_to_two_digits_no_padding(value)),
-    };
-    (taken, count)
+    match padding {
+        Padding::Zero => write(output, two_digits_zero_padded(value)),
+        Padding::Space => write(output, two_digits_space_padded(value)),
+        Padding::None => write(output, one_to_two_digits_no_padding(value)),
+    }
 }
 
 /// Appends a number of at most three digits, in three places.
@@ -110,7 +109,8 @@ fn write_four_rarely(output: &mut Vec<u8>, value: ru16<0, 9_999>, padding: Paddi
     requires room { HasRoom output.old (length (padded_text padding 4 value)) }
     ensures writes { Writes output.old output.new result (padded_text padding 4 value) }
 {
-    let (taken, count) = write_four_places(take_out(output), value, padding);
+    let mut taken = take_out(output);
+    let count = write_four_places(&mut taken, value, padding);
     put_back(output, taken);
     count
 }
@@ -118,17 +118,15 @@ fn write_four_rarely(output: &mut Vec<u8>, value: ru16<0, 9_999>, padding: Paddi
 // The same of a vector that was taken out.
 #[cold]
 #[inline(never)]
-fn write_four_places(output: Vec<u8>, value: ru16<0, 9_999>, padding: Padding) -> (Vec<u8>, usize)
-    requires room { HasRoom output (length (padded_text padding 4 value)) }
-    ensures writes { Writes output result.0 result.1 (padded_text padding 4 value) }
+fn write_four_places(output: &mut Vec<u8>, value: ru16<0, 9_999>, padding: Padding) -> usize
+    requires room { HasRoom output.old (length (padded_text padding 4 value)) }
+    ensures writes { Writes output.old output.new result (padded_text padding 4 value) }
 {
-    let mut taken = output;
-    let count = match padding {
-        Padding::Zero => format_four_digits_pad_zero(&mut taken, value),
-        Padding::Space => write_many(&mut taken, &four_digits_space_padded(value)),
-        Padding::None => write_many(&mut taken, &one_to_four_digits_no_padding(value)),
-    };
-    (taken, count)
+    match padding {
+        Padding::Zero => format_four_digits_pad_zero(output, value),
+        Padding::Space => write_many(output, &four_digits_space_padded(value)),
+        Padding::None => write_many(output, &one_to_four_digits_no_padding(value)),
+    }
 }
 
 /// Appends a number in four places, with zeros in front.

@@ -5,9 +5,9 @@ ghost use Rattle.time_fmt.specs.Room.{HasRoom, Writes};
 
 use std::mem::{forget, replace};
 
-/// Takes the vector out of its borrow, in which an empty one stays. What is called with a borrow of a
-/// vector, and is not inlined, keeps the vector in memory for the whole of the caller; what is called with
-/// the vector itself, and answers it, does not. So the rare ways of writers take it.
+/// Takes the vector out of its borrow, in which an empty one stays. A call that is not inlined, and to
+/// which a vector is lent, keeps that vector in memory for the whole of the caller. So the rare ways of
+/// writers lend one that they have taken out, and put it back.
 #[inline(always)]
 pub(crate) fn take_out(output: &mut Vec<u8>) -> Vec<u8>
     ensures taken { result ≡ output.old }
@@ -37,35 +37,34 @@ pub fn write_bytes(output: &mut Vec<u8>, bytes: &[u8]) -> usize
             output.push_reserved(*a);
             output.push_reserved(*b);
         }
-        _ => write_long(output, bytes),
+        _ => write_in_blocks(output, bytes),
     }
     bytes.len()
 }
 
-// Appends the bytes by the writer of long texts. (A function of its own, as each rare way is, so that the
-// place for what it answers is made ready on that way alone.)
+/// Appends the bytes of a name, or of its beginning.
 #[inline]
-fn write_long(output: &mut Vec<u8>, bytes: &[u8])
+pub(super) fn write_name(output: &mut Vec<u8>, name: &[u8]) -> usize
+    requires room { HasRoom output.old (length name.now) }
+    ensures writes { Writes output.old output.new result name.now }
+{
+    let mut taken = take_out(output);
+    write_in_blocks(&mut taken, name);
+    put_back(output, taken);
+    name.len()
+}
+
+/// Appends the bytes, eight at a time. `extend_from_slice` has no clause that the capacity stays. The
+/// vector is taken out meanwhile, so that the compiler sees that its block does not move, and makes one
+/// store of eight.
+#[inline(never)]
+fn write_in_blocks(output: &mut Vec<u8>, bytes: &[u8])
     requires room { HasRoom output.old (length bytes.now) }
     ensures appended { output.new.items ≡ output.old.items ++ bytes.now }
     ensures grown { vec_len output.new ≡ vec_len output.old + length bytes.now }
     ensures capacity { vec_capacity output.new ≡ vec_capacity output.old }
 {
-    let taken = write_in_blocks(take_out(output), bytes);
-    put_back(output, taken);
-}
-
-/// Appends the bytes, eight at a time. `extend_from_slice` has no clause that the capacity stays. The
-/// vector is no borrowed one, so that the compiler sees that its block does not move, and makes one store
-/// of eight.
-#[inline(never)]
-fn write_in_blocks(output: Vec<u8>, bytes: &[u8]) -> Vec<u8>
-    requires room { HasRoom output (length bytes.now) }
-    ensures appended { result.items ≡ output.items ++ bytes.now }
-    ensures grown { vec_len result ≡ vec_len output + length bytes.now }
-    ensures capacity { vec_capacity result ≡ vec_capacity output }
-{
-    let mut taken = output;
+    let mut taken = take_out(output);
     let mut rest = bytes;
     while let [a, b, c, d, e, f, g, h, more @ ..] = rest {
         let (a, b, c, d, e, f, g, h) = (*a, *b, *c, *d, *e, *f, *g, *h);
@@ -102,7 +101,7 @@ fn write_in_blocks(output: Vec<u8>, bytes: &[u8]) -> Vec<u8>
         }
         _ => {}
     }
-    taken
+    put_back(output, taken);
 }
 
 /// Appends the text, and answers the number of its bytes.

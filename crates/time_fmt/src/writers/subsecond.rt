@@ -100,7 +100,8 @@ fn write_rare_decimals(
     requires room { HasRoom output.old (length (subsecond_text digits nanosecond)) }
     ensures writes { Writes output.old output.new result (subsecond_text digits nanosecond) }
 {
-    let (taken, count) = write_decimals(take_out(output), nanosecond, digits);
+    let mut taken = take_out(output);
+    let count = write_decimals(&mut taken, nanosecond, digits);
     put_back(output, taken);
     count
 }
@@ -108,17 +109,11 @@ fn write_rare_decimals(
 // The same of a vector that was taken out.
 #[cold]
 #[inline(never)]
-fn write_decimals(
-    output: Vec<u8>,
-    nanosecond: Nanoseconds,
-    digits: SubsecondDigits,
-) -> (Vec<u8>, usize)
-    requires room { HasRoom output (length (subsecond_text digits nanosecond)) }
-    ensures writes { Writes output result.0 result.1 (subsecond_text digits nanosecond) }
+fn write_decimals(output: &mut Vec<u8>, nanosecond: Nanoseconds, digits: SubsecondDigits) -> usize
+    requires room { HasRoom output.old (length (subsecond_text digits nanosecond)) }
+    ensures writes { Writes output.old output.new result (subsecond_text digits nanosecond) }
 {
-    let mut taken = output;
-    let count = fmt_subsecond(&mut taken, nanosecond, modifier::Subsecond { digits });
-    (taken, count)
+    fmt_subsecond(output, nanosecond, modifier::Subsecond { digits })
 }
 
 // Appends the first three of the nine digits.

@@ -10,7 +10,7 @@ ghost use Rattle.time_fmt.specs.Text.{padded_text};
 use crate::error::Format;
 use crate::modifier::Modifier;
 use crate::writers::digits::{format_single_digit, format_two_digits};
-use crate::writers::plain::{write, write_bytes};
+use crate::writers::plain::write_name;
 use time_below::Weekday;
 use time_below::format_description::modifier;
 use time_digits::ru8;
@@ -30,7 +30,7 @@ pub fn fmt_weekday_short(
         (short_name (weekday_name (days_from_monday weekday))) }
 {
     let _ = modifier;
-    write_bytes(output, &name_of_weekday(weekday).as_bytes()[..3])
+    write_name(output, &name_of_weekday(weekday).as_bytes()[..3])
 }
 
 impl Modifier for modifier::WeekdayShort {
@@ -67,7 +67,7 @@ pub fn fmt_weekday_long(
     ensures writes { Writes output.old output.new result (weekday_name (days_from_monday weekday)) }
 {
     let _ = modifier;
-    write(output, name_of_weekday(weekday))
+    write_name(output, name_of_weekday(weekday).as_bytes())
 }
 
 impl Modifier for modifier::WeekdayLong {

@@ -214,7 +214,8 @@ fn write_rare_year(
     ensures writes { Writes output.old output.new result
         (extended_year_text padding sign_is_mandatory year) }
 {
-    let (taken, count) = write_signed_year(take_out(output), year, padding, sign_is_mandatory);
+    let mut taken = take_out(output);
+    let count = write_signed_year(&mut taken, year, padding, sign_is_mandatory);
     put_back(output, taken);
     count
 }
@@ -223,20 +224,19 @@ fn write_rare_year(
 #[cold]
 #[inline(never)]
 fn write_signed_year(
-    output: Vec<u8>,
+    output: &mut Vec<u8>,
     year: Year,
     padding: Padding,
     sign_is_mandatory: bool,
-) -> (Vec<u8>, usize)
-    requires room { HasRoom output (length (extended_year_text padding sign_is_mandatory year)) }
-    ensures writes { Writes output result.0 result.1
+) -> usize
+    requires room { HasRoom output.old
+        (length (extended_year_text padding sign_is_mandatory year)) }
+    ensures writes { Writes output.old output.new result
         (extended_year_text padding sign_is_mandatory year) }
 {
-    let mut taken = output;
     let number = year.get();
-    let sign = fmt_sign(&mut taken, number < 0, sign_is_mandatory || number > 9_999);
-    let count = sign + write_year_digits(&mut taken, year.abs(), padding);
-    (taken, count)
+    let sign = fmt_sign(output, number < 0, sign_is_mandatory || number > 9_999);
+    sign + write_year_digits(output, year.abs(), padding)
 }
 
 fn write_standard_year(
