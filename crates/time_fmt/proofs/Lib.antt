@@ -2,7 +2,6 @@ pub mod ConversionLemmas
 pub mod DateTextLemmas
 pub mod DecimalLemmas
 pub mod Engine
-pub mod GroupLemmas
 pub mod GuaranteeLemmas
 pub mod RealLemmas
 pub mod LawLemmas

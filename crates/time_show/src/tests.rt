@@ -19,6 +19,11 @@ fn assert_same<T: PartialEq + Debug + Copy>(rt: &impl Abort, found: T, wanted: T
     assert_eq!(rt; found, wanted);
 }
 
+/// The same, of one of many turns.
+fn assert_same_at<T: PartialEq + Debug + Copy>(rt: &impl Abort, found: T, wanted: T, turn: usize) {
+    assert_eq!(rt; found, wanted, "at {turn}");
+}
+
 /// The stored run.
 const INPUT: &[u8] = b"time 9 55 6 120000000\ntime 0 0 0 0\ntime 24 0 0 0\ntime 1 2\n\
 rfc3339 1997 11 12 9 55 6 0 -6 0 0\nrfc2822 1997 11 12 9 55 6 0 -6 0 0\n\

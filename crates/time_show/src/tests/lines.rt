@@ -3,7 +3,7 @@ ghost use Rattle.std.specs.Prelude.{ℕ, List, IfOk};
 ghost use Rattle.time_show.specs.Answer.{AreAnswers};
 ghost use Rattle.time_show.specs.Lines.{lines_of};
 
-use super::assert_same;
+use super::{assert_same, assert_same_at};
 use crate::laws::lines_spell_their_text;
 use crate::run::{ShowError, run};
 use std::alloc::Global;
@@ -130,10 +130,11 @@ fn answers_a_good_line_after_a_long_one(rt: HostRuntime) -> Result<(), Fail> {
         let mut source = input.as_slice();
         let mut output = Vec::new(rt.alloc());
         assert_same(&rt, run(rt.alloc(), &mut source, &mut output), Ok(()));
-        assert_eq!(rt;
+        assert_same_at(
+            &rt,
             output.as_slice(),
             b"bad line\nok 10 18 00:00:00.0\n".as_slice(),
-            "at {length}"
+            length,
         );
     }
     Ok(())

@@ -1,4 +1,5 @@
 //! The longest lines that are commands: numbers of nine digits, with a minus where one may stand.
+use super::assert_same;
 use crate::run::run;
 use std::alloc::Global;
 use std::process::Abort;
@@ -28,11 +29,11 @@ const LINES: &[(&[u8], usize, &[u8])] = &[
 
 /// Compares the line's length and its answer.
 fn assert_answer(rt: &impl Abort, alloc: Global, line: &[u8], length: usize, answer: &[u8]) {
-    assert_eq!(rt; line.len(), length);
+    assert_same(rt, line.len(), length);
     let mut source = line;
     let mut output = Vec::new(alloc);
-    assert_eq!(rt; run(alloc, &mut source, &mut output), Ok(()));
-    assert_eq!(rt; output.as_slice(), answer);
+    assert_same(rt, run(alloc, &mut source, &mut output), Ok(()));
+    assert_same(rt, output.as_slice(), answer);
 }
 
 #[test]

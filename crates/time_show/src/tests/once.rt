@@ -1,4 +1,5 @@
 //! A reader and a writer that fail once and would work after: the run ends, and neither is asked again.
+use super::{assert_same, assert_same_at};
 use crate::run::{ShowError, run};
 use crate::tests::{INPUT, answers};
 use std::alloc::Global;
@@ -77,8 +78,8 @@ fn assert_read_ends(
     };
     let mut output = Vec::new(alloc);
     let outcome = run(alloc, &mut source, &mut output);
-    assert_eq!(rt; outcome, Err(ShowError::Read), "at {fails_at}");
-    assert_eq!(rt; source.calls, fails_at);
+    assert_same_at(rt, outcome, Err(ShowError::Read), fails_at);
+    assert_same(rt, source.calls, fails_at);
     let left = source.bytes.len();
     let read = INPUT.len().saturating_sub(left);
     let lines = INPUT
@@ -86,7 +87,7 @@ fn assert_read_ends(
         .take(read)
         .filter(|byte| **byte == b'\n')
         .count();
-    assert_eq!(rt; output.as_slice(), answers(alloc, lines)?.as_slice());
+    assert_same(rt, output.as_slice(), answers(alloc, lines)?.as_slice());
     Ok(())
 }
 
@@ -117,10 +118,10 @@ fn assert_write_ends(rt: &impl Abort, alloc: Global, fails_at: usize, kind: Opti
         kind,
     };
     let outcome = run(alloc, &mut source, &mut sink);
-    assert_eq!(rt; outcome, Err(ShowError::Write), "at {fails_at}");
-    assert_eq!(rt; sink.calls, fails_at);
+    assert_same_at(rt, outcome, Err(ShowError::Write), fails_at);
+    assert_same(rt, sink.calls, fails_at);
     let taken = fails_at.saturating_sub(1).saturating_mul(10);
-    assert_eq!(rt; sink.bytes.len(), taken);
+    assert_same(rt, sink.bytes.len(), taken);
     assert!(rt; WRITTEN.starts_with(sink.bytes.as_slice()));
 }
 

@@ -1,5 +1,5 @@
 //! Readers that give little, writers that take little, and such as fail.
-use super::assert_same;
+use super::{assert_same, assert_same_at};
 use crate::run::{ShowError, run, status};
 use crate::tests::{ANSWERS, INPUT, Sink, Source, answers};
 use std::test::Fail;
@@ -14,7 +14,7 @@ fn answers_all_lines(rt: HostRuntime) -> Result<(), Fail> {
         };
         let mut sink = Sink::new(rt.alloc(), step, 1000);
         let outcome = run(rt.alloc(), &mut source, &mut sink);
-        assert_eq!(rt; outcome, Ok(()), "at {step}");
+        assert_same_at(&rt, outcome, Ok(()), step);
         assert_same(&rt, status(&outcome), 0);
         assert_same(
             &rt,
@@ -69,12 +69,13 @@ fn fails_at_each_read(rt: HostRuntime) -> Result<(), Fail> {
         };
         let mut output = Vec::new(rt.alloc());
         let outcome = run(rt.alloc(), &mut source, &mut output);
-        assert_eq!(rt; outcome, Err(ShowError::Read), "at {calls}");
+        assert_same_at(&rt, outcome, Err(ShowError::Read), calls);
         assert_same(&rt, status(&outcome), 1);
-        assert_eq!(rt;
+        assert_same_at(
+            &rt,
             output.as_slice(),
             answers(rt.alloc(), count)?.as_slice(),
-            "at {calls}"
+            calls,
         );
     }
     Ok(())
@@ -89,13 +90,9 @@ fn fails_at_each_write(rt: HostRuntime) -> Result<(), Fail> {
             let mut sink = Sink::new(rt.alloc(), 1, calls);
             sink.takes_none = takes_none;
             let outcome = run(rt.alloc(), &mut source, &mut sink);
-            assert_eq!(rt; outcome, Err(ShowError::Write), "at {calls}");
+            assert_same_at(&rt, outcome, Err(ShowError::Write), calls);
             assert_same(&rt, status(&outcome), 1);
-            assert_eq!(rt;
-                sink.bytes.as_slice(),
-                &all.as_slice()[..calls],
-                "at {calls}"
-            );
+            assert_same_at(&rt, sink.bytes.as_slice(), &all.as_slice()[..calls], calls);
         }
     }
     Ok(())
@@ -112,14 +109,14 @@ fn fails_at_the_write_of_each_answer(rt: HostRuntime) -> Result<(), Fail> {
         };
         let mut sink = Sink::new(rt.alloc(), 100, calls);
         let outcome = run(rt.alloc(), &mut source, &mut sink);
-        assert_eq!(rt; outcome, Err(ShowError::Write), "at {calls}");
+        assert_same_at(&rt, outcome, Err(ShowError::Write), calls);
         let expected: &[u8] = match calls {
             0 => b"",
             1 => b"ok 10 18 00:00:00.0\n",
             2 => b"ok 10 18 00:00:00.0\nok 18 18 01:01:01.000000001\n",
             _ => b"ok 10 18 00:00:00.0\nok 18 18 01:01:01.000000001\nok 18 18 02:02:02.000000002\n",
         };
-        assert_eq!(rt; sink.bytes.as_slice(), expected, "at {calls}");
+        assert_same_at(&rt, sink.bytes.as_slice(), expected, calls);
     }
     Ok(())
 }

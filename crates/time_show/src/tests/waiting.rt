@@ -1,4 +1,5 @@
 //! A writer that never fails: no number of bytes that wait makes a run give up.
+use super::assert_same;
 use crate::output::{OUTPUT_LIMIT, OutputBuffer};
 use crate::reply::Reply;
 use std::alloc::Global;
@@ -25,14 +26,14 @@ fn assert_goes_out(rt: &impl Abort, alloc: Global, text: &[u8], len: usize) -> R
     let waits = answers.append_reply(&mut output, reply(text, len)).is_ok();
     assert!(rt; waits && output.is_empty());
     assert!(rt; answers.flush(&mut output).is_ok());
-    assert_eq!(rt; output.len(), len.saturating_add(FRAME));
+    assert_same(rt, output.len(), len.saturating_add(FRAME));
     output.clear();
     let waits = answers.append_reply(&mut output, reply(text, len)).is_ok();
     assert!(rt; waits && output.is_empty());
     let rest = text.len().saturating_sub(len);
     let follows = answers.append_reply(&mut output, reply(text, rest)).is_ok();
     assert!(rt; follows);
-    assert_eq!(rt; output.len(), len.saturating_add(FRAME));
+    assert_same(rt, output.len(), len.saturating_add(FRAME));
     Ok(())
 }
 
