@@ -5,6 +5,7 @@ mod errors;
 mod hostile;
 mod memory;
 mod moments;
+mod parts;
 mod times;
 mod trees;
 mod widths;
