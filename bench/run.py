@@ -4,7 +4,8 @@
     python3 bench/run.py [FOLDER]
 
 Works on a copy of the repository, in FOLDER or a temporary one, to which `bench/texts.rt.in` is added as a
-program; both programs are proved before they are built. Instructions are counted by callgrind, where it is
+program; both programs are proved before they are built, and so are the crates below them, in a new folder
+from nothing. Instructions are counted by callgrind, where it is
 installed, as the difference of 1,000 and 3,000 turns. Times are the least of 15 rounds in turns.
 """
 
@@ -19,12 +20,18 @@ import time
 
 TEXTS = [
     ("c", "a copy of 35 bytes"),
+    ("t", "11 parts"),
     ("b", "a borrowed list of 11 items"),
     ("o", "an owned list of 11 items"),
     ("v", "a version 3 compound of 11 items"),
     ("n", "borrowed, the date nested"),
     ("p", "owned, the date nested"),
     ("d", "a borrowed list of 8, two of them deprecated"),
+    ("l", "a log line of 15 parts"),
+    ("k", "a log line, a borrowed list of 15 items"),
+    ("f", "like RFC 3339, 16 parts, used in one place"),
+    ("g", "like RFC 3339, 16 parts, used in four places"),
+    ("q", "like RFC 3339, a borrowed list of 16 items"),
     ("r", "RFC 3339, nine digits, -06:00"),
     ("u", "RFC 3339, nine digits, UTC"),
     ("s", "RFC 3339, no fraction, -06:00"),
@@ -58,7 +65,7 @@ def lines(command, count):
 def built(folder):
     """Proves and builds both programs in a copy of the repository."""
     top = os.path.dirname(os.path.dirname(os.path.abspath(__file__)))
-    shutil.copytree(top, folder, dirs_exist_ok=True, ignore=shutil.ignore_patterns(".git"))
+    shutil.copytree(top, folder, dirs_exist_ok=True, ignore=shutil.ignore_patterns(".git", "out"))
     crate = os.path.join(folder, "crates", "time_bench")
     os.makedirs(os.path.join(crate, "src"), exist_ok=True)
     shutil.copy(os.path.join(folder, "bench", "texts.rt.in"), os.path.join(crate, "src", "main.rt"))
@@ -99,16 +106,25 @@ def least_seconds(commands, file):
 
 
 def texts(program, folder):
-    print("| Text | Instructions | Nanoseconds |\n|---|---|---|")
+    """Each text by a description where it is used, and by one that is lent to a function of its own."""
+    print("| Text | In place | Lent | Nanoseconds in place | Lent |\n|---|---|---|---|---|")
     for letter, name in TEXTS:
-        count = counted(program, letter.encode() * 1000, letter.encode() * 3000)
-        file = os.path.join(folder, "turns")
-        with open(file, "wb") as target:
-            target.write(letter.encode() * (2 * TURNS))
-        with open(file + ".half", "wb") as target:
-            target.write(letter.encode() * TURNS)
-        long, short = least_seconds([[program]], file)[0], least_seconds([[program]], file + ".half")[0]
-        print(f"| {name} | {count} | {(long - short) / TURNS * 1e9:.0f} |", flush=True)
+        counts, times = [], []
+        for asked in [letter, letter.upper()]:
+            counts.append(counted(program, asked.encode() * 1000, asked.encode() * 3000))
+            times.append(nanoseconds(program, asked.encode(), folder))
+        print(f"| {name} | {' | '.join(counts + times)} |", flush=True)
+
+
+def nanoseconds(program, letter, folder):
+    """The time of a turn, as the difference of one and two million."""
+    file = os.path.join(folder, "turns")
+    with open(file, "wb") as target:
+        target.write(letter * (2 * TURNS))
+    with open(file + ".half", "wb") as target:
+        target.write(letter * TURNS)
+    long, short = least_seconds([[program]], file)[0], least_seconds([[program]], file + ".half")[0]
+    return f"{(long - short) / TURNS * 1e9:.0f}"
 
 
 def answers(program, folder):

@@ -6,6 +6,7 @@ mod errors;
 mod hostile;
 mod memory;
 mod moments;
+mod parts;
 mod sizes;
 mod times;
 mod trees;
