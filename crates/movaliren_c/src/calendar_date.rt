@@ -1,5 +1,5 @@
 //! Dates that keep the month and the day by which they were told.
-ghost use Rattle.std.specs.Prelude.{◌≡◌};
+ghost use Rattle.std.specs.Prelude.{◌≡◌, ◌↔◌, IsTrue};
 ghost use Rattle.std.specs.Int.{IsInRange};
 ghost use Rattle.time_below.specs.Calendar.{IsYear, IsDayOfMonth, month_of, day_of};
 ghost use Rattle.time_below.specs.Month.{month_number};
@@ -60,8 +60,23 @@ fn month_of(number: u8) -> Month
     }
 }
 
+/// Whether the month of that year has the day. Each month has 28 days.
+#[inline(always)]
+#[tactic(auto, using(crate::proofs::DateLemmas::four_weeks))]
+fn has_day(year: i32, month: u8, day: u8) -> bool
+    requires year { IsYear year }
+    requires month { IsInRange 1 12 month }
+    ensures { IsTrue result ↔ IsDayOfMonth year month day }
+{
+    if day <= 28 {
+        return day != 0;
+    }
+    Date::from_calendar_date(year, month_of(month), day).is_ok()
+}
+
 impl CalendarDate {
     /// The date of a year, a month and a day, or the first of them that is outside its range.
+    #[inline(always)]
     pub fn new(year: i32, month: u8, day: u8) -> Result<CalendarDate, Reason>
         ensures { result ≡ date_value year month day }
     {
@@ -71,9 +86,10 @@ impl CalendarDate {
         if month == 0 || month > 12 {
             return Err(Reason::Month);
         }
-        match Date::from_calendar_date(year, month_of(month), day) {
-            Ok(_) => Ok(CalendarDate { year, month, day }),
-            Err(_) => Err(Reason::Day),
+        if has_day(year, month, day) {
+            Ok(CalendarDate { year, month, day })
+        } else {
+            Err(Reason::Day)
         }
     }
 

@@ -147,6 +147,7 @@ fn width(items: &[Item], texts: &[u8]) -> Result<usize, Reason>
     Ok(sum)
 }
 
+#[inline(always)]
 fn part_width(part: Part<'_>) -> usize
     ensures { result ≡ tree_width (part_tree part.entry) }
 {
@@ -183,6 +184,7 @@ fn write_items<V: ComponentProvider>(
 }
 
 /// Appends the text of the part.
+#[inline(always)]
 fn write_part<V: ComponentProvider>(
     part: Part<'_>,
     output: &mut Vec<u8>,

@@ -82,6 +82,7 @@ impl Writer for IsoConfig {
 
 /// Writes the text of the value to the start of the room: 284 bytes are the most that there are, 13 of
 /// the date, 265 of the time and 6 of the offset.
+#[inline(always)]
 pub fn written(choices: Choices, value: LocalMoment, room: &mut [u8]) -> Result<usize, Reason>
     ensures { IsWritten result (iso8601_of choices value) room.old room.new }
 {
@@ -93,6 +94,7 @@ pub fn written(choices: Choices, value: LocalMoment, room: &mut [u8]) -> Result<
 }
 
 /// Appends the parts that are chosen.
+#[inline(always)]
 fn push_parts(
     line: &mut ArrayString<284>,
     choices: Choices,

@@ -190,6 +190,7 @@ fn time_component(
     }
 }
 
+#[inline(always)]
 fn component_at(
     kind: u32,
     padding: Padding,
@@ -207,6 +208,7 @@ fn component_at(
     time_component(kind, padding, flag, digits)
 }
 
+#[inline(always)]
 fn component_of(item: &Item) -> Result<Component, Reason>
     ensures { result ≡ component_of item.now }
 {
@@ -217,6 +219,7 @@ fn component_of(item: &Item) -> Result<Component, Reason>
 }
 
 /// The part that the item says.
+#[inline(always)]
 pub fn part_of<'a>(item: &Item, texts: &'a [u8]) -> Result<Part<'a>, Reason>
     ensures { tree_of result ≡ item_tree texts.now item.now }
 {

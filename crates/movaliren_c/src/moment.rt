@@ -88,6 +88,7 @@ impl LocalMoment {
     }
 }
 
+#[inline(always)]
 fn time_value(moment: &Moment) -> Result<Time, Reason>
     ensures { result ≡ time_value moment.now }
 {
@@ -110,6 +111,7 @@ fn time_value(moment: &Moment) -> Result<Time, Reason>
 }
 
 /// The number, if it is at most so far from zero.
+#[inline(always)]
 fn offset_part(reason: Reason, greatest: u8, number: i8) -> Result<i8, Reason>
     ensures value { result ≡ offset_part reason greatest number }
     ensures range { IfOk result (λ n. unsigned_abs n ≤ greatest) }
@@ -120,6 +122,7 @@ fn offset_part(reason: Reason, greatest: u8, number: i8) -> Result<i8, Reason>
     Ok(number)
 }
 
+#[inline(always)]
 fn offset_value(moment: &Moment) -> Result<UtcOffset, Reason>
     ensures { result ≡ offset_value moment.now }
 {
@@ -134,6 +137,7 @@ fn offset_value(moment: &Moment) -> Result<UtcOffset, Reason>
 
 /// The value of the parts, or the first part that is outside its range, in the order date, time,
 /// offset.
+#[inline(always)]
 pub fn moment_value(moment: &Moment) -> Result<LocalMoment, Reason>
     ensures { result ≡ moment_value moment.now }
 {

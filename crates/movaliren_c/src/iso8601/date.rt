@@ -21,6 +21,7 @@ use time_digits::{
 use time_known::iso8601::DateKind;
 
 /// Appends the date of the kind that is chosen, of at most 13 bytes, or refuses its year.
+#[inline(always)]
 pub fn push_date<const N: usize>(
     line: &mut ArrayString<N>,
     choices: Choices,
@@ -37,6 +38,7 @@ pub fn push_date<const N: usize>(
 }
 
 /// The year of the week calendar for a week date, else the calendar year.
+#[inline(always)]
 fn year_of_kind(kind: DateKind, date: CalendarDate) -> i32
     ensures value { result ≡ year_of_kind kind (date_facts date) }
     ensures range { IsYear result }
@@ -48,6 +50,7 @@ fn year_of_kind(kind: DateKind, date: CalendarDate) -> i32
 }
 
 /// Appends the sign and six digits of the year, or four digits of one that has no more.
+#[inline(always)]
 fn push_year<const N: usize>(
     line: &mut ArrayString<N>,
     is_six_digits: bool,
@@ -70,6 +73,7 @@ fn push_year<const N: usize>(
 }
 
 /// Appends the sign and six digits of the year.
+#[inline(always)]
 fn push_six_digits<const N: usize>(line: &mut ArrayString<N>, year: i32)
     requires range { IsYear year }
     requires room { array_string_len line.old + 7 ≤ N }
@@ -89,6 +93,7 @@ fn push_six_digits<const N: usize>(line: &mut ArrayString<N>, year: i32)
 }
 
 /// Appends what follows the year in a date of the kind that is chosen.
+#[inline(always)]
 fn push_after_year<const N: usize>(line: &mut ArrayString<N>, choices: Choices, date: CalendarDate)
     requires room { array_string_len line.old + 6 ≤ N }
     ensures bytes { line.new.bytes
@@ -105,6 +110,7 @@ fn push_after_year<const N: usize>(line: &mut ArrayString<N>, choices: Choices, 
 
 /// Appends the letter `W` with two digits of the week, and the weekday from 1, and the separator before
 /// each of them.
+#[inline(always)]
 fn push_week_and_weekday<const N: usize>(line: &mut ArrayString<N>, date: Date, separator: &str)
     requires room { array_string_len line.old + (4 + 2 * length separator.now) ≤ N }
     ensures bytes { line.new.bytes
@@ -133,6 +139,7 @@ fn push_weekday<const N: usize>(line: &mut ArrayString<N>, weekday: Weekday)
 }
 
 /// Appends the separator and three digits of the day of the year.
+#[inline(always)]
 fn push_ordinal<const N: usize>(line: &mut ArrayString<N>, date: Date, separator: &str)
     requires room { array_string_len line.old + (3 + length separator.now) ≤ N }
     ensures bytes { line.new.bytes

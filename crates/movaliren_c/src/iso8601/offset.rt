@@ -13,6 +13,7 @@ use time_known::iso8601::OffsetPrecision;
 
 /// Appends the offset of at most 6 bytes: `Z` for UTC where a time is written, else the difference from
 /// UTC. Refuses its seconds, and its minutes where the precision leaves them out.
+#[inline(always)]
 pub fn push_offset<const N: usize>(
     line: &mut ArrayString<N>,
     choices: Choices,
@@ -35,6 +36,7 @@ pub fn push_offset<const N: usize>(
 }
 
 /// Appends the minutes, where the precision has them; else they are refused unless zero.
+#[inline(always)]
 fn push_minutes<const N: usize>(
     line: &mut ArrayString<N>,
     choices: Choices,

@@ -22,6 +22,7 @@ const NANOSECONDS_PER_MINUTE: u64 = 60_000_000_000;
 const NANOSECONDS_PER_HOUR: u64 = 3_600_000_000_000;
 
 /// Appends the time of at most 265 bytes, and refuses nothing.
+#[inline(always)]
 pub fn push_time<const N: usize>(
     line: &mut ArrayString<N>,
     choices: Choices,
@@ -39,6 +40,7 @@ pub fn push_time<const N: usize>(
 }
 
 /// Appends the whole units down to the precision, and decimals of the last one.
+#[inline(always)]
 fn push_units<const N: usize>(line: &mut ArrayString<N>, choices: Choices, time: Time)
     requires room { array_string_len line.old + 264 ≤ N }
     ensures bytes { line.new.bytes
@@ -87,6 +89,7 @@ fn nanoseconds_of_minute(time: Time) -> u64
 }
 
 /// Appends the decimal sign and the decimals of the rest over the unit, if any are wanted.
+#[inline(always)]
 fn push_decimal_part<const N: usize>(
     line: &mut ArrayString<N>,
     sign: DecimalSign,
