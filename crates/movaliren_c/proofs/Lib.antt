@@ -3,4 +3,5 @@ pub mod DateLemmas
 pub mod DescribedLemmas
 pub mod FractionLemmas
 pub mod NumberLemmas
+pub mod OffsetLemmas
 pub mod PushLemmas

@@ -33,7 +33,7 @@ impl Writer for Iso8601 {
 
     fn write(&self, moment: &Moment, room: &mut [u8]) -> Result<usize, Reason> {
         match moment_value(moment) {
-            Ok(value) => written(Choices::normal(), value, room),
+            Ok(value) => written(Choices::normal(), &value, room),
             Err(reason) => Err(reason),
         }
     }
@@ -72,7 +72,7 @@ impl Writer for IsoConfig {
     fn write(&self, moment: &Moment, room: &mut [u8]) -> Result<usize, Reason> {
         match choices_at(self) {
             Ok(choices) => match moment_value(moment) {
-                Ok(value) => written(choices, value, room),
+                Ok(value) => written(choices, &value, room),
                 Err(reason) => Err(reason),
             },
             Err(reason) => Err(reason),
@@ -83,8 +83,8 @@ impl Writer for IsoConfig {
 /// Writes the text of the value to the start of the room: 284 bytes are the most that there are, 13 of
 /// the date, 265 of the time and 6 of the offset.
 #[inline(always)]
-pub fn written(choices: Choices, value: LocalMoment, room: &mut [u8]) -> Result<usize, Reason>
-    ensures { IsWritten result (iso8601_of choices value) room.old room.new }
+pub fn written(choices: Choices, value: &LocalMoment, room: &mut [u8]) -> Result<usize, Reason>
+    ensures { IsWritten result (iso8601_of choices value.now) room.old room.new }
 {
     let mut line = ArrayString::<284>::new();
     match push_parts(&mut line, choices, value) {
@@ -98,10 +98,10 @@ pub fn written(choices: Choices, value: LocalMoment, room: &mut [u8]) -> Result<
 fn push_parts(
     line: &mut ArrayString<284>,
     choices: Choices,
-    value: LocalMoment,
+    value: &LocalMoment,
 ) -> Result<(), Reason>
     requires empty { line.old.bytes ≡ [] }
-    ensures { IsPushed line.old line.new result (iso8601_of choices value) }
+    ensures { IsPushed line.old line.new result (iso8601_of choices value.now) }
 {
     match choices.formatted_components() {
         FormattedComponents::None => Err(Reason::Insufficient),

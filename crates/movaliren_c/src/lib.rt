@@ -10,6 +10,7 @@ mod calendar_date;
 mod described;
 mod iso8601;
 mod item;
+mod kept_offset;
 pub mod laws;
 mod moment;
 mod pieces;

@@ -1,12 +1,13 @@
 //! Moments as they cross the border, and the values that they give.
-ghost use Rattle.std.specs.Prelude.{◌≡◌, ◌≤◌, IfOk, unsigned_abs};
+ghost use Rattle.std.specs.Prelude.{◌≡◌};
 ghost use Rattle.time_below.specs.Offset.{utc};
-ghost use Rattle.movaliren_c.specs.Value.{date_value, time_value, offset_part, offset_value, moment_value, timestamp_value, stamp_value};
+ghost use Rattle.movaliren_c.specs.Value.{date_value, time_value, moment_value, timestamp_value, stamp_value};
 
 use crate::calendar_date::CalendarDate;
+use crate::kept_offset::KeptOffset;
 use crate::reason::Reason;
 use std::marker::Model;
-use time_below::{Date, OffsetDateTime, Time, Timestamp, UtcDateTime, UtcOffset};
+use time_below::{Date, OffsetDateTime, Time, Timestamp, UtcDateTime};
 
 /// A local date and time, and its offset from UTC.
 #[repr(C)]
@@ -32,13 +33,13 @@ pub struct UtcMoment {
     pub nanosecond: u32,
 }
 
-/// The value of a moment: a local date, of which the month and the day are at hand, a time and an
-/// offset.
-#[derive(Clone, Copy)]
+/// The value of a moment: a local date, of which the month and the day are at hand, a time, and an offset
+/// by the parts that were told.
+#[derive(Drop)]
 pub struct LocalMoment {
     date: CalendarDate,
     time: Time,
-    offset: UtcOffset,
+    offset: KeptOffset,
 }
 
 impl Model for LocalMoment {
@@ -47,8 +48,6 @@ impl Model for LocalMoment {
     ghost Value = { OffsetDateAndTime };
 
     ghost view = { λ t. record { date = t.date; time = t.time; offset = t.offset } };
-
-    ghost inverse = { λ t. record { date = t.date; time = t.time; offset = t.offset } };
 }
 
 impl LocalMoment {
@@ -56,35 +55,32 @@ impl LocalMoment {
     pub fn in_utc(value: UtcDateTime) -> LocalMoment
         ensures { result ≡ record { date = value.date; time = value.time; offset = utc } }
     {
-        match UtcOffset::from_hms(0, 0, 0) {
-            Ok(offset) => LocalMoment {
-                date: CalendarDate::of_date(value.date()),
-                time: value.time(),
-                offset,
-            },
-            Err(_) => unreachable!(),
+        LocalMoment {
+            date: CalendarDate::of_date(value.date()),
+            time: value.time(),
+            offset: KeptOffset::utc(),
         }
     }
 
     /// The local date.
-    pub fn date(self) -> CalendarDate
-        ensures { result ≡ self.date }
+    pub fn date(&self) -> CalendarDate
+        ensures { result ≡ self.now.date }
     {
         self.date
     }
 
     /// The local time of day.
-    pub fn time(self) -> Time
-        ensures { result ≡ self.time }
+    pub fn time(&self) -> Time
+        ensures { result ≡ self.now.time }
     {
         self.time
     }
 
     /// The offset from UTC.
-    pub fn offset(self) -> UtcOffset
-        ensures { result ≡ self.offset }
+    pub fn offset(&self) -> &KeptOffset
+        ensures { result.now ≡ self.now.offset }
     {
-        self.offset
+        &self.offset
     }
 }
 
@@ -110,31 +106,6 @@ fn time_value(moment: &Moment) -> Result<Time, Reason>
     }
 }
 
-/// The number, if it is at most so far from zero.
-#[inline(always)]
-fn offset_part(reason: Reason, greatest: u8, number: i8) -> Result<i8, Reason>
-    ensures value { result ≡ offset_part reason greatest number }
-    ensures range { IfOk result (λ n. unsigned_abs n ≤ greatest) }
-{
-    if number.unsigned_abs() > greatest {
-        return Err(reason);
-    }
-    Ok(number)
-}
-
-#[inline(always)]
-fn offset_value(moment: &Moment) -> Result<UtcOffset, Reason>
-    ensures { result ≡ offset_value moment.now }
-{
-    let hours = offset_part(Reason::OffsetHours, 25, moment.offset_hours)?;
-    let minutes = offset_part(Reason::OffsetMinutes, 59, moment.offset_minutes)?;
-    let seconds = offset_part(Reason::OffsetSeconds, 59, moment.offset_seconds)?;
-    match UtcOffset::from_hms(hours, minutes, seconds) {
-        Ok(offset) => Ok(offset),
-        Err(_) => unreachable!(),
-    }
-}
-
 /// The value of the parts, or the first part that is outside its range, in the order date, time,
 /// offset.
 #[inline(always)]
@@ -143,7 +114,7 @@ pub fn moment_value(moment: &Moment) -> Result<LocalMoment, Reason>
 {
     let date = CalendarDate::new(moment.year, moment.month, moment.day)?;
     let time = time_value(moment)?;
-    let offset = offset_value(moment)?;
+    let offset = KeptOffset::of_moment(moment)?;
     Ok(LocalMoment { date, time, offset })
 }
 
@@ -152,7 +123,11 @@ pub fn provided_value(moment: &Moment) -> Result<OffsetDateTime, Reason>
     ensures { result ≡ moment_value moment.now }
 {
     match moment_value(moment) {
-        Ok(value) => Ok(OffsetDateTime::new_in_offset(value.date.date(), value.time, value.offset)),
+        Ok(value) => Ok(OffsetDateTime::new_in_offset(
+            value.date.date(),
+            value.time,
+            value.offset.offset(),
+        )),
         Err(reason) => Err(reason),
     }
 }

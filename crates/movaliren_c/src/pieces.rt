@@ -6,8 +6,9 @@ ghost use Rattle.time_digits.specs.Digits.{fixed, zero_padded};
 ghost use Rattle.time_known.specs.WellKnown.{month_and_day_text, clock_text, offset_hours_text, offset_minutes_text, offset_text};
 
 use crate::calendar_date::CalendarDate;
+use crate::kept_offset::KeptOffset;
 use arrayvec::ArrayString;
-use time_below::{Time, UtcOffset};
+use time_below::Time;
 use time_digits::{
     four_digits_zero_padded, ru8, ru16, ru32, subsecond_from_nanos, two_digits_zero_padded,
 };
@@ -88,36 +89,34 @@ pub fn push_clock<const N: usize>(line: &mut ArrayString<N>, time: Time, separat
 
 /// Appends the sign of the whole offset, and its hours.
 #[inline(always)]
-pub fn push_offset_hours<const N: usize>(line: &mut ArrayString<N>, offset: UtcOffset)
+pub fn push_offset_hours<const N: usize>(line: &mut ArrayString<N>, offset: &KeptOffset)
     requires room { array_string_len line.old + 3 ≤ N }
-    ensures bytes { line.new.bytes ≡ line.old.bytes ++ offset_hours_text offset }
+    ensures bytes { line.new.bytes ≡ line.old.bytes ++ offset_hours_text offset.now }
     ensures len { array_string_len line.new ≡ array_string_len line.old + 3 }
 {
-    let (hours, _, _) = offset.as_hms();
     if offset.is_negative() {
         line.push_str("-");
     } else {
         line.push_str("+");
     }
-    push_pair(line, hours.unsigned_abs());
+    push_pair(line, offset.hours_size());
 }
 
 /// Appends the minutes of an offset.
 #[inline(always)]
-pub fn push_offset_minutes<const N: usize>(line: &mut ArrayString<N>, offset: UtcOffset)
+pub fn push_offset_minutes<const N: usize>(line: &mut ArrayString<N>, offset: &KeptOffset)
     requires room { array_string_len line.old + 2 ≤ N }
-    ensures bytes { line.new.bytes ≡ line.old.bytes ++ offset_minutes_text offset }
+    ensures bytes { line.new.bytes ≡ line.old.bytes ++ offset_minutes_text offset.now }
     ensures len { array_string_len line.new ≡ array_string_len line.old + 2 }
 {
-    let (_, minutes, _) = offset.as_hms();
-    push_pair(line, minutes.unsigned_abs());
+    push_pair(line, offset.minutes_size());
 }
 
 /// Appends the sign of the whole offset, its hours and its minutes, and the separator between them.
 #[inline(always)]
-pub fn push_offset<const N: usize>(line: &mut ArrayString<N>, offset: UtcOffset, separator: &str)
+pub fn push_offset<const N: usize>(line: &mut ArrayString<N>, offset: &KeptOffset, separator: &str)
     requires room { array_string_len line.old + (5 + length separator.now) ≤ N }
-    ensures bytes { line.new.bytes ≡ line.old.bytes ++ offset_text separator.now offset }
+    ensures bytes { line.new.bytes ≡ line.old.bytes ++ offset_text separator.now offset.now }
     ensures len { array_string_len line.new
         ≡ array_string_len line.old + (5 + length separator.now) }
 {

@@ -31,7 +31,7 @@ impl Writer for Rfc2822 {
     #[inline(always)]
     fn write(&self, moment: &Moment, room: &mut [u8]) -> Result<usize, Reason> {
         match moment_value(moment) {
-            Ok(value) => written(value, room),
+            Ok(value) => written(&value, room),
             Err(reason) => Err(reason),
         }
     }
@@ -48,8 +48,8 @@ pub extern "C" fn movaliren_rfc2822(moment: &Moment, room: &mut [u8]) -> isize
 
 /// Writes the text of the value to the start of the room.
 #[inline(always)]
-fn written(value: LocalMoment, room: &mut [u8]) -> Result<usize, Reason>
-    ensures { IsWritten result (rfc2822_of value) room.old room.new }
+fn written(value: &LocalMoment, room: &mut [u8]) -> Result<usize, Reason>
+    ensures { IsWritten result (rfc2822_of value.now) room.old room.new }
 {
     match accepted_year(value) {
         Ok(year) => {
@@ -63,18 +63,17 @@ fn written(value: LocalMoment, room: &mut [u8]) -> Result<usize, Reason>
 
 /// The year of four digits, or why the value has no text.
 #[inline(always)]
-fn accepted_year(value: LocalMoment) -> Result<ru16<0, 9_999>, Reason>
-    ensures year { IfOk result (λ year. year ≡ unsigned_abs value.date.year) }
-    ensures accepted { IfOk result (λ _. rfc2822_of value
-        ≡ done (rfc2822_text (date_facts value.date) value.time value.offset)) }
-    ensures refused { IfErr result (λ r. IsRefusedFor r (rfc2822_of value)) }
+fn accepted_year(value: &LocalMoment) -> Result<ru16<0, 9_999>, Reason>
+    ensures year { IfOk result (λ year. year ≡ unsigned_abs value.now.date.year) }
+    ensures accepted { IfOk result (λ _. rfc2822_of value.now
+        ≡ done (rfc2822_text (date_facts value.now.date) value.now.time value.now.offset)) }
+    ensures refused { IfErr result (λ r. IsRefusedFor r (rfc2822_of value.now)) }
 {
     let year = value.date().year();
     if year < 1900 || year > 9_999 {
         return Err(Reason::NoPlaceForYear);
     }
-    let (_, _, seconds) = value.offset().as_hms();
-    if seconds != 0 {
+    if value.offset().seconds_size() != 0 {
         return Err(Reason::NoPlaceForOffsetSecond);
     }
     Ok(ru16::within(year.unsigned_abs() as u16))
@@ -82,10 +81,10 @@ fn accepted_year(value: LocalMoment) -> Result<ru16<0, 9_999>, Reason>
 
 /// Appends the text of a value of which nothing is refused.
 #[inline(always)]
-fn push_text(line: &mut ArrayString<31>, year: ru16<0, 9_999>, value: LocalMoment)
-    requires year { year ≡ unsigned_abs value.date.year }
+fn push_text(line: &mut ArrayString<31>, year: ru16<0, 9_999>, value: &LocalMoment)
+    requires year { year ≡ unsigned_abs value.now.date.year }
     requires empty { line.old.bytes ≡ [] }
-    ensures { line.new.bytes ≡ rfc2822_text (date_facts value.date) value.time value.offset }
+    ensures { line.new.bytes ≡ rfc2822_text (date_facts value.now.date) value.now.time value.now.offset }
 {
     push_named_date(line, year, value.date());
     line.push_str(" ");

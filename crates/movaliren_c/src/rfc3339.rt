@@ -9,6 +9,7 @@ ghost use Rattle.time_fmt.specs.Outcome.{done};
 ghost use Rattle.time_known.specs.Rfc3339.{rfc3339_of, rfc3339_text, full_date_text, time_secfrac_text, time_offset_text};
 
 use crate::calendar_date::CalendarDate;
+use crate::kept_offset::KeptOffset;
 use crate::moment::{LocalMoment, Moment, moment_value};
 use crate::pieces::{
     push_clock, push_four_digits, push_month_and_day, push_nine_digits, push_offset,
@@ -17,7 +18,6 @@ use crate::reason::{Reason, answer_number};
 use crate::room::copied;
 use crate::writer::Writer;
 use arrayvec::ArrayString;
-use time_below::UtcOffset;
 use time_digits::{ru16, ru32, truncated_subsecond_from_nanos};
 
 /// The format of RFC 3339 over moments with an offset.
@@ -31,7 +31,7 @@ impl Writer for Rfc3339 {
     #[inline(always)]
     fn write(&self, moment: &Moment, room: &mut [u8]) -> Result<usize, Reason> {
         match moment_value(moment) {
-            Ok(value) => written(value, room),
+            Ok(value) => written(&value, room),
             Err(reason) => Err(reason),
         }
     }
@@ -48,8 +48,8 @@ pub extern "C" fn movaliren_rfc3339(moment: &Moment, room: &mut [u8]) -> isize
 
 /// Writes the text of the value to the start of the room.
 #[inline(always)]
-fn written(value: LocalMoment, room: &mut [u8]) -> Result<usize, Reason>
-    ensures { IsWritten result (rfc3339_of value) room.old room.new }
+fn written(value: &LocalMoment, room: &mut [u8]) -> Result<usize, Reason>
+    ensures { IsWritten result (rfc3339_of value.now) room.old room.new }
 {
     match accepted_year(value) {
         Ok(year) => {
@@ -63,21 +63,20 @@ fn written(value: LocalMoment, room: &mut [u8]) -> Result<usize, Reason>
 
 /// The year of four digits, or why the value has no text.
 #[inline(always)]
-fn accepted_year(value: LocalMoment) -> Result<ru16<0, 9_999>, Reason>
-    ensures year { IfOk result (λ year. year ≡ unsigned_abs value.date.year) }
-    ensures accepted { IfOk result (λ _. rfc3339_of value
-        ≡ done (rfc3339_text (date_facts value.date) value.time value.offset)) }
-    ensures refused { IfErr result (λ r. IsRefusedFor r (rfc3339_of value)) }
+fn accepted_year(value: &LocalMoment) -> Result<ru16<0, 9_999>, Reason>
+    ensures year { IfOk result (λ year. year ≡ unsigned_abs value.now.date.year) }
+    ensures accepted { IfOk result (λ _. rfc3339_of value.now
+        ≡ done (rfc3339_text (date_facts value.now.date) value.now.time value.now.offset)) }
+    ensures refused { IfErr result (λ r. IsRefusedFor r (rfc3339_of value.now)) }
 {
     let year = value.date().year();
     if year < 0 || year > 9_999 {
         return Err(Reason::NoPlaceForYear);
     }
-    let (hours, _, seconds) = value.offset().as_hms();
-    if hours.unsigned_abs() > 23 {
+    if value.offset().hours_size() > 23 {
         return Err(Reason::NoPlaceForOffsetHour);
     }
-    if seconds != 0 {
+    if value.offset().seconds_size() != 0 {
         return Err(Reason::NoPlaceForOffsetSecond);
     }
     Ok(ru16::within(year.unsigned_abs() as u16))
@@ -85,10 +84,10 @@ fn accepted_year(value: LocalMoment) -> Result<ru16<0, 9_999>, Reason>
 
 /// Appends the text of a value of which nothing is refused.
 #[inline(always)]
-fn push_text(line: &mut ArrayString<35>, year: ru16<0, 9_999>, value: LocalMoment)
-    requires year { year ≡ unsigned_abs value.date.year }
+fn push_text(line: &mut ArrayString<35>, year: ru16<0, 9_999>, value: &LocalMoment)
+    requires year { year ≡ unsigned_abs value.now.date.year }
     requires empty { line.old.bytes ≡ [] }
-    ensures { line.new.bytes ≡ rfc3339_text (date_facts value.date) value.time value.offset }
+    ensures { line.new.bytes ≡ rfc3339_text (date_facts value.now.date) value.now.time value.now.offset }
 {
     push_full_date(line, year, value.date());
     line.push_str("T");
@@ -146,9 +145,9 @@ fn push_decimals<const N: usize>(line: &mut ArrayString<N>, nanosecond: u32)
 
 /// Appends the offset.
 #[inline(always)]
-fn push_time_offset<const N: usize>(line: &mut ArrayString<N>, offset: UtcOffset)
+fn push_time_offset<const N: usize>(line: &mut ArrayString<N>, offset: &KeptOffset)
     requires room { array_string_len line.old + 6 ≤ N }
-    ensures { line.new.bytes ≡ line.old.bytes ++ time_offset_text offset }
+    ensures { line.new.bytes ≡ line.old.bytes ++ time_offset_text offset.now }
 {
     if offset.is_utc() {
         line.push_str("Z");

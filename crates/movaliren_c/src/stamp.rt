@@ -30,7 +30,7 @@ impl Writer for Stamp {
 fn stamp_written(value: UtcDateTime, room: &mut [u8]) -> Result<usize, Reason>
     ensures { IsWritten result (stamp_of value) room.old room.new }
 {
-    written(Choices::normal(), LocalMoment::in_utc(value), room)
+    written(Choices::normal(), &LocalMoment::in_utc(value), room)
 }
 
 /// The stamp of a moment.

@@ -5,10 +5,10 @@ ghost use Rattle.movaliren_c.specs.Answer.{IsPushed};
 ghost use Rattle.time_known.specs.Iso8601.{iso_minutes, iso_offset};
 
 use crate::iso8601::choices::Choices;
+use crate::kept_offset::KeptOffset;
 use crate::pieces::{push_offset_hours, push_offset_minutes};
 use crate::reason::Reason;
 use arrayvec::ArrayString;
-use time_below::UtcOffset;
 use time_known::iso8601::OffsetPrecision;
 
 /// Appends the offset of at most 6 bytes: `Z` for UTC where a time is written, else the difference from
@@ -17,18 +17,17 @@ use time_known::iso8601::OffsetPrecision;
 pub fn push_offset<const N: usize>(
     line: &mut ArrayString<N>,
     choices: Choices,
-    offset: UtcOffset,
+    offset: &KeptOffset,
 ) -> Result<(), Reason>
     requires room { array_string_len line.old + 6 ≤ N }
-    ensures pushed { IsPushed line.old line.new result (iso_offset choices offset) }
+    ensures pushed { IsPushed line.old line.new result (iso_offset choices offset.now) }
     ensures len { array_string_len line.new ≤ array_string_len line.old + 6 }
 {
     if choices.has_time() && offset.is_utc() {
         line.push_str("Z");
         return Ok(());
     }
-    let (_, _, seconds) = offset.as_hms();
-    if seconds != 0 {
+    if offset.seconds_size() != 0 {
         return Err(Reason::NoPlaceForOffsetSecond);
     }
     push_offset_hours(line, offset);
@@ -40,14 +39,13 @@ pub fn push_offset<const N: usize>(
 fn push_minutes<const N: usize>(
     line: &mut ArrayString<N>,
     choices: Choices,
-    offset: UtcOffset,
+    offset: &KeptOffset,
 ) -> Result<(), Reason>
     requires room { array_string_len line.old + 3 ≤ N }
     ensures pushed { IsPushed line.old line.new result
-        (iso_minutes choices.offset_precision choices offset) }
+        (iso_minutes choices.offset_precision choices offset.now) }
     ensures len { array_string_len line.new ≤ array_string_len line.old + 3 }
 {
-    let (_, minutes, _) = offset.as_hms();
     match choices.offset_precision() {
         OffsetPrecision::Minute => {
             line.push_str(choices.colon());
@@ -55,7 +53,7 @@ fn push_minutes<const N: usize>(
             Ok(())
         }
         OffsetPrecision::Hour => {
-            if minutes != 0 {
+            if offset.minutes_size() != 0 {
                 return Err(Reason::NoPlaceForOffsetMinute);
             }
             Ok(())
