@@ -8,6 +8,7 @@ ghost use Rattle.time_known.specs.Iso8601.{iso8601_of};
 
 mod choices;
 mod date;
+mod default_text;
 mod offset;
 mod time;
 
@@ -16,9 +17,10 @@ use crate::reason::{Reason, answer_number};
 use crate::room::copied;
 use crate::writer::Writer;
 use arrayvec::ArrayString;
-use choices::choices_at;
-pub use choices::{Choices, IsoConfig};
+pub use choices::IsoConfig;
+use choices::{Choices, choices_at};
 use date::push_date;
+pub use default_text::default_written;
 use offset::push_offset;
 use time::push_time;
 use time_known::iso8601::FormattedComponents;
@@ -33,7 +35,7 @@ impl Writer for Iso8601 {
 
     fn write(&self, moment: &Moment, room: &mut [u8]) -> Result<usize, Reason> {
         match moment_value(moment) {
-            Ok(value) => written(Choices::normal(), &value, room),
+            Ok(value) => default_written(&value, room),
             Err(reason) => Err(reason),
         }
     }
@@ -83,7 +85,7 @@ impl Writer for IsoConfig {
 /// Writes the text of the value to the start of the room: 284 bytes are the most that there are, 13 of
 /// the date, 265 of the time and 6 of the offset.
 #[inline(always)]
-pub fn written(choices: Choices, value: &LocalMoment, room: &mut [u8]) -> Result<usize, Reason>
+fn written(choices: Choices, value: &LocalMoment, room: &mut [u8]) -> Result<usize, Reason>
     ensures { IsWritten result (iso8601_of choices value.now) room.old room.new }
 {
     let mut line = ArrayString::<284>::new();

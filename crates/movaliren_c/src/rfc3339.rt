@@ -99,7 +99,7 @@ fn push_text(line: &mut ArrayString<35>, year: ru16<0, 9_999>, value: &LocalMome
 
 /// Appends a date, of this year.
 #[inline(always)]
-fn push_full_date<const N: usize>(
+pub fn push_full_date<const N: usize>(
     line: &mut ArrayString<N>,
     year: ru16<0, 9_999>,
     date: CalendarDate,
@@ -145,7 +145,7 @@ fn push_decimals<const N: usize>(line: &mut ArrayString<N>, nanosecond: u32)
 
 /// Appends the offset.
 #[inline(always)]
-fn push_time_offset<const N: usize>(line: &mut ArrayString<N>, offset: &KeptOffset)
+pub fn push_time_offset<const N: usize>(line: &mut ArrayString<N>, offset: &KeptOffset)
     requires room { array_string_len line.old + 6 ≤ N }
     ensures { line.new.bytes ≡ line.old.bytes ++ time_offset_text offset.now }
 {

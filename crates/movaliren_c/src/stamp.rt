@@ -4,7 +4,7 @@ ghost use Rattle.movaliren_c.specs.Answer.{Answers, IsText, IsWritten, gives};
 ghost use Rattle.movaliren_c.specs.Value.{stamp_value};
 ghost use Rattle.time_known.specs.Stamps.{stamp_of};
 
-use crate::iso8601::{Choices, written};
+use crate::iso8601::default_written;
 use crate::moment::{LocalMoment, UtcMoment, stamp_value};
 use crate::reason::{Reason, answer_number};
 use crate::writer::Writer;
@@ -30,7 +30,7 @@ impl Writer for Stamp {
 fn stamp_written(value: UtcDateTime, room: &mut [u8]) -> Result<usize, Reason>
     ensures { IsWritten result (stamp_of value) room.old room.new }
 {
-    written(Choices::normal(), &LocalMoment::in_utc(value), room)
+    default_written(&LocalMoment::in_utc(value), room)
 }
 
 /// The stamp of a moment.

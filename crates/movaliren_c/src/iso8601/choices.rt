@@ -1,7 +1,7 @@
 //! Configurations of ISO 8601 as they cross the border, and what they choose.
 ghost use Rattle.std.specs.Prelude.{◌≡◌, ◌≤◌, codes, length};
 ghost use Rattle.movaliren_c.specs.Chosen.{components_at, date_kind_at, decimals_at, precision_at, offset_precision_at, flag_at, sign_at, choices_at};
-ghost use Rattle.time_known.specs.Config.{default_choices, has_date, has_time, has_time_letter, separator};
+ghost use Rattle.time_known.specs.Config.{has_date, has_time, has_time_letter, separator};
 
 use crate::reason::Reason;
 use std::marker::Model;
@@ -63,23 +63,6 @@ impl Model for Choices {
 }
 
 impl Choices {
-    /// Those of the default configuration.
-    pub fn normal() -> Choices
-        ensures { result ≡ default_choices }
-    {
-        Choices {
-            formatted_components: FormattedComponents::DateTimeOffset,
-            use_separators: true,
-            year_is_six_digits: false,
-            date_kind: DateKind::Calendar,
-            time_precision: TimePrecision::Second {
-                decimal_digits: ru8::new(9),
-            },
-            offset_precision: OffsetPrecision::Minute,
-            decimal_sign: DecimalSign::Point,
-        }
-    }
-
     pub fn formatted_components(self) -> FormattedComponents
         ensures { result ≡ self.formatted_components }
     {
