@@ -129,7 +129,7 @@ class Tellings:
         for header, name in STRUCTS.items():
             body = braces(self.c, f"struct movaliren_{header}")
             fields = [(field, TYPES[kind]) for kind, field in re.findall(r"(\w+) (\w+);", body)]
-            field = r"(?:pub(?:\(crate\))? )?(\w+): (\w+),"
+            field = r"(?:pub(?:\(\w+\))? )?(\w+): (\w+),"
             rust = self.rust[self.rust.index("mod library"):] if name == "Progress" else self.rust
             self.same(
                 f"struct {name}",
@@ -174,7 +174,7 @@ class Tellings:
         return functions
 
     def rust_functions(self):
-        found = re.findall(r"pub fn (movaliren_\w+)\((.*?)\)\s*->\s*(\w+);", self.rust, re.S)
+        found = re.findall(r"pub\(super\) fn (movaliren_\w+)\((.*?)\)\s*->\s*(\w+);", self.rust, re.S)
         return {name: (re.findall(r"(\w+): ([^,]+?)\s*(?:,|$)", told), answer) for name, told, answer in found}
 
     def functions(self):

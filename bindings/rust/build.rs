@@ -18,14 +18,20 @@ fn folder_of_kit() -> PathBuf {
     if let Some(folder) = env::var_os("RATTLE_C") {
         return folder.into();
     }
-    let told = Command::new("rt").arg("doc").output().expect("`rt`, or RATTLE_C is set");
+    let told = Command::new("rt")
+        .arg("doc")
+        .output()
+        .expect("`rt`, or RATTLE_C is set");
     let page = String::from_utf8(told.stdout).expect("a path");
     Path::new(page.trim()).with_file_name("c")
 }
 
 fn main() {
     // The library calls what the kit's archive has, so it stands first.
-    for (folder, library) in [(folder_of_library(), "movaliren_c"), (folder_of_kit(), "libc_c")] {
+    for (folder, library) in [
+        (folder_of_library(), "movaliren_c"),
+        (folder_of_kit(), "libc_c"),
+    ] {
         let folder = folder.display();
         println!("cargo:rerun-if-changed={folder}/lib{library}.a");
         println!("cargo:rustc-link-search=native={folder}");

@@ -101,8 +101,12 @@ impl fmt::Display for Error {
             Error::MomentSeconds => "the seconds are outside those of the years -999999 to 999999",
             Error::NoPlaceForYear => "the format has no place for the year",
             Error::NoPlaceForOffsetHour => "the format has no place for the hours of the offset",
-            Error::NoPlaceForOffsetMinute => "the format has no place for the minutes of the offset",
-            Error::NoPlaceForOffsetSecond => "the format has no place for the seconds of the offset",
+            Error::NoPlaceForOffsetMinute => {
+                "the format has no place for the minutes of the offset"
+            }
+            Error::NoPlaceForOffsetSecond => {
+                "the format has no place for the seconds of the offset"
+            }
             Error::Insufficient => "the value lacks a component",
             Error::OutOfRange => "a component is outside the range that the description has for it",
             Error::BadConfig => "a number of the configuration is none that there is",

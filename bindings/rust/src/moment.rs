@@ -81,7 +81,10 @@ pub struct UtcMoment {
 impl UtcMoment {
     /// So many seconds since 1970-01-01T00:00:00 UTC, and a nanosecond.
     pub const fn new(seconds: i64, nanosecond: u32) -> Self {
-        UtcMoment { seconds, nanosecond }
+        UtcMoment {
+            seconds,
+            nanosecond,
+        }
     }
 }
 
@@ -97,9 +100,8 @@ impl UtcMoment {
 #[cfg(feature = "std")]
 impl From<std::time::SystemTime> for UtcMoment {
     fn from(time: std::time::SystemTime) -> Self {
-        let seconds_of = |passed: std::time::Duration| {
-            i64::try_from(passed.as_secs()).unwrap_or(i64::MAX)
-        };
+        let seconds_of =
+            |passed: std::time::Duration| i64::try_from(passed.as_secs()).unwrap_or(i64::MAX);
         match time.duration_since(std::time::UNIX_EPOCH) {
             Ok(after) => UtcMoment::new(seconds_of(after), after.subsec_nanos()),
             Err(before) => {

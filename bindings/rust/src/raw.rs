@@ -49,50 +49,62 @@ mod library {
     use crate::{Moment, UtcMoment};
 
     #[repr(C)]
-    pub struct Progress {
-        pub moments: usize,
-        pub bytes: usize,
-        pub reason: isize,
+    pub(super) struct Progress {
+        pub(super) moments: usize,
+        pub(super) bytes: usize,
+        pub(super) reason: isize,
     }
 
     extern "C" {
-        pub fn movaliren_rfc3339(moment: *const Moment, room: *mut u8, room_len: usize) -> isize;
-        pub fn movaliren_rfc2822(moment: *const Moment, room: *mut u8, room_len: usize) -> isize;
-        pub fn movaliren_iso8601(moment: *const Moment, room: *mut u8, room_len: usize) -> isize;
-        pub fn movaliren_iso8601_by(
+        pub(super) fn movaliren_rfc3339(
+            moment: *const Moment,
+            room: *mut u8,
+            room_len: usize,
+        ) -> isize;
+        pub(super) fn movaliren_rfc2822(
+            moment: *const Moment,
+            room: *mut u8,
+            room_len: usize,
+        ) -> isize;
+        pub(super) fn movaliren_iso8601(
+            moment: *const Moment,
+            room: *mut u8,
+            room_len: usize,
+        ) -> isize;
+        pub(super) fn movaliren_iso8601_by(
             config: *const IsoConfig,
             moment: *const Moment,
             room: *mut u8,
             room_len: usize,
         ) -> isize;
-        pub fn movaliren_stamp(
+        pub(super) fn movaliren_stamp(
             seconds: i64,
             nanosecond: u32,
             room: *mut u8,
             room_len: usize,
         ) -> isize;
-        pub fn movaliren_rfc3339_batch(
+        pub(super) fn movaliren_rfc3339_batch(
             moments: *const Moment,
             moments_len: usize,
             end: u8,
             room: *mut u8,
             room_len: usize,
         ) -> Progress;
-        pub fn movaliren_rfc2822_batch(
+        pub(super) fn movaliren_rfc2822_batch(
             moments: *const Moment,
             moments_len: usize,
             end: u8,
             room: *mut u8,
             room_len: usize,
         ) -> Progress;
-        pub fn movaliren_iso8601_batch(
+        pub(super) fn movaliren_iso8601_batch(
             moments: *const Moment,
             moments_len: usize,
             end: u8,
             room: *mut u8,
             room_len: usize,
         ) -> Progress;
-        pub fn movaliren_iso8601_by_batch(
+        pub(super) fn movaliren_iso8601_by_batch(
             config: *const IsoConfig,
             moments: *const Moment,
             moments_len: usize,
@@ -100,14 +112,14 @@ mod library {
             room: *mut u8,
             room_len: usize,
         ) -> Progress;
-        pub fn movaliren_stamp_batch(
+        pub(super) fn movaliren_stamp_batch(
             moments: *const UtcMoment,
             moments_len: usize,
             end: u8,
             room: *mut u8,
             room_len: usize,
         ) -> Progress;
-        pub fn movaliren_format(
+        pub(super) fn movaliren_format(
             items: *const Item,
             items_len: usize,
             texts: *const u8,
@@ -116,7 +128,7 @@ mod library {
             room: *mut u8,
             room_len: usize,
         ) -> isize;
-        pub fn movaliren_format_utc(
+        pub(super) fn movaliren_format_utc(
             items: *const Item,
             items_len: usize,
             texts: *const u8,
@@ -126,7 +138,7 @@ mod library {
             room: *mut u8,
             room_len: usize,
         ) -> isize;
-        pub fn movaliren_format_date(
+        pub(super) fn movaliren_format_date(
             items: *const Item,
             items_len: usize,
             texts: *const u8,
@@ -137,7 +149,7 @@ mod library {
             room: *mut u8,
             room_len: usize,
         ) -> isize;
-        pub fn movaliren_width(
+        pub(super) fn movaliren_width(
             items: *const Item,
             items_len: usize,
             texts: *const u8,

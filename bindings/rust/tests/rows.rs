@@ -14,7 +14,10 @@ fn assert_text<V>(format: &impl Format<V>, value: &V, text: &str) {
     assert_eq!(&line[4..], text.as_bytes());
     assert!(text.len() <= format.width());
     let mut room = vec![b'#'; text.len() + 1];
-    assert_eq!(format.format_to(&mut room[..text.len()], value), Ok(text.as_bytes()));
+    assert_eq!(
+        format.format_to(&mut room[..text.len()], value),
+        Ok(text.as_bytes())
+    );
     assert_eq!(room[text.len()], b'#');
     if let Some(short) = text.len().checked_sub(1) {
         let mut room = vec![b'#'; short];
@@ -38,13 +41,24 @@ fn assert_error<V>(format: &impl Format<V>, value: &V, error: Error) {
 #[test]
 fn texts() {
     assert_text(&Rfc3339, &EXAMPLE, "1997-11-12T09:55:06.12-06:00");
-    assert_text(&Rfc3339, &EXAMPLE.offset(0, 0, 0), "1997-11-12T09:55:06.12Z");
+    assert_text(
+        &Rfc3339,
+        &EXAMPLE.offset(0, 0, 0),
+        "1997-11-12T09:55:06.12Z",
+    );
     assert_text(&Rfc2822, &EXAMPLE, "Wed, 12 Nov 1997 09:55:06 -0600");
     assert_text(&Iso8601, &EXAMPLE, "1997-11-12T09:55:06.120000000-06:00");
-    assert_text(&Iso8601By::default(), &EXAMPLE, "1997-11-12T09:55:06.120000000-06:00");
+    assert_text(
+        &Iso8601By::default(),
+        &EXAMPLE,
+        "1997-11-12T09:55:06.120000000-06:00",
+    );
     let moment = UtcMoment::new(879_350_106, 120_000_000);
     assert_text(&Stamp, &moment, "1997-11-12T15:55:06.120000000Z");
-    assert_eq!(stamp(&moment).as_ref(), Ok(b"1997-11-12T15:55:06.120000000Z"));
+    assert_eq!(
+        stamp(&moment).as_ref(),
+        Ok(b"1997-11-12T15:55:06.120000000Z")
+    );
 }
 
 #[test]
@@ -52,19 +66,35 @@ fn configurations() {
     let config = Iso8601By::default();
     let date = config.parts(Parts::Date);
     assert_text(&date.date_kind(DateKind::Week), &EXAMPLE, "1997-W46-3");
-    assert_text(&date.date_kind(DateKind::Ordinal).separators(false), &EXAMPLE, "1997316");
+    assert_text(
+        &date.date_kind(DateKind::Ordinal).separators(false),
+        &EXAMPLE,
+        "1997316",
+    );
     assert_text(&date.six_digit_year(true), &EXAMPLE, "+001997-11-12");
     let time = config.parts(Parts::Time);
     let ten = EXAMPLE.at(0, 0, 10, 0);
     let hours = time.time_precision(TimePrecision::Hour, 9);
     assert_text(&hours, &ten, "00.002777777");
-    assert_text(&hours.decimal_sign(DecimalSign::Comma), &ten, "00,002777777");
-    assert_text(&time.time_precision(TimePrecision::Second, 0), &EXAMPLE, "09:55:06");
+    assert_text(
+        &hours.decimal_sign(DecimalSign::Comma),
+        &ten,
+        "00,002777777",
+    );
+    assert_text(
+        &time.time_precision(TimePrecision::Second, 0),
+        &EXAMPLE,
+        "09:55:06",
+    );
     let offset = config.parts(Parts::Offset);
     assert_text(&offset, &EXAMPLE.offset(0, 0, 0), "+00:00");
     let hour = offset.offset_precision(OffsetPrecision::Hour);
     assert_text(&hour, &EXAMPLE, "-06");
-    assert_error(&hour, &EXAMPLE.offset(5, 30, 0), Error::NoPlaceForOffsetMinute);
+    assert_error(
+        &hour,
+        &EXAMPLE.offset(5, 30, 0),
+        Error::NoPlaceForOffsetMinute,
+    );
     let long = time.time_precision(TimePrecision::Second, 255);
     let text = format!("00:00:00.000000001{}", "0".repeat(246));
     assert_text(&long, &EXAMPLE.at(0, 0, 0, 1), &text);
@@ -80,11 +110,17 @@ fn reasons() {
         (new_year.at(24, 60, 0, 0), Error::Hour),
         (new_year.at(0, 60, 60, 0), Error::Minute),
         (new_year.at(0, 0, 60, 1_000_000_000), Error::Second),
-        (new_year.at(0, 0, 0, 1_000_000_000).offset(26, 0, 0), Error::Nanosecond),
+        (
+            new_year.at(0, 0, 0, 1_000_000_000).offset(26, 0, 0),
+            Error::Nanosecond,
+        ),
         (new_year.offset(26, 60, 60), Error::OffsetHours),
         (new_year.offset(0, 60, 60), Error::OffsetMinutes),
         (new_year.offset(0, 0, -60), Error::OffsetSeconds),
-        (Moment::new(10_000, 1, 1).offset(24, 0, 1), Error::NoPlaceForYear),
+        (
+            Moment::new(10_000, 1, 1).offset(24, 0, 1),
+            Error::NoPlaceForYear,
+        ),
         (new_year.offset(24, 0, 1), Error::NoPlaceForOffsetHour),
         (new_year.offset(23, 59, 1), Error::NoPlaceForOffsetSecond),
     ] {
@@ -98,7 +134,11 @@ fn reasons() {
 
 #[test]
 fn descriptions() {
-    let date = Date { year: 1997, month: 11, day: 12 };
+    let date = Date {
+        year: 1997,
+        month: 11,
+        day: 12,
+    };
     let day = Description::new()
         .component(Kind::Day)
         .text("/")
@@ -111,7 +151,14 @@ fn descriptions() {
     let hour = Description::new().text("on ").component(Kind::Hour);
     assert_error(&hour, &date, Error::Insufficient);
     let year = Description::new().component(Kind::Year);
-    assert_error(&year, &Date { year: 10_000, ..date }, Error::OutOfRange);
+    assert_error(
+        &year,
+        &Date {
+            year: 10_000,
+            ..date
+        },
+        Error::OutOfRange,
+    );
     let clock = Description::new()
         .component(Kind::Hour)
         .text("\u{2236}")
@@ -127,11 +174,19 @@ fn descriptions() {
 
 #[test]
 fn batches() {
-    let moments = [EXAMPLE, Moment::new(2026, 11, 22), Moment::new(2026, 11, 31), EXAMPLE];
+    let moments = [
+        EXAMPLE,
+        Moment::new(2026, 11, 22),
+        Moment::new(2026, 11, 31),
+        EXAMPLE,
+    ];
     let mut lines = b"# ".to_vec();
     let progress = Rfc3339.batch_into(&mut lines, &moments, b'\n');
     assert_eq!((progress.moments, progress.stopped), (2, Some(Error::Day)));
-    assert_eq!(lines, b"# 1997-11-12T09:55:06.12-06:00\n2026-11-22T00:00:00Z\n");
+    assert_eq!(
+        lines,
+        b"# 1997-11-12T09:55:06.12-06:00\n2026-11-22T00:00:00Z\n"
+    );
     assert_eq!(progress.bytes + 2, lines.len());
     let none = Rfc2822.batch_into(&mut lines, &[], 0);
     assert_eq!((none.moments, none.bytes, none.stopped), (0, 0, None));
@@ -149,7 +204,9 @@ fn a_batch_has_the_texts_of_its_moments() {
     assert_batch(&Rfc2822, &moments[1900..]);
     assert_batch(&Iso8601, &moments);
     assert_batch(&Iso8601By::default().date_kind(DateKind::Ordinal), &moments);
-    let moments: Vec<_> = (0..10_000).map(|i| UtcMoment::new(i * 1_000_003, 1)).collect();
+    let moments: Vec<_> = (0..10_000)
+        .map(|i| UtcMoment::new(i * 1_000_003, 1))
+        .collect();
     assert_batch(&Stamp, &moments);
 }
 
@@ -170,7 +227,10 @@ fn stamps_sort() {
     let epoch = UtcMoment::from(UNIX_EPOCH);
     let before = UtcMoment::from(UNIX_EPOCH - Duration::from_nanos(1));
     let whole = UtcMoment::from(UNIX_EPOCH - Duration::from_secs(2));
-    assert_eq!((before, whole), (UtcMoment::new(-1, 999_999_999), UtcMoment::new(-2, 0)));
+    assert_eq!(
+        (before, whole),
+        (UtcMoment::new(-1, 999_999_999), UtcMoment::new(-2, 0))
+    );
     assert!(stamp(&whole).unwrap() < stamp(&before).unwrap());
     assert!(stamp(&before).unwrap() < stamp(&epoch).unwrap());
 }
