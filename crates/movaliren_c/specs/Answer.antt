@@ -57,7 +57,8 @@ Refuses reason.NoPlaceForOffsetHour (invalid_component name) = name ≡ codes "o
 Refuses reason.NoPlaceForOffsetMinute (invalid_component name) = name ≡ codes "offset_minute"
 Refuses reason.NoPlaceForOffsetSecond (invalid_component name) = name ≡ codes "offset_second"
 Refuses reason.Other (invalid_component name) =
-    (name ≢ codes "year") × (name ≢ codes "offset_hour") × (name ≢ codes "offset_minute") × (name ≢ codes "offset_second")
+    (name ≢ codes "year") × (name ≢ codes "offset_hour") × (name ≢ codes "offset_minute") × (name ≢
+    codes "offset_second")
 Refuses reason.Insufficient insufficient = Unit {0}
 Refuses reason.OutOfRange (out_of_range range) = Unit {0}
 Refuses r refusal = ⊥
@@ -73,23 +74,28 @@ IsReasonFor r (error.ComponentRange range) = r ≡ reason.OutOfRange
 IsReasonFor r error.OutOfMemory = r ≡ reason.OutOfMemory
 IsReasonFor r (error.InvalidComponent name) = Refuses r (invalid_component name.now)
 
--- why there is no text of an outcome: it is complete and longer than the room, or the definition refuses it
+-- why there is no text of an outcome: it is complete and longer than the room, or the definition
+-- refuses it
 abbrev pub Explains : Reason → Outcome → ℕ → Type 0
-Explains r o room = ((r ≡ reason.NoRoom) × (o.refusal ≡ None) × (room < length o.bytes)) ⊎ IsRefusedFor r o
+Explains r o room = ((r ≡ reason.NoRoom) × (o.refusal ≡ None) × (room < length o.bytes)) ⊎
+    IsRefusedFor r o
 
 -- ---- texts
 
--- A count is the length of the whole text, which stands at the start of the room, and what is behind it is as
+-- A count is the length of the whole text, which stands at the start of the room, and what is
+-- behind it is as
 -- it was. After a reason all of the room is.
 abbrev pub IsWritten : Result ℕ Reason → Outcome → List ℕ → List ℕ → Type 0
-IsWritten (Ok n) o before after = (o.refusal ≡ None) × (n ≡ length o.bytes) × (after ≡ o.bytes ++ drop n before)
+IsWritten (Ok n) o before after = (o.refusal ≡ None) × (n ≡ length o.bytes) × (after ≡ o.bytes ++
+    drop n before)
 IsWritten (Err r) o before after = (after ≡ before) × Explains r o (length before)
 
 -- the outcome of a value, or the reason why there is no value
 abbrev pub gives : {V : Type 0} → Result V Reason → (V → Outcome) → Result Outcome Reason
 gives value outcome = with_value value (λ v. Ok (outcome v))
 
--- the text of an outcome is written, or the reason why there is none is answered, and the room is as it was
+-- the text of an outcome is written, or the reason why there is none is answered, and the room is
+-- as it was
 abbrev pub IsText : Result Outcome Reason → Result ℕ Reason → List ℕ → List ℕ → Type 0
 IsText (Ok o) answer before after = IsWritten answer o before after
 IsText (Err r) answer before after = (answer ≡ Err r) × (after ≡ before)

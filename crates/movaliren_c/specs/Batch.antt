@@ -30,9 +30,11 @@ Stops r (Err e) room = r ≡ e
 abbrev pub lines : {A : Type 0} → (A → Result Outcome Reason) → List A → List ℕ
 lines line items = flat_map (λ item. bytes_of (line item)) items
 
--- The first n items have whole lines, which stand at the start of the room and have so many bytes. What is behind
+-- The first n items have whole lines, which stand at the start of the room and have so many bytes.
+-- What is behind
 -- them is as it was.
-pub record Stand {A : Type 0} (n : ℕ) (items : List A) (line : A → Result Outcome Reason) (bytes : ℕ) (before after : List ℕ) : Type 0 where
+pub record Stand {A : Type 0} (n : ℕ) (items : List A) (line : A → Result Outcome Reason) (bytes :
+    ℕ) (before after : List ℕ) : Type 0 where
   pub whole : All (λ item. IsWhole (line item)) (take n items)
   pub counted : bytes ≡ length (lines line (take n items))
   pub written : after ≡ lines line (take n items) ++ drop bytes before
@@ -42,7 +44,8 @@ abbrev pub StopsAt : {A : Type 0} → Reason → ℕ → List A → (A → Resul
 StopsAt r n items line room = IfSome (slice_get items n) (λ item. Stops r (line item) room)
 
 -- Those that stand are all items, or the next one does not for the reason that is told.
-pub record IsBatch {A : Type 0} (items : List A) (line : A → Result Outcome Reason) (p : Progress) (before after : List ℕ) : Type 0 where
+pub record IsBatch {A : Type 0} (items : List A) (line : A → Result Outcome Reason) (p : Progress)
+    (before after : List ℕ) : Type 0 where
   pub stand : Stand p.moments items line p.bytes before after
   pub stopped : ((p.reason ≡ pos 0) × (p.moments ≡ length items))
       ⊎ ((r : Reason) × (p.reason ≡ reason_number r) × (p.moments < length items)

@@ -55,7 +55,8 @@ abbrev pub flag_at : ℕ → Result Bool Reason
 flag_at n = if n == 0 then Ok false else (if n == 1 then Ok true else Err reason.BadConfig)
 
 abbrev pub sign_at : ℕ → Result DecimalSign Reason
-sign_at n = if n == 0 then Ok sign.Point else (if n == 1 then Ok sign.Comma else Err reason.BadConfig)
+sign_at n = if n == 0 then Ok sign.Point else (if n == 1 then Ok sign.Comma else Err
+    reason.BadConfig)
 
 abbrev pub choices_at : IsoConfig → Result Choices Reason
 choices_at n =

@@ -1,4 +1,5 @@
--- What a description that crosses as data means: a tree for each item, or the reason why there is none.
+-- What a description that crosses as data means: a tree for each item, or the reason why there is
+-- none.
 use Rattle.std.specs.Prelude.{◌≡◌, ◌⊎◌, ℕ, min, ◌+◌, ◌-◌, Bool, true, false, ◌==◌, ◌&&◌, nat_le, nat_lt, List, [], ◌∷◌, map, length, slice_range, Result, Ok, Err, Vec, if◌then◌else◌}
 use Rattle.movaliren_c.specs.Value.{with_value}
 use Rattle.movaliren_c.specs.declared.item.Item.{Item}
@@ -67,15 +68,39 @@ date_component k p f d =
 -- the components of a year
 abbrev pub year_component : ℕ → Padding → Bool → SubsecondDigits → Result Component Reason
 year_component k p f d =
-    if k == 13 then Ok (component.CalendarYearFullExtendedRange (record { padding = p; sign_is_mandatory = f }))
-    else (if k == 14 then Ok (component.CalendarYearFullStandardRange (record { padding = p; sign_is_mandatory = f }))
-    else (if k == 15 then Ok (component.CalendarYearCenturyExtendedRange (record { padding = p; sign_is_mandatory = f }))
-    else (if k == 16 then Ok (component.CalendarYearCenturyStandardRange (record { padding = p; sign_is_mandatory = f }))
+    if k == 13 then Ok (component.CalendarYearFullExtendedRange (record {
+      padding = p;
+      sign_is_mandatory = f;
+    }))
+    else (if k == 14 then Ok (component.CalendarYearFullStandardRange (record {
+      padding = p;
+      sign_is_mandatory = f;
+    }))
+    else (if k == 15 then Ok (component.CalendarYearCenturyExtendedRange (record {
+      padding = p;
+      sign_is_mandatory = f;
+    }))
+    else (if k == 16 then Ok (component.CalendarYearCenturyStandardRange (record {
+      padding = p;
+      sign_is_mandatory = f;
+    }))
     else (if k == 17 then Ok (component.CalendarYearLastTwo (record { padding = p }))
-    else (if k == 18 then Ok (component.IsoYearFullExtendedRange (record { padding = p; sign_is_mandatory = f }))
-    else (if k == 19 then Ok (component.IsoYearFullStandardRange (record { padding = p; sign_is_mandatory = f }))
-    else (if k == 20 then Ok (component.IsoYearCenturyExtendedRange (record { padding = p; sign_is_mandatory = f }))
-    else (if k == 21 then Ok (component.IsoYearCenturyStandardRange (record { padding = p; sign_is_mandatory = f }))
+    else (if k == 18 then Ok (component.IsoYearFullExtendedRange (record {
+      padding = p;
+      sign_is_mandatory = f;
+    }))
+    else (if k == 19 then Ok (component.IsoYearFullStandardRange (record {
+      padding = p;
+      sign_is_mandatory = f;
+    }))
+    else (if k == 20 then Ok (component.IsoYearCenturyExtendedRange (record {
+      padding = p;
+      sign_is_mandatory = f;
+    }))
+    else (if k == 21 then Ok (component.IsoYearCenturyStandardRange (record {
+      padding = p;
+      sign_is_mandatory = f;
+    }))
     else (if k == 22 then Ok (component.IsoYearLastTwo (record { padding = p }))
     else Err reason.BadItem)))))))))
 
@@ -135,13 +160,17 @@ part_tree (part.Component c) = of_component c
 abbrev pub tree_of : Result Part Reason → Result Tree Reason
 tree_of part = with_value part (λ part. Ok (part_tree part))
 
--- what a description gives for a value, or the reason why there is no description, which comes first, or no value
-abbrev pub described : {V : Type 0} → Result (List Tree) Reason → Result V Reason → (V → Facts) → Result Outcome Reason
-described description value facts = with_value description (λ ts. gives value (λ v. trees_outcome (trees ts) (facts v)))
+-- what a description gives for a value, or the reason why there is no description, which comes
+-- first, or no value
+abbrev pub described : {V : Type 0} → Result (List Tree) Reason → Result V Reason → (V → Facts)
+    → Result Outcome Reason
+described description value facts = with_value description (λ ts. gives value (λ v. trees_outcome
+    (trees ts) (facts v)))
 
 -- the width of a description, up to the greatest `isize`, or the reason why there is no description
 abbrev pub width_answer : Result (List Tree) Reason → Result ℕ Reason
-width_answer description = with_value description (λ ts. Ok (min (trees_width (trees ts)) 0x7fff_ffff_ffff_ffff))
+width_answer description = with_value description (λ ts. Ok (min (trees_width (trees ts))
+    0x7fff_ffff_ffff_ffff))
 
 -- there is room for the texts of a description, which there is
 abbrev pub HasRoomFor : Vec ℕ Global → Result (List Tree) Reason → Type 0
@@ -149,6 +178,7 @@ HasRoomFor output (Ok ts) = HasRoom output (trees_width (trees ts))
 HasRoomFor output (Err r) = ⊥
 
 -- what the description gives for these facts was appended
-abbrev pub IsAppended : Vec ℕ Global → Vec ℕ Global → Result ℕ Format → Result (List Tree) Reason → Facts → Type 0
+abbrev pub IsAppended : Vec ℕ Global → Vec ℕ Global → Result ℕ Format → Result (List Tree) Reason
+    → Facts → Type 0
 IsAppended old new answer (Ok ts) f = Appends old new answer (trees_outcome (trees ts) f)
 IsAppended old new answer (Err r) f = ⊥

@@ -31,7 +31,12 @@ time_value m =
     (checked (nat_lt m.minute 60) reason.Minute
     (checked (nat_lt m.second 60) reason.Second
     (checked (nat_lt m.nanosecond 1_000_000_000) reason.Nanosecond
-    (Ok (record { hour = m.hour; minute = m.minute; second = m.second; nanosecond = m.nanosecond })))))
+    (Ok (record {
+      hour = m.hour;
+      minute = m.minute;
+      second = m.second;
+      nanosecond = m.nanosecond;
+    })))))
 
 -- the number, if it is at most so far from zero
 abbrev pub offset_part : Reason → ℕ → ℤ → Result ℤ Reason
@@ -56,10 +61,12 @@ moment_value m =
 -- the moment of so many seconds since 1970 and a nanosecond
 abbrev pub timestamp_value : ℤ → ℕ → Result moments.Moment Reason
 timestamp_value seconds nanosecond =
-    checked (int_le (neg_ℤ (pos seconds_before)) seconds && int_le seconds (pos 31_494_784_780_799)) reason.MomentSeconds
+    checked (int_le (neg_ℤ (pos seconds_before)) seconds && int_le seconds (pos 31_494_784_780_799))
+    reason.MomentSeconds
     (checked (nat_lt nanosecond 1_000_000_000) reason.Nanosecond
     (Ok (record { seconds = seconds; nanosecond = nanosecond })))
 
 -- its date and time in UTC
 abbrev pub stamp_value : ℤ → ℕ → Result DateAndTime Reason
-stamp_value seconds nanosecond = with_value (timestamp_value seconds nanosecond) (λ m. Ok (utc_date_and_time m))
+stamp_value seconds nanosecond = with_value (timestamp_value seconds nanosecond) (λ m. Ok
+    (utc_date_and_time m))

@@ -47,8 +47,8 @@ pub extern "C" fn movaliren_rfc2822_batch(moments: &[Moment], end: u8, room: &mu
     lines_written(&Rfc2822, moments, end, room)
 }
 
-/// The texts of ISO 8601 of the moments by the default configuration, one after another, each ended by
-/// this byte.
+/// The texts of ISO 8601 of the moments by the default configuration, one after another, each ended
+/// by this byte.
 #[unsafe(no_mangle)]
 pub extern "C" fn movaliren_iso8601_batch(moments: &[Moment], end: u8, room: &mut [u8]) -> Progress
     ensures { IsBatch moments.now
@@ -130,8 +130,9 @@ fn line_behind<W: Writer>(
     line_written(writer, item, end, &mut room[bytes..])
 }
 
-/// Writes the text of the item, and the byte that ends it, to the start of the room. The text has all of
-/// the room but its last byte; in a room of none, a text of no bytes is the one that has come so far.
+/// Writes the text of the item, and the byte that ends it, to the start of the room. The text has
+/// all of the room but its last byte; in a room of none, a text of no bytes is the one that has
+/// come so far.
 fn line_written<W: Writer>(
     writer: &W,
     item: &W::Item,

@@ -9,8 +9,8 @@ use crate::reason::Reason;
 use std::marker::Model;
 use time_below::{Date, Month};
 
-/// A date of the years -999,999 to 999,999, by its month and the day of that month. Its value is the
-/// date alone; that there is one date for each day of a month gives both back.
+/// A date of the years -999,999 to 999,999, by its month and the day of that month. Its value is
+/// the date alone; that there is one date for each day of a month gives both back.
 #[derive(Clone, Copy)]
 pub struct CalendarDate {
     year: i32,

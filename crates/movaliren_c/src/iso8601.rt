@@ -59,7 +59,8 @@ pub extern "C" fn movaliren_iso8601_by(
     room: &mut [u8],
 ) -> isize
     ensures { Answers result (λ answer.
-        IsText (with_value (choices_at config.now) (λ c. gives (moment_value moment.now) (iso8601_of c)))
+        IsText (with_value (choices_at config.now)
+        (λ c. gives (moment_value moment.now) (iso8601_of c)))
         answer room.old room.new) }
 {
     answer_number(config.write(moment, room))
@@ -82,8 +83,8 @@ impl Writer for IsoConfig {
     }
 }
 
-/// Writes the text of the value to the start of the room: 284 bytes are the most that there are, 13 of
-/// the date, 265 of the time and 6 of the offset.
+/// Writes the text of the value to the start of the room: 284 bytes are the most that there are, 13
+/// of the date, 265 of the time and 6 of the offset.
 #[inline(always)]
 fn written(choices: Choices, value: &LocalMoment, room: &mut [u8]) -> Result<usize, Reason>
     ensures { IsWritten result (iso8601_of choices value.now) room.old room.new }

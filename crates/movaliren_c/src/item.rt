@@ -6,8 +6,8 @@ use crate::reason::Reason;
 use time_below::format_description::modifier::{Padding, SubsecondDigits};
 use time_below::format_description::{Component, modifier};
 
-/// An item of a description: kind 0 is `len` bytes of the texts from `start` on, any other a component
-/// with its choices.
+/// An item of a description: kind 0 is `len` bytes of the texts from `start` on, any other a
+/// component with its choices.
 #[repr(C)]
 #[derive(Clone, Copy)]
 pub struct Item {

@@ -8,8 +8,8 @@ use crate::reason::Reason;
 use std::marker::Model;
 use time_below::UtcOffset;
 
-/// An offset from UTC by its parts, whose signs may differ. Its value is the offset that these settle to:
-/// each part keeps its size, and the largest that is not zero its sign.
+/// An offset from UTC by its parts, whose signs may differ. Its value is the offset that these
+/// settle to: each part keeps its size, and the largest that is not zero its sign.
 #[derive(Drop)]
 pub struct KeptOffset {
     hours: i8,

@@ -33,8 +33,8 @@ pub struct UtcMoment {
     pub nanosecond: u32,
 }
 
-/// The value of a moment: a local date, of which the month and the day are at hand, a time, and an offset
-/// by the parts that were told.
+/// The value of a moment: a local date, of which the month and the day are at hand, a time, and an
+/// offset by the parts that were told.
 #[derive(Drop)]
 pub struct LocalMoment {
     date: CalendarDate,

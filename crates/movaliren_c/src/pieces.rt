@@ -1,4 +1,5 @@
-//! Pieces of texts, appended to a line in an array. Each is inlined, so that it becomes a few stores.
+//! Pieces of texts, appended to a line in an array. Each is inlined, so that it becomes a few
+//! stores.
 ghost use Rattle.std.specs.Prelude.{◌≡◌, ◌+◌, ◌*◌, ◌<◌, ◌≤◌, ◌++◌, length};
 ghost use Rattle.arrayvec.specs.ArrayString.{array_string_len};
 ghost use Rattle.time_below.specs.Facts.{date_facts};

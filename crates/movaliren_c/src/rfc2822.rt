@@ -84,7 +84,8 @@ fn accepted_year(value: &LocalMoment) -> Result<ru16<0, 9_999>, Reason>
 fn push_text(line: &mut ArrayString<31>, year: ru16<0, 9_999>, value: &LocalMoment)
     requires year { year ≡ unsigned_abs value.now.date.year }
     requires empty { line.old.bytes ≡ [] }
-    ensures { line.new.bytes ≡ rfc2822_text (date_facts value.now.date) value.now.time value.now.offset }
+    ensures { line.new.bytes
+        ≡ rfc2822_text (date_facts value.now.date) value.now.time value.now.offset }
 {
     push_named_date(line, year, value.date());
     line.push_str(" ");

@@ -87,7 +87,8 @@ fn accepted_year(value: &LocalMoment) -> Result<ru16<0, 9_999>, Reason>
 fn push_text(line: &mut ArrayString<35>, year: ru16<0, 9_999>, value: &LocalMoment)
     requires year { year ≡ unsigned_abs value.now.date.year }
     requires empty { line.old.bytes ≡ [] }
-    ensures { line.new.bytes ≡ rfc3339_text (date_facts value.now.date) value.now.time value.now.offset }
+    ensures { line.new.bytes
+        ≡ rfc3339_text (date_facts value.now.date) value.now.time value.now.offset }
 {
     push_full_date(line, year, value.date());
     line.push_str("T");
@@ -127,8 +128,8 @@ fn push_fraction<const N: usize>(line: &mut ArrayString<N>, nanosecond: u32)
     }
 }
 
-/// Appends the nine digits of a fraction without the zeros at their end. Where the last digit is not
-/// zero, there is nothing to cut off.
+/// Appends the nine digits of a fraction without the zeros at their end. Where the last digit is
+/// not zero, there is nothing to cut off.
 #[inline(always)]
 fn push_decimals<const N: usize>(line: &mut ArrayString<N>, nanosecond: u32)
     requires number { nanosecond < 1_000_000_000 }

@@ -108,8 +108,8 @@ fn push_after_year<const N: usize>(line: &mut ArrayString<N>, choices: Choices, 
     }
 }
 
-/// Appends the letter `W` with two digits of the week, and the weekday from 1, and the separator before
-/// each of them.
+/// Appends the letter `W` with two digits of the week, and the weekday from 1, and the separator
+/// before each of them.
 #[inline(always)]
 fn push_week_and_weekday<const N: usize>(line: &mut ArrayString<N>, date: Date, separator: &str)
     requires room { array_string_len line.old + (4 + 2 * length separator.now) ≤ N }

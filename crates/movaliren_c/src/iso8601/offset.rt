@@ -11,8 +11,8 @@ use crate::reason::Reason;
 use arrayvec::ArrayString;
 use time_known::iso8601::OffsetPrecision;
 
-/// Appends the offset of at most 6 bytes: `Z` for UTC where a time is written, else the difference from
-/// UTC. Refuses its seconds, and its minutes where the precision leaves them out.
+/// Appends the offset of at most 6 bytes: `Z` for UTC where a time is written, else the difference
+/// from UTC. Refuses its seconds, and its minutes where the precision leaves them out.
 #[inline(always)]
 pub fn push_offset<const N: usize>(
     line: &mut ArrayString<N>,

@@ -7,4 +7,5 @@ abbrev pub invariant-loop-item : goal.invariant-loop-item
 invariant-loop-item g l =
     (l.done ≡ l.item-index)
     × (l.bytes ≤ length l.room)
-    × Stand l.item-index l.items (λ item. ended l.end (g.W.Writer.asked l.writer item)) l.bytes l.initial.room l.room
+    × Stand l.item-index l.items (λ item. ended l.end (g.W.Writer.asked l.writer item)) l.bytes
+    l.initial.room l.room

@@ -9,9 +9,20 @@ use Rattle.movaliren_c.proofs.iso8601.push_parts.Goals as goal
 pub returns-in-Err : goal.returns-in-Err
 returns-in-Err c =
     let chosen = sym c.formatted_components.ensures ∙ c.in-DateTime.is in
-    subst (λ parts. IsRefusedFor c.in-Err.reason (iso8601_outcome_of parts c.args.choices (facts_of_offset_date_time c.args.value.now))) (sym chosen) (refused_first (iso_date c.args.choices (date_facts c.args.value.now.date)) (iso_time c.args.choices c.args.value.now.time) c.in-Err.reason (subst (λ date. IsRefusedFor c.in-Err.reason (iso_date c.args.choices (date_facts date))) c.date-in-DateTime.ensures c.in-Err.ensures.pushed))
+    subst (λ parts. IsRefusedFor c.in-Err.reason (iso8601_outcome_of parts c.args.choices
+    (facts_of_offset_date_time c.args.value.now))) (sym chosen) (refused_first (iso_date
+    c.args.choices (date_facts c.args.value.now.date)) (iso_time c.args.choices
+    c.args.value.now.time) c.in-Err.reason (subst (λ date. IsRefusedFor c.in-Err.reason
+    (iso_date c.args.choices (date_facts date))) c.date-in-DateTime.ensures
+    c.in-Err.ensures.pushed))
 
 pub returns-in-Err-push_date : goal.returns-in-Err-push_date
 returns-in-Err-push_date c =
     let chosen = sym c.formatted_components.ensures ∙ c.in-DateTimeOffset.is in
-    subst (λ parts. IsRefusedFor c.in-Err-push_date.reason (iso8601_outcome_of parts c.args.choices (facts_of_offset_date_time c.args.value.now))) (sym chosen) (refused_first (iso_date c.args.choices (date_facts c.args.value.now.date)) (join (iso_time c.args.choices c.args.value.now.time) (iso_offset c.args.choices c.args.value.now.offset)) c.in-Err-push_date.reason (subst (λ date. IsRefusedFor c.in-Err-push_date.reason (iso_date c.args.choices (date_facts date))) c.date-in-DateTimeOffset.ensures c.in-Err-push_date.ensures.pushed))
+    subst (λ parts. IsRefusedFor c.in-Err-push_date.reason (iso8601_outcome_of parts c.args.choices
+    (facts_of_offset_date_time c.args.value.now))) (sym chosen) (refused_first (iso_date
+    c.args.choices (date_facts c.args.value.now.date)) (join (iso_time c.args.choices
+    c.args.value.now.time) (iso_offset c.args.choices c.args.value.now.offset))
+    c.in-Err-push_date.reason (subst (λ date. IsRefusedFor c.in-Err-push_date.reason (iso_date
+    c.args.choices (date_facts date))) c.date-in-DateTimeOffset.ensures
+    c.in-Err-push_date.ensures.pushed))

@@ -10,5 +10,8 @@ pub returns-clause-pushed : goal.returns-clause-pushed
 returns-clause-pushed g c =
     let choices = c.args.choices in
     let facts = date_facts c.args.date in
-    let first : IsPushed c.args.line.now c.push_year.new.line (Ok tt) (iso_year choices.year_is_six_digits (year_of_kind choices.date_kind facts)) = search rules in
-    pushed_then c.args.line.now c.push_year.new.line c.push_after_year.new.line (Ok tt) (iso_year choices.year_is_six_digits (year_of_kind choices.date_kind facts)) (done (text_after_year choices.date_kind choices facts)) first (refl, c.push_after_year.ensures.bytes)
+    let first : IsPushed c.args.line.now c.push_year.new.line (Ok tt) (iso_year
+    choices.year_is_six_digits (year_of_kind choices.date_kind facts)) = search rules in
+    pushed_then c.args.line.now c.push_year.new.line c.push_after_year.new.line (Ok tt) (iso_year
+    choices.year_is_six_digits (year_of_kind choices.date_kind facts)) (done (text_after_year
+    choices.date_kind choices facts)) first (refl, c.push_after_year.ensures.bytes)
