@@ -1,10 +1,9 @@
 -- A batch, item by item.
-use Rattle.std.proofs.Common.{◌≡◌, ◌<◌, ◌≤◌, ◌+◌, ◌-◌, ℕ, All, List, [], ◌∷◌, ◌++◌, length, take, drop, get_or, set, Option, Some, None, Result, Ok, Err, IsSomeAnd, refl, sym, ap, ◌∙◌, ⊎_elim, inl, inr, arith, length-append, slice_get, subst}
-use Rattle.std.proofs.lemmas.List.{take-append-drop, append-nil, take_more, append_assoc, take_more_set, drop-set}
+use Rattle.std.proofs.Common.{◌≡◌, ◌<◌, ◌≤◌, ◌+◌, ◌-◌, ℕ, All, List, [], ◌∷◌, ◌++◌, length, take, drop, get_or, set, None, Result, Ok, Err, refl, sym, ap, ◌∙◌, ⊎_elim, inl, inr, arith, length-append, subst}
+use Rattle.std.proofs.lemmas.List.{take-append-drop, append-nil, take_more}
 use Rattle.std.proofs.lemmas.List.Elements.{All-push}
 use Rattle.std.proofs.lemmas.Grind.{common_steps, flat_map-append}
 use Rattle.std.proofs.lemmas.Option.{slice_get-get_or}
-use Rattle.std.specs.List.{flat_map}
 use Rattle.movaliren_c.specs.Answer.{Explains, IsRefusedFor, IsText}
 use Rattle.movaliren_c.specs.Batch.{bytes_of, ended, IsWhole, Stand, Stops, StopsAt, lines}
 use Rattle.movaliren_c.specs.declared.reason.Reason.{Reason}

@@ -2,11 +2,11 @@
 use Rattle.std.proofs.Common.{◌≡◌, ◌≤◌, ◌<◌, ◌+◌, ℕ, min, List, [], ◌∷◌, length, drop, get_or, map, Result, Ok, Err, refl, sym, ap, ◌∙◌, arith, subst, rules, Vec, vec_len, vec_capacity}
 use Rattle.std.proofs.lemmas.List.{at_drop_more, at_drop_all}
 use Rattle.std.specs.Global.{Global}
-use Rattle.movaliren_c.specs.Items.{HasRoomFor, IsAppended, list_of, width_answer}
+use Rattle.movaliren_c.specs.Items.{HasRoomFor, IsAppended, list_of}
 use Rattle.movaliren_c.specs.Value.{with_value}
 use Rattle.movaliren_c.specs.declared.reason.Reason.{Reason}
 use Rattle.time_below.specs.Facts.{Facts}
-use Rattle.time_below.specs.Tree.{Tree, Trees, trees, end, more}
+use Rattle.time_below.specs.Tree.{Tree, Trees, trees, end}
 use Rattle.time_below.specs.Width.{tree_width, trees_width, is_guaranteed_text}
 use Rattle.time_fmt.specs.Description.{tree_outcome, trees_outcome}
 use Rattle.time_fmt.specs.Guarantee.{IsTextIf}

@@ -1,5 +1,5 @@
 use Rattle.std.proofs.Common.{◌≡◌, ◌<◌, ◌-◌, length, arith}
-use Rattle.movaliren_c.proofs.BatchLemmas.{ended_text, ended_stops, ended_nowhere}
+use Rattle.movaliren_c.proofs.BatchLemmas.{ended_text, ended_stops}
 use Rattle.movaliren_c.proofs.batch.line_written.Goals as goal
 
 pub returns-else-count-room-clause-written : goal.returns-else-count-room-clause-written

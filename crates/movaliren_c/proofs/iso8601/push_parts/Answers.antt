@@ -1,4 +1,4 @@
-use Rattle.std.proofs.Common.{◌≡◌, sym, ◌∙◌, subst}
+use Rattle.std.proofs.Common.{sym, ◌∙◌, subst}
 use Rattle.movaliren_c.specs.Answer.{IsRefusedFor}
 use Rattle.time_below.specs.Facts.{date_facts, facts_of_offset_date_time}
 use Rattle.time_fmt.specs.Outcome.{join}
