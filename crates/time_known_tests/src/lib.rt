@@ -11,6 +11,8 @@ mod iso8601;
 #[cfg(test)]
 mod laws;
 #[cfg(test)]
+mod parts;
+#[cfg(test)]
 mod rfcs;
 #[cfg(test)]
 mod stamps;

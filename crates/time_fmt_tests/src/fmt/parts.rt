@@ -1,6 +1,7 @@
 //! Texts by their parts, beside the lists of the same items: each component between two literals, of every
 //! type of value, and each kind of description as a part.
-use crate::texts::{assert_refused, assert_text, refusal_name};
+use crate::examples::append_date_time;
+use crate::texts::{assert_refused, assert_same, assert_text, assert_that, refusal_name};
 use crate::values::{date_at, moment, offset_at, time_at, timestamp_at};
 use std::alloc::Global;
 use std::default::Default;
@@ -12,9 +13,12 @@ use time_below::format_description::{
 use time_below::{
     Date, Month, OffsetDateTime, PlainDateTime, Time, Timestamp, UtcDateTime, UtcOffset,
 };
+use time_fmt::laws::parts::{
+    ascii_is_text, choices_mean_their_component, item_means_its_list, literal_means_its_bytes,
+    pair_means_both_lists, pair_means_one_after_the_other,
+};
 use time_fmt::parts::*;
-use time_fmt::{BorrowedItems, ComponentProvider, ComputeMetadata, Format, Modifier};
-use time_known::{Iso8601, Rfc2822, Rfc3339};
+use time_fmt::{BorrowedItems, ComponentProvider, ComputeMetadata, Modifier};
 
 /// A value of each of the seven types, and a date whose year and century have no text in the ranges of
 /// four and two digits.
@@ -59,7 +63,7 @@ fn example(rt: &impl Abort) -> OffsetDateTime {
 }
 
 /// Appends both to a vector of their own, behind a byte, and compares bytes and answers.
-fn assert_same<P: Formattable, V: ComponentProvider>(
+fn assert_as_list<P: Formattable, V: ComponentProvider>(
     rt: &impl Abort,
     alloc: Global,
     parts: &P,
@@ -71,12 +75,12 @@ where
 {
     let (mut written, mut listed) = (Vec::new(alloc), Vec::new(alloc));
     let pushed = written.push(b'x').is_ok() && listed.push(b'x').is_ok();
-    assert!(rt; pushed);
+    assert_that(rt, pushed);
     let answer = parts.format_into(&mut written, value, &mut V::State::default());
     let wanted = BorrowedItems(items).format_into(&mut listed, value, &mut V::State::default());
-    assert_eq!(rt; written.as_slice(), listed.as_slice());
-    assert_eq!(rt; refusal_name(&answer), refusal_name(&wanted));
-    assert_eq!(rt; answer.unwrap_or(0), wanted.unwrap_or(0));
+    assert_same(rt, written.as_slice(), listed.as_slice());
+    assert_same(rt, refusal_name(&answer), refusal_name(&wanted));
+    assert_same(rt, answer.unwrap_or(0), wanted.unwrap_or(0));
 }
 
 /// Compares the component between two literals with the list of the three items, of every value; and its
@@ -94,14 +98,14 @@ fn assert_part<M: Modifier>(
         BorrowedFormatItem::Component(component),
         BorrowedFormatItem::StringLiteral(">"),
     ];
-    assert_same(rt, alloc, &parts, &items, &values.date);
-    assert_same(rt, alloc, &parts, &items, &values.late_date);
-    assert_same(rt, alloc, &parts, &items, &values.time);
-    assert_same(rt, alloc, &parts, &items, &values.local);
-    assert_same(rt, alloc, &parts, &items, &values.utc);
-    assert_same(rt, alloc, &parts, &items, &values.moment);
-    assert_same(rt, alloc, &parts, &items, &values.offset);
-    assert_same(rt, alloc, &parts, &items, &values.timestamp);
+    assert_as_list(rt, alloc, &parts, &items, &values.date);
+    assert_as_list(rt, alloc, &parts, &items, &values.late_date);
+    assert_as_list(rt, alloc, &parts, &items, &values.time);
+    assert_as_list(rt, alloc, &parts, &items, &values.local);
+    assert_as_list(rt, alloc, &parts, &items, &values.utc);
+    assert_as_list(rt, alloc, &parts, &items, &values.moment);
+    assert_as_list(rt, alloc, &parts, &items, &values.offset);
+    assert_as_list(rt, alloc, &parts, &items, &values.timestamp);
     let width = BorrowedItems(&items).compute_metadata().max_bytes_needed;
     assert_text(rt, alloc, &parts, &values.moment, text, width);
 }
@@ -118,7 +122,7 @@ macro_rules! between_literals {
 }
 
 #[test]
-fn years_and_centuries_between_literals(rt: HostRuntime) -> Result<(), Fail> {
+fn years_and_centuries_between_literals(rt: HostRuntime) {
     between_literals!(rt;
         YEAR CalendarYearFullExtendedRange "<1997>",
         YEAR_STANDARD CalendarYearFullStandardRange "<1997>",
@@ -131,11 +135,10 @@ fn years_and_centuries_between_literals(rt: HostRuntime) -> Result<(), Fail> {
         ISO_YEAR_CENTURY_STANDARD IsoYearCenturyStandardRange "<19>",
         ISO_YEAR_LAST_TWO IsoYearLastTwo "<97>",
     );
-    Ok(())
 }
 
 #[test]
-fn months_days_and_weeks_between_literals(rt: HostRuntime) -> Result<(), Fail> {
+fn months_days_and_weeks_between_literals(rt: HostRuntime) {
     between_literals!(rt;
         MONTH MonthNumerical "<11>",
         MONTH_LONG MonthLong "<November>",
@@ -150,11 +153,10 @@ fn months_days_and_weeks_between_literals(rt: HostRuntime) -> Result<(), Fail> {
         WEEK_NUMBER_SUNDAY WeekNumberSunday "<45>",
         WEEK_NUMBER_MONDAY WeekNumberMonday "<45>",
     );
-    Ok(())
 }
 
 #[test]
-fn times_between_literals(rt: HostRuntime) -> Result<(), Fail> {
+fn times_between_literals(rt: HostRuntime) {
     between_literals!(rt;
         HOUR Hour24 "<09>",
         HOUR_12 Hour12 "<09>",
@@ -166,11 +168,10 @@ fn times_between_literals(rt: HostRuntime) -> Result<(), Fail> {
         SIX_DECIMALS Subsecond "<123456>",
         NINE_DECIMALS Subsecond "<123456789>",
     );
-    Ok(())
 }
 
 #[test]
-fn offsets_and_timestamps_between_literals(rt: HostRuntime) -> Result<(), Fail> {
+fn offsets_and_timestamps_between_literals(rt: HostRuntime) {
     between_literals!(rt;
         OFFSET_HOUR OffsetHour "<-06>",
         SIGNED_OFFSET_HOUR OffsetHour "<-06>",
@@ -179,40 +180,6 @@ fn offsets_and_timestamps_between_literals(rt: HostRuntime) -> Result<(), Fail> 
         UNIX_TIMESTAMP UnixTimestampSecond "<879351906>",
         UNIX_TIMESTAMP_MILLISECOND UnixTimestampMillisecond "<879351906123>",
     );
-    Ok(())
-}
-
-#[test]
-fn well_known_formats_as_parts(rt: HostRuntime) -> Result<(), Fail> {
-    let (alloc, value) = (rt.alloc(), example(&rt));
-    let text = "[1997-11-12T09:55:06.123456789-06:30] 12";
-    assert_text(
-        &rt,
-        alloc,
-        &text!(b"[", Rfc3339, b"] ", DAY),
-        &value,
-        text,
-        40,
-    );
-    let text = "[Wed, 12 Nov 1997 09:55:06 -0630] 12";
-    assert_text(
-        &rt,
-        alloc,
-        &text!(b"[", Rfc2822, b"] ", DAY),
-        &value,
-        text,
-        36,
-    );
-    let text = "[1997-11-12T09:55:06.123456789-06:30] 12";
-    assert_text(
-        &rt,
-        alloc,
-        &text!(b"[", Iso8601::default(), b"] ", DAY),
-        &value,
-        text,
-        40,
-    );
-    Ok(())
 }
 
 #[test]
@@ -242,7 +209,7 @@ fn trees_as_parts(rt: HostRuntime) -> Result<(), Fail> {
 }
 
 #[test]
-fn one_part_and_many(rt: HostRuntime) -> Result<(), Fail> {
+fn one_part_and_many(rt: HostRuntime) {
     let (alloc, value) = (rt.alloc(), example(&rt));
     assert_text(&rt, alloc, &text!(DAY), &value, "12", 2);
     assert_text(&rt, alloc, &text!(b"day "), &value, "day ", 4);
@@ -255,42 +222,35 @@ fn one_part_and_many(rt: HostRuntime) -> Result<(), Fail> {
     );
     let text = "abcdefghijklmnopqrstuvwxyz0123456789 12.11";
     assert_text(&rt, alloc, &forty, &value, text, 42);
-    Ok(())
 }
 
 // What stands before the refusal stays, and nothing follows it.
 #[test]
-fn refused_parts_in_the_midst(rt: HostRuntime) -> Result<(), Fail> {
+fn refused_parts_in_the_midst(rt: HostRuntime) {
     let (alloc, values) = (rt.alloc(), Values::new(&rt));
     let refused = text!(YEAR_STANDARD, b"-", MONTH);
     assert_refused(&rt, alloc, &refused, &values.late_date, "year");
-    assert_refused(
-        &rt,
-        alloc,
-        &text!(Rfc3339, b" ", DAY),
-        &values.time,
-        "insufficient",
-    );
     let mut output = Vec::new(alloc);
     let day = text!(DAY, b" ", HOUR, b" ", MONTH);
     let answer = day.format_into(&mut output, &values.date, &mut DateState::default());
-    assert_eq!(rt; refusal_name(&answer), "insufficient");
-    assert_eq!(rt; output.as_slice(), b"12 ".as_slice());
-    Ok(())
-}
-
-/// Appends a date and time such as `1997-11-12 09:55:06`, as the front page shows it.
-fn append_date_time(line: &mut Vec<u8>, moment: &OffsetDateTime) -> Result<usize, Format> {
-    text!(
-        YEAR, b"-", MONTH, b"-", DAY, b" ", HOUR, b":", MINUTE, b":", SECOND
-    )
-    .format_into(line, moment, &mut DateState::default())
+    assert_same(&rt, refusal_name(&answer), "insufficient");
+    assert_same(&rt, output.as_slice(), b"12 ".as_slice());
 }
 
 #[test]
-fn a_text_of_the_front_page(rt: HostRuntime) -> Result<(), Fail> {
+fn a_date_and_a_time(rt: HostRuntime) {
     let mut line = Vec::new(rt.alloc());
-    assert!(rt; matches!(append_date_time(&mut line, &example(&rt)), Ok(19)));
-    assert_eq!(rt; line.as_slice(), b"1997-11-12 09:55:06".as_slice());
-    Ok(())
+    let written = append_date_time(&mut line, &example(&rt));
+    assert_that(&rt, matches!(&written, Ok(19)));
+    assert_same(&rt, line.as_slice(), b"1997-11-12 09:55:06".as_slice());
+}
+
+#[test]
+fn laws_of_parts(_rt: HostRuntime) {
+    literal_means_its_bytes(Literal(*b"-"));
+    choices_mean_their_component(DAY);
+    pair_means_one_after_the_other((DAY, MONTH));
+    pair_means_both_lists();
+    item_means_its_list();
+    ascii_is_text();
 }

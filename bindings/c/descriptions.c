@@ -1,0 +1,140 @@
+/* The worked rows of descriptions: each text by a wide room, by one of exactly its length and by each of fewer
+ * bytes; and each refusal. Prints what is wrong, and ends with status 1 then. */
+#include "expect.h"
+
+struct description {
+    const struct movaliren_item *items;
+    size_t items_len;
+    const char *texts;
+};
+
+static ptrdiff_t described(const void *format, const void *value, uint8_t *room, size_t room_len)
+{
+    const struct description *d = format;
+    return movaliren_format(
+        d->items, d->items_len, (const uint8_t *)d->texts, strlen(d->texts), value, room, room_len);
+}
+
+static ptrdiff_t described_utc(const void *format, const void *value, uint8_t *room, size_t room_len)
+{
+    const struct description *d = format;
+    const struct movaliren_utc_moment *moment = value;
+    return movaliren_format_utc(d->items, d->items_len, (const uint8_t *)d->texts, strlen(d->texts),
+        moment->seconds, moment->nanosecond, room, room_len);
+}
+
+static ptrdiff_t described_date(
+    const void *format, const void *value, uint8_t *room, size_t room_len)
+{
+    const struct description *d = format;
+    const struct movaliren_moment *date = value;
+    return movaliren_format_date(d->items, d->items_len, (const uint8_t *)d->texts, strlen(d->texts),
+        date->year, date->month, date->day, room, room_len);
+}
+
+#define ITEMS(...) (const struct movaliren_item[]) { __VA_ARGS__ }
+#define COUNT(...) (sizeof(ITEMS(__VA_ARGS__)) / sizeof(struct movaliren_item))
+#define BY(writer_, value_, texts_, text_, error_, ...)                                            \
+    {                                                                                              \
+        writer_, { ITEMS(__VA_ARGS__), COUNT(__VA_ARGS__), texts_ }, value_, text_, error_         \
+    }
+
+static void try_descriptions(void)
+{
+    static const struct movaliren_moment parts = MOMENT(1997, 11, 12, 9, 55, 6, 120000000, -6, 0, 0),
+                                         before = MOMENT(-44, 3, 15, 0, 0, 0, 0, 0, 0, 0),
+                                         fifty = MOMENT(-50, 1, 1, 0, 0, 0, 0, 0, -30, 0),
+                                         late = MOMENT(12345, 1, 1, 13, 0, 0, 0, 0, 0, 0),
+                                         no_day = MOMENT(1997, 11, 31, 0, 0, 0, 0, 0, 0, 0);
+    static const struct movaliren_utc_moment least = { -31619087596800, 0 }, half = { -1, 999500000 };
+    const struct {
+        writer *write;
+        struct description description;
+        const void *value;
+        const char *text;
+        int error;
+    } rows[] = {
+        BY(described, &parts, ":.", "09:55:06.12", 0, { .kind = MOVALIREN_HOUR }, { .len = 1 },
+            { .kind = MOVALIREN_MINUTE }, { .len = 1 }, { .kind = MOVALIREN_SECOND },
+            { .start = 1, .len = 1 }, { .kind = MOVALIREN_SUBSECOND }),
+        BY(described, &parts, "/", "12/11", 0, { .kind = MOVALIREN_DAY }, { .len = 1 },
+            { .kind = MOVALIREN_MONTH }),
+        BY(described, &parts, " ", "Wed Wednesday Nov November", 0,
+            { .kind = MOVALIREN_WEEKDAY_SHORT }, { .len = 1 }, { .kind = MOVALIREN_WEEKDAY_LONG },
+            { .len = 1 }, { .kind = MOVALIREN_MONTH_SHORT }, { .len = 1 },
+            { .kind = MOVALIREN_MONTH_LONG }),
+        BY(described_date, &before, "", "-  44", 0,
+            { .kind = MOVALIREN_YEAR_EXTENDED, .padding = MOVALIREN_SPACE }),
+        BY(described_date, &late, "", "+12345", 0, { .kind = MOVALIREN_YEAR_EXTENDED }),
+        BY(described_date, &late, "", 0, MOVALIREN_ERROR_OUT_OF_RANGE, { .kind = MOVALIREN_YEAR }),
+        BY(described_date, &fifty, "", "-0050", 0, { .kind = MOVALIREN_CENTURY_EXTENDED },
+            { .kind = MOVALIREN_YEAR_LAST_TWO }),
+        BY(described, &fifty, "", "-0030", 0, { .kind = MOVALIREN_OFFSET_HOUR },
+            { .kind = MOVALIREN_OFFSET_MINUTE }),
+        BY(described, &late, "", "1PM", 0,
+            { .kind = MOVALIREN_HOUR_12, .padding = MOVALIREN_NO_PADDING },
+            { .kind = MOVALIREN_PERIOD, .flag = 1 }),
+        BY(described, &parts, "", "42454546316", 0,
+            { .kind = MOVALIREN_WEEKDAY_FROM_SUNDAY, .flag = 1 },
+            { .kind = MOVALIREN_WEEKDAY_FROM_MONDAY }, { .kind = MOVALIREN_WEEK_SUNDAY },
+            { .kind = MOVALIREN_WEEK_MONDAY }, { .kind = MOVALIREN_WEEK_ISO },
+            { .kind = MOVALIREN_ORDINAL }),
+        BY(described, &parts, "", "120", 0, { .kind = MOVALIREN_SUBSECOND, .digits = 3 }),
+        BY(described_utc, &half, " ", "-1 0", 0, { .kind = MOVALIREN_UNIX_SECOND }, { .len = 1 },
+            { .kind = MOVALIREN_UNIX_MILLISECOND }),
+        BY(described_utc, &least, "", "-31619087596800", 0, { .kind = MOVALIREN_UNIX_SECOND }),
+        BY(described_utc, &least, "", "-31619087596800000", 0,
+            { .kind = MOVALIREN_UNIX_MILLISECOND }),
+        BY(described_date, &parts, "on  at ", 0, MOVALIREN_ERROR_INSUFFICIENT, { .len = 3 },
+            { .kind = MOVALIREN_DAY }, { .start = 3, .len = 4 }, { .kind = MOVALIREN_HOUR }),
+        BY(described_date, &no_day, "", 0, MOVALIREN_ERROR_DAY, { .kind = MOVALIREN_DAY }),
+        BY(described_date, &no_day, "", 0, MOVALIREN_ERROR_BAD_ITEM, { .kind = MOVALIREN_DAY },
+            { .kind = 34 }),
+        BY(described, &parts, "", 0, MOVALIREN_ERROR_BAD_ITEM,
+            { .kind = MOVALIREN_DAY, .padding = 3 }),
+        BY(described, &parts, "", 0, MOVALIREN_ERROR_BAD_ITEM,
+            { .kind = MOVALIREN_PERIOD, .flag = 2 }),
+        BY(described, &parts, "", 0, MOVALIREN_ERROR_BAD_ITEM,
+            { .kind = MOVALIREN_SUBSECOND, .digits = 10 }),
+        BY(described, &parts, "ab", 0, MOVALIREN_ERROR_BAD_ITEM, { .start = 1, .len = 2 }),
+        BY(described, &parts, "ab", 0, MOVALIREN_ERROR_BAD_ITEM,
+            { .start = (size_t)-1, .len = 2 }),
+    };
+    for (size_t i = 0; i < sizeof rows / sizeof *rows; i++)
+        if (rows[i].text)
+            expect_text(rows[i].write, &rows[i].description, rows[i].value, rows[i].text);
+        else
+            expect_error(rows[i].write, &rows[i].description, rows[i].value, rows[i].error);
+}
+
+static void try_the_empty_description(void)
+{
+    uint8_t none = FILL;
+    const struct movaliren_item no_item = { 0 };
+    const struct movaliren_moment moment = MOMENT(1997, 11, 12, 9, 55, 6, 0, -6, 0, 0);
+    if (movaliren_format(&no_item, 0, &none, 0, &moment, &none, 0) != 0
+        || movaliren_width(&no_item, 0, &none, 0) != 0 || none != FILL) {
+        failures++;
+        puts("the empty description has a text");
+    }
+}
+
+static void try_widths(void)
+{
+    static const struct movaliren_item items[]
+        = { { .kind = MOVALIREN_MONTH_LONG }, { .len = 2 }, { .kind = MOVALIREN_SUBSECOND } };
+    if (movaliren_width(items, 3, (const uint8_t *)"ab", 2) != 20
+        || movaliren_width(items, 3, (const uint8_t *)"a", 1) != MOVALIREN_ERROR_BAD_ITEM) {
+        failures++;
+        puts("a width is wrong");
+    }
+}
+
+int main(void)
+{
+    try_descriptions();
+    try_the_empty_description();
+    try_widths();
+    printf("descriptions: %d wrong\n", failures);
+    return failures != 0;
+}

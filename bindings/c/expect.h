@@ -1,0 +1,75 @@
+/* What the programs of rows share: a call by rooms of several lengths, and what it is to answer. */
+#ifndef EXPECT_H
+#define EXPECT_H
+
+#include "movaliren.h"
+
+#include <stdio.h>
+#include <string.h>
+
+enum { WIDE = 400, FILL = '#' };
+
+typedef ptrdiff_t writer(const void *format, const void *value, uint8_t *room, size_t room_len);
+
+static int failures;
+
+static int is_filled(const uint8_t *from, const uint8_t *to)
+{
+    while (from < to)
+        if (*from++ != FILL)
+            return 0;
+    return 1;
+}
+
+/* The call with so much room of a buffer that is filled, which stays so behind the text. */
+static ptrdiff_t called(writer *write, const void *format, const void *value, uint8_t *buffer,
+    size_t room_len)
+{
+    memset(buffer, FILL, WIDE + 1);
+    ptrdiff_t answer = write(format, value, buffer, room_len);
+    if (!is_filled(buffer + (answer > 0 ? answer : 0), buffer + WIDE + 1)) {
+        failures++;
+        printf("bytes behind the text have changed, answer %td\n", answer);
+    }
+    return answer;
+}
+
+static void expect_text(writer *write, const void *format, const void *value, const char *text)
+{
+    uint8_t buffer[WIDE + 1];
+    const ptrdiff_t len = (ptrdiff_t)strlen(text);
+    const size_t rooms[] = { WIDE, (size_t)len };
+    for (size_t i = 0; i < 2; i++) {
+        ptrdiff_t answer = called(write, format, value, buffer, rooms[i]);
+        if (answer != len || memcmp(buffer, text, (size_t)len)) {
+            failures++;
+            printf("%s: answer %td, %.*s\n", text, answer, answer > 0 ? (int)answer : 0, buffer);
+        }
+    }
+    for (ptrdiff_t less = 0; less < len; less++)
+        if (called(write, format, value, buffer, (size_t)less) != MOVALIREN_ERROR_NO_ROOM) {
+            failures++;
+            printf("%s: taken with room of %td\n", text, less);
+        }
+}
+
+static void expect_error(writer *write, const void *format, const void *value, int error)
+{
+    uint8_t buffer[WIDE + 1];
+    const size_t rooms[] = { WIDE, 1, 0 };
+    for (size_t i = 0; i < 3; i++) {
+        ptrdiff_t answer = called(write, format, value, buffer, rooms[i]);
+        if (answer != error) {
+            failures++;
+            printf("answer %td, not %d\n", answer, error);
+        }
+    }
+}
+
+#define MOMENT(y, mo, d, h, mi, s, n, oh, om, os)                                                  \
+    {                                                                                              \
+        .year = y, .month = mo, .day = d, .hour = h, .minute = mi, .second = s, .nanosecond = n,   \
+        .offset_hours = oh, .offset_minutes = om, .offset_seconds = os                             \
+    }
+
+#endif

@@ -1,0 +1,239 @@
+/* Moments as text, by Movaliren's proved formatter. x86-64 Linux alone. Link with libmovaliren_c.a
+ * and then the kit's liblibc_c.a, in this order.
+ *
+ * Each call answers the number of bytes at the start of the room, which are the whole text (no zero
+ * stands behind it), and the bytes behind them are as they were; or a negative movaliren_error, and
+ * then all of the room is as it was. A call reads its arguments, keeps nothing and prints nothing.
+ * Calls of different threads need no lock. Only movaliren_format, movaliren_format_utc and
+ * movaliren_format_date take memory, by malloc, once, and give it back by free: these three may not
+ * come from a signal handler, nor from the forked child of a process with threads.
+ *
+ * The caller owes: no pointer is null, not even where its length is 0; each length is true and below
+ * PTRDIFF_MAX; the room overlaps nothing else that the call is given; all fields are set. */
+#ifndef MOVALIREN_H
+#define MOVALIREN_H
+
+#include <stddef.h>
+#include <stdint.h>
+
+#ifdef __cplusplus
+extern "C" {
+#endif
+
+enum movaliren_error {
+    MOVALIREN_ERROR_YEAR = -1,            /* the year is outside -999999 to 999999 */
+    MOVALIREN_ERROR_MONTH = -2,           /* the month is outside 1 to 12 */
+    MOVALIREN_ERROR_DAY = -3,             /* the month of that year has no such day */
+    MOVALIREN_ERROR_HOUR = -4,            /* the hour is outside 0 to 23 */
+    MOVALIREN_ERROR_MINUTE = -5,          /* the minute is outside 0 to 59 */
+    MOVALIREN_ERROR_SECOND = -6,          /* the second is outside 0 to 59 */
+    MOVALIREN_ERROR_NANOSECOND = -7,      /* the nanosecond is outside 0 to 999999999 */
+    MOVALIREN_ERROR_OFFSET_HOURS = -8,    /* the hours of the offset are outside -25 to 25 */
+    MOVALIREN_ERROR_OFFSET_MINUTES = -9,  /* its minutes are outside -59 to 59 */
+    MOVALIREN_ERROR_OFFSET_SECONDS = -10, /* its seconds are outside -59 to 59 */
+    MOVALIREN_ERROR_MOMENT_SECONDS = -11, /* the seconds are outside the years -999999 to 999999 */
+    MOVALIREN_ERROR_NO_PLACE_FOR_YEAR = -12,          /* the format has no place for the year, */
+    MOVALIREN_ERROR_NO_PLACE_FOR_OFFSET_HOUR = -13,   /* for the hours of the offset, */
+    MOVALIREN_ERROR_NO_PLACE_FOR_OFFSET_MINUTE = -14, /* for its minutes, */
+    MOVALIREN_ERROR_NO_PLACE_FOR_OFFSET_SECOND = -15, /* or for its seconds */
+    MOVALIREN_ERROR_INSUFFICIENT = -16, /* the value lacks a component: a date has no hour */
+    MOVALIREN_ERROR_OUT_OF_RANGE = -17, /* a component is outside the range of its item */
+    MOVALIREN_ERROR_BAD_CONFIG = -18,   /* a number of the configuration is none that there is */
+    MOVALIREN_ERROR_BAD_ITEM = -19,     /* an item is none that there is */
+    MOVALIREN_ERROR_NO_ROOM = -20,      /* the text does not fit the room */
+    MOVALIREN_ERROR_OUT_OF_MEMORY = -21, /* memory was refused */
+    MOVALIREN_ERROR_OTHER = -22          /* never answered */
+};
+
+/* Room of this many bytes is never too little; for movaliren_iso8601_by by any configuration. */
+enum {
+    MOVALIREN_RFC3339_ROOM = 35,
+    MOVALIREN_RFC2822_ROOM = 31,
+    MOVALIREN_ISO8601_ROOM = 35,
+    MOVALIREN_ISO8601_BY_ROOM = 284,
+    MOVALIREN_STAMP_ROOM = 30
+};
+
+/* ---- moments */
+
+/* A local date and time, and its offset from UTC. Where the signs of the offset's parts differ, the
+ * largest part that is not zero decides. Parts are tested in the order date, time, offset. */
+struct movaliren_moment {
+    int32_t year;
+    uint32_t nanosecond;
+    uint8_t month; /* 1 to 12 */
+    uint8_t day;   /* 1 to 31 */
+    uint8_t hour;
+    uint8_t minute;
+    uint8_t second;
+    int8_t offset_hours;
+    int8_t offset_minutes;
+    int8_t offset_seconds;
+};
+
+/* The seconds since 1970-01-01T00:00:00 UTC, and the nanosecond counted forward from there. */
+struct movaliren_utc_moment {
+    int64_t seconds;
+    uint32_t nanosecond;
+};
+
+/* RFC 3339, as 1985-04-12T23:20:50.52Z. */
+ptrdiff_t movaliren_rfc3339(
+    const struct movaliren_moment *moment, uint8_t *room, size_t room_len);
+
+/* RFC 2822, as Fri, 21 Nov 1997 09:55:06 -0600. */
+ptrdiff_t movaliren_rfc2822(
+    const struct movaliren_moment *moment, uint8_t *room, size_t room_len);
+
+/* ISO 8601 by default, as 1997-11-12T09:55:06.000000000-06:00. */
+ptrdiff_t movaliren_iso8601(
+    const struct movaliren_moment *moment, uint8_t *room, size_t room_len);
+
+/* A stamp, as 1997-11-12T15:55:06.000000000Z: 30 bytes, in the order of the moments. */
+ptrdiff_t movaliren_stamp(int64_t seconds, uint32_t nanosecond, uint8_t *room, size_t room_len);
+
+/* ---- configurations of ISO 8601 */
+
+enum movaliren_components {
+    MOVALIREN_ISO_NONE = 0, /* nothing: always MOVALIREN_ERROR_INSUFFICIENT */
+    MOVALIREN_ISO_DATE = 1,
+    MOVALIREN_ISO_TIME = 2,
+    MOVALIREN_ISO_OFFSET = 3,
+    MOVALIREN_ISO_DATE_TIME = 4,
+    MOVALIREN_ISO_DATE_TIME_OFFSET = 5,
+    MOVALIREN_ISO_TIME_OFFSET = 6
+};
+
+enum movaliren_date_kind {
+    MOVALIREN_ISO_CALENDAR = 0,
+    MOVALIREN_ISO_WEEK = 1,
+    MOVALIREN_ISO_ORDINAL = 2
+};
+
+enum movaliren_precision {
+    MOVALIREN_ISO_HOUR = 0,
+    MOVALIREN_ISO_MINUTE = 1,
+    MOVALIREN_ISO_SECOND = 2
+};
+
+struct movaliren_iso_config {
+    uint8_t components;         /* movaliren_components */
+    uint8_t date_kind;          /* movaliren_date_kind */
+    uint8_t time_precision;     /* movaliren_precision */
+    uint8_t decimals;           /* of the last part of the time: 0 for none, or 1 to 255 */
+    uint8_t offset_precision;   /* MOVALIREN_ISO_HOUR or MOVALIREN_ISO_MINUTE */
+    uint8_t use_separators;     /* 0 or 1, as the two below */
+    uint8_t year_is_six_digits; /* and a sign */
+    uint8_t comma;              /* before the decimals, in the place of a point */
+};
+
+/* The configuration of movaliren_iso8601, as an initialiser. */
+#define MOVALIREN_ISO_DEFAULT                                                          \
+    {                                                                                  \
+        MOVALIREN_ISO_DATE_TIME_OFFSET, MOVALIREN_ISO_CALENDAR, MOVALIREN_ISO_SECOND,  \
+            9, MOVALIREN_ISO_MINUTE, 1, 0, 0                                           \
+    }
+
+/* ISO 8601 by a configuration, whose numbers are tested before the moment. */
+ptrdiff_t movaliren_iso8601_by(const struct movaliren_iso_config *config,
+    const struct movaliren_moment *moment, uint8_t *room, size_t room_len);
+
+/* ---- many moments in one call */
+
+/* How far a batch came: so many moments stand in the room, in so many bytes. reason is 0 where these
+ * are all, or else the movaliren_error of the next one, which is MOVALIREN_ERROR_NO_ROOM where its
+ * text with its end does not fit what is left: empty the room, and go on there. What is behind those
+ * bytes is as it was. */
+struct movaliren_progress {
+    size_t moments;
+    size_t bytes;
+    ptrdiff_t reason;
+};
+
+/* The texts of the moments, one after another, each ended by this byte. */
+struct movaliren_progress movaliren_rfc3339_batch(const struct movaliren_moment *moments,
+    size_t moments_len, uint8_t end, uint8_t *room, size_t room_len);
+struct movaliren_progress movaliren_rfc2822_batch(const struct movaliren_moment *moments,
+    size_t moments_len, uint8_t end, uint8_t *room, size_t room_len);
+struct movaliren_progress movaliren_iso8601_batch(const struct movaliren_moment *moments,
+    size_t moments_len, uint8_t end, uint8_t *room, size_t room_len);
+struct movaliren_progress movaliren_iso8601_by_batch(const struct movaliren_iso_config *config,
+    const struct movaliren_moment *moments, size_t moments_len, uint8_t end, uint8_t *room,
+    size_t room_len);
+struct movaliren_progress movaliren_stamp_batch(const struct movaliren_utc_moment *moments,
+    size_t moments_len, uint8_t end, uint8_t *room, size_t room_len);
+
+/* ---- descriptions */
+
+enum movaliren_kind {
+    MOVALIREN_TEXT = 0, /* len bytes of the texts, from start on */
+    MOVALIREN_DAY = 1,  /* padding */
+    MOVALIREN_MONTH_SHORT = 2,
+    MOVALIREN_MONTH_LONG = 3,
+    MOVALIREN_MONTH = 4,   /* padding */
+    MOVALIREN_ORDINAL = 5, /* padding */
+    MOVALIREN_WEEKDAY_SHORT = 6,
+    MOVALIREN_WEEKDAY_LONG = 7,
+    MOVALIREN_WEEKDAY_FROM_SUNDAY = 8,    /* flag: from 1 on */
+    MOVALIREN_WEEKDAY_FROM_MONDAY = 9,    /* flag: from 1 on */
+    MOVALIREN_WEEK_ISO = 10,              /* padding */
+    MOVALIREN_WEEK_SUNDAY = 11,           /* padding */
+    MOVALIREN_WEEK_MONDAY = 12,           /* padding */
+    MOVALIREN_YEAR_EXTENDED = 13,         /* padding, flag: a plus too */
+    MOVALIREN_YEAR = 14,                  /* padding, flag: a plus too */
+    MOVALIREN_CENTURY_EXTENDED = 15,      /* padding, flag: a plus too */
+    MOVALIREN_CENTURY = 16,               /* padding, flag: a plus too */
+    MOVALIREN_YEAR_LAST_TWO = 17,         /* padding */
+    MOVALIREN_ISO_YEAR_EXTENDED = 18,     /* padding, flag: a plus too */
+    MOVALIREN_ISO_YEAR = 19,              /* padding, flag: a plus too */
+    MOVALIREN_ISO_CENTURY_EXTENDED = 20,  /* padding, flag: a plus too */
+    MOVALIREN_ISO_CENTURY = 21,           /* padding, flag: a plus too */
+    MOVALIREN_ISO_YEAR_LAST_TWO = 22,     /* padding */
+    MOVALIREN_HOUR_12 = 23,               /* padding */
+    MOVALIREN_HOUR = 24,                  /* padding */
+    MOVALIREN_MINUTE = 25,                /* padding */
+    MOVALIREN_PERIOD = 26,                /* flag: upper case */
+    MOVALIREN_SECOND = 27,                /* padding */
+    MOVALIREN_SUBSECOND = 28,             /* digits */
+    MOVALIREN_OFFSET_HOUR = 29,           /* padding, flag: a plus too */
+    MOVALIREN_OFFSET_MINUTE = 30,         /* padding */
+    MOVALIREN_OFFSET_SECOND = 31,         /* padding */
+    MOVALIREN_UNIX_SECOND = 32,           /* flag: a plus too */
+    MOVALIREN_UNIX_MILLISECOND = 33       /* flag: a plus too */
+};
+
+enum movaliren_padding { MOVALIREN_ZERO = 0, MOVALIREN_SPACE = 1, MOVALIREN_NO_PADDING = 2 };
+
+/* An item of a description. padding, flag and digits are tested for each item that is no text, also
+ * where its kind has no use for them. */
+struct movaliren_item {
+    uint32_t kind;   /* movaliren_kind */
+    uint8_t padding; /* movaliren_padding */
+    uint8_t flag;    /* 0 or 1 */
+    uint8_t digits;  /* of a second: 0 for as many as are needed, or 1 to 9 */
+    uint8_t unused;
+    size_t start; /* of a text */
+    size_t len;
+};
+
+/* By the items in order, of which the texts are cut from one array of bytes. The items are tested
+ * before the value. */
+ptrdiff_t movaliren_format(const struct movaliren_item *items, size_t items_len,
+    const uint8_t *texts, size_t texts_len, const struct movaliren_moment *moment, uint8_t *room,
+    size_t room_len);
+ptrdiff_t movaliren_format_utc(const struct movaliren_item *items, size_t items_len,
+    const uint8_t *texts, size_t texts_len, int64_t seconds, uint32_t nanosecond, uint8_t *room,
+    size_t room_len);
+ptrdiff_t movaliren_format_date(const struct movaliren_item *items, size_t items_len,
+    const uint8_t *texts, size_t texts_len, int32_t year, uint8_t month, uint8_t day, uint8_t *room,
+    size_t room_len);
+
+/* The most bytes that a text of these items has, up to PTRDIFF_MAX, or MOVALIREN_ERROR_BAD_ITEM:
+ * room of this many is never too little. */
+ptrdiff_t movaliren_width(const struct movaliren_item *items, size_t items_len,
+    const uint8_t *texts, size_t texts_len);
+
+#ifdef __cplusplus
+}
+#endif
+#endif

@@ -1,0 +1,320 @@
+/* The worked rows of moments: each text by a wide room, by one of exactly its length and by each of fewer
+ * bytes, alone and in a batch; and each refusal. Prints what is wrong, and ends with status 1 then. */
+#include "expect.h"
+
+/* ---- the calls, alone and as a batch of one that is ended by a zero */
+
+static ptrdiff_t of_one(struct movaliren_progress progress, uint8_t *room)
+{
+    if (progress.moments == 0)
+        return progress.bytes == 0 ? progress.reason : -100;
+    if (progress.moments != 1 || progress.reason != 0 || room[progress.bytes - 1] != 0)
+        return -101;
+    room[progress.bytes - 1] = FILL;
+    return (ptrdiff_t)progress.bytes - 1;
+}
+
+#define ALONE_AND_AS_BATCH(name, type)                                                             \
+    static ptrdiff_t name(const void *format, const void *value, uint8_t *room, size_t room_len)   \
+    {                                                                                              \
+        (void)format;                                                                              \
+        return movaliren_##name((const type *)value, room, room_len);                              \
+    }                                                                                              \
+    static ptrdiff_t name##_batch(                                                                 \
+        const void *format, const void *value, uint8_t *room, size_t room_len)                     \
+    {                                                                                              \
+        (void)format;                                                                              \
+        return of_one(                                                                             \
+            movaliren_##name##_batch((const type *)value, 1, 0, room, room_len + 1), room);        \
+    }
+
+ALONE_AND_AS_BATCH(rfc3339, struct movaliren_moment)
+ALONE_AND_AS_BATCH(rfc2822, struct movaliren_moment)
+ALONE_AND_AS_BATCH(iso8601, struct movaliren_moment)
+
+static ptrdiff_t iso8601_by(const void *format, const void *value, uint8_t *room, size_t room_len)
+{
+    return movaliren_iso8601_by(format, value, room, room_len);
+}
+
+static ptrdiff_t iso8601_by_batch(
+    const void *format, const void *value, uint8_t *room, size_t room_len)
+{
+    return of_one(movaliren_iso8601_by_batch(format, value, 1, 0, room, room_len + 1), room);
+}
+
+static ptrdiff_t stamp(const void *format, const void *value, uint8_t *room, size_t room_len)
+{
+    (void)format;
+    const struct movaliren_utc_moment *moment = value;
+    return movaliren_stamp(moment->seconds, moment->nanosecond, room, room_len);
+}
+
+static ptrdiff_t stamp_batch(const void *format, const void *value, uint8_t *room, size_t room_len)
+{
+    (void)format;
+    return of_one(movaliren_stamp_batch(value, 1, 0, room, room_len + 1), room);
+}
+
+/* ---- moments with an offset */
+
+static const struct movaliren_moment example = MOMENT(1997, 11, 12, 9, 55, 6, 0, -6, 0, 0);
+
+static const struct {
+    writer *write, *batch;
+    struct movaliren_moment moment;
+    const char *text; /* or none, and the error */
+    int error;
+} moment_rows[] = {
+    { rfc3339, rfc3339_batch, MOMENT(1997, 11, 12, 9, 55, 6, 0, -6, 0, 0),
+        "1997-11-12T09:55:06-06:00", 0 },
+    { rfc3339, rfc3339_batch, MOMENT(1997, 11, 12, 9, 55, 6, 120000000, 0, 0, 0),
+        "1997-11-12T09:55:06.12Z", 0 },
+    { rfc3339, rfc3339_batch, MOMENT(9999, 12, 31, 23, 59, 59, 999999999, -23, -59, 0),
+        "9999-12-31T23:59:59.999999999-23:59", 0 },
+    { rfc3339, rfc3339_batch, MOMENT(0, 1, 1, 0, 0, 0, 0, 0, 0, 0), "0000-01-01T00:00:00Z", 0 },
+    { rfc3339, rfc3339_batch, MOMENT(2000, 1, 1, 0, 0, 0, 0, 0, -30, 0),
+        "2000-01-01T00:00:00-00:30", 0 },
+    { rfc3339, rfc3339_batch, MOMENT(2000, 1, 1, 0, 0, 0, 0, 1, -30, 0),
+        "2000-01-01T00:00:00+01:30", 0 },
+    { rfc3339, rfc3339_batch, MOMENT(10000, 1, 1, 0, 0, 0, 0, 24, 0, 1), 0,
+        MOVALIREN_ERROR_NO_PLACE_FOR_YEAR },
+    { rfc3339, rfc3339_batch, MOMENT(2000, 1, 1, 0, 0, 0, 0, 24, 0, 1), 0,
+        MOVALIREN_ERROR_NO_PLACE_FOR_OFFSET_HOUR },
+    { rfc3339, rfc3339_batch, MOMENT(2000, 1, 1, 0, 0, 0, 0, 23, 59, 1), 0,
+        MOVALIREN_ERROR_NO_PLACE_FOR_OFFSET_SECOND },
+    { rfc3339, rfc3339_batch, MOMENT(1000000, 13, 1, 0, 0, 0, 0, 0, 0, 0), 0, MOVALIREN_ERROR_YEAR },
+    { rfc3339, rfc3339_batch, MOMENT(2000, 13, 32, 0, 0, 0, 0, 0, 0, 0), 0, MOVALIREN_ERROR_MONTH },
+    { rfc3339, rfc3339_batch, MOMENT(2000, 2, 30, 24, 0, 0, 0, 0, 0, 0), 0, MOVALIREN_ERROR_DAY },
+    { rfc3339, rfc3339_batch, MOMENT(2000, 1, 1, 24, 60, 0, 0, 0, 0, 0), 0, MOVALIREN_ERROR_HOUR },
+    { rfc3339, rfc3339_batch, MOMENT(2000, 1, 1, 0, 60, 60, 0, 0, 0, 0), 0, MOVALIREN_ERROR_MINUTE },
+    { rfc3339, rfc3339_batch, MOMENT(2000, 1, 1, 0, 0, 60, 1000000000, 0, 0, 0), 0,
+        MOVALIREN_ERROR_SECOND },
+    { rfc3339, rfc3339_batch, MOMENT(2000, 1, 1, 0, 0, 0, 1000000000, 26, 0, 0), 0,
+        MOVALIREN_ERROR_NANOSECOND },
+    { rfc3339, rfc3339_batch, MOMENT(2000, 1, 1, 0, 0, 0, 0, 26, 60, 60), 0,
+        MOVALIREN_ERROR_OFFSET_HOURS },
+    { rfc3339, rfc3339_batch, MOMENT(2000, 1, 1, 0, 0, 0, 0, 0, 60, 60), 0,
+        MOVALIREN_ERROR_OFFSET_MINUTES },
+    { rfc3339, rfc3339_batch, MOMENT(2000, 1, 1, 0, 0, 0, 0, 0, 0, -60), 0,
+        MOVALIREN_ERROR_OFFSET_SECONDS },
+    { rfc2822, rfc2822_batch, MOMENT(1997, 11, 12, 9, 55, 6, 0, -6, 0, 0),
+        "Wed, 12 Nov 1997 09:55:06 -0600", 0 },
+    { rfc2822, rfc2822_batch, MOMENT(1900, 1, 1, 0, 0, 0, 0, 25, 59, 0),
+        "Mon, 01 Jan 1900 00:00:00 +2559", 0 },
+    { rfc2822, rfc2822_batch, MOMENT(9999, 12, 31, 23, 59, 59, 500000000, -23, -59, 0),
+        "Fri, 31 Dec 9999 23:59:59 -2359", 0 },
+    { rfc2822, rfc2822_batch, MOMENT(1970, 1, 1, 0, 0, 0, 0, 0, 0, 0),
+        "Thu, 01 Jan 1970 00:00:00 +0000", 0 },
+    { rfc2822, rfc2822_batch, MOMENT(1899, 12, 31, 0, 0, 0, 0, 0, 0, 1), 0,
+        MOVALIREN_ERROR_NO_PLACE_FOR_YEAR },
+    { rfc2822, rfc2822_batch, MOMENT(2000, 1, 1, 0, 0, 0, 0, 23, 59, 1), 0,
+        MOVALIREN_ERROR_NO_PLACE_FOR_OFFSET_SECOND },
+    { iso8601, iso8601_batch, MOMENT(1997, 11, 12, 9, 55, 6, 0, -6, 0, 0),
+        "1997-11-12T09:55:06.000000000-06:00", 0 },
+    { iso8601, iso8601_batch, MOMENT(70000, 1, 1, 0, 0, 0, 0, 0, 0, 1), 0,
+        MOVALIREN_ERROR_NO_PLACE_FOR_YEAR },
+    { iso8601, iso8601_batch, MOMENT(2000, 1, 1, 0, 0, 0, 0, 1, 0, 1), 0,
+        MOVALIREN_ERROR_NO_PLACE_FOR_OFFSET_SECOND },
+};
+
+static void try_moments(void)
+{
+    for (size_t i = 0; i < sizeof moment_rows / sizeof *moment_rows; i++) {
+        writer *writers[] = { moment_rows[i].write, moment_rows[i].batch };
+        for (size_t k = 0; k < 2; k++)
+            if (moment_rows[i].text)
+                expect_text(writers[k], 0, &moment_rows[i].moment, moment_rows[i].text);
+            else
+                expect_error(writers[k], 0, &moment_rows[i].moment, moment_rows[i].error);
+    }
+}
+
+/* ---- configurations of ISO 8601: components, date kind, time precision, decimals, offset precision,
+ * separators, six digits, comma */
+
+static const struct {
+    struct movaliren_iso_config config;
+    struct movaliren_moment moment;
+    const char *text;
+    int error;
+} config_rows[] = {
+    { MOVALIREN_ISO_DEFAULT, MOMENT(1997, 11, 12, 9, 55, 6, 0, -6, 0, 0),
+        "1997-11-12T09:55:06.000000000-06:00", 0 },
+    { { 5, 0, 2, 9, 1, 1, 0, 1 }, MOMENT(1997, 11, 12, 9, 55, 6, 0, -6, 0, 0),
+        "1997-11-12T09:55:06,000000000-06:00", 0 },
+    { { 5, 1, 2, 9, 1, 0, 1, 0 }, MOMENT(1997, 11, 12, 9, 55, 6, 0, -6, 0, 0),
+        "+001997W463T095506.000000000-0600", 0 },
+    { { 1, 1, 2, 9, 1, 1, 0, 0 }, MOMENT(1997, 11, 12, 0, 0, 0, 0, 0, 0, 0), "1997-W46-3", 0 },
+    { { 1, 1, 2, 9, 1, 1, 0, 0 }, MOMENT(2010, 1, 3, 0, 0, 0, 0, 0, 0, 0), "2009-W53-7", 0 },
+    { { 1, 2, 2, 9, 1, 0, 0, 0 }, MOMENT(1997, 11, 12, 0, 0, 0, 0, 0, 0, 0), "1997316", 0 },
+    { { 1, 0, 2, 9, 1, 1, 1, 0 }, MOMENT(1997, 11, 12, 0, 0, 0, 0, 0, 0, 0), "+001997-11-12", 0 },
+    { { 1, 1, 2, 9, 1, 1, 0, 0 }, MOMENT(0, 1, 1, 0, 0, 0, 0, 0, 0, 0), 0,
+        MOVALIREN_ERROR_NO_PLACE_FOR_YEAR },
+    { { 1, 0, 2, 9, 1, 1, 0, 0 }, MOMENT(-60000, 1, 1, 0, 0, 0, 0, 0, 0, 0), 0,
+        MOVALIREN_ERROR_NO_PLACE_FOR_YEAR },
+    { { 2, 0, 2, 0, 1, 0, 0, 0 }, MOMENT(1997, 11, 12, 9, 55, 6, 0, 0, 0, 0), "T095506", 0 },
+    { { 2, 0, 0, 3, 1, 1, 0, 0 }, MOMENT(1997, 11, 12, 9, 55, 6, 0, 0, 0, 0), "09.918", 0 },
+    { { 2, 0, 1, 2, 1, 0, 0, 0 }, MOMENT(1997, 11, 12, 9, 55, 6, 0, 0, 0, 0), "T0955.10", 0 },
+    { { 2, 0, 0, 9, 1, 1, 0, 0 }, MOMENT(1997, 11, 12, 0, 0, 10, 0, 0, 0, 0), "00.002777777", 0 },
+    { { 2, 0, 0, 9, 1, 1, 0, 1 }, MOMENT(1997, 11, 12, 0, 0, 10, 0, 0, 0, 0), "00,002777777", 0 },
+    { { 2, 0, 1, 9, 1, 1, 0, 0 }, MOMENT(1997, 11, 12, 23, 59, 59, 999999999, 0, 0, 0),
+        "23:59.999999999", 0 },
+    { { 2, 0, 2, 0, 1, 1, 0, 1 }, MOMENT(1997, 11, 12, 9, 55, 6, 0, 0, 0, 0), "09:55:06", 0 },
+    { { 3, 0, 2, 9, 1, 1, 0, 0 }, MOMENT(1997, 11, 12, 0, 0, 0, 0, 0, 0, 0), "+00:00", 0 },
+    { { 6, 0, 2, 9, 1, 1, 0, 0 }, MOMENT(1997, 11, 12, 0, 0, 0, 0, 0, 0, 0),
+        "00:00:00.000000000Z", 0 },
+    { { 3, 0, 2, 9, 0, 1, 0, 0 }, MOMENT(1997, 11, 12, 0, 0, 0, 0, 5, 30, 0), 0,
+        MOVALIREN_ERROR_NO_PLACE_FOR_OFFSET_MINUTE },
+    { { 0, 0, 2, 9, 1, 1, 0, 0 }, MOMENT(1997, 11, 12, 0, 0, 0, 0, 0, 0, 0), 0,
+        MOVALIREN_ERROR_INSUFFICIENT },
+    { { 7, 0, 2, 9, 1, 1, 0, 0 }, MOMENT(1997, 13, 12, 0, 0, 0, 0, 0, 0, 0), 0,
+        MOVALIREN_ERROR_BAD_CONFIG },
+    { { 5, 3, 2, 9, 1, 1, 0, 0 }, MOMENT(1997, 11, 12, 0, 0, 0, 0, 0, 0, 0), 0,
+        MOVALIREN_ERROR_BAD_CONFIG },
+    { { 5, 0, 2, 9, 2, 1, 0, 0 }, MOMENT(1997, 11, 12, 0, 0, 0, 0, 0, 0, 0), 0,
+        MOVALIREN_ERROR_BAD_CONFIG },
+    { { 5, 0, 2, 9, 1, 2, 0, 0 }, MOMENT(1997, 11, 12, 0, 0, 0, 0, 0, 0, 0), 0,
+        MOVALIREN_ERROR_BAD_CONFIG },
+};
+
+static void try_configurations(void)
+{
+    for (size_t i = 0; i < sizeof config_rows / sizeof *config_rows; i++) {
+        writer *writers[] = { iso8601_by, iso8601_by_batch };
+        for (size_t k = 0; k < 2; k++)
+            if (config_rows[i].text)
+                expect_text(writers[k], &config_rows[i].config, &config_rows[i].moment,
+                    config_rows[i].text);
+            else
+                expect_error(writers[k], &config_rows[i].config, &config_rows[i].moment,
+                    config_rows[i].error);
+    }
+}
+
+/* A first part, one byte in the middle, and so many of another byte. */
+static const char *long_text(char *text, const char *first, const char *middle, char last, size_t n)
+{
+    size_t len = (size_t)sprintf(text, "%s%s", first, middle);
+    memset(text + len, last, n);
+    text[len + n] = 0;
+    return text;
+}
+
+static void try_long_decimals(void)
+{
+    char text[WIDE];
+    struct movaliren_iso_config config = { 2, 0, 2, 255, 1, 1, 0, 0 };
+    struct movaliren_moment moment = example;
+    moment.hour = moment.minute = moment.second = 0;
+    moment.nanosecond = 1;
+    expect_text(
+        iso8601_by, &config, &moment, long_text(text, "00:00:00.00000000", "1", '0', 246));
+    config.time_precision = MOVALIREN_ISO_HOUR;
+    moment.hour = 23, moment.minute = moment.second = 59, moment.nanosecond = 999999999;
+    expect_text(iso8601_by, &config, &moment, long_text(text, "23.999999999999", "7", '2', 242));
+    config.time_precision = MOVALIREN_ISO_MINUTE;
+    moment.hour = moment.minute = 0, moment.second = 10, moment.nanosecond = 0;
+    expect_text(iso8601_by, &config, &moment, long_text(text, "00:00.", "1", '6', 254));
+
+    /* The widest text by any configuration. */
+    config = (struct movaliren_iso_config) { 5, 1, 2, 255, 1, 1, 1, 0 };
+    moment.offset_hours = 1;
+    uint8_t room[MOVALIREN_ISO8601_BY_ROOM];
+    if (movaliren_iso8601_by(&config, &moment, room, sizeof room) != sizeof room) {
+        failures++;
+        puts("the widest text has another length");
+    }
+}
+
+/* ---- stamps */
+
+static void try_stamps(void)
+{
+    static const struct {
+        struct movaliren_utc_moment moment;
+        const char *text;
+        int error;
+    } rows[] = {
+        { { 879350106, 0 }, "1997-11-12T15:55:06.000000000Z", 0 },
+        { { -1, 999999999 }, "1969-12-31T23:59:59.999999999Z", 0 },
+        { { 0, 0 }, "1970-01-01T00:00:00.000000000Z", 0 },
+        { { -62167219200, 0 }, "0000-01-01T00:00:00.000000000Z", 0 },
+        { { 253402300799, 999999999 }, "9999-12-31T23:59:59.999999999Z", 0 },
+        { { 253402300800, 0 }, 0, MOVALIREN_ERROR_NO_PLACE_FOR_YEAR },
+        { { -62167219201, 0 }, 0, MOVALIREN_ERROR_NO_PLACE_FOR_YEAR },
+        { { 31494784780799, 0 }, 0, MOVALIREN_ERROR_NO_PLACE_FOR_YEAR },
+        { { 31494784780800, 1000000000 }, 0, MOVALIREN_ERROR_MOMENT_SECONDS },
+        { { -31619087596801, 0 }, 0, MOVALIREN_ERROR_MOMENT_SECONDS },
+        { { INT64_MIN, 0 }, 0, MOVALIREN_ERROR_MOMENT_SECONDS },
+        { { INT64_MAX, 0 }, 0, MOVALIREN_ERROR_MOMENT_SECONDS },
+        { { 0, 1000000000 }, 0, MOVALIREN_ERROR_NANOSECOND },
+    };
+    for (size_t i = 0; i < sizeof rows / sizeof *rows; i++) {
+        writer *writers[] = { stamp, stamp_batch };
+        for (size_t k = 0; k < 2; k++)
+            if (rows[i].text)
+                expect_text(writers[k], 0, &rows[i].moment, rows[i].text);
+            else
+                expect_error(writers[k], 0, &rows[i].moment, rows[i].error);
+    }
+}
+
+/* ---- batches */
+
+static void expect_progress(struct movaliren_progress progress, size_t moments, size_t bytes,
+    ptrdiff_t reason, const uint8_t *room, const char *text)
+{
+    if (progress.moments == moments && progress.bytes == bytes && progress.reason == reason
+        && !memcmp(room, text, strlen(text)))
+        return;
+    failures++;
+    printf("a batch: %zu moments, %zu bytes, %td, %.*s\n", progress.moments, progress.bytes,
+        progress.reason, (int)progress.bytes, room);
+}
+
+static void try_batches(void)
+{
+    uint8_t room[64];
+    struct movaliren_moment moments[] = { example, example, example };
+    moments[1].offset_hours = 0;
+    moments[2].month = 13;
+    const char first[] = "1997-11-12T09:55:06-06:00\n#", both[] = "1997-11-12T09:55:06-06:00\n"
+                                                                  "1997-11-12T09:55:06Z\n#";
+    for (size_t len = 0; len < sizeof room; len++) {
+        memset(room, FILL, sizeof room);
+        struct movaliren_progress progress = movaliren_rfc3339_batch(moments, 3, '\n', room, len);
+        if (len < 26)
+            expect_progress(progress, 0, 0, MOVALIREN_ERROR_NO_ROOM, room, "#");
+        else if (len < 47)
+            expect_progress(progress, 1, 26, MOVALIREN_ERROR_NO_ROOM, room, first);
+        else
+            expect_progress(progress, 2, 47, MOVALIREN_ERROR_MONTH, room, both);
+    }
+    /* A byte that is no character ends a text as well. */
+    memset(room, FILL, sizeof room);
+    expect_progress(movaliren_rfc3339_batch(moments, 2, 0xff, room, sizeof room), 2, 47, 0, room,
+        "1997-11-12T09:55:06-06:00\xff");
+}
+
+static void try_empty_slices(void)
+{
+    uint8_t none = FILL;
+    const struct movaliren_utc_moment epoch = { 0, 0 };
+    expect_progress(movaliren_rfc3339_batch(&example, 0, '\n', &none, 0), 0, 0, 0, &none, "#");
+    expect_progress(movaliren_stamp_batch(&epoch, 0, '\n', &none, 0), 0, 0, 0, &none, "#");
+    expect_progress(movaliren_stamp_batch(&epoch, 1, '\n', &none, 0), 0, 0, MOVALIREN_ERROR_NO_ROOM,
+        &none, "#");
+}
+
+int main(void)
+{
+    try_moments();
+    try_configurations();
+    try_long_decimals();
+    try_stamps();
+    try_batches();
+    try_empty_slices();
+    printf("rows: %d wrong\n", failures);
+    return failures != 0;
+}

@@ -1,0 +1,236 @@
+//! What the C programs do not show: the ways into `String`, `Vec<u8>` and a slice, what an error leaves,
+//! and each reason by its name. Expected texts are the worked rows.
+use movaliren::*;
+
+const EXAMPLE: Moment = Moment::new(1997, 11, 12)
+    .at(9, 55, 6, 120_000_000)
+    .offset(-6, 0, 0);
+
+/// The text by each of the three ways, with exact room, and the refusal of room one byte short.
+fn assert_text<V>(format: &impl Format<V>, value: &V, text: &str) {
+    assert_eq!(format.format(value).as_deref(), Ok(text));
+    let mut line = b"log ".to_vec();
+    assert_eq!(format.format_into(&mut line, value), Ok(text.len()));
+    assert_eq!(&line[4..], text.as_bytes());
+    assert!(text.len() <= format.width());
+    let mut room = vec![b'#'; text.len() + 1];
+    assert_eq!(
+        format.format_to(&mut room[..text.len()], value),
+        Ok(text.as_bytes())
+    );
+    assert_eq!(room[text.len()], b'#');
+    if let Some(short) = text.len().checked_sub(1) {
+        let mut room = vec![b'#'; short];
+        assert_eq!(format.format_to(&mut room, value), Err(Error::NoRoom));
+        assert!(room.iter().all(|byte| *byte == b'#'));
+    }
+}
+
+/// The refusal by each of the three ways, which leave what was there.
+fn assert_error<V>(format: &impl Format<V>, value: &V, error: Error) {
+    assert_eq!(format.format(value), Err(error));
+    let mut line = b"log ".to_vec();
+    assert_eq!(format.format_into(&mut line, value), Err(error));
+    assert_eq!(line, b"log ");
+    let mut room = [b'#'; 300];
+    assert_eq!(format.format_to(&mut room, value), Err(error));
+    assert_eq!(room, [b'#'; 300]);
+    assert_eq!(format.format_to(&mut [], value), Err(error));
+}
+
+#[test]
+fn texts() {
+    assert_text(&Rfc3339, &EXAMPLE, "1997-11-12T09:55:06.12-06:00");
+    assert_text(
+        &Rfc3339,
+        &EXAMPLE.offset(0, 0, 0),
+        "1997-11-12T09:55:06.12Z",
+    );
+    assert_text(&Rfc2822, &EXAMPLE, "Wed, 12 Nov 1997 09:55:06 -0600");
+    assert_text(&Iso8601, &EXAMPLE, "1997-11-12T09:55:06.120000000-06:00");
+    assert_text(
+        &Iso8601By::default(),
+        &EXAMPLE,
+        "1997-11-12T09:55:06.120000000-06:00",
+    );
+    let moment = UtcMoment::new(879_350_106, 120_000_000);
+    assert_text(&Stamp, &moment, "1997-11-12T15:55:06.120000000Z");
+    assert_eq!(
+        stamp(&moment).as_ref(),
+        Ok(b"1997-11-12T15:55:06.120000000Z")
+    );
+}
+
+#[test]
+fn configurations() {
+    let config = Iso8601By::default();
+    let date = config.parts(Parts::Date);
+    assert_text(&date.date_kind(DateKind::Week), &EXAMPLE, "1997-W46-3");
+    assert_text(
+        &date.date_kind(DateKind::Ordinal).separators(false),
+        &EXAMPLE,
+        "1997316",
+    );
+    assert_text(&date.six_digit_year(true), &EXAMPLE, "+001997-11-12");
+    let time = config.parts(Parts::Time);
+    let ten = EXAMPLE.at(0, 0, 10, 0);
+    let hours = time.time_precision(TimePrecision::Hour, 9);
+    assert_text(&hours, &ten, "00.002777777");
+    assert_text(
+        &hours.decimal_sign(DecimalSign::Comma),
+        &ten,
+        "00,002777777",
+    );
+    assert_text(
+        &time.time_precision(TimePrecision::Second, 0),
+        &EXAMPLE,
+        "09:55:06",
+    );
+    let offset = config.parts(Parts::Offset);
+    assert_text(&offset, &EXAMPLE.offset(0, 0, 0), "+00:00");
+    let hour = offset.offset_precision(OffsetPrecision::Hour);
+    assert_text(&hour, &EXAMPLE, "-06");
+    assert_error(
+        &hour,
+        &EXAMPLE.offset(5, 30, 0),
+        Error::NoPlaceForOffsetMinute,
+    );
+    let long = time.time_precision(TimePrecision::Second, 255);
+    let text = format!("00:00:00.000000001{}", "0".repeat(246));
+    assert_text(&long, &EXAMPLE.at(0, 0, 0, 1), &text);
+}
+
+#[test]
+fn reasons() {
+    let new_year = Moment::new(2000, 1, 1);
+    for (moment, error) in [
+        (Moment::new(1_000_000, 13, 1), Error::Year),
+        (Moment::new(2000, 13, 32), Error::Month),
+        (Moment::new(2000, 2, 30).at(24, 0, 0, 0), Error::Day),
+        (new_year.at(24, 60, 0, 0), Error::Hour),
+        (new_year.at(0, 60, 60, 0), Error::Minute),
+        (new_year.at(0, 0, 60, 1_000_000_000), Error::Second),
+        (
+            new_year.at(0, 0, 0, 1_000_000_000).offset(26, 0, 0),
+            Error::Nanosecond,
+        ),
+        (new_year.offset(26, 60, 60), Error::OffsetHours),
+        (new_year.offset(0, 60, 60), Error::OffsetMinutes),
+        (new_year.offset(0, 0, -60), Error::OffsetSeconds),
+        (
+            Moment::new(10_000, 1, 1).offset(24, 0, 1),
+            Error::NoPlaceForYear,
+        ),
+        (new_year.offset(24, 0, 1), Error::NoPlaceForOffsetHour),
+        (new_year.offset(23, 59, 1), Error::NoPlaceForOffsetSecond),
+    ] {
+        assert_error(&Rfc3339, &moment, error);
+    }
+    assert_error(&Stamp, &UtcMoment::new(i64::MAX, 0), Error::MomentSeconds);
+    assert_error(&Stamp, &UtcMoment::new(0, 1_000_000_000), Error::Nanosecond);
+    let any: Box<dyn std::error::Error + Send + Sync> = Error::Day.into();
+    assert_eq!(any.to_string(), "the month of that year has no such day");
+}
+
+#[test]
+fn descriptions() {
+    let date = Date {
+        year: 1997,
+        month: 11,
+        day: 12,
+    };
+    let day = Description::new()
+        .component(Kind::Day)
+        .text("/")
+        .component(Kind::Month);
+    assert_eq!(day.width(), 5);
+    assert_text(&day, &EXAMPLE, "12/11");
+    assert_text(&day, &date, "12/11");
+    assert_text(&day, &UtcMoment::new(0, 0), "01/01");
+    assert_text(&Description::new(), &EXAMPLE, "");
+    let hour = Description::new().text("on ").component(Kind::Hour);
+    assert_error(&hour, &date, Error::Insufficient);
+    let year = Description::new().component(Kind::Year);
+    assert_error(
+        &year,
+        &Date {
+            year: 10_000,
+            ..date
+        },
+        Error::OutOfRange,
+    );
+    let clock = Description::new()
+        .component(Kind::Hour)
+        .text("\u{2236}")
+        .component(Kind::Minute)
+        .text(".")
+        .subsecond(Some(3));
+    assert_text(&clock, &EXAMPLE, "09\u{2236}55.120");
+    let period = Description::new()
+        .component_with(Kind::Hour12, Padding::Space, false)
+        .component_with(Kind::Period, Padding::Zero, true);
+    assert_text(&period, &EXAMPLE, " 9AM");
+}
+
+#[test]
+fn batches() {
+    let moments = [
+        EXAMPLE,
+        Moment::new(2026, 11, 22),
+        Moment::new(2026, 11, 31),
+        EXAMPLE,
+    ];
+    let mut lines = b"# ".to_vec();
+    let progress = Rfc3339.batch_into(&mut lines, &moments, b'\n');
+    assert_eq!((progress.moments, progress.stopped), (2, Some(Error::Day)));
+    assert_eq!(
+        lines,
+        b"# 1997-11-12T09:55:06.12-06:00\n2026-11-22T00:00:00Z\n"
+    );
+    assert_eq!(progress.bytes + 2, lines.len());
+    let none = Rfc2822.batch_into(&mut lines, &[], 0);
+    assert_eq!((none.moments, none.bytes, none.stopped), (0, 0, None));
+}
+
+#[test]
+fn a_batch_has_the_texts_of_its_moments() {
+    let moments: Vec<_> = (0..10_000)
+        .map(|i| {
+            let (month, day) = (1 + (i % 12) as u8, 1 + (i % 28) as u8);
+            Moment::new(i, month, day).at((i % 24) as u8, (i % 60) as u8, 0, i as u32)
+        })
+        .collect();
+    assert_batch(&Rfc3339, &moments);
+    assert_batch(&Rfc2822, &moments[1900..]);
+    assert_batch(&Iso8601, &moments);
+    assert_batch(&Iso8601By::default().date_kind(DateKind::Ordinal), &moments);
+    let moments: Vec<_> = (0..10_000)
+        .map(|i| UtcMoment::new(i * 1_000_003, 1))
+        .collect();
+    assert_batch(&Stamp, &moments);
+}
+
+fn assert_batch<V>(format: &impl Batch<V>, values: &[V]) {
+    let mut lines = Vec::new();
+    let progress = format.batch_into(&mut lines, values, b'\n');
+    assert_eq!((progress.moments, progress.stopped), (values.len(), None));
+    let one_by_one: String = values
+        .iter()
+        .map(|value| format.format(value).unwrap() + "\n")
+        .collect();
+    assert_eq!(lines, one_by_one.as_bytes());
+}
+
+#[test]
+fn stamps_sort() {
+    use std::time::{Duration, UNIX_EPOCH};
+    let epoch = UtcMoment::from(UNIX_EPOCH);
+    let before = UtcMoment::from(UNIX_EPOCH - Duration::from_nanos(1));
+    let whole = UtcMoment::from(UNIX_EPOCH - Duration::from_secs(2));
+    assert_eq!(
+        (before, whole),
+        (UtcMoment::new(-1, 999_999_999), UtcMoment::new(-2, 0))
+    );
+    assert!(stamp(&whole).unwrap() < stamp(&before).unwrap());
+    assert!(stamp(&before).unwrap() < stamp(&epoch).unwrap());
+}

@@ -1,0 +1,177 @@
+-- A batch, item by item.
+use Rattle.std.proofs.Common.{◌≡◌, ◌<◌, ◌≤◌, ◌+◌, ◌-◌, ℕ, All, List, [], ◌∷◌, ◌++◌, length, take, drop, get_or, set, None, Result, Ok, Err, refl, sym, ap, ◌∙◌, ⊎_elim, inl, inr, arith, length-append, subst}
+use Rattle.std.proofs.lemmas.List.{take-append-drop, append-nil, take_more}
+use Rattle.std.proofs.lemmas.List.Elements.{All-push}
+use Rattle.std.proofs.lemmas.Grind.{common_steps, flat_map-append}
+use Rattle.std.proofs.lemmas.Option.{slice_get-get_or}
+use Rattle.movaliren_c.specs.Answer.{Explains, IsRefusedFor, IsText}
+use Rattle.movaliren_c.specs.Batch.{bytes_of, ended, IsWhole, Stand, Stops, StopsAt, lines}
+use Rattle.movaliren_c.specs.declared.reason.Reason.{Reason}
+use Rattle.movaliren_c.specs.declared.reason.Reason.TheVariants as reason
+use Rattle.movaliren_c.proofs.PushLemmas.{join_done, refused_first}
+use Rattle.time_fmt.specs.Outcome.{Outcome, join, done}
+
+-- what a count says of a line
+whole_line : (v : Result Outcome Reason) (n : ℕ) (before after : List ℕ)
+    → IsText v (Ok n) before after
+    → IsWhole v × (n ≡ length (bytes_of v)) × (after ≡ bytes_of v ++ drop n before)
+whole_line (Ok o) n before after h = h
+whole_line (Err r) n before after h = absurd (let e = h.0 in cc)
+
+-- what a reason says of it
+stopped_line : (v : Result Outcome Reason) (r : Reason) (before after : List ℕ)
+    → IsText v (Err r) before after → Stops r v (length before) × (after ≡ before)
+stopped_line (Ok o) r before after h = (h.1, h.0)
+stopped_line (Err e) r before after h = (let same = h.0 in cc, h.1)
+
+-- a text at a place of the room
+placed : (front init room later t : List ℕ) (b n : ℕ) → b ≡ length front
+    → room ≡ front ++ drop b init → n ≡ length t → take b later ≡ take b room
+    → drop b later ≡ t ++ drop n (drop b room) → later ≡ (front ++ t) ++ drop (b + n) init
+placed front init room later t b n eb er en et ed =
+    let whole = sym (take-append-drop b later) in
+    grind (arith, common_steps)
+
+-- the front of the room stays, and so does what is behind it
+same_room : (room later : List ℕ) (b : ℕ) → take b later ≡ take b room → drop b later ≡ drop b room
+    → later ≡ room
+same_room room later b et ed = sym (take-append-drop b later) ∙ ap (λ x. x ++ drop b later) et ∙ ap
+    (λ x. take b room ++ x) ed ∙ take-append-drop b room
+
+-- what is behind the lines is as it was
+behind : (front init room : List ℕ) (b : ℕ) → b ≡ length front → room ≡ front ++ drop b init
+    → drop b room ≡ drop b init
+behind front init room b eb er = grind (arith, common_steps)
+
+lines_more : {A : Type 0} (line : A → Result Outcome Reason) (items : List A) (n : ℕ) (d : A)
+    → n < length items
+    → lines line (take (n + 1) items) ≡ lines line (take n items) ++ bytes_of (line (get_or items n
+    d))
+lines_more line items n d inside =
+    ap (lines line) (take_more items n d inside) ∙ flat_map-append (λ item. bytes_of (line item))
+    (take n items) (get_or items n d ∷ []) ∙ ap (λ x. lines line (take n items) ++ x)
+    (append-nil (bytes_of (line (get_or items n d))))
+
+-- one item more
+pub stand_more : {A : Type 0} (n : ℕ) (items : List A) (line : A → Result Outcome Reason) (bytes :
+    ℕ) (before room later : List ℕ) (d : A) (count : ℕ)
+    → n < length items → Stand n items line bytes before room
+    → IsText (line (get_or items n d)) (Ok count) (drop bytes room) (drop bytes later)
+    → take bytes later ≡ take bytes room → Stand (n + 1) items line (bytes + count) before later
+stand_more {A} n items line bytes before room later d count inside s h same =
+    let k = whole_line (line (get_or items n d)) count (drop bytes room) (drop bytes later) h in
+    let front = lines line (take n items) in
+    let t = bytes_of (line (get_or items n d)) in
+    let grown = lines_more line items n d inside in
+    let P : A → Type 0 = λ item. IsWhole (line item) in
+    record {
+      whole = subst (All P) (sym (take_more items n d inside)) (All-push P (take n items) (get_or
+          items n d) s.whole k.0);
+      counted = omega (arith, ap length grown, length-append front t, s.counted, k.1);
+      written = placed front before room later t bytes count s.counted s.written k.1 same k.2 ∙ ap
+          (λ x. x ++ drop (bytes + count) before) (sym grown);
+    }
+
+-- the next item stops
+pub stops_at : {A : Type 0} (n : ℕ) (items : List A) (line : A → Result Outcome Reason) (bytes : ℕ)
+    (before room later : List ℕ) (d : A) (r : Reason)
+    → n < length items → Stand n items line bytes before room
+    → IsText (line (get_or items n d)) (Err r) (drop bytes room) (drop bytes later)
+    → take bytes later ≡ take bytes room
+    → Stand n items line bytes before later × StopsAt r n items line (length (drop bytes before))
+stops_at n items line bytes before room later d r inside s h same =
+    let k = stopped_line (line (get_or items n d)) r (drop bytes room) (drop bytes later) h in
+    let e = same_room room later bytes same k.1 in
+    let b = behind (lines line (take n items)) before room bytes s.counted s.written in (
+      rw e s,
+      rw (slice_get-get_or items n d inside) (subst (λ rest. Stops r (line (get_or items n
+          d)) (length rest)) b k.0),
+    )
+
+-- the same of an item that is known by its place
+pub stops_at_item : {A : Type 0} (n : ℕ) (items : List A) (line : A → Result Outcome Reason) (bytes
+    : ℕ) (before room later : List ℕ) (item : A) (r : Reason)
+    → n < length items → item ≡ get_or items n item → Stand n items line bytes before room
+    → IsText (line item) (Err r) (drop bytes room) (drop bytes later)
+    → take bytes later ≡ take bytes room
+    → Stand n items line bytes before later × StopsAt r n items line (length (drop bytes before))
+stops_at_item n items line bytes before room later item r inside is s h same =
+    stops_at n items line bytes before room later item r inside s (subst (λ x. IsText (line x) (Err
+    r) (drop bytes room) (drop bytes later)) is h) same
+
+-- ---- the byte that ends a text
+
+-- a text in the front of the room stands in the room
+in_front : (text room mid : List ℕ) (n most : ℕ) → n ≡ length text → n ≤ most
+    → take most mid ≡ text ++ drop n (take most room) → drop most mid ≡ drop most room
+    → mid ≡ text ++ drop n room
+in_front text room mid n most en inside et ed =
+    let whole = sym (take-append-drop most mid) in
+    let old = sym (take-append-drop most room) in
+    grind (arith, common_steps)
+
+-- the byte behind a text
+placed_end : (text room mid : List ℕ) (n e : ℕ) → n ≡ length text → n < length mid
+    → mid ≡ text ++ drop n room → set mid n e ≡ (text ++ e ∷ []) ++ drop (n + 1) room
+placed_end text room mid n e en inside em =
+    let whole = sym (take-append-drop (n + 1) (set mid n e)) in
+    grind (arith, common_steps)
+
+-- a text and its end
+pub ended_text : (asked : Result Outcome Reason) (n e most : ℕ) (room mid : List ℕ) → n ≤ most
+    → n < length mid → IsText asked (Ok n) (take most room) (take most mid)
+    → drop most mid ≡ drop most room → IsText (ended e asked) (Ok (n + 1)) room (set mid n e)
+ended_text (Ok o) n e most room mid fits inside h behind_it =
+    let whole = in_front o.bytes room mid n most h.1 fits h.2 behind_it in
+    rw (join_done o (done (e ∷ [])) h.0) (
+      refl,
+      omega (arith, h.1, length-append o.bytes (e ∷ [])),
+      placed_end o.bytes room mid n e h.1 inside whole,
+    )
+ended_text (Err r) n e most room mid fits inside h behind_it = absurd (let same = h.0 in cc)
+
+-- why there is no text is why there is no text with an end, in a room of one byte more
+explains_ended : (r : Reason) (o : Outcome) (e room : ℕ) → Explains r o (room - 1)
+    → Explains r (join o (done (e ∷ []))) room
+explains_ended r o e room h =
+    ⊎_elim (λ (short : (r ≡ reason.NoRoom) × (o.refusal ≡ None) × (room - 1 < length o.bytes)).
+    let whole = join_done o (done (e ∷ [])) short.1 in
+    inl (short.0, rw whole refl, rw whole (omega (arith, short.2, length-append o.bytes (e ∷ [])))))
+    (λ (refused : IsRefusedFor r o). inr (refused_first o (done (e ∷ [])) r refused))
+    h
+
+-- a reason, and no end
+pub ended_stops : (asked : Result Outcome Reason) (r : Reason) (e most : ℕ) (room mid : List ℕ)
+    → most ≡ length room - 1 → IsText asked (Err r) (take most room) (take most mid)
+    → drop most mid ≡ drop most room → IsText (ended e asked) (Err r) room mid
+ended_stops (Ok o) r e most room mid is h behind_it =
+    let front : length (take most room) ≡ length room - 1 = grind (arith, common_steps) in (
+      same_room room mid most h.0 behind_it,
+      explains_ended r o e (length room) (subst (λ n. Explains
+          r o n) front h.1),
+    )
+ended_stops (Err q) r e most room mid is h behind_it = (h.0, same_room room mid most h.1 behind_it)
+
+-- a text of no bytes in a room of none
+pub ended_nowhere : (asked : Result Outcome Reason) (n e most : ℕ) (room mid : List ℕ) → n ≤ most
+    → most ≡ length room - 1 → n ≡ length room
+    → IsText asked (Ok n) (take most room) (take most mid) → drop most mid ≡ drop most room
+    → IsText (ended e asked) (Err reason.NoRoom) room mid
+ended_nowhere (Ok o) n e most room mid fits is full h behind_it =
+    let none : n ≡ 0 = omega arith in
+    let whole = in_front o.bytes room mid n most h.1 fits h.2 behind_it in
+    let empty : o.bytes ≡ [] = grind (arith, common_steps) in
+    let ended_by = join_done o (done (e ∷ [])) h.0 in (
+      rw empty at (rw none at whole),
+      inl (
+        refl,
+        rw ended_by refl,
+        rw ended_by (omega (
+          arith,
+          full,
+          h.1,
+          length-append o.bytes (e ∷ []),
+        )),
+      ),
+    )
+ended_nowhere (Err q) n e most room mid fits is full h behind_it = absurd (let same = h.0 in cc)

@@ -1,0 +1,234 @@
+-- Descriptions, item by item.
+use Rattle.std.proofs.Common.{◌≡◌, ◌≤◌, ◌<◌, ◌+◌, ℕ, min, List, [], ◌∷◌, length, drop, get_or, map, Result, Ok, Err, refl, sym, ap, ◌∙◌, arith, subst, rules, Vec, vec_len, vec_capacity}
+use Rattle.std.proofs.lemmas.List.{at_drop_more, at_drop_all}
+use Rattle.std.specs.Global.{Global}
+use Rattle.movaliren_c.specs.Items.{HasRoomFor, IsAppended, list_of}
+use Rattle.movaliren_c.specs.Value.{with_value}
+use Rattle.movaliren_c.specs.declared.reason.Reason.{Reason}
+use Rattle.time_below.specs.Facts.{Facts}
+use Rattle.time_below.specs.Tree.{Tree, Trees, trees, end}
+use Rattle.time_below.specs.Width.{tree_width, trees_width, is_guaranteed_text}
+use Rattle.time_fmt.specs.Description.{tree_outcome, trees_outcome}
+use Rattle.time_fmt.specs.Guarantee.{IsTextIf}
+use Rattle.time_fmt.specs.Outcome.{Appends}
+use Rattle.time_fmt.specs.Room.{HasRoom}
+use Rattle.time_fmt.specs.declared.error.Format.{Format}
+use Rattle.time_fmt.proofs.Engine.{Along, written_along, refused_along}
+
+-- ---- lists of which each member is there, or not
+
+-- where a list is there, its first member and the rest are
+parts_of : {A : Type 0} (a : A) (rest : Result (List A) Reason) (all : List A)
+    → with_value rest (λ others. Ok (a ∷ others)) ≡ Ok all
+    → (others : List A) × (rest ≡ Ok others) × (all ≡ a ∷ others)
+parts_of a (Ok others) all h = (others, refl, let e = h in cc)
+parts_of a (Err r) all h = absurd (let e = h in cc)
+
+-- what is left of a list begins with the member at its index
+next_of : {I A : Type 0} (f : I → Result A Reason) (items : List I) (i : ℕ) (d : I)
+    → i < length items
+    → list_of (map f (drop i items)) ≡ list_of (f (get_or items i d) ∷ map f (drop (i + 1) items))
+next_of f items i d inside = at_drop_more (λ rest. list_of (map f rest)) items i d inside
+
+next_there : {I A : Type 0} (f : I → Result A Reason) (items : List I) (i : ℕ) (d : I) (a : A)
+    → i < length items → f (get_or items i d) ≡ Ok a
+    → list_of (map f (drop i items)) ≡ with_value (list_of (map f (drop (i + 1) items))) (λ others.
+    Ok (a ∷ others))
+next_there f items i d a inside there = next_of f items i d inside ∙ ap (λ x. list_of (x ∷ map f
+    (drop (i + 1) items))) there
+
+next_not_there : {I A : Type 0} (f : I → Result A Reason) (items : List I) (i : ℕ) (d : I) (r :
+    Reason)
+    → i < length items → f (get_or items i d) ≡ Err r → list_of (map f (drop i items)) ≡ Err r
+next_not_there f items i d r inside none = next_of f items i d inside ∙ ap (λ x. list_of (x ∷ map f
+    (drop (i + 1) items))) none
+
+-- ---- widths
+
+-- the sum so far and that of what is left make the width of all, up to the greatest
+pub record Summed (greatest sum : ℕ) (all left : Result (List Tree) Reason) : Type 0 where
+  pub fits : sum ≤ greatest
+  pub same : with_value all (λ ts. Ok (min (trees_width (trees ts)) greatest)) ≡ with_value left (λ
+      ts. Ok (min (sum + trees_width (trees ts)) greatest))
+
+summed_rest : (greatest sum : ℕ) (t : Tree) (rest : Result (List Tree) Reason)
+    → with_value (with_value rest (λ others. Ok (t ∷ others))) (λ ts. Ok (min (sum + trees_width
+    (trees ts)) greatest)) ≡ with_value rest (λ ts. Ok (min (min (sum + tree_width t) greatest +
+    trees_width (trees ts)) greatest))
+summed_rest greatest sum t (Ok ts) =
+    let w = trees_width (trees ts) in
+    let e : min (sum + (tree_width t + w)) greatest ≡ min (min (sum + tree_width t) greatest + w)
+    greatest = omega arith in
+    ap Ok e
+summed_rest greatest sum t (Err r) = refl
+
+-- one item more
+pub summed_more : {I : Type 0} (f : I → Result Tree Reason) (items : List I) (i : ℕ) (d : I) (t :
+    Tree) (greatest sum next : ℕ) (all : Result (List Tree) Reason)
+    → i < length items → f (get_or items i d) ≡ Ok t → next ≡ min (sum + tree_width t) greatest
+    → Summed greatest sum all (list_of (map f (drop i items)))
+    → Summed greatest next all (list_of (map f (drop (i + 1) items)))
+summed_more f items i d t greatest sum next all inside there is summed =
+    let rest = list_of (map f (drop (i + 1) items)) in
+    let step = next_there f items i d t inside there in
+    record {
+      fits = omega (arith, is);
+      same =
+          summed.same ∙ ap (λ left. with_value left (λ ts. Ok (min (sum + trees_width (trees ts))
+          greatest))) step
+          ∙ summed_rest greatest sum t rest
+          ∙ ap (λ s. with_value rest (λ ts. Ok (min (s + trees_width (trees ts)) greatest))) (sym
+          is);
+    }
+
+-- an item that is none
+pub summed_stops : {I : Type 0} (f : I → Result Tree Reason) (items : List I) (i : ℕ) (d : I) (r :
+    Reason) (greatest sum : ℕ) (all : Result (List Tree) Reason)
+    → i < length items → f (get_or items i d) ≡ Err r
+    → Summed greatest sum all (list_of (map f (drop i items)))
+    → Err r ≡ with_value all (λ ts. Ok (min (trees_width (trees ts)) greatest))
+summed_stops f items i d r greatest sum all inside none summed =
+    let step = next_not_there f items i d r inside none in
+    sym (summed.same ∙ ap (λ left. with_value left (λ ts. Ok (min (sum + trees_width (trees ts))
+    greatest))) step)
+
+-- all items
+pub summed_all : {I : Type 0} (f : I → Result Tree Reason) (items : List I) (i : ℕ) (greatest sum :
+    ℕ) (all : Result (List Tree) Reason)
+    → length items ≤ i → Summed greatest sum all (list_of (map f (drop i items)))
+    → Ok sum ≡ with_value all (λ ts. Ok (min (trees_width (trees ts)) greatest))
+summed_all f items i greatest sum all past summed =
+    let none : list_of (map f (drop i items)) ≡ Ok [] = at_drop_all (λ rest. list_of (map f rest))
+    items i past in
+    let e : min (sum + 0) greatest ≡ sum = omega (arith, summed.fits) in
+    sym (summed.same ∙ ap (λ left. with_value left (λ ts. Ok (min (sum + trees_width (trees ts))
+    greatest))) none ∙ ap Ok e)
+
+-- room for a width below the greatest is room for the texts
+pub room_for : (greatest width : ℕ) (all : Result (List Tree) Reason) (output : Vec ℕ Global)
+    → with_value all (λ ts. Ok (min (trees_width (trees ts)) greatest)) ≡ Ok width
+    → width < greatest → vec_len output ≡ 0 → width ≤ vec_capacity output → HasRoomFor output all
+room_for greatest width (Ok ts) output is less none room =
+    let e : min (trees_width (trees ts)) greatest ≡ width = let h = is in cc in
+    omega arith
+room_for greatest width (Err r) output is less none room = absurd (let h = is in cc)
+
+-- ---- texts
+
+-- so far the items were written without a refusal
+pub record AlongItems (agrees : Type 0) (old now : Vec ℕ Global) (sum : ℕ) (f : Facts) (all left :
+    Result (List Tree) Reason) : Type 0 where
+  pub every : List Tree
+  pub rest : List Tree
+  pub is_every : all ≡ Ok every
+  pub is_rest : left ≡ Ok rest
+  pub along : Along agrees old now sum f (trees every) (trees rest) 0 0
+
+pub along_begins : {agrees : Type 0} (output : Vec ℕ Global) (f : Facts) (all : Result (List Tree)
+    Reason)
+    → HasRoomFor output all → agrees → AlongItems agrees output output 0 f all all
+along_begins output f (Ok ts) room state =
+    record {
+      every = ts;
+      rest = ts;
+      is_every = refl;
+      is_rest = refl;
+      along = record {
+        state = state;
+        size = omega arith;
+        bytes = refl;
+        refusal = refl;
+        count = omega arith;
+        grown = omega arith;
+        room = room;
+        within = omega arith;
+        capacity = refl;
+        text = λ text. text;
+      };
+    }
+along_begins output f (Err r) room state = absurd room
+
+-- the next item is there
+pub next_item : {agrees : Type 0} {I : Type 0} (g : I → Result Tree Reason) (items : List I) (i : ℕ)
+    (d : I) (t : Tree) (old now : Vec ℕ Global) (sum : ℕ) (f : Facts) (all : Result (List Tree)
+    Reason)
+    → i < length items → g (get_or items i d) ≡ Ok t
+    → (along : AlongItems agrees old now sum f all (list_of (map g (drop i items))))
+    → (others : List Tree) × (list_of (map g (drop (i + 1) items)) ≡ Ok others) × (along.rest ≡ t ∷
+    others)
+next_item g items i d t old now sum f all inside there along =
+    let step = sym (next_there g items i d t inside there) ∙ along.is_rest in
+    parts_of t (list_of (map g (drop (i + 1) items))) along.rest step
+
+-- and none is not
+pub no_item_missing : {agrees : Type 0} {I : Type 0} (g : I → Result Tree Reason) (items : List I)
+    (i : ℕ) (d : I) (r : Reason) (old now : Vec ℕ Global) (sum : ℕ) (f : Facts) (all : Result (List
+    Tree) Reason)
+    → i < length items → g (get_or items i d) ≡ Err r
+    → AlongItems agrees old now sum f all (list_of (map g (drop i items))) → ⊥
+no_item_missing g items i d r old now sum f all inside none along =
+    let e = sym (next_not_there g items i d r inside none) ∙ along.is_rest in
+    absurd (let h = e in cc)
+
+-- there is room for it
+pub room_for_item : {agrees : Type 0} {I : Type 0} (g : I → Result Tree Reason) (items : List I) (i
+    : ℕ) (d : I) (t : Tree) (old now : Vec ℕ Global) (sum : ℕ) (f : Facts) (all : Result (List Tree)
+    Reason)
+    → i < length items → g (get_or items i d) ≡ Ok t
+    → AlongItems agrees old now sum f all (list_of (map g (drop i items)))
+    → HasRoom now (tree_width t)
+room_for_item g items i d t old now sum f all inside there along =
+    let next = next_item g items i d t old now sum f all inside there along in
+    let width : trees_width (trees along.rest) ≡ tree_width t + trees_width (trees next.0) = ap (λ
+    ts. trees_width (trees ts)) next.2 in
+    omega (arith, along.along.room, width)
+
+-- one item more
+pub along_more : {agrees after : Type 0} {I : Type 0} (g : I → Result Tree Reason) (items : List I)
+    (i : ℕ) (d : I) (t : Tree) (old now new : Vec ℕ Global) (sum count : ℕ) (f : Facts) (all :
+    Result (List Tree) Reason)
+    → i < length items → g (get_or items i d) ≡ Ok t
+    → AlongItems agrees old now sum f all (list_of (map g (drop i items)))
+    → Appends now new (Ok count) (tree_outcome t f) → vec_len new ≤ vec_len now + tree_width t →
+    after → IsTextIf (is_guaranteed_text t) (tree_outcome t f)
+    → AlongItems after old new (sum + count) f all (list_of (map g (drop (i + 1) items)))
+along_more g items i d t old now new sum count f all inside there along step within state text =
+    let next = next_item g items i d t old now sum f all inside there along in
+    record {
+      every = along.every;
+      rest = next.0;
+      is_every = along.is_every;
+      is_rest = next.1;
+      along = written_along old now new f (trees along.every) (trees along.rest) (trees next.0) t
+          along.along (ap trees next.2) (omega arith) step within state text;
+    }
+
+-- an item that is refused
+pub along_refused : {agrees : Type 0} {I : Type 0} (g : I → Result Tree Reason) (items : List I) (i
+    : ℕ) (d : I) (t : Tree) (old now new : Vec ℕ Global) (sum : ℕ) (e : Format) (f : Facts) (all :
+    Result (List Tree) Reason)
+    → i < length items → g (get_or items i d) ≡ Ok t
+    → AlongItems agrees old now sum f all (list_of (map g (drop i items)))
+    → Appends now new (Err e) (tree_outcome t f) → IsAppended old new (Err e) all f
+along_refused g items i d t old now new sum e f all inside there along step =
+    let next = next_item g items i d t old now sum f all inside there along in
+    rw along.is_every (refused_along old now new e f (trees along.every) (trees along.rest) (trees
+    next.0) t along.along (ap trees next.2) step)
+
+-- at the end of a list nothing is left
+ended_along : {agrees : Type 0} (old now : Vec ℕ Global) (sum : ℕ) (f : Facts) (all : Trees)
+    → Along agrees old now sum f all end 0 0 → Appends old now (Ok sum) (trees_outcome all f)
+ended_along old now sum f all along = search (rules, arith)
+
+-- all items
+pub along_ends : {agrees : Type 0} {I : Type 0} (g : I → Result Tree Reason) (items : List I) (i :
+    ℕ) (old now : Vec ℕ Global) (sum : ℕ) (f : Facts) (all : Result (List Tree) Reason)
+    → length items ≤ i → AlongItems agrees old now sum f all (list_of (map g (drop i items)))
+    → IsAppended old now (Ok sum) all f
+along_ends {agrees} g items i old now sum f all past along =
+    let none : list_of (map g (drop i items)) ≡ Ok [] = at_drop_all (λ rest. list_of (map g rest))
+    items i past in
+    let rest : along.rest ≡ [] = let e = sym along.is_rest ∙ none in cc in
+    let P : List Tree → Type 0 = λ ts. Along agrees old now sum f (trees along.every) (trees ts) 0 0
+    in
+    rw along.is_every (ended_along old now sum f (trees along.every) (subst P rest along.along))

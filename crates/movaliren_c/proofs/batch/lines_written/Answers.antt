@@ -1,0 +1,19 @@
+use Rattle.std.proofs.Common.{◌<◌, length, inr, arith, rules}
+use Rattle.movaliren_c.proofs.BatchLemmas.{stops_at_item}
+use Rattle.movaliren_c.proofs.batch.lines_written.Goals as goal
+
+pub returns-in-Err : goal.returns-in-Err
+returns-in-Err g c =
+    let inside : c.loop-item.item-index < length c.args.items.now = omega (
+      arith,
+      c.loop-item-test.true,
+    ) in
+    let s = stops_at_item c.loop-item.item-index c.args.items.now _ c.loop-item.bytes
+    c.args.room.now c.loop-item.room c.line_behind.new.room c.item-item.result c.in-Err.reason
+    inside c.item-item.is c.loop-item.invariant.2 c.in-Err.ensures.written
+    c.in-Err.ensures.front in
+    let e = c.loop-item.invariant.0 in
+    record {
+      stand = rw e s.0;
+      stopped = inr (c.in-Err.reason, search rules, rw e inside, rw e s.1);
+    }

@@ -1,0 +1,113 @@
+-- What a call across the border answers.
+use Rattle.std.specs.Prelude.{◌≡◌, ◌≢◌, ◌<◌, ◌++◌, ◌⊎◌, ℕ, ℤ, pos, neg_ℤ, List, length, drop, codes, None, Result, Ok, Err, IsSomeAnd}
+use Rattle.arrayvec.specs.ArrayString.{ArrayString}
+use Rattle.movaliren_c.specs.Value.{with_value}
+use Rattle.movaliren_c.specs.declared.reason.Reason.{Reason}
+use Rattle.movaliren_c.specs.declared.reason.Reason.TheVariants as reason
+use Rattle.time_fmt.specs.Outcome.{Outcome, Refusal, insufficient, invalid_component, out_of_range}
+use Rattle.time_fmt.specs.declared.error.Format.{Format}
+use Rattle.time_fmt.specs.declared.error.Format.TheVariants as error
+
+-- ---- numbers
+
+-- the number of each reason
+abbrev pub reason_number : Reason → ℤ
+reason_number reason.Year = neg_ℤ (pos 1)
+reason_number reason.Month = neg_ℤ (pos 2)
+reason_number reason.Day = neg_ℤ (pos 3)
+reason_number reason.Hour = neg_ℤ (pos 4)
+reason_number reason.Minute = neg_ℤ (pos 5)
+reason_number reason.Second = neg_ℤ (pos 6)
+reason_number reason.Nanosecond = neg_ℤ (pos 7)
+reason_number reason.OffsetHours = neg_ℤ (pos 8)
+reason_number reason.OffsetMinutes = neg_ℤ (pos 9)
+reason_number reason.OffsetSeconds = neg_ℤ (pos 10)
+reason_number reason.MomentSeconds = neg_ℤ (pos 11)
+reason_number reason.NoPlaceForYear = neg_ℤ (pos 12)
+reason_number reason.NoPlaceForOffsetHour = neg_ℤ (pos 13)
+reason_number reason.NoPlaceForOffsetMinute = neg_ℤ (pos 14)
+reason_number reason.NoPlaceForOffsetSecond = neg_ℤ (pos 15)
+reason_number reason.Insufficient = neg_ℤ (pos 16)
+reason_number reason.OutOfRange = neg_ℤ (pos 17)
+reason_number reason.BadConfig = neg_ℤ (pos 18)
+reason_number reason.BadItem = neg_ℤ (pos 19)
+reason_number reason.NoRoom = neg_ℤ (pos 20)
+reason_number reason.OutOfMemory = neg_ℤ (pos 21)
+reason_number reason.Other = neg_ℤ (pos 22)
+
+-- a count, or the number of a reason
+abbrev pub answer_number : Result ℕ Reason → ℤ
+answer_number (Ok n) = pos n
+answer_number (Err r) = reason_number r
+
+-- the number of an answer of which so much is said
+abbrev pub Answers : ℤ → (Result ℕ Reason → Type 0) → Type 0
+Answers number P = (answer : Result ℕ Reason) × (number ≡ answer_number answer) × P answer
+
+-- each number is that of one answer: a count, or one reason
+abbrev pub NumbersAreToldApart : Type 0
+NumbersAreToldApart = (a b : Result ℕ Reason) → answer_number a ≡ answer_number b → a ≡ b
+
+-- ---- reasons
+
+-- the reason for a refusal of a definition, by the name of the component that has no place
+abbrev pub Refuses : Reason → Refusal → Type 0
+Refuses reason.NoPlaceForYear (invalid_component name) = name ≡ codes "year"
+Refuses reason.NoPlaceForOffsetHour (invalid_component name) = name ≡ codes "offset_hour"
+Refuses reason.NoPlaceForOffsetMinute (invalid_component name) = name ≡ codes "offset_minute"
+Refuses reason.NoPlaceForOffsetSecond (invalid_component name) = name ≡ codes "offset_second"
+Refuses reason.Other (invalid_component name) =
+    (name ≢ codes "year") × (name ≢ codes "offset_hour") × (name ≢ codes "offset_minute") × (name ≢
+    codes "offset_second")
+Refuses reason.Insufficient insufficient = Unit {0}
+Refuses reason.OutOfRange (out_of_range range) = Unit {0}
+Refuses r refusal = ⊥
+
+-- the reason is that of the refusal that the outcome ends in
+abbrev pub IsRefusedFor : Reason → Outcome → Type 0
+IsRefusedFor r o = IsSomeAnd o.refusal (Refuses r)
+
+-- the reason that an error is: of each refusal that it names, or the want of memory
+abbrev pub IsReasonFor : Reason → Format → Type 0
+IsReasonFor r error.InsufficientTypeInformation = r ≡ reason.Insufficient
+IsReasonFor r (error.ComponentRange range) = r ≡ reason.OutOfRange
+IsReasonFor r error.OutOfMemory = r ≡ reason.OutOfMemory
+IsReasonFor r (error.InvalidComponent name) = Refuses r (invalid_component name.now)
+
+-- why there is no text of an outcome: it is complete and longer than the room, or the definition
+-- refuses it
+abbrev pub Explains : Reason → Outcome → ℕ → Type 0
+Explains r o room = ((r ≡ reason.NoRoom) × (o.refusal ≡ None) × (room < length o.bytes)) ⊎
+    IsRefusedFor r o
+
+-- ---- texts
+
+-- A count is the length of the whole text, which stands at the start of the room, and what is
+-- behind it is as
+-- it was. After a reason all of the room is.
+abbrev pub IsWritten : Result ℕ Reason → Outcome → List ℕ → List ℕ → Type 0
+IsWritten (Ok n) o before after = (o.refusal ≡ None) × (n ≡ length o.bytes) × (after ≡ o.bytes ++
+    drop n before)
+IsWritten (Err r) o before after = (after ≡ before) × Explains r o (length before)
+
+-- the outcome of a value, or the reason why there is no value
+abbrev pub gives : {V : Type 0} → Result V Reason → (V → Outcome) → Result Outcome Reason
+gives value outcome = with_value value (λ v. Ok (outcome v))
+
+-- the text of an outcome is written, or the reason why there is none is answered, and the room is
+-- as it was
+abbrev pub IsText : Result Outcome Reason → Result ℕ Reason → List ℕ → List ℕ → Type 0
+IsText (Ok o) answer before after = IsWritten answer o before after
+IsText (Err r) answer before after = (answer ≡ Err r) × (after ≡ before)
+
+-- the same, or memory was refused and the room is as it was
+abbrev pub IsTextInMemory : Result Outcome Reason → Result ℕ Reason → List ℕ → List ℕ → Type 0
+IsTextInMemory asked answer before after =
+    ((answer ≡ Err reason.OutOfMemory) × (after ≡ before)) ⊎ IsText asked answer before after
+
+-- ---- lines
+
+-- the bytes of a whole outcome were appended to a line, or the reason is that of its refusal
+abbrev pub IsPushed : ArrayString → ArrayString → Result Unit Reason → Outcome → Type 0
+IsPushed old new (Ok u) o = (o.refusal ≡ None) × (new.bytes ≡ old.bytes ++ o.bytes)
+IsPushed old new (Err r) o = IsRefusedFor r o

@@ -1,0 +1,72 @@
+-- The value that the parts of a moment give, or the first part that is outside its range.
+use Rattle.std.specs.Prelude.{ℕ, ℤ, Bool, ◌&&◌, nat_le, nat_lt, int_le, pos, neg_ℤ, unsigned_abs, Result, Ok, Err, if◌then◌else◌}
+use Rattle.movaliren_c.specs.declared.reason.Reason.{Reason}
+use Rattle.movaliren_c.specs.declared.reason.Reason.TheVariants as reason
+use Rattle.movaliren_c.specs.declared.moment.Moment.{Moment}
+use Rattle.time_below.specs.Calendar.{OrdinalDate, date_of, days_in_month, is_leap_year}
+use Rattle.time_below.specs.Moment as moments
+use Rattle.time_below.specs.Moment.{DateAndTime, OffsetDateAndTime, seconds_before, utc_date_and_time}
+use Rattle.time_below.specs.Offset.{Offset, settled}
+use Rattle.time_below.specs.TimeOfDay.{TimeOfDay}
+
+-- the rest, if the test holds
+abbrev pub checked : {A : Type 0} → Bool → Reason → Result A Reason → Result A Reason
+checked test r rest = if test then rest else Err r
+
+-- what comes of a value, if there is one
+abbrev pub with_value : {A B : Type 0} → Result A Reason → (A → Result B Reason) → Result B Reason
+with_value (Ok value) next = next value
+with_value (Err r) next = Err r
+
+abbrev pub date_value : ℤ → ℕ → ℕ → Result OrdinalDate Reason
+date_value year month day =
+    checked (nat_le (unsigned_abs year) 999_999) reason.Year
+    (checked (nat_le 1 month && nat_le month 12) reason.Month
+    (checked (nat_le 1 day && nat_le day (days_in_month (is_leap_year year) month)) reason.Day
+    (Ok (date_of year month day))))
+
+abbrev pub time_value : Moment → Result TimeOfDay Reason
+time_value m =
+    checked (nat_lt m.hour 24) reason.Hour
+    (checked (nat_lt m.minute 60) reason.Minute
+    (checked (nat_lt m.second 60) reason.Second
+    (checked (nat_lt m.nanosecond 1_000_000_000) reason.Nanosecond
+    (Ok (record {
+      hour = m.hour;
+      minute = m.minute;
+      second = m.second;
+      nanosecond = m.nanosecond;
+    })))))
+
+-- the number, if it is at most so far from zero
+abbrev pub offset_part : Reason → ℕ → ℤ → Result ℤ Reason
+offset_part r greatest number = checked (nat_le (unsigned_abs number) greatest) r (Ok number)
+
+-- where the signs of the parts differ, the largest that is not zero decides
+abbrev pub offset_value : Moment → Result Offset Reason
+offset_value m =
+    with_value (offset_part reason.OffsetHours 25 m.offset_hours) (λ hours.
+    with_value (offset_part reason.OffsetMinutes 59 m.offset_minutes) (λ minutes.
+    with_value (offset_part reason.OffsetSeconds 59 m.offset_seconds) (λ seconds.
+    Ok (settled hours minutes seconds))))
+
+-- the ranges are tested in this order: date, time, offset
+abbrev pub moment_value : Moment → Result OffsetDateAndTime Reason
+moment_value m =
+    with_value (date_value m.year m.month m.day) (λ date.
+    with_value (time_value m) (λ time.
+    with_value (offset_value m) (λ offset.
+    Ok (record { date = date; time = time; offset = offset }))))
+
+-- the moment of so many seconds since 1970 and a nanosecond
+abbrev pub timestamp_value : ℤ → ℕ → Result moments.Moment Reason
+timestamp_value seconds nanosecond =
+    checked (int_le (neg_ℤ (pos seconds_before)) seconds && int_le seconds (pos 31_494_784_780_799))
+    reason.MomentSeconds
+    (checked (nat_lt nanosecond 1_000_000_000) reason.Nanosecond
+    (Ok (record { seconds = seconds; nanosecond = nanosecond })))
+
+-- its date and time in UTC
+abbrev pub stamp_value : ℤ → ℕ → Result DateAndTime Reason
+stamp_value seconds nanosecond = with_value (timestamp_value seconds nanosecond) (λ m. Ok
+    (utc_date_and_time m))

@@ -1,0 +1,132 @@
+//! ISO 8601-1:2019, by its default configuration and by any other.
+ghost use Rattle.std.specs.Prelude.{◌≡◌, [], Some, None};
+ghost use Rattle.movaliren_c.specs.Answer.{Answers, IsPushed, IsText, IsWritten, gives};
+ghost use Rattle.movaliren_c.specs.Chosen.{choices_at};
+ghost use Rattle.movaliren_c.specs.Value.{moment_value, with_value};
+ghost use Rattle.time_known.specs.Config.{default_choices};
+ghost use Rattle.time_known.specs.Iso8601.{iso8601_of};
+
+mod choices;
+mod date;
+mod default_text;
+mod offset;
+mod time;
+
+use crate::moment::{LocalMoment, Moment, moment_value};
+use crate::reason::{Reason, answer_number};
+use crate::room::copied;
+use crate::writer::Writer;
+use arrayvec::ArrayString;
+pub use choices::IsoConfig;
+use choices::{Choices, choices_at};
+use date::push_date;
+pub use default_text::default_written;
+use offset::push_offset;
+use time::push_time;
+use time_known::iso8601::FormattedComponents;
+
+/// The format of ISO 8601 by its default configuration, over moments with an offset.
+pub struct Iso8601;
+
+impl Writer for Iso8601 {
+    type Item = Moment;
+
+    ghost asked = { λ _ moment. gives (moment_value moment) (iso8601_of default_choices) };
+
+    fn write(&self, moment: &Moment, room: &mut [u8]) -> Result<usize, Reason> {
+        match moment_value(moment) {
+            Ok(value) => default_written(&value, room),
+            Err(reason) => Err(reason),
+        }
+    }
+}
+
+/// The text of ISO 8601 by the default configuration.
+#[unsafe(no_mangle)]
+pub extern "C" fn movaliren_iso8601(moment: &Moment, room: &mut [u8]) -> isize
+    ensures { Answers result (λ answer.
+        IsText (gives (moment_value moment.now) (iso8601_of default_choices))
+        answer room.old room.new) }
+{
+    answer_number(Iso8601.write(moment, room))
+}
+
+/// The text of ISO 8601 by a configuration, whose numbers are tested before the moment.
+#[unsafe(no_mangle)]
+pub extern "C" fn movaliren_iso8601_by(
+    config: &IsoConfig,
+    moment: &Moment,
+    room: &mut [u8],
+) -> isize
+    ensures { Answers result (λ answer.
+        IsText (with_value (choices_at config.now)
+        (λ c. gives (moment_value moment.now) (iso8601_of c)))
+        answer room.old room.new) }
+{
+    answer_number(config.write(moment, room))
+}
+
+impl Writer for IsoConfig {
+    type Item = Moment;
+
+    ghost asked = { λ config moment.
+        with_value (choices_at config) (λ c. gives (moment_value moment) (iso8601_of c)) };
+
+    fn write(&self, moment: &Moment, room: &mut [u8]) -> Result<usize, Reason> {
+        match choices_at(self) {
+            Ok(choices) => match moment_value(moment) {
+                Ok(value) => written(choices, &value, room),
+                Err(reason) => Err(reason),
+            },
+            Err(reason) => Err(reason),
+        }
+    }
+}
+
+/// Writes the text of the value to the start of the room: 284 bytes are the most that there are, 13
+/// of the date, 265 of the time and 6 of the offset.
+#[inline(always)]
+fn written(choices: Choices, value: &LocalMoment, room: &mut [u8]) -> Result<usize, Reason>
+    ensures { IsWritten result (iso8601_of choices value.now) room.old room.new }
+{
+    let mut line = ArrayString::<284>::new();
+    match push_parts(&mut line, choices, value) {
+        Ok(()) => copied(line.as_str().as_bytes(), room),
+        Err(reason) => Err(reason),
+    }
+}
+
+/// Appends the parts that are chosen.
+#[inline(always)]
+fn push_parts(
+    line: &mut ArrayString<284>,
+    choices: Choices,
+    value: &LocalMoment,
+) -> Result<(), Reason>
+    requires empty { line.old.bytes ≡ [] }
+    ensures { IsPushed line.old line.new result (iso8601_of choices value.now) }
+{
+    match choices.formatted_components() {
+        FormattedComponents::None => Err(Reason::Insufficient),
+        FormattedComponents::Date => push_date(line, choices, value.date()),
+        FormattedComponents::Time => push_time(line, choices, value.time()),
+        FormattedComponents::Offset => push_offset(line, choices, value.offset()),
+        FormattedComponents::DateTime => {
+            if let Err(reason) = push_date(line, choices, value.date()) {
+                return Err(reason);
+            }
+            push_time(line, choices, value.time())
+        }
+        FormattedComponents::DateTimeOffset => {
+            if let Err(reason) = push_date(line, choices, value.date()) {
+                return Err(reason);
+            }
+            push_time(line, choices, value.time())?;
+            push_offset(line, choices, value.offset())
+        }
+        FormattedComponents::TimeOffset => {
+            push_time(line, choices, value.time())?;
+            push_offset(line, choices, value.offset())
+        }
+    }
+}

@@ -1,0 +1,131 @@
+//! Offsets that keep the parts by which they were told.
+ghost use Rattle.std.specs.Prelude.{◌≡◌, ◌≤◌, IfOk, unsigned_abs};
+ghost use Rattle.time_below.specs.Offset.{is_negative, is_utc, utc};
+ghost use Rattle.movaliren_c.specs.Value.{offset_part, offset_value};
+
+use crate::moment::Moment;
+use crate::reason::Reason;
+use std::marker::Model;
+use time_below::UtcOffset;
+
+/// An offset from UTC by its parts, whose signs may differ. Its value is the offset that these
+/// settle to: each part keeps its size, and the largest that is not zero its sign.
+#[derive(Drop)]
+pub struct KeptOffset {
+    hours: i8,
+    minutes: i8,
+    seconds: i8,
+}
+
+impl Model for KeptOffset {
+    ghost use Rattle.time_below.specs.Offset.{Offset, AreOffsetParts, settled};
+
+    ghost Value = { Offset };
+
+    ghost view = { λ o. settled o.hours o.minutes o.seconds };
+
+    ghost invariant = { λ o. AreOffsetParts o.hours o.minutes o.seconds };
+}
+
+impl KeptOffset {
+    /// The offset of the moment, or the first of its parts that is outside its range.
+    #[inline(always)]
+    pub fn of_moment(moment: &Moment) -> Result<KeptOffset, Reason>
+        ensures { result ≡ offset_value moment.now }
+    {
+        let hours = offset_part(Reason::OffsetHours, 25, moment.offset_hours)?;
+        let minutes = offset_part(Reason::OffsetMinutes, 59, moment.offset_minutes)?;
+        let seconds = offset_part(Reason::OffsetSeconds, 59, moment.offset_seconds)?;
+        Ok(KeptOffset {
+            hours,
+            minutes,
+            seconds,
+        })
+    }
+
+    /// The offset of UTC itself.
+    pub fn utc() -> KeptOffset
+        ensures { result ≡ utc }
+    {
+        KeptOffset {
+            hours: 0,
+            minutes: 0,
+            seconds: 0,
+        }
+    }
+
+    /// The size of the hours, at most 25.
+    #[inline(always)]
+    #[tactic(auto, using(crate::proofs::OffsetLemmas::settled_sizes))]
+    pub fn hours_size(&self) -> u8
+        ensures value { result ≡ unsigned_abs self.now.hours }
+        ensures range { result ≤ 25 }
+    {
+        self.hours.unsigned_abs()
+    }
+
+    /// The size of the minutes, at most 59.
+    #[inline(always)]
+    #[tactic(auto, using(crate::proofs::OffsetLemmas::settled_sizes))]
+    pub fn minutes_size(&self) -> u8
+        ensures value { result ≡ unsigned_abs self.now.minutes }
+        ensures range { result ≤ 59 }
+    {
+        self.minutes.unsigned_abs()
+    }
+
+    /// The size of the seconds, at most 59.
+    #[inline(always)]
+    #[tactic(auto, using(crate::proofs::OffsetLemmas::settled_sizes))]
+    pub fn seconds_size(&self) -> u8
+        ensures value { result ≡ unsigned_abs self.now.seconds }
+        ensures range { result ≤ 59 }
+    {
+        self.seconds.unsigned_abs()
+    }
+
+    /// Whether all parts are zero.
+    #[inline(always)]
+    #[tactic(auto, using(crate::proofs::OffsetLemmas::settled_sizes))]
+    pub fn is_utc(&self) -> bool
+        ensures { result ≡ is_utc self.now }
+    {
+        self.hours == 0 && self.minutes == 0 && self.seconds == 0
+    }
+
+    /// Whether some part is below zero, which is whether the first that is not zero is.
+    #[inline(always)]
+    pub fn is_negative(&self) -> bool
+        ensures { result ≡ is_negative self.now }
+    {
+        if self.hours != 0 {
+            return self.hours < 0;
+        }
+        if self.minutes != 0 {
+            return self.minutes < 0;
+        }
+        self.seconds < 0
+    }
+
+    /// The same offset, of one sign.
+    pub fn offset(&self) -> UtcOffset
+        ensures { result ≡ self.now }
+    {
+        match UtcOffset::from_hms(self.hours, self.minutes, self.seconds) {
+            Ok(offset) => offset,
+            Err(_) => unreachable!(),
+        }
+    }
+}
+
+/// The number, if it is at most so far from zero.
+#[inline(always)]
+fn offset_part(reason: Reason, greatest: u8, number: i8) -> Result<i8, Reason>
+    ensures value { result ≡ offset_part reason greatest number }
+    ensures range { IfOk result (λ n. unsigned_abs n ≤ greatest) }
+{
+    if number.unsigned_abs() > greatest {
+        return Err(reason);
+    }
+    Ok(number)
+}

@@ -1,0 +1,23 @@
+//! Moments as text, for C: RFC 3339, RFC 2822, ISO 8601, stamps, and descriptions that cross as
+//! data.
+//!
+//! Each export answers the number of bytes at the start of the room, which are the whole text, or a
+//! negative number that names the reason why there is none; then the room is as it was. No export
+//! has a condition, and only descriptions take memory.
+#![tactic(auto)]
+
+mod batch;
+mod calendar_date;
+mod described;
+mod iso8601;
+mod item;
+mod kept_offset;
+pub mod laws;
+mod moment;
+mod pieces;
+mod reason;
+mod rfc2822;
+mod rfc3339;
+mod room;
+mod stamp;
+mod writer;

@@ -1,0 +1,164 @@
+//! Moments as they cross the border, and the values that they give.
+ghost use Rattle.std.specs.Prelude.{◌≡◌};
+ghost use Rattle.time_below.specs.Offset.{utc};
+ghost use Rattle.movaliren_c.specs.Value.{date_value, time_value, moment_value, timestamp_value, stamp_value};
+
+use crate::calendar_date::CalendarDate;
+use crate::kept_offset::KeptOffset;
+use crate::reason::Reason;
+use std::marker::Model;
+use time_below::{Date, OffsetDateTime, Time, Timestamp, UtcDateTime};
+
+/// A local date and time, and its offset from UTC.
+#[repr(C)]
+#[derive(Clone, Copy)]
+pub struct Moment {
+    pub year: i32,
+    pub nanosecond: u32,
+    pub month: u8,
+    pub day: u8,
+    pub hour: u8,
+    pub minute: u8,
+    pub second: u8,
+    pub offset_hours: i8,
+    pub offset_minutes: i8,
+    pub offset_seconds: i8,
+}
+
+/// The seconds since 1970-01-01T00:00:00 UTC, and the nanosecond counted forward from there.
+#[repr(C)]
+#[derive(Clone, Copy)]
+pub struct UtcMoment {
+    pub seconds: i64,
+    pub nanosecond: u32,
+}
+
+/// The value of a moment: a local date, of which the month and the day are at hand, a time, and an
+/// offset by the parts that were told.
+#[derive(Drop)]
+pub struct LocalMoment {
+    date: CalendarDate,
+    time: Time,
+    offset: KeptOffset,
+}
+
+impl Model for LocalMoment {
+    ghost use Rattle.time_below.specs.Moment.{OffsetDateAndTime};
+
+    ghost Value = { OffsetDateAndTime };
+
+    ghost view = { λ t. record { date = t.date; time = t.time; offset = t.offset } };
+}
+
+impl LocalMoment {
+    /// The date and time in UTC, with its offset.
+    pub fn in_utc(value: UtcDateTime) -> LocalMoment
+        ensures { result ≡ record { date = value.date; time = value.time; offset = utc } }
+    {
+        LocalMoment {
+            date: CalendarDate::of_date(value.date()),
+            time: value.time(),
+            offset: KeptOffset::utc(),
+        }
+    }
+
+    /// The local date.
+    pub fn date(&self) -> CalendarDate
+        ensures { result ≡ self.now.date }
+    {
+        self.date
+    }
+
+    /// The local time of day.
+    pub fn time(&self) -> Time
+        ensures { result ≡ self.now.time }
+    {
+        self.time
+    }
+
+    /// The offset from UTC.
+    pub fn offset(&self) -> &KeptOffset
+        ensures { result.now ≡ self.now.offset }
+    {
+        &self.offset
+    }
+}
+
+#[inline(always)]
+fn time_value(moment: &Moment) -> Result<Time, Reason>
+    ensures { result ≡ time_value moment.now }
+{
+    if moment.hour > 23 {
+        return Err(Reason::Hour);
+    }
+    if moment.minute > 59 {
+        return Err(Reason::Minute);
+    }
+    if moment.second > 59 {
+        return Err(Reason::Second);
+    }
+    if moment.nanosecond > 999_999_999 {
+        return Err(Reason::Nanosecond);
+    }
+    match Time::from_hms_nano(moment.hour, moment.minute, moment.second, moment.nanosecond) {
+        Ok(time) => Ok(time),
+        Err(_) => unreachable!(),
+    }
+}
+
+/// The value of the parts, or the first part that is outside its range, in the order date, time,
+/// offset.
+#[inline(always)]
+pub fn moment_value(moment: &Moment) -> Result<LocalMoment, Reason>
+    ensures { result ≡ moment_value moment.now }
+{
+    let date = CalendarDate::new(moment.year, moment.month, moment.day)?;
+    let time = time_value(moment)?;
+    let offset = KeptOffset::of_moment(moment)?;
+    Ok(LocalMoment { date, time, offset })
+}
+
+/// The same value, as descriptions take it.
+pub fn provided_value(moment: &Moment) -> Result<OffsetDateTime, Reason>
+    ensures { result ≡ moment_value moment.now }
+{
+    match moment_value(moment) {
+        Ok(value) => Ok(OffsetDateTime::new_in_offset(
+            value.date.date(),
+            value.time,
+            value.offset.offset(),
+        )),
+        Err(reason) => Err(reason),
+    }
+}
+
+/// The date of a year, a month and a day, as descriptions take it.
+pub fn date_value(year: i32, month: u8, day: u8) -> Result<Date, Reason>
+    ensures { result ≡ date_value year month day }
+{
+    match CalendarDate::new(year, month, day) {
+        Ok(date) => Ok(date.date()),
+        Err(reason) => Err(reason),
+    }
+}
+
+/// The moment of so many seconds since 1970-01-01T00:00:00 UTC, and a nanosecond.
+pub fn timestamp_value(seconds: i64, nanosecond: u32) -> Result<Timestamp, Reason>
+    ensures { result ≡ timestamp_value seconds nanosecond }
+{
+    if seconds < -31_619_087_596_800 || seconds > 31_494_784_780_799 {
+        return Err(Reason::MomentSeconds);
+    }
+    match Timestamp::new(seconds, nanosecond) {
+        Ok(moment) => Ok(moment),
+        Err(_) => Err(Reason::Nanosecond),
+    }
+}
+
+/// The date and time in UTC of a moment.
+pub fn stamp_value(seconds: i64, nanosecond: u32) -> Result<UtcDateTime, Reason>
+    ensures { result ≡ stamp_value seconds nanosecond }
+{
+    let moment = timestamp_value(seconds, nanosecond)?;
+    Ok(UtcDateTime::new(moment.date(), moment.time()))
+}
