@@ -1,7 +1,8 @@
 #!/usr/bin/env python3
-"""Compares the tables of `docs/COMPONENTS.md` with the rows that a test formats, and tells what differs.
+"""Compares the tables of `docs/COMPONENTS.md` with the code, and tells what differs.
 
-Each row has a component by its name, all its choices by name and value, its width and its example.
+Each row of a component has its name, all its choices by name and value, its width and its example, and a test
+formats it. Each row of a constant has its component and its choices.
 """
 
 import pathlib
@@ -10,11 +11,17 @@ import sys
 
 TOP = pathlib.Path(__file__).resolve().parent.parent
 ROW = re.compile(r"^\| `(\w+)` \| (.*?) \| .* \| (\d+) \| (-|`.*`) \|$", re.M)
+CONSTANT = re.compile(r"^\| `(\w+)` \| `(\w+)` \| (.*) \|$", re.M)
+DEFINED = re.compile(r"^pub const (\w+): modifier::(\w+) =\s*modifier::\w+ \{(.*?)\};", re.S | re.M)
 TESTED = re.compile(r"Component::(\w+)\(\s*modifier::\w+ \{(.*?)\}\s*\),\s*\"(.*?)\",\s*(\d+),?\s*\)", re.S)
 
 
 def choices(text):
     return sorted((name, value.split("::")[-1]) for name, value in re.findall(r"(\w+): ([\w:]+)", text))
+
+
+def constants(pattern, path):
+    return sorted((name, kind, choices(fields)) for name, kind, fields in pattern.findall((TOP / path).read_text()))
 
 
 def documented():
@@ -39,7 +46,9 @@ def main():
             print(f"not in the table: {row}")
     same = sorted(map(repr, rows)) == sorted(map(repr, tests))
     print(f"{len(rows)} rows, {len(tests)} tested: {'the same' if same else 'they differ'}")
-    return 0 if same and rows else 1
+    shown, defined = constants(CONSTANT, "docs/COMPONENTS.md"), constants(DEFINED, "crates/time_fmt/src/parts.rt")
+    print(f"{len(shown)} constants: {'the same' if shown == defined else 'they differ'}")
+    return 0 if same and rows and shown == defined else 1
 
 
 if __name__ == "__main__":
