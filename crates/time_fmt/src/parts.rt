@@ -25,7 +25,8 @@ pub use time_provide::DateState;
 ///
 /// A text in bytes, as `b"-"`, is a [`Literal`]. Any other part is a description: the choices of a
 /// component, a well-known format, a tree, or another `text!`. The parts are put together in pairs, four by
-/// four, so that a text of 64 parts is six pairs deep.
+/// four, so that pairs stand few deep: at a call of a method there may be 32 parts. (With more, the
+/// compiler's search for the impl ends: write a longer text by two calls.)
 #[macro_export]
 macro_rules! text {
     (@[] [$a:expr]) => { $a };
