@@ -143,21 +143,17 @@ IsAscii-onto (suc k) n text h =
       by false x y p q = q
 
 -- the text of any number is ASCII
-IsAscii-number : (n : ℕ) → IsAscii (decimal n)
+pub IsAscii-number : (n : ℕ) → IsAscii (decimal n)
 unfolding digits
 IsAscii-number n = IsAscii-onto 64 n [] IsAscii-nil
 
 -- padded by an ASCII byte, too
-pub IsAscii-filled : (fill k n : ℕ) → fill < 128 → IsAscii (padded fill k n)
+pub IsAscii-padded : (fill k n : ℕ) → fill < 128 → IsAscii (padded fill k n)
 unfolding padded
-IsAscii-filled fill k n low =
+IsAscii-padded fill k n low =
     let front = replicate {A = ℕ} (k - length (decimal n)) fill in
     IsAscii-append front (decimal n)
     (IsAscii-from_all front (All-replicate (λ b. b < 128) (k - length (decimal n)) fill low)) (IsAscii-number n)
-
--- so is one of 64 bits
-pub IsAscii-padded : (fill k n : ℕ) → fill < 128 → n < 2 ^ 64 → IsAscii (padded fill k n)
-IsAscii-padded fill k n low fits = IsAscii-filled fill k n low
 
 -- ---- trimmed fractions
 

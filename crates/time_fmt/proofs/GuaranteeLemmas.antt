@@ -1,9 +1,8 @@
 -- Texts of components are ASCII, and texts one after another are UTF-8 where each of them is.
-use Rattle.std.proofs.Common.{◌≡◌, ℕ, zero, suc, ◌+◌, ◌-◌, ◌%◌, ◌^◌, ◌<◌, Bool, true, false, ◌&&◌, nat_lt, List, [], ◌∷◌, ◌++◌, decimal, IsAscii, IsUtf8, IsTrue, IfSome, Option, Some, None, if◌then◌else◌, refl, arith, ℤ, pos, unsigned_abs}
+use Rattle.std.proofs.Common.{◌≡◌, ℕ, zero, suc, ◌-◌, ◌%◌, ◌<◌, Bool, true, false, ◌&&◌, nat_lt, List, [], ◌∷◌, ◌++◌, decimal, IsAscii, IsUtf8, IsTrue, IfSome, Option, Some, None, if◌then◌else◌, refl, arith, ℤ, pos, unsigned_abs}
 use Rattle.std.specs.Prelude.{codes, int_lt, slice_index_or, ◌||◌, nat_le}
 use Rattle.std.specs.List.{list_all}
 use Rattle.std.proofs.lemmas.Bool.{ltb-true}
-use Rattle.std.proofs.lemmas.Fmt.{IsAscii-decimal}
 use Rattle.std.proofs.lemmas.List.Elements.{All-weaker}
 use Rattle.std.proofs.lemmas.List.Sums.{AllPass-from_list_all}
 use Rattle.std.proofs.lemmas.Str.{IsAscii-append, IsAscii-take, IsUtf8-append, IsUtf8-from_ascii}
@@ -18,7 +17,6 @@ use Rattle.time_below.specs.declared.format_description.modifier.Padding.TheVari
 use Rattle.time_below.specs.declared.format_description.modifier.SubsecondDigits.{SubsecondDigits}
 use Rattle.time_below.specs.declared.format_description.modifier.SubsecondDigits.TheVariants as digits
 use Rattle.time_below.specs.Facts.{Facts}
-use Rattle.time_below.specs.Group.{group_of}
 use Rattle.time_below.specs.Moment.{milliseconds}
 use Rattle.time_below.specs.Offset.{is_negative}
 use Rattle.time_below.specs.TimeOfDay.{period_of}
@@ -27,12 +25,11 @@ use Rattle.time_below.specs.Width.{is_guaranteed_text, are_guaranteed_text}
 use Rattle.time_digits.specs.Digits.{fixed}
 use Rattle.time_digits.proofs.DigitLemmas.{IsAscii-fixed}
 use Rattle.time_digits.proofs.FractionLemmas.{IsAscii-trimmed_fraction}
-use Rattle.time_digits.proofs.LengthLemmas.{IsAscii-padded}
+use Rattle.time_digits.proofs.LengthLemmas.{IsAscii-padded, IsAscii-number}
 use Rattle.time_below.specs.Calendar.{from_sunday}
 use Rattle.time_fmt.specs.DateText.{month_names, month_name, weekday_names, weekday_name, indexed}
 use Rattle.time_fmt.specs.Description.{of_group, in_standard_range, century_of, current_outcome, component_outcome, tree_outcome, trees_outcome}
-use Rattle.time_fmt.specs.Guarantee.{IsRealPart, IsTextIf}
-use Rattle.time_fmt.proofs.RealLemmas.{DateFits, TimeFits, OffsetFits, MomentFits, date_fits, time_fits, offset_fits, moment_fits}
+use Rattle.time_fmt.specs.Guarantee.{IsTextIf}
 use Rattle.time_fmt.specs.Outcome.{Outcome, done, refused, join, out_of_range}
 use Rattle.time_below.specs.ComponentRange.{conditional_range}
 use Rattle.time_fmt.specs.Text.{padded_text, sign_text, hour_12, period_text, subsecond_text, timestamp_text}
@@ -45,10 +42,10 @@ ascii_test bs h =
     IsAscii-from_all bs (All-weaker (λ b. IsTrue (nat_lt b 128)) (λ b. b < 128) (λ b. ltb-true b 128) bs (AllPass-from_list_all (λ b. nat_lt b 128) bs h))
 
 -- so is a number in its places
-IsAscii-padded_text : (p : Padding) (places n : ℕ) → n < 2 ^ 64 → IsAscii (padded_text p places n)
-IsAscii-padded_text padding.Space places n h = IsAscii-padded 32 places n (omega arith) h
-IsAscii-padded_text padding.Zero places n h = IsAscii-padded 48 places n (omega arith) h
-IsAscii-padded_text padding.None places n h = IsAscii-decimal n h
+IsAscii-padded_text : (p : Padding) (places n : ℕ) → IsAscii (padded_text p places n)
+IsAscii-padded_text padding.Space places n = IsAscii-padded 32 places n (omega arith)
+IsAscii-padded_text padding.Zero places n = IsAscii-padded 48 places n (omega arith)
+IsAscii-padded_text padding.None places n = IsAscii-number n
 
 -- so is a sign
 pub IsAscii-sign_text : (is_negative is_wanted : Bool) → IsAscii (sign_text is_negative is_wanted)
@@ -57,8 +54,8 @@ IsAscii-sign_text false true = ascii_test (codes "+") refl
 IsAscii-sign_text false false = IsAscii-nil
 
 -- so is a number behind its sign
-signed : (n w : Bool) (p : Padding) (places m : ℕ) → m < 2 ^ 64 → IsAscii (sign_text n w ++ padded_text p places m)
-signed n w p places m h = IsAscii-append (sign_text n w) (padded_text p places m) (IsAscii-sign_text n w) (IsAscii-padded_text p places m h)
+signed : (n w : Bool) (p : Padding) (places m : ℕ) → IsAscii (sign_text n w ++ padded_text p places m)
+signed n w p places m = IsAscii-append (sign_text n w) (padded_text p places m) (IsAscii-sign_text n w) (IsAscii-padded_text p places m)
 
 -- each of the names is
 abbrev AreAscii : List (List ℕ) → Type 0
@@ -87,11 +84,6 @@ ascii_weekdays = (ascii_test (codes "Monday") refl, (ascii_test (codes "Tuesday"
 pub IsAscii-weekday_name : (w : ℕ) → IsAscii (weekday_name w)
 IsAscii-weekday_name w = name_at weekday_names w ascii_weekdays
 
--- so is the digit of a weekday
-IsAscii-indexed : (one_indexed : Bool) (days : ℕ) → days < 7 → IsAscii (decimal (indexed one_indexed days))
-IsAscii-indexed true days h = IsAscii-decimal (days + 1) (omega arith)
-IsAscii-indexed false days h = IsAscii-decimal days (omega arith)
-
 -- so is the half of a day
 IsAscii-period_text : (p : Period) (is_uppercase : Bool) → IsAscii (period_text p is_uppercase)
 IsAscii-period_text Am true = ascii_test (codes "AM") refl
@@ -113,62 +105,57 @@ IsAscii-subsecond_text digits.Eight n = IsAscii-take (fixed 9 n) 8 (IsAscii-fixe
 IsAscii-subsecond_text digits.Nine n = IsAscii-take (fixed 9 n) 9 (IsAscii-fixed 9 n)
 
 -- so is a timestamp
-IsAscii-timestamp_text : (s : Bool) (n : ℤ) → unsigned_abs n < 2 ^ 64 → IsAscii (timestamp_text s n)
-IsAscii-timestamp_text s n h = IsAscii-append (sign_text (int_lt n (pos 0)) s) (decimal (unsigned_abs n)) (IsAscii-sign_text (int_lt n (pos 0)) s) (IsAscii-decimal (unsigned_abs n) h)
+IsAscii-timestamp_text : (s : Bool) (n : ℤ) → IsAscii (timestamp_text s n)
+IsAscii-timestamp_text s n = IsAscii-append (sign_text (int_lt n (pos 0)) s) (decimal (unsigned_abs n)) (IsAscii-sign_text (int_lt n (pos 0)) s) (IsAscii-number (unsigned_abs n))
 
 -- ---- components
 
--- what holds of the group that is there
-fits : {G : Type 0} {P Q : G → Type 0} (group : Option G) → ((g : G) → P g → Q g) → IfSome group P → IfSome group Q
-fits None each h = h
-fits (Some g) each h = each g h
-
--- so is what a group gives, if it is there
-ascii_of_group : {G : Type 0} (group : Option G) (fits : G → Type 0) (outcome : G → Outcome) → IfSome group fits → ((g : G) → fits g → IsAscii (outcome g).bytes) → IsAscii (of_group group outcome).bytes
-ascii_of_group None fits outcome h each = IsAscii-nil
-ascii_of_group (Some g) fits outcome h each = each g h
+-- so is what a group gives
+ascii_of_group : {G : Type 0} (group : Option G) (outcome : G → Outcome) → ((g : G) → IsAscii (outcome g).bytes) → IsAscii (of_group group outcome).bytes
+ascii_of_group None outcome each = IsAscii-nil
+ascii_of_group (Some g) outcome each = each g
 
 -- so is a year or a century in its range
 ascii_in_range : (greatest magnitude : ℕ) (text : List ℕ) → IsAscii text → IsAscii (in_standard_range greatest magnitude text).bytes
 ascii_in_range greatest magnitude text h =
     elim (nat_le magnitude greatest) as (λ b. IsAscii (if b then done text else refused (out_of_range (conditional_range (codes "year")))).bytes) [ true ↦ h | false ↦ IsAscii-nil ]
 
--- the text of a component is ASCII where the part that it is taken from is a real one
-pub ascii_current : (c : Component) (f : Facts) → IsRealPart (group_of c) f → IsAscii (current_outcome c f).bytes
-ascii_current (component.Day m) f h = ascii_of_group f.date DateFits _ (fits f.date date_fits h) (λ d fit. IsAscii-padded_text m.padding 2 d.day fit.day)
-ascii_current (component.MonthShort m) f h = ascii_of_group f.date DateFits _ (fits f.date date_fits h) (λ d fit. IsAscii-take (month_name d.month) 3 (IsAscii-month_name d.month))
-ascii_current (component.MonthLong m) f h = ascii_of_group f.date DateFits _ (fits f.date date_fits h) (λ d fit. IsAscii-month_name d.month)
-ascii_current (component.MonthNumerical m) f h = ascii_of_group f.date DateFits _ (fits f.date date_fits h) (λ d fit. IsAscii-padded_text m.padding 2 d.month fit.month)
-ascii_current (component.Ordinal m) f h = ascii_of_group f.date DateFits _ (fits f.date date_fits h) (λ d fit. IsAscii-padded_text m.padding 3 d.ordinal fit.ordinal)
-ascii_current (component.WeekdayShort m) f h = ascii_of_group f.date DateFits _ (fits f.date date_fits h) (λ d fit. IsAscii-take (weekday_name d.weekday) 3 (IsAscii-weekday_name d.weekday))
-ascii_current (component.WeekdayLong m) f h = ascii_of_group f.date DateFits _ (fits f.date date_fits h) (λ d fit. IsAscii-weekday_name d.weekday)
-ascii_current (component.WeekdaySunday m) f h = ascii_of_group f.date DateFits _ (fits f.date date_fits h) (λ d fit. IsAscii-indexed m.one_indexed (from_sunday d.weekday) (omega arith))
-ascii_current (component.WeekdayMonday m) f h = ascii_of_group f.date DateFits _ (fits f.date date_fits h) (λ d fit. IsAscii-indexed m.one_indexed d.weekday fit.weekday)
-ascii_current (component.WeekNumberIso m) f h = ascii_of_group f.date DateFits _ (fits f.date date_fits h) (λ d fit. IsAscii-padded_text m.padding 2 d.iso_week fit.iso_week)
-ascii_current (component.WeekNumberSunday m) f h = ascii_of_group f.date DateFits _ (fits f.date date_fits h) (λ d fit. IsAscii-padded_text m.padding 2 d.sunday_based_week fit.sunday_based_week)
-ascii_current (component.WeekNumberMonday m) f h = ascii_of_group f.date DateFits _ (fits f.date date_fits h) (λ d fit. IsAscii-padded_text m.padding 2 d.monday_based_week fit.monday_based_week)
-ascii_current (component.CalendarYearFullExtendedRange m) f h = ascii_of_group f.date DateFits _ (fits f.date date_fits h) (λ d fit. signed (int_lt d.year (pos 0)) (m.sign_is_mandatory || int_lt (pos 9_999) d.year) m.padding 4 (unsigned_abs d.year) fit.year)
-ascii_current (component.CalendarYearFullStandardRange m) f h = ascii_of_group f.date DateFits _ (fits f.date date_fits h) (λ d fit. ascii_in_range 9_999 (unsigned_abs d.year) _ (signed (int_lt d.year (pos 0)) m.sign_is_mandatory m.padding 4 (unsigned_abs d.year) fit.year))
-ascii_current (component.CalendarYearCenturyExtendedRange m) f h = ascii_of_group f.date DateFits _ (fits f.date date_fits h) (λ d fit. signed (int_lt d.year (pos 0)) (m.sign_is_mandatory || nat_lt 99 (century_of d.year)) m.padding 2 (century_of d.year) (omega (arith, fit.year)))
-ascii_current (component.CalendarYearCenturyStandardRange m) f h = ascii_of_group f.date DateFits _ (fits f.date date_fits h) (λ d fit. ascii_in_range 99 (century_of d.year) _ (signed (int_lt d.year (pos 0)) m.sign_is_mandatory m.padding 2 (century_of d.year) (omega (arith, fit.year))))
-ascii_current (component.CalendarYearLastTwo m) f h = ascii_of_group f.date DateFits _ (fits f.date date_fits h) (λ d fit. IsAscii-padded_text m.padding 2 ((unsigned_abs d.year) % 100) (omega arith))
-ascii_current (component.IsoYearFullExtendedRange m) f h = ascii_of_group f.date DateFits _ (fits f.date date_fits h) (λ d fit. signed (int_lt d.iso_year (pos 0)) (m.sign_is_mandatory || int_lt (pos 9_999) d.iso_year) m.padding 4 (unsigned_abs d.iso_year) fit.iso_year)
-ascii_current (component.IsoYearFullStandardRange m) f h = ascii_of_group f.date DateFits _ (fits f.date date_fits h) (λ d fit. ascii_in_range 9_999 (unsigned_abs d.iso_year) _ (signed (int_lt d.iso_year (pos 0)) m.sign_is_mandatory m.padding 4 (unsigned_abs d.iso_year) fit.iso_year))
-ascii_current (component.IsoYearCenturyExtendedRange m) f h = ascii_of_group f.date DateFits _ (fits f.date date_fits h) (λ d fit. signed (int_lt d.iso_year (pos 0)) (m.sign_is_mandatory || nat_lt 99 (century_of d.iso_year)) m.padding 2 (century_of d.iso_year) (omega (arith, fit.iso_year)))
-ascii_current (component.IsoYearCenturyStandardRange m) f h = ascii_of_group f.date DateFits _ (fits f.date date_fits h) (λ d fit. ascii_in_range 99 (century_of d.iso_year) _ (signed (int_lt d.iso_year (pos 0)) m.sign_is_mandatory m.padding 2 (century_of d.iso_year) (omega (arith, fit.iso_year))))
-ascii_current (component.IsoYearLastTwo m) f h = ascii_of_group f.date DateFits _ (fits f.date date_fits h) (λ d fit. IsAscii-padded_text m.padding 2 ((unsigned_abs d.iso_year) % 100) (omega arith))
-ascii_current (component.Hour12 m) f h = ascii_of_group f.time TimeFits _ (fits f.time time_fits h) (λ t fit. IsAscii-padded_text m.padding 2 (hour_12 t.hour) (omega arith))
-ascii_current (component.Hour24 m) f h = ascii_of_group f.time TimeFits _ (fits f.time time_fits h) (λ t fit. IsAscii-padded_text m.padding 2 t.hour fit.hour)
-ascii_current (component.Minute m) f h = ascii_of_group f.time TimeFits _ (fits f.time time_fits h) (λ t fit. IsAscii-padded_text m.padding 2 t.minute fit.minute)
-ascii_current (component.Period m) f h = ascii_of_group f.time TimeFits _ (fits f.time time_fits h) (λ t fit. IsAscii-period_text (period_of t) m.is_uppercase)
-ascii_current (component.Second m) f h = ascii_of_group f.time TimeFits _ (fits f.time time_fits h) (λ t fit. IsAscii-padded_text m.padding 2 t.second fit.second)
-ascii_current (component.Subsecond m) f h = ascii_of_group f.time TimeFits _ (fits f.time time_fits h) (λ t fit. IsAscii-subsecond_text m.digits t.nanosecond)
-ascii_current (component.OffsetHour m) f h = ascii_of_group f.offset OffsetFits _ (fits f.offset offset_fits h) (λ o fit. signed (is_negative o) m.sign_is_mandatory m.padding 2 (unsigned_abs o.hours) fit.hours)
-ascii_current (component.OffsetMinute m) f h = ascii_of_group f.offset OffsetFits _ (fits f.offset offset_fits h) (λ o fit. IsAscii-padded_text m.padding 2 (unsigned_abs o.minutes) fit.minutes)
-ascii_current (component.OffsetSecond m) f h = ascii_of_group f.offset OffsetFits _ (fits f.offset offset_fits h) (λ o fit. IsAscii-padded_text m.padding 2 (unsigned_abs o.seconds) fit.seconds)
-ascii_current (component.UnixTimestampSecond m) f h = ascii_of_group f.stamp MomentFits _ (fits f.stamp moment_fits h) (λ s fit. IsAscii-timestamp_text m.sign_is_mandatory s.seconds fit.seconds)
-ascii_current (component.UnixTimestampMillisecond m) f h = ascii_of_group f.stamp MomentFits _ (fits f.stamp moment_fits h) (λ s fit. IsAscii-timestamp_text m.sign_is_mandatory (milliseconds s) fit.milliseconds)
-ascii_current c f h = IsAscii-nil
+-- the text of a component is ASCII
+pub ascii_current : (c : Component) (f : Facts) → IsAscii (current_outcome c f).bytes
+ascii_current (component.Day m) f = ascii_of_group f.date _ (λ d. IsAscii-padded_text m.padding 2 d.day)
+ascii_current (component.MonthShort m) f = ascii_of_group f.date _ (λ d. IsAscii-take (month_name d.month) 3 (IsAscii-month_name d.month))
+ascii_current (component.MonthLong m) f = ascii_of_group f.date _ (λ d. IsAscii-month_name d.month)
+ascii_current (component.MonthNumerical m) f = ascii_of_group f.date _ (λ d. IsAscii-padded_text m.padding 2 d.month)
+ascii_current (component.Ordinal m) f = ascii_of_group f.date _ (λ d. IsAscii-padded_text m.padding 3 d.ordinal)
+ascii_current (component.WeekdayShort m) f = ascii_of_group f.date _ (λ d. IsAscii-take (weekday_name d.weekday) 3 (IsAscii-weekday_name d.weekday))
+ascii_current (component.WeekdayLong m) f = ascii_of_group f.date _ (λ d. IsAscii-weekday_name d.weekday)
+ascii_current (component.WeekdaySunday m) f = ascii_of_group f.date _ (λ d. IsAscii-number (indexed m.one_indexed (from_sunday d.weekday)))
+ascii_current (component.WeekdayMonday m) f = ascii_of_group f.date _ (λ d. IsAscii-number (indexed m.one_indexed d.weekday))
+ascii_current (component.WeekNumberIso m) f = ascii_of_group f.date _ (λ d. IsAscii-padded_text m.padding 2 d.iso_week)
+ascii_current (component.WeekNumberSunday m) f = ascii_of_group f.date _ (λ d. IsAscii-padded_text m.padding 2 d.sunday_based_week)
+ascii_current (component.WeekNumberMonday m) f = ascii_of_group f.date _ (λ d. IsAscii-padded_text m.padding 2 d.monday_based_week)
+ascii_current (component.CalendarYearFullExtendedRange m) f = ascii_of_group f.date _ (λ d. signed (int_lt d.year (pos 0)) (m.sign_is_mandatory || int_lt (pos 9_999) d.year) m.padding 4 (unsigned_abs d.year))
+ascii_current (component.CalendarYearFullStandardRange m) f = ascii_of_group f.date _ (λ d. ascii_in_range 9_999 (unsigned_abs d.year) _ (signed (int_lt d.year (pos 0)) m.sign_is_mandatory m.padding 4 (unsigned_abs d.year)))
+ascii_current (component.CalendarYearCenturyExtendedRange m) f = ascii_of_group f.date _ (λ d. signed (int_lt d.year (pos 0)) (m.sign_is_mandatory || nat_lt 99 (century_of d.year)) m.padding 2 (century_of d.year))
+ascii_current (component.CalendarYearCenturyStandardRange m) f = ascii_of_group f.date _ (λ d. ascii_in_range 99 (century_of d.year) _ (signed (int_lt d.year (pos 0)) m.sign_is_mandatory m.padding 2 (century_of d.year)))
+ascii_current (component.CalendarYearLastTwo m) f = ascii_of_group f.date _ (λ d. IsAscii-padded_text m.padding 2 ((unsigned_abs d.year) % 100))
+ascii_current (component.IsoYearFullExtendedRange m) f = ascii_of_group f.date _ (λ d. signed (int_lt d.iso_year (pos 0)) (m.sign_is_mandatory || int_lt (pos 9_999) d.iso_year) m.padding 4 (unsigned_abs d.iso_year))
+ascii_current (component.IsoYearFullStandardRange m) f = ascii_of_group f.date _ (λ d. ascii_in_range 9_999 (unsigned_abs d.iso_year) _ (signed (int_lt d.iso_year (pos 0)) m.sign_is_mandatory m.padding 4 (unsigned_abs d.iso_year)))
+ascii_current (component.IsoYearCenturyExtendedRange m) f = ascii_of_group f.date _ (λ d. signed (int_lt d.iso_year (pos 0)) (m.sign_is_mandatory || nat_lt 99 (century_of d.iso_year)) m.padding 2 (century_of d.iso_year))
+ascii_current (component.IsoYearCenturyStandardRange m) f = ascii_of_group f.date _ (λ d. ascii_in_range 99 (century_of d.iso_year) _ (signed (int_lt d.iso_year (pos 0)) m.sign_is_mandatory m.padding 2 (century_of d.iso_year)))
+ascii_current (component.IsoYearLastTwo m) f = ascii_of_group f.date _ (λ d. IsAscii-padded_text m.padding 2 ((unsigned_abs d.iso_year) % 100))
+ascii_current (component.Hour12 m) f = ascii_of_group f.time _ (λ t. IsAscii-padded_text m.padding 2 (hour_12 t.hour))
+ascii_current (component.Hour24 m) f = ascii_of_group f.time _ (λ t. IsAscii-padded_text m.padding 2 t.hour)
+ascii_current (component.Minute m) f = ascii_of_group f.time _ (λ t. IsAscii-padded_text m.padding 2 t.minute)
+ascii_current (component.Period m) f = ascii_of_group f.time _ (λ t. IsAscii-period_text (period_of t) m.is_uppercase)
+ascii_current (component.Second m) f = ascii_of_group f.time _ (λ t. IsAscii-padded_text m.padding 2 t.second)
+ascii_current (component.Subsecond m) f = ascii_of_group f.time _ (λ t. IsAscii-subsecond_text m.digits t.nanosecond)
+ascii_current (component.OffsetHour m) f = ascii_of_group f.offset _ (λ o. signed (is_negative o) m.sign_is_mandatory m.padding 2 (unsigned_abs o.hours))
+ascii_current (component.OffsetMinute m) f = ascii_of_group f.offset _ (λ o. IsAscii-padded_text m.padding 2 (unsigned_abs o.minutes))
+ascii_current (component.OffsetSecond m) f = ascii_of_group f.offset _ (λ o. IsAscii-padded_text m.padding 2 (unsigned_abs o.seconds))
+ascii_current (component.UnixTimestampSecond m) f = ascii_of_group f.stamp _ (λ s. IsAscii-timestamp_text m.sign_is_mandatory s.seconds)
+ascii_current (component.UnixTimestampMillisecond m) f = ascii_of_group f.stamp _ (λ s. IsAscii-timestamp_text m.sign_is_mandatory (milliseconds s))
+ascii_current c f = IsAscii-nil
 
 -- ---- outcomes one after another
 
@@ -186,14 +173,13 @@ pub empty_utf8 : IsUtf8 []
 empty_utf8 = IsUtf8-from_ascii [] IsAscii-nil
 
 -- a component has a text
-pub text_of_component : (c : Component) (f : Facts) → IsRealPart (group_of (current_component c)) f → IsUtf8 (component_outcome c f).bytes
-text_of_component c f h = IsUtf8-from_ascii (component_outcome c f).bytes (ascii_current (current_component c) f h)
+pub text_of_component : (c : Component) (f : Facts) → IsUtf8 (component_outcome c f).bytes
+text_of_component c f = IsUtf8-from_ascii (component_outcome c f).bytes (ascii_current (current_component c) f)
 
 -- so has one that was written
-pub text_of_written : (written : Option ℕ) (c : Component) (f : Facts) → IfSome written (λ _. IsRealPart (group_of (current_component c)) f)
-    → IfSome written (λ _. IsTextIf (is_guaranteed_text (of_component c)) (tree_outcome (of_component c) f))
-text_of_written None c f h = h
-text_of_written (Some n) c f h = λ _. text_of_component c f h
+pub text_of_written : (written : Option ℕ) (c : Component) (f : Facts) → IfSome written (λ _. IsTextIf (is_guaranteed_text (of_component c)) (tree_outcome (of_component c) f))
+text_of_written None c f = tt
+text_of_written (Some n) c f = λ _. text_of_component c f
 
 -- a list has a text if its first tree has one, and so have the others
 pub text_more : (t : Tree) (ts : Trees) (f : Facts) → IsTextIf (is_guaranteed_text t) (tree_outcome t f) → IsTextIf (are_guaranteed_text ts) (trees_outcome ts f)

@@ -3,7 +3,6 @@ pub mod DateTextLemmas
 pub mod DecimalLemmas
 pub mod Engine
 pub mod GuaranteeLemmas
-pub mod RealLemmas
 pub mod LawLemmas
 pub mod LongDivisionLemmas
 pub mod LongestLemmas

@@ -1,10 +1,8 @@
 //! The engine for one component.
-ghost use Rattle.std.specs.Prelude.{◌≡◌, ◌+◌, ◌≤◌, IsTrue, IsUtf8, IfSome, MatchOption, vec_len};
-ghost use Rattle.time_below.specs.Conversion.{current_component, is_current};
-ghost use Rattle.time_below.specs.Group.{group_of};
+ghost use Rattle.std.specs.Prelude.{◌≡◌, ◌+◌, ◌≤◌, IsTrue, IsUtf8, MatchOption, vec_len};
+ghost use Rattle.time_below.specs.Conversion.{is_current};
 ghost use Rattle.time_below.specs.Width.{component_width};
 ghost use Rattle.time_fmt.specs.Description.{component_outcome, current_outcome};
-ghost use Rattle.time_fmt.specs.Guarantee.{IsRealPart};
 ghost use Rattle.time_fmt.specs.Outcome.{Appends};
 ghost use Rattle.time_fmt.specs.Room.{HasRoom};
 
@@ -28,8 +26,6 @@ pub(crate) fn write_common<V: ComponentProvider>(
         (λ count. Appends output.old output.new (Ok count)
         (component_outcome component (V.facts value.now))) }
     ensures within { vec_len output.new ≤ vec_len output.old + component_width component }
-    ensures real { IfSome result
-        (λ _. IsRealPart (group_of (current_component component)) (V.facts value.now)) }
     ensures agrees { V.agrees state.new value.now }
 {
     match component {
@@ -61,8 +57,6 @@ fn write_apart<M: Modifier, V: ComponentProvider>(
         (component_outcome (M.component_of part) (V.facts value.now))) }
     ensures within { vec_len output.new
         ≤ vec_len output.old + component_width (M.component_of part) }
-    ensures real { IfSome result
-        (λ _. IsRealPart (group_of (current_component (M.component_of part))) (V.facts value.now)) }
     ensures agrees { V.agrees state.new value.now }
 {
     write_unless_refused(part, output, value, state)
@@ -83,8 +77,6 @@ fn write_unless_refused<M: Modifier, V: ComponentProvider>(
         (component_outcome (M.component_of part) (V.facts value.now))) }
     ensures within { vec_len output.new
         ≤ vec_len output.old + component_width (M.component_of part) }
-    ensures real { IfSome result
-        (λ _. IsRealPart (group_of (current_component (M.component_of part))) (V.facts value.now)) }
     ensures agrees { V.agrees state.new value.now }
 {
     match part.write(output, value, state) {
@@ -130,7 +122,6 @@ fn current_write_into<V: ComponentProvider>(
     ensures appends { Appends output.old output.new result
         (current_outcome component (V.facts value.now)) }
     ensures within { vec_len output.new ≤ vec_len output.old + component_width component }
-    ensures real { IsRealPart (group_of component) (V.facts value.now) }
     ensures agrees { V.agrees state.new value.now }
 {
     match component {

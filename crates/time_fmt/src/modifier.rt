@@ -1,11 +1,8 @@
 //! The choices of one component: what it is, how wide it is and how it is written, in one place.
 ghost use Rattle.std.specs.Prelude.{◌≡◌, ◌+◌, ◌≤◌, IfErr, vec_len};
-ghost use Rattle.time_below.specs.Conversion.{current_component};
 ghost use Rattle.time_below.specs.declared.format_description.component.Component.{Component};
-ghost use Rattle.time_below.specs.Group.{group_of};
 ghost use Rattle.time_below.specs.Width.{component_width};
 ghost use Rattle.time_fmt.specs.Description.{component_outcome};
-ghost use Rattle.time_fmt.specs.Guarantee.{IsRealPart};
 ghost use Rattle.time_fmt.specs.Outcome.{Appends};
 ghost use Rattle.time_fmt.specs.Room.{HasRoom};
 
@@ -41,7 +38,5 @@ pub trait Modifier: Copy {
         ensures refused { IfErr result (λ _. output.new ≡ output.old) }
         ensures within { vec_len output.new
             ≤ vec_len output.old + component_width (component_of self) }
-        ensures real { IsRealPart (group_of (current_component (component_of self)))
-            (V.facts value.now) }
         ensures agrees { V.agrees state.new value.now };
 }
