@@ -1,15 +1,16 @@
 -- Nodes one after another: what is written so far, and then the outcome of what is left, is the outcome of all.
-use Rattle.std.proofs.Common.{◌≡◌, ap, sym, ◌∙◌, refl, arith, ℕ, ◌+◌, ◌≤◌, ◌++◌, List, [], ◌∷◌, map, drop, length, append_assoc, length-append, subst, Option, Some, None, Ok, Err, IsSomeAnd, vec_len, vec_capacity, Vec}
+use Rattle.std.proofs.Common.{◌≡◌, ap, sym, ◌∙◌, arith, ℕ, ◌+◌, ◌≤◌, ◌++◌, List, [], ◌∷◌, map, drop, length, append_assoc, length-append, subst, Some, Ok, Err, vec_len, vec_capacity, Vec}
 use Rattle.std.specs.Prelude.{slice_get}
 use Rattle.std.specs.Global.{Global}
-use Rattle.std.proofs.lemmas.List.{at_drop_all}
+use Rattle.std.proofs.lemmas.List.{append-nil, at_drop_all}
 use Rattle.time_below.specs.Facts.{Facts}
 use Rattle.time_below.specs.Tree.{Tree, Trees, trees, first_of, end, more}
 use Rattle.time_below.specs.Width.{tree_width, trees_width, is_guaranteed_text, are_guaranteed_text}
 use Rattle.time_fmt.specs.declared.error.Format.{Format}
 use Rattle.time_fmt.specs.Description.{tree_outcome, trees_outcome}
 use Rattle.time_fmt.specs.Guarantee.{IsTextIf}
-use Rattle.time_fmt.specs.Outcome.{Outcome, Refusal, Names, Appends, join}
+use Rattle.time_fmt.specs.Outcome.{Outcome, Names, Appends}
+use Rattle.time_fmt.proofs.WriteLemmas.{some_of, join_refused, join_done}
 use Rattle.time_fmt.proofs.GuaranteeLemmas.{text_more, text_stops, empty_utf8}
 
 -- so far a list was written without a refusal: its rest is the rest of the outcome, and has room
@@ -24,15 +25,6 @@ pub record Along (agrees : Type 0) (old now : Vec ℕ Global) (sum : ℕ) (f : F
   pub within : vec_len now + trees_width left ≤ vec_len old + trees_width all
   pub capacity : vec_capacity now ≡ vec_capacity old
   pub text : IsTextIf (are_guaranteed_text left) (trees_outcome left f) → IsTextIf (are_guaranteed_text all) (trees_outcome all f)
-
--- a refusal that is named is there
-some_of : (P : Refusal → Type 0) (x : Option Refusal) → IsSomeAnd x P → (r : Refusal) × (x ≡ Some r)
-some_of P None h = absurd h
-some_of P (Some r) h = (r, refl)
-
--- nothing follows what is refused
-join_refused : (a b : Outcome) (r : Refusal) → a.refusal ≡ Some r → join a b ≡ a
-join_refused a b r h = rw h refl
 
 -- what was written before a node that is refused, and what the node wrote, is what the list writes
 pub refused_along : {agrees : Type 0} {sum all_size left_size : ℕ} (old mid new : Vec ℕ Global) (e : Format) (f : Facts) (all left others : Trees) (t : Tree) →
@@ -59,10 +51,6 @@ text_refused old mid new e f all left others t along next step first =
     let stops = text_stops t others f first (join_refused (tree_outcome t f) (trees_outcome others f) r.0 r.1) in
     let P : Trees → Type 0 = λ ts. IsTextIf (are_guaranteed_text ts) (trees_outcome ts f) in
     along.text (subst P (sym next) stops)
-
--- what follows is joined to what is completed
-join_done : (a b : Outcome) → a.refusal ≡ None → join a b ≡ record { bytes = a.bytes ++ b.bytes; refusal = b.refusal }
-join_done a b h = rw h refl
 
 -- what was written before a node, and what the node wrote, is followed by what is left
 pub written_along : {agrees agrees_after : Type 0} {sum count all_size left_size rest_size : ℕ} (old mid new : Vec ℕ Global) (f : Facts) (all left others : Trees) (t : Tree) →
@@ -92,7 +80,21 @@ written_along old mid new f all left others t along next smaller step within agr
       text = λ rest. along.text (subst P (sym next) (text_more t others f first rest));
     }
 
--- at the end of a list nothing is left
+-- at the end of a list nothing is left, so that all of it is written
+pub all_along : {A agrees : Type 0} {sum all_size left_size : ℕ} (tree : A → Tree) (nodes : List A) (i : ℕ) (old now : Vec ℕ Global) (f : Facts) → length nodes ≤ i
+    → Along agrees old now sum f (trees (map tree nodes)) (trees (map tree (drop i nodes))) all_size left_size → Appends old now (Ok sum) (trees_outcome (trees (map tree nodes)) f)
+all_along {A} {agrees} {sum} tree nodes i old now f past along =
+    let none : trees (map tree (drop i nodes)) ≡ end = at_drop_all (λ xs. trees (map tree xs)) nodes i past in
+    let bytes : (trees_outcome (trees (map tree (drop i nodes))) f).bytes ≡ [] = ap (λ ts. (trees_outcome ts f).bytes) none in
+    record {
+      appended = sym (along.bytes ∙ ap (λ bs. now.items ++ bs) bytes ∙ append-nil now.items);
+      counted = (along.refusal ∙ ap (λ ts. (trees_outcome ts f).refusal) none, omega (arith, along.count, ap length bytes));
+      named = tt;
+      grown = omega (arith, along.grown, along.count, ap length bytes);
+      capacity = along.capacity;
+    }
+
+-- nor is it of a text
 pub text_at_end : {A : Type 0} (tree : A → Tree) (nodes : List A) (i : ℕ) (f : Facts) → length nodes ≤ i
     → (IsTextIf (are_guaranteed_text (trees (map tree (drop i nodes)))) (trees_outcome (trees (map tree (drop i nodes))) f) → IsTextIf (are_guaranteed_text (trees (map tree nodes))) (trees_outcome (trees (map tree nodes)) f))
     → IsTextIf (are_guaranteed_text (trees (map tree nodes))) (trees_outcome (trees (map tree nodes)) f)

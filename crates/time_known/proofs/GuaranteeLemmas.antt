@@ -12,7 +12,7 @@ use Rattle.time_below.specs.TimeOfDay.{TimeOfDay}
 use Rattle.time_digits.specs.Digits.{zero_padded}
 use Rattle.time_digits.proofs.DigitLemmas.{IsAscii-fixed}
 use Rattle.time_digits.proofs.FractionLemmas.{IsAscii-trimmed_fraction}
-use Rattle.time_digits.proofs.LengthLemmas.{IsAscii-filled}
+use Rattle.time_digits.proofs.LengthLemmas.{IsAscii-padded}
 use Rattle.time_digits.proofs.TableLemmas.{ascii_test}
 use Rattle.time_fmt.specs.Text.{sign_text}
 use Rattle.time_fmt.specs.DateText.{month_name, weekday_name, short_name}
@@ -97,7 +97,7 @@ of_all f outcome each =
 -- ---- parts
 
 number : (k n : ℕ) → Ascii (zero_padded k n)
-number k n = leaf (IsAscii-filled 48 k n (omega arith))
+number k n = leaf (IsAscii-padded 48 k n (omega arith))
 
 sign : (is_negative is_wanted : Bool) → Ascii (sign_text is_negative is_wanted)
 sign is_negative is_wanted = leaf (IsAscii-sign_text is_negative is_wanted)

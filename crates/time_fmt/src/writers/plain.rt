@@ -1,5 +1,5 @@
 //! Bytes and texts as they are.
-ghost use Rattle.std.specs.Prelude.{◌≡◌, ◌+◌, ◌++◌, length, [], if◌then◌else◌, vec_len, vec_capacity};
+ghost use Rattle.std.specs.Prelude.{◌≡◌, ◌+◌, ◌<◌, ◌++◌, length, [], if◌then◌else◌, vec_len, vec_capacity};
 ghost use Rattle.time_digits.specs.Digits.{joined};
 ghost use Rattle.time_fmt.specs.Room.{HasRoom, Writes};
 
@@ -67,41 +67,58 @@ fn write_in_blocks(output: &mut Vec<u8>, bytes: &[u8])
     let mut taken = take_out(output);
     let mut rest = bytes;
     while let [a, b, c, d, e, f, g, h, more @ ..] = rest {
-        let (a, b, c, d, e, f, g, h) = (*a, *b, *c, *d, *e, *f, *g, *h);
-        taken.push_reserved(a);
-        taken.push_reserved(b);
-        taken.push_reserved(c);
-        taken.push_reserved(d);
-        taken.push_reserved(e);
-        taken.push_reserved(f);
-        taken.push_reserved(g);
-        taken.push_reserved(h);
+        let (first, second) = ([*a, *b, *c, *d], [*e, *f, *g, *h]);
+        push_four(&mut taken, first);
+        push_four(&mut taken, second);
         rest = more;
     }
     if let [a, b, c, d, more @ ..] = rest {
-        let (a, b, c, d) = (*a, *b, *c, *d);
-        taken.push_reserved(a);
-        taken.push_reserved(b);
-        taken.push_reserved(c);
-        taken.push_reserved(d);
+        push_four(&mut taken, [*a, *b, *c, *d]);
         rest = more;
     }
-    match rest {
-        [a] => taken.push_reserved(*a),
+    push_rest(&mut taken, rest);
+    put_back(output, taken);
+}
+
+// Appends four bytes.
+#[inline(always)]
+fn push_four(output: &mut Vec<u8>, bytes: [u8; 4])
+    requires room { HasRoom output.old 4 }
+    ensures appended { output.new.items ≡ output.old.items ++ bytes }
+    ensures grown { vec_len output.new ≡ vec_len output.old + 4 }
+    ensures capacity { vec_capacity output.new ≡ vec_capacity output.old }
+{
+    let [a, b, c, d] = bytes;
+    output.push_reserved(a);
+    output.push_reserved(b);
+    output.push_reserved(c);
+    output.push_reserved(d);
+}
+
+// Appends the last bytes, at most three.
+#[inline(always)]
+fn push_rest(output: &mut Vec<u8>, bytes: &[u8])
+    requires few { length bytes.now < 4 }
+    requires room { HasRoom output.old (length bytes.now) }
+    ensures appended { output.new.items ≡ output.old.items ++ bytes.now }
+    ensures grown { vec_len output.new ≡ vec_len output.old + length bytes.now }
+    ensures capacity { vec_capacity output.new ≡ vec_capacity output.old }
+{
+    match bytes {
+        [a] => output.push_reserved(*a),
         [a, b] => {
             let (a, b) = (*a, *b);
-            taken.push_reserved(a);
-            taken.push_reserved(b);
+            output.push_reserved(a);
+            output.push_reserved(b);
         }
         [a, b, c] => {
             let (a, b, c) = (*a, *b, *c);
-            taken.push_reserved(a);
-            taken.push_reserved(b);
-            taken.push_reserved(c);
+            output.push_reserved(a);
+            output.push_reserved(b);
+            output.push_reserved(c);
         }
         _ => {}
     }
-    put_back(output, taken);
 }
 
 /// Appends the text, and answers the number of its bytes.

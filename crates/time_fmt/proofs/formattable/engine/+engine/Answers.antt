@@ -1,6 +1,7 @@
 use Rattle.std.proofs.Common.{sym}
 use Rattle.time_below.proofs.NodeLemmas.{next_of, smaller_rest}
-use Rattle.time_fmt.proofs.Engine.{refused_along, text_refused, written_along, text_at_end, outcome_of_first, text_of_first}
+use Rattle.time_fmt.proofs.WriteLemmas.{appends_text}
+use Rattle.time_fmt.proofs.Engine.{all_along, refused_along, text_refused, written_along, text_at_end, outcome_of_first, text_of_first}
 use Rattle.time_fmt.proofs.formattable.engine.+engine.Goals as goal
 use Rattle.time_fmt.proofs.formattable.engine.+engine.Goals.{write_nodes-in-Some, write_nodes-in-None+in-Ok}
 
@@ -45,3 +46,39 @@ pub write_node-returns-in-Some-clause-text : goal.write_node-returns-in-Some-cla
 write_node-returns-in-Some-clause-text g t c =
     let first = text_of_first g.T.Node.tree c.in-First.nodes.now c.in-Some.node.now (g.V.ComponentProvider.facts c.args.value.now) (sym c.in-Some.ensures.value) in
     rw (← c.in-First.ensures.tree) (first c.write_node.ensures.text)
+
+-- at the end of the loop nothing is left
+pub write_nodes-returns-clause-appends : goal.write_nodes-returns-clause-appends
+write_nodes-returns-clause-appends g t c =
+    all_along g.T.Node.tree c.args.nodes.now _ c.args.output.now c.loop-node.output (g.V.ComponentProvider.facts c.args.value.now) c.loop-node-test.false c.loop-node.invariant
+
+pub write_nodes-returns-clause-agrees : goal.write_nodes-returns-clause-agrees
+write_nodes-returns-clause-agrees g t c = c.loop-node.invariant.state
+
+pub write_nodes-returns-in-Err-clause-agrees : goal.write_nodes-returns-in-Err-clause-agrees
+write_nodes-returns-in-Err-clause-agrees g t c = c.in-Err.ensures.agrees
+
+-- each layer has the outcome of its tree
+pub write_node-returns-in-Bytes-clause-appends : goal.write_node-returns-in-Bytes-clause-appends
+write_node-returns-in-Bytes-clause-appends g t c = rw (← c.in-Bytes.ensures.tree) (appends_text c.write_bytes.ensures.writes)
+
+pub write_node-returns-in-Text-clause-appends : goal.write_node-returns-in-Text-clause-appends
+write_node-returns-in-Text-clause-appends g t c = rw (← c.in-Text.ensures.tree) (appends_text c.write.ensures.writes)
+
+pub write_node-returns-in-Component-clause-appends : goal.write_node-returns-in-Component-clause-appends
+write_node-returns-in-Component-clause-appends g t c = rw (← c.in-Component.ensures.tree) c.component_write_into.ensures.appends
+
+pub write_node-returns-in-Component-clause-text : goal.write_node-returns-in-Component-clause-text
+write_node-returns-in-Component-clause-text g t c = rw (← c.in-Component.ensures.tree) (λ _. c.component_write_into.ensures.text)
+
+pub write_node-returns-in-All-clause-appends : goal.write_node-returns-in-All-clause-appends
+write_node-returns-in-All-clause-appends g t c = rw (← c.in-All.ensures.tree) c.write_nodes.ensures.appends
+
+pub write_node-returns-in-All-clause-text : goal.write_node-returns-in-All-clause-text
+write_node-returns-in-All-clause-text g t c = rw (← c.in-All.ensures.tree) c.write_nodes.ensures.text
+
+pub write_node-returns-in-Optional-clause-appends : goal.write_node-returns-in-Optional-clause-appends
+write_node-returns-in-Optional-clause-appends g t c = rw (← c.in-Optional.ensures.tree) c.write_node-in-Optional.ensures.appends
+
+pub write_node-returns-in-Optional-clause-text : goal.write_node-returns-in-Optional-clause-text
+write_node-returns-in-Optional-clause-text g t c = rw (← c.in-Optional.ensures.tree) c.write_node-in-Optional.ensures.text
