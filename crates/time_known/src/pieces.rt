@@ -144,7 +144,7 @@ pub(crate) fn write_nine_digits(output: &mut Vec<u8>, nanosecond: Nanoseconds) -
 // them stays. There is room for all nine, so that they are stored at once and the length is cut; where
 // there is room for the text alone, or no vector, the bytes that are kept are taken from an array.
 #[inline(always)]
-#[tactic(auto, using(crate::proofs::PieceLemmas::digit_lengths))]
+#[tactic(auto, using(time_fmt::proofs::TrimLemmas::digit_lengths))]
 pub(crate) fn write_fraction(output: &mut Vec<u8>, nanosecond: Nanoseconds) -> usize
     requires room { HasRoom output.old 9 }
     ensures writes { Writes output.old output.new result (trimmed_fraction nanosecond) }

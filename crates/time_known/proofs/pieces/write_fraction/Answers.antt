@@ -1,4 +1,4 @@
-use Rattle.std.proofs.Common.{◌≡◌, ℕ, ◌∙◌, List, length, sym, ap, subst}
+use Rattle.std.proofs.Common.{◌≡◌, ℕ, ◌∙◌, List, length, sym, ap, subst, arith}
 use Rattle.std.specs.Prelude.{vec_len}
 use Rattle.std.specs.Int.{w64, to_le_bytes}
 use Rattle.std.specs.Str.Parse.{AllDigits}
@@ -6,7 +6,8 @@ use Rattle.time_digits.specs.Digits.{fixed}
 use Rattle.time_digits.specs.Fraction.{last_zeros}
 use Rattle.time_digits.proofs.DigitLemmas.{fixed_digits}
 use Rattle.time_digits.proofs.WordLemmas.{digits_of_word}
-use Rattle.time_known.proofs.PieceLemmas.{last_eight, writes_trimmed}
+use Rattle.time_fmt.specs.Room.{Writes}
+use Rattle.time_fmt.proofs.TrimLemmas.{last_eight, writes_trimmed}
 use Rattle.time_known.proofs.pieces.write_fraction.Goals as goal
 use Rattle.time_known.proofs.pieces.write_fraction.Goals.{After-from_le_bytes}
 
@@ -27,13 +28,20 @@ zeros_to_drop-zeros-requires c =
 pub returns : goal.returns
 returns c =
     let before = (goal.at.returns c).After-from_le_bytes in
+    let nine = c.write_nine_digits.ensures.writes in
     let mid = c.write_nine_digits.new.output in
+    let written : Writes c.args.output.now mid c.write_nine_digits.result (fixed 9 c.args.nanosecond) = record {
+      appended = nine.appended;
+      counted = nine.counted ∙ sym nine.long;
+      grown = omega (arith, nine.grown, nine.long);
+      capacity = nine.capacity;
+    } in
     let len : length mid.items ≡ vec_len mid = sym (ap length c.deref.ensures.value) ∙ c.deref.ensures.len in
     let dropped : c.zeros_to_drop-zeros.result ≡ last_zeros (fixed 8 c.args.nanosecond) =
     c.zeros_to_drop-zeros.ensures.value ∙ ap last_zeros (word_is before) in
     record {
       writes = writes_trimmed c.args.nanosecond c.zeros_to_drop-zeros.result c.args.output.now mid c.truncate.new.self
-          c.write_nine_digits.result c.write_nine_digits.ensures.writes len dropped
+          c.write_nine_digits.result written len dropped
           (rw c.len.ensures at c.truncate.ensures.items) (rw c.len.ensures at c.truncate.ensures.len)
           c.truncate.ensures.capacity;
     }
