@@ -1,6 +1,6 @@
 -- What the answer of a call that appends a stamp says.
-use Rattle.std.proofs.Common.{◌≡◌, ◌+◌, vec_len, ◌≢◌, ◌⊎◌, inl, inr, ◌++◌, ℕ, true, false, append-nil, refl, sym, ap, subst, ◌∙◌}
-use Rattle.std.proofs.Common.{⊎_elim, Option, Some, None, Result, Ok, Err, Vec}
+use Rattle.std.proofs.Common.{◌≡◌, ◌+◌, vec_len, ◌≢◌, ◌⊎◌, inl, inr, ◌++◌, ℕ, true, false, append-nil, refl, sym, ap}
+use Rattle.std.proofs.Common.{subst, ◌∙◌, ⊎_elim, Option, Some, None, Result, Ok, Err, Vec}
 use Rattle.std.specs.Prelude.{◌↔◌, codes, IfOk, IfErr, OnErr, IsOk, IsSomeAnd}
 use Rattle.std.specs.Global.{Global}
 use Rattle.std.proofs.lemmas.Bool.{cases_Bool}

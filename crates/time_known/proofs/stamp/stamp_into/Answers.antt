@@ -1,5 +1,5 @@
-use Rattle.time_known.proofs.StampAnswerLemmas.{answered, completed_has_stamp, completed_length, completed_longer, completed_years}
-use Rattle.time_known.proofs.StampAnswerLemmas.{year_named, refused_unchanged}
+use Rattle.time_known.proofs.StampAnswerLemmas.{answered, completed_has_stamp, completed_length, completed_longer}
+use Rattle.time_known.proofs.StampAnswerLemmas.{completed_years, year_named, refused_unchanged}
 use Rattle.time_known.proofs.stamp.stamp_into.Goals as goal
 
 pub returns-clause-length : goal.returns-clause-length
