@@ -1,6 +1,6 @@
 -- What the answer of a call that appends a stamp says.
-use Rattle.std.proofs.Common.{◌≡◌, ◌+◌, vec_len, ◌≢◌, ◌⊎◌, inl, inr, ◌++◌, ℕ, true, false, append-nil, refl, sym, ap, subst, ◌∙◌}
-use Rattle.std.proofs.Common.{⊎_elim, Option, Some, None, Result, Ok, Err, Vec}
+use Rattle.std.proofs.Common.{◌≡◌, ◌+◌, vec_len, ◌≢◌, ◌⊎◌, inl, inr, ◌++◌, ℕ, true, false, append-nil, refl, sym, ap}
+use Rattle.std.proofs.Common.{subst, ◌∙◌, ⊎_elim, Option, Some, None, Result, Ok, Err, Vec}
 use Rattle.std.specs.Prelude.{◌↔◌, codes, IfOk, IfErr, OnErr, IsOk, IsSomeAnd}
 use Rattle.std.specs.Global.{Global}
 use Rattle.std.proofs.lemmas.Bool.{cases_Bool}
@@ -11,8 +11,7 @@ use Rattle.time_below.specs.TimeOfDay.{IsTimeOfDay}
 use Rattle.time_fmt.specs.Outcome.{Outcome, Refusal, Adds, Names, refused, invalid_component}
 use Rattle.time_fmt.specs.declared.error.Format.{Format}
 use Rattle.time_fmt.specs.declared.error.Format.TheVariants as error
-use Rattle.time_known.specs.Config.{Choices, default_choices}
-use Rattle.time_known.specs.Iso8601.{iso8601_outcome}
+use Rattle.time_known.specs.Config.{default_choices}
 use Rattle.time_known.specs.Iso8601Grammar.{iso8601_reads_as}
 use Rattle.time_known.specs.Stamps.{stamp_of, stamp_text, stamp_length, IsStampYear, HasStamp}
 use Rattle.time_known.specs.WellKnown.{is_outside}
@@ -20,40 +19,17 @@ use Rattle.time_known.proofs.OutcomeLemmas.{IsYearWithin, within}
 use Rattle.time_known.proofs.StampLemmas.{year_within, stamp_year, stamp_done, default_is_whole, stamps_are_completed}
 use Rattle.time_known.proofs.StampLemmas.{year_refused}
 
--- the choices of the call
-abbrev pub outcome_by : Choices → DateAndTime → Outcome
-outcome_by c v = iso8601_outcome c (facts_of_utc_date_time v)
-
 -- the want of memory
 abbrev pub no_memory : Result ℕ Format
 no_memory = Err error.OutOfMemory
 
--- what is said of an answer, by the choices of the call
-pub record Answered (old new : Vec ℕ Global) (answer : Result ℕ Format) (c : Choices) (v : DateAndTime) : Type 0 where
-  pub is_default : c ≡ default_choices
-  pub appends : answer ≢ no_memory → Adds old new answer (outcome_by c v)
-  pub spelled : IfOk answer (λ _. iso8601_reads_as c (facts_of_utc_date_time v) (outcome_by c v).bytes)
+-- what the call says of its answer
+pub record Answered (old new : Vec ℕ Global) (answer : Result ℕ Format) (v : DateAndTime) : Type 0 where
+  pub appends : answer ≢ no_memory → Adds old new answer (stamp_of v)
+  pub spelled : IfOk answer (λ _. iso8601_reads_as default_choices (facts_of_utc_date_time v) (stamp_text v))
   pub unchanged : answer ≡ no_memory → new.items ≡ old.items
 
--- the four facts as one
-pub answered : {old new : Vec ℕ Global} {answer : Result ℕ Format} {c : Choices} {v : DateAndTime} → c ≡ default_choices
-    → (answer ≢ no_memory → Adds old new answer (outcome_by c v))
-    → IfOk answer (λ _. iso8601_reads_as c (facts_of_utc_date_time v) (outcome_by c v).bytes)
-    → (answer ≡ no_memory → new.items ≡ old.items) → Answered old new answer c v
-answered is_default appends spelled unchanged =
-    record { is_default = is_default; appends = appends; spelled = spelled; unchanged = unchanged }
-
 -- ---- dates and times
-
--- equal groups that are there have equal facts
-same_group : {G : Type 0} (a b : G) → Some a ≡ Some b → a ≡ b
-same_group {G} a b e = ap (λ (o : Option G). elim o [ None ↦ a | Some g ↦ g ]) e
-
--- a date is known by its facts
-same_date : (d e : OrdinalDate) → Some (date_facts d) ≡ Some (date_facts e) → d ≡ e
-same_date d e h =
-    ap (λ (f : DateFacts). let o : OrdinalDate = record { year = f.year; ordinal = f.ordinal } in o)
-    (same_group (date_facts d) (date_facts e) h)
 
 -- a year is refused, or is one of four digits
 either_year : (v : DateAndTime)
@@ -77,9 +53,11 @@ has_stamp : (v : DateAndTime) → (stamp_of v).refusal ≡ None
     → iso8601_reads_as default_choices (facts_of_utc_date_time v) (stamp_text v) → HasStamp v
 has_stamp v none reads =
     let r = reads default_is_whole in
-    let time : v.time ≡ r.value.time = same_group v.time r.value.time r.time in
+    let facts : date_facts v.date ≡ date_facts r.value.date = cc in
+    let date = ap (λ (f : DateFacts). let d : OrdinalDate = record { year = f.year; ordinal = f.ordinal } in d) facts in
+    let time : v.time ≡ r.value.time = cc in
     record {
-      date = subst IsDate (sym (same_date v.date r.value.date r.date)) r.fits.date;
+      date = subst IsDate (sym date) r.fits.date;
       year = stamp_year v.date.year (year_of_completed v none);
       time = subst IsTimeOfDay (sym time) r.fits.time;
     }
@@ -90,31 +68,25 @@ not_refused v h = ap (λ (o : Outcome). o.refusal) (stamp_done v (year_within v.
 
 -- ---- answers
 
--- what is said by the default
-at_default : {old new : Vec ℕ Global} {answer : Result ℕ Format} {c : Choices} {v : DateAndTime}
-    → Answered old new answer c v → Answered old new answer default_choices v
-at_default {old} {new} {answer} {c} {v} a = subst (λ (d : Choices). Answered old new answer d v) a.is_default a
-
 -- a completed call has a stamp
-pub completed_has_stamp : {old new : Vec ℕ Global} (answer : Result ℕ Format) {c : Choices} {v : DateAndTime}
-    → Answered old new answer c v → IfOk answer (λ _. HasStamp v)
-completed_has_stamp (Ok n) {v = v} a =
-    let b = at_default a in has_stamp v (b.appends (λ e. cc)).counted.0 b.spelled
+pub completed_has_stamp : {old new : Vec ℕ Global} (answer : Result ℕ Format) {v : DateAndTime}
+    → Answered old new answer v → IfOk answer (λ _. HasStamp v)
+completed_has_stamp (Ok n) {v = v} a = has_stamp v (a.appends (λ e. cc)).counted.0 a.spelled
 completed_has_stamp (Err e) a = tt
 
 -- and answers 30
-pub completed_length : {old new : Vec ℕ Global} (answer : Result ℕ Format) {c : Choices} {v : DateAndTime}
-    → Answered old new answer c v → IfOk answer (λ count. count ≡ stamp_length)
+pub completed_length : {old new : Vec ℕ Global} (answer : Result ℕ Format) {v : DateAndTime}
+    → Answered old new answer v → IfOk answer (λ count. count ≡ stamp_length)
 completed_length (Ok n) {v = v} a =
-    let adds = (at_default a).appends (λ e. cc) in
+    let adds = a.appends (λ e. cc) in
     adds.counted.1 ∙ (stamps_are_completed v (completed_has_stamp (Ok n) a)).has_length
 completed_length (Err e) a = tt
 
 -- and the output is longer by that
-pub completed_longer : {old new : Vec ℕ Global} (answer : Result ℕ Format) {c : Choices} {v : DateAndTime}
-    → Answered old new answer c v → IfOk answer (λ _. vec_len new ≡ vec_len old + stamp_length)
+pub completed_longer : {old new : Vec ℕ Global} (answer : Result ℕ Format) {v : DateAndTime}
+    → Answered old new answer v → IfOk answer (λ _. vec_len new ≡ vec_len old + stamp_length)
 completed_longer {old} {new} (Ok n) {v = v} a =
-    let adds = (at_default a).appends (λ e. cc) in
+    let adds = a.appends (λ e. cc) in
     adds.grown ∙ ap (λ k. vec_len old + k) (stamps_are_completed v (completed_has_stamp (Ok n) a)).has_length
 completed_longer (Err e) a = tt
 
@@ -123,12 +95,12 @@ named_none : (o : Outcome) (e : Format) → o.refusal ≡ None → IsSomeAnd o.r
 named_none o e none named = subst (λ (r : Option Refusal). IsSomeAnd r (Names e)) none named
 
 -- with memory, a call is completed exactly for a year of four digits
-pub completed_years : {old new : Vec ℕ Global} (answer : Result ℕ Format) {c : Choices} {v : DateAndTime}
-    → Answered old new answer c v → answer ≢ no_memory → IsOk answer ↔ IsStampYear v.date.year
+pub completed_years : {old new : Vec ℕ Global} (answer : Result ℕ Format) {v : DateAndTime}
+    → Answered old new answer v → answer ≢ no_memory → IsOk answer ↔ IsStampYear v.date.year
 completed_years (Ok n) a some = (λ _. (completed_has_stamp (Ok n) a).year, λ _. refl)
 completed_years (Err e) {v = v} a some = (
   λ none. absurd (let never : false ≡ true = none in cc),
-  λ year. absurd (named_none (stamp_of v) e (not_refused v year) ((at_default a).appends some).named),
+  λ year. absurd (named_none (stamp_of v) e (not_refused v year) (a.appends some).named),
 )
 
 -- an error other than the want of memory refuses the year
@@ -153,33 +125,26 @@ adds_nothing old new v e adds =
     adds.appended ∙ ap (λ (o : Outcome). old.items ++ o.bytes) (refused_year old new v e adds)
     ∙ append-nil old.items
 
--- an answer that is an error
-abbrev failed : Format → Result ℕ Format
-failed e = Err e
-
 -- any error but one is not the want of memory
-not_memory : (e : Format) → e ≢ error.OutOfMemory → failed e ≢ no_memory
-not_memory error.OutOfMemory other = absurd (other refl)
-not_memory error.InsufficientTypeInformation other = λ e. cc
-not_memory (error.InvalidComponent name) other = λ e. cc
-not_memory (error.ComponentRange range) other = λ e. cc
+not_memory : {e : Format} → e ≢ error.OutOfMemory → ◌≢◌ {A = Result ℕ Format} (Err e) no_memory
+not_memory {e} other same = other cc
 
 -- so an error names the year
-pub year_named : {old new : Vec ℕ Global} (answer : Result ℕ Format) {c : Choices} {v : DateAndTime}
-    → Answered old new answer c v
+pub year_named : {old new : Vec ℕ Global} (answer : Result ℕ Format) {v : DateAndTime}
+    → Answered old new answer v
     → IfErr answer (λ e. e ≢ error.OutOfMemory → Names e (invalid_component (codes "year")))
 year_named (Ok n) a = tt
 year_named {old} {new} (Err e) {v = v} a =
-    λ other. names_year old new v e ((at_default a).appends (not_memory e other))
+    λ other. names_year old new v e (a.appends (not_memory other))
 
 -- and appends nothing
-pub refused_unchanged : {old new : Vec ℕ Global} (answer : Result ℕ Format) {c : Choices} {v : DateAndTime}
-    → Answered old new answer c v → OnErr answer (new.items ≡ old.items)
+pub refused_unchanged : {old new : Vec ℕ Global} (answer : Result ℕ Format) {v : DateAndTime}
+    → Answered old new answer v → OnErr answer (new.items ≡ old.items)
 refused_unchanged (Ok n) a = tt
 refused_unchanged (Err error.OutOfMemory) a = a.unchanged refl
 refused_unchanged {old} {new} (Err error.InsufficientTypeInformation) {v = v} a =
-    adds_nothing old new v error.InsufficientTypeInformation ((at_default a).appends (λ e. cc))
+    adds_nothing old new v error.InsufficientTypeInformation (a.appends (λ e. cc))
 refused_unchanged {old} {new} (Err (error.InvalidComponent name)) {v = v} a =
-    adds_nothing old new v (error.InvalidComponent name) ((at_default a).appends (λ e. cc))
+    adds_nothing old new v (error.InvalidComponent name) (a.appends (λ e. cc))
 refused_unchanged {old} {new} (Err (error.ComponentRange range)) {v = v} a =
-    adds_nothing old new v (error.ComponentRange range) ((at_default a).appends (λ e. cc))
+    adds_nothing old new v (error.ComponentRange range) (a.appends (λ e. cc))

@@ -141,11 +141,12 @@ fn write_three_digits(output: &mut Vec<u8>, number: ru16<0, 999>) -> usize
     1 + write_pair(output, pair)
 }
 
-// Appends the nine digits, and takes the zeros at their end away again, but for the first digit. There
-// has to be room for nine.
+/// Appends the nine digits of a fraction of a second without the zeros at their end, but for the first
+/// digit, and answers how many were left, 1 to 9. There has to be room for all nine, which are stored
+/// at first; where there is room for the text alone, `fmt_subsecond` appends it.
 #[inline(always)]
 #[tactic(auto, using(crate::proofs::TrimLemmas::digit_lengths))]
-fn write_fraction(output: &mut Vec<u8>, nanosecond: Nanoseconds) -> usize
+pub fn write_fraction(output: &mut Vec<u8>, nanosecond: Nanoseconds) -> usize
     requires room { HasRoom output.old 9 }
     ensures writes { Writes output.old output.new result (trimmed_fraction nanosecond) }
 {

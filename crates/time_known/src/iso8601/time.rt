@@ -73,7 +73,7 @@ fn write_units<V: ComponentProvider>(
 }
 
 // Appends the hour, and decimals of it.
-#[tactic(auto, using(crate::proofs::WritingLemmas::part_lengths))]
+#[tactic(auto, using(crate::proofs::WritingLemmas::joined_lengths))]
 fn write_to_hour<V: ComponentProvider>(
     config: &Config,
     output: &mut Vec<u8>,
@@ -97,7 +97,7 @@ fn write_to_hour<V: ComponentProvider>(
 }
 
 // Appends the hour and the minute, the separator between them, and decimals of the minute.
-#[tactic(auto, using(crate::proofs::WritingLemmas::part_lengths))]
+#[tactic(auto, using(crate::proofs::WritingLemmas::joined_lengths))]
 fn write_to_minute<V: ComponentProvider>(
     config: &Config,
     output: &mut Vec<u8>,
