@@ -6,16 +6,15 @@ ghost use Rattle.time_below.specs.Facts.{the_time, the_offset};
 ghost use Rattle.time_below.specs.Month.{month_number};
 ghost use Rattle.time_below.specs.Weekday.{days_from_monday};
 ghost use Rattle.time_digits.specs.Digits.{fixed, zero_padded};
-ghost use Rattle.time_digits.specs.Fraction.{trimmed_fraction};
 ghost use Rattle.time_fmt.specs.DateText.{month_name, weekday_name, short_name};
-ghost use Rattle.time_fmt.specs.Room.{HasRoom, Writes, WritesJust, WritesUpTo};
+ghost use Rattle.time_fmt.specs.Room.{HasRoom, WritesJust, WritesUpTo};
 ghost use Rattle.time_provide.specs.Real.{AgreesOnTime};
 ghost use Rattle.time_known.specs.WellKnown.{clock_text, is_outside, offset_text};
 
 use std::mem::{forget, replace};
 use time_below::{Month, Weekday};
 use time_digits::{
-    four_digits_zero_padded, ru8, ru16, subsecond_from_nanos, two_digits_zero_padded, zeros_to_drop,
+    four_digits_zero_padded, ru8, ru16, subsecond_from_nanos, two_digits_zero_padded,
 };
 use time_fmt::writers::{write, write_if_else};
 use time_provide::ComponentProvider;
@@ -138,22 +137,6 @@ pub(crate) fn write_nine_digits(output: &mut Vec<u8>, nanosecond: Nanoseconds) -
     let sum = sum + write(output, third);
     let sum = sum + write(output, fourth);
     sum + write(output, fifth)
-}
-
-// Appends the nine digits of a fraction of a second, without the zeros at their end; the first of
-// them stays. There is room for all nine, so that they are stored at once and the length is cut; where
-// there is room for the text alone, or no vector, the bytes that are kept are taken from an array.
-#[inline(always)]
-#[tactic(auto, using(crate::proofs::PieceLemmas::digit_lengths))]
-pub(crate) fn write_fraction(output: &mut Vec<u8>, nanosecond: Nanoseconds) -> usize
-    requires room { HasRoom output.old 9 }
-    ensures writes { Writes output.old output.new result (trimmed_fraction nanosecond) }
-{
-    write_nine_digits(output, nanosecond);
-    let last_eight = *output.last_chunk::<8>().unwrap();
-    let zeros = zeros_to_drop(u64::from_le_bytes(last_eight)) as usize;
-    output.truncate(output.len() - zeros);
-    9 - zeros
 }
 
 // Appends the hour, the minute and the second, of two digits each, and the separator between them.

@@ -13,11 +13,11 @@ ghost use Rattle.time_known.specs.Rfc3339Grammar.{Rfc3339Spells, IsCanonicalRfc3
 
 use crate::groups::Groups;
 use crate::pieces::{
-    four_digit_year, put_back, take_out, write_clock, write_four_digits, write_fraction,
-    write_pair, write_signed_offset,
+    four_digit_year, put_back, take_out, write_clock, write_four_digits, write_pair,
+    write_signed_offset,
 };
 use time_digits::{ru8, ru16};
-use time_fmt::writers::write;
+use time_fmt::writers::{write, write_fraction};
 use time_fmt::{ComputeMetadata, Format, Formattable, Metadata};
 use time_provide::ComponentProvider;
 

@@ -91,7 +91,7 @@ fn append_default<V: ComponentProvider>(
 
 // Appends the time, and nine decimals of its second.
 #[inline(always)]
-#[tactic(auto, using(crate::proofs::WritingLemmas::part_lengths, crate::proofs::PieceLemmas::digit_lengths))]
+#[tactic(auto, using(crate::proofs::WritingLemmas::joined_lengths))]
 fn write_default_time<V: ComponentProvider>(
     output: &mut Vec<u8>,
     value: &V,
