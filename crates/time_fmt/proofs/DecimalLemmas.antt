@@ -23,6 +23,10 @@ take_front xs ys k h = let le : k ≤ length xs = omega arith in take-append-le 
 pub take-fixed : (j k n : ℕ) → take j (fixed (j + k) n) ≡ fixed j (n / 10 ^ k)
 take-fixed j k n = rw (fixed-append j k n) (take_front (fixed j (n / 10 ^ k)) (fixed k n) j (length-fixed j (n / 10 ^ k)))
 
+-- they are j
+pub length-first : (j k n : ℕ) → length (take j (fixed (j + k) n)) ≡ j
+length-first j k n = ap length (take-fixed j k n) ∙ length-fixed j (n / 10 ^ k)
+
 -- the first one to nine decimals of the second, each by what the nanosecond leaves of a power of ten
 pub one_decimal : (n : ℕ) → n < 1_000_000_000 → take 1 (fixed 9 n) ≡ decimal (n / 100_000_000)
 one_decimal n h = take-fixed 1 8 n ∙ sym (decimal_one (n / 100_000_000) (omega arith))
@@ -52,6 +56,17 @@ pub nine_decimals : (n : ℕ) → take 9 (fixed 9 n) ≡ fixed 9 n
 nine_decimals n = take_all 9 (fixed 9 n) (omega (arith, length-fixed 9 n))
 
 pub ruleset first_decimals = (one_decimal, two_decimals, three_decimals, four_decimals, five_decimals, six_decimals, seven_decimals, eight_decimals, nine_decimals, length-fixed)
+
+-- six digits by the first two and the next four
+pub six_parts : (n : ℕ) → n < 1_000_000_000 → zero_padded 2 (n / 1_000 / 10_000) ++ zero_padded 4 (n / 1_000 % 10_000) ≡ take 6 (fixed 9 n)
+six_parts n h =
+    let m = n / 1_000 in
+    let first = zero_padded_is 1 (m / 10_000) (omega arith) (omega arith) in
+    let last = zero_padded_is 3 (m % 10_000) (omega arith) (omega arith) ∙ fixed-mod 4 m in
+    ap (λ xs. xs ++ zero_padded 4 (m % 10_000)) first ∙ ap (λ ys. fixed 2 (m / 10_000) ++ ys) last
+    ∙ sym (fixed-append 2 4 m) ∙ sym (take-fixed 6 3 n)
+
+pub ruleset six_digits = (six_parts, two_zeros, four_zeros, length-append)
 
 -- nine digits by the first, the next four and the last four
 pub nine_parts : (n : ℕ) → n < 1_000_000_000

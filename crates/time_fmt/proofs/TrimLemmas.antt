@@ -1,53 +1,66 @@
--- Digits that were written behind a text, and zeros that were taken away again.
-use Rattle.std.proofs.Common.{◌≡◌, ℕ, ◌+◌, ◌-◌, ◌≤◌, List, ◌++◌, length, take, drop, refl, sym, ap, ◌∙◌, arith, length-append, Vec}
-use Rattle.std.proofs.lemmas.List.{length-take-le}
-use Rattle.std.proofs.Math.Seq.{drop-append-add, take-append-add}
-use Rattle.std.specs.Global.{Global}
-use Rattle.std.specs.Prelude.{vec_len, vec_capacity}
+-- A fraction whose last digits are zeros from some place on, and no zero before them.
+use Rattle.std.proofs.Common.{◌≡◌, ◌≢◌, ℕ, suc, ◌+◌, ◌-◌, ◌/◌, ◌%◌, ◌^◌, ◌<◌, ◌≤◌, List, [], ◌∷◌, ◌++◌, ⊎_elim, length, take, get_or, replicate, sym, ap, ◌∙◌, arith}
+use Rattle.std.proofs.lemmas.Bool.{cases_lt}
+use Rattle.std.proofs.lemmas.List.{get_or_append_left, get_or-append_right, get_or-replicate}
+use Rattle.std.proofs.Math.Seq.{get_or-append_seam}
 use Rattle.time_digits.specs.Digits.{fixed}
-use Rattle.time_digits.specs.Fraction.{trimmed_fraction, last_zeros}
-use Rattle.time_digits.proofs.FractionLemmas.{last_of_nine, trimmed_fraction-take}
-use Rattle.time_digits.proofs.LengthLemmas.{length-fixed, last_zeros-le}
-use Rattle.time_fmt.specs.Room.{Writes}
+use Rattle.time_digits.specs.Fraction.{trimmed_fraction}
+use Rattle.time_digits.proofs.DigitLemmas.{fixed_step, fixed_digits, fixed-append, fixed-mod, fixed-zero}
+use Rattle.time_digits.proofs.FractionLemmas.{only_trimmed_fraction}
+use Rattle.time_digits.proofs.LengthLemmas.{length-fixed}
+use Rattle.time_fmt.proofs.DecimalLemmas.{take-fixed}
 
--- how many digits there are
-pub ruleset digit_lengths = (length-fixed, length-append)
+-- nine digits are the first ones, and zeros
+filled_at : (j k n : ℕ) → j + k ≡ 9 → n % 10 ^ k ≡ 0 → fixed j (n / 10 ^ k) ++ replicate k 48 ≡ fixed 9 n
+filled_at j k n nine zeros =
+    let last : fixed k n ≡ replicate k 48 = sym (fixed-mod k n) ∙ ap (fixed k) zeros ∙ fixed-zero k in
+    ap (λ ds. fixed j (n / 10 ^ k) ++ ds) (sym last) ∙ sym (rw nine at (fixed-append j k n))
 
--- the last eight bytes of a text that ends in nine digits
-pub last_eight : (n : ℕ) (old bs : List ℕ) → bs ≡ old ++ fixed 9 n → drop (length bs - 8) bs ≡ fixed 8 n
-last_eight n old bs digits =
-    let nine = length-fixed 9 n in
-    let at : length bs - 8 ≡ length old + (length (fixed 9 n) - 8) =
-    omega (arith, ap length digits, length-append old (fixed 9 n), nine) in
-    rw (at, digits, drop-append-add old (fixed 9 n) (length (fixed 9 n) - 8)) (last_of_nine n (fixed 9 n) refl)
+-- the last of these first digits
+last_digit : (i m : ℕ) (ds : List ℕ) → get_or (fixed (suc i) m ++ ds) i 0 ≡ 48 + m % 10
+last_digit i m ds =
+    let end : get_or (fixed i (m / 10) ++ (48 + m % 10) ∷ []) (length (fixed i (m / 10))) 0 ≡ 48 + m % 10 =
+    get_or-append_seam (fixed i (m / 10)) (48 + m % 10) [] 0 in
+    get_or_append_left (fixed (suc i) m) ds 0 i (omega (arith, length-fixed (suc i) m)) ∙ ap (λ bs. get_or bs i 0) (fixed_step i m) ∙ (rw (length-fixed i (m / 10)) at end)
 
--- without the zeros that end these eight, the text ends in the trimmed fraction
-pub without_zeros : (n gone : ℕ) (old bs : List ℕ) → bs ≡ old ++ fixed 9 n → gone ≡ last_zeros (fixed 8 n)
-    → take (length bs - gone) bs ≡ old ++ trimmed_fraction n
-without_zeros n gone old bs digits dropped =
-    let most : gone ≤ 8 = omega (arith, dropped, last_zeros-le (fixed 8 n), length-fixed 8 n) in
-    let at : length bs - gone ≡ length old + (9 - gone) =
-    omega (arith, ap length digits, length-append old (fixed 9 n), length-fixed 9 n, most) in
-    rw (at, digits, take-append-add old (fixed 9 n) (9 - gone), dropped) (ap (λ (bs : List ℕ). old ++ bs) (sym (trimmed_fraction-take n)))
+-- a shorter text has a zero in its place
+zero_behind : (text : List ℕ) (i : ℕ) → length text ≤ i → i < 9 → get_or (text ++ replicate (9 - length text) 48) i 0 ≡ 48
+zero_behind text i le lt =
+    get_or-append_right text (replicate (9 - length text) 48) (length text) i 0 (λ _. length text) le
+    ∙ get_or-replicate (9 - length text) (i - length text) 48 0 (omega arith)
 
--- the trimmed fraction has as many digits as there are zeros less than nine
-pub length-without_zeros : (n gone : ℕ) → gone ≡ last_zeros (fixed 8 n) → length (trimmed_fraction n) ≡ 9 - gone
-length-without_zeros n gone dropped =
-    let kept = trimmed_fraction-take n in
-    rw (kept, dropped) (length-take-le (9 - last_zeros (fixed 8 n)) (fixed 9 n) (omega (arith, length-fixed 9 n)))
+-- up to the last digit that is no zero, the digits of a fraction are the trimmed one
+pub trimmed_at : (i k n : ℕ) → suc i + k ≡ 9 → n % 10 ^ k ≡ 0 → n / 10 ^ k % 10 ≢ 0 → fixed (suc i) (n / 10 ^ k) ≡ trimmed_fraction n
+trimmed_at i k n nine zeros some =
+    let size = length-fixed (suc i) (n / 10 ^ k) in
+    let full = filled_at (suc i) k n nine zeros in
+    let left : 9 - length (fixed (suc i) (n / 10 ^ k)) ≡ k = omega (arith, size) in
+    (only_trimmed_fraction n).1 (fixed (suc i) (n / 10 ^ k)) (record {
+      fraction = record {
+        digits = fixed_digits (suc i) (n / 10 ^ k);
+        some = omega (arith, size);
+        most = omega (arith, size);
+        filled = rw left full;
+      };
+      shortest = λ other h.
+          ⊎_elim
+          (λ shorter.
+          let one = last_digit i (n / 10 ^ k) (replicate k 48) in
+          let none = zero_behind other i (omega (arith, size, shorter)) (omega arith) in
+          let same : 48 + n / 10 ^ k % 10 ≡ 48 = sym one ∙ ap (λ ds. get_or ds i 0) (full ∙ sym h.filled) ∙ none in
+          absurd (some (omega arith)))
+          (λ enough. enough)
+          (cases_lt (length other) (length (fixed (suc i) (n / 10 ^ k))));
+    })
 
--- nine digits that were written, and the zeros at their end taken away again, are the trimmed fraction written
-pub writes_trimmed : (n gone : ℕ) (old mid new : Vec ℕ Global) (count : ℕ) → Writes old mid count (fixed 9 n)
-    → length mid.items ≡ vec_len mid → gone ≡ last_zeros (fixed 8 n)
-    → new.items ≡ take (vec_len mid - gone) mid.items → vec_len new + (vec_len mid - (vec_len mid - gone)) ≡ vec_len mid
-    → vec_capacity new ≡ vec_capacity mid → Writes old new (9 - gone) (trimmed_fraction n)
-writes_trimmed n gone old mid new count nine len dropped items shorter capacity =
-    let most : gone ≤ 8 = omega (arith, dropped, last_zeros-le (fixed 8 n), length-fixed 8 n) in
-    let size = length-without_zeros n gone dropped in
-    let all = length-fixed 9 n in
-    record {
-      appended = items ∙ rw (sym len) (without_zeros n gone old.items mid.items nine.appended dropped);
-      counted = omega (arith, nine.counted, size, all, most);
-      grown = omega (arith, nine.grown, size, all, shorter, most);
-      capacity = capacity ∙ nine.capacity;
-    }
+-- nine digits, the first three and the first six, where the last of them is no zero
+pub nine_are : (n : ℕ) → n % 10 ≢ 0 → fixed 9 n ≡ trimmed_fraction n
+nine_are n some =
+    let whole : n ≡ n / 10 ^ 0 = omega arith in
+    ap (fixed 9) whole ∙ trimmed_at 8 0 n (omega arith) (omega arith) (λ e. some (omega (arith, e)))
+
+pub three_are : (n : ℕ) → n % 1_000_000 ≡ 0 → n / 1_000_000 % 10 ≢ 0 → take 3 (fixed 9 n) ≡ trimmed_fraction n
+three_are n zeros some = take-fixed 3 6 n ∙ trimmed_at 2 6 n (omega arith) zeros some
+
+pub six_are : (n : ℕ) → n % 1_000 ≡ 0 → n / 1_000 % 10 ≢ 0 → take 6 (fixed 9 n) ≡ trimmed_fraction n
+six_are n zeros some = take-fixed 6 3 n ∙ trimmed_at 5 3 n (omega arith) zeros some

@@ -1,3 +1,4 @@
+pub mod BytesLemmas
 pub mod CommandLemmas
 pub mod OutputBufferLemmas
 pub mod LinesLemmas

@@ -1,5 +1,5 @@
 -- The fields of a line, and the numbers that fields spell.
-use Rattle.std.specs.Prelude.{ℕ, ℤ, pos, neg_ℤ, Option, Some, None, List, [], ◌∷◌, length, Bool, ◌==◌, ◌&&◌, nat_lt, nat_le, if◌then◌else◌, option_map}
+use Rattle.std.specs.Prelude.{◌≡◌, ◌≤◌, ◌⊎◌, ℕ, ℤ, pos, neg_ℤ, Option, Some, None, List, [], ◌∷◌, length, take, get_or, Bool, true, false, ◌==◌, ◌&&◌, nat_lt, nat_le, if◌then◌else◌, option_map}
 use Rattle.std.specs.List.{slice_split, list_all}
 use Rattle.std.proofs.Common.{Bor}
 use Rattle.std.specs.Char.{is_ascii_digit}
@@ -49,3 +49,17 @@ exactly count (Some numbers) = if length numbers == count then Some numbers else
 abbrev pub fields_left : Option (Bor (List ℕ)) → List (List ℕ)
 fields_left None = []
 fields_left (Some rest) = fields_of rest.now
+
+-- how many digits the text begins with, nine at most, and the number that they spell
+pub record LeadingDigits (text : List ℕ) (value count : ℕ) : Type 0 where
+  pub inside : count ≤ length text
+  pub short : count ≤ 9
+  pub digits : list_all is_ascii_digit (take count text) ≡ true
+  pub spelled : value ≡ digits_value 10 (take count text)
+  pub ended : (count ≡ 9) ⊎ (is_ascii_digit (get_or text count 0) ≡ false)
+
+-- the number that the first field of the text spells, and the fields behind it
+abbrev pub FirstNatural : List ℕ → Option (ℕ × List (List ℕ)) → Type 0
+FirstNatural text None =
+    (field : List ℕ) × (others : List (List ℕ)) × (fields_of text ≡ field ∷ others) × (natural_of field ≡ None)
+FirstNatural text (Some found) = (field : List ℕ) × (fields_of text ≡ field ∷ found.1) × (natural_of field ≡ Some found.0)

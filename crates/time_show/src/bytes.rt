@@ -1,5 +1,8 @@
 //! Bytes that mean something in a line, and where they stand.
 ghost use Rattle.std.specs.Prelude.{◌≡◌, ◌==◌, position};
+ghost use Rattle.time_show.specs.declared.bytes.TheConstants.{LINE_FEED};
+
+use memchr::memchr;
 
 /// Ends a line.
 pub const LINE_FEED: u8 = b'\n';
@@ -15,4 +18,11 @@ pub fn place_of(byte: u8, bytes: &[u8]) -> Option<usize>
     ensures { result ≡ position (λ b. b == byte) bytes.now }
 {
     bytes.iter().position(|other| *other == byte)
+}
+
+/// The first place of a line feed, by a search that looks at many bytes at a time.
+pub fn place_of_end(bytes: &[u8]) -> Option<usize>
+    ensures { result ≡ position (λ b. b == LINE_FEED) bytes.now }
+{
+    memchr(LINE_FEED, bytes)
 }

@@ -56,6 +56,7 @@ fn time_numbers(fields: Fields<'_>) -> Option<TimeNumbers>
 }
 
 /// The numbers of a local date and time with its offset, where these fields are ten numbers.
+#[inline(never)]
 pub fn date_time_numbers(fields: Fields<'_>) -> Option<DateTimeNumbers>
     ensures { result ≡ date_time_numbers (numbers_of fields.entry) }
 {
@@ -88,6 +89,7 @@ pub fn date_time_numbers(fields: Fields<'_>) -> Option<DateTimeNumbers>
 }
 
 /// The numbers of a date and time in UTC, where these fields are seven numbers.
+#[inline(never)]
 fn utc_numbers(fields: Fields<'_>) -> Option<UtcNumbers>
     ensures { result ≡ utc_numbers (numbers_of fields.entry) }
 {

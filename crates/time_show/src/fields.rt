@@ -1,6 +1,6 @@
 //! The fields of a line, and the numbers that they spell.
-ghost use Rattle.std.specs.Prelude.{◌≡◌, ℕ, List, [], ◌∷◌, ◌<◌, ◌^◌, length, pos, ◌≤ℤ◌, ◌<ℤ◌, option_map, IfSome, MatchOption, Some, None};
-ghost use Rattle.time_show.specs.Fields.{fields_of, natural_of, number_of, numbers_of, exactly};
+ghost use Rattle.std.specs.Prelude.{◌≡◌, ◌⊎◌, ℕ, List, [], ◌∷◌, ◌<◌, ◌^◌, IfSome, MatchOption, Some, None};
+ghost use Rattle.time_show.specs.Fields.{fields_of, numbers_of, onto_numbers, exactly, LeadingDigits, FirstNatural};
 
 use crate::bytes::{MINUS, SPACE, place_of};
 use std::marker::Model;
@@ -49,45 +49,61 @@ impl<'a> Fields<'a> {
             }
         }
     }
+
+    /// Takes the first field, if it spells a number: perhaps a minus sign, and one to nine decimal
+    /// digits. They are read where they stand.
+    fn next_number(&mut self) -> Option<i32>
+        ensures { MatchOption result ((self.old ≡ []) ⊎ (numbers_of self.old ≡ None))
+            (λ n. numbers_of self.old ≡ onto_numbers (Some n) (numbers_of self.new)) }
+    {
+        match self.rest? {
+            [MINUS, digits @ ..] => {
+                let (value, rest) = natural_first(digits)?;
+                *self = rest;
+                Some(-(value as i32))
+            }
+            text => {
+                let (value, rest) = natural_first(text)?;
+                *self = rest;
+                Some(value as i32)
+            }
+        }
+    }
 }
 
-/// The number that one to nine decimal digits spell, and nothing for any other text.
-fn natural(text: &[u8]) -> Option<u32>
-    ensures value { result ≡ natural_of text.now }
-    ensures small { IfSome result (λ n. n < 10 ^ DIGITS_LIMIT) }
+/// The decimal digits that the text begins with, nine at most: the number that they spell, and how many
+/// they are.
+fn leading_digits(text: &[u8]) -> (u32, usize)
+    ensures { LeadingDigits text.now result.0 result.1 }
 {
-    if text.is_empty() || text.len() > DIGITS_LIMIT {
+    let most = text.len().min(DIGITS_LIMIT);
+    let mut value = 0u32;
+    let mut count = 0usize;
+    while count < most && text[count].is_ascii_digit() {
+        value = value * 10 + u32::from(text[count] - b'0');
+        count += 1;
+    }
+    (value, count)
+}
+
+/// The number that the first field of the text spells by one to nine decimal digits, and what is left
+/// behind the field.
+fn natural_first(text: &[u8]) -> Option<(u32, Fields<'_>)>
+    ensures value { FirstNatural text.now result }
+    ensures small { IfSome result (λ r. r.0 < 10 ^ DIGITS_LIMIT) }
+{
+    let (value, count) = leading_digits(text);
+    if count == 0 {
         return None;
     }
-    let mut value = 0u32;
-    for byte in text {
-        if !byte.is_ascii_digit() {
-            return None;
-        }
-        value = value * 10 + u32::from(*byte - b'0');
+    if count == text.len() {
+        return Some((value, Fields { rest: None }));
     }
-    Some(value)
-}
-
-/// The same number as a signed one.
-fn natural_as_signed(text: &[u8]) -> Option<i32>
-    ensures value { result ≡ option_map pos (natural_of text.now) }
-    ensures small { IfSome result (λ n. (pos 0 ≤ℤ n) × (n <ℤ pos (10 ^ DIGITS_LIMIT))) }
-{
-    match natural(text) {
-        None => None,
-        Some(value) => Some(value as i32),
+    if text[count] != SPACE {
+        return None;
     }
-}
-
-/// The number that a field spells: perhaps a minus sign, and one to nine decimal digits.
-pub fn number(field: &[u8]) -> Option<i32>
-    ensures { result ≡ number_of field.now }
-{
-    match field {
-        [MINUS, digits @ ..] => natural_as_signed(digits).map(|value| -value),
-        _ => natural_as_signed(field),
-    }
+    let rest = Some(&text[count + 1..]);
+    Some((value, Fields { rest }))
 }
 
 /// The numbers that the fields spell, if they are `N` numbers.
@@ -97,7 +113,7 @@ pub fn numbers<const N: usize>(fields: Fields<'_>) -> Option<[i32; N]>
     let mut fields = fields;
     let mut numbers = [0; N];
     for i in 0..N {
-        numbers[i] = number(fields.next()?)?;
+        numbers[i] = fields.next_number()?;
     }
     match fields.next() {
         None => Some(numbers),

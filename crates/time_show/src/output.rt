@@ -3,7 +3,7 @@ ghost use Rattle.std.specs.Prelude.{◌≡◌, ◌+◌, ◌≤◌, ◌<◌, ℕ,
 ghost use Rattle.std.specs.Io.KnownBytes.{Appends};
 ghost use Rattle.time_digits.specs.Digits.{joined};
 ghost use Rattle.time_show.specs.declared.output.TheConstants.{OUTPUT_LIMIT, NUMBER_LIMIT, FRAME_LIMIT};
-ghost use Rattle.time_show.specs.Answer.{ok_text};
+ghost use Rattle.time_show.specs.Answer.{ok_text, refused_text};
 ghost use Rattle.time_show.specs.OutputBuffer.{buffered, Accepts, AppendsStart, CutsOff};
 ghost use Rattle.time_show.specs.Reply.{reply_text};
 
@@ -14,7 +14,7 @@ use time_digits::num_fmt::one_to_two_digits_no_padding;
 use time_digits::{ru8, u64_pad_none};
 
 /// How many bytes may wait until they are written.
-pub const OUTPUT_LIMIT: usize = 4096;
+pub const OUTPUT_LIMIT: usize = 16_384;
 
 /// The most digits of a number.
 const NUMBER_LIMIT: usize = 20;
@@ -58,7 +58,7 @@ fn joined_len(parts: &[&[u8]]) -> usize
     total
 }
 
-/// The bytes that wait until they are written, at most 4,096, in an array.
+/// The bytes that wait until they are written, at most 16,384, in an array.
 #[derive(Drop)]
 pub struct OutputBuffer {
     bytes: [u8; OUTPUT_LIMIT],
@@ -232,6 +232,23 @@ impl OutputBuffer {
             self.push_formatted(count, width, text);
             return Ok(());
         }
+        self.append_any(output, count, width, text)
+    }
+
+    /// The same by parts, of any length.
+    #[inline(never)]
+    fn append_any<W: Write>(
+        &mut self,
+        output: &mut W,
+        count: usize,
+        width: usize,
+        text: &[u8],
+    ) -> Result<(), WriteFailed>
+        ensures ok { OnOk result (Accepts (buffered (W.contents output.old) self.old)
+            (buffered (W.contents output.new) self.new) (ok_text count width text.now)) }
+        ensures err { OnErr result (CutsOff (buffered (W.contents output.old) self.old)
+            (W.contents output.new) (ok_text count width text.now)) }
+    {
         let count = u64_pad_none(count as u64);
         let width = u64_pad_none(width as u64);
         self.append_all(
@@ -263,20 +280,34 @@ impl OutputBuffer {
             Reply::Formatted { count, width, text } => {
                 self.append_formatted(output, count, width, text)
             }
-            Reply::Refused { written, name } => {
-                let written = u64_pad_none(written as u64);
-                self.append_all(
-                    output,
-                    &[
-                        b"refused ",
-                        written.as_str().as_bytes(),
-                        b" ",
-                        name.as_bytes(),
-                        b"\n",
-                    ],
-                )
-            }
+            Reply::Refused { written, name } => self.append_refused(output, written, name),
             Reply::BadLine => self.append(output, b"bad line\n"),
         }
+    }
+
+    /// Accepts a refusal by its name.
+    #[inline(never)]
+    fn append_refused<W: Write>(
+        &mut self,
+        output: &mut W,
+        written: usize,
+        name: &'static str,
+    ) -> Result<(), WriteFailed>
+        ensures ok { OnOk result (Accepts (buffered (W.contents output.old) self.old)
+            (buffered (W.contents output.new) self.new) (refused_text written name.now)) }
+        ensures err { OnErr result (CutsOff (buffered (W.contents output.old) self.old)
+            (W.contents output.new) (refused_text written name.now)) }
+    {
+        let written = u64_pad_none(written as u64);
+        self.append_all(
+            output,
+            &[
+                b"refused ",
+                written.as_str().as_bytes(),
+                b" ",
+                name.as_bytes(),
+                b"\n",
+            ],
+        )
     }
 }

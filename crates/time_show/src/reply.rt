@@ -1,5 +1,5 @@
 //! What a line is answered by.
-ghost use Rattle.std.specs.Prelude.{◌≡◌, ◌≤◌, length, map, Some};
+ghost use Rattle.std.specs.Prelude.{◌≡◌, ◌≤◌, length, map, min, Some};
 ghost use Rattle.time_below.specs.Tree.{all_of, borrowed_tree, trees};
 ghost use Rattle.time_show.specs.Answer.{IsAnswer, Answers};
 ghost use Rattle.time_show.specs.Asked.{asked_by, asked_value, comma_choices, formatted, time_tree};
@@ -13,7 +13,7 @@ use time_below::format_description::modifier::{
     Hour24, Minute, Padding, Second, Subsecond, SubsecondDigits,
 };
 use time_below::format_description::{BorrowedFormatItem, Component};
-use time_fmt::{Format, Formattable};
+use time_fmt::{BorrowedItems, Format, Formattable};
 use time_known::iso8601::{Config, DecimalSign};
 use time_known::{Iso8601, Rfc2822, Rfc3339};
 use time_provide::ComponentProvider;
@@ -53,15 +53,16 @@ fn error_name(error: &Format) -> &'static str
 fn formatted_reply<'a, D: Formattable, V: ComponentProvider>(
     text: &'a mut Vec<u8>,
     description: &D,
+    width: usize,
     value: &V,
 ) -> Reply<'a>
 where
     V::State: Drop,
+    requires width { width ≡ min (D.width_of description.now) usize.MAX }
     ensures { Answers
         (formatted (D.width_of description.now) (D.outcome_of description.now (V.facts value.now)))
         (reply_text result) }
 {
-    let width = description.compute_metadata().max_bytes_needed;
     text.clear();
     if width == usize::MAX || text.reserve(width).is_err() {
         return Reply::Refused {
@@ -83,6 +84,31 @@ where
     }
 }
 
+/// The reply to a value by a description of this width, or to the part that is out of its range.
+#[inline(never)]
+fn value_reply_of_width<'a, D: Formattable, V: ComponentProvider + Drop>(
+    text: &'a mut Vec<u8>,
+    description: &D,
+    width: usize,
+    value: Result<V, Part>,
+) -> Reply<'a>
+where
+    V::State: Drop,
+    requires width { width ≡ min (D.width_of description.now) usize.MAX }
+    ensures { Answers
+        (asked_value (D.width_of description.now)
+        (λ v. D.outcome_of description.now (V.facts v)) value)
+        (reply_text result) }
+{
+    match value {
+        Ok(value) => formatted_reply(text, description, width, &value),
+        Err(part) => Reply::Refused {
+            written: 0,
+            name: part.name(),
+        },
+    }
+}
+
 /// The reply to a value by a description, or to the part that is out of its range.
 fn value_reply<'a, D: Formattable, V: ComponentProvider + Drop>(
     text: &'a mut Vec<u8>,
@@ -96,52 +122,49 @@ where
         (λ v. D.outcome_of description.now (V.facts v)) value)
         (reply_text result) }
 {
-    match value {
-        Ok(value) => formatted_reply(text, description, &value),
-        Err(part) => Reply::Refused {
-            written: 0,
-            name: part.name(),
-        },
-    }
+    let width = description.compute_metadata().max_bytes_needed;
+    value_reply_of_width(text, description, width, value)
 }
 
-/// The description of a time: hour, minute and second in two digits each, then the decimals.
-fn time_items() -> [BorrowedFormatItem<'static>; 7]
-    ensures { all_of (trees (map borrowed_tree result)) ≡ time_tree }
-{
-    let hour = Component::Hour24(Hour24 {
+/// The items of the description of a time: hour, minute and second in two digits each, then the
+/// decimals.
+static TIME_ITEMS: [BorrowedFormatItem<'static>; 7] = [
+    BorrowedFormatItem::Component(Component::Hour24(Hour24 {
         padding: Padding::Zero,
-    });
-    let minute = Component::Minute(Minute {
+    })),
+    BorrowedFormatItem::StringLiteral(":"),
+    BorrowedFormatItem::Component(Component::Minute(Minute {
         padding: Padding::Zero,
-    });
-    let second = Component::Second(Second {
+    })),
+    BorrowedFormatItem::StringLiteral(":"),
+    BorrowedFormatItem::Component(Component::Second(Second {
         padding: Padding::Zero,
-    });
-    let subsecond = Component::Subsecond(Subsecond {
+    })),
+    BorrowedFormatItem::StringLiteral("."),
+    BorrowedFormatItem::Component(Component::Subsecond(Subsecond {
         digits: SubsecondDigits::OneOrMore,
-    });
-    [
-        BorrowedFormatItem::Component(hour),
-        BorrowedFormatItem::StringLiteral(":"),
-        BorrowedFormatItem::Component(minute),
-        BorrowedFormatItem::StringLiteral(":"),
-        BorrowedFormatItem::Component(second),
-        BorrowedFormatItem::StringLiteral("."),
-        BorrowedFormatItem::Component(subsecond),
-    ]
+    })),
+];
+
+/// The description of a time.
+#[inline(always)]
+fn time_items() -> BorrowedItems<'static>
+    ensures { all_of (trees (map borrowed_tree result.0.now)) ≡ time_tree }
+{
+    BorrowedItems(&TIME_ITEMS)
 }
+
+/// The most bytes of a time of day by that description: three times two digits, three signs and nine
+/// decimals.
+const TIME_WIDTH: usize = 18;
 
 /// The reply to the numbers of a time of day.
+#[inline(never)]
 fn time_reply(text: &mut Vec<u8>, numbers: TimeNumbers) -> Reply<'_>
     ensures { Answers (asked_by (Some (Command.Time numbers))) (reply_text result) }
 {
     let items = time_items();
-    value_reply(
-        text,
-        &BorrowedFormatItem::Compound(items.as_slice()),
-        time_value(numbers),
-    )
+    value_reply_of_width(text, &items, TIME_WIDTH, time_value(numbers))
 }
 
 /// The default format of ISO 8601, with a comma before the decimals.

@@ -6,7 +6,7 @@ ghost use Rattle.time_show.specs.LineBuffer.{kept_of};
 ghost use Rattle.time_show.specs.Reply.{reply_text};
 ghost use Rattle.time_show.specs.Run.{state, AcceptsAnswer, CutsAnswerOff, AnswersOn, CutsAnswersOff, AnswersRest, CutsRestOff, Ran};
 
-use crate::bytes::{LINE_FEED, place_of};
+use crate::bytes::place_of_end;
 use crate::line_buffer::LineBuffer;
 use crate::output::{OutputBuffer, WriteFailed};
 use crate::reply::{Reply, reply_to};
@@ -14,7 +14,7 @@ use std::alloc::Global;
 use std::io::{Read, Write};
 
 /// The most bytes that one read gives.
-const BLOCK_SIZE: usize = 8192;
+const BLOCK_SIZE: usize = 65_536;
 
 /// Why a run ended before the end of its input.
 #[derive(Clone, Copy, Debug, PartialEq, Eq)]
@@ -80,7 +80,7 @@ fn feed<W: Write>(
         (W.contents output.new)) }
 {
     let mut rest = bytes;
-    while let Some(end) = place_of(LINE_FEED, rest) {
+    while let Some(end) = place_of_end(rest) {
         line.extend(&rest[..end]);
         answer_line(text, line, answers, output)?;
         line.clear();

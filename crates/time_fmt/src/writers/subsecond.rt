@@ -58,7 +58,7 @@ pub fn fmt_subsecond(
         SubsecondDigits::Seven => format_seven_digits(output, number / 100),
         SubsecondDigits::Eight => format_eight_digits(output, number / 10),
         SubsecondDigits::Nine => write_many(output, &subsecond_from_nanos(nanosecond)),
-        SubsecondDigits::OneOrMore => write_trimmed_fraction(output, nanosecond),
+        SubsecondDigits::OneOrMore => write_fraction(output, nanosecond),
     }
 }
 
@@ -141,20 +141,54 @@ fn write_three_digits(output: &mut Vec<u8>, number: ru16<0, 999>) -> usize
     1 + write_pair(output, pair)
 }
 
-/// Appends the nine digits of a fraction of a second without the zeros at their end, but for the first
-/// digit, and answers how many were left, 1 to 9. There has to be room for all nine, which are stored
-/// at first; where there is room for the text alone, `fmt_subsecond` appends it.
+/// Appends the nine digits without the zeros at their end, at least one digit. There has to be room for
+/// them alone. Takes no memory and refuses nothing.
+///
+/// Answers the number of bytes appended. What most users write, nine digits, milliseconds and
+/// microseconds, is stored at once: digits that are read back wait until they are all stored.
 #[inline(always)]
-#[tactic(auto, using(crate::proofs::TrimLemmas::digit_lengths))]
 pub fn write_fraction(output: &mut Vec<u8>, nanosecond: Nanoseconds) -> usize
-    requires room { HasRoom output.old 9 }
+    requires room { HasRoom output.old (length (trimmed_fraction nanosecond)) }
     ensures writes { Writes output.old output.new result (trimmed_fraction nanosecond) }
 {
-    write_nine_digits(output, nanosecond);
-    let last_eight = *output.last_chunk::<8>().unwrap();
-    let zeros = zeros_to_drop(u64::from_le_bytes(last_eight)) as usize;
-    output.truncate(output.len() - zeros);
-    9 - zeros
+    let number = nanosecond.get();
+    if number % 10 != 0 {
+        return write_nine_digits(output, nanosecond);
+    }
+    if number % 1_000_000 == 0 && number / 1_000_000 % 10 != 0 {
+        return write_three_decimals(output, nanosecond);
+    }
+    if number % 1_000 == 0 && number / 1_000 % 10 != 0 {
+        return write_six_decimals(output, nanosecond);
+    }
+    write_rare_fraction(output, nanosecond)
+}
+
+// The same of any fraction, apart, since most are of nine, three or six digits.
+#[inline]
+fn write_rare_fraction(output: &mut Vec<u8>, nanosecond: Nanoseconds) -> usize
+    requires room { HasRoom output.old (length (trimmed_fraction nanosecond)) }
+    ensures writes { Writes output.old output.new result (trimmed_fraction nanosecond) }
+{
+    let mut taken = take_out(output);
+    let count = write_trimmed_fraction(&mut taken, nanosecond);
+    put_back(output, taken);
+    count
+}
+
+// Appends the first six of the nine digits.
+#[inline(always)]
+#[tactic(auto, using(crate::proofs::DecimalLemmas::six_digits))]
+fn write_six_decimals(output: &mut Vec<u8>, nanosecond: Nanoseconds) -> usize
+    requires room { HasRoom output.old 6 }
+    ensures writes { Writes output.old output.new result
+        (subsecond_text SubsecondDigits.Six nanosecond) }
+{
+    let number = nanosecond.get() / 1_000;
+    let first = ru8::new((number / 10_000) as u8).unwrap();
+    let count = format_two_digits(output, first, Padding::Zero);
+    let last = ru16::new((number % 10_000) as u16).unwrap();
+    count + format_four_digits_pad_zero(output, last)
 }
 
 // Appends the nine digits.
@@ -174,6 +208,8 @@ fn write_nine_digits(output: &mut Vec<u8>, nanosecond: Nanoseconds) -> usize
 }
 
 // Appends the nine digits without the zeros at their end, at least one digit.
+#[cold]
+#[inline(never)]
 fn write_trimmed_fraction(output: &mut Vec<u8>, nanosecond: Nanoseconds) -> usize
     requires room { HasRoom output.old (length (trimmed_fraction nanosecond)) }
     ensures writes { Writes output.old output.new result (trimmed_fraction nanosecond) }

@@ -121,7 +121,7 @@ fn answers_each_line(rt: HostRuntime) -> Result<(), Fail> {
 
 #[test]
 fn answers_a_good_line_after_a_long_one(rt: HostRuntime) -> Result<(), Fail> {
-    for length in [128, 129, 8191, 8192, 8193, 20000] {
+    for length in [128, 129, 65_535, 65_536, 65_537, 140_000] {
         let mut input = Vec::new(rt.alloc());
         for _ in 0..length {
             input.push(b'a')?;

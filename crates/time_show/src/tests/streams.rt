@@ -146,16 +146,16 @@ fn makes_as_many_reads_as_there_are_bytes(rt: HostRuntime) -> Result<(), Fail> {
 }
 
 /// How many answers of 9 bytes and then of 20 and of 21 bytes one block asks for, and what each
-/// write takes. The buffer holds 4,096 bytes.
+/// write takes. The buffer holds 16,384 bytes.
 const WRITES: &[((usize, usize, usize), &[usize])] = &[
     // They fill the buffer to its last byte.
-    ((444, 5, 0), &[4096]),
+    ((1776, 20, 0), &[16_384]),
     // One more goes out behind a full buffer.
-    ((444, 6, 0), &[4096, 20]),
+    ((1776, 21, 0), &[16_384, 20]),
     // One of 21 bytes does not fit into the 10 that are left, and is not torn.
-    ((454, 0, 1), &[4086, 21]),
+    ((1786, 15, 1), &[16_374, 21]),
     // More than two buffers.
-    ((900, 6, 0), &[4095, 4085, 40]),
+    ((3630, 6, 0), &[16_380, 16_370, 40]),
 ];
 
 #[test]
@@ -171,7 +171,7 @@ fn writes_whole_answers(rt: HostRuntime) -> Result<(), Fail> {
         for _ in 0..twenty_one {
             source.extend_from_slice(b"time 9 55 6 120000000\n")?;
         }
-        let mut sink = Sink::new(rt.alloc(), 8192, 100);
+        let mut sink = Sink::new(rt.alloc(), 32_768, 100);
         assert_same(
             &rt,
             run(rt.alloc(), &mut source.as_slice(), &mut sink),

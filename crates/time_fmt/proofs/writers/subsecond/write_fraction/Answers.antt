@@ -1,38 +1,46 @@
-use Rattle.std.proofs.Common.{◌≡◌, ℕ, ◌∙◌, List, length, sym, ap, subst}
-use Rattle.std.specs.Prelude.{vec_len}
-use Rattle.std.specs.Int.{w64, to_le_bytes}
-use Rattle.std.specs.Str.Parse.{AllDigits}
-use Rattle.time_digits.specs.Digits.{fixed}
-use Rattle.time_digits.specs.Fraction.{last_zeros}
-use Rattle.time_digits.proofs.DigitLemmas.{fixed_digits}
-use Rattle.time_digits.proofs.WordLemmas.{digits_of_word}
-use Rattle.time_fmt.proofs.TrimLemmas.{last_eight, writes_trimmed}
+use Rattle.std.proofs.Common.{◌∙◌, ap, sym, subst, length, List, ℕ}
+use Rattle.time_digits.proofs.LengthLemmas.{length-fixed}
+use Rattle.time_fmt.specs.Room.{HasRoom, Writes}
+use Rattle.time_fmt.proofs.DecimalLemmas.{length-first}
+use Rattle.time_fmt.proofs.TrimLemmas.{nine_are, three_are, six_are}
 use Rattle.time_fmt.proofs.writers.subsecond.write_fraction.Goals as goal
-use Rattle.time_fmt.proofs.writers.subsecond.write_fraction.Goals.{After-from_le_bytes}
 
--- the word holds the last eight digits
-word_is : (c : After-from_le_bytes) → to_le_bytes w64 c.from_le_bytes.result ≡ fixed 8 c.args.nanosecond
-word_is c =
-    let chunk = rw c.unwrap-last_eight.ensures at c.last_chunk.ensures.cases in
-    let written = c.deref.ensures.value ∙ c.write_nine_digits.ensures.writes.appended in
-    let digits = chunk.1.same ∙ last_eight c.args.nanosecond c.args.output.now.items c.deref.result.now written in
-    digits_of_word c.unwrap-last_eight.result.now c.args.nanosecond c.from_le_bytes.result digits c.from_le_bytes.ensures
+pub write_nine_digits-requires : goal.write_nine_digits-requires
+write_nine_digits-requires c =
+    let n = c.args.nanosecond in
+    let same = nine_are n (rw c.get-number.ensures.value at c.if-number-ne0.true) in
+    record { room = subst (HasRoom c.args.output.now) (ap length (sym same) ∙ length-fixed 9 n) c.requires.room }
 
-pub zeros_to_drop-zeros-requires : goal.zeros_to_drop-zeros-requires
-zeros_to_drop-zeros-requires c =
-    let P : List ℕ → Type 0 = AllDigits 10 in
-    record { digits = subst P (sym (word_is c)) (fixed_digits 8 c.args.nanosecond) }
+pub returns-then-number-ne0 : goal.returns-then-number-ne0
+returns-then-number-ne0 c =
+    let same = nine_are c.args.nanosecond (rw c.get-number.ensures.value at c.if-number-ne0.true) in
+    let P : List ℕ → Type 0 = Writes c.args.output.now c.write_nine_digits.new.output c.write_nine_digits.result in
+    record { writes = subst P same c.write_nine_digits.ensures.writes }
 
-pub returns : goal.returns
-returns c =
-    let before = (goal.at.returns c).After-from_le_bytes in
-    let mid = c.write_nine_digits.new.output in
-    let len : length mid.items ≡ vec_len mid = sym (ap length c.deref.ensures.value) ∙ c.deref.ensures.len in
-    let dropped : c.zeros_to_drop-zeros.result ≡ last_zeros (fixed 8 c.args.nanosecond) =
-    c.zeros_to_drop-zeros.ensures.value ∙ ap last_zeros (word_is before) in
-    record {
-      writes = writes_trimmed c.args.nanosecond c.zeros_to_drop-zeros.result c.args.output.now mid c.truncate.new.self
-          c.write_nine_digits.result c.write_nine_digits.ensures.writes len dropped
-          (rw c.len.ensures at c.truncate.ensures.items) (rw c.len.ensures at c.truncate.ensures.len)
-          c.truncate.ensures.capacity;
-    }
+pub write_three_decimals-requires : goal.write_three_decimals-requires
+write_three_decimals-requires c =
+    let n = c.args.nanosecond in
+    let value = c.get-number.ensures.value in
+    let same = three_are n (rw value at c.if-number-eq0.true) (rw value at c.if-number-ne0-2.true) in
+    record { room = subst (HasRoom c.args.output.now) (ap length (sym same) ∙ length-first 3 6 n) c.requires.room }
+
+pub returns-then-number-ne0-2 : goal.returns-then-number-ne0-2
+returns-then-number-ne0-2 c =
+    let value = c.get-number.ensures.value in
+    let same = three_are c.args.nanosecond (rw value at c.if-number-eq0.true) (rw value at c.if-number-ne0-2.true) in
+    let P : List ℕ → Type 0 = Writes c.args.output.now c.write_three_decimals.new.output c.write_three_decimals.result in
+    record { writes = subst P same c.write_three_decimals.ensures.writes }
+
+pub write_six_decimals-requires : goal.write_six_decimals-requires
+write_six_decimals-requires c =
+    let n = c.args.nanosecond in
+    let value = c.get-number.ensures.value in
+    let same = six_are n (rw value at c.if-number-eq0-2.true) (rw value at c.if-number-ne0-3.true) in
+    record { room = subst (HasRoom c.args.output.now) (ap length (sym same) ∙ length-first 6 3 n) c.requires.room }
+
+pub returns-then-number-ne0-3 : goal.returns-then-number-ne0-3
+returns-then-number-ne0-3 c =
+    let value = c.get-number.ensures.value in
+    let same = six_are c.args.nanosecond (rw value at c.if-number-eq0-2.true) (rw value at c.if-number-ne0-3.true) in
+    let P : List ℕ → Type 0 = Writes c.args.output.now c.write_six_decimals.new.output c.write_six_decimals.result in
+    record { writes = subst P same c.write_six_decimals.ensures.writes }
