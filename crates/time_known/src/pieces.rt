@@ -141,7 +141,7 @@ pub(crate) fn write_nine_digits(output: &mut Vec<u8>, nanosecond: Nanoseconds) -
 
 // Appends the hour, the minute and the second, of two digits each, and the separator between them.
 #[inline(always)]
-#[tactic(auto, using(crate::proofs::WritingLemmas::joined_lengths))]
+#[tactic(auto, using(crate::proofs::LengthLemmas::joined_lengths))]
 pub(crate) fn write_clock<V: ComponentProvider>(
     output: &mut Vec<u8>,
     value: &V,
@@ -165,7 +165,7 @@ pub(crate) fn write_clock<V: ComponentProvider>(
 // Appends the sign of the whole offset, and its hours and its minutes, of two digits each, with the
 // separator between them.
 #[inline(always)]
-#[tactic(auto, using(crate::proofs::WritingLemmas::joined_lengths))]
+#[tactic(auto, using(crate::proofs::LengthLemmas::joined_lengths))]
 pub(crate) fn write_signed_offset<V: ComponentProvider>(
     output: &mut Vec<u8>,
     value: &V,

@@ -98,7 +98,7 @@ fn accepted_year<V: ComponentProvider>(
 
 // Appends `date-time`, of this year, in pieces that are inlined.
 #[inline(always)]
-#[tactic(auto, using(crate::proofs::WritingLemmas::joined_lengths))]
+#[tactic(auto, using(crate::proofs::LengthLemmas::joined_lengths))]
 fn append_date_time<V: ComponentProvider>(
     output: &mut Vec<u8>,
     year: ru16<0, 9_999>,
@@ -122,7 +122,7 @@ fn append_date_time<V: ComponentProvider>(
 
 // Appends `day-of-week "," date`, of this year.
 #[inline(always)]
-#[tactic(auto, using(crate::proofs::WritingLemmas::joined_lengths))]
+#[tactic(auto, using(crate::proofs::LengthLemmas::joined_lengths))]
 fn write_named_date<V: ComponentProvider>(
     output: &mut Vec<u8>,
     year: ru16<0, 9_999>,
@@ -143,7 +143,7 @@ fn write_named_date<V: ComponentProvider>(
 
 // Appends `date`, of this year. The day is read first, since its computation gives the month too.
 #[inline(always)]
-#[tactic(auto, using(crate::proofs::WritingLemmas::joined_lengths))]
+#[tactic(auto, using(crate::proofs::LengthLemmas::joined_lengths))]
 fn write_date<V: ComponentProvider>(
     output: &mut Vec<u8>,
     year: ru16<0, 9_999>,

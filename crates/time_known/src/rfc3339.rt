@@ -102,7 +102,7 @@ fn accepted_year<V: ComponentProvider>(
 
 // Appends `date-time`, of this year, in pieces that are inlined.
 #[inline(always)]
-#[tactic(auto, using(crate::proofs::WritingLemmas::joined_lengths))]
+#[tactic(auto, using(crate::proofs::LengthLemmas::joined_lengths))]
 fn append_date_time<V: ComponentProvider>(
     output: &mut Vec<u8>,
     year: ru16<0, 9_999>,
@@ -126,7 +126,7 @@ fn append_date_time<V: ComponentProvider>(
 
 // Appends `full-date`, of this year. The day is read first, since its computation gives the month too.
 #[inline(always)]
-#[tactic(auto, using(crate::proofs::WritingLemmas::joined_lengths))]
+#[tactic(auto, using(crate::proofs::LengthLemmas::joined_lengths))]
 pub(crate) fn write_full_date<V: ComponentProvider>(
     output: &mut Vec<u8>,
     year: ru16<0, 9_999>,
@@ -151,7 +151,7 @@ pub(crate) fn write_full_date<V: ComponentProvider>(
 
 // Appends `time-secfrac`, if there is a fraction of a second.
 #[inline(always)]
-#[tactic(auto, using(crate::proofs::WritingLemmas::part_lengths))]
+#[tactic(auto, using(crate::proofs::LengthLemmas::part_lengths))]
 fn write_time_secfrac<V: ComponentProvider>(
     output: &mut Vec<u8>,
     value: &V,
@@ -174,7 +174,7 @@ fn write_time_secfrac<V: ComponentProvider>(
 
 // Appends `time-offset`.
 #[inline(always)]
-#[tactic(auto, using(crate::proofs::WritingLemmas::joined_lengths))]
+#[tactic(auto, using(crate::proofs::LengthLemmas::joined_lengths))]
 pub(crate) fn write_time_offset<V: ComponentProvider>(
     output: &mut Vec<u8>,
     value: &V,

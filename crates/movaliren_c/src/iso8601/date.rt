@@ -127,7 +127,7 @@ fn push_week_and_weekday<const N: usize>(line: &mut ArrayString<N>, date: Date, 
 }
 
 /// Appends the digit of the weekday, from 1 for Monday.
-#[tactic(auto, using(time_known::proofs::IsoWriteLemmas::weekday_lengths))]
+#[tactic(auto, using(time_known::proofs::iso8601::LengthLemmas::weekday_lengths))]
 fn push_weekday<const N: usize>(line: &mut ArrayString<N>, weekday: Weekday)
     requires room { array_string_len line.old + 1 ≤ N }
     ensures bytes { line.new.bytes

@@ -62,7 +62,7 @@ fn year_of_kind<V: ComponentProvider>(kind: DateKind, value: &V, state: &mut V::
 }
 
 // Appends the sign and six digits of the year, or four digits of one that has no more.
-#[tactic(auto, using(crate::proofs::IsoWriteLemmas::year_lengths))]
+#[tactic(auto, using(crate::proofs::iso8601::LengthLemmas::year_lengths))]
 fn write_year(output: &mut Vec<u8>, year: Year, is_six_digits: bool) -> Result<usize, Format>
     requires range { unsigned_abs year ≤ 999_999 }
     requires room { HasRoom output.old (year_width is_six_digits) }
@@ -103,7 +103,7 @@ fn write_after_year<V: ComponentProvider>(
 }
 
 // Appends the month and the day, of two digits each, and the separator before each of them.
-#[tactic(auto, using(crate::proofs::WritingLemmas::joined_lengths))]
+#[tactic(auto, using(crate::proofs::LengthLemmas::joined_lengths))]
 fn write_month_and_day<V: ComponentProvider>(
     output: &mut Vec<u8>,
     value: &V,
@@ -126,7 +126,7 @@ fn write_month_and_day<V: ComponentProvider>(
 
 // Appends the letter `W` with two digits of the week, and the weekday from 1, and the separator before
 // each of them.
-#[tactic(auto, using(crate::proofs::WritingLemmas::joined_lengths))]
+#[tactic(auto, using(crate::proofs::LengthLemmas::joined_lengths))]
 fn write_week_and_weekday<V: ComponentProvider>(
     output: &mut Vec<u8>,
     value: &V,
@@ -150,7 +150,7 @@ fn write_week_and_weekday<V: ComponentProvider>(
 
 // Appends the digit of the weekday, from 1 for Monday.
 #[inline(always)]
-#[tactic(auto, using(crate::proofs::IsoWriteLemmas::weekday_lengths))]
+#[tactic(auto, using(crate::proofs::iso8601::LengthLemmas::weekday_lengths))]
 fn write_weekday_from_one(output: &mut Vec<u8>, weekday: Weekday) -> usize
     requires room { HasRoom output.old 1 }
     ensures writes { WritesJust 1 output.old output.new result
@@ -164,7 +164,7 @@ fn write_weekday_from_one(output: &mut Vec<u8>, weekday: Weekday) -> usize
 }
 
 // Appends the separator and three digits of the day of the year.
-#[tactic(auto, using(crate::proofs::WritingLemmas::joined_lengths))]
+#[tactic(auto, using(crate::proofs::LengthLemmas::joined_lengths))]
 fn write_ordinal<V: ComponentProvider>(
     output: &mut Vec<u8>,
     value: &V,
@@ -184,7 +184,7 @@ fn write_ordinal<V: ComponentProvider>(
 
 // Appends a number of three digits, with zeros in front.
 #[inline(always)]
-#[tactic(auto, using(crate::proofs::IsoWriteLemmas::ordinal_lengths))]
+#[tactic(auto, using(crate::proofs::iso8601::LengthLemmas::ordinal_lengths))]
 fn write_three_digits(output: &mut Vec<u8>, number: ru16<0, 999>) -> usize
     requires room { HasRoom output.old 3 }
     ensures writes { WritesJust 3 output.old output.new result (zero_padded 3 number) }

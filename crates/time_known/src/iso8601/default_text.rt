@@ -69,7 +69,7 @@ fn accepted_year<V: ComponentProvider>(
 
 // Appends the date of this year, the time and the offset.
 #[inline(always)]
-#[tactic(auto, using(crate::proofs::WritingLemmas::joined_lengths))]
+#[tactic(auto, using(crate::proofs::LengthLemmas::joined_lengths))]
 fn append_default<V: ComponentProvider>(
     output: &mut Vec<u8>,
     year: ru16<0, 9_999>,
@@ -91,7 +91,7 @@ fn append_default<V: ComponentProvider>(
 
 // Appends the time, and nine decimals of its second.
 #[inline(always)]
-#[tactic(auto, using(crate::proofs::WritingLemmas::joined_lengths))]
+#[tactic(auto, using(crate::proofs::LengthLemmas::joined_lengths))]
 fn write_default_time<V: ComponentProvider>(
     output: &mut Vec<u8>,
     value: &V,

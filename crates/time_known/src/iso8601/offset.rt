@@ -59,7 +59,7 @@ fn is_zed<V: ComponentProvider>(config: &Config, value: &V, state: &mut V::State
 }
 
 // Appends the sign of the whole offset, and the two digits of its hours.
-#[tactic(auto, using(crate::proofs::WritingLemmas::part_lengths))]
+#[tactic(auto, using(crate::proofs::LengthLemmas::part_lengths))]
 fn write_offset_hours<V: ComponentProvider>(
     output: &mut Vec<u8>,
     value: &V,
@@ -81,7 +81,7 @@ fn write_offset_hours<V: ComponentProvider>(
 }
 
 // Appends the minutes, where the configuration has them; else they are refused unless zero.
-#[tactic(auto, using(crate::proofs::WritingLemmas::part_lengths))]
+#[tactic(auto, using(crate::proofs::LengthLemmas::part_lengths))]
 fn write_offset_minutes<V: ComponentProvider>(
     config: &Config,
     output: &mut Vec<u8>,

@@ -73,7 +73,7 @@ fn write_units<V: ComponentProvider>(
 }
 
 // Appends the hour, and decimals of it.
-#[tactic(auto, using(crate::proofs::WritingLemmas::joined_lengths))]
+#[tactic(auto, using(crate::proofs::LengthLemmas::joined_lengths))]
 fn write_to_hour<V: ComponentProvider>(
     config: &Config,
     output: &mut Vec<u8>,
@@ -97,7 +97,7 @@ fn write_to_hour<V: ComponentProvider>(
 }
 
 // Appends the hour and the minute, the separator between them, and decimals of the minute.
-#[tactic(auto, using(crate::proofs::WritingLemmas::joined_lengths))]
+#[tactic(auto, using(crate::proofs::LengthLemmas::joined_lengths))]
 fn write_to_minute<V: ComponentProvider>(
     config: &Config,
     output: &mut Vec<u8>,
@@ -180,7 +180,7 @@ fn nanoseconds_of_minute<V: ComponentProvider>(value: &V, state: &mut V::State) 
 }
 
 // Appends the decimal sign and the decimals of the rest over the unit, if any are wanted.
-#[tactic(auto, using(crate::proofs::IsoWriteLemmas::decimal_lengths))]
+#[tactic(auto, using(crate::proofs::iso8601::LengthLemmas::decimal_lengths))]
 fn write_decimals(
     output: &mut Vec<u8>,
     rest: u64,

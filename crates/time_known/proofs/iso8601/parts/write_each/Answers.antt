@@ -2,7 +2,7 @@ use Rattle.std.proofs.Common.{◌≡◌, true, sym, ◌∙◌}
 use Rattle.time_known.specs.Config.{groups_of}
 use Rattle.time_known.specs.Groups.{has_groups}
 use Rattle.time_known.specs.declared.iso8601.config.FormattedComponents.TheVariants as components
-use Rattle.time_known.proofs.IsoGroupLemmas.{by_choice, date_and_time, all_parts}
+use Rattle.time_known.proofs.iso8601.GroupLemmas.{by_choice, date_and_time, all_parts}
 use Rattle.time_known.proofs.iso8601.parts.write_each.Goals as goal
 
 pub returns-in-DateTime-clause-appends : goal.returns-in-DateTime-clause-appends

@@ -3,7 +3,7 @@ use Rattle.time_known.specs.Config.{Choices, default_choices, groups_of}
 use Rattle.time_known.specs.Groups.{has_groups}
 use Rattle.time_known.specs.Iso8601Width.{iso8601_width_of}
 use Rattle.time_known.specs.declared.iso8601.config.FormattedComponents.TheVariants as components
-use Rattle.time_known.proofs.IsoGroupLemmas.{by_choice, all_parts}
+use Rattle.time_known.proofs.iso8601.GroupLemmas.{by_choice, all_parts}
 use Rattle.time_known.proofs.iso8601.parts.write_parts.Goals as goal
 
 pub returns-in-Some-clause-appends : goal.returns-in-Some-clause-appends

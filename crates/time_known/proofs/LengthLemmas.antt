@@ -1,4 +1,4 @@
--- What is written of a group of a value is the text of that group.
+-- How long texts are that were written one after another: what functions that write them name.
 use Rattle.std.proofs.Common.{length-append, append_assoc}
 use Rattle.time_digits.proofs.FractionLemmas.{length-trimmed_fraction}
 use Rattle.time_fmt.proofs.NumberLemmas.{two_zeros, four_zeros}

@@ -15,7 +15,7 @@ use Rattle.time_known.specs.Laws.{IsValue, CompletedAreCanonical}
 use Rattle.time_known.specs.ReadBack.{ReadsAs}
 use Rattle.time_known.specs.WellKnown.{of_all_groups}
 use Rattle.time_known.proofs.GroupLemmas.{has_all}
-use Rattle.time_known.proofs.Iso8601Lemmas.{outcome_is, iso8601_is_written}
+use Rattle.time_known.proofs.iso8601.WholeLemmas.{outcome_is, iso8601_is_written}
 use Rattle.time_known.proofs.LawLemmas.{completed_are_canonical}
 use Rattle.time_known.proofs.ReadBackLemmas.{reads_as}
 

@@ -1,4 +1,4 @@
--- What is written of a date, a time and an offset of ISO 8601 is the text of the part.
+-- How long numbers, weekdays and decimals of ISO 8601 are: what functions that write them name.
 use Rattle.std.proofs.Common.{◌≡◌, ℕ, ◌+◌, ◌<◌, length, length-append, append_assoc, decimal, refl, arith}
 use Rattle.std.proofs.lemmas.Fmt.{length-decimal-le}
 use Rattle.time_below.specs.declared.weekday.Weekday.{Weekday}

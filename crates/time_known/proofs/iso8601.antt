@@ -1,0 +1,8 @@
+-- ISO 8601 by a configuration, part by part and as a whole.
+pub mod DateLemmas
+pub mod GroupLemmas
+pub mod LengthLemmas
+pub mod OffsetLemmas
+pub mod ReadBackLemmas
+pub mod TimeLemmas
+pub mod WholeLemmas
