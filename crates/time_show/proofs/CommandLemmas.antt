@@ -1,6 +1,5 @@
 -- The numbers of a command.
 use Rattle.std.proofs.Common.{ℕ, ℤ, ◌≡◌, List, [], ◌∷◌, length, get_or, Option, Some, None, refl, arith}
-use Rattle.std.specs.Prelude.{codes}
 use Rattle.time_show.specs.declared.value.DateTimeNumbers.{DateTimeNumbers}
 use Rattle.time_show.specs.declared.value.UtcNumbers.{UtcNumbers}
 use Rattle.time_show.specs.Command.{date_time_numbers, utc_numbers}
@@ -43,10 +42,3 @@ seven xs d len = absurd (grind arith)
 -- where a line has seven numbers, they are those of a date and time in UTC
 pub seven_numbers : (numbers : Option (List ℤ)) (xs : List ℤ) (d : ℤ) → Some xs ≡ exactly 7 numbers → utc_numbers numbers ≡ Some (utc_at xs d)
 seven_numbers numbers xs d e = let all = exactly-Some 7 numbers xs e in rw all.0 (seven xs d all.1)
-
--- a text of nine bytes, by each of them
-pub iso_comma_name : (xs : List ℕ) → length xs ≡ 9 → get_or xs 0 0 ≡ 105 → get_or xs 1 0 ≡ 115 → get_or xs 2 0 ≡ 111
-    → get_or xs 3 0 ≡ 45 → get_or xs 4 0 ≡ 99 → get_or xs 5 0 ≡ 111 → get_or xs 6 0 ≡ 109 → get_or xs 7 0 ≡ 109
-    → get_or xs 8 0 ≡ 97 → xs ≡ codes "iso-comma"
-iso_comma_name (a ∷ b ∷ c ∷ d ∷ e ∷ f ∷ g ∷ h ∷ i ∷ []) len p q r s t u v w x = rw (p, q, r, s, t, u, v, w, x) refl
-iso_comma_name xs len p q r s t u v w x = absurd (grind arith)

@@ -2,6 +2,8 @@
 use Rattle.std.specs.Prelude.{ℕ, ℤ, Option, Some, None, List, [], ◌∷◌, codes, bytes_eq, option_map, option_and_then, if◌then◌else◌}
 use Rattle.time_show.specs.declared.command.Command.{Command}
 use Rattle.time_show.specs.declared.command.Command.TheVariants.{Time, Rfc3339, Rfc2822, Iso, IsoComma, Stamp}
+use Rattle.time_show.specs.declared.command.Name.{Name}
+use Rattle.time_show.specs.declared.command.Name.TheVariants as name
 use Rattle.time_show.specs.declared.value.DateTimeNumbers.{DateTimeNumbers}
 use Rattle.time_show.specs.declared.value.TimeNumbers.{TimeNumbers}
 use Rattle.time_show.specs.declared.value.UtcNumbers.{UtcNumbers}
@@ -33,17 +35,30 @@ utc_numbers (Some (year ∷ month ∷ day ∷ hour ∷ minute ∷ second ∷ nan
     })
 utc_numbers _ = None
 
--- a name, and the fields after it
+-- the names of the commands
+abbrev pub named : List ℕ → Option Name
+named field =
+    if bytes_eq field (codes "time") then Some name.Time
+    else (if bytes_eq field (codes "rfc3339") then Some name.Rfc3339
+    else (if bytes_eq field (codes "rfc2822") then Some name.Rfc2822
+    else (if bytes_eq field (codes "iso") then Some name.Iso
+    else (if bytes_eq field (codes "iso-comma") then Some name.IsoComma
+    else (if bytes_eq field (codes "stamp") then Some name.Stamp
+    else None)))))
+
+-- a name, with the numbers after it
+abbrev pub with_numbers : Name → Option (List ℤ) → Option Command
+with_numbers name.Time numbers = option_map Time (time_numbers numbers)
+with_numbers name.Rfc3339 numbers = option_map Rfc3339 (date_time_numbers numbers)
+with_numbers name.Rfc2822 numbers = option_map Rfc2822 (date_time_numbers numbers)
+with_numbers name.Iso numbers = option_map Iso (date_time_numbers numbers)
+with_numbers name.IsoComma numbers = option_map IsoComma (date_time_numbers numbers)
+with_numbers name.Stamp numbers = option_map Stamp (utc_numbers numbers)
+
+-- a field that names a command, and the fields after it
 abbrev pub command_of_fields : List (List ℕ) → Option Command
 command_of_fields [] = None
-command_of_fields (name ∷ fields) =
-    if bytes_eq name (codes "time") then option_map Time (time_numbers (numbers_of fields))
-    else (if bytes_eq name (codes "rfc3339") then option_map Rfc3339 (date_time_numbers (numbers_of fields))
-    else (if bytes_eq name (codes "rfc2822") then option_map Rfc2822 (date_time_numbers (numbers_of fields))
-    else (if bytes_eq name (codes "iso") then option_map Iso (date_time_numbers (numbers_of fields))
-    else (if bytes_eq name (codes "iso-comma") then option_map IsoComma (date_time_numbers (numbers_of fields))
-    else (if bytes_eq name (codes "stamp") then option_map Stamp (utc_numbers (numbers_of fields))
-    else None)))))
+command_of_fields (field ∷ fields) = option_and_then (λ name. with_numbers name (numbers_of fields)) (named field)
 
 -- what a line asks for, if it is a command and not too long
 abbrev pub command_of : List ℕ → Option Command

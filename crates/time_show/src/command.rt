@@ -1,6 +1,6 @@
 //! What a line asks for.
 ghost use Rattle.std.specs.Prelude.{◌≡◌, ◌≤◌, length};
-ghost use Rattle.time_show.specs.Command.{command_of, time_numbers, date_time_numbers, utc_numbers};
+ghost use Rattle.time_show.specs.Command.{command_of, named, time_numbers, date_time_numbers, utc_numbers};
 ghost use Rattle.time_show.specs.Fields.{numbers_of};
 
 use crate::fields::{Fields, numbers};
@@ -25,20 +25,58 @@ pub enum Command {
     Stamp(UtcNumbers),
 }
 
+/// What a command is called.
+#[derive(Clone, Copy)]
+pub enum Name {
+    /// `time`.
+    Time,
+    /// `rfc3339`.
+    Rfc3339,
+    /// `rfc2822`.
+    Rfc2822,
+    /// `iso`.
+    Iso,
+    /// `iso-comma`.
+    IsoComma,
+    /// `stamp`.
+    Stamp,
+}
+
 /// The command that a line is, and nothing for a line that is none.
 pub fn command_in(line: &[u8]) -> Option<Command>
     requires { length line.now ≤ LINE_LIMIT }
     ensures { result ≡ command_of line.now }
 {
     let mut fields = Fields::new(line);
-    match fields.next()? {
-        b"time" => time_numbers(fields).map(Command::Time),
-        b"rfc3339" => date_time_numbers(fields).map(Command::Rfc3339),
-        b"rfc2822" => date_time_numbers(fields).map(Command::Rfc2822),
-        b"iso" => date_time_numbers(fields).map(Command::Iso),
-        b"iso-comma" => date_time_numbers(fields).map(Command::IsoComma),
-        b"stamp" => utc_numbers(fields).map(Command::Stamp),
-        _ => None,
+    match named(fields.next()?)? {
+        Name::Time => time_numbers(fields).map(Command::Time),
+        Name::Rfc3339 => date_time_numbers(fields).map(Command::Rfc3339),
+        Name::Rfc2822 => date_time_numbers(fields).map(Command::Rfc2822),
+        Name::Iso => date_time_numbers(fields).map(Command::Iso),
+        Name::IsoComma => date_time_numbers(fields).map(Command::IsoComma),
+        Name::Stamp => utc_numbers(fields).map(Command::Stamp),
+    }
+}
+
+/// The command that a field names.
+#[inline]
+fn named(field: &[u8]) -> Option<Name>
+    ensures { result ≡ named field.now }
+{
+    if field == b"time".as_slice() {
+        Some(Name::Time)
+    } else if field == b"rfc3339".as_slice() {
+        Some(Name::Rfc3339)
+    } else if field == b"rfc2822".as_slice() {
+        Some(Name::Rfc2822)
+    } else if field == b"iso".as_slice() {
+        Some(Name::Iso)
+    } else if field == b"iso-comma".as_slice() {
+        Some(Name::IsoComma)
+    } else if field == b"stamp".as_slice() {
+        Some(Name::Stamp)
+    } else {
+        None
     }
 }
 
