@@ -34,9 +34,16 @@ TEXTS = [
     ("q", "like RFC 3339, a borrowed list of 16 items"),
     ("r", "RFC 3339, nine digits, -06:00"),
     ("u", "RFC 3339, nine digits, UTC"),
+    ("h", "RFC 3339, three digits, -06:00"),
+    ("e", "RFC 3339, six digits, -06:00"),
     ("s", "RFC 3339, no fraction, -06:00"),
     ("m", "RFC 2822"),
     ("i", "ISO 8601 by default"),
+    ("a", "ISO 8601, three decimals"),
+    ("j", "ISO 8601, six decimals"),
+    ("w", "ISO 8601, no decimals"),
+    ("z", "ISO 8601 without separators"),
+    ("y", "ISO 8601 with a comma"),
 ]
 COMMANDS = ["time", "rfc3339", "rfc2822", "iso", "iso-comma", "stamp"]
 ROUNDS = 15

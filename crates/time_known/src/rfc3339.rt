@@ -1,5 +1,5 @@
 //! RFC 3339.
-ghost use Rattle.std.specs.Prelude.{◌≡◌, ◌+◌, IsTrue, IfOk, IfErr, true, unsigned_abs};
+ghost use Rattle.std.specs.Prelude.{◌≡◌, ◌+◌, ◌*◌, IsTrue, IfOk, IfErr, true, length, unsigned_abs};
 ghost use Rattle.time_below.specs.Facts.{the_date, the_time, the_offset};
 ghost use Rattle.time_fmt.specs.Outcome.{refused, invalid_component};
 ghost use Rattle.time_fmt.specs.Room.{HasRoom, WritesUpTo};
@@ -7,8 +7,9 @@ ghost use Rattle.time_provide.specs.Real.{AgreesOnTime};
 ghost use Rattle.time_known.specs.Groups.{Accepts, AreAllSupplied, SuppliesDateIn, at_groups};
 ghost use Rattle.time_known.specs.Longest.{FillsRfc3339Width};
 ghost use Rattle.time_known.specs.ReadBack.{ReadsAs};
-ghost use Rattle.time_known.specs.Rfc3339.{rfc3339_outcome, rfc3339_of_groups, rfc3339_text, full_date_text, time_secfrac_text, time_offset_text};
-ghost use Rattle.time_known.specs.Rfc3339.{rfc3339_width, full_date_width, time_secfrac_width, time_offset_width};
+ghost use Rattle.time_known.specs.Rfc3339.{rfc3339_outcome, rfc3339_of_groups, rfc3339_text, time_secfrac_text};
+ghost use Rattle.time_known.specs.Rfc3339.{rfc3339_width, time_secfrac_width};
+ghost use Rattle.time_known.specs.UsualText.{usual_date_text, usual_offset_text};
 ghost use Rattle.time_known.specs.Rfc3339Grammar.{Rfc3339Spells, IsCanonicalRfc3339};
 
 use crate::groups::Groups;
@@ -117,14 +118,15 @@ fn append_date_time<V: ComponentProvider>(
         (at_groups rfc3339_text (V.facts value.now)) }
     ensures agrees { AgreesOnTime (V.agrees state.new value.now) (V.facts value.now) }
 {
-    let date = write_full_date(output, year, value, state);
+    let date = write_full_date(output, year, value, state, "-");
     let letter = write(output, "T");
     let time = write_clock(output, value, state, ":");
     let fraction = write_time_secfrac(output, value, state);
-    date + letter + time + fraction + write_time_offset(output, value, state)
+    date + letter + time + fraction + write_time_offset(output, value, state, ":")
 }
 
-// Appends `full-date`, of this year. The day is read first, since its computation gives the month too.
+// Appends the date of this year, `full-date` where the separator is a dash. The day is read first, since
+// its computation gives the month too.
 #[inline(always)]
 #[tactic(auto, using(crate::proofs::LengthLemmas::joined_lengths))]
 pub(crate) fn write_full_date<V: ComponentProvider>(
@@ -132,21 +134,22 @@ pub(crate) fn write_full_date<V: ComponentProvider>(
     year: ru16<0, 9_999>,
     value: &V,
     state: &mut V::State,
+    separator: &str,
 ) -> usize
     requires date { SuppliesDateIn year V.SUPPLIES_DATE (V.facts value.now) }
-    requires room { HasRoom output.old full_date_width }
+    requires room { HasRoom output.old (8 + 2 * length separator.now) }
     requires agrees { V.agrees state.old value.now }
-    ensures writes { WritesUpTo full_date_width output.old output.new result
-        (full_date_text (the_date (V.facts value.now))) }
+    ensures writes { WritesUpTo (8 + 2 * length separator.now) output.old output.new result
+        (usual_date_text separator.now (the_date (V.facts value.now))) }
     ensures agrees { V.agrees state.new value.now }
 {
     let day = value.day(state);
     let month = ru8::within(u8::from(value.month(state)));
     let count = write_four_digits(output, year);
-    let dash = write(output, "-");
+    let first = write(output, separator);
     let month = write_pair(output, month);
-    let second_dash = write(output, "-");
-    count + dash + month + second_dash + write_pair(output, day.expand())
+    let second = write(output, separator);
+    count + first + month + second + write_pair(output, day.expand())
 }
 
 // Appends `time-secfrac`, if there is a fraction of a second.
@@ -172,24 +175,25 @@ fn write_time_secfrac<V: ComponentProvider>(
     point + write_fraction(output, nanosecond)
 }
 
-// Appends `time-offset`.
+// Appends the offset, `time-offset` where the separator is a colon.
 #[inline(always)]
 #[tactic(auto, using(crate::proofs::LengthLemmas::joined_lengths))]
 pub(crate) fn write_time_offset<V: ComponentProvider>(
     output: &mut Vec<u8>,
     value: &V,
     state: &mut V::State,
+    separator: &str,
 ) -> usize
     requires supplied { IsTrue V.SUPPLIES_OFFSET }
-    requires room { HasRoom output.old time_offset_width }
+    requires room { HasRoom output.old (5 + length separator.now) }
     requires agrees { V.agrees state.old value.now }
-    ensures writes { WritesUpTo time_offset_width output.old output.new result
-        (time_offset_text (the_offset (V.facts value.now))) }
+    ensures writes { WritesUpTo (5 + length separator.now) output.old output.new result
+        (usual_offset_text separator.now (the_offset (V.facts value.now))) }
     ensures agrees { V.agrees state.new value.now }
 {
     if value.offset_is_utc(state) {
         write(output, "Z")
     } else {
-        write_signed_offset(output, value, state, ":")
+        write_signed_offset(output, value, state, separator)
     }
 }

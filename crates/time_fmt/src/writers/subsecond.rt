@@ -116,10 +116,12 @@ fn write_decimals(output: &mut Vec<u8>, nanosecond: Nanoseconds, digits: Subseco
     fmt_subsecond(output, nanosecond, modifier::Subsecond { digits })
 }
 
-// Appends the first three of the nine digits.
+/// Appends the first three of the nine digits. Takes no memory and refuses nothing.
+///
+/// Answers the number of bytes appended.
 #[inline(always)]
 #[tactic(auto, using(crate::proofs::DecimalLemmas::first_decimals))]
-fn write_three_decimals(output: &mut Vec<u8>, nanosecond: Nanoseconds) -> usize
+pub fn write_three_decimals(output: &mut Vec<u8>, nanosecond: Nanoseconds) -> usize
     requires room { HasRoom output.old 3 }
     ensures writes { Writes output.old output.new result
         (subsecond_text SubsecondDigits.Three nanosecond) }
@@ -176,10 +178,12 @@ fn write_rare_fraction(output: &mut Vec<u8>, nanosecond: Nanoseconds) -> usize
     count
 }
 
-// Appends the first six of the nine digits.
+/// Appends the first six of the nine digits. Takes no memory and refuses nothing.
+///
+/// Answers the number of bytes appended.
 #[inline(always)]
 #[tactic(auto, using(crate::proofs::DecimalLemmas::six_digits))]
-fn write_six_decimals(output: &mut Vec<u8>, nanosecond: Nanoseconds) -> usize
+pub fn write_six_decimals(output: &mut Vec<u8>, nanosecond: Nanoseconds) -> usize
     requires room { HasRoom output.old 6 }
     ensures writes { Writes output.old output.new result
         (subsecond_text SubsecondDigits.Six nanosecond) }

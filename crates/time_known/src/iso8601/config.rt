@@ -1,6 +1,7 @@
 //! The choices of ISO 8601-1:2019 that a text is written by.
-ghost use Rattle.std.specs.Prelude.{◌≡◌, ◌↔◌, IsTrue};
+ghost use Rattle.std.specs.Prelude.{◌≡◌, IfSome};
 ghost use Rattle.time_known.specs.Config.{default_choices, separator, decimal_sign_text, has_time_letter, has_date, has_time, has_offset, groups_of};
+ghost use Rattle.time_known.specs.UsualText.{usual_choices};
 
 use crate::groups::Groups;
 use std::default::Default;
@@ -65,6 +66,15 @@ pub struct Config {
     time_precision: TimePrecision,
     offset_precision: OffsetPrecision,
     decimal_sign: DecimalSign,
+}
+
+// What is left to choose for a text of the date by month and day behind four digits of the year, the time to
+// the second or to decimals of it, and the offset to the minute.
+#[derive(Clone, Copy)]
+pub(super) struct Usual {
+    pub(super) has_separators: bool,
+    pub(super) decimal_digits: Option<ru8<1, 255>>,
+    pub(super) decimal_sign: DecimalSign,
 }
 
 impl Model for Config {
@@ -232,11 +242,25 @@ impl Config {
         !self.use_separators || self.formatted_components.has_date()
     }
 
-    // Whether it is the default configuration.
-    pub(super) fn is_default(&self) -> bool
-        ensures { IsTrue result ↔ (self.now ≡ default_choices) }
+    // What is left to choose, where the rest is chosen as by most callers.
+    #[inline(always)]
+    pub(super) fn usual(&self) -> Option<Usual>
+        ensures { IfSome result (λ u. self.now
+            ≡ usual_choices u.has_separators u.decimal_digits u.decimal_sign) }
     {
-        *self == Config::default()
+        let parts = (self.formatted_components, self.date_kind);
+        match (parts, self.time_precision, self.offset_precision) {
+            (
+                (FormattedComponents::DateTimeOffset, DateKind::Calendar),
+                TimePrecision::Second { decimal_digits },
+                OffsetPrecision::Minute,
+            ) if !self.year_is_six_digits => Some(Usual {
+                has_separators: self.use_separators,
+                decimal_digits,
+                decimal_sign: self.decimal_sign,
+            }),
+            _ => None,
+        }
     }
 
     // The groups of a value that are formatted.

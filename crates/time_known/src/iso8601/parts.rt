@@ -13,14 +13,14 @@ ghost use Rattle.time_known.specs.Iso8601Width.{iso8601_width, iso_date_width, i
 
 use crate::iso8601::config::{Config, FormattedComponents};
 use crate::iso8601::date::format_date;
-use crate::iso8601::default_text::write_default;
 use crate::iso8601::offset::format_offset;
 use crate::iso8601::time::format_time;
+use crate::iso8601::usual_text::write_usual;
 use time_fmt::Format;
 use time_provide::ComponentProvider;
 
 // Appends the parts that are formatted, of a value that supplies their groups. Nothing to format is
-// refused. The default configuration has a way of its own, but for values of which something is
+// refused. What most callers ask for has a way of its own, but for values of which something is
 // refused.
 #[inline(always)]
 pub(super) fn write_parts<V: ComponentProvider>(
@@ -40,8 +40,8 @@ pub(super) fn write_parts<V: ComponentProvider>(
         → AreReal (V.facts value.now)) }
     ensures agrees { V.agrees state.new value.now }
 {
-    if config.is_default() {
-        if let Some(count) = write_default(config, output, value, state) {
+    if let Some(usual) = config.usual() {
+        if let Some(count) = write_usual(config, &usual, output, value, state) {
             return Ok(count);
         }
     }

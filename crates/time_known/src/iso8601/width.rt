@@ -7,13 +7,13 @@ use crate::iso8601::config::{
 };
 use time_digits::ru8;
 
-// The width of the parts that are formatted. That of the default configuration, which most callers
-// ask for, is not computed.
+// The width of the parts that are formatted. What most callers ask for is told first.
 pub(super) fn width(config: &Config) -> usize
     ensures { result ≡ iso8601_width config.now }
 {
-    if config.is_default() {
-        return 35;
+    if let Some(usual) = config.usual() {
+        let signs = if usual.has_separators { 25 } else { 20 };
+        return signs + decimals_width(usual.decimal_digits);
     }
     let date = config.date_width();
     let time = config.time_width();

@@ -1,0 +1,44 @@
+-- The text of ISO 8601 by the configurations that most callers ask for, of a value of which nothing is refused.
+use Rattle.std.specs.Prelude.{ℕ, ◌++◌, Bool, false, List, codes, Option, unsigned_abs, if◌then◌else◌}
+use Rattle.time_below.specs.Facts.{DateFacts}
+use Rattle.time_below.specs.Offset.{Offset, is_utc}
+use Rattle.time_below.specs.TimeOfDay.{TimeOfDay}
+use Rattle.time_digits.specs.Digits.{zero_padded}
+use Rattle.time_known.specs.Config.{Choices, separator}
+use Rattle.time_known.specs.Iso8601.{decimal_part}
+use Rattle.time_known.specs.WellKnown.{month_and_day_text, clock_text, offset_text}
+use Rattle.time_known.specs.declared.iso8601.config.DateKind.TheVariants as kind
+use Rattle.time_known.specs.declared.iso8601.config.DecimalSign.{DecimalSign}
+use Rattle.time_known.specs.declared.iso8601.config.FormattedComponents.TheVariants as components
+use Rattle.time_known.specs.declared.iso8601.config.OffsetPrecision.TheVariants as offset_precision
+use Rattle.time_known.specs.declared.iso8601.config.TimePrecision.TheVariants as precision
+
+-- the month and the day behind four digits of the year, the time to the second or to decimals of it, and the offset to
+-- the minute
+abbrev pub usual_choices : Bool → Option ℕ → DecimalSign → Choices
+usual_choices has_separators decimal_digits decimal_sign = record {
+  formatted_components = components.DateTimeOffset;
+  use_separators = has_separators;
+  year_is_six_digits = false;
+  date_kind = kind.Calendar;
+  time_precision = precision.Second decimal_digits;
+  offset_precision = offset_precision.Minute;
+  decimal_sign = decimal_sign;
+}
+
+-- the parts of such a text
+abbrev pub usual_date_text : List ℕ → DateFacts → List ℕ
+usual_date_text separator d = zero_padded 4 (unsigned_abs d.year) ++ month_and_day_text separator d
+
+abbrev pub usual_time_text : List ℕ → DecimalSign → Option ℕ → TimeOfDay → List ℕ
+usual_time_text separator sign digits t =
+    codes "T" ++ (clock_text separator t ++ decimal_part sign digits t.nanosecond 1_000_000_000)
+
+abbrev pub usual_offset_text : List ℕ → Offset → List ℕ
+usual_offset_text separator o = if is_utc o then codes "Z" else offset_text separator o
+
+abbrev pub usual_text : Choices → Option ℕ → DateFacts → TimeOfDay → Offset → List ℕ
+usual_text c digits d t o =
+    usual_date_text (separator c (codes "-")) d
+    ++ usual_time_text (separator c (codes ":")) c.decimal_sign digits t
+    ++ usual_offset_text (separator c (codes ":")) o
