@@ -32,7 +32,7 @@ equal_decimals None = refl
 equal_decimals (Some d) = search rules
 
 -- precisions that are found equal have the same unit and decimals
-pub same_precision : (a b : TimePrecision) → of_time_precision.ghosts.eq a b ≡ true → a ≡ b
+same_precision : (a b : TimePrecision) → of_time_precision.ghosts.eq a b ≡ true → a ≡ b
 same_precision (precision.Hour d) (precision.Hour e) h = ap precision.Hour (same_decimals d e h)
 same_precision (precision.Hour d) (precision.Minute e) h = cc
 same_precision (precision.Hour d) (precision.Second e) h = cc
