@@ -1,7 +1,7 @@
 -- Configurations of ISO 8601 are equal exactly if all their fields are.
-use Rattle.std.proofs.Common.{◌≡◌, ℕ, Bool, true, refl, ap, subst, Option, Some, None, rules}
+use Rattle.std.proofs.Common.{◌≡◌, ℕ, Bool, true, refl, ap, subst, Option, Some, None}
 use Rattle.std.specs.Cmp.{booleans_Decides}
-use Rattle.std.proofs.lemmas.Bool.{and_parts}
+use Rattle.std.proofs.lemmas.Bool.{and_parts, eqb-true, eq-eqb}
 use denote.Enum.Bare.{same_true, true_same}
 use Rattle.time_known.specs.Config.{Choices}
 use Rattle.time_known.specs.contracts.iso8601.config.ConfigPartialEq.TheImpl as of_config
@@ -24,15 +24,15 @@ same_decimals : (d e : Option ℕ) → of_time_precision.ghosts.eq (precision.Ho
 same_decimals None None h = refl
 same_decimals None (Some e) h = cc
 same_decimals (Some d) None h = cc
-same_decimals (Some d) (Some e) h = let same : d ≡ e = search rules in ap Some same
+same_decimals (Some d) (Some e) h = ap Some (eqb-true d e h)
 
 -- decimals are found equal to themselves
 equal_decimals : (d : Option ℕ) → of_time_precision.ghosts.eq (precision.Hour d) (precision.Hour d) ≡ true
 equal_decimals None = refl
-equal_decimals (Some d) = search rules
+equal_decimals (Some d) = eq-eqb d d refl
 
 -- precisions that are found equal have the same unit and decimals
-pub same_precision : (a b : TimePrecision) → of_time_precision.ghosts.eq a b ≡ true → a ≡ b
+same_precision : (a b : TimePrecision) → of_time_precision.ghosts.eq a b ≡ true → a ≡ b
 same_precision (precision.Hour d) (precision.Hour e) h = ap precision.Hour (same_decimals d e h)
 same_precision (precision.Hour d) (precision.Minute e) h = cc
 same_precision (precision.Hour d) (precision.Second e) h = cc
@@ -79,11 +79,11 @@ same_choices a b h =
     let kind = and_parts _ _ six_digits.1 in
     let time = and_parts _ _ kind.1 in
     let offset = and_parts _ _ time.1 in
-    same_fields (same_true formatted_components.the_type (search rules) _ _ parts.0)
+    same_fields (same_true formatted_components.the_type tt _ _ parts.0)
     ((booleans_Decides _ _).0 separators.0) ((booleans_Decides _ _).0 six_digits.0)
-    (same_true date_kind.the_type (search rules) _ _ kind.0)
-    (same_precision _ _ time.0) (same_true offset_precision.the_type (search rules) _ _ offset.0)
-    (same_true decimal_sign.the_type (search rules) _ _ offset.1)
+    (same_true date_kind.the_type tt _ _ kind.0)
+    (same_precision _ _ time.0) (same_true offset_precision.the_type tt _ _ offset.0)
+    (same_true decimal_sign.the_type tt _ _ offset.1)
 
 -- and each is found equal to itself
 pub equal_choices : (a b : Choices) → a ≡ b → of_config.ghosts.eq a b ≡ true

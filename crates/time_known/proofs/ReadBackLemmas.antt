@@ -13,7 +13,7 @@ use Rattle.time_known.specs.WellKnown.{of_all_groups}
 use Rattle.time_known.proofs.GroupLemmas.{HasAll, there, outcome_of_all}
 
 -- an outcome without a refusal is completed by its bytes
-pub completed_by_bytes : (o : Outcome) → o.refusal ≡ None → o ≡ done o.bytes
+completed_by_bytes : (o : Outcome) → o.refusal ≡ None → o ≡ done o.bytes
 completed_by_bytes o e =
     ap (λ (r : Option Refusal). let p : Outcome = record { bytes = o.bytes; refusal = r } in p) e
 

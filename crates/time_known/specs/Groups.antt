@@ -18,7 +18,7 @@ has_groups needed f = are_supplied needed (is_some f.date) (is_some f.time) (is_
 
 -- what the date, the time and the offset of a value that has all three give
 abbrev pub at_groups : {A : Type 0} → (DateFacts → TimeOfDay → Offset → A) → Facts → A
-at_groups of f = of (the_date f) (the_time f) (the_offset f)
+at_groups of_groups f = of_groups (the_date f) (the_time f) (the_offset f)
 
 -- a date, a time and an offset are supplied
 abbrev pub AreAllSupplied : Bool → Bool → Bool → Type 0
