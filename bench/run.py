@@ -4,7 +4,7 @@
     python3 bench/run.py [FOLDER]
 
 Works on a copy of the repository, in FOLDER or a temporary one, to which `bench/texts.rt.in` is added as a
-program; both programs are proved before they are built, and so are the crates below them, in a new folder
+program, and once more with `LENT`; all are proved before they are built, and so are the crates below them, in a new folder
 from nothing. Instructions are counted by callgrind, where it is
 installed, as the difference of 1,000 and 3,000 turns. Times are the least of 15 rounds in turns.
 """
@@ -45,6 +45,8 @@ TEXTS = [
     ("z", "ISO 8601 without separators"),
     ("y", "ISO 8601 with a comma"),
 ]
+# Texts of a type that is used in one place by another text of the first program.
+BEHIND_ALONE = "ajwzy"
 COMMANDS = ["time", "rfc3339", "rfc2822", "iso", "iso-comma", "stamp"]
 ROUNDS = 15
 TURNS = 1_000_000
@@ -70,16 +72,21 @@ def lines(command, count):
 
 
 def built(folder):
-    """Proves and builds both programs in a copy of the repository."""
+    """Proves and builds the three programs in a copy of the repository."""
     top = os.path.dirname(os.path.dirname(os.path.abspath(__file__)))
     shutil.copytree(top, folder, dirs_exist_ok=True, ignore=shutil.ignore_patterns(".git", "out"))
-    crate = os.path.join(folder, "crates", "time_bench")
-    os.makedirs(os.path.join(crate, "src"), exist_ok=True)
-    shutil.copy(os.path.join(folder, "bench", "texts.rt.in"), os.path.join(crate, "src", "main.rt"))
-    with open(os.path.join(folder, "crates.txt"), "a") as crates:
-        crates.write("time_bench: time_below time_digits time_provide time_fmt time_known\n")
+    with open(os.path.join(folder, "bench", "texts.rt.in"), encoding="utf-8") as file:
+        source = file.read()
+    known, lent = "const LENT: bool = false;", "const LENT: bool = true;"
+    for name, text in [("time_bench", source), ("time_bench_lent", source.replace(known, lent))]:
+        crate = os.path.join(folder, "crates", name, "src")
+        os.makedirs(crate, exist_ok=True)
+        with open(os.path.join(crate, "main.rt"), "w", encoding="utf-8") as file:
+            file.write(text)
+        with open(os.path.join(folder, "crates.txt"), "a", encoding="utf-8") as crates:
+            crates.write(f"{name}: time_below time_digits time_provide time_fmt time_known\n")
     programs = []
-    for name in ["time_bench", "time_show"]:
+    for name in ["time_bench", "time_bench_lent", "time_show"]:
         place = os.path.join(folder, "crates", name)
         print(f"proving and building {name}", file=sys.stderr)
         subprocess.run(["rt", "run"], cwd=place, input=b"", check=True, capture_output=True)
@@ -112,14 +119,18 @@ def least_seconds(commands, file):
     return best
 
 
-def texts(program, folder):
+def texts(programs, folder):
     """Each text by a description where it is used, and by one that is lent to a function of its own."""
-    print("| Text | In place | Lent | Nanoseconds in place | Lent |\n|---|---|---|---|---|")
+    print("| Text | Known | Behind | Nanoseconds known | Behind |\n|---|---|---|---|---|")
     for letter, name in TEXTS:
         counts, times = [], []
-        for asked in [letter, letter.upper()]:
-            counts.append(counted(program, asked.encode() * 1000, asked.encode() * 3000))
-            times.append(nanoseconds(program, asked.encode(), folder))
+        for program in programs:
+            if program == programs[0] and letter in BEHIND_ALONE:
+                counts.append("")
+                times.append("")
+                continue
+            counts.append(counted(program, letter.encode() * 1000, letter.encode() * 3000))
+            times.append(nanoseconds(program, letter.encode(), folder))
         print(f"| {name} | {' | '.join(counts + times)} |", flush=True)
 
 
@@ -148,8 +159,8 @@ def answers(program, folder):
 def main():
     with tempfile.TemporaryDirectory() as temporary:
         folder = sys.argv[1] if len(sys.argv) > 1 else temporary
-        bench, show = built(folder)
-        texts(bench, folder)
+        known, lent, show = built(folder)
+        texts([known, lent], folder)
         answers(show, folder)
 
 

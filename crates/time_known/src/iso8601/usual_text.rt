@@ -1,15 +1,14 @@
 //! The texts of the configurations that most callers ask for, in pieces that are inlined.
-ghost use Rattle.std.specs.Prelude.{◌≡◌, ◌+◌, ◌*◌, codes, length, IsTrue, IfSome, OnSome, MatchOption, Ok, unsigned_abs};
-ghost use Rattle.time_below.specs.Facts.{the_date, the_time};
+ghost use Rattle.std.specs.Prelude.{◌≡◌, ◌+◌, ◌*◌, ◌++◌, length, IsTrue, IfSome, OnSome, MatchOption, Ok, unsigned_abs};
+ghost use Rattle.time_below.specs.Facts.{the_date, the_time, the_offset};
 ghost use Rattle.time_fmt.specs.Decimals.{decimals};
 ghost use Rattle.time_fmt.specs.Outcome.{AppendsUpTo};
 ghost use Rattle.time_fmt.specs.Room.{HasRoom, Writes, WritesUpTo};
 ghost use Rattle.time_provide.specs.Real.{AgreesOnTime, AreReal};
-ghost use Rattle.time_known.specs.Config.{separator};
 ghost use Rattle.time_known.specs.Groups.{Accepts, AreAllSupplied, at_groups};
 ghost use Rattle.time_known.specs.Iso8601.{decimal_part, iso_of_groups};
 ghost use Rattle.time_known.specs.Iso8601Width.{decimal_part_width, iso8601_width};
-ghost use Rattle.time_known.specs.UsualText.{usual_choices, usual_text, usual_time_text};
+ghost use Rattle.time_known.specs.UsualText.{usual_choices, usual_text, usual_date_text, usual_time_text, usual_offset_text};
 
 use crate::iso8601::config::{Config, Usual};
 use crate::pieces::{four_digit_year, put_back, take_out, write_clock, write_nine_digits};
@@ -99,8 +98,38 @@ fn append_usual<V: ComponentProvider>(
         usual.now.decimal_digits) (V.facts value.now)) }
     ensures agrees { AgreesOnTime (V.agrees state.new value.now) (V.facts value.now) }
 {
-    let dash = if usual.has_separators { "-" } else { "" };
-    let colon = if usual.has_separators { ":" } else { "" };
+    if usual.has_separators {
+        append_parts(output, usual, year, value, state, "-", ":")
+    } else {
+        append_parts(output, usual, year, value, state, "", "")
+    }
+}
+
+// The same with these separators, which the compiler knows, and so where each part stands.
+#[inline(always)]
+#[tactic(auto, using(crate::proofs::WritingLemmas::joined_lengths))]
+fn append_parts<V: ComponentProvider>(
+    output: &mut Vec<u8>,
+    usual: &Usual,
+    year: ru16<0, 9_999>,
+    value: &V,
+    state: &mut V::State,
+    dash: &str,
+    colon: &str,
+) -> usize
+    requires supplied { AreAllSupplied V.SUPPLIES_DATE V.SUPPLIES_TIME V.SUPPLIES_OFFSET }
+    requires year { year ≡ unsigned_abs (the_date (V.facts value.now)).year }
+    requires room { HasRoom output.old (20 + 2 * length dash.now + 3 * length colon.now
+        + decimal_part_width usual.now.decimal_digits) }
+    requires agrees { V.agrees state.old value.now }
+    ensures writes { WritesUpTo (20 + 2 * length dash.now + 3 * length colon.now
+        + decimal_part_width usual.now.decimal_digits) output.old output.new result
+        (usual_date_text dash.now (the_date (V.facts value.now))
+        ++ usual_time_text colon.now usual.now.decimal_sign usual.now.decimal_digits
+        (the_time (V.facts value.now))
+        ++ usual_offset_text colon.now (the_offset (V.facts value.now))) }
+    ensures agrees { AgreesOnTime (V.agrees state.new value.now) (V.facts value.now) }
+{
     let date = write_full_date(output, year, value, state, dash);
     let time = write_usual_time(output, usual, value, state, colon);
     date + time + write_time_offset(output, value, state, colon)
