@@ -107,7 +107,7 @@ fn append_usual<V: ComponentProvider>(
 
 // The same with these separators, which the compiler knows, and so where each part stands.
 #[inline(always)]
-#[tactic(auto, using(crate::proofs::WritingLemmas::joined_lengths))]
+#[tactic(auto, using(crate::proofs::LengthLemmas::joined_lengths))]
 fn append_parts<V: ComponentProvider>(
     output: &mut Vec<u8>,
     usual: &Usual,
