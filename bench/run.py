@@ -4,9 +4,9 @@
     python3 bench/run.py [FOLDER]
 
 Works on a copy of the repository, in FOLDER or a temporary one, to which `bench/texts.rt.in` is added as a
-program, and once more with `LENT`; all are proved before they are built, and so are the crates below them, in a new folder
-from nothing. Instructions are counted by callgrind, where it is
-installed, as the difference of 1,000 and 3,000 turns. Times are the least of 15 rounds in turns.
+program, and once more with `LENT`. All are proved before they are built, and so are the crates below them, in
+a new folder from nothing. Instructions are counted by callgrind, where it is installed, as the difference of
+1,000 and 3,000 turns. Times are the least of 15 rounds in turns.
 """
 
 import os
