@@ -12,6 +12,7 @@ use Rattle.time_digits.proofs.LengthLemmas.{length-digit}
 use Rattle.time_digits.specs.Fraction.{trimmed_fraction, last_zeros}
 use Rattle.time_digits.proofs.FractionLemmas.{last_of_nine, length-trimmed_fraction, trimmed_fraction-take}
 use Rattle.time_digits.proofs.WordLemmas.{digits_of_word}
+use Rattle.time_fmt.specs.Decimals.{decimals}
 use Rattle.time_fmt.specs.Text.{subsecond_text}
 use Rattle.time_fmt.proofs.NumberLemmas.{two_zeros, four_zeros, six_zeros}
 
@@ -56,6 +57,15 @@ pub nine_decimals : (n : ℕ) → take 9 (fixed 9 n) ≡ fixed 9 n
 nine_decimals n = take_all 9 (fixed 9 n) (omega (arith, length-fixed 9 n))
 
 pub ruleset first_decimals = (one_decimal, two_decimals, three_decimals, four_decimals, five_decimals, six_decimals, seven_decimals, eight_decimals, nine_decimals, length-fixed)
+
+-- the first three and the first six, as decimals of a second
+pub three_of_second : (n : ℕ) → take 3 (fixed 9 n) ≡ decimals n 1_000_000_000 3
+three_of_second n =
+    let same : n / 10 ^ 6 ≡ n * 10 ^ 3 / 1_000_000_000 = omega arith in take-fixed 3 6 n ∙ ap (fixed 3) same
+
+pub six_of_second : (n : ℕ) → take 6 (fixed 9 n) ≡ decimals n 1_000_000_000 6
+six_of_second n =
+    let same : n / 10 ^ 3 ≡ n * 10 ^ 6 / 1_000_000_000 = omega arith in take-fixed 6 3 n ∙ ap (fixed 6) same
 
 -- six digits by the first two and the next four
 pub six_parts : (n : ℕ) → n < 1_000_000_000 → zero_padded 2 (n / 1_000 / 10_000) ++ zero_padded 4 (n / 1_000 % 10_000) ≡ take 6 (fixed 9 n)

@@ -89,8 +89,7 @@ fn write_unless_refused<M: Modifier, V: ComponentProvider>(
 ///
 /// A deprecated component has the text of the current one. Answers the number of bytes appended, or
 /// the refusal of the component, which has no bytes.
-#[inline]
-#[tactic(auto, using(crate::proofs::ConversionLemmas::width_of_current))]
+#[inline(always)]
 pub fn component_write_into<V: ComponentProvider>(
     component: &Component,
     output: &mut Vec<u8>,
@@ -103,6 +102,29 @@ pub fn component_write_into<V: ComponentProvider>(
         (component_outcome component.now (V.facts value.now)) }
     ensures within { vec_len output.new ≤ vec_len output.old + component_width component.now }
     ensures text { IsUtf8 (component_outcome component.now (V.facts value.now)).bytes }
+    ensures agrees { V.agrees state.new value.now }
+{
+    match write_common(*component, output, value, state) {
+        Some(count) => Ok(count),
+        None => write_any(*component, output, value, state),
+    }
+}
+
+/// The same of any component, met often or not.
+#[inline]
+#[tactic(auto, using(crate::proofs::ConversionLemmas::width_of_current))]
+pub(crate) fn write_any<V: ComponentProvider>(
+    component: Component,
+    output: &mut Vec<u8>,
+    value: &V,
+    state: &mut V::State,
+) -> Result<usize, Format>
+    requires room { HasRoom output.old (component_width component) }
+    requires agrees { V.agrees state.old value.now }
+    ensures appends { Appends output.old output.new result
+        (component_outcome component (V.facts value.now)) }
+    ensures within { vec_len output.new ≤ vec_len output.old + component_width component }
+    ensures text { IsUtf8 (component_outcome component (V.facts value.now)).bytes }
     ensures agrees { V.agrees state.new value.now }
 {
     current_write_into(component.current(), output, value, state)

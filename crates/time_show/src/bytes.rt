@@ -1,6 +1,5 @@
 //! Bytes that mean something in a line, and where they stand.
 ghost use Rattle.std.specs.Prelude.{◌≡◌, ◌==◌, position};
-ghost use Rattle.time_show.specs.declared.bytes.TheConstants.{LINE_FEED};
 
 use memchr::memchr;
 
@@ -22,7 +21,7 @@ pub fn place_of(byte: u8, bytes: &[u8]) -> Option<usize>
 
 /// The first place of a line feed, by a search that looks at many bytes at a time.
 pub fn place_of_end(bytes: &[u8]) -> Option<usize>
-    ensures { result ≡ position (λ b. b == LINE_FEED) bytes.now }
+    ensures { result ≡ position (λ b. b == 10) bytes.now }
 {
     memchr(LINE_FEED, bytes)
 }

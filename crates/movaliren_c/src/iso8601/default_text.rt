@@ -1,10 +1,10 @@
 //! The text of the default configuration, which most callers ask for, and stamps are.
 ghost use Rattle.std.specs.Prelude.{◌≡◌, [], IfOk, IfErr, unsigned_abs};
 ghost use Rattle.movaliren_c.specs.Answer.{IsRefusedFor, IsWritten};
+ghost use Rattle.movaliren_c.specs.DefaultText.{default_text};
 ghost use Rattle.time_below.specs.Facts.{date_facts};
 ghost use Rattle.time_fmt.specs.Outcome.{done};
 ghost use Rattle.time_known.specs.Config.{default_choices};
-ghost use Rattle.time_known.specs.DefaultText.{default_text};
 ghost use Rattle.time_known.specs.Iso8601.{iso8601_of};
 
 use crate::moment::LocalMoment;

@@ -7,7 +7,7 @@ ghost use Rattle.time_fmt.specs.Guarantee.{IsTextIf};
 ghost use Rattle.time_fmt.specs.Outcome.{Appends};
 ghost use Rattle.time_fmt.specs.Room.{HasRoom};
 
-use crate::component::{component_write_into, write_common};
+use crate::component::{write_any, write_common};
 use crate::error::Format;
 use crate::writers::{write, write_bytes};
 use time_below::format_description::{Layer, Node};
@@ -95,7 +95,7 @@ pub(super) fn write_node<T: Node, V: ComponentProvider>(
     match node.layer() {
         Layer::Bytes(bytes) => Ok(write_bytes(output, bytes)),
         Layer::Text(text) => Ok(write(output, text)),
-        Layer::Component(component) => component_write_into(&component, output, value, state),
+        Layer::Component(component) => write_any(component, output, value, state),
         Layer::All(nodes) => write_nodes(nodes, output, value, state),
         Layer::First(nodes) => match nodes.first() {
             Some(node) => write_node(node, output, value, state),

@@ -8,6 +8,7 @@ use Rattle.time_below.specs.Weekday.{days_from_monday}
 use Rattle.time_digits.specs.Digits.{zero_padded}
 use Rattle.time_digits.proofs.DigitLemmas.{length-fixed, padded_whole}
 use Rattle.time_digits.proofs.LengthLemmas.{length-padded, length-digit}
+use Rattle.time_fmt.proofs.DecimalLemmas.{three_of_second, six_of_second}
 use Rattle.time_fmt.proofs.NumberLemmas.{four_zeros, six_zeros}
 use Rattle.time_fmt.proofs.TextLemmas.{length-sign_text}
 use Rattle.time_known.specs.Config.{decimal_sign_text}
@@ -49,6 +50,9 @@ pub ruleset year_lengths = (four_zeros, six_zeros, length-sign_text, length-appe
 pub length-decimal_sign : (s : DecimalSign) → length (decimal_sign_text s) ≡ 1
 length-decimal_sign Point = refl
 length-decimal_sign Comma = refl
+
+-- what the first digits of a nanosecond are decimals of
+pub ruleset decimals_of_second = (three_of_second, six_of_second)
 
 -- how long decimals and their sign are
 pub ruleset decimal_lengths = (length-fixed, length-decimal_sign, length-append, append_assoc)

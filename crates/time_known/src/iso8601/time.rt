@@ -17,7 +17,7 @@ use time_fmt::Format;
 use time_fmt::writers::{format_decimals, write, write_if};
 use time_provide::ComponentProvider;
 
-const NANOSECONDS_PER_SECOND: u64 = 1_000_000_000;
+pub(super) const NANOSECONDS_PER_SECOND: u64 = 1_000_000_000;
 
 const NANOSECONDS_PER_MINUTE: u64 = 60_000_000_000;
 

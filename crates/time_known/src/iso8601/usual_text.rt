@@ -11,14 +11,13 @@ ghost use Rattle.time_known.specs.Iso8601Width.{decimal_part_width, iso8601_widt
 ghost use Rattle.time_known.specs.UsualText.{usual_choices, usual_text, usual_date_text, usual_time_text, usual_offset_text};
 
 use crate::iso8601::config::{Config, Usual};
+use crate::iso8601::time::NANOSECONDS_PER_SECOND;
 use crate::pieces::{four_digit_year, put_back, take_out, write_clock, write_nine_digits};
 use crate::rfc3339::{write_full_date, write_time_offset};
 use time_digits::{ru8, ru16};
 use time_fmt::writers::{format_decimals, write, write_six_decimals, write_three_decimals};
 use time_provide::ComponentProvider;
 use time_provide::ranges::Nanoseconds;
-
-const NANOSECONDS_PER_SECOND: u64 = 1_000_000_000;
 
 // Appends the text by these choices, where nothing of the value is refused; else it appends nothing.
 #[inline(always)]
@@ -167,7 +166,8 @@ fn write_usual_time<V: ComponentProvider>(
 fn write_fraction_by(output: &mut Vec<u8>, usual: &Usual, nanosecond: Nanoseconds) -> usize
     requires room { HasRoom output.old (decimal_part_width usual.now.decimal_digits) }
     ensures writes { WritesUpTo (decimal_part_width usual.now.decimal_digits) output.old output.new result
-        (decimal_part usual.now.decimal_sign usual.now.decimal_digits nanosecond NANOSECONDS_PER_SECOND) }
+        (decimal_part usual.now.decimal_sign usual.now.decimal_digits nanosecond
+        NANOSECONDS_PER_SECOND) }
 {
     let Some(digits) = usual.decimal_digits else {
         return 0;
@@ -178,6 +178,7 @@ fn write_fraction_by(output: &mut Vec<u8>, usual: &Usual, nanosecond: Nanosecond
 
 // Appends so many decimals of the second.
 #[inline(always)]
+#[tactic(auto, using(crate::proofs::iso8601::LengthLemmas::decimals_of_second))]
 fn write_decimals(output: &mut Vec<u8>, nanosecond: Nanoseconds, digits: ru8<1, 255>) -> usize
     requires room { HasRoom output.old digits }
     ensures writes { Writes output.old output.new result

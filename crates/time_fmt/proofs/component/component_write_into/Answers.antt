@@ -1,18 +1,5 @@
-use Rattle.std.proofs.Common.{arith}
-use Rattle.time_fmt.proofs.ConversionLemmas.{width_of_current}
 use Rattle.time_fmt.proofs.GuaranteeLemmas.{text_of_component}
 use Rattle.time_fmt.proofs.component.component_write_into.Goals as goal
 
-pub current_write_into-requires-clause-room : goal.current_write_into-requires-clause-room
-current_write_into-requires-clause-room g c =
-    rw c.current.ensures.converted (omega (arith, c.requires.room, width_of_current c.args.component.now))
-
-pub returns-clause-appends : goal.returns-clause-appends
-returns-clause-appends g c = rw c.current.ensures.converted at c.current_write_into.ensures.appends
-
-pub returns-clause-within : goal.returns-clause-within
-returns-clause-within g c =
-    omega (arith, rw c.current.ensures.converted at c.current_write_into.ensures.within, width_of_current c.args.component.now)
-
-pub returns-clause-text : goal.returns-clause-text
-returns-clause-text g c = text_of_component c.args.component.now (g.V.ComponentProvider.facts c.args.value.now)
+pub returns-in-Some-clause-text : goal.returns-in-Some-clause-text
+returns-in-Some-clause-text g c = text_of_component c.args.component.now (g.V.ComponentProvider.facts c.args.value.now)

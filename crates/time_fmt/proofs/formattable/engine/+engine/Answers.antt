@@ -66,10 +66,10 @@ pub write_node-returns-in-Text-clause-appends : goal.write_node-returns-in-Text-
 write_node-returns-in-Text-clause-appends g t c = rw (← c.in-Text.ensures.tree) (appends_text c.write.ensures.writes)
 
 pub write_node-returns-in-Component-clause-appends : goal.write_node-returns-in-Component-clause-appends
-write_node-returns-in-Component-clause-appends g t c = rw (← c.in-Component.ensures.tree) c.component_write_into.ensures.appends
+write_node-returns-in-Component-clause-appends g t c = rw (← c.in-Component.ensures.tree) c.write_any.ensures.appends
 
 pub write_node-returns-in-Component-clause-text : goal.write_node-returns-in-Component-clause-text
-write_node-returns-in-Component-clause-text g t c = rw (← c.in-Component.ensures.tree) (λ _. c.component_write_into.ensures.text)
+write_node-returns-in-Component-clause-text g t c = rw (← c.in-Component.ensures.tree) (λ _. c.write_any.ensures.text)
 
 pub write_node-returns-in-All-clause-appends : goal.write_node-returns-in-All-clause-appends
 write_node-returns-in-All-clause-appends g t c = rw (← c.in-All.ensures.tree) c.write_nodes.ensures.appends

@@ -7,15 +7,8 @@ use Rattle.time_digits.specs.Digits.{fixed}
 use Rattle.time_known.specs.Rfc3339.{full_date_text, time_offset_text}
 use Rattle.time_known.specs.WellKnown.{clock_text}
 
--- the most bytes of such a text, and of its time
-abbrev pub default_width : ℕ
-default_width = 35
-
-abbrev pub default_time_width : ℕ
-default_time_width = 19
-
 -- the letter T, the time to the second, and nine decimals of it
-abbrev pub default_time_text : TimeOfDay → List ℕ
+abbrev default_time_text : TimeOfDay → List ℕ
 default_time_text t = codes "T" ++ (clock_text (codes ":") t ++ (codes "." ++ fixed 9 t.nanosecond))
 
 -- the date and the offset are those of RFC 3339
