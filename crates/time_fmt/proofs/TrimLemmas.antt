@@ -8,7 +8,7 @@ use Rattle.time_digits.specs.Fraction.{trimmed_fraction}
 use Rattle.time_digits.proofs.DigitLemmas.{fixed_step, fixed_digits, fixed-append, fixed-mod, fixed-zero}
 use Rattle.time_digits.proofs.FractionLemmas.{only_trimmed_fraction}
 use Rattle.time_digits.proofs.LengthLemmas.{length-fixed}
-use Rattle.time_fmt.proofs.DecimalLemmas.{take-fixed}
+use Rattle.time_fmt.proofs.DecimalLemmas.{take-fixed, length-first}
 
 -- nine digits are the first ones, and zeros
 filled_at : (j k n : ℕ) → j + k ≡ 9 → n % 10 ^ k ≡ 0 → fixed j (n / 10 ^ k) ++ replicate k 48 ≡ fixed 9 n
@@ -64,3 +64,16 @@ three_are n zeros some = take-fixed 3 6 n ∙ trimmed_at 2 6 n (omega arith) zer
 
 pub six_are : (n : ℕ) → n % 1_000 ≡ 0 → n / 1_000 % 10 ≢ 0 → take 6 (fixed 9 n) ≡ trimmed_fraction n
 six_are n zeros some = take-fixed 6 3 n ∙ trimmed_at 5 3 n (omega arith) zeros some
+
+-- so many bytes has the trimmed fraction
+pub length-nine : (n : ℕ) → n % 10 ≢ 0 → length (trimmed_fraction n) ≡ 9
+length-nine n some = ap length (sym (nine_are n some)) ∙ length-fixed 9 n
+
+pub length-three : (n : ℕ) → n % 1_000_000 ≡ 0 → n / 1_000_000 % 10 ≢ 0 → length (trimmed_fraction n) ≡ 3
+length-three n zeros some = ap length (sym (three_are n zeros some)) ∙ length-first 3 6 n
+
+pub length-six : (n : ℕ) → n % 1_000 ≡ 0 → n / 1_000 % 10 ≢ 0 → length (trimmed_fraction n) ≡ 6
+length-six n zeros some = ap length (sym (six_are n zeros some)) ∙ length-first 6 3 n
+
+-- a fraction that ends behind the ninth, the third or the sixth digit
+pub ruleset whole_fractions = (nine_are, three_are, six_are, length-nine, length-three, length-six)

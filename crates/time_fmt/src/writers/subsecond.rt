@@ -149,6 +149,7 @@ fn write_three_digits(output: &mut Vec<u8>, number: ru16<0, 999>) -> usize
 /// Answers the number of bytes appended. What most users write, nine digits, milliseconds and
 /// microseconds, is stored at once: digits that are read back wait until they are all stored.
 #[inline(always)]
+#[tactic(auto, using(crate::proofs::TrimLemmas::whole_fractions))]
 pub fn write_fraction(output: &mut Vec<u8>, nanosecond: Nanoseconds) -> usize
     requires room { HasRoom output.old (length (trimmed_fraction nanosecond)) }
     ensures writes { Writes output.old output.new result (trimmed_fraction nanosecond) }
