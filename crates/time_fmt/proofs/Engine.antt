@@ -1,5 +1,5 @@
 -- Nodes one after another: what is written so far, and then the outcome of what is left, is the outcome of all.
-use Rattle.std.proofs.Common.{◌≡◌, ap, sym, ◌∙◌, arith, ℕ, ◌+◌, ◌≤◌, ◌++◌, List, [], ◌∷◌, map, drop, length, append_assoc, length-append, subst, Some, Ok, Err, vec_len, vec_capacity, Vec}
+use Rattle.std.proofs.Common.{◌≡◌, ap, sym, ◌∙◌, arith, ℕ, ◌+◌, ◌-◌, ◌≤◌, ◌++◌, List, [], ◌∷◌, map, drop, length, append_assoc, length-append, subst, Some, Ok, Err, vec_len, vec_capacity, Vec}
 use Rattle.std.specs.Prelude.{slice_get}
 use Rattle.std.specs.Global.{Global}
 use Rattle.std.proofs.lemmas.List.{append-nil, at_drop_all}
@@ -79,6 +79,14 @@ written_along old mid new f all left others t along next smaller step within agr
       capacity = step.capacity ∙ along.capacity;
       text = λ rest. along.text (subst P (sym next) (text_more t others f first rest));
     }
+
+-- the number of the bytes is the difference of the lengths
+pub by_lengths : {agrees : Type 0} {sum all_size left_size : ℕ} (old now : Vec ℕ Global) (f : Facts) (all left : Trees) → Along agrees old now sum f all left all_size left_size
+    → Along agrees old now (vec_len now - vec_len old) f all left all_size left_size
+by_lengths {agrees} {sum} {all_size} {left_size} old now f all left along =
+    let P : ℕ → Type 0 = λ s. Along agrees old now s f all left all_size left_size in
+    let same : sum ≡ vec_len now - vec_len old = omega (arith, along.grown) in
+    subst P same along
 
 -- at the end of a list nothing is left, so that all of it is written
 pub all_along : {A agrees : Type 0} {sum all_size left_size : ℕ} (tree : A → Tree) (nodes : List A) (i : ℕ) (old now : Vec ℕ Global) (f : Facts) → length nodes ≤ i

@@ -8,6 +8,7 @@ ghost use Rattle.time_fmt.specs.Room.{HasRoom};
 
 use crate::error::Format;
 use crate::modifier::Modifier;
+use crate::writers::{put_back, take_out};
 use time_below::format_description::Component;
 use time_provide::ComponentProvider;
 
@@ -42,9 +43,32 @@ pub(crate) fn write_common<V: ComponentProvider>(
     }
 }
 
-// The same of a component whose writer is long, apart from the loop.
-#[inline(never)]
+// The same of a component whose writer is long, apart, by a vector that is taken out once more.
+#[inline(always)]
 fn write_apart<M: Modifier, V: ComponentProvider>(
+    part: M,
+    output: &mut Vec<u8>,
+    value: &V,
+    state: &mut V::State,
+) -> Option<usize>
+    requires room { HasRoom output.old (component_width (M.component_of part)) }
+    requires agrees { V.agrees state.old value.now }
+    ensures appends { MatchOption result (output.new ≡ output.old)
+        (λ count. Appends output.old output.new (Ok count)
+        (component_outcome (M.component_of part) (V.facts value.now))) }
+    ensures within { vec_len output.new
+        ≤ vec_len output.old + component_width (M.component_of part) }
+    ensures agrees { V.agrees state.new value.now }
+{
+    let mut taken = take_out(output);
+    let count = write_long(part, &mut taken, value, state);
+    put_back(output, taken);
+    count
+}
+
+// The same of a vector that was taken out.
+#[inline(never)]
+fn write_long<M: Modifier, V: ComponentProvider>(
     part: M,
     output: &mut Vec<u8>,
     value: &V,

@@ -9,12 +9,14 @@ ghost use Rattle.time_fmt.specs.Room.{HasRoom};
 
 use crate::component::{write_any, write_common};
 use crate::error::Format;
-use crate::writers::{write, write_bytes};
+use crate::writers::{put_back, take_out, write, write_bytes};
 use time_below::format_description::{Layer, Node};
 use time_provide::ComponentProvider;
 
-/// Writes the nodes in order, up to the first that is refused.
+/// Writes the nodes in order, up to the first that is refused. The vector is taken out of its borrow
+/// meanwhile, so that its address and its length stay in registers from one leaf to the next.
 #[cycle(engine)]
+#[inline(always)]
 pub(super) fn write_nodes<T: Node, V: ComponentProvider>(
     nodes: &[T],
     output: &mut Vec<u8>,
@@ -31,17 +33,23 @@ pub(super) fn write_nodes<T: Node, V: ComponentProvider>(
         (trees_outcome (trees (map T.tree nodes.now)) (V.facts value.now)) }
     ensures agrees { V.agrees state.new value.now }
 {
-    let mut sum = 0usize;
+    let mut taken = take_out(output);
+    let begin = taken.len();
     for node in nodes {
-        match write_leaf(node, output, value, state) {
-            Some(count) => sum += count,
-            None => match write_node(node, output, value, state) {
-                Ok(count) => sum += count,
-                Err(refusal) => return Err(refusal),
-            },
+        match write_leaf(node, &mut taken, value, state) {
+            Some(_) => {}
+            None => {
+                put_back(output, taken);
+                match write_node(node, output, value, state) {
+                    Ok(_) => taken = take_out(output),
+                    Err(refusal) => return Err(refusal),
+                }
+            }
         }
     }
-    Ok(sum)
+    let count = taken.len() - begin;
+    put_back(output, taken);
+    Ok(count)
 }
 
 /// Writes a literal, or a component that is met often and never refused, and answers the number of

@@ -149,6 +149,8 @@ impl Modifier for modifier::MonthNumerical {
         if !V::SUPPLIES_DATE {
             return Err(Format::InsufficientTypeInformation);
         }
+        // A day is mostly beside it, and the computation of the day gives the month too.
+        let _day = value.day(state);
         Ok(fmt_month_numerical(output, value.month(state), self))
     }
 }

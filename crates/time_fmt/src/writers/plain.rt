@@ -37,7 +37,10 @@ pub fn write_bytes(output: &mut Vec<u8>, bytes: &[u8]) -> usize
             output.push_reserved(*a);
             output.push_reserved(*b);
         }
-        _ => write_in_blocks(output, bytes),
+        _ => {
+            let taken = write_in_blocks(take_out(output), bytes);
+            put_back(output, taken);
+        }
     }
     bytes.len()
 }
@@ -48,23 +51,22 @@ pub(super) fn write_name(output: &mut Vec<u8>, name: &[u8]) -> usize
     requires room { HasRoom output.old (length name.now) }
     ensures writes { Writes output.old output.new result name.now }
 {
-    let mut taken = take_out(output);
-    write_in_blocks(&mut taken, name);
+    let taken = write_in_blocks(take_out(output), name);
     put_back(output, taken);
     name.len()
 }
 
 /// Appends the bytes, eight at a time. `extend_from_slice` has no clause that the capacity stays. The
-/// vector is taken out meanwhile, so that the compiler sees that its block does not move, and makes one
-/// store of eight.
+/// vector is moved in and out, not lent, so that the compiler sees that its block does not move, and makes
+/// one store of eight.
 #[inline(never)]
-fn write_in_blocks(output: &mut Vec<u8>, bytes: &[u8])
-    requires room { HasRoom output.old (length bytes.now) }
-    ensures appended { output.new.items ≡ output.old.items ++ bytes.now }
-    ensures grown { vec_len output.new ≡ vec_len output.old + length bytes.now }
-    ensures capacity { vec_capacity output.new ≡ vec_capacity output.old }
+fn write_in_blocks(output: Vec<u8>, bytes: &[u8]) -> Vec<u8>
+    requires room { HasRoom output (length bytes.now) }
+    ensures appended { result.items ≡ output.items ++ bytes.now }
+    ensures grown { vec_len result ≡ vec_len output + length bytes.now }
+    ensures capacity { vec_capacity result ≡ vec_capacity output }
 {
-    let mut taken = take_out(output);
+    let mut taken = output;
     let mut rest = bytes;
     while let [a, b, c, d, e, f, g, h, more @ ..] = rest {
         let (first, second) = ([*a, *b, *c, *d], [*e, *f, *g, *h]);
@@ -77,7 +79,7 @@ fn write_in_blocks(output: &mut Vec<u8>, bytes: &[u8])
         rest = more;
     }
     push_rest(&mut taken, rest);
-    put_back(output, taken);
+    taken
 }
 
 // Appends four bytes.

@@ -1,19 +1,20 @@
-use Rattle.std.proofs.Common.{sym}
+use Rattle.std.proofs.Common.{sym, ◌∙◌}
 use Rattle.time_below.proofs.NodeLemmas.{next_of, smaller_rest}
 use Rattle.time_fmt.proofs.WriteLemmas.{appends_text}
-use Rattle.time_fmt.proofs.Engine.{all_along, refused_along, text_refused, written_along, text_at_end, outcome_of_first, text_of_first}
+use Rattle.time_fmt.proofs.Engine.{all_along, by_lengths, refused_along, text_refused, written_along, text_at_end, outcome_of_first, text_of_first}
 use Rattle.time_fmt.proofs.formattable.engine.+engine.Goals as goal
 use Rattle.time_fmt.proofs.formattable.engine.+engine.Goals.{write_nodes-in-Some, write_nodes-in-None+in-Ok}
 
 pub write_nodes-returns-in-Err-clause-appends : goal.write_nodes-returns-in-Err-clause-appends
 write_nodes-returns-in-Err-clause-appends g t c =
     let next = next_of g.T.Node.tree c.args.nodes.now c.loop-node.node-index c.node-item.result c.loop-node-test.true c.node-item.is in
-    refused_along c.args.output.now c.loop-node.output c.write_node.new.output c.in-Err.refusal _ _ _ _ _ c.loop-node.invariant next (rw c.in-None.ensures.appends at c.in-Err.ensures.appends)
+    refused_along c.args.output.now c.loop-node.taken c.write_node.new.output c.in-Err.refusal _ _ _ _ _ c.loop-node.invariant next
+    (rw (c.put_back.ensures.put, c.in-None.ensures.appends) at c.in-Err.ensures.appends)
 
 pub write_nodes-returns-in-Err-clause-text : goal.write_nodes-returns-in-Err-clause-text
 write_nodes-returns-in-Err-clause-text g t c =
     let next = next_of g.T.Node.tree c.args.nodes.now c.loop-node.node-index c.node-item.result c.loop-node-test.true c.node-item.is in
-    text_refused c.args.output.now c.loop-node.output c.write_node.new.output c.in-Err.refusal _ _ _ _ _ c.loop-node.invariant next (rw c.in-None.ensures.appends at c.in-Err.ensures.appends) c.in-Err.ensures.text
+    text_refused c.args.output.now c.loop-node.taken c.write_node.new.output c.in-Err.refusal _ _ _ _ _ c.loop-node.invariant next (rw (c.put_back.ensures.put, c.in-None.ensures.appends) at c.in-Err.ensures.appends) c.in-Err.ensures.text
 
 -- a leaf, or any other node after a leaf that wrote nothing
 pub write_nodes-loop-node-preserved : goal.write_nodes-loop-node-preserved
@@ -23,15 +24,19 @@ write_nodes-loop-node-preserved g t c =
     elim c.match-write_leaf.branch [
       | write_nodes-in-Some w ↦
           let step = w.in-Some.ensures in
-          rw (w.output-is, w.state-is, w.sum-is)
+          rw (w.taken-is, w.state-is)
+          (by_lengths {agrees = g.V.ComponentProvider.agrees c.write_leaf.new.state c.args.value.now} _ _ _ _ _
           (written_along {agrees_after = g.V.ComponentProvider.agrees c.write_leaf.new.state c.args.value.now}
-          c.args.output.now c.loop-node.output c.write_leaf.new.output _ _ _ _ _ c.loop-node.invariant next smaller step.appends step.within step.agrees step.text)
+          c.args.output.now c.loop-node.taken c.write_leaf.new.output _ _ _ _ _ c.loop-node.invariant next smaller
+          step.appends step.within step.agrees step.text))
       | write_nodes-in-None+in-Ok w ↦
           let step = w.in-Ok.ensures in
-          let same = w.in-None.ensures.appends in
-          rw (w.output-is, w.state-is, w.sum-is)
+          let same = w.put_back.ensures.put ∙ w.in-None.ensures.appends in
+          rw (w.taken-is, w.state-is, w.take_out-taken-in-Ok.ensures.taken)
+          (by_lengths {agrees = g.V.ComponentProvider.agrees w.write_node.new.state c.args.value.now} _ _ _ _ _
           (written_along {agrees_after = g.V.ComponentProvider.agrees w.write_node.new.state c.args.value.now}
-          c.args.output.now c.loop-node.output w.write_node.new.output _ _ _ _ _ c.loop-node.invariant next smaller (rw same at step.appends) (rw same at step.within) step.agrees step.text)
+          c.args.output.now c.loop-node.taken w.write_node.new.output _ _ _ _ _ c.loop-node.invariant next smaller
+          (rw same at step.appends) (rw same at step.within) step.agrees step.text))
     ]
 
 pub write_nodes-returns-clause-text : goal.write_nodes-returns-clause-text
@@ -50,7 +55,8 @@ write_node-returns-in-Some-clause-text g t c =
 -- at the end of the loop nothing is left
 pub write_nodes-returns-clause-appends : goal.write_nodes-returns-clause-appends
 write_nodes-returns-clause-appends g t c =
-    all_along g.T.Node.tree c.args.nodes.now _ c.args.output.now c.loop-node.output (g.V.ComponentProvider.facts c.args.value.now) c.loop-node-test.false c.loop-node.invariant
+    rw (c.put_back-2.ensures.put, c.len.ensures, c.len-begin.ensures, c.take_out-taken.ensures.taken)
+    (all_along g.T.Node.tree c.args.nodes.now _ c.args.output.now c.loop-node.taken (g.V.ComponentProvider.facts c.args.value.now) c.loop-node-test.false c.loop-node.invariant)
 
 pub write_nodes-returns-clause-agrees : goal.write_nodes-returns-clause-agrees
 write_nodes-returns-clause-agrees g t c = c.loop-node.invariant.state
