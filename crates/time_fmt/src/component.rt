@@ -35,6 +35,9 @@ pub(crate) fn write_common<V: ComponentProvider>(
         Component::CalendarYearFullExtendedRange(part) => {
             write_unless_refused(part, output, value, state)
         }
+        Component::CalendarYearFullStandardRange(part) => {
+            write_unless_refused(part, output, value, state)
+        }
         Component::Hour24(part) => write_unless_refused(part, output, value, state),
         Component::Minute(part) => write_unless_refused(part, output, value, state),
         Component::Second(part) => write_unless_refused(part, output, value, state),
@@ -130,12 +133,17 @@ pub fn component_write_into<V: ComponentProvider>(
 {
     match write_common(*component, output, value, state) {
         Some(count) => Ok(count),
-        None => write_any(*component, output, value, state),
+        None => {
+            let mut taken = take_out(output);
+            let outcome = write_any(*component, &mut taken, value, state);
+            put_back(output, taken);
+            outcome
+        }
     }
 }
 
-/// The same of any component, met often or not.
-#[inline]
+/// The same of any component, met often or not, apart from the loop that asks for it.
+#[inline(never)]
 #[tactic(auto, using(crate::proofs::ConversionLemmas::width_of_current))]
 pub(crate) fn write_any<V: ComponentProvider>(
     component: Component,
