@@ -35,9 +35,7 @@ pub(crate) fn write_common<V: ComponentProvider>(
         Component::CalendarYearFullExtendedRange(part) => {
             write_unless_refused(part, output, value, state)
         }
-        Component::CalendarYearFullStandardRange(part) => {
-            write_unless_refused(part, output, value, state)
-        }
+        Component::CalendarYearFullStandardRange(part) => write_apart(part, output, value, state),
         Component::Hour24(part) => write_unless_refused(part, output, value, state),
         Component::Minute(part) => write_unless_refused(part, output, value, state),
         Component::Second(part) => write_unless_refused(part, output, value, state),
@@ -64,14 +62,14 @@ fn write_apart<M: Modifier, V: ComponentProvider>(
     ensures agrees { V.agrees state.new value.now }
 {
     let mut taken = take_out(output);
-    let count = write_long(part, &mut taken, value, state);
+    let count = write_lent(part, &mut taken, value, state);
     put_back(output, taken);
     count
 }
 
 // The same of a vector that was taken out.
 #[inline(never)]
-fn write_long<M: Modifier, V: ComponentProvider>(
+fn write_lent<M: Modifier, V: ComponentProvider>(
     part: M,
     output: &mut Vec<u8>,
     value: &V,

@@ -9,7 +9,7 @@ ghost use Rattle.time_fmt.specs.Room.{HasRoom};
 
 use crate::component::{write_any, write_common};
 use crate::error::Format;
-use crate::writers::{put_back, take_out, write, write_bytes};
+use crate::writers::{put_back, take_out, write, write_bytes, write_literal};
 use time_below::format_description::{Layer, Node};
 use time_provide::ComponentProvider;
 
@@ -73,8 +73,8 @@ fn write_leaf<T: Node, V: ComponentProvider>(
     ensures agrees { V.agrees state.new value.now }
 {
     match node.layer() {
-        Layer::Bytes(bytes) => Some(write_bytes(output, bytes)),
-        Layer::Text(text) => Some(write(output, text)),
+        Layer::Bytes(bytes) => Some(write_literal(output, bytes)),
+        Layer::Text(text) => Some(write_literal(output, text.as_bytes())),
         Layer::Component(component) => write_common(component, output, value, state),
         _ => None,
     }

@@ -37,12 +37,22 @@ pub fn write_bytes(output: &mut Vec<u8>, bytes: &[u8]) -> usize
             output.push_reserved(*a);
             output.push_reserved(*b);
         }
-        _ => {
-            let taken = write_in_blocks(take_out(output), bytes);
-            put_back(output, taken);
-        }
+        _ => write_in_blocks(output, bytes),
     }
     bytes.len()
+}
+
+/// Appends a literal of a list. For a long one the vector is taken out once more.
+#[inline(always)]
+pub(crate) fn write_literal(output: &mut Vec<u8>, bytes: &[u8]) -> usize
+    requires room { HasRoom output.old (length bytes.now) }
+    ensures writes { Writes output.old output.new result bytes.now }
+{
+    if bytes.len() <= 2 {
+        write_bytes(output, bytes)
+    } else {
+        write_name(output, bytes)
+    }
 }
 
 /// Appends the bytes of a name, or of its beginning.
@@ -51,22 +61,23 @@ pub(super) fn write_name(output: &mut Vec<u8>, name: &[u8]) -> usize
     requires room { HasRoom output.old (length name.now) }
     ensures writes { Writes output.old output.new result name.now }
 {
-    let taken = write_in_blocks(take_out(output), name);
+    let mut taken = take_out(output);
+    write_in_blocks(&mut taken, name);
     put_back(output, taken);
     name.len()
 }
 
 /// Appends the bytes, eight at a time. `extend_from_slice` has no clause that the capacity stays. The
-/// vector is moved in and out, not lent, so that the compiler sees that its block does not move, and makes
-/// one store of eight.
+/// vector is taken out meanwhile, so that the compiler sees that its block does not move, and makes one
+/// store of eight.
 #[inline(never)]
-fn write_in_blocks(output: Vec<u8>, bytes: &[u8]) -> Vec<u8>
-    requires room { HasRoom output (length bytes.now) }
-    ensures appended { result.items ≡ output.items ++ bytes.now }
-    ensures grown { vec_len result ≡ vec_len output + length bytes.now }
-    ensures capacity { vec_capacity result ≡ vec_capacity output }
+fn write_in_blocks(output: &mut Vec<u8>, bytes: &[u8])
+    requires room { HasRoom output.old (length bytes.now) }
+    ensures appended { output.new.items ≡ output.old.items ++ bytes.now }
+    ensures grown { vec_len output.new ≡ vec_len output.old + length bytes.now }
+    ensures capacity { vec_capacity output.new ≡ vec_capacity output.old }
 {
-    let mut taken = output;
+    let mut taken = take_out(output);
     let mut rest = bytes;
     while let [a, b, c, d, e, f, g, h, more @ ..] = rest {
         let (first, second) = ([*a, *b, *c, *d], [*e, *f, *g, *h]);
@@ -79,7 +90,7 @@ fn write_in_blocks(output: Vec<u8>, bytes: &[u8]) -> Vec<u8>
         rest = more;
     }
     push_rest(&mut taken, rest);
-    taken
+    put_back(output, taken);
 }
 
 // Appends four bytes.
