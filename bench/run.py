@@ -1,12 +1,12 @@
 #!/usr/bin/env python3
-"""Counts and times what texts and lines cost, and prints two tables.
+"""Counts and times what texts and lines cost, and prints three tables.
 
     python3 bench/run.py [FOLDER]
 
 Works on a copy of the repository, in FOLDER or a temporary one, to which `bench/texts.rt.in` is added as a
 program, and once more with `LENT`. All are proved before they are built, and so are the crates below them, in
 a new folder from nothing. Instructions are counted by callgrind, where it is installed, as the difference of
-1,000 and 3,000 turns. Times are the least of 15 rounds in turns.
+1,000 and 3,000 turns; of what grows, of 10 and 30. Times are the least of 15 rounds in turns.
 """
 
 import os
@@ -47,6 +47,13 @@ TEXTS = [
 ]
 # Texts of a type that is used in one place by another text of the first program.
 BEHIND_ALONE = "ajwzy"
+# What grows, by letters of which each stands for a size.
+GROWING = [
+    ("items of a list", {"0": 11, "1": 110, "2": 1_100, "3": 11_000}),
+    ("levels of lists of two", {"4": 10, "5": 100, "6": 1_000}),
+    ("bytes of a literal", {"7": 10, "8": 1_000, "9": 1_000_000}),
+    ("decimals of ISO 8601", {"A": 1, "B": 10, "C": 255}),
+]
 COMMANDS = ["time", "rfc3339", "rfc2822", "iso", "iso-comma", "stamp"]
 ROUNDS = 15
 TURNS = 1_000_000
@@ -100,11 +107,11 @@ def instructions(program, data):
     return int(re.search(rb"Collected : (\d+)", run.stderr).group(1))
 
 
-def counted(program, few, many):
-    """The instructions of a turn, of which `few` has 1,000 and `many` 3,000."""
+def counted(program, few, many, more=2000):
+    """The instructions of a turn, of which `many` has so many more than `few`."""
     if shutil.which("valgrind") is None:
         return "-"
-    return f"{(instructions(program, many) - instructions(program, few)) / 2000:,.0f}"
+    return f"{(instructions(program, many) - instructions(program, few)) / more:,.0f}"
 
 
 def least_seconds(commands, file):
@@ -145,6 +152,15 @@ def nanoseconds(program, letter, folder):
     return f"{(long - short) / TURNS * 1e9:.0f}"
 
 
+def growth(program):
+    """What a description costs that is lent and made larger."""
+    print("\n| What grows | Instructions |\n|---|---|")
+    for name, sizes in GROWING:
+        counts = [f"{size:,}: {counted(program, letter.encode() * 10, letter.encode() * 30, 20)}"
+                  for letter, size in sizes.items()]
+        print(f"| {name} | {'; '.join(counts)} |", flush=True)
+
+
 def answers(program, folder):
     print("\n| Line | Instructions | Seconds for 1,000,000 | Times `cat` |\n|---|---|---|---|")
     for command in COMMANDS:
@@ -161,6 +177,7 @@ def main():
         folder = sys.argv[1] if len(sys.argv) > 1 else temporary
         known, lent, show = built(folder)
         texts([known, lent], folder)
+        growth(lent)
         answers(show, folder)
 
 
