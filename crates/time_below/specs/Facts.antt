@@ -38,24 +38,24 @@ pub record Facts : Type 0 where
   pub date : Option DateFacts
   pub time : Option TimeOfDay
   pub offset : Option Offset
-  pub stamp : Option Moment
+  pub moment : Option Moment
 
 -- a date alone
 abbrev pub facts_of_date : OrdinalDate → Facts
-facts_of_date d = record { date = Some (date_facts d); time = None; offset = None; stamp = None }
+facts_of_date d = record { date = Some (date_facts d); time = None; offset = None; moment = None }
 
 -- a time of day alone
 abbrev pub facts_of_time : TimeOfDay → Facts
-facts_of_time t = record { date = None; time = Some t; offset = None; stamp = None }
+facts_of_time t = record { date = None; time = Some t; offset = None; moment = None }
 
 -- a date and a time of no place in particular
 abbrev pub facts_of_plain_date_time : DateAndTime → Facts
 facts_of_plain_date_time v =
-    record { date = Some (date_facts v.date); time = Some v.time; offset = None; stamp = None }
+    record { date = Some (date_facts v.date); time = Some v.time; offset = None; moment = None }
 
 -- an offset alone
 abbrev pub facts_of_offset : Offset → Facts
-facts_of_offset o = record { date = None; time = None; offset = Some o; stamp = None }
+facts_of_offset o = record { date = None; time = None; offset = Some o; moment = None }
 
 -- a date and a time in UTC: the moment counts the nanosecond of the time forward from the seconds
 abbrev pub facts_of_utc_date_time : DateAndTime → Facts
@@ -64,7 +64,7 @@ facts_of_utc_date_time v =
       date = Some (date_facts v.date);
       time = Some v.time;
       offset = Some utc;
-      stamp = Some (record { seconds = unix_seconds v; nanosecond = v.time.nanosecond });
+      moment = Some (record { seconds = unix_seconds v; nanosecond = v.time.nanosecond });
     }
 
 -- the local date and time as given, their offset and the moment
@@ -74,7 +74,7 @@ facts_of_offset_date_time v =
       date = Some (date_facts v.date);
       time = Some v.time;
       offset = Some v.offset;
-      stamp = Some (record { seconds = local_unix_seconds v; nanosecond = v.time.nanosecond });
+      moment = Some (record { seconds = local_unix_seconds v; nanosecond = v.time.nanosecond });
     }
 
 -- a moment, with its date and time in UTC
@@ -84,7 +84,7 @@ facts_of_timestamp m =
       date = Some (date_facts (utc_date m.seconds));
       time = Some (utc_time m);
       offset = Some utc;
-      stamp = Some m;
+      moment = Some m;
     }
 
 -- a group that is there, or the other where it is not
@@ -105,5 +105,5 @@ abbrev pub the_offset : Facts → Offset
 the_offset f = group_or utc f.offset
 
 -- its moment
-abbrev pub the_stamp : Facts → Moment
-the_stamp f = group_or (record { seconds = pos 0; nanosecond = 0 }) f.stamp
+abbrev pub the_moment : Facts → Moment
+the_moment f = group_or (record { seconds = pos 0; nanosecond = 0 }) f.moment

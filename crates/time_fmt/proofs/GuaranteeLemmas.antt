@@ -153,8 +153,8 @@ ascii_current (component.Subsecond m) f = ascii_of_group f.time _ (λ t. IsAscii
 ascii_current (component.OffsetHour m) f = ascii_of_group f.offset _ (λ o. signed (is_negative o) m.sign_is_mandatory m.padding 2 (unsigned_abs o.hours))
 ascii_current (component.OffsetMinute m) f = ascii_of_group f.offset _ (λ o. IsAscii-padded_text m.padding 2 (unsigned_abs o.minutes))
 ascii_current (component.OffsetSecond m) f = ascii_of_group f.offset _ (λ o. IsAscii-padded_text m.padding 2 (unsigned_abs o.seconds))
-ascii_current (component.UnixTimestampSecond m) f = ascii_of_group f.stamp _ (λ s. IsAscii-timestamp_text m.sign_is_mandatory s.seconds)
-ascii_current (component.UnixTimestampMillisecond m) f = ascii_of_group f.stamp _ (λ s. IsAscii-timestamp_text m.sign_is_mandatory (milliseconds s))
+ascii_current (component.UnixTimestampSecond m) f = ascii_of_group f.moment _ (λ s. IsAscii-timestamp_text m.sign_is_mandatory s.seconds)
+ascii_current (component.UnixTimestampMillisecond m) f = ascii_of_group f.moment _ (λ s. IsAscii-timestamp_text m.sign_is_mandatory (milliseconds s))
 ascii_current c f = IsAscii-nil
 
 -- ---- outcomes one after another

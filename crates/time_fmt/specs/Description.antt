@@ -18,11 +18,11 @@ use Rattle.time_fmt.specs.Text.{padded_text, hour_12, period_text, subsecond_tex
 
 -- whether a value that has these parts has the part of such components
 abbrev pub is_supplied : Bool → Bool → Bool → Bool → Group → Bool
-is_supplied date time offset stamp group.Date = date
-is_supplied date time offset stamp group.Time = time
-is_supplied date time offset stamp group.Offset = offset
-is_supplied date time offset stamp group.Timestamp = stamp
-is_supplied date time offset stamp group.None = true
+is_supplied date time offset moment group.Date = date
+is_supplied date time offset moment group.Time = time
+is_supplied date time offset moment group.Offset = offset
+is_supplied date time offset moment group.Timestamp = moment
+is_supplied date time offset moment group.None = true
 
 -- what a group gives that the value supplies, or the refusal of one that it does not
 abbrev pub of_group : {G : Type 0} → Option G → (G → Outcome) → Outcome
@@ -71,8 +71,8 @@ current_outcome (component.Subsecond m) f = of_group f.time (λ t. done (subseco
 current_outcome (component.OffsetHour m) f = of_group f.offset (λ o. done (offset_hour_text m.padding m.sign_is_mandatory (is_negative o) o.hours))
 current_outcome (component.OffsetMinute m) f = of_group f.offset (λ o. done (padded_text m.padding 2 (unsigned_abs o.minutes)))
 current_outcome (component.OffsetSecond m) f = of_group f.offset (λ o. done (padded_text m.padding 2 (unsigned_abs o.seconds)))
-current_outcome (component.UnixTimestampSecond m) f = of_group f.stamp (λ s. done (timestamp_text m.sign_is_mandatory s.seconds))
-current_outcome (component.UnixTimestampMillisecond m) f = of_group f.stamp (λ s. done (timestamp_text m.sign_is_mandatory (milliseconds s)))
+current_outcome (component.UnixTimestampSecond m) f = of_group f.moment (λ s. done (timestamp_text m.sign_is_mandatory s.seconds))
+current_outcome (component.UnixTimestampMillisecond m) f = of_group f.moment (λ s. done (timestamp_text m.sign_is_mandatory (milliseconds s)))
 current_outcome (component.Ignore m) f = done []
 current_outcome (component.End m) f = done []
 current_outcome c f = done []

@@ -5,7 +5,7 @@ use Rattle.time_below.specs.Moment.{OffsetDateAndTime}
 use Rattle.time_below.specs.Offset.{Offset, IsOffset}
 use Rattle.time_below.specs.TimeOfDay.{TimeOfDay, IsTimeOfDay}
 use Rattle.time_fmt.specs.Outcome.{Outcome, Refusal, done}
-use Rattle.time_provide.specs.Real.{AreOfDate, date_in}
+use Rattle.time_provide.specs.Real.{AreFactsOfDate, date_in}
 use Rattle.time_known.specs.Laws.{IsValue, CompletedAreCanonical}
 use Rattle.time_known.specs.ReadBack.{ReadsAs}
 use Rattle.time_known.specs.Rules.{Rule}
@@ -22,7 +22,7 @@ completed_by_bytes o e =
 pub reads_as : {kept : OffsetDateAndTime → OffsetDateAndTime} {Spells Canonical : OffsetDateAndTime → Rule}
     (of_groups : DateFacts → TimeOfDay → Offset → Outcome)
     → CompletedAreCanonical IsValue (λ v. of_groups (date_facts v.date) v.time v.offset) kept Spells Canonical
-    → (f : Facts) → HasAll f → AreOfDate (the_date f) → IsTimeOfDay (the_time f) → IsOffset (the_offset f)
+    → (f : Facts) → HasAll f → AreFactsOfDate (the_date f) → IsTimeOfDay (the_time f) → IsOffset (the_offset f)
     → (of_all_groups f of_groups).refusal ≡ None
     → ReadsAs kept Spells Canonical f (of_all_groups f of_groups).bytes
 reads_as of_groups law f all real_date real_time real_offset complete =

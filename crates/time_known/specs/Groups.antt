@@ -5,7 +5,7 @@ use Rattle.time_below.specs.Offset.{Offset, IsOffset}
 use Rattle.time_below.specs.TimeOfDay.{TimeOfDay}
 use Rattle.time_fmt.specs.Outcome.{Outcome, done}
 use Rattle.time_known.specs.declared.groups.Groups.{Groups}
-use Rattle.time_provide.specs.Real.{AreOfDate}
+use Rattle.time_provide.specs.Real.{AreFactsOfDate}
 
 -- whether each group that is needed is among those that a value has
 abbrev pub are_supplied : Groups → Bool → Bool → Bool → Bool
@@ -35,5 +35,5 @@ pub record Accepts (of_groups : DateFacts → TimeOfDay → Offset → Outcome)
     (text : DateFacts → TimeOfDay → Offset → List ℕ) (f : Facts) (size : ℕ) : Type 0 where
   pub completed : at_groups of_groups f ≡ done (at_groups text f)
   pub year : size ≡ unsigned_abs (the_date f).year
-  pub date : AreOfDate (the_date f)
+  pub date : AreFactsOfDate (the_date f)
   pub offset : IsOffset (the_offset f)

@@ -2,7 +2,7 @@
 -- asked is real.
 use Rattle.std.specs.Prelude.{◌≡◌}
 use Rattle.time_below.specs.Calendar.{OrdinalDate, IsDate}
-use Rattle.time_below.specs.Facts.{Facts, DateFacts, date_facts, the_date, the_time, the_offset, the_stamp}
+use Rattle.time_below.specs.Facts.{Facts, DateFacts, date_facts, the_date, the_time, the_offset, the_moment}
 use Rattle.time_below.specs.Moment.{IsNearMoment}
 use Rattle.time_below.specs.Offset.{IsOffset}
 use Rattle.time_below.specs.TimeOfDay.{IsTimeOfDay}
@@ -12,14 +12,14 @@ abbrev pub date_in : DateFacts → OrdinalDate
 date_in f = record { year = f.year; ordinal = f.ordinal }
 
 -- the calendar has that date, and these are its components
-pub record AreOfDate (f : DateFacts) : Type 0 where
+pub record AreFactsOfDate (f : DateFacts) : Type 0 where
   pub date : IsDate (date_in f)
   pub components : f ≡ date_facts (date_in f)
 
 -- a state agrees with a value of these facts, whose date is one of the calendar
 pub record AgreesOnDate (Agrees : Type 0) (f : Facts) : Type 0 where
   pub agrees : Agrees
-  pub real : AreOfDate (the_date f)
+  pub real : AreFactsOfDate (the_date f)
 
 -- the same of the time of day
 pub record AgreesOnTime (Agrees : Type 0) (f : Facts) : Type 0 where
@@ -34,10 +34,10 @@ pub record AgreesOnOffset (Agrees : Type 0) (f : Facts) : Type 0 where
 -- and of the moment
 pub record AgreesOnMoment (Agrees : Type 0) (f : Facts) : Type 0 where
   pub agrees : Agrees
-  pub real : IsNearMoment (the_stamp f)
+  pub real : IsNearMoment (the_moment f)
 
 -- the date, the time and the offset of a value that has all three are real
 pub record AreReal (f : Facts) : Type 0 where
-  pub date : AreOfDate (the_date f)
+  pub date : AreFactsOfDate (the_date f)
   pub time : IsTimeOfDay (the_time f)
   pub offset : IsOffset (the_offset f)

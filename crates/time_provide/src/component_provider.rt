@@ -1,7 +1,7 @@
 //! The components of a value.
 ghost use Rattle.std.specs.Prelude.{◌≡◌, ◌≤◌, ◌<◌, Bool, IsTrue, is_some, unsigned_abs};
 ghost use Rattle.std.specs.Int.{IsInRange};
-ghost use Rattle.time_below.specs.Facts.{Facts, the_date, the_time, the_offset, the_stamp};
+ghost use Rattle.time_below.specs.Facts.{Facts, the_date, the_time, the_offset, the_moment};
 ghost use Rattle.time_below.specs.Moment.{Moment, milliseconds};
 ghost use Rattle.time_below.specs.Month.{month_number};
 ghost use Rattle.time_below.specs.Offset.{Offset, is_negative, is_utc};
@@ -203,7 +203,7 @@ pub trait ComponentProvider {
     fn unix_timestamp_seconds(&self, state: &mut Self::State) -> i64
         requires supplied { IsTrue SUPPLIES_TIMESTAMP }
         requires agrees { agrees state.old self.now }
-        ensures value { result ≡ (the_stamp (facts self.now)).seconds }
+        ensures value { result ≡ (the_moment (facts self.now)).seconds }
         ensures range { unsigned_abs result < 100_000_000_000_000 }
         ensures agrees { AgreesOnMoment (agrees state.new self.now) (facts self.now) };
 
@@ -211,7 +211,7 @@ pub trait ComponentProvider {
     fn unix_timestamp_milliseconds(&self, state: &mut Self::State) -> i64
         requires supplied { IsTrue SUPPLIES_TIMESTAMP }
         requires agrees { agrees state.old self.now }
-        ensures value { result ≡ milliseconds (the_stamp (facts self.now)) }
+        ensures value { result ≡ milliseconds (the_moment (facts self.now)) }
         ensures range { unsigned_abs result < 100_000_000_000_000_000 }
         ensures agrees { AgreesOnMoment (agrees state.new self.now) (facts self.now) };
 
@@ -222,7 +222,7 @@ pub trait ComponentProvider {
 
     ghost supplies_offset: { (value : Self) → is_some (facts value).offset ≡ SUPPLIES_OFFSET };
 
-    ghost supplies_timestamp: { (value : Self) → is_some (facts value).stamp ≡ SUPPLIES_TIMESTAMP };
+    ghost supplies_timestamp: { (value : Self) → is_some (facts value).moment ≡ SUPPLIES_TIMESTAMP };
 
     // A fresh state agrees with every value.
     ghost fresh: { (state : Self.State) (value : Self) → Self.State.is_default state

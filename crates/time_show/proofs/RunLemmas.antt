@@ -7,7 +7,7 @@ use Rattle.time_show.specs.Answer.{IsAnswer, AreAnswers, BreaksOff}
 use Rattle.time_show.specs.LineBuffer.{kept_of, kept_with}
 use Rattle.time_show.specs.Lines.{line_feed, lines_of, whole_lines_of, unended_of, last_line_of, IsOneLine}
 use Rattle.time_show.specs.OutputBuffer.{buffered, Accepts, AppendsStart, CutsOff}
-use Rattle.time_show.specs.Run.{RunState, state, output_of, UpTo, AcceptsAnswer, CutsAnswerOff, AnswersOn, CutsAnswersOff, AnswersRest, CutsRestOff, Ran}
+use Rattle.time_show.specs.Run.{RunState, state, output_of, AnsweredUpTo, AcceptsAnswer, CutsAnswerOff, AnswersOn, CutsAnswersOff, AnswersRest, CutsRestOff, Ran}
 use Rattle.time_show.proofs.OutputBufferLemmas.{Appends-then, Accepts-none, Accepts-flushed, Accepts-then, CutsOff-after, CutsOff-flushed}
 use Rattle.time_show.proofs.LinesLemmas.{lines_of-append, lines_of-rest, whole_lines_of-fed, unended_of-fed, whole_lines_of-more, unended_of-more}
 
@@ -117,8 +117,8 @@ AnswersOn-none s before text upto = ([], Accepts-none (output_of s), rw (append-
 -- some bytes are answered after others
 pub AnswersOn-then : (xs ys : List ℕ) (a b c : RunState) → AnswersOn xs a b → AnswersOn ys b c → AnswersOn (xs ++ ys) a c
 AnswersOn-then xs ys a b c p q before text upto =
-    let first : (more : List ℕ) × Accepts (output_of a) (output_of b) more × UpTo (before ++ xs) b.kept (text ++ more) = p before text upto in
-    let second : (more : List ℕ) × Accepts (output_of b) (output_of c) more × UpTo ((before ++ xs) ++ ys) c.kept ((text ++ first.0) ++ more) =
+    let first : (more : List ℕ) × Accepts (output_of a) (output_of b) more × AnsweredUpTo (before ++ xs) b.kept (text ++ more) = p before text upto in
+    let second : (more : List ℕ) × Accepts (output_of b) (output_of c) more × AnsweredUpTo ((before ++ xs) ++ ys) c.kept ((text ++ first.0) ++ more) =
     q (before ++ xs) (text ++ first.0) first.2 in (
       first.0 ++ second.0,
       Accepts-then (output_of a) (output_of b) (output_of c) first.0 second.0 first.1 second.1,
@@ -170,7 +170,7 @@ CutsAnswersOff-line bytes rest kept old held one with_bytes p before text upto =
 pub CutsAnswersOff-after : (xs ys : List ℕ) (a b : RunState) (held : Option (List ℕ)) →
     AnswersOn xs a b → CutsAnswersOff ys b held → CutsAnswersOff (xs ++ ys) a held
 CutsAnswersOff-after xs ys a b held p q before text upto =
-    let so_far : (more : List ℕ) × Accepts (output_of a) (output_of b) more × UpTo (before ++ xs) b.kept (text ++ more) = p before text upto in
+    let so_far : (more : List ℕ) × Accepts (output_of a) (output_of b) more × AnsweredUpTo (before ++ xs) b.kept (text ++ more) = p before text upto in
     let cut : (first : List ℕ) × (others : List ℕ) × (more : List ℕ) × (ys ≡ first ++ others)
     × AreAnswers (whole_lines_of ((before ++ xs) ++ first)) ((text ++ so_far.0) ++ more) × CutsOff (output_of b) held more =
     q (before ++ xs) (text ++ so_far.0) so_far.2 in (
@@ -186,7 +186,7 @@ CutsAnswersOff-after xs ys a b held p q before text upto =
 pub AnswersOn-flushed : (bytes : List ℕ) (a b : RunState) (held : Option (List ℕ)) →
     AnswersOn bytes a b → Appends b.held held b.waiting → AnswersOn bytes a (state b.kept held [])
 AnswersOn-flushed bytes a b held p q before text upto =
-    let on : (more : List ℕ) × Accepts (output_of a) (output_of b) more × UpTo (before ++ bytes) b.kept (text ++ more) = p before text upto in (
+    let on : (more : List ℕ) × Accepts (output_of a) (output_of b) more × AnsweredUpTo (before ++ bytes) b.kept (text ++ more) = p before text upto in (
       on.0,
       rw append-nil at (Accepts-then (output_of a) (output_of b) (buffered held []) on.0 [] on.1 (Accepts-flushed b.held held b.waiting q)),
       on.2,
@@ -196,7 +196,7 @@ AnswersOn-flushed bytes a b held p q before text upto =
 pub CutsAnswersOff-flushed : (bytes : List ℕ) (a b : RunState) (held : Option (List ℕ)) →
     AnswersOn bytes a b → AppendsStart b.held held b.waiting → CutsAnswersOff bytes a held
 CutsAnswersOff-flushed bytes a b held p q before text upto =
-    let on : (more : List ℕ) × Accepts (output_of a) (output_of b) more × UpTo (before ++ bytes) b.kept (text ++ more) = p before text upto in (
+    let on : (more : List ℕ) × Accepts (output_of a) (output_of b) more × AnsweredUpTo (before ++ bytes) b.kept (text ++ more) = p before text upto in (
       bytes,
       [],
       on.0,
@@ -282,7 +282,7 @@ pub record Running (left_before left_after held_before held_after kept : Option 
   pub text : List ℕ
   pub read : Consumes left_before left_after bytes
   pub written : Appends held_before held_after text
-  pub answered : UpTo bytes kept text
+  pub answered : AnsweredUpTo bytes kept text
 
 -- what is accepted where nothing waits, before or after, was written
 Accepts-sent : (a b : Option (List ℕ)) (text : List ℕ) → Accepts (buffered a []) (buffered b []) text → Appends a b text
@@ -292,7 +292,7 @@ Accepts-sent a b text p = rw (p.in_order, append-nil p.sent) p.went_out
 pub Running-on : (l0 l1 l2 h0 h1 h2 k1 k2 : Option (List ℕ)) (block : List ℕ) → Running l0 l1 h0 h1 k1 → Consumes l1 l2 block →
     AnswersOn block (state k1 h1 []) (state k2 h2 []) → Running l0 l2 h0 h2 k2
 Running-on l0 l1 l2 h0 h1 h2 k1 k2 block run next on =
-    let more : (more : List ℕ) × Accepts (buffered h1 []) (buffered h2 []) more × UpTo (run.bytes ++ block) k2 (run.text ++ more) = on run.bytes run.text run.answered in
+    let more : (more : List ℕ) × Accepts (buffered h1 []) (buffered h2 []) more × AnsweredUpTo (run.bytes ++ block) k2 (run.text ++ more) = on run.bytes run.text run.answered in
     record {
       bytes = run.bytes ++ block;
       text = run.text ++ more.0;

@@ -31,33 +31,33 @@ CutsAnswerOff old held =
     (line : List ℕ) → old.kept ≡ kept_of line → (answer : List ℕ) × IsAnswer line answer × CutsOff (output_of old) held answer
 
 -- the text answers the whole lines of these bytes, and what comes after them is kept
-pub record UpTo (bytes : List ℕ) (kept : Option (List ℕ)) (text : List ℕ) : Type 0 where
+pub record AnsweredUpTo (bytes : List ℕ) (kept : Option (List ℕ)) (text : List ℕ) : Type 0 where
   pub rest : kept ≡ kept_of (unended_of bytes)
   pub answered : AreAnswers (whole_lines_of bytes) text
 
 -- what was answered before is answered on, through some more bytes, and the answers are accepted
 abbrev pub AnswersOn : List ℕ → RunState → RunState → Type 0
 AnswersOn bytes old new =
-    (before text : List ℕ) → UpTo before old.kept text →
-    (more : List ℕ) × Accepts (output_of old) (output_of new) more × UpTo (before ++ bytes) new.kept (text ++ more)
+    (before text : List ℕ) → AnsweredUpTo before old.kept text →
+    (more : List ℕ) × Accepts (output_of old) (output_of new) more × AnsweredUpTo (before ++ bytes) new.kept (text ++ more)
 
 -- what was answered before is answered on, through some first of these bytes, and the answers are cut off
 abbrev pub CutsAnswersOff : List ℕ → RunState → Option (List ℕ) → Type 0
 CutsAnswersOff bytes old held =
-    (before text : List ℕ) → UpTo before old.kept text →
+    (before text : List ℕ) → AnsweredUpTo before old.kept text →
     (first : List ℕ) × (others : List ℕ) × (more : List ℕ) × (bytes ≡ first ++ others)
     × AreAnswers (whole_lines_of (before ++ first)) (text ++ more) × CutsOff (output_of old) held more
 
 -- what was answered before is answered to its end, a last line without a line feed as well
 abbrev pub AnswersRest : RunState → RunState → Type 0
 AnswersRest old new =
-    (before text : List ℕ) → UpTo before old.kept text →
+    (before text : List ℕ) → AnsweredUpTo before old.kept text →
     (more : List ℕ) × AreAnswers (lines_of before) (text ++ more) × Accepts (output_of old) (output_of new) more
 
 -- such an answer was cut off
 abbrev pub CutsRestOff : RunState → Option (List ℕ) → Type 0
 CutsRestOff old held =
-    (before text : List ℕ) → UpTo before old.kept text →
+    (before text : List ℕ) → AnsweredUpTo before old.kept text →
     (more : List ℕ) × AreAnswers (lines_of before) (text ++ more) × CutsOff (output_of old) held more
 
 -- what is written for these bytes of input
