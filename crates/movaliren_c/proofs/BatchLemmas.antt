@@ -1,5 +1,6 @@
 -- A batch, item by item.
-use Rattle.std.proofs.Common.{◌≡◌, ◌<◌, ◌≤◌, ◌+◌, ◌-◌, ℕ, All, List, [], ◌∷◌, ◌++◌, length, take, drop, get_or, set, None, Result, Ok, Err, refl, sym, ap, ◌∙◌, ⊎_elim, inl, inr, arith, length-append, subst}
+use Rattle.std.proofs.Common.{◌≡◌, ◌<◌, ◌≤◌, ◌+◌, ◌-◌, ℕ, All, List, [], ◌∷◌, ◌++◌, length, take, drop, get_or, set}
+use Rattle.std.proofs.Common.{None, Result, Ok, Err, refl, sym, ap, ◌∙◌, ⊎_elim, inl, inr, arith, length-append, subst}
 use Rattle.std.proofs.lemmas.List.{take-append-drop, append-nil, take_more}
 use Rattle.std.proofs.lemmas.List.Elements.{All-push}
 use Rattle.std.proofs.lemmas.Grind.{common_steps, flat_map-append}

@@ -1,5 +1,6 @@
 -- Descriptions, item by item.
-use Rattle.std.proofs.Common.{◌≡◌, ◌≤◌, ◌<◌, ◌+◌, ℕ, min, List, [], ◌∷◌, length, drop, get_or, map, Result, Ok, Err, refl, sym, ap, ◌∙◌, arith, subst, rules, Vec, vec_len, vec_capacity}
+use Rattle.std.proofs.Common.{◌≡◌, ◌≤◌, ◌<◌, ◌+◌, ℕ, min, List, [], ◌∷◌, length, drop, get_or, map, Result, Ok, Err}
+use Rattle.std.proofs.Common.{refl, sym, ap, ◌∙◌, arith, subst, rules, Vec, vec_len, vec_capacity}
 use Rattle.std.proofs.lemmas.List.{at_drop_more, at_drop_all}
 use Rattle.std.specs.Global.{Global}
 use Rattle.movaliren_c.specs.Items.{HasRoomFor, IsAppended, list_of}

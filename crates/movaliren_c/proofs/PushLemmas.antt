@@ -1,5 +1,6 @@
 -- Texts appended to a line one after another.
-use Rattle.std.proofs.Common.{◌≡◌, ℕ, List, [], ◌++◌, Option, Some, None, Result, Ok, Err, IsSomeAnd, refl, ap, ◌∙◌, append_assoc}
+use Rattle.std.proofs.Common.{◌≡◌, ℕ, List, [], ◌++◌, Option, Some, None, Result, Ok, Err, IsSomeAnd, refl, ap, ◌∙◌}
+use Rattle.std.proofs.Common.{append_assoc}
 use Rattle.arrayvec.specs.ArrayString.{ArrayString}
 use Rattle.movaliren_c.specs.Answer.{IsPushed, IsRefusedFor, IsWritten}
 use Rattle.movaliren_c.specs.declared.reason.Reason.{Reason}

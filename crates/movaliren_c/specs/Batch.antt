@@ -1,5 +1,6 @@
 -- What a call for many texts leaves.
-use Rattle.std.specs.Prelude.{◌≡◌, ◌<◌, ◌⊎◌, ◌++◌, ℕ, pos, List, [], ◌∷◌, length, drop, take, All, None, Result, Ok, Err, IfSome, slice_get}
+use Rattle.std.specs.Prelude.{◌≡◌, ◌<◌, ◌⊎◌, ◌++◌, ℕ, pos, List, [], ◌∷◌, length, drop, take, All, None, Result, Ok}
+use Rattle.std.specs.Prelude.{Err, IfSome, slice_get}
 use Rattle.std.specs.List.{flat_map}
 use Rattle.movaliren_c.specs.Answer.{Explains, reason_number}
 use Rattle.movaliren_c.specs.Value.{with_value}

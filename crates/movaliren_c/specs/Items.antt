@@ -1,6 +1,7 @@
 -- What a description that crosses as data means: a tree for each item, or the reason why there is
 -- none.
-use Rattle.std.specs.Prelude.{ℕ, min, ◌+◌, ◌-◌, Bool, true, false, ◌==◌, ◌&&◌, nat_le, nat_lt, List, [], ◌∷◌, map, length, slice_range, Result, Ok, Err, Vec, if◌then◌else◌}
+use Rattle.std.specs.Prelude.{ℕ, min, ◌+◌, ◌-◌, Bool, true, false, ◌==◌, ◌&&◌, nat_le, nat_lt, List, [], ◌∷◌, map}
+use Rattle.std.specs.Prelude.{length, slice_range, Result, Ok, Err, Vec, if◌then◌else◌}
 use Rattle.movaliren_c.specs.Value.{with_value}
 use Rattle.movaliren_c.specs.declared.item.Item.{Item}
 use Rattle.movaliren_c.specs.declared.reason.Reason.{Reason}

@@ -1,5 +1,6 @@
 -- The value that the parts of a moment give, or the first part that is outside its range.
-use Rattle.std.specs.Prelude.{ℕ, ℤ, Bool, ◌&&◌, nat_le, nat_lt, int_le, pos, neg_ℤ, unsigned_abs, Result, Ok, Err, if◌then◌else◌}
+use Rattle.std.specs.Prelude.{ℕ, ℤ, Bool, ◌&&◌, nat_le, nat_lt, int_le, pos, neg_ℤ, unsigned_abs, Result, Ok, Err}
+use Rattle.std.specs.Prelude.{if◌then◌else◌}
 use Rattle.movaliren_c.specs.declared.reason.Reason.{Reason}
 use Rattle.movaliren_c.specs.declared.reason.Reason.TheVariants as reason
 use Rattle.movaliren_c.specs.declared.moment.Moment.{Moment}

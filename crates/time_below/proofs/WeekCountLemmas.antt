@@ -1,7 +1,9 @@
 -- The weeks of a year that begin on Monday, and on Sunday, count its days of that name.
-use Rattle.std.proofs.Common.{◌≡◌, ℕ, zero, suc, ◌+◌, ◌-◌, ◌/◌, ◌%◌, ◌≤◌, ◌==◌, if◌then◌else◌, sym, ap, ap₂, ◌∙◌, arith, ℤ, pos, ◌+ℤ◌, unsigned_abs}
+use Rattle.std.proofs.Common.{◌≡◌, ℕ, zero, suc, ◌+◌, ◌-◌, ◌/◌, ◌%◌, ◌≤◌, ◌==◌, if◌then◌else◌, sym, ap, ap₂, ◌∙◌, arith}
+use Rattle.std.proofs.Common.{ℤ, pos, ◌+ℤ◌, unsigned_abs}
 use Rattle.std.proofs.lemmas.Bool.Decides.{nat_tests}
-use Rattle.time_below.specs.Calendar.{OrdinalDate, IsDate, IsYear, day_number, weekday_of, days_of_name, monday_based_week_of, sunday_based_week_of, from_sunday, greatest_year}
+use Rattle.time_below.specs.Calendar.{OrdinalDate, IsDate, IsYear, day_number, weekday_of, days_of_name}
+use Rattle.time_below.specs.Calendar.{monday_based_week_of, sunday_based_week_of, from_sunday, greatest_year}
 use Rattle.time_below.proofs.CalendarLemmas.{days_of_years, day_number_from_start, weekday_from_start}
 use Rattle.time_below.proofs.YearLemmas.{years_from_start}
 
@@ -20,21 +22,25 @@ counted : (weekday : ℕ) (y : ℤ) (place : ℕ)
 unfolding days_of_name
 counted weekday y place same zero = omega arith
 counted weekday y place same (suc n) =
-    ap₂ (λ (i j : ℕ). i + j) (counted weekday y place same n) (ap (λ b. if b then 1 else 0) (same n)) ∙ sevenths-more place n
+    ap₂ (λ (i j : ℕ). i + j) (counted weekday y place same n) (ap (λ b. if b then 1 else 0) (same n))
+    ∙ sevenths-more place n
 
 -- how many days before a year the calendar has, from its start
 abbrev start_of : ℤ → ℕ
 start_of y = days_of_years (unsigned_abs (y +ℤ pos greatest_year))
 
 -- the weekday of a day of a year
-weekday_in_year : (d : OrdinalDate) → IsYear d.year → 1 ≤ d.ordinal → weekday_of d ≡ (start_of d.year + d.ordinal - 1) % 7
+weekday_in_year : (d : OrdinalDate) → IsYear d.year → 1 ≤ d.ordinal
+    → weekday_of d ≡ (start_of d.year + d.ordinal - 1) % 7
 weekday_in_year d year one =
-    let there = day_number_from_start d (unsigned_abs (d.year +ℤ pos greatest_year)) (years_from_start d.year year) one in
+    let there = day_number_from_start d (unsigned_abs (d.year +ℤ pos greatest_year)) (years_from_start d.year year) one
+    in
     weekday_from_start (day_number d) (start_of d.year + d.ordinal - 1) (sym there)
 
 -- the same, of the day after so many of the year
 weekday_after : (y : ℤ) → IsYear y → (n : ℕ) → weekday_of (record { year = y; ordinal = suc n }) ≡ (start_of y + n) % 7
-weekday_after y year n = weekday_in_year (record { year = y; ordinal = suc n }) year (omega arith) ∙ ap (λ k. k % 7) (omega arith)
+weekday_after y year n = weekday_in_year (record { year = y; ordinal = suc n }) year (omega arith)
+    ∙ ap (λ k. k % 7) (omega arith)
 
 -- a Sunday is at place 6 of a week from Monday, and at place 0 of one from Sunday
 sunday_is_first : (place n : ℕ) → ((place + n) % 7 == 6) ≡ ((place + 1 + n) % 7 == 0)
@@ -50,7 +56,8 @@ mondays_counted d h =
     let place = start_of d.year in
     let count = counted 0 d.year place (λ n. ap (λ k. k == 0) (weekday_after d.year h.0 n)) d.ordinal in
     let day = weekday_in_year d h.0 h.1.0 in
-    let same : weekday_of d ≡ (place + d.ordinal + 6) % 7 = day ∙ week_before (place + d.ordinal) (omega (arith, h.1.0)) in
+    let same : weekday_of d ≡ (place + d.ordinal + 6) % 7 = day
+    ∙ week_before (place + d.ordinal) (omega (arith, h.1.0)) in
     ap (λ k. (d.ordinal + 6 - k) / 7) same ∙ sym count
 
 -- the weeks that begin on Sunday count the Sundays

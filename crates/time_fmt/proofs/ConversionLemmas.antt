@@ -1,6 +1,7 @@
 -- The current component is no wider than the deprecated one.
 use Rattle.std.proofs.Common.{◌≤◌, Bool, true, false, arith}
-use Rattle.time_below.specs.Conversion.{current_component, current_month, current_weekday, current_week_number, current_hour, current_unix_timestamp, current_year}
+use Rattle.time_below.specs.Conversion.{current_component, current_month, current_weekday, current_week_number}
+use Rattle.time_below.specs.Conversion.{current_hour, current_unix_timestamp, current_year}
 use Rattle.time_below.specs.Width.{component_width, month_width, weekday_width, unix_timestamp_width, year_width}
 use Rattle.time_below.specs.declared.format_description.component.Component.{Component}
 use Rattle.time_below.specs.declared.format_description.component.Component.TheVariants as component
@@ -48,12 +49,14 @@ of_hour true m = omega arith
 of_hour false m = omega arith
 
 -- so is that of a timestamp
-of_unix_timestamp : (p : UnixTimestampPrecision) (m : UnixTimestamp) → component_width (current_unix_timestamp p m) ≤ unix_timestamp_width p
+of_unix_timestamp : (p : UnixTimestampPrecision) (m : UnixTimestamp)
+    → component_width (current_unix_timestamp p m) ≤ unix_timestamp_width p
 of_unix_timestamp precision.Second m = omega arith
 of_unix_timestamp precision.Millisecond m = omega arith
 
 -- so is that of a year
-of_year : (week_based : Bool) (r : YearRepr) (size : YearRange) (m : Year) → component_width (current_year week_based r size m) ≤ year_width r
+of_year : (week_based : Bool) (r : YearRepr) (size : YearRange) (m : Year)
+    → component_width (current_year week_based r size m) ≤ year_width r
 of_year true year.Full range.Extended m = omega arith
 of_year true year.Full range.Standard m = omega arith
 of_year true year.Century range.Extended m = omega arith

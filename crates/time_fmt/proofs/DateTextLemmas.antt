@@ -1,21 +1,25 @@
 -- How long the texts of a date are, and where nothing is filled in before a number.
-use Rattle.std.proofs.Common.{◌≡◌, ℕ, ◌+◌, ◌^◌, ◌<◌, ◌≤◌, Bool, true, false, ◌||◌, nat_lt, List, ◌++◌, length, decimal, refl, sym, ◌∙◌, arith, ℤ, pos, unsigned_abs, length-append}
+use Rattle.std.proofs.Common.{◌≡◌, ℕ, ◌+◌, ◌^◌, ◌<◌, ◌≤◌, Bool, true, false, ◌||◌, nat_lt, List, ◌++◌, length, decimal}
+use Rattle.std.proofs.Common.{refl, sym, ◌∙◌, arith, ℤ, pos, unsigned_abs, length-append}
 use Rattle.std.proofs.lemmas.Fmt.{length-decimal-le}
 use Rattle.std.proofs.Math.ListN.{length-take}
 use Rattle.std.specs.Prelude.{int_lt}
 use Rattle.time_below.specs.declared.format_description.modifier.Padding.{Padding}
 use Rattle.time_below.specs.declared.format_description.modifier.Padding.TheVariants as padding
 use Rattle.time_below.specs.declared.month.Month.{Month}
-use Rattle.time_below.specs.declared.month.Month.TheVariants.{January, February, March, April, May, June, July, August, September, October, November, December}
+use Rattle.time_below.specs.declared.month.Month.TheVariants.{January, February, March, April, May, June, July, August}
+use Rattle.time_below.specs.declared.month.Month.TheVariants.{September, October, November, December}
 use Rattle.time_below.specs.declared.weekday.Weekday.{Weekday}
-use Rattle.time_below.specs.declared.weekday.Weekday.TheVariants.{Monday, Tuesday, Wednesday, Thursday, Friday, Saturday, Sunday}
+use Rattle.time_below.specs.declared.weekday.Weekday.TheVariants.{Monday, Tuesday, Wednesday, Thursday, Friday}
+use Rattle.time_below.specs.declared.weekday.Weekday.TheVariants.{Saturday, Sunday}
 use Rattle.time_below.specs.Month.{month_number}
 use Rattle.time_below.specs.Weekday.{days_from_monday}
 use Rattle.time_digits.specs.Digits.{zero_padded}
 use Rattle.time_digits.proofs.DigitLemmas.{decimal_longer, padded_whole}
 use Rattle.time_digits.proofs.LengthLemmas.{length-padded-le}
 use Rattle.time_below.specs.Calendar.{from_sunday}
-use Rattle.time_fmt.specs.DateText.{month_name, weekday_name, short_name, indexed, extended_year_text, standard_year_text, extended_century_text, standard_century_text}
+use Rattle.time_fmt.specs.DateText.{month_name, weekday_name, short_name, indexed, extended_year_text}
+use Rattle.time_fmt.specs.DateText.{standard_year_text, extended_century_text, standard_century_text}
 use Rattle.time_fmt.specs.Text.{padded_text, sign_text}
 use Rattle.time_fmt.proofs.TextLemmas.{length-sign_text, length-padded_text, two_places}
 
@@ -39,7 +43,8 @@ whole_century padding.None n low high = refl
 -- ---- lengths of numbers
 
 -- no more bytes than the places and the digits
-padded_text_within : (p : Padding) (places most n : ℕ) → places ≤ most → length (decimal n) ≤ most → length (padded_text p places n) ≤ most
+padded_text_within : (p : Padding) (places most n : ℕ) → places ≤ most → length (decimal n) ≤ most
+    → length (padded_text p places n) ≤ most
 padded_text_within padding.Space places most n h d = length-padded-le 32 places n most h d
 padded_text_within padding.Zero places most n h d = length-padded-le 48 places n most h d
 padded_text_within padding.None places most n h d = d
@@ -51,30 +56,45 @@ three_places p n h = length-padded_text p 3 n (length-decimal-le 3 n (omega arit
 -- ---- lengths of years and centuries
 
 -- a sign and then so many digits
-signed_within : (p : Padding) (is_negative is_wanted : Bool) (places most n : ℕ) → places ≤ most → length (decimal n) ≤ most
+signed_within : (p : Padding) (is_negative is_wanted : Bool) (places most n : ℕ) → places ≤ most
+    → length (decimal n) ≤ most
     → length (sign_text is_negative is_wanted ++ padded_text p places n) ≤ most + 1
 signed_within p is_negative is_wanted places most n h d =
-    omega (arith, length-append (sign_text is_negative is_wanted) (padded_text p places n), length-sign_text is_negative is_wanted, padded_text_within p places most n h d)
+    omega (
+      arith,
+      length-append (sign_text is_negative is_wanted) (padded_text p places n),
+      length-sign_text
+          is_negative is_wanted,
+      padded_text_within p places most n h d,
+    )
 
 -- a year has at most six digits and a sign
-pub length-extended_year_text : (p : Padding) (s : Bool) (year : ℤ) → unsigned_abs year ≤ 999_999 → length (extended_year_text p s year) ≤ 7
+pub length-extended_year_text : (p : Padding) (s : Bool) (year : ℤ) → unsigned_abs year ≤ 999_999
+    → length (extended_year_text p s year) ≤ 7
 length-extended_year_text p s year h =
-    signed_within p (int_lt year (pos 0)) (s || int_lt (pos 9_999) year) 4 6 (unsigned_abs year) (omega arith) (length-decimal-le 6 (unsigned_abs year) (omega arith) (omega arith) (omega arith))
+    signed_within p (int_lt year (pos 0)) (s || int_lt (pos 9_999) year) 4 6 (unsigned_abs year) (omega arith)
+    (length-decimal-le 6 (unsigned_abs year) (omega arith) (omega arith) (omega arith))
 
 -- or four digits and a sign
-pub length-standard_year_text : (p : Padding) (s : Bool) (year : ℤ) → unsigned_abs year ≤ 9_999 → length (standard_year_text p s year) ≤ 5
+pub length-standard_year_text : (p : Padding) (s : Bool) (year : ℤ) → unsigned_abs year ≤ 9_999
+    → length (standard_year_text p s year) ≤ 5
 length-standard_year_text p s year h =
-    signed_within p (int_lt year (pos 0)) s 4 4 (unsigned_abs year) (omega arith) (length-decimal-le 4 (unsigned_abs year) (omega arith) (omega arith) (omega arith))
+    signed_within p (int_lt year (pos 0)) s 4 4 (unsigned_abs year) (omega arith)
+    (length-decimal-le 4 (unsigned_abs year) (omega arith) (omega arith) (omega arith))
 
 -- a century has at most four digits and a sign
-pub length-extended_century_text : (p : Padding) (s is_negative : Bool) (century : ℕ) → century ≤ 9_999 → length (extended_century_text p s is_negative century) ≤ 5
+pub length-extended_century_text : (p : Padding) (s is_negative : Bool) (century : ℕ) → century ≤ 9_999
+    → length (extended_century_text p s is_negative century) ≤ 5
 length-extended_century_text p s is_negative century h =
-    signed_within p is_negative (s || nat_lt 99 century) 2 4 century (omega arith) (length-decimal-le 4 century (omega arith) (omega arith) (omega arith))
+    signed_within p is_negative (s || nat_lt 99 century) 2 4 century (omega arith)
+    (length-decimal-le 4 century (omega arith) (omega arith) (omega arith))
 
 -- or two digits and a sign
-pub length-standard_century_text : (p : Padding) (s is_negative : Bool) (century : ℕ) → century ≤ 99 → length (standard_century_text p s is_negative century) ≤ 3
+pub length-standard_century_text : (p : Padding) (s is_negative : Bool) (century : ℕ) → century ≤ 99
+    → length (standard_century_text p s is_negative century) ≤ 3
 length-standard_century_text p s is_negative century h =
-    signed_within p is_negative s 2 2 century (omega arith) (length-decimal-le 2 century (omega arith) (omega arith) (omega arith))
+    signed_within p is_negative s 2 2 century (omega arith)
+    (length-decimal-le 2 century (omega arith) (omega arith) (omega arith))
 
 -- ---- lengths of names, and of the digit of a weekday
 
@@ -123,12 +143,15 @@ length-indexed true days h = length-decimal-le 1 (days + 1) (omega arith) (omega
 length-indexed false days h = length-decimal-le 1 days (omega arith) (omega arith) (omega arith)
 
 -- a weekday is one digit, from Monday
-pub length-monday_digit : (one_indexed : Bool) (w : Weekday) → length (decimal (indexed one_indexed (days_from_monday w))) ≤ 1
+pub length-monday_digit : (one_indexed : Bool) (w : Weekday)
+    → length (decimal (indexed one_indexed (days_from_monday w))) ≤ 1
 length-monday_digit one_indexed w = length-indexed one_indexed (days_from_monday w) (days_in_week w)
 
 -- or from Sunday
-pub length-sunday_digit : (one_indexed : Bool) (w : Weekday) → length (decimal (indexed one_indexed (from_sunday (days_from_monday w)))) ≤ 1
-length-sunday_digit one_indexed w = length-indexed one_indexed (from_sunday (days_from_monday w)) (omega (arith, days_in_week w))
+pub length-sunday_digit : (one_indexed : Bool) (w : Weekday)
+    → length (decimal (indexed one_indexed (from_sunday (days_from_monday w)))) ≤ 1
+length-sunday_digit one_indexed w = length-indexed one_indexed (from_sunday (days_from_monday w))
+    (omega (arith, days_in_week w))
 
 pub ruleset name_lengths = (length-month_name, length-weekday_name, length-short_name, two_places)
 

@@ -1,5 +1,6 @@
 -- The first decimals of the second are the digits of a smaller number.
-use Rattle.std.proofs.Common.{◌≡◌, ℕ, ◌+◌, ◌-◌, ◌*◌, ◌/◌, ◌%◌, ◌^◌, ◌<◌, ◌≤◌, List, ◌++◌, length, take, drop, decimal, sym, ap, ◌∙◌, refl, arith, length-append, append_assoc}
+use Rattle.std.proofs.Common.{◌≡◌, ℕ, ◌+◌, ◌-◌, ◌*◌, ◌/◌, ◌%◌, ◌^◌, ◌<◌, ◌≤◌, List, ◌++◌, length, take, drop, decimal}
+use Rattle.std.proofs.Common.{sym, ap, ◌∙◌, refl, arith, length-append, append_assoc}
 use Rattle.std.specs.Int.{w64, to_le_bytes, from_le_bytes}
 use Rattle.std.proofs.lemmas.List.{take-append-le, take_all}
 use Rattle.std.proofs.Math.ListN.{length-take}
@@ -22,7 +23,8 @@ take_front xs ys k h = let le : k ≤ length xs = omega arith in take-append-le 
 
 -- the first j of j + k digits
 pub take-fixed : (j k n : ℕ) → take j (fixed (j + k) n) ≡ fixed j (n / 10 ^ k)
-take-fixed j k n = rw (fixed-append j k n) (take_front (fixed j (n / 10 ^ k)) (fixed k n) j (length-fixed j (n / 10 ^ k)))
+take-fixed j k n = rw (fixed-append j k n)
+    (take_front (fixed j (n / 10 ^ k)) (fixed k n) j (length-fixed j (n / 10 ^ k)))
 
 -- they are j
 pub length-first : (j k n : ℕ) → length (take j (fixed (j + k) n)) ≡ j
@@ -56,7 +58,18 @@ eight_decimals n = take-fixed 8 1 n
 pub nine_decimals : (n : ℕ) → take 9 (fixed 9 n) ≡ fixed 9 n
 nine_decimals n = take_all 9 (fixed 9 n) (omega (arith, length-fixed 9 n))
 
-pub ruleset first_decimals = (one_decimal, two_decimals, three_decimals, four_decimals, five_decimals, six_decimals, seven_decimals, eight_decimals, nine_decimals, length-fixed)
+pub ruleset first_decimals = (
+  one_decimal,
+  two_decimals,
+  three_decimals,
+  four_decimals,
+  five_decimals,
+  six_decimals,
+  seven_decimals,
+  eight_decimals,
+  nine_decimals,
+  length-fixed,
+)
 
 -- the first three and the first six, as decimals of a second
 pub three_of_second : (n : ℕ) → take 3 (fixed 9 n) ≡ decimals n 1_000_000_000 3
@@ -68,7 +81,8 @@ six_of_second n =
     let same : n / 10 ^ 3 ≡ n * 10 ^ 6 / 1_000_000_000 = omega arith in take-fixed 6 3 n ∙ ap (fixed 6) same
 
 -- six digits by the first two and the next four
-pub six_parts : (n : ℕ) → n < 1_000_000_000 → zero_padded 2 (n / 1_000 / 10_000) ++ zero_padded 4 (n / 1_000 % 10_000) ≡ take 6 (fixed 9 n)
+pub six_parts : (n : ℕ) → n < 1_000_000_000
+    → zero_padded 2 (n / 1_000 / 10_000) ++ zero_padded 4 (n / 1_000 % 10_000) ≡ take 6 (fixed 9 n)
 six_parts n h =
     let m = n / 1_000 in
     let first = zero_padded_is 1 (m / 10_000) (omega arith) (omega arith) in
@@ -86,8 +100,10 @@ nine_parts n h =
     let next = zero_padded_is 3 (n / 10_000 % 10_000) (omega arith) (omega arith) ∙ fixed-mod 4 (n / 10_000) in
     let last = zero_padded_is 3 (n % 10_000) (omega arith) (omega arith) ∙ fixed-mod 4 n in
     let five =
-    ap (λ xs. xs ++ zero_padded 4 (n / 10_000 % 10_000)) first ∙ ap (λ ys. fixed 1 (n / 10_000 / 10_000) ++ ys) next ∙ sym (fixed-append 1 4 (n / 10_000)) in
-    ap (λ xs. xs ++ zero_padded 4 (n % 10_000)) five ∙ ap (λ ys. fixed 5 (n / 10_000) ++ ys) last ∙ sym (fixed-append 5 4 n)
+    ap (λ xs. xs ++ zero_padded 4 (n / 10_000 % 10_000)) first ∙ ap (λ ys. fixed 1 (n / 10_000 / 10_000) ++ ys) next
+    ∙ sym (fixed-append 1 4 (n / 10_000)) in
+    ap (λ xs. xs ++ zero_padded 4 (n % 10_000)) five ∙ ap (λ ys. fixed 5 (n / 10_000) ++ ys) last
+    ∙ sym (fixed-append 5 4 n)
 
 pub ruleset nine_digits = (nine_parts, length-digit, four_zeros, length-append, append_assoc)
 
@@ -96,14 +112,16 @@ pub seven_parts : (n : ℕ) → n < 10_000_000 → decimal (n / 1_000_000) ++ ze
 seven_parts n h =
     let first = decimal_one (n / 1_000_000) (omega arith) in
     let last = zero_padded_is 5 (n % 1_000_000) (omega arith) (omega arith) ∙ fixed-mod 6 n in
-    ap (λ xs. xs ++ zero_padded 6 (n % 1_000_000)) first ∙ ap (λ ys. fixed 1 (n / 1_000_000) ++ ys) last ∙ sym (fixed-append 1 6 n)
+    ap (λ xs. xs ++ zero_padded 6 (n % 1_000_000)) first ∙ ap (λ ys. fixed 1 (n / 1_000_000) ++ ys) last
+    ∙ sym (fixed-append 1 6 n)
 
 -- and by its first two digits and its last six
 pub eight_parts : (n : ℕ) → n < 100_000_000 → zero_padded 2 (n / 1_000_000) ++ zero_padded 6 (n % 1_000_000) ≡ fixed 8 n
 eight_parts n h =
     let first = zero_padded_is 1 (n / 1_000_000) (omega arith) (omega arith) in
     let last = zero_padded_is 5 (n % 1_000_000) (omega arith) (omega arith) ∙ fixed-mod 6 n in
-    ap (λ xs. xs ++ zero_padded 6 (n % 1_000_000)) first ∙ ap (λ ys. fixed 2 (n / 1_000_000) ++ ys) last ∙ sym (fixed-append 2 6 n)
+    ap (λ xs. xs ++ zero_padded 6 (n % 1_000_000)) first ∙ ap (λ ys. fixed 2 (n / 1_000_000) ++ ys) last
+    ∙ sym (fixed-append 2 6 n)
 
 pub ruleset two_parts = (seven_parts, eight_parts, length-digit, two_zeros, six_zeros, length-append, append_assoc)
 
@@ -123,11 +141,13 @@ length-subsecond_text digits.OneOrMore n = length-trimmed_fraction n
 pub ruleset subsecond_lengths = (length-subsecond_text, length-trimmed_fraction)
 
 -- the word of the last eight of nine digits shows these eight again
-pub eight_of_word : (n word : ℕ) (digits eight : List ℕ) → digits ≡ fixed 9 n → eight ≡ drop (length digits - 8) digits → word ≡ from_le_bytes w64 eight
+pub eight_of_word : (n word : ℕ) (digits eight : List ℕ) → digits ≡ fixed 9 n → eight ≡ drop (length digits - 8) digits
+    → word ≡ from_le_bytes w64 eight
     → to_le_bytes w64 word ≡ fixed 8 n
 eight_of_word n word digits eight nine last read = digits_of_word eight n word (last ∙ last_of_nine n digits nine) read
 
 -- without as many bytes as there are zeros at the end of the eight, the nine digits are the trimmed fraction
-pub kept_of_nine : (n word dropped : ℕ) (digits : List ℕ) → digits ≡ fixed 9 n → to_le_bytes w64 word ≡ fixed 8 n → dropped ≡ last_zeros (to_le_bytes w64 word)
+pub kept_of_nine : (n word dropped : ℕ) (digits : List ℕ) → digits ≡ fixed 9 n → to_le_bytes w64 word ≡ fixed 8 n
+    → dropped ≡ last_zeros (to_le_bytes w64 word)
     → take (9 - dropped) digits ≡ trimmed_fraction n
 kept_of_nine n word dropped digits nine eight zeros = rw (nine, zeros, eight) (sym (trimmed_fraction-take n))

@@ -1,5 +1,6 @@
 -- Nodes one after another: what is written so far, and then the outcome of what is left, is the outcome of all.
-use Rattle.std.proofs.Common.{◌≡◌, ap, sym, ◌∙◌, arith, ℕ, ◌+◌, ◌-◌, ◌≤◌, ◌++◌, List, [], ◌∷◌, map, drop, length, append_assoc, length-append, subst, Some, Ok, Err, vec_len, vec_capacity, Vec}
+use Rattle.std.proofs.Common.{◌≡◌, ap, sym, ◌∙◌, arith, ℕ, ◌+◌, ◌-◌, ◌≤◌, ◌++◌, List, [], ◌∷◌, map, drop, length}
+use Rattle.std.proofs.Common.{append_assoc, length-append, subst, Some, Ok, Err, vec_len, vec_capacity, Vec}
 use Rattle.std.specs.Prelude.{slice_get}
 use Rattle.std.specs.Global.{Global}
 use Rattle.std.proofs.lemmas.List.{append-nil, at_drop_all}
@@ -14,7 +15,8 @@ use Rattle.time_fmt.proofs.WriteLemmas.{some_of, join_refused, join_done}
 use Rattle.time_fmt.proofs.GuaranteeLemmas.{text_more, text_stops, empty_utf8}
 
 -- so far a list was written without a refusal: its rest is the rest of the outcome, and has room
-pub record Along (agrees : Type 0) (old now : Vec ℕ Global) (sum : ℕ) (f : Facts) (all left : Trees) (all_size left_size : ℕ) : Type 0 where
+pub record Along (agrees : Type 0) (old now : Vec ℕ Global) (sum : ℕ) (f : Facts) (all left : Trees)
+    (all_size left_size : ℕ) : Type 0 where
   pub state : agrees
   pub size : left_size ≤ all_size
   pub bytes : old.items ++ (trees_outcome all f).bytes ≡ now.items ++ (trees_outcome left f).bytes
@@ -24,16 +26,21 @@ pub record Along (agrees : Type 0) (old now : Vec ℕ Global) (sum : ℕ) (f : F
   pub room : vec_len now + trees_width left ≤ vec_capacity now
   pub within : vec_len now + trees_width left ≤ vec_len old + trees_width all
   pub capacity : vec_capacity now ≡ vec_capacity old
-  pub text : IsTextIf (are_guaranteed_text left) (trees_outcome left f) → IsTextIf (are_guaranteed_text all) (trees_outcome all f)
+  pub text : IsTextIf (are_guaranteed_text left) (trees_outcome left f)
+      → IsTextIf (are_guaranteed_text all) (trees_outcome all f)
 
 -- what was written before a node that is refused, and what the node wrote, is what the list writes
-pub refused_along : {agrees : Type 0} {sum all_size left_size : ℕ} (old mid new : Vec ℕ Global) (e : Format) (f : Facts) (all left others : Trees) (t : Tree) →
-    Along agrees old mid sum f all left all_size left_size → left ≡ more t others → Appends mid new (Err e) (tree_outcome t f) → Appends old new (Err e) (trees_outcome all f)
+pub refused_along : {agrees : Type 0} {sum all_size left_size : ℕ} (old mid new : Vec ℕ Global) (e : Format)
+    (f : Facts) (all left others : Trees) (t : Tree) →
+    Along agrees old mid sum f all left all_size left_size → left ≡ more t others
+    → Appends mid new (Err e) (tree_outcome t f) → Appends old new (Err e) (trees_outcome all f)
 refused_along old mid new e f all left others t along next step =
     let first = tree_outcome t f in
     let r = some_of (Names e) first.refusal step.named in
-    let same : trees_outcome left f ≡ first = ap (λ ts. trees_outcome ts f) next ∙ join_refused first (trees_outcome others f) r.0 r.1 in
-    let bytes : old.items ++ (trees_outcome all f).bytes ≡ mid.items ++ first.bytes = along.bytes ∙ ap (λ (o : Outcome). mid.items ++ o.bytes) same in
+    let same : trees_outcome left f ≡ first = ap (λ ts. trees_outcome ts f) next
+    ∙ join_refused first (trees_outcome others f) r.0 r.1 in
+    let bytes : old.items ++ (trees_outcome all f).bytes ≡ mid.items ++ first.bytes = along.bytes
+    ∙ ap (λ (o : Outcome). mid.items ++ o.bytes) same in
     record {
       appended = step.appended ∙ sym bytes;
       counted = tt;
@@ -43,8 +50,10 @@ refused_along old mid new e f all left others t along next step =
     }
 
 -- the text so far, and that of a node that is refused, make the text of the list
-pub text_refused : {agrees : Type 0} {sum all_size left_size : ℕ} (old mid new : Vec ℕ Global) (e : Format) (f : Facts) (all left others : Trees) (t : Tree) →
-    Along agrees old mid sum f all left all_size left_size → left ≡ more t others → Appends mid new (Err e) (tree_outcome t f)
+pub text_refused : {agrees : Type 0} {sum all_size left_size : ℕ} (old mid new : Vec ℕ Global) (e : Format) (f : Facts)
+    (all left others : Trees) (t : Tree) →
+    Along agrees old mid sum f all left all_size left_size → left ≡ more t others
+    → Appends mid new (Err e) (tree_outcome t f)
     → IsTextIf (is_guaranteed_text t) (tree_outcome t f) → IsTextIf (are_guaranteed_text all) (trees_outcome all f)
 text_refused old mid new e f all left others t along next step first =
     let r = some_of (Names e) (tree_outcome t f).refusal step.named in
@@ -53,16 +62,20 @@ text_refused old mid new e f all left others t along next step first =
     along.text (subst P (sym next) stops)
 
 -- what was written before a node, and what the node wrote, is followed by what is left
-pub written_along : {agrees agrees_after : Type 0} {sum count all_size left_size rest_size : ℕ} (old mid new : Vec ℕ Global) (f : Facts) (all left others : Trees) (t : Tree) →
-    Along agrees old mid sum f all left all_size left_size → left ≡ more t others → rest_size ≤ left_size → Appends mid new (Ok count) (tree_outcome t f)
+pub written_along : {agrees agrees_after : Type 0} {sum count all_size left_size rest_size : ℕ}
+    (old mid new : Vec ℕ Global) (f : Facts) (all left others : Trees) (t : Tree) →
+    Along agrees old mid sum f all left all_size left_size → left ≡ more t others → rest_size ≤ left_size
+    → Appends mid new (Ok count) (tree_outcome t f)
     → vec_len new ≤ vec_len mid + tree_width t → agrees_after → IsTextIf (is_guaranteed_text t) (tree_outcome t f)
     → Along agrees_after old new (sum + count) f all others all_size rest_size
 written_along old mid new f all left others t along next smaller step within agrees first =
     let a = tree_outcome t f in
     let b = trees_outcome others f in
-    let e : trees_outcome left f ≡ record { bytes = a.bytes ++ b.bytes; refusal = b.refusal } = ap (λ ts. trees_outcome ts f) next ∙ join_done a b step.counted.0 in
+    let e : trees_outcome left f ≡ record { bytes = a.bytes ++ b.bytes; refusal = b.refusal } =
+    ap (λ ts. trees_outcome ts f) next ∙ join_done a b step.counted.0 in
     let bytes : (trees_outcome left f).bytes ≡ a.bytes ++ b.bytes = ap (λ (o : Outcome). o.bytes) e in
-    let length : length (trees_outcome left f).bytes ≡ length a.bytes + length b.bytes = ap length bytes ∙ length-append a.bytes b.bytes in
+    let length : length (trees_outcome left f).bytes ≡ length a.bytes + length b.bytes = ap length bytes
+    ∙ length-append a.bytes b.bytes in
     let width : trees_width left ≡ tree_width t + trees_width others = ap trees_width next in
     let P : Trees → Type 0 = λ ts. IsTextIf (are_guaranteed_text ts) (trees_outcome ts f) in
     record {
@@ -81,7 +94,8 @@ written_along old mid new f all left others t along next smaller step within agr
     }
 
 -- the number of the bytes is the difference of the lengths
-pub by_lengths : {agrees : Type 0} {sum all_size left_size : ℕ} (old now : Vec ℕ Global) (f : Facts) (all left : Trees) → Along agrees old now sum f all left all_size left_size
+pub by_lengths : {agrees : Type 0} {sum all_size left_size : ℕ} (old now : Vec ℕ Global) (f : Facts) (all left : Trees)
+    → Along agrees old now sum f all left all_size left_size
     → Along agrees old now (vec_len now - vec_len old) f all left all_size left_size
 by_lengths {agrees} {sum} {all_size} {left_size} old now f all left along =
     let P : ℕ → Type 0 = λ s. Along agrees old now s f all left all_size left_size in
@@ -89,14 +103,21 @@ by_lengths {agrees} {sum} {all_size} {left_size} old now f all left along =
     subst P same along
 
 -- at the end of a list nothing is left, so that all of it is written
-pub all_along : {A agrees : Type 0} {sum all_size left_size : ℕ} (tree : A → Tree) (nodes : List A) (i : ℕ) (old now : Vec ℕ Global) (f : Facts) → length nodes ≤ i
-    → Along agrees old now sum f (trees (map tree nodes)) (trees (map tree (drop i nodes))) all_size left_size → Appends old now (Ok sum) (trees_outcome (trees (map tree nodes)) f)
+pub all_along : {A agrees : Type 0} {sum all_size left_size : ℕ} (tree : A → Tree) (nodes : List A) (i : ℕ)
+    (old now : Vec ℕ Global) (f : Facts) → length nodes ≤ i
+    → Along agrees old now sum f (trees (map tree nodes)) (trees (map tree (drop i nodes))) all_size left_size
+    → Appends old now (Ok sum) (trees_outcome (trees (map tree nodes)) f)
 all_along {A} {agrees} {sum} tree nodes i old now f past along =
     let none : trees (map tree (drop i nodes)) ≡ end = at_drop_all (λ xs. trees (map tree xs)) nodes i past in
-    let bytes : (trees_outcome (trees (map tree (drop i nodes))) f).bytes ≡ [] = ap (λ ts. (trees_outcome ts f).bytes) none in
+    let bytes : (trees_outcome (trees (map tree (drop i nodes))) f).bytes ≡ [] =
+    ap (λ ts. (trees_outcome ts f).bytes) none in
     record {
       appended = sym (along.bytes ∙ ap (λ bs. now.items ++ bs) bytes ∙ append-nil now.items);
-      counted = (along.refusal ∙ ap (λ ts. (trees_outcome ts f).refusal) none, omega (arith, along.count, ap length bytes));
+      counted = (
+        along.refusal
+            ∙ ap (λ ts. (trees_outcome ts f).refusal) none,
+        omega (arith, along.count, ap length bytes),
+      );
       named = tt;
       grown = omega (arith, along.grown, along.count, ap length bytes);
       capacity = along.capacity;
@@ -104,7 +125,9 @@ all_along {A} {agrees} {sum} tree nodes i old now f past along =
 
 -- nor is it of a text
 pub text_at_end : {A : Type 0} (tree : A → Tree) (nodes : List A) (i : ℕ) (f : Facts) → length nodes ≤ i
-    → (IsTextIf (are_guaranteed_text (trees (map tree (drop i nodes)))) (trees_outcome (trees (map tree (drop i nodes))) f) → IsTextIf (are_guaranteed_text (trees (map tree nodes))) (trees_outcome (trees (map tree nodes)) f))
+    → (IsTextIf (are_guaranteed_text (trees (map tree (drop i nodes))))
+    (trees_outcome (trees (map tree (drop i nodes))) f)
+    → IsTextIf (are_guaranteed_text (trees (map tree nodes))) (trees_outcome (trees (map tree nodes)) f))
     → IsTextIf (are_guaranteed_text (trees (map tree nodes))) (trees_outcome (trees (map tree nodes)) f)
 text_at_end tree nodes i f past so_far =
     let P : Trees → Type 0 = λ ts. IsTextIf (are_guaranteed_text ts) (trees_outcome ts f) in
@@ -119,7 +142,9 @@ outcome_of_first tree (y ∷ ys) x f h = let e : y ≡ x = cc in ap (λ z. tree_
 
 -- and it is a text if x is one
 pub text_of_first : {A : Type 0} (tree : A → Tree) (nodes : List A) (x : A) (f : Facts) → slice_get nodes 0 ≡ Some x
-    → IsTextIf (is_guaranteed_text (tree x)) (tree_outcome (tree x) f) → IsTextIf (is_guaranteed_text (first_of (trees (map tree nodes)))) (tree_outcome (first_of (trees (map tree nodes))) f)
+    → IsTextIf (is_guaranteed_text (tree x)) (tree_outcome (tree x) f)
+    → IsTextIf (is_guaranteed_text (first_of (trees (map tree nodes))))
+    (tree_outcome (first_of (trees (map tree nodes))) f)
 text_of_first tree [] x f h text = let no : ⊥ = cc in absurd no
 text_of_first {A} tree (y ∷ ys) x f h text =
     let e : y ≡ x = cc in

@@ -1,5 +1,7 @@
 -- Texts of components are ASCII, and texts one after another are UTF-8 where each of them is.
-use Rattle.std.proofs.Common.{◌≡◌, ℕ, zero, suc, ◌-◌, ◌%◌, ◌<◌, Bool, true, false, ◌&&◌, nat_lt, List, [], ◌∷◌, ◌++◌, decimal, IsAscii, IsUtf8, IsTrue, IfSome, Option, Some, None, if◌then◌else◌, refl, arith, ℤ, pos, unsigned_abs}
+use Rattle.std.proofs.Common.{◌≡◌, ℕ, zero, suc, ◌-◌, ◌%◌, ◌<◌, Bool, true, false, ◌&&◌, nat_lt, List, [], ◌∷◌, ◌++◌}
+use Rattle.std.proofs.Common.{decimal, IsAscii, IsUtf8, IsTrue, IfSome, Option, Some, None, if◌then◌else◌, refl, arith}
+use Rattle.std.proofs.Common.{ℤ, pos, unsigned_abs}
 use Rattle.std.specs.Prelude.{codes, int_lt, slice_index_or, ◌||◌, nat_le}
 use Rattle.std.specs.List.{list_all}
 use Rattle.std.proofs.lemmas.Bool.{ltb-true}
@@ -28,7 +30,8 @@ use Rattle.time_digits.proofs.FractionLemmas.{IsAscii-trimmed_fraction}
 use Rattle.time_digits.proofs.LengthLemmas.{IsAscii-padded, IsAscii-number}
 use Rattle.time_below.specs.Calendar.{from_sunday}
 use Rattle.time_fmt.specs.DateText.{month_names, month_name, weekday_names, weekday_name, indexed}
-use Rattle.time_fmt.specs.Description.{of_group, in_standard_range, century_of, current_outcome, component_outcome, tree_outcome, trees_outcome}
+use Rattle.time_fmt.specs.Description.{of_group, in_standard_range, century_of, current_outcome, component_outcome}
+use Rattle.time_fmt.specs.Description.{tree_outcome, trees_outcome}
 use Rattle.time_fmt.specs.Guarantee.{IsTextIf}
 use Rattle.time_fmt.specs.Outcome.{Outcome, done, refused, join, out_of_range}
 use Rattle.time_below.specs.ComponentRange.{conditional_range}
@@ -39,7 +42,8 @@ use Rattle.time_fmt.specs.Text.{padded_text, sign_text, hour_12, period_text, su
 -- a text that passes the test is ASCII
 pub ascii_test : (bs : List ℕ) → list_all (λ b. nat_lt b 128) bs ≡ true → IsAscii bs
 ascii_test bs h =
-    IsAscii-from_all bs (All-weaker (λ b. IsTrue (nat_lt b 128)) (λ b. b < 128) (λ b. ltb-true b 128) bs (AllPass-from_list_all (λ b. nat_lt b 128) bs h))
+    IsAscii-from_all bs (All-weaker (λ b. IsTrue (nat_lt b 128)) (λ b. b < 128) (λ b. ltb-true b 128) bs
+    (AllPass-from_list_all (λ b. nat_lt b 128) bs h))
 
 -- so is a number in its places
 IsAscii-padded_text : (p : Padding) (places n : ℕ) → IsAscii (padded_text p places n)
@@ -55,7 +59,8 @@ IsAscii-sign_text false false = IsAscii-nil
 
 -- so is a number behind its sign
 signed : (n w : Bool) (p : Padding) (places m : ℕ) → IsAscii (sign_text n w ++ padded_text p places m)
-signed n w p places m = IsAscii-append (sign_text n w) (padded_text p places m) (IsAscii-sign_text n w) (IsAscii-padded_text p places m)
+signed n w p places m = IsAscii-append (sign_text n w) (padded_text p places m) (IsAscii-sign_text n w)
+    (IsAscii-padded_text p places m)
 
 -- each of the names is
 abbrev AreAscii : List (List ℕ) → Type 0
@@ -70,15 +75,60 @@ name_at (name ∷ names) (suc i) h = name_at names i h.1
 
 -- the names of months are
 ascii_months : AreAscii month_names
-ascii_months = (ascii_test (codes "January") refl, (ascii_test (codes "February") refl, (ascii_test (codes "March") refl, (ascii_test (codes "April") refl, (ascii_test (codes "May") refl, (ascii_test (codes "June") refl, (ascii_test (codes "July") refl, (ascii_test (codes "August") refl, (ascii_test (codes "September") refl, (ascii_test (codes "October") refl, (ascii_test (codes "November") refl, (ascii_test (codes "December") refl, tt))))))))))))
+ascii_months = (
+  ascii_test (codes "January") refl,
+  (
+    ascii_test (codes "February") refl,
+    (
+      ascii_test (codes "March") refl,
+      (
+        ascii_test (codes "April") refl,
+        (
+          ascii_test (codes "May") refl,
+          (
+            ascii_test (codes "June") refl,
+            (
+              ascii_test (codes "July") refl,
+              (
+                ascii_test (codes "August") refl,
+                (
+                  ascii_test (codes "September") refl,
+                  (
+                    ascii_test (codes "October") refl,
+                    (ascii_test (codes "November") refl, (ascii_test (codes "December") refl, tt)),
+                  ),
+                ),
+              ),
+            ),
+          ),
+        ),
+      ),
+    ),
+  ),
+)
 
 -- so is the name of a month
 pub IsAscii-month_name : (m : ℕ) → IsAscii (month_name m)
 IsAscii-month_name m = name_at month_names (m - 1) ascii_months
 
 -- the names of weekdays are
+ascii_weekend : AreAscii (codes "Saturday" ∷ codes "Sunday" ∷ [])
+ascii_weekend = (ascii_test (codes "Saturday") refl, (ascii_test (codes "Sunday") refl, tt))
+
 ascii_weekdays : AreAscii weekday_names
-ascii_weekdays = (ascii_test (codes "Monday") refl, (ascii_test (codes "Tuesday") refl, (ascii_test (codes "Wednesday") refl, (ascii_test (codes "Thursday") refl, (ascii_test (codes "Friday") refl, (ascii_test (codes "Saturday") refl, (ascii_test (codes "Sunday") refl, tt)))))))
+ascii_weekdays = (
+  ascii_test (codes "Monday") refl,
+  (
+    ascii_test (codes "Tuesday") refl,
+    (
+      ascii_test (codes "Wednesday") refl,
+      (
+        ascii_test (codes "Thursday") refl,
+        (ascii_test (codes "Friday") refl, ascii_weekend),
+      ),
+    ),
+  ),
+)
 
 -- so is the name of a weekday
 pub IsAscii-weekday_name : (w : ℕ) → IsAscii (weekday_name w)
@@ -106,62 +156,105 @@ IsAscii-subsecond_text digits.Nine n = IsAscii-take (fixed 9 n) 9 (IsAscii-fixed
 
 -- so is a timestamp
 IsAscii-timestamp_text : (s : Bool) (n : ℤ) → IsAscii (timestamp_text s n)
-IsAscii-timestamp_text s n = IsAscii-append (sign_text (int_lt n (pos 0)) s) (decimal (unsigned_abs n)) (IsAscii-sign_text (int_lt n (pos 0)) s) (IsAscii-number (unsigned_abs n))
+IsAscii-timestamp_text s n = IsAscii-append (sign_text (int_lt n (pos 0)) s) (decimal (unsigned_abs n))
+    (IsAscii-sign_text (int_lt n (pos 0)) s) (IsAscii-number (unsigned_abs n))
 
 -- ---- components
 
 -- so is what a group gives
-ascii_of_group : {G : Type 0} (group : Option G) (outcome : G → Outcome) → ((g : G) → IsAscii (outcome g).bytes) → IsAscii (of_group group outcome).bytes
+ascii_of_group : {G : Type 0} (group : Option G) (outcome : G → Outcome) → ((g : G) → IsAscii (outcome g).bytes)
+    → IsAscii (of_group group outcome).bytes
 ascii_of_group None outcome each = IsAscii-nil
 ascii_of_group (Some g) outcome each = each g
 
 -- so is a year or a century in its range
-ascii_in_range : (greatest magnitude : ℕ) (text : List ℕ) → IsAscii text → IsAscii (in_standard_range greatest magnitude text).bytes
+ascii_in_range : (greatest magnitude : ℕ) (text : List ℕ) → IsAscii text
+    → IsAscii (in_standard_range greatest magnitude text).bytes
 ascii_in_range greatest magnitude text h =
-    elim (nat_le magnitude greatest) as (λ b. IsAscii (if b then done text else refused (out_of_range (conditional_range (codes "year")))).bytes) [ true ↦ h | false ↦ IsAscii-nil ]
+    elim (nat_le magnitude greatest) as
+    (λ b. IsAscii (if b then done text else refused (out_of_range (conditional_range (codes "year")))).bytes)
+    [ true ↦ h | false ↦ IsAscii-nil ]
 
 -- the text of a component is ASCII
 pub ascii_current : (c : Component) (f : Facts) → IsAscii (current_outcome c f).bytes
 ascii_current (component.Day m) f = ascii_of_group f.date _ (λ d. IsAscii-padded_text m.padding 2 d.day)
-ascii_current (component.MonthShort m) f = ascii_of_group f.date _ (λ d. IsAscii-take (month_name d.month) 3 (IsAscii-month_name d.month))
+ascii_current (component.MonthShort m) f =
+    ascii_of_group f.date _ (λ d. IsAscii-take (month_name d.month) 3 (IsAscii-month_name d.month))
 ascii_current (component.MonthLong m) f = ascii_of_group f.date _ (λ d. IsAscii-month_name d.month)
 ascii_current (component.MonthNumerical m) f = ascii_of_group f.date _ (λ d. IsAscii-padded_text m.padding 2 d.month)
 ascii_current (component.Ordinal m) f = ascii_of_group f.date _ (λ d. IsAscii-padded_text m.padding 3 d.ordinal)
-ascii_current (component.WeekdayShort m) f = ascii_of_group f.date _ (λ d. IsAscii-take (weekday_name d.weekday) 3 (IsAscii-weekday_name d.weekday))
+ascii_current (component.WeekdayShort m) f =
+    ascii_of_group f.date _ (λ d. IsAscii-take (weekday_name d.weekday) 3 (IsAscii-weekday_name d.weekday))
 ascii_current (component.WeekdayLong m) f = ascii_of_group f.date _ (λ d. IsAscii-weekday_name d.weekday)
-ascii_current (component.WeekdaySunday m) f = ascii_of_group f.date _ (λ d. IsAscii-number (indexed m.one_indexed (from_sunday d.weekday)))
-ascii_current (component.WeekdayMonday m) f = ascii_of_group f.date _ (λ d. IsAscii-number (indexed m.one_indexed d.weekday))
+ascii_current (component.WeekdaySunday m) f =
+    ascii_of_group f.date _ (λ d. IsAscii-number (indexed m.one_indexed (from_sunday d.weekday)))
+ascii_current (component.WeekdayMonday m) f =
+    ascii_of_group f.date _ (λ d. IsAscii-number (indexed m.one_indexed d.weekday))
 ascii_current (component.WeekNumberIso m) f = ascii_of_group f.date _ (λ d. IsAscii-padded_text m.padding 2 d.iso_week)
-ascii_current (component.WeekNumberSunday m) f = ascii_of_group f.date _ (λ d. IsAscii-padded_text m.padding 2 d.sunday_based_week)
-ascii_current (component.WeekNumberMonday m) f = ascii_of_group f.date _ (λ d. IsAscii-padded_text m.padding 2 d.monday_based_week)
-ascii_current (component.CalendarYearFullExtendedRange m) f = ascii_of_group f.date _ (λ d. signed (int_lt d.year (pos 0)) (m.sign_is_mandatory || int_lt (pos 9_999) d.year) m.padding 4 (unsigned_abs d.year))
-ascii_current (component.CalendarYearFullStandardRange m) f = ascii_of_group f.date _ (λ d. ascii_in_range 9_999 (unsigned_abs d.year) _ (signed (int_lt d.year (pos 0)) m.sign_is_mandatory m.padding 4 (unsigned_abs d.year)))
-ascii_current (component.CalendarYearCenturyExtendedRange m) f = ascii_of_group f.date _ (λ d. signed (int_lt d.year (pos 0)) (m.sign_is_mandatory || nat_lt 99 (century_of d.year)) m.padding 2 (century_of d.year))
-ascii_current (component.CalendarYearCenturyStandardRange m) f = ascii_of_group f.date _ (λ d. ascii_in_range 99 (century_of d.year) _ (signed (int_lt d.year (pos 0)) m.sign_is_mandatory m.padding 2 (century_of d.year)))
-ascii_current (component.CalendarYearLastTwo m) f = ascii_of_group f.date _ (λ d. IsAscii-padded_text m.padding 2 ((unsigned_abs d.year) % 100))
-ascii_current (component.IsoYearFullExtendedRange m) f = ascii_of_group f.date _ (λ d. signed (int_lt d.iso_year (pos 0)) (m.sign_is_mandatory || int_lt (pos 9_999) d.iso_year) m.padding 4 (unsigned_abs d.iso_year))
-ascii_current (component.IsoYearFullStandardRange m) f = ascii_of_group f.date _ (λ d. ascii_in_range 9_999 (unsigned_abs d.iso_year) _ (signed (int_lt d.iso_year (pos 0)) m.sign_is_mandatory m.padding 4 (unsigned_abs d.iso_year)))
-ascii_current (component.IsoYearCenturyExtendedRange m) f = ascii_of_group f.date _ (λ d. signed (int_lt d.iso_year (pos 0)) (m.sign_is_mandatory || nat_lt 99 (century_of d.iso_year)) m.padding 2 (century_of d.iso_year))
-ascii_current (component.IsoYearCenturyStandardRange m) f = ascii_of_group f.date _ (λ d. ascii_in_range 99 (century_of d.iso_year) _ (signed (int_lt d.iso_year (pos 0)) m.sign_is_mandatory m.padding 2 (century_of d.iso_year)))
-ascii_current (component.IsoYearLastTwo m) f = ascii_of_group f.date _ (λ d. IsAscii-padded_text m.padding 2 ((unsigned_abs d.iso_year) % 100))
+ascii_current (component.WeekNumberSunday m) f =
+    ascii_of_group f.date _ (λ d. IsAscii-padded_text m.padding 2 d.sunday_based_week)
+ascii_current (component.WeekNumberMonday m) f =
+    ascii_of_group f.date _ (λ d. IsAscii-padded_text m.padding 2 d.monday_based_week)
+ascii_current (component.CalendarYearFullExtendedRange m) f =
+    ascii_of_group f.date _
+    (λ d. signed (int_lt d.year (pos 0)) (m.sign_is_mandatory || int_lt (pos 9_999) d.year) m.padding 4
+    (unsigned_abs d.year))
+ascii_current (component.CalendarYearFullStandardRange m) f =
+    ascii_of_group f.date _
+    (λ d. ascii_in_range 9_999 (unsigned_abs d.year) _
+    (signed (int_lt d.year (pos 0)) m.sign_is_mandatory m.padding 4 (unsigned_abs d.year)))
+ascii_current (component.CalendarYearCenturyExtendedRange m) f =
+    ascii_of_group f.date _
+    (λ d. signed (int_lt d.year (pos 0)) (m.sign_is_mandatory || nat_lt 99 (century_of d.year)) m.padding 2
+    (century_of d.year))
+ascii_current (component.CalendarYearCenturyStandardRange m) f =
+    ascii_of_group f.date _
+    (λ d. ascii_in_range 99 (century_of d.year) _
+    (signed (int_lt d.year (pos 0)) m.sign_is_mandatory m.padding 2 (century_of d.year)))
+ascii_current (component.CalendarYearLastTwo m) f =
+    ascii_of_group f.date _ (λ d. IsAscii-padded_text m.padding 2 ((unsigned_abs d.year) % 100))
+ascii_current (component.IsoYearFullExtendedRange m) f =
+    ascii_of_group f.date _
+    (λ d. signed (int_lt d.iso_year (pos 0)) (m.sign_is_mandatory || int_lt (pos 9_999) d.iso_year) m.padding 4
+    (unsigned_abs d.iso_year))
+ascii_current (component.IsoYearFullStandardRange m) f =
+    ascii_of_group f.date _
+    (λ d. ascii_in_range 9_999 (unsigned_abs d.iso_year) _
+    (signed (int_lt d.iso_year (pos 0)) m.sign_is_mandatory m.padding 4 (unsigned_abs d.iso_year)))
+ascii_current (component.IsoYearCenturyExtendedRange m) f =
+    ascii_of_group f.date _
+    (λ d. signed (int_lt d.iso_year (pos 0)) (m.sign_is_mandatory || nat_lt 99 (century_of d.iso_year)) m.padding 2
+    (century_of d.iso_year))
+ascii_current (component.IsoYearCenturyStandardRange m) f =
+    ascii_of_group f.date _
+    (λ d. ascii_in_range 99 (century_of d.iso_year) _
+    (signed (int_lt d.iso_year (pos 0)) m.sign_is_mandatory m.padding 2 (century_of d.iso_year)))
+ascii_current (component.IsoYearLastTwo m) f =
+    ascii_of_group f.date _ (λ d. IsAscii-padded_text m.padding 2 ((unsigned_abs d.iso_year) % 100))
 ascii_current (component.Hour12 m) f = ascii_of_group f.time _ (λ t. IsAscii-padded_text m.padding 2 (hour_12 t.hour))
 ascii_current (component.Hour24 m) f = ascii_of_group f.time _ (λ t. IsAscii-padded_text m.padding 2 t.hour)
 ascii_current (component.Minute m) f = ascii_of_group f.time _ (λ t. IsAscii-padded_text m.padding 2 t.minute)
 ascii_current (component.Period m) f = ascii_of_group f.time _ (λ t. IsAscii-period_text (period_of t) m.is_uppercase)
 ascii_current (component.Second m) f = ascii_of_group f.time _ (λ t. IsAscii-padded_text m.padding 2 t.second)
 ascii_current (component.Subsecond m) f = ascii_of_group f.time _ (λ t. IsAscii-subsecond_text m.digits t.nanosecond)
-ascii_current (component.OffsetHour m) f = ascii_of_group f.offset _ (λ o. signed (is_negative o) m.sign_is_mandatory m.padding 2 (unsigned_abs o.hours))
-ascii_current (component.OffsetMinute m) f = ascii_of_group f.offset _ (λ o. IsAscii-padded_text m.padding 2 (unsigned_abs o.minutes))
-ascii_current (component.OffsetSecond m) f = ascii_of_group f.offset _ (λ o. IsAscii-padded_text m.padding 2 (unsigned_abs o.seconds))
-ascii_current (component.UnixTimestampSecond m) f = ascii_of_group f.moment _ (λ s. IsAscii-timestamp_text m.sign_is_mandatory s.seconds)
-ascii_current (component.UnixTimestampMillisecond m) f = ascii_of_group f.moment _ (λ s. IsAscii-timestamp_text m.sign_is_mandatory (milliseconds s))
+ascii_current (component.OffsetHour m) f =
+    ascii_of_group f.offset _ (λ o. signed (is_negative o) m.sign_is_mandatory m.padding 2 (unsigned_abs o.hours))
+ascii_current (component.OffsetMinute m) f =
+    ascii_of_group f.offset _ (λ o. IsAscii-padded_text m.padding 2 (unsigned_abs o.minutes))
+ascii_current (component.OffsetSecond m) f =
+    ascii_of_group f.offset _ (λ o. IsAscii-padded_text m.padding 2 (unsigned_abs o.seconds))
+ascii_current (component.UnixTimestampSecond m) f =
+    ascii_of_group f.moment _ (λ s. IsAscii-timestamp_text m.sign_is_mandatory s.seconds)
+ascii_current (component.UnixTimestampMillisecond m) f =
+    ascii_of_group f.moment _ (λ s. IsAscii-timestamp_text m.sign_is_mandatory (milliseconds s))
 ascii_current c f = IsAscii-nil
 
 -- ---- outcomes one after another
 
 -- outcomes one after another are UTF-8 where each of them is
 joined_utf8 : (a b : Outcome) → IsUtf8 a.bytes → IsUtf8 b.bytes → IsUtf8 (join a b).bytes
-joined_utf8 a b p q = elim a.refusal as (λ r. IsUtf8 (join (record { bytes = a.bytes; refusal = r }) b).bytes) [ None ↦ IsUtf8-append a.bytes b.bytes p q | Some r ↦ p ]
+joined_utf8 a b p q = elim a.refusal as (λ r. IsUtf8 (join (record { bytes = a.bytes; refusal = r }) b).bytes)
+    [ None ↦ IsUtf8-append a.bytes b.bytes p q | Some r ↦ p ]
 
 -- two tests hold
 both_true : (a b : Bool) → IsTrue (a && b) → IsTrue a × IsTrue b
@@ -177,19 +270,22 @@ pub text_of_component : (c : Component) (f : Facts) → IsUtf8 (component_outcom
 text_of_component c f = IsUtf8-from_ascii (component_outcome c f).bytes (ascii_current (current_component c) f)
 
 -- so has one that was written
-pub text_of_written : (written : Option ℕ) (c : Component) (f : Facts) → IfSome written (λ _. IsTextIf (is_guaranteed_text (of_component c)) (tree_outcome (of_component c) f))
+pub text_of_written : (written : Option ℕ) (c : Component) (f : Facts)
+    → IfSome written (λ _. IsTextIf (is_guaranteed_text (of_component c)) (tree_outcome (of_component c) f))
 text_of_written None c f = tt
 text_of_written (Some n) c f = λ _. text_of_component c f
 
 -- a list has a text if its first tree has one, and so have the others
-pub text_more : (t : Tree) (ts : Trees) (f : Facts) → IsTextIf (is_guaranteed_text t) (tree_outcome t f) → IsTextIf (are_guaranteed_text ts) (trees_outcome ts f)
+pub text_more : (t : Tree) (ts : Trees) (f : Facts) → IsTextIf (is_guaranteed_text t) (tree_outcome t f)
+    → IsTextIf (are_guaranteed_text ts) (trees_outcome ts f)
     → IsTextIf (are_guaranteed_text (more t ts)) (trees_outcome (more t ts) f)
 text_more t ts f first others h =
     let both = both_true (is_guaranteed_text t) (are_guaranteed_text ts) h in
     joined_utf8 (tree_outcome t f) (trees_outcome ts f) (first both.0) (others both.1)
 
 -- of a list that stops at its first tree the others do not count
-pub text_stops : (t : Tree) (ts : Trees) (f : Facts) → IsTextIf (is_guaranteed_text t) (tree_outcome t f) → join (tree_outcome t f) (trees_outcome ts f) ≡ tree_outcome t f
+pub text_stops : (t : Tree) (ts : Trees) (f : Facts) → IsTextIf (is_guaranteed_text t) (tree_outcome t f)
+    → join (tree_outcome t f) (trees_outcome ts f) ≡ tree_outcome t f
     → IsTextIf (are_guaranteed_text (more t ts)) (trees_outcome (more t ts) f)
 text_stops t ts f first stops h = rw stops (first (both_true (is_guaranteed_text t) (are_guaranteed_text ts) h).0)
 

@@ -1,6 +1,7 @@
 -- The laws of descriptions.
 use Rattle.std.proofs.Common.{◌≡◌, Bool, true, false, refl, sym, ap, ap₂, ◌∙◌}
-use Rattle.time_below.specs.Conversion.{current_component, current_month, current_weekday, current_week_number, current_hour, current_unix_timestamp, current_year}
+use Rattle.time_below.specs.Conversion.{current_component, current_month, current_weekday, current_week_number}
+use Rattle.time_below.specs.Conversion.{current_hour, current_unix_timestamp, current_year}
 use Rattle.time_below.specs.declared.format_description.component.Component.{Component}
 use Rattle.time_below.specs.declared.format_description.component.Component.TheVariants as component
 use Rattle.time_below.specs.declared.format_description.modifier.Month.{Month}
@@ -22,7 +23,8 @@ use Rattle.time_below.specs.declared.format_description.modifier.YearRepr.TheVar
 use Rattle.time_below.specs.declared.format_description.modifier.YearRange.{YearRange}
 use Rattle.time_below.specs.declared.format_description.modifier.YearRange.TheVariants as range
 use Rattle.time_below.specs.Facts.{Facts}
-use Rattle.time_below.specs.Tree.{Tree, Trees, byte_literal, text_literal, of_component, all_of, first_of, nothing, end, more, unmarked, all_unmarked}
+use Rattle.time_below.specs.Tree.{Tree, Trees, byte_literal, text_literal, of_component, all_of, first_of, nothing, end}
+use Rattle.time_below.specs.Tree.{more, unmarked, all_unmarked}
 use Rattle.time_fmt.specs.Description.{tree_outcome, trees_outcome, current_outcome}
 use Rattle.time_fmt.specs.Outcome.{join}
 
@@ -40,7 +42,8 @@ kept_weekday weekday.Long m = refl
 kept_weekday weekday.Sunday m = refl
 kept_weekday weekday.Monday m = refl
 
-kept_week_number : (r : WeekNumberRepr) (m : WeekNumber) → current_component (current_week_number r m) ≡ current_week_number r m
+kept_week_number : (r : WeekNumberRepr) (m : WeekNumber)
+    → current_component (current_week_number r m) ≡ current_week_number r m
 kept_week_number week.Iso m = refl
 kept_week_number week.Sunday m = refl
 kept_week_number week.Monday m = refl
@@ -49,11 +52,13 @@ kept_hour : (b : Bool) (m : Hour) → current_component (current_hour b m) ≡ c
 kept_hour true m = refl
 kept_hour false m = refl
 
-kept_unix_timestamp : (p : UnixTimestampPrecision) (m : UnixTimestamp) → current_component (current_unix_timestamp p m) ≡ current_unix_timestamp p m
+kept_unix_timestamp : (p : UnixTimestampPrecision) (m : UnixTimestamp)
+    → current_component (current_unix_timestamp p m) ≡ current_unix_timestamp p m
 kept_unix_timestamp precision.Second m = refl
 kept_unix_timestamp precision.Millisecond m = refl
 
-kept_year : (week_based : Bool) (r : YearRepr) (size : YearRange) (m : Year) → current_component (current_year week_based r size m) ≡ current_year week_based r size m
+kept_year : (week_based : Bool) (r : YearRepr) (size : YearRange) (m : Year)
+    → current_component (current_year week_based r size m) ≡ current_year week_based r size m
 kept_year true year.Full range.Extended m = refl
 kept_year true year.Full range.Standard m = refl
 kept_year true year.Century range.Extended m = refl

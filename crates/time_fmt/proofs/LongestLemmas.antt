@@ -13,12 +13,14 @@ use Rattle.time_below.specs.Width.{subsecond_width}
 use Rattle.time_below.specs.declared.period.Period.TheVariants.{Pm}
 use Rattle.time_digits.specs.Digits.{fixed, padded}
 use Rattle.time_digits.specs.Fraction.{last_zeros, trimmed_fraction}
-use Rattle.time_fmt.specs.DateText.{indexed, extended_year_text, standard_year_text, extended_century_text, standard_century_text}
+use Rattle.time_fmt.specs.DateText.{indexed, extended_year_text, standard_year_text, extended_century_text}
+use Rattle.time_fmt.specs.DateText.{standard_century_text}
 use Rattle.time_fmt.specs.Longest.{ReachesWidth}
 use Rattle.time_fmt.specs.Text.{padded_text, subsecond_text, offset_hour_text, period_text}
 
 -- a text for each padding
-by_padding : (text : Padding → List ℕ) (bytes : ℕ) → length (text padding.Space) ≡ bytes → length (text padding.Zero) ≡ bytes →
+by_padding : (text : Padding → List ℕ) (bytes : ℕ) → length (text padding.Space) ≡ bytes
+    → length (text padding.Zero) ≡ bytes →
     length (text padding.None) ≡ bytes → (p : Padding) → length (text p) ≡ bytes
 by_padding text bytes space zero none padding.Space = space
 by_padding text bytes space zero none padding.Zero = zero
@@ -39,7 +41,8 @@ subseconds chosen.Nine = refl
 subseconds chosen.OneOrMore = refl
 
 -- a choice of two
-by_choice : (text : Bool → List ℕ) (bytes : ℕ) → length (text true) ≡ bytes → length (text false) ≡ bytes → (b : Bool) → length (text b) ≡ bytes
+by_choice : (text : Bool → List ℕ) (bytes : ℕ) → length (text true) ≡ bytes → length (text false) ≡ bytes → (b : Bool)
+    → length (text b) ≡ bytes
 by_choice text bytes first other true = first
 by_choice text bytes first other false = other
 
@@ -88,7 +91,8 @@ reaches_width (component.CalendarYearCenturyExtendedRange m) h =
     inl (extended_centuries m.padding m.sign_is_mandatory)
 reaches_width (component.CalendarYearCenturyStandardRange m) h =
     inr (standard_centuries m.padding m.sign_is_mandatory)
-reaches_width (component.CalendarYearLastTwo m) h = inl (by_padding (λ p. padded_text p 2 99) 2 refl refl refl m.padding)
+reaches_width (component.CalendarYearLastTwo m) h =
+    inl (by_padding (λ p. padded_text p 2 99) 2 refl refl refl m.padding)
 reaches_width (component.IsoYearFullExtendedRange m) h =
     inl (extended_years m.padding m.sign_is_mandatory)
 reaches_width (component.IsoYearFullStandardRange m) h =

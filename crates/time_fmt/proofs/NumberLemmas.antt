@@ -31,4 +31,14 @@ five_zeros n h = places_of 5 n (length-decimal-le 5 n (omega arith) (omega arith
 pub six_zeros : (n : ℕ) → n < 1_000_000 → length (zero_padded 6 n) ≡ 6
 six_zeros n h = places_of 6 n (length-decimal-le 6 n (omega arith) (omega arith) (omega arith))
 
-pub ruleset number_lengths = (two_places, four_digits, four_places, places_of, four_zeros, five_zeros, six_zeros, length-decimal_word, length-sign_text)
+pub ruleset number_lengths = (
+  two_places,
+  four_digits,
+  four_places,
+  places_of,
+  four_zeros,
+  five_zeros,
+  six_zeros,
+  length-decimal_word,
+  length-sign_text,
+)

@@ -1,5 +1,6 @@
 -- Outcomes, widths and guarantees of lists one after another.
-use Rattle.std.proofs.Common.{◌≡◌, ℕ, ◌+◌, Bool, true, false, ◌&&◌, List, [], refl, sym, ap, ◌∙◌, arith, append_assoc, Option, Some, None}
+use Rattle.std.proofs.Common.{◌≡◌, ℕ, ◌+◌, Bool, true, false, ◌&&◌, List, [], refl, sym, ap, ◌∙◌, arith, append_assoc}
+use Rattle.std.proofs.Common.{Option, Some, None}
 use Rattle.std.proofs.lemmas.List.{append-nil}
 use Rattle.time_below.proofs.NodeLemmas.{and_assoc}
 use Rattle.time_below.specs.Facts.{Facts}
@@ -18,27 +19,32 @@ joined x None y (Some s) c = refl
 joined x None y None c = ap (λ (bs : List ℕ). record { bytes = bs; refusal = c.refusal }) (append_assoc x y c.bytes)
 
 -- nothing more
-alone : (x : List ℕ) (r : Option Refusal) → record { bytes = x; refusal = r } ≡ join (record { bytes = x; refusal = r }) (done [])
+alone : (x : List ℕ) (r : Option Refusal)
+    → record { bytes = x; refusal = r } ≡ join (record { bytes = x; refusal = r }) (done [])
 alone x (Some r) = refl
 alone x None = ap (λ (bs : List ℕ). record { bytes = bs; refusal = None }) (sym (append-nil x))
 
 outcome_of_item : (t : Tree) (f : Facts) → tree_outcome t f ≡ trees_outcome (more t end) f
 outcome_of_item t f = alone (tree_outcome t f).bytes (tree_outcome t f).refusal
 
-outcome_of_pair : (ts us : Trees) (f : Facts) → join (trees_outcome ts f) (trees_outcome us f) ≡ trees_outcome (both_lists ts us) f
+outcome_of_pair : (ts us : Trees) (f : Facts)
+    → join (trees_outcome ts f) (trees_outcome us f) ≡ trees_outcome (both_lists ts us) f
 outcome_of_pair end us f = refl
 outcome_of_pair (more t ts) us f =
-    joined (tree_outcome t f).bytes (tree_outcome t f).refusal (trees_outcome ts f).bytes (trees_outcome ts f).refusal (trees_outcome us f)
+    joined (tree_outcome t f).bytes (tree_outcome t f).refusal (trees_outcome ts f).bytes (trees_outcome ts f).refusal
+    (trees_outcome us f)
     ∙ ap (join (tree_outcome t f)) (outcome_of_pair ts us f)
 
 width_of_pair : (ts us : Trees) → trees_width ts + trees_width us ≡ trees_width (both_lists ts us)
 width_of_pair end us = omega arith
 width_of_pair (more t ts) us = omega (arith, width_of_pair ts us)
 
-guarantee_of_pair : (ts us : Trees) → (are_guaranteed_text ts && are_guaranteed_text us) ≡ are_guaranteed_text (both_lists ts us)
+guarantee_of_pair : (ts us : Trees)
+    → (are_guaranteed_text ts && are_guaranteed_text us) ≡ are_guaranteed_text (both_lists ts us)
 guarantee_of_pair end us = refl
 guarantee_of_pair (more t ts) us =
-    and_assoc (is_guaranteed_text t) (are_guaranteed_text ts) (are_guaranteed_text us) ∙ ap (λ b. is_guaranteed_text t && b) (guarantee_of_pair ts us)
+    and_assoc (is_guaranteed_text t) (are_guaranteed_text ts) (are_guaranteed_text us)
+    ∙ ap (λ b. is_guaranteed_text t && b) (guarantee_of_pair ts us)
 
 one : (b : Bool) → b ≡ (b && true)
 one true = refl

@@ -1,5 +1,6 @@
 -- A fraction whose last digits are zeros from some place on, and no zero before them.
-use Rattle.std.proofs.Common.{◌≡◌, ◌≢◌, ℕ, suc, ◌+◌, ◌-◌, ◌/◌, ◌%◌, ◌^◌, ◌<◌, ◌≤◌, List, [], ◌∷◌, ◌++◌, ⊎_elim, length, take, get_or, replicate, sym, ap, ◌∙◌, arith}
+use Rattle.std.proofs.Common.{◌≡◌, ◌≢◌, ℕ, suc, ◌+◌, ◌-◌, ◌/◌, ◌%◌, ◌^◌, ◌<◌, ◌≤◌, List, [], ◌∷◌, ◌++◌, ⊎_elim, length}
+use Rattle.std.proofs.Common.{take, get_or, replicate, sym, ap, ◌∙◌, arith}
 use Rattle.std.proofs.lemmas.Bool.{cases_lt}
 use Rattle.std.proofs.lemmas.List.{get_or_append_left, get_or-append_right, get_or-replicate}
 use Rattle.std.proofs.Math.Seq.{get_or-append_seam}
@@ -21,16 +22,19 @@ last_digit : (i m : ℕ) (ds : List ℕ) → get_or (fixed (suc i) m ++ ds) i 0 
 last_digit i m ds =
     let end : get_or (fixed i (m / 10) ++ (48 + m % 10) ∷ []) (length (fixed i (m / 10))) 0 ≡ 48 + m % 10 =
     get_or-append_seam (fixed i (m / 10)) (48 + m % 10) [] 0 in
-    get_or_append_left (fixed (suc i) m) ds 0 i (omega (arith, length-fixed (suc i) m)) ∙ ap (λ bs. get_or bs i 0) (fixed_step i m) ∙ (rw (length-fixed i (m / 10)) at end)
+    get_or_append_left (fixed (suc i) m) ds 0 i (omega (arith, length-fixed (suc i) m))
+    ∙ ap (λ bs. get_or bs i 0) (fixed_step i m) ∙ (rw (length-fixed i (m / 10)) at end)
 
 -- a shorter text has a zero in its place
-zero_behind : (text : List ℕ) (i : ℕ) → length text ≤ i → i < 9 → get_or (text ++ replicate (9 - length text) 48) i 0 ≡ 48
+zero_behind : (text : List ℕ) (i : ℕ) → length text ≤ i → i < 9
+    → get_or (text ++ replicate (9 - length text) 48) i 0 ≡ 48
 zero_behind text i le lt =
     get_or-append_right text (replicate (9 - length text) 48) (length text) i 0 (λ _. length text) le
     ∙ get_or-replicate (9 - length text) (i - length text) 48 0 (omega arith)
 
 -- up to the last digit that is no zero, the digits of a fraction are the trimmed one
-pub trimmed_at : (i k n : ℕ) → suc i + k ≡ 9 → n % 10 ^ k ≡ 0 → n / 10 ^ k % 10 ≢ 0 → fixed (suc i) (n / 10 ^ k) ≡ trimmed_fraction n
+pub trimmed_at : (i k n : ℕ) → suc i + k ≡ 9 → n % 10 ^ k ≡ 0 → n / 10 ^ k % 10 ≢ 0
+    → fixed (suc i) (n / 10 ^ k) ≡ trimmed_fraction n
 trimmed_at i k n nine zeros some =
     let size = length-fixed (suc i) (n / 10 ^ k) in
     let full = filled_at (suc i) k n nine zeros in

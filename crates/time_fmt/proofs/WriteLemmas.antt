@@ -1,6 +1,7 @@
 -- Texts that were written one after another are one text, and one text is what an outcome appends; so are
 -- outcomes.
-use Rattle.std.proofs.Common.{◌≡◌, ℕ, ◌+◌, ◌++◌, List, length-append, append_assoc, refl, sym, ap, ◌∙◌, arith, Option, Some, None, IsSomeAnd, Ok, Err, Vec}
+use Rattle.std.proofs.Common.{◌≡◌, ℕ, ◌+◌, ◌++◌, List, length-append, append_assoc, refl, sym, ap, ◌∙◌, arith, Option}
+use Rattle.std.proofs.Common.{Some, None, IsSomeAnd, Ok, Err, Vec}
 use Rattle.std.proofs.lemmas.List.{append-nil}
 use Rattle.std.specs.Global.{Global}
 use Rattle.time_fmt.specs.declared.error.Format.{Format}
@@ -51,19 +52,23 @@ pub join_refused : (a b : Outcome) (r : Refusal) → a.refusal ≡ Some r → jo
 join_refused a b r h = rw h refl
 
 -- what follows is joined to what is completed
-pub join_done : (a b : Outcome) → a.refusal ≡ None → join a b ≡ record { bytes = a.bytes ++ b.bytes; refusal = b.refusal }
+pub join_done : (a b : Outcome) → a.refusal ≡ None
+    → join a b ≡ record { bytes = a.bytes ++ b.bytes; refusal = b.refusal }
 join_done a b h = rw h refl
 
 -- of two outcomes the first is refused
-pub appends_first : {old new : Vec ℕ Global} {e : Format} (a b : Outcome) → Appends old new (Err e) a → Appends old new (Err e) (join a b)
+pub appends_first : {old new : Vec ℕ Global} {e : Format} (a b : Outcome) → Appends old new (Err e) a
+    → Appends old new (Err e) (join a b)
 appends_first {e = e} a b first =
     let r = some_of (Names e) a.refusal first.named in rw (join_refused a b r.0 r.1) first
 
 -- both are completed
-pub appends_both : {old mid new : Vec ℕ Global} {m n : ℕ} (a b : Outcome) → Appends old mid (Ok m) a → Appends mid new (Ok n) b
+pub appends_both : {old mid new : Vec ℕ Global} {m n : ℕ} (a b : Outcome) → Appends old mid (Ok m) a
+    → Appends mid new (Ok n) b
     → Appends old new (Ok (m + n)) (join a b)
 appends_both {old} a b first second = rw (join_done a b first.counted.0) (record {
-  appended = second.appended ∙ ap (λ (items : List ℕ). items ++ b.bytes) first.appended ∙ append_assoc old.items a.bytes b.bytes;
+  appended = second.appended ∙ ap (λ (items : List ℕ). items ++ b.bytes) first.appended
+      ∙ append_assoc old.items a.bytes b.bytes;
   counted = (second.counted.0, omega (arith, first.counted.1, second.counted.1, length-append a.bytes b.bytes));
   named = tt;
   grown = omega (arith, first.grown, second.grown, length-append a.bytes b.bytes);
@@ -71,10 +76,12 @@ appends_both {old} a b first second = rw (join_done a b first.counted.0) (record
 })
 
 -- the second is refused
-pub appends_second : {old mid new : Vec ℕ Global} {m : ℕ} {e : Format} (a b : Outcome) → Appends old mid (Ok m) a → Appends mid new (Err e) b
+pub appends_second : {old mid new : Vec ℕ Global} {m : ℕ} {e : Format} (a b : Outcome) → Appends old mid (Ok m) a
+    → Appends mid new (Err e) b
     → Appends old new (Err e) (join a b)
 appends_second {old} a b first second = rw (join_done a b first.counted.0) (record {
-  appended = second.appended ∙ ap (λ (items : List ℕ). items ++ b.bytes) first.appended ∙ append_assoc old.items a.bytes b.bytes;
+  appended = second.appended ∙ ap (λ (items : List ℕ). items ++ b.bytes) first.appended
+      ∙ append_assoc old.items a.bytes b.bytes;
   counted = tt;
   named = second.named;
   grown = omega (arith, first.grown, second.grown, length-append a.bytes b.bytes);

@@ -1,5 +1,6 @@
 -- Outcomes: bytes, and perhaps a refusal after them.
-use Rattle.std.specs.Prelude.{ℕ, ◌≡◌, ◌+◌, ◌≤◌, List, [], ◌++◌, length, Option, Some, None, Result, IfOk, IfErr, IsSomeAnd, vec_len, vec_capacity, Vec}
+use Rattle.std.specs.Prelude.{ℕ, ◌≡◌, ◌+◌, ◌≤◌, List, [], ◌++◌, length, Option, Some, None, Result, IfOk, IfErr}
+use Rattle.std.specs.Prelude.{IsSomeAnd, vec_len, vec_capacity, Vec}
 use Rattle.std.specs.Global.{Global}
 use Rattle.time_below.specs.ComponentRange.{RangeRefusal, range_refusal}
 use Rattle.time_fmt.specs.declared.error.Format.{Format}

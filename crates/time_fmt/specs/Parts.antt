@@ -33,4 +33,5 @@ ItemMeansItsList = (t : Tree) → MeansList (tree_outcome t) (tree_width t) (is_
 
 -- the guarantee of a text in ASCII is that of the item with this text
 abbrev pub AsciiIsText : Type 0
-AsciiIsText = (text : List ℕ) → IsTrue (list_all is_ascii text) → list_all is_ascii text ≡ is_guaranteed_text (text_literal text)
+AsciiIsText = (text : List ℕ) → IsTrue (list_all is_ascii text)
+    → list_all is_ascii text ≡ is_guaranteed_text (text_literal text)

@@ -1,5 +1,6 @@
 -- The texts of numbers and signs, and those of the components of a time, an offset and a timestamp.
-use Rattle.std.specs.Prelude.{ℕ, ◌+◌, ◌%◌, ◌++◌, Bool, List, [], codes, decimal, take, ℤ, pos, int_lt, unsigned_abs, if◌then◌else◌}
+use Rattle.std.specs.Prelude.{ℕ, ◌+◌, ◌%◌, ◌++◌, Bool, List, [], codes, decimal, take, ℤ, pos, int_lt, unsigned_abs}
+use Rattle.std.specs.Prelude.{if◌then◌else◌}
 use Rattle.time_digits.specs.Digits.{fixed, zero_padded, space_padded}
 use Rattle.time_digits.specs.Fraction.{trimmed_fraction}
 use Rattle.time_below.specs.declared.period.Period.{Period}

@@ -7,7 +7,8 @@ use Rattle.time_below.specs.Tree.{Trees, text_literal, of_component, end, more}
 -- year, month, day, hour, minute and second, with zeros, and what stands between them
 abbrev pub date_time_items : Trees
 date_time_items =
-    more (of_component (component.CalendarYearFullExtendedRange (record { padding = padding.Zero; sign_is_mandatory = false })))
+    more (of_component (component.CalendarYearFullExtendedRange
+    (record { padding = padding.Zero; sign_is_mandatory = false })))
     (more (text_literal (codes "-"))
     (more (of_component (component.MonthNumerical (record { padding = padding.Zero })))
     (more (text_literal (codes "-"))

@@ -1,5 +1,6 @@
 -- The first place of a byte, as a search for it answers.
-use Rattle.std.proofs.Common.{◌≡◌, ⊎_elim, ℕ, ◌<◌, ◌≤◌, List, length, Bool, true, false, Option, Some, None, get_or, arith}
+use Rattle.std.proofs.Common.{◌≡◌, ⊎_elim, ℕ, ◌<◌, ◌≤◌, List, length, Bool, true, false, Option, Some, None, get_or}
+use Rattle.std.proofs.Common.{arith}
 use Rattle.std.proofs.lemmas.Bool.{cases_lt}
 use Rattle.std.proofs.lemmas.Grind.{common_steps}
 use Rattle.std.proofs.lemmas.List.Sums.{passes_at_first, fails_before_first}
@@ -29,7 +30,8 @@ first_byte p xs (Some k) first =
     (λ early. absurd (no_both (p (get_or xs k 0)) first.1 (fails_before_first p xs k 0 early)))
     (λ late.
     ⊎_elim
-    (λ before. absurd (first.0.before (position_or_len p xs) (omega arith) before (passes_at_first p xs 0 (omega (arith, first.0.high)))))
+    (λ before. absurd (first.0.before (position_or_len p xs) (omega arith) before
+    (passes_at_first p xs 0 (omega (arith, first.0.high)))))
     (λ same. some_position p xs k first.0.high (omega arith))
     (cases_lt (position_or_len p xs) k))
     (cases_lt k (position_or_len p xs))

@@ -19,12 +19,14 @@ ten (a ∷ b ∷ c ∷ e ∷ f ∷ g ∷ h ∷ i ∷ j ∷ k ∷ []) d len = ref
 ten xs d len = absurd (grind arith)
 
 -- as many numbers as are asked for are all of them
-exactly-Some : (count : ℕ) (numbers : Option (List ℤ)) (xs : List ℤ) → Some xs ≡ exactly count numbers → (numbers ≡ Some xs) × (length xs ≡ count)
+exactly-Some : (count : ℕ) (numbers : Option (List ℤ)) (xs : List ℤ) → Some xs ≡ exactly count numbers
+    → (numbers ≡ Some xs) × (length xs ≡ count)
 exactly-Some count None xs e = absurd (cc)
 exactly-Some count (Some ys) xs e = (grind arith, grind arith)
 
 -- where a line has ten numbers, they are those of a date and time
-pub ten_numbers : (numbers : Option (List ℤ)) (xs : List ℤ) (d : ℤ) → Some xs ≡ exactly 10 numbers → date_time_numbers numbers ≡ Some (date_time_at xs d)
+pub ten_numbers : (numbers : Option (List ℤ)) (xs : List ℤ) (d : ℤ) → Some xs ≡ exactly 10 numbers
+    → date_time_numbers numbers ≡ Some (date_time_at xs d)
 ten_numbers numbers xs d e = let all = exactly-Some 10 numbers xs e in rw all.0 (ten xs d all.1)
 
 -- the numbers of a date and time in UTC at their places in a list
@@ -40,5 +42,6 @@ seven (a ∷ b ∷ c ∷ e ∷ f ∷ g ∷ h ∷ []) d len = refl
 seven xs d len = absurd (grind arith)
 
 -- where a line has seven numbers, they are those of a date and time in UTC
-pub seven_numbers : (numbers : Option (List ℤ)) (xs : List ℤ) (d : ℤ) → Some xs ≡ exactly 7 numbers → utc_numbers numbers ≡ Some (utc_at xs d)
+pub seven_numbers : (numbers : Option (List ℤ)) (xs : List ℤ) (d : ℤ) → Some xs ≡ exactly 7 numbers
+    → utc_numbers numbers ≡ Some (utc_at xs d)
 seven_numbers numbers xs d e = let all = exactly-Some 7 numbers xs e in rw all.0 (seven xs d all.1)

@@ -1,12 +1,14 @@
 -- The fields of a line, and the numbers that digits spell.
-use Rattle.std.proofs.Common.{ℕ, not, ◌⊎◌, inl, inr, ⊎_elim, false, ◌==◌, ◌≡◌, ◌+◌, ◌-◌, ◌*◌, ◌^◌, ◌<◌, ◌≤◌, Bool, true, List, [], ◌∷◌, length, take, drop, get_or, Option, Some, None, refl, ◌∙◌, arith, rules}
+use Rattle.std.proofs.Common.{ℕ, not, ◌⊎◌, inl, inr, ⊎_elim, false, ◌==◌, ◌≡◌, ◌+◌, ◌-◌, ◌*◌, ◌^◌, ◌<◌, ◌≤◌, Bool, true}
+use Rattle.std.proofs.Common.{List, [], ◌∷◌, length, take, drop, get_or, Option, Some, None, refl, ◌∙◌, arith, rules}
 use Rattle.std.proofs.lemmas.Int.Digits.{digits_value_more}
 use Rattle.std.proofs.lemmas.Bool.{cases_lt}
 use Rattle.std.proofs.lemmas.List.{length-take, get_or-take, take_all}
 use Rattle.std.proofs.lemmas.List.Elements.{All-get_or}
 use Rattle.std.proofs.lemmas.List.Folds.{list_all_at, list_all_more}
 use Rattle.std.proofs.lemmas.List.Splits.{slice_split_first}
-use Rattle.std.proofs.lemmas.List.Sums.{AllPass-from_list_all, passes_at_first, position_or_len_is, prefix_len-le-length}
+use Rattle.std.proofs.lemmas.List.Sums.{AllPass-from_list_all, passes_at_first, position_or_len_is}
+use Rattle.std.proofs.lemmas.List.Sums.{prefix_len-le-length}
 use Rattle.std.proofs.lemmas.Str.{digit_value_digit}
 use Rattle.std.proofs.lemmas.Str.Parse.{IsDigitsTest, IsNumeralModel, numerals_by_value, digits_value_short}
 use Rattle.std.specs.Char.{is_ascii_digit, digit_value}
@@ -23,7 +25,8 @@ parts-none p (x ∷ xs) h = grind (arith, parts-none p xs)
 
 -- the parts round the first place that is found
 pub parts-found : (p : ℕ → Bool) (xs : List ℕ) (place : Option ℕ) → place ≡ position p xs →
-    MatchOption place (slice_split p xs ≡ xs ∷ []) (λ i. (i < length xs) × (slice_split p xs ≡ take i xs ∷ slice_split p (drop (i + 1) xs)))
+    MatchOption place (slice_split p xs ≡ xs ∷ [])
+    (λ i. (i < length xs) × (slice_split p xs ≡ take i xs ∷ slice_split p (drop (i + 1) xs)))
 parts-found p xs None e = grind (arith, parts-none p xs)
 parts-found p xs (Some i) e = grind (arith, slice_split_first p xs 0)
 
@@ -50,7 +53,8 @@ digit-range b h = grind arith
 pub digit_more : (ds : List ℕ) (i : ℕ) → i < 9 → list_all is_ascii_digit (take i ds) ≡ true → i < length ds →
     is_ascii_digit (get_or ds i 0) ≡ true → DigitMore ds i
 digit_more ds i short before lt here =
-    let all : list_all is_ascii_digit (take (i + 1) ds) ≡ true = list_all_more is_ascii_digit ds i 0 lt ∙ rw (before, here) refl in
+    let all : list_all is_ascii_digit (take (i + 1) ds) ≡ true = list_all_more is_ascii_digit ds i 0 lt
+    ∙ rw (before, here) refl in
     let range : IsInRange 48 57 (get_or ds i 0) = digit-range _ here in
     let is : digit_value (get_or ds i 0) + 48 ≡ get_or ds i 0 = digit_value_digit (get_or ds i 0) range in
     let more = digits_value_more 10 ds i lt in
@@ -62,7 +66,8 @@ digit_more ds i short before lt here =
     }
 
 -- one to nine digits are a number
-pub natural-when : (ds : List ℕ) → 0 < length ds → length ds ≤ 9 → list_all is_ascii_digit ds ≡ true → is_natural ds ≡ true
+pub natural-when : (ds : List ℕ) → 0 < length ds → length ds ≤ 9 → list_all is_ascii_digit ds ≡ true
+    → is_natural ds ≡ true
 natural-when ds some short all = grind arith
 
 -- they spell their value
@@ -75,7 +80,8 @@ abbrev is_space : ℕ → Bool
 is_space b = b == space
 
 -- the first field ends at the first space
-pub first_field : (text : List ℕ) → (others : List (List ℕ)) × (fields_of text ≡ take (position_or_len is_space text) text ∷ others)
+pub first_field : (text : List ℕ)
+    → (others : List (List ℕ)) × (fields_of text ≡ take (position_or_len is_space text) text ∷ others)
 first_field text =
     ⊎_elim
     (λ inside. (_, slice_split_first is_space text 0 inside))
@@ -87,53 +93,73 @@ digit_no_space : (b : ℕ) → is_ascii_digit b ≡ true → is_space b ≡ fals
 digit_no_space b h = grind arith
 
 -- each of some first digits is one
-digit_at : (text : List ℕ) (count k : ℕ) → list_all is_ascii_digit (take count text) ≡ true → k < count → count ≤ length text →
+digit_at : (text : List ℕ) (count k : ℕ) → list_all is_ascii_digit (take count text) ≡ true → k < count
+    → count ≤ length text →
     is_ascii_digit (get_or text k 0) ≡ true
 digit_at text count k h lt le =
     rw (← get_or-take count text k 0 lt)
-    (All-get_or (λ x. is_ascii_digit x ≡ true) (take count text) k 0 (omega (arith, length-take count text)) (AllPass-from_list_all is_ascii_digit (take count text) h))
+    (All-get_or (λ x. is_ascii_digit x ≡ true) (take count text) k 0 (omega (arith, length-take count text))
+    (AllPass-from_list_all is_ascii_digit (take count text) h))
 
 -- where another byte than a digit follows some first digits, or a byte follows nine, they are no number
-no_natural : (field : List ℕ) (count : ℕ) → count < length field → (count ≡ 9) ⊎ (is_ascii_digit (get_or field count 0) ≡ false) →
+no_natural : (field : List ℕ) (count : ℕ) → count < length field
+    → (count ≡ 9) ⊎ (is_ascii_digit (get_or field count 0) ≡ false) →
     natural_of field ≡ None
 no_natural field count lt (inl nine) = grind arith
 no_natural field count lt (inr other) = rw (list_all_at is_ascii_digit field count 0 lt other) (grind arith)
 
 -- no space stands among first digits
-no_space : (text : List ℕ) (count k : ℕ) → list_all is_ascii_digit (take count text) ≡ true → count ≤ length text → k < count →
+no_space : (text : List ℕ) (count k : ℕ) → list_all is_ascii_digit (take count text) ≡ true → count ≤ length text
+    → k < count →
     is_space (get_or text k 0) ≡ false
 no_space text count k h le lt = digit_no_space _ (digit_at text count k h lt le)
 
 -- digits up to the end of their field are a number
-natural_of_digits : (text : List ℕ) (value count : ℕ) → LeadingDigits text value count → 0 < count → natural_of (take count text) ≡ Some value
+natural_of_digits : (text : List ℕ) (value count : ℕ) → LeadingDigits text value count → 0 < count
+    → natural_of (take count text) ≡ Some value
 natural_of_digits text value count read some =
     rw read.spelled
-    (natural-whole (take count text) (omega (arith, read.inside, length-take count text)) (omega (arith, read.short, length-take count text)) read.digits)
+    (natural-whole (take count text) (omega (arith, read.inside, length-take count text))
+    (omega (arith, read.short, length-take count text)) read.digits)
 
 -- digits up to the end of the text
-pub natural_last : (text : List ℕ) (value count : ℕ) → LeadingDigits text value count → 0 < count → count ≡ length text →
+pub natural_last : (text : List ℕ) (value count : ℕ) → LeadingDigits text value count → 0 < count → count ≡ length text
+    →
     FirstNatural text (Some (value, []))
 natural_last text value count read some end =
-    let at : position_or_len is_space text ≡ count = position_or_len_is is_space text count 0 read.inside (λ k lt. no_space text count k read.digits read.inside lt) (λ lt. absurd (omega arith)) in
-    (take count text, rw (take_all count text (omega arith)) (parts-none is_space text (omega arith)), natural_of_digits text value count read some)
+    let at : position_or_len is_space text ≡ count = position_or_len_is is_space text count 0 read.inside
+    (λ k lt. no_space text count k read.digits read.inside lt) (λ lt. absurd (omega arith)) in (
+      take count text,
+      rw (take_all count text (omega arith)) (parts-none is_space text (omega arith)),
+      natural_of_digits text value count read some,
+    )
 
 -- digits up to a space
-pub natural_before : (text : List ℕ) (value count : ℕ) → LeadingDigits text value count → 0 < count → count < length text →
+pub natural_before : (text : List ℕ) (value count : ℕ) → LeadingDigits text value count → 0 < count
+    → count < length text →
     get_or text count 0 ≡ space → FirstNatural text (Some (value, fields_of (drop (count + 1) text)))
 natural_before text value count read some inside here =
-    let at : position_or_len is_space text ≡ count = position_or_len_is is_space text count 0 read.inside (λ k lt. no_space text count k read.digits read.inside lt) (λ lt. rw here refl) in
-    (take count text, rw (← at) (slice_split_first is_space text 0 (omega arith)), natural_of_digits text value count read some)
+    let at : position_or_len is_space text ≡ count = position_or_len_is is_space text count 0 read.inside
+    (λ k lt. no_space text count k read.digits read.inside lt) (λ lt. rw here refl) in (
+      take count text,
+      rw (← at) (slice_split_first is_space text 0 (omega arith)),
+      natural_of_digits text value count
+          read some,
+    )
 
 -- the same up to the first space
-no_natural_before : (text : List ℕ) (value count : ℕ) → LeadingDigits text value count → count < position_or_len is_space text →
+no_natural_before : (text : List ℕ) (value count : ℕ) → LeadingDigits text value count
+    → count < position_or_len is_space text →
     natural_of (take (position_or_len is_space text) text) ≡ None
 no_natural_before text value count read lt =
     let k = position_or_len is_space text in
-    let inside : count < length (take k text) = omega (arith, length-take k text, prefix_len-le-length (λ x. not (is_space x)) text) in
+    let inside : count < length (take k text) =
+    omega (arith, length-take k text, prefix_len-le-length (λ x. not (is_space x)) text) in
     no_natural (take k text) count inside (rw (get_or-take k text count 0 lt) read.ended)
 
 -- a space stands at the first one
-at_space : (text : List ℕ) → position_or_len is_space text < length text → is_space (get_or text (position_or_len is_space text) 0) ≡ false → ⊥
+at_space : (text : List ℕ) → position_or_len is_space text < length text
+    → is_space (get_or text (position_or_len is_space text) 0) ≡ false → ⊥
 at_space text lt other = absurd (cc (passes_at_first is_space text 0 lt, other))
 
 -- so it stands behind digits
@@ -142,12 +168,14 @@ no_space_before : (text : List ℕ) (value count : ℕ) → LeadingDigits text v
 no_space_before text value count read inside other le =
     ⊎_elim
     (λ lt. at_space text (omega arith) (no_space text count _ read.digits read.inside lt))
-    (λ ge. at_space text (omega arith) (let same : position_or_len is_space text ≡ count = omega arith in rw same other))
+    (λ ge. at_space text (omega arith) (let same : position_or_len is_space text ≡ count = omega arith in
+    rw same other))
     (cases_lt (position_or_len is_space text) count)
 
 -- no digit, or another byte behind them than a space, is no number
 missed : (text : List ℕ) (value count : ℕ) → LeadingDigits text value count →
-    (count ≡ 0) ⊎ ((count < length text) × (is_space (get_or text count 0) ≡ false)) → position_or_len is_space text ≤ count →
+    (count ≡ 0) ⊎ ((count < length text) × (is_space (get_or text count 0) ≡ false))
+    → position_or_len is_space text ≤ count →
     natural_of (take (position_or_len is_space text) text) ≡ None
 missed text value count read (inl none) le = let zero : position_or_len is_space text ≡ 0 = omega arith in rw zero refl
 missed text value count read (inr other) le = absurd (no_space_before text value count read other.0 other.1 le)
@@ -167,4 +195,5 @@ natural_missed text value count read wrong =
 -- a number of a line has nine digits at most
 pub natural_small : (text : List ℕ) (value count : ℕ) → LeadingDigits text value count → value < 10 ^ 9
 natural_small text value count read =
-    rw read.spelled (digits_value_short numerals (take count text) 9 read.digits (omega (arith, read.short, length-take count text)))
+    rw read.spelled (digits_value_short numerals (take count text) 9 read.digits
+    (omega (arith, read.short, length-take count text)))

@@ -1,5 +1,7 @@
 -- More bytes of a text, and its lines.
-use Rattle.std.proofs.Common.{ℕ, suc, ◌+◌, ◌-◌, ◌<◌, ◌≤◌, ◌==◌, ◌≡◌, ◌≢◌, ◌++◌, List, [], ◌∷◌, length, take, drop, get_or, Option, Some, None, true, inl, inr, refl, ap, sym, ◌∙◌, add-one, append-nil, append_assoc, arith}
+use Rattle.std.proofs.Common.{ℕ, suc, ◌+◌, ◌-◌, ◌<◌, ◌≤◌, ◌==◌, ◌≡◌, ◌≢◌, ◌++◌, List, [], ◌∷◌, length, take, drop}
+use Rattle.std.proofs.Common.{get_or, Option, Some, None, true, inl, inr, refl, ap, sym, ◌∙◌, add-one, append-nil}
+use Rattle.std.proofs.Common.{append_assoc, arith}
 use Rattle.std.proofs.Math.Seq.{drop-cons}
 use Rattle.std.proofs.lemmas.Grind.{common_steps, pieces}
 use Rattle.std.proofs.lemmas.List.{take_all, take-append-drop}
@@ -8,13 +10,15 @@ use Rattle.std.proofs.lemmas.Bool.{cases_lt}
 use Rattle.std.specs.Option.{MatchOption}
 use Rattle.std.proofs.lemmas.Bool.Decides.{eqb_tells}
 use Rattle.std.specs.List.{flat_map, AllByRecursion, onto_first, position, position_or_len}
-use Rattle.time_show.specs.Lines.{line_feed, lines_of, whole_lines_of, unended_of, onto_whole, onto_rest, last_line_of, with_line_feed, IsOneLine, LinesSpell}
+use Rattle.time_show.specs.Lines.{line_feed, lines_of, whole_lines_of, unended_of, onto_whole, onto_rest, last_line_of}
+use Rattle.time_show.specs.Lines.{with_line_feed, IsOneLine, LinesSpell}
 
 -- the end of a list, as a slice gives it
 pub slice-end : (i : ℕ) (xs : List ℕ) → take (length xs - i) (drop i xs) ≡ drop i xs
 slice-end i xs = grind (arith, common_steps, pieces)
 
--- a byte that is no line feed goes to the front of the first line of a text whose whole lines and rest are these, and of more bytes
+-- a byte that is no line feed goes to the front of the first line of a text whose whole lines and rest are these, and
+-- of more bytes
 onto_first-more : (b : ℕ) (lines : List (List ℕ)) (rest more : List ℕ) → b ≢ line_feed →
     onto_first b (lines ++ lines_of (rest ++ more)) ≡ onto_whole b lines ++ lines_of (onto_rest b lines rest ++ more)
 onto_first-more b [] rest more ne = grind arith
@@ -22,18 +26,21 @@ onto_first-more b (line ∷ lines) rest more ne = refl
 
 -- the same of the whole lines
 onto_whole-more : (b : ℕ) (lines : List (List ℕ)) (rest more : List ℕ) → b ≢ line_feed →
-    onto_whole b (lines ++ whole_lines_of (rest ++ more)) ≡ onto_whole b lines ++ whole_lines_of (onto_rest b lines rest ++ more)
+    onto_whole b (lines ++ whole_lines_of (rest ++ more)) ≡ onto_whole b lines ++ whole_lines_of
+    (onto_rest b lines rest ++ more)
 onto_whole-more b [] rest more ne = grind arith
 onto_whole-more b (line ∷ lines) rest more ne = refl
 
 -- and of the bytes after the last line feed
 onto_rest-more : (b : ℕ) (lines : List (List ℕ)) (rest more : List ℕ) → b ≢ line_feed →
-    onto_rest b (lines ++ whole_lines_of (rest ++ more)) (unended_of (rest ++ more)) ≡ unended_of (onto_rest b lines rest ++ more)
+    onto_rest b (lines ++ whole_lines_of (rest ++ more)) (unended_of (rest ++ more)) ≡ unended_of
+    (onto_rest b lines rest ++ more)
 onto_rest-more b [] rest more ne = grind arith
 onto_rest-more b (line ∷ lines) rest more ne = refl
 
 -- The lines of a longer text are the whole lines so far and those of the rest with more bytes.
-pub lines_of-append : (bytes more : List ℕ) → lines_of (bytes ++ more) ≡ whole_lines_of bytes ++ lines_of (unended_of bytes ++ more)
+pub lines_of-append : (bytes more : List ℕ)
+    → lines_of (bytes ++ more) ≡ whole_lines_of bytes ++ lines_of (unended_of bytes ++ more)
 lines_of-append [] more = refl
 lines_of-append (b ∷ bytes) more = elim (eqb_tells b line_feed) [
   | inl t ↦ rw (t.0, lines_of-append bytes more)
@@ -46,7 +53,8 @@ pub whole_lines_of-append : (bytes more : List ℕ) →
 whole_lines_of-append [] more = refl
 whole_lines_of-append (b ∷ bytes) more = elim (eqb_tells b line_feed) [
   | inl t ↦ rw (t.0, whole_lines_of-append bytes more)
-  | inr t ↦ rw (t.0, whole_lines_of-append bytes more) (onto_whole-more b (whole_lines_of bytes) (unended_of bytes) more t.1)
+  | inr t ↦ rw (t.0, whole_lines_of-append bytes more)
+      (onto_whole-more b (whole_lines_of bytes) (unended_of bytes) more t.1)
 ]
 
 -- and of the bytes after its last line feed
@@ -54,7 +62,8 @@ pub unended_of-append : (bytes more : List ℕ) → unended_of (bytes ++ more) �
 unended_of-append [] more = refl
 unended_of-append (b ∷ bytes) more = elim (eqb_tells b line_feed) [
   | inl t ↦ rw t.0 (unended_of-append bytes more)
-  | inr t ↦ rw (t.0, whole_lines_of-append bytes more, unended_of-append bytes more) (onto_rest-more b (whole_lines_of bytes) (unended_of bytes) more t.1)
+  | inr t ↦ rw (t.0, whole_lines_of-append bytes more, unended_of-append bytes more)
+      (onto_rest-more b (whole_lines_of bytes) (unended_of bytes) more t.1)
 ]
 
 -- bytes with no line feed have no whole line
@@ -79,12 +88,14 @@ IsOneLine-append [] ys p q = q
 IsOneLine-append (b ∷ xs) ys p q = (p.0, IsOneLine-append xs ys p.1 q)
 
 -- a byte that is no line feed keeps the rest free of them
-onto_rest-one : (b : ℕ) (lines : List (List ℕ)) (rest : List ℕ) → b ≢ line_feed → IsOneLine rest → IsOneLine (onto_rest b lines rest)
+onto_rest-one : (b : ℕ) (lines : List (List ℕ)) (rest : List ℕ) → b ≢ line_feed → IsOneLine rest
+    → IsOneLine (onto_rest b lines rest)
 onto_rest-one b [] rest ne p = (ne, p)
 onto_rest-one b (line ∷ lines) rest ne p = p
 
 -- and the whole lines
-onto_whole-one : (b : ℕ) (lines : List (List ℕ)) → b ≢ line_feed → AllByRecursion IsOneLine lines → AllByRecursion IsOneLine (onto_whole b lines)
+onto_whole-one : (b : ℕ) (lines : List (List ℕ)) → b ≢ line_feed → AllByRecursion IsOneLine lines
+    → AllByRecursion IsOneLine (onto_whole b lines)
 onto_whole-one b [] ne p = p
 onto_whole-one b (line ∷ lines) ne p = ((ne, p.0), p.1)
 
@@ -107,7 +118,8 @@ whole_lines_of-are_one (b ∷ bytes) = elim (eqb_tells b line_feed) [
 -- the lines are the whole ones and what comes after them
 pub lines_of-rest : (bytes : List ℕ) → lines_of bytes ≡ whole_lines_of bytes ++ last_line_of (unended_of bytes)
 lines_of-rest bytes =
-    ap lines_of (sym (append-nil bytes)) ∙ lines_of-append bytes [] ∙ rw (append-nil (unended_of bytes), lines_of-one (unended_of bytes) (unended_of-is_one bytes))
+    ap lines_of (sym (append-nil bytes)) ∙ lines_of-append bytes []
+    ∙ rw (append-nil (unended_of bytes), lines_of-one (unended_of bytes) (unended_of-is_one bytes))
 
 -- a line with its line feed is one whole line
 whole_lines_of-ended : (line : List ℕ) → IsOneLine line → whole_lines_of (line ++ line_feed ∷ []) ≡ line ∷ []
@@ -123,23 +135,33 @@ unended_of-ended (b ∷ line) p = grind (arith, whole_lines_of-ended line p.1, u
 pub whole_lines_of-fed : (bytes line : List ℕ) → IsOneLine line →
     whole_lines_of (bytes ++ (line ++ line_feed ∷ [])) ≡ whole_lines_of bytes ++ (unended_of bytes ++ line) ∷ []
 whole_lines_of-fed bytes line p =
-    let one : IsOneLine (unended_of bytes ++ line) = IsOneLine-append (unended_of bytes) line (unended_of-is_one bytes) p in
+    let one : IsOneLine (unended_of bytes ++ line) = IsOneLine-append (unended_of bytes) line (unended_of-is_one bytes)
+    p in
     whole_lines_of-append bytes (line ++ line_feed ∷ [])
-    ∙ rw (← append_assoc (unended_of bytes) line (line_feed ∷ []), whole_lines_of-append (unended_of bytes ++ line) (line_feed ∷ []), whole_lines_of-one (unended_of bytes ++ line) one, unended_of-one (unended_of bytes ++ line) one)
+    ∙ rw (
+      ← append_assoc (unended_of bytes) line (line_feed ∷ []),
+      whole_lines_of-append (unended_of bytes ++ line)
+          (line_feed ∷ []),
+      whole_lines_of-one (unended_of bytes ++ line) one,
+      unended_of-one (unended_of bytes ++ line) one,
+    )
     (ap (λ lines. whole_lines_of bytes ++ lines) (whole_lines_of-ended (unended_of bytes ++ line) one))
 
 -- nothing comes after that line feed
 pub unended_of-fed : (bytes line : List ℕ) → IsOneLine line → unended_of (bytes ++ (line ++ line_feed ∷ [])) ≡ []
 unended_of-fed bytes line p =
-    let one : IsOneLine (unended_of bytes ++ line) = IsOneLine-append (unended_of bytes) line (unended_of-is_one bytes) p in
-    unended_of-append bytes (line ++ line_feed ∷ []) ∙ rw (← append_assoc (unended_of bytes) line (line_feed ∷ [])) (unended_of-ended (unended_of bytes ++ line) one)
+    let one : IsOneLine (unended_of bytes ++ line) = IsOneLine-append (unended_of bytes) line (unended_of-is_one bytes)
+    p in
+    unended_of-append bytes (line ++ line_feed ∷ [])
+    ∙ rw (← append_assoc (unended_of bytes) line (line_feed ∷ [])) (unended_of-ended (unended_of bytes ++ line) one)
 
 -- one more, in the two forms
 one_more : (n : ℕ) → 1 + n ≡ suc n
 one_more n = omega arith
 
 -- a byte that is no line feed, before some first bytes that are one line
-one_line-cons : (b n : ℕ) (bytes : List ℕ) → b ≢ line_feed → IsOneLine (take n bytes) → IsOneLine (take (1 + n) (b ∷ bytes))
+one_line-cons : (b n : ℕ) (bytes : List ℕ) → b ≢ line_feed → IsOneLine (take n bytes)
+    → IsOneLine (take (1 + n) (b ∷ bytes))
 one_line-cons b n bytes ne p = rw (one_more n) (ne, p)
 
 -- up to the first line feed there is none
@@ -160,7 +182,8 @@ pub record EndsAt (bytes : List ℕ) (end : ℕ) : Type 0 where
   pub whole : bytes ≡ take end bytes ++ line_feed ∷ drop (end + 1) bytes
 
 -- a text round the place of a line feed
-found-at : (bytes : List ℕ) (end : ℕ) → end < length bytes → get_or bytes end 0 ≡ line_feed → bytes ≡ take end bytes ++ line_feed ∷ drop (end + 1) bytes
+found-at : (bytes : List ℕ) (end : ℕ) → end < length bytes → get_or bytes end 0 ≡ line_feed
+    → bytes ≡ take end bytes ++ line_feed ∷ drop (end + 1) bytes
 found-at bytes end lt is =
     let rest : drop end bytes ≡ line_feed ∷ drop (suc end) bytes = rw (drop-cons bytes end 0 lt, is) in
     rw (add-one end) (sym (ap (λ more. take end bytes ++ more) (sym rest) ∙ take-append-drop end bytes))
@@ -182,18 +205,25 @@ pub line-found : (bytes : List ℕ) (place : Option ℕ) → place ≡ position 
 line-found bytes None e = one_line-none bytes (grind arith)
 line-found bytes (Some end) e =
     let found = position-Some (λ b. b == line_feed) bytes end 0 (sym e) in
-    record { front = ends-front bytes end e; whole = found-at bytes end found.0 (is_line_feed (get_or bytes end 0) found.1) }
+    record {
+      front = ends-front bytes end e;
+      whole =
+          found-at bytes end found.0 (is_line_feed (get_or bytes end 0) found.1);
+    }
 
 -- bytes with no line feed, after a text, leave its whole lines
 pub whole_lines_of-more : (bytes more : List ℕ) → IsOneLine more → whole_lines_of (bytes ++ more) ≡ whole_lines_of bytes
 whole_lines_of-more bytes more p =
-    let one : IsOneLine (unended_of bytes ++ more) = IsOneLine-append (unended_of bytes) more (unended_of-is_one bytes) p in
-    whole_lines_of-append bytes more ∙ rw (whole_lines_of-one (unended_of bytes ++ more) one) (append-nil (whole_lines_of bytes))
+    let one : IsOneLine (unended_of bytes ++ more) = IsOneLine-append (unended_of bytes) more (unended_of-is_one bytes)
+    p in
+    whole_lines_of-append bytes more
+    ∙ rw (whole_lines_of-one (unended_of bytes ++ more) one) (append-nil (whole_lines_of bytes))
 
 -- they come after its last line feed
 pub unended_of-more : (bytes more : List ℕ) → IsOneLine more → unended_of (bytes ++ more) ≡ unended_of bytes ++ more
 unended_of-more bytes more p =
-    unended_of-append bytes more ∙ unended_of-one (unended_of bytes ++ more) (IsOneLine-append (unended_of bytes) more (unended_of-is_one bytes) p)
+    unended_of-append bytes more
+    ∙ unended_of-one (unended_of bytes ++ more) (IsOneLine-append (unended_of bytes) more (unended_of-is_one bytes) p)
 
 -- a byte at the front of the first line is at the front of the text that the lines spell
 onto-spell : (b : ℕ) (lines : List (List ℕ)) (rest : List ℕ) →

@@ -1,5 +1,6 @@
 -- One write after another, what waits in front of a writer, and the parts of a text.
-use Rattle.std.proofs.Common.{ℕ, suc, Bor, ◌≡◌, ◌≢◌, ◌+◌, ◌<◌, ◌++◌, List, [], ◌∷◌, length, take, drop, get_or, Option, Some, None, refl, ap, sym, ◌∙◌, append_assoc, append-nil, length-append, arith, rules}
+use Rattle.std.proofs.Common.{ℕ, suc, Bor, ◌≡◌, ◌≢◌, ◌+◌, ◌<◌, ◌++◌, List, [], ◌∷◌, length, take, drop, get_or, Option}
+use Rattle.std.proofs.Common.{Some, None, refl, ap, sym, ◌∙◌, append_assoc, append-nil, length-append, arith, rules}
 use Rattle.std.proofs.Math.Seq.{drop-cons}
 use Rattle.std.proofs.lemmas.Grind.{common_steps}
 use Rattle.std.proofs.lemmas.List.{take-append-drop, take_more}
@@ -36,7 +37,8 @@ append-some [] ys some = absurd (some refl)
 append-some (x ∷ xs) ys some = λ (e : x ∷ (xs ++ ys) ≡ []). cc
 
 -- the first bytes were written, and bytes are left
-pub AppendsStart-at : (a b : Option (List ℕ)) (bytes : List ℕ) (done : ℕ) → done < length bytes → Appends a b (take done bytes) → AppendsStart a b bytes
+pub AppendsStart-at : (a b : Option (List ℕ)) (bytes : List ℕ) (done : ℕ) → done < length bytes
+    → Appends a b (take done bytes) → AppendsStart a b bytes
 AppendsStart-at a b bytes done lt p = record {
   sent = take done bytes;
   missing = drop done bytes;
@@ -60,15 +62,18 @@ pub Accepts-none : (o : Output) → Accepts o o []
 Accepts-none o = record { sent = []; went_out = Appends-none o.held; in_order = append-nil o.waiting }
 
 -- bytes wait behind those that wait
-pub Accepts-waits : (held : Option (List ℕ)) (waiting bytes : List ℕ) → Accepts (buffered held waiting) (buffered held (waiting ++ bytes)) bytes
+pub Accepts-waits : (held : Option (List ℕ)) (waiting bytes : List ℕ)
+    → Accepts (buffered held waiting) (buffered held (waiting ++ bytes)) bytes
 Accepts-waits held waiting bytes = record { sent = []; went_out = Appends-none held; in_order = refl }
 
 -- all that waits goes out
-pub Accepts-flushed : (a b : Option (List ℕ)) (waiting : List ℕ) → Appends a b waiting → Accepts (buffered a waiting) (buffered b []) []
+pub Accepts-flushed : (a b : Option (List ℕ)) (waiting : List ℕ) → Appends a b waiting
+    → Accepts (buffered a waiting) (buffered b []) []
 Accepts-flushed a b waiting p = record { sent = waiting; went_out = p; in_order = refl }
 
 -- bytes go out where none waits
-pub Accepts-written : (a b : Option (List ℕ)) (bytes : List ℕ) → Appends a b bytes → Accepts (buffered a []) (buffered b []) bytes
+pub Accepts-written : (a b : Option (List ℕ)) (bytes : List ℕ) → Appends a b bytes
+    → Accepts (buffered a []) (buffered b []) bytes
 Accepts-written a b bytes p = record { sent = bytes; went_out = p; in_order = sym (append-nil bytes) }
 
 -- one text is accepted after another
@@ -76,16 +81,29 @@ pub Accepts-then : (a b c : Output) (xs ys : List ℕ) → Accepts a b xs → Ac
 Accepts-then a b c xs ys p q = record {
   sent = p.sent ++ q.sent;
   went_out = Appends-then a.held b.held c.held p.sent q.sent p.went_out q.went_out;
-  in_order = rw (← append_assoc a.waiting xs ys, p.in_order, append_assoc p.sent b.waiting ys, q.in_order, append_assoc p.sent q.sent c.waiting);
+  in_order = rw (
+    ← append_assoc a.waiting xs ys,
+    p.in_order,
+    append_assoc p.sent b.waiting ys,
+    q.in_order,
+    append_assoc p.sent q.sent c.waiting,
+  );
 }
 
 -- a text is accepted, and the next is cut off
-pub CutsOff-after : (a b : Output) (held : Option (List ℕ)) (xs ys : List ℕ) → Accepts a b xs → CutsOff b held ys → CutsOff a held (xs ++ ys)
+pub CutsOff-after : (a b : Output) (held : Option (List ℕ)) (xs ys : List ℕ) → Accepts a b xs → CutsOff b held ys
+    → CutsOff a held (xs ++ ys)
 CutsOff-after a b held xs ys p q = record {
   sent = p.sent ++ q.sent;
   missing = q.missing;
   went_out = Appends-then a.held b.held held p.sent q.sent p.went_out q.went_out;
-  in_order = rw (← append_assoc a.waiting xs ys, p.in_order, append_assoc p.sent b.waiting ys, q.in_order, append_assoc p.sent q.sent q.missing);
+  in_order = rw (
+    ← append_assoc a.waiting xs ys,
+    p.in_order,
+    append_assoc p.sent b.waiting ys,
+    q.in_order,
+    append_assoc p.sent q.sent q.missing,
+  );
   unfinished = q.unfinished;
 }
 
@@ -94,7 +112,8 @@ CutsOff-more : (a : Output) (held : Option (List ℕ)) (xs ys : List ℕ) → Cu
 CutsOff-more a held xs ys p = rw (← append_assoc a.waiting xs ys) (AppendsStart-more a.held held (a.waiting ++ xs) ys p)
 
 -- a text is accepted, and then what waits is cut off
-pub CutsOff-flushed : (a b : Output) (held : Option (List ℕ)) (text : List ℕ) → Accepts a b text → AppendsStart b.held held b.waiting → CutsOff a held text
+pub CutsOff-flushed : (a b : Output) (held : Option (List ℕ)) (text : List ℕ) → Accepts a b text
+    → AppendsStart b.held held b.waiting → CutsOff a held text
 CutsOff-flushed a b held text p q = record {
   sent = p.sent ++ q.sent;
   missing = q.missing;
@@ -112,7 +131,8 @@ joined-append (part ∷ xs) ys = rw (joined-append xs ys, append_assoc)
 joined-at : (parts : List (Bor (List ℕ))) (i : ℕ) (d : Bor (List ℕ)) → i < length parts →
     joined parts ≡ joined (take i parts) ++ ((get_or parts i d).now ++ joined (drop (suc i) parts))
 joined-at parts i d lt =
-    let whole : take i parts ++ get_or parts i d ∷ drop (suc i) parts ≡ parts = rw (← drop-cons parts i d lt) (take-append-drop i parts) in
+    let whole : take i parts ++ get_or parts i d ∷ drop (suc i) parts ≡ parts =
+    rw (← drop-cons parts i d lt) (take-append-drop i parts) in
     sym (ap joined whole) ∙ joined-append (take i parts) (get_or parts i d ∷ drop (suc i) parts)
 
 -- the parts up to a part, and the part
@@ -126,15 +146,18 @@ joined-more parts i d lt =
 -- the length of the parts up to a part, and that of the part
 pub length-joined-more : (parts : List (Bor (List ℕ))) (i : ℕ) (d : Bor (List ℕ)) → i < length parts →
     length (joined (take (i + 1) parts)) ≡ length (joined (take i parts)) + length (get_or parts i d).now
-length-joined-more parts i d lt = rw (joined-more parts i d lt) (length-append (joined (take i parts)) (get_or parts i d).now)
+length-joined-more parts i d lt =
+    rw (joined-more parts i d lt) (length-append (joined (take i parts)) (get_or parts i d).now)
 
 -- the parts up to a part are accepted, and the part is
 pub Accepts-part : (parts : List (Bor (List ℕ))) (i : ℕ) (d : Bor (List ℕ)) (a b c : Output) → i < length parts →
     Accepts a b (joined (take i parts)) → Accepts b c (get_or parts i d).now → Accepts a c (joined (take (i + 1) parts))
-Accepts-part parts i d a b c lt p q = rw (joined-more parts i d lt) (Accepts-then a b c (joined (take i parts)) (get_or parts i d).now p q)
+Accepts-part parts i d a b c lt p q =
+    rw (joined-more parts i d lt) (Accepts-then a b c (joined (take i parts)) (get_or parts i d).now p q)
 
 -- the parts up to a part are accepted, and the part is cut off
-pub CutsOff-part : (parts : List (Bor (List ℕ))) (i : ℕ) (d : Bor (List ℕ)) (a b : Output) (held : Option (List ℕ)) → i < length parts →
+pub CutsOff-part : (parts : List (Bor (List ℕ))) (i : ℕ) (d : Bor (List ℕ)) (a b : Output) (held : Option (List ℕ))
+    → i < length parts →
     Accepts a b (joined (take i parts)) → CutsOff b held (get_or parts i d).now → CutsOff a held (joined parts)
 CutsOff-part parts i d a b held lt p q =
     rw (joined-at parts i d lt)

@@ -26,7 +26,8 @@ names-same error.OutOfMemory (invalid_component component) n = absurd n
 names-same error.OutOfMemory (out_of_range range) n = absurd n
 
 -- a refusal of which something holds is there
-some-and : (refusal : Option Refusal) (P : Refusal → Type 0) → IsSomeAnd refusal P → (r : Refusal) × (refusal ≡ Some r) × P r
+some-and : (refusal : Option Refusal) (P : Refusal → Type 0) → IsSomeAnd refusal P
+    → (r : Refusal) × (refusal ≡ Some r) × P r
 some-and None P h = absurd h
 some-and (Some r) P h = (r, refl, h)
 

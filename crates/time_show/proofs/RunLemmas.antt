@@ -1,5 +1,6 @@
 -- A run goes on from what it has answered.
-use Rattle.std.proofs.Common.{ℕ, Ok, Err, ◌≡◌, ◌≢◌, ◌++◌, List, [], ◌∷◌, Option, Some, None, refl, ap, sym, ◌∙◌, arith, rules, append-nil, append_assoc}
+use Rattle.std.proofs.Common.{ℕ, Ok, Err, ◌≡◌, ◌≢◌, ◌++◌, List, [], ◌∷◌, Option, Some, None, refl, ap, sym, ◌∙◌, arith}
+use Rattle.std.proofs.Common.{rules, append-nil, append_assoc}
 use Rattle.std.proofs.lemmas.Grind.{common_steps}
 use Rattle.std.specs.Io.KnownBytes.{Appends, Consumes}
 use Rattle.time_show.specs.declared.run.ShowError.TheVariants.{Write}
@@ -7,9 +8,12 @@ use Rattle.time_show.specs.Answer.{IsAnswer, AreAnswers, BreaksOff}
 use Rattle.time_show.specs.LineBuffer.{kept_of, kept_with}
 use Rattle.time_show.specs.Lines.{line_feed, lines_of, whole_lines_of, unended_of, last_line_of, IsOneLine}
 use Rattle.time_show.specs.OutputBuffer.{buffered, Accepts, AppendsStart, CutsOff}
-use Rattle.time_show.specs.Run.{RunState, state, output_of, AnsweredUpTo, AcceptsAnswer, CutsAnswerOff, AnswersOn, CutsAnswersOff, AnswersRest, CutsRestOff, Ran}
-use Rattle.time_show.proofs.OutputBufferLemmas.{Appends-then, Accepts-none, Accepts-flushed, Accepts-then, CutsOff-after, CutsOff-flushed}
-use Rattle.time_show.proofs.LinesLemmas.{lines_of-append, lines_of-rest, whole_lines_of-fed, unended_of-fed, whole_lines_of-more, unended_of-more}
+use Rattle.time_show.specs.Run.{RunState, state, output_of, AnsweredUpTo, AcceptsAnswer, CutsAnswerOff, AnswersOn}
+use Rattle.time_show.specs.Run.{CutsAnswersOff, AnswersRest, CutsRestOff, Ran}
+use Rattle.time_show.proofs.OutputBufferLemmas.{Appends-then, Accepts-none, Accepts-flushed, Accepts-then}
+use Rattle.time_show.proofs.OutputBufferLemmas.{CutsOff-after, CutsOff-flushed}
+use Rattle.time_show.proofs.LinesLemmas.{lines_of-append, lines_of-rest, whole_lines_of-fed, unended_of-fed}
+use Rattle.time_show.proofs.LinesLemmas.{whole_lines_of-more, unended_of-more}
 
 -- the answers to some lines, and the answer to one more
 pub AreAnswers-more : (lines : List (List ℕ)) (line text answer : List ℕ) →
@@ -77,10 +81,12 @@ no_text [] missing e = e
 no_text (b ∷ start) missing e = cc
 
 -- a text that lacks its end answers some first lines, and begins an answer to the next
-BreaksOff-cut : (lines : List (List ℕ)) (start missing : List ℕ) → AreAnswers lines (start ++ missing) → missing ≢ [] → BreaksOff lines start
+BreaksOff-cut : (lines : List (List ℕ)) (start missing : List ℕ) → AreAnswers lines (start ++ missing) → missing ≢ []
+    → BreaksOff lines start
 BreaksOff-cut [] start missing p some = absurd (some (no_text start missing p))
 BreaksOff-cut (line ∷ lines) start missing p some = elim (meets start missing p.0 p.1 p.2) [
-  | later more e rest ↦ BreaksOff-later line p.0 more start lines p.3 (BreaksOff-cut lines more missing (rw (← rest) p.4) some) e
+  | later more e rest ↦ BreaksOff-later line p.0 more start lines p.3
+      (BreaksOff-cut lines more missing (rw (← rest) p.4) some) e
   | earlier more e unfinished ↦ BreaksOff-first line p.0 start more lines p.3 e unfinished
 ]
 
@@ -101,7 +107,8 @@ BreaksOff-before lines more text b = record {
 }
 
 -- answers of which only a beginning was written
-BreaksOff-unsent : (lines : List (List ℕ)) (text more : List ℕ) (a b : Option (List ℕ)) → AreAnswers lines (text ++ more) →
+BreaksOff-unsent : (lines : List (List ℕ)) (text more : List ℕ) (a b : Option (List ℕ))
+    → AreAnswers lines (text ++ more) →
     (cut : AppendsStart a b more) → BreaksOff lines (text ++ cut.sent)
 BreaksOff-unsent lines text more a b p cut =
     BreaksOff-cut lines (text ++ cut.sent) cut.missing (rw (append_assoc, ← cut.in_order) p) cut.unfinished
@@ -115,10 +122,13 @@ pub AnswersOn-none : (s : RunState) → AnswersOn [] s s
 AnswersOn-none s before text upto = ([], Accepts-none (output_of s), rw (append-nil before, append-nil text) upto)
 
 -- some bytes are answered after others
-pub AnswersOn-then : (xs ys : List ℕ) (a b c : RunState) → AnswersOn xs a b → AnswersOn ys b c → AnswersOn (xs ++ ys) a c
+pub AnswersOn-then : (xs ys : List ℕ) (a b c : RunState) → AnswersOn xs a b → AnswersOn ys b c
+    → AnswersOn (xs ++ ys) a c
 AnswersOn-then xs ys a b c p q before text upto =
-    let first : (more : List ℕ) × Accepts (output_of a) (output_of b) more × AnsweredUpTo (before ++ xs) b.kept (text ++ more) = p before text upto in
-    let second : (more : List ℕ) × Accepts (output_of b) (output_of c) more × AnsweredUpTo ((before ++ xs) ++ ys) c.kept ((text ++ first.0) ++ more) =
+    let first : (more : List ℕ) × Accepts (output_of a) (output_of b) more × AnsweredUpTo (before ++ xs) b.kept
+    (text ++ more) = p before text upto in
+    let second : (more : List ℕ) × Accepts (output_of b) (output_of c) more × AnsweredUpTo ((before ++ xs) ++ ys)
+    c.kept ((text ++ first.0) ++ more) =
     q (before ++ xs) (text ++ first.0) first.2 in (
       first.0 ++ second.0,
       Accepts-then (output_of a) (output_of b) (output_of c) first.0 second.0 first.1 second.1,
@@ -126,7 +136,8 @@ AnswersOn-then xs ys a b c p q before text upto =
     )
 
 -- bytes with no line feed are kept
-pub AnswersOn-kept : (bytes : List ℕ) (s : RunState) → IsOneLine bytes → AnswersOn bytes s (state (kept_with s.kept bytes) s.held s.waiting)
+pub AnswersOn-kept : (bytes : List ℕ) (s : RunState) → IsOneLine bytes
+    → AnswersOn bytes s (state (kept_with s.kept bytes) s.held s.waiting)
 AnswersOn-kept bytes s one before text upto = (
   [],
   Accepts-none (output_of s),
@@ -137,32 +148,41 @@ AnswersOn-kept bytes s one before text upto = (
 )
 
 -- the bytes complete the line, the line is answered, and a new one begins
-pub AnswersOn-line : (bytes : List ℕ) (kept : Option (List ℕ)) (old new : RunState) → IsOneLine bytes → old.kept ≡ kept_with kept bytes →
-    AcceptsAnswer old new → AnswersOn (bytes ++ line_feed ∷ []) (state kept old.held old.waiting) (state (Some []) new.held new.waiting)
+pub AnswersOn-line : (bytes : List ℕ) (kept : Option (List ℕ)) (old new : RunState) → IsOneLine bytes
+    → old.kept ≡ kept_with kept bytes →
+    AcceptsAnswer old new
+    → AnswersOn (bytes ++ line_feed ∷ []) (state kept old.held old.waiting) (state (Some []) new.held new.waiting)
 AnswersOn-line bytes kept old new one with_bytes p before text upto =
-    let is : old.kept ≡ kept_of (unended_of before ++ bytes) = with_bytes ∙ rw upto.rest (kept_of-more (unended_of before) bytes) in
-    let answer : (answer : List ℕ) × IsAnswer (unended_of before ++ bytes) answer × Accepts (output_of old) (output_of new) answer =
+    let is : old.kept ≡ kept_of (unended_of before ++ bytes) = with_bytes
+    ∙ rw upto.rest (kept_of-more (unended_of before) bytes) in
+    let answer : (answer : List ℕ) × IsAnswer (unended_of before ++ bytes) answer × Accepts (output_of old)
+    (output_of new) answer =
     p (unended_of before ++ bytes) is in (
       answer.0,
       answer.2,
       record {
         rest = rw (unended_of-fed before bytes one);
-        answered = rw (whole_lines_of-fed before bytes one) (AreAnswers-more (whole_lines_of before) (unended_of before ++ bytes) text answer.0 upto.answered answer.1);
+        answered = rw (whole_lines_of-fed before bytes one)
+            (AreAnswers-more (whole_lines_of before) (unended_of before ++ bytes) text answer.0 upto.answered answer.1);
       },
     )
 
 -- the bytes complete the line, and its answer is cut off
-pub CutsAnswersOff-line : (bytes rest : List ℕ) (kept : Option (List ℕ)) (old : RunState) (held : Option (List ℕ)) → IsOneLine bytes → old.kept ≡ kept_with kept bytes →
+pub CutsAnswersOff-line : (bytes rest : List ℕ) (kept : Option (List ℕ)) (old : RunState) (held : Option (List ℕ))
+    → IsOneLine bytes → old.kept ≡ kept_with kept bytes →
     CutsAnswerOff old held → CutsAnswersOff (bytes ++ line_feed ∷ rest) (state kept old.held old.waiting) held
 CutsAnswersOff-line bytes rest kept old held one with_bytes p before text upto =
-    let is : old.kept ≡ kept_of (unended_of before ++ bytes) = with_bytes ∙ rw upto.rest (kept_of-more (unended_of before) bytes) in
-    let answer : (answer : List ℕ) × IsAnswer (unended_of before ++ bytes) answer × CutsOff (output_of old) held answer =
+    let is : old.kept ≡ kept_of (unended_of before ++ bytes) = with_bytes
+    ∙ rw upto.rest (kept_of-more (unended_of before) bytes) in
+    let answer : (answer : List ℕ) × IsAnswer (unended_of before ++ bytes) answer × CutsOff (output_of old) held
+    answer =
     p (unended_of before ++ bytes) is in (
       bytes ++ line_feed ∷ [],
       rest,
       answer.0,
       rw (append_assoc bytes (line_feed ∷ []) rest),
-      rw (whole_lines_of-fed before bytes one) (AreAnswers-more (whole_lines_of before) (unended_of before ++ bytes) text answer.0 upto.answered answer.1),
+      rw (whole_lines_of-fed before bytes one)
+          (AreAnswers-more (whole_lines_of before) (unended_of before ++ bytes) text answer.0 upto.answered answer.1),
       answer.2,
     )
 
@@ -170,9 +190,11 @@ CutsAnswersOff-line bytes rest kept old held one with_bytes p before text upto =
 pub CutsAnswersOff-after : (xs ys : List ℕ) (a b : RunState) (held : Option (List ℕ)) →
     AnswersOn xs a b → CutsAnswersOff ys b held → CutsAnswersOff (xs ++ ys) a held
 CutsAnswersOff-after xs ys a b held p q before text upto =
-    let so_far : (more : List ℕ) × Accepts (output_of a) (output_of b) more × AnsweredUpTo (before ++ xs) b.kept (text ++ more) = p before text upto in
+    let so_far : (more : List ℕ) × Accepts (output_of a) (output_of b) more × AnsweredUpTo (before ++ xs) b.kept
+    (text ++ more) = p before text upto in
     let cut : (first : List ℕ) × (others : List ℕ) × (more : List ℕ) × (ys ≡ first ++ others)
-    × AreAnswers (whole_lines_of ((before ++ xs) ++ first)) ((text ++ so_far.0) ++ more) × CutsOff (output_of b) held more =
+    × AreAnswers (whole_lines_of ((before ++ xs) ++ first)) ((text ++ so_far.0) ++ more) × CutsOff (output_of b) held
+    more =
     q (before ++ xs) (text ++ so_far.0) so_far.2 in (
       xs ++ cut.0,
       cut.1,
@@ -186,9 +208,11 @@ CutsAnswersOff-after xs ys a b held p q before text upto =
 pub AnswersOn-flushed : (bytes : List ℕ) (a b : RunState) (held : Option (List ℕ)) →
     AnswersOn bytes a b → Appends b.held held b.waiting → AnswersOn bytes a (state b.kept held [])
 AnswersOn-flushed bytes a b held p q before text upto =
-    let on : (more : List ℕ) × Accepts (output_of a) (output_of b) more × AnsweredUpTo (before ++ bytes) b.kept (text ++ more) = p before text upto in (
+    let on : (more : List ℕ) × Accepts (output_of a) (output_of b) more × AnsweredUpTo (before ++ bytes) b.kept
+    (text ++ more) = p before text upto in (
       on.0,
-      rw append-nil at (Accepts-then (output_of a) (output_of b) (buffered held []) on.0 [] on.1 (Accepts-flushed b.held held b.waiting q)),
+      rw append-nil at (Accepts-then (output_of a) (output_of b) (buffered held []) on.0 [] on.1
+          (Accepts-flushed b.held held b.waiting q)),
       on.2,
     )
 
@@ -196,7 +220,8 @@ AnswersOn-flushed bytes a b held p q before text upto =
 pub CutsAnswersOff-flushed : (bytes : List ℕ) (a b : RunState) (held : Option (List ℕ)) →
     AnswersOn bytes a b → AppendsStart b.held held b.waiting → CutsAnswersOff bytes a held
 CutsAnswersOff-flushed bytes a b held p q before text upto =
-    let on : (more : List ℕ) × Accepts (output_of a) (output_of b) more × AnsweredUpTo (before ++ bytes) b.kept (text ++ more) = p before text upto in (
+    let on : (more : List ℕ) × Accepts (output_of a) (output_of b) more × AnsweredUpTo (before ++ bytes) b.kept
+    (text ++ more) = p before text upto in (
       bytes,
       [],
       on.0,
@@ -219,7 +244,8 @@ lines_of-kept : (bytes : List ℕ) (kept : Option (List ℕ)) → kept ≢ Some 
     lines_of bytes ≡ whole_lines_of bytes ++ unended_of bytes ∷ []
 lines_of-kept bytes kept some is =
     lines_of-rest bytes
-    ∙ ap (λ last. whole_lines_of bytes ++ last) (last_line_of-some (unended_of bytes) (λ (e : unended_of bytes ≡ []). some (is ∙ ap kept_of e)))
+    ∙ ap (λ last. whole_lines_of bytes ++ last)
+    (last_line_of-some (unended_of bytes) (λ (e : unended_of bytes ≡ []). some (is ∙ ap kept_of e)))
 
 -- where no bytes came after the last line feed, all is answered
 pub AnswersRest-none : (s : RunState) → s.kept ≡ Some [] → AnswersRest s s
@@ -233,9 +259,11 @@ AnswersRest-none s empty before text upto =
 -- a last line is answered
 AnswersRest-accepted : (a b : RunState) → a.kept ≢ Some [] → AcceptsAnswer a b → AnswersRest a b
 AnswersRest-accepted a b some p before text upto =
-    let answer : (answer : List ℕ) × IsAnswer (unended_of before) answer × Accepts (output_of a) (output_of b) answer = p (unended_of before) upto.rest in (
+    let answer : (answer : List ℕ) × IsAnswer (unended_of before) answer × Accepts (output_of a) (output_of b) answer =
+    p (unended_of before) upto.rest in (
       answer.0,
-      rw (lines_of-kept before a.kept some upto.rest) (AreAnswers-more (whole_lines_of before) (unended_of before) text answer.0 upto.answered answer.1),
+      rw (lines_of-kept before a.kept some upto.rest)
+          (AreAnswers-more (whole_lines_of before) (unended_of before) text answer.0 upto.answered answer.1),
       answer.2,
     )
 
@@ -243,18 +271,23 @@ AnswersRest-accepted a b some p before text upto =
 pub AnswersRest-flushed : (a b : RunState) (held : Option (List ℕ)) → a.kept ≢ Some [] →
     AcceptsAnswer a b → Appends b.held held b.waiting → AnswersRest a (state b.kept held [])
 AnswersRest-flushed a b held some p q before text upto =
-    let rest : (more : List ℕ) × AreAnswers (lines_of before) (text ++ more) × Accepts (output_of a) (output_of b) more = AnswersRest-accepted a b some p before text upto in (
+    let rest : (more : List ℕ) × AreAnswers (lines_of before) (text ++ more) × Accepts (output_of a) (output_of b)
+    more = AnswersRest-accepted a b some p before text upto in (
       rest.0,
       rest.1,
-      rw append-nil at (Accepts-then (output_of a) (output_of b) (buffered held []) rest.0 [] rest.2 (Accepts-flushed b.held held b.waiting q)),
+      rw append-nil at (Accepts-then (output_of a) (output_of b) (buffered held []) rest.0 [] rest.2
+          (Accepts-flushed b.held held b.waiting q)),
     )
 
 -- the answer to a last line is cut off
-pub CutsRestOff-cut : (a : RunState) (held : Option (List ℕ)) → a.kept ≢ Some [] → CutsAnswerOff a held → CutsRestOff a held
+pub CutsRestOff-cut : (a : RunState) (held : Option (List ℕ)) → a.kept ≢ Some [] → CutsAnswerOff a held
+    → CutsRestOff a held
 CutsRestOff-cut a held some p before text upto =
-    let answer : (answer : List ℕ) × IsAnswer (unended_of before) answer × CutsOff (output_of a) held answer = p (unended_of before) upto.rest in (
+    let answer : (answer : List ℕ) × IsAnswer (unended_of before) answer × CutsOff (output_of a) held answer =
+    p (unended_of before) upto.rest in (
       answer.0,
-      rw (lines_of-kept before a.kept some upto.rest) (AreAnswers-more (whole_lines_of before) (unended_of before) text answer.0 upto.answered answer.1),
+      rw (lines_of-kept before a.kept some upto.rest)
+          (AreAnswers-more (whole_lines_of before) (unended_of before) text answer.0 upto.answered answer.1),
       answer.2,
     )
 
@@ -262,7 +295,8 @@ CutsRestOff-cut a held some p before text upto =
 pub CutsRestOff-flushed : (a b : RunState) (held : Option (List ℕ)) → a.kept ≢ Some [] →
     AcceptsAnswer a b → AppendsStart b.held held b.waiting → CutsRestOff a held
 CutsRestOff-flushed a b held some p q before text upto =
-    let rest : (more : List ℕ) × AreAnswers (lines_of before) (text ++ more) × Accepts (output_of a) (output_of b) more = AnswersRest-accepted a b some p before text upto in
+    let rest : (more : List ℕ) × AreAnswers (lines_of before) (text ++ more) × Accepts (output_of a) (output_of b)
+    more = AnswersRest-accepted a b some p before text upto in
     (rest.0, rest.1, CutsOff-flushed (output_of a) (output_of b) held rest.0 rest.2 q)
 
 -- some bytes are read after others
@@ -289,10 +323,12 @@ Accepts-sent : (a b : Option (List ℕ)) (text : List ℕ) → Accepts (buffered
 Accepts-sent a b text p = rw (p.in_order, append-nil p.sent) p.went_out
 
 -- one more block of the input is answered
-pub Running-on : (l0 l1 l2 h0 h1 h2 k1 k2 : Option (List ℕ)) (block : List ℕ) → Running l0 l1 h0 h1 k1 → Consumes l1 l2 block →
+pub Running-on : (l0 l1 l2 h0 h1 h2 k1 k2 : Option (List ℕ)) (block : List ℕ) → Running l0 l1 h0 h1 k1
+    → Consumes l1 l2 block →
     AnswersOn block (state k1 h1 []) (state k2 h2 []) → Running l0 l2 h0 h2 k2
 Running-on l0 l1 l2 h0 h1 h2 k1 k2 block run next on =
-    let more : (more : List ℕ) × Accepts (buffered h1 []) (buffered h2 []) more × AnsweredUpTo (run.bytes ++ block) k2 (run.text ++ more) = on run.bytes run.text run.answered in
+    let more : (more : List ℕ) × Accepts (buffered h1 []) (buffered h2 []) more × AnsweredUpTo (run.bytes ++ block) k2
+    (run.text ++ more) = on run.bytes run.text run.answered in
     record {
       bytes = run.bytes ++ block;
       text = run.text ++ more.0;
@@ -302,14 +338,17 @@ Running-on l0 l1 l2 h0 h1 h2 k1 k2 block run next on =
     }
 
 -- The answers to a block are cut off.
-pub Ran-cut : {T : Type 0} (l0 l1 l2 h0 h1 h2 k1 : Option (List ℕ)) (block : List ℕ) → Running l0 l1 h0 h1 k1 → Consumes l1 l2 block →
+pub Ran-cut : {T : Type 0} (l0 l1 l2 h0 h1 h2 k1 : Option (List ℕ)) (block : List ℕ) → Running l0 l1 h0 h1 k1
+    → Consumes l1 l2 block →
     CutsAnswersOff block (state k1 h1 []) h2 → Ran {T = T} (Err Write) l0 l2 h0 h2
 Ran-cut l0 l1 l2 h0 h1 h2 k1 block run next off =
     let cut : (first : List ℕ) × (others : List ℕ) × (more : List ℕ) × (block ≡ first ++ others)
-    × AreAnswers (whole_lines_of (run.bytes ++ first)) (run.text ++ more) × AppendsStart h1 h2 more = off run.bytes run.text run.answered in
+    × AreAnswers (whole_lines_of (run.bytes ++ first)) (run.text ++ more) × AppendsStart h1 h2 more =
+    off run.bytes run.text run.answered in
     let read = run.bytes ++ cut.0 in
     let lines : lines_of (run.bytes ++ block) ≡ whole_lines_of read ++ lines_of (unended_of read ++ cut.1) =
-    ap (λ more. lines_of (run.bytes ++ more)) cut.3 ∙ ap lines_of (sym (append_assoc run.bytes cut.0 cut.1)) ∙ lines_of-append read cut.1 in
+    ap (λ more. lines_of (run.bytes ++ more)) cut.3 ∙ ap lines_of (sym (append_assoc run.bytes cut.0 cut.1))
+    ∙ lines_of-append read cut.1 in
     record {
       bytes = run.bytes ++ block;
       text = run.text ++ cut.5.sent;
@@ -321,10 +360,12 @@ Ran-cut l0 l1 l2 h0 h1 h2 k1 block run next off =
     }
 
 -- The input ended, and all its lines are answered.
-pub Ran-ended : {T : Type 0} (done : T) (l0 l1 l2 h0 h1 h2 k1 : Option (List ℕ)) → Running l0 l1 h0 h1 k1 → Consumes l1 l2 [] →
+pub Ran-ended : {T : Type 0} (done : T) (l0 l1 l2 h0 h1 h2 k1 : Option (List ℕ)) → Running l0 l1 h0 h1 k1
+    → Consumes l1 l2 [] →
     AnswersRest (state k1 h1 []) (state k1 h2 []) → Ran (Ok done) l0 l2 h0 h2
 Ran-ended done l0 l1 l2 h0 h1 h2 k1 run end rest =
-    let more : (more : List ℕ) × AreAnswers (lines_of run.bytes) (run.text ++ more) × Accepts (buffered h1 []) (buffered h2 []) more = rest run.bytes run.text run.answered in
+    let more : (more : List ℕ) × AreAnswers (lines_of run.bytes) (run.text ++ more) × Accepts (buffered h1 [])
+    (buffered h2 []) more = rest run.bytes run.text run.answered in
     record {
       bytes = run.bytes;
       text = run.text ++ more.0;
@@ -337,7 +378,8 @@ Ran-ended done l0 l1 l2 h0 h1 h2 k1 run end rest =
 pub Ran-end_cut : {T : Type 0} (l0 l1 l2 h0 h1 h2 k1 : Option (List ℕ)) → Running l0 l1 h0 h1 k1 → Consumes l1 l2 [] →
     CutsRestOff (state k1 h1 []) h2 → Ran {T = T} (Err Write) l0 l2 h0 h2
 Ran-end_cut l0 l1 l2 h0 h1 h2 k1 run end off =
-    let cut : (more : List ℕ) × AreAnswers (lines_of run.bytes) (run.text ++ more) × AppendsStart h1 h2 more = off run.bytes run.text run.answered in
+    let cut : (more : List ℕ) × AreAnswers (lines_of run.bytes) (run.text ++ more) × AppendsStart h1 h2 more =
+    off run.bytes run.text run.answered in
     record {
       bytes = run.bytes;
       text = run.text ++ cut.2.sent;

@@ -8,12 +8,14 @@ use Rattle.time_show.specs.declared.value.Part.TheVariants.{Year, Month, Day}
 use Rattle.time_show.specs.Value.{natural_part, signed_part, date_value}
 
 -- a number that is in one range and not in another is out of range there
-outside : (part : Part) (a b c d n : ℕ) (z : ℤ) → natural_part part a b z ≡ Ok n → (IsInRange c d n → ⊥) → natural_part part c d z ≡ Err part
+outside : (part : Part) (a b c d n : ℕ) (z : ℤ) → natural_part part a b z ≡ Ok n → (IsInRange c d n → ⊥)
+    → natural_part part c d z ≡ Err part
 outside part a b c d n (pos m) is none = grind (arith, none)
 outside part a b c d n (negsuc m) is none = refl
 
 -- a number that is in two ranges is the same in both
-inside : (part : Part) (a b c d n : ℕ) (z : ℤ) → natural_part part a b z ≡ Ok n → IsInRange c d n → natural_part part c d z ≡ Ok n
+inside : (part : Part) (a b c d n : ℕ) (z : ℤ) → natural_part part a b z ≡ Ok n → IsInRange c d n
+    → natural_part part c d z ≡ Ok n
 inside part a b c d n (pos m) is range = grind (arith, range)
 inside part a b c d n (negsuc m) is range = absurd (cc)
 
@@ -27,7 +29,8 @@ pub no_such_day : (n : DateNumbers) (year : ℤ) (month day : ℕ) → signed_pa
     (IsYear year × IsDayOfMonth year month day → ⊥) → date_value n ≡ Err Day
 no_such_day n year month day is_year is_month is_day none =
     rw (is_year, is_month)
-    (rw (outside Day 1 31 1 (days_in_month (is_leap_year year) month) day n.day is_day (λ r. none (within Year 999_999 n.year year is_year, r))))
+    (rw (outside Day 1 31 1 (days_in_month (is_leap_year year) month) day n.day is_day
+    (λ r. none (within Year 999_999 n.year year is_year, r))))
 
 -- A day that its month has gives a date.
 pub such_day : (n : DateNumbers) (year : ℤ) (month day : ℕ) → signed_part Year 999_999 n.year ≡ Ok year →

@@ -55,7 +55,8 @@ asked_by (Some (Rfc3339 numbers)) =
 asked_by (Some (Rfc2822 numbers)) =
     asked_value rfc2822_width (λ value. rfc2822_outcome (facts_of_offset_date_time value)) (date_time_value numbers)
 asked_by (Some (Iso numbers)) =
-    asked_value (iso8601_width default_choices) (λ value. iso8601_outcome default_choices (facts_of_offset_date_time value))
+    asked_value (iso8601_width default_choices)
+    (λ value. iso8601_outcome default_choices (facts_of_offset_date_time value))
     (date_time_value numbers)
 asked_by (Some (IsoComma numbers)) =
     asked_value (iso8601_width comma_choices) (λ value. iso8601_outcome comma_choices (facts_of_offset_date_time value))

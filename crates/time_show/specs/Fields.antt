@@ -1,5 +1,6 @@
 -- The fields of a line, and the numbers that fields spell.
-use Rattle.std.specs.Prelude.{◌≡◌, ◌≤◌, ◌⊎◌, ℕ, ℤ, pos, neg_ℤ, Option, Some, None, List, [], ◌∷◌, length, take, get_or, Bool, true, false, ◌==◌, ◌&&◌, nat_lt, nat_le, if◌then◌else◌, option_map}
+use Rattle.std.specs.Prelude.{◌≡◌, ◌≤◌, ◌⊎◌, ℕ, ℤ, pos, neg_ℤ, Option, Some, None, List, [], ◌∷◌, length, take, get_or}
+use Rattle.std.specs.Prelude.{Bool, true, false, ◌==◌, ◌&&◌, nat_lt, nat_le, if◌then◌else◌, option_map}
 use Rattle.std.specs.List.{slice_split, list_all}
 use Rattle.std.proofs.Common.{Bor}
 use Rattle.std.specs.Char.{is_ascii_digit}
@@ -62,4 +63,5 @@ pub record LeadingDigits (text : List ℕ) (value count : ℕ) : Type 0 where
 abbrev pub FirstNatural : List ℕ → Option (ℕ × List (List ℕ)) → Type 0
 FirstNatural text None =
     (field : List ℕ) × (others : List (List ℕ)) × (fields_of text ≡ field ∷ others) × (natural_of field ≡ None)
-FirstNatural text (Some found) = (field : List ℕ) × (fields_of text ≡ field ∷ found.1) × (natural_of field ≡ Some found.0)
+FirstNatural text (Some found) = (field : List ℕ) × (fields_of text ≡ field ∷ found.1) ×
+    (natural_of field ≡ Some found.0)

@@ -29,7 +29,8 @@ onto_rest b (line ∷ lines) rest = rest
 -- the bytes after the last line feed
 abbrev pub unended_of : List ℕ → List ℕ
 unended_of [] = []
-unended_of (b ∷ bytes) = if b == line_feed then unended_of bytes else onto_rest b (whole_lines_of bytes) (unended_of bytes)
+unended_of (b ∷ bytes) = if b == line_feed then unended_of bytes else onto_rest b (whole_lines_of bytes)
+    (unended_of bytes)
 
 -- no byte is a line feed
 abbrev pub IsOneLine : List ℕ → Type 0
@@ -43,7 +44,8 @@ abbrev pub last_line_of : List ℕ → List (List ℕ)
 last_line_of [] = []
 last_line_of (b ∷ bytes) = (b ∷ bytes) ∷ []
 
--- The definitions above, in other words: the lines and their line feeds are the text, and no line has a line feed inside.
+-- The definitions above, in other words: the lines and their line feeds are the text, and no line has a line feed
+-- inside.
 pub record LinesSpell (bytes : List ℕ) : Type 0 where
   pub joined : flat_map with_line_feed (whole_lines_of bytes) ++ unended_of bytes ≡ bytes
   pub whole : AllByRecursion IsOneLine (whole_lines_of bytes)

@@ -23,12 +23,14 @@ output_of s = buffered s.held s.waiting
 -- an answer to the line that is kept was accepted: one answer serves each line that is kept as this
 abbrev pub AcceptsAnswer : RunState → RunState → Type 0
 AcceptsAnswer old new =
-    (line : List ℕ) → old.kept ≡ kept_of line → (answer : List ℕ) × IsAnswer line answer × Accepts (output_of old) (output_of new) answer
+    (line : List ℕ) → old.kept ≡ kept_of line
+    → (answer : List ℕ) × IsAnswer line answer × Accepts (output_of old) (output_of new) answer
 
 -- such an answer, or what waited before it, was cut off, and the output holds this
 abbrev pub CutsAnswerOff : RunState → Option (List ℕ) → Type 0
 CutsAnswerOff old held =
-    (line : List ℕ) → old.kept ≡ kept_of line → (answer : List ℕ) × IsAnswer line answer × CutsOff (output_of old) held answer
+    (line : List ℕ) → old.kept ≡ kept_of line
+    → (answer : List ℕ) × IsAnswer line answer × CutsOff (output_of old) held answer
 
 -- the text answers the whole lines of these bytes, and what comes after them is kept
 pub record AnsweredUpTo (bytes : List ℕ) (kept : Option (List ℕ)) (text : List ℕ) : Type 0 where
@@ -39,7 +41,8 @@ pub record AnsweredUpTo (bytes : List ℕ) (kept : Option (List ℕ)) (text : Li
 abbrev pub AnswersOn : List ℕ → RunState → RunState → Type 0
 AnswersOn bytes old new =
     (before text : List ℕ) → AnsweredUpTo before old.kept text →
-    (more : List ℕ) × Accepts (output_of old) (output_of new) more × AnsweredUpTo (before ++ bytes) new.kept (text ++ more)
+    (more : List ℕ) × Accepts (output_of old) (output_of new) more × AnsweredUpTo (before ++ bytes) new.kept
+    (text ++ more)
 
 -- what was answered before is answered on, through some first of these bytes, and the answers are cut off
 abbrev pub CutsAnswersOff : List ℕ → RunState → Option (List ℕ) → Type 0
@@ -67,7 +70,8 @@ Shows (Err Read) bytes text = AreAnswers (whole_lines_of bytes) text
 Shows (Err Write) bytes text = BreaksOff (lines_of bytes) text
 
 -- the input lost some bytes, the output gained some text, and the text is what the bytes are answered by
-pub record Ran {T : Type 0} (result : Result T ShowError) (left_before left_after held_before held_after : Option (List ℕ)) : Type 0 where
+pub record Ran {T : Type 0} (result : Result T ShowError)
+    (left_before left_after held_before held_after : Option (List ℕ)) : Type 0 where
   pub bytes : List ℕ
   pub text : List ℕ
   pub read : Consumes left_before left_after bytes

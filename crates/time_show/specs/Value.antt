@@ -1,5 +1,6 @@
 -- The values that the numbers of a line give, if each is in the range of its part.
-use Rattle.std.specs.Prelude.{ℕ, ℤ, pos, negsuc, List, Result, Ok, Err, codes, nat_le, ◌&&◌, unsigned_abs, if◌then◌else◌}
+use Rattle.std.specs.Prelude.{ℕ, ℤ, pos, negsuc, List, Result, Ok, Err, codes, nat_le, ◌&&◌, unsigned_abs}
+use Rattle.std.specs.Prelude.{if◌then◌else◌}
 use Rattle.time_below.specs.Calendar.{OrdinalDate, date_of, days_in_month, is_leap_year}
 use Rattle.time_below.specs.Moment.{DateAndTime, OffsetDateAndTime}
 use Rattle.time_below.specs.Offset.{Offset, settled}
@@ -8,7 +9,8 @@ use Rattle.time_show.specs.declared.value.DateNumbers.{DateNumbers}
 use Rattle.time_show.specs.declared.value.DateTimeNumbers.{DateTimeNumbers}
 use Rattle.time_show.specs.declared.value.OffsetNumbers.{OffsetNumbers}
 use Rattle.time_show.specs.declared.value.Part.{Part}
-use Rattle.time_show.specs.declared.value.Part.TheVariants.{Year, Month, Day, Hour, Minute, Second, Nanosecond, Hours, Minutes, Seconds}
+use Rattle.time_show.specs.declared.value.Part.TheVariants.{Year, Month, Day, Hour, Minute, Second, Nanosecond, Hours}
+use Rattle.time_show.specs.declared.value.Part.TheVariants.{Minutes, Seconds}
 use Rattle.time_show.specs.declared.value.TimeNumbers.{TimeNumbers}
 use Rattle.time_show.specs.declared.value.UtcNumbers.{UtcNumbers}
 

@@ -12,7 +12,12 @@ returns-clause-appends g c = rw c.current.ensures.converted at c.current_write_i
 
 pub returns-clause-within : goal.returns-clause-within
 returns-clause-within g c =
-    omega (arith, rw c.current.ensures.converted at c.current_write_into.ensures.within, width_of_current c.args.component)
+    omega (
+      arith,
+      rw c.current.ensures.converted at c.current_write_into.ensures.within,
+      width_of_current
+          c.args.component,
+    )
 
 pub returns-clause-text : goal.returns-clause-text
 returns-clause-text g c = text_of_component c.args.component (g.V.ComponentProvider.facts c.args.value.now)

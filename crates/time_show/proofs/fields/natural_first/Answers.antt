@@ -15,12 +15,14 @@ returns-then-count-text-clause-small c = natural_small _ _ _ c.leading_digits-va
 pub returns-then-text-count-ne-SPACE-clause-value :
     goal.returns-then-text-count-ne-SPACE-clause-value
 returns-then-text-count-ne-SPACE-clause-value c =
-    natural_missed _ _ _ c.leading_digits-value.ensures (inr (omega (arith, c.leading_digits-value.ensures.inside), grind arith))
+    natural_missed _ _ _ c.leading_digits-value.ensures
+    (inr (omega (arith, c.leading_digits-value.ensures.inside), grind arith))
 
 pub returns-clause-value : goal.returns-clause-value
 returns-clause-value c =
     rw (slice-end (c.leading_digits-value.result.1 + 1) c.args.text.now)
-    (natural_before _ _ _ c.leading_digits-value.ensures (omega arith) (omega (arith, c.leading_digits-value.ensures.inside)) (grind arith))
+    (natural_before _ _ _ c.leading_digits-value.ensures (omega arith)
+    (omega (arith, c.leading_digits-value.ensures.inside)) (grind arith))
 
 pub returns-clause-small : goal.returns-clause-small
 returns-clause-small c = natural_small _ _ _ c.leading_digits-value.ensures

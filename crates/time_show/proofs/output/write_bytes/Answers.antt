@@ -10,7 +10,8 @@ taken-more : (bytes : List ℕ) (done n : ℕ) → done ≤ length bytes →
 taken-more bytes done n le = grind (arith, common_steps, pieces, take-add)
 
 -- no more bytes are taken than are left
-taken-fits : (bytes : List ℕ) (done n : ℕ) → done ≤ length bytes → n ≤ length (take (length bytes - done) (drop done bytes)) → done + n ≤ length bytes
+taken-fits : (bytes : List ℕ) (done n : ℕ) → done ≤ length bytes
+    → n ≤ length (take (length bytes - done) (drop done bytes)) → done + n ≤ length bytes
 taken-fits bytes done n le fits = grind (arith, common_steps, pieces)
 
 pub returns-in-Ok-eq0-clause-err : goal.returns-in-Ok-eq0-clause-err
@@ -21,7 +22,8 @@ returns-in-Ok-eq0-clause-err g c =
 
 pub loop-done-preserved : goal.loop-done-preserved
 loop-done-preserved g c = record {
-  in_range = taken-fits c.args.bytes.now c.loop-done.done c.in-Ok.count c.loop-done.invariant.in_range c.in-Ok.ensures.bound;
+  in_range = taken-fits c.args.bytes.now c.loop-done.done c.in-Ok.count c.loop-done.invariant.in_range
+      c.in-Ok.ensures.bound;
   written = rw (taken-more c.args.bytes.now c.loop-done.done c.in-Ok.count c.loop-done.invariant.in_range)
       (Appends-then _ _ _ _ _ c.loop-done.invariant.written c.in-Ok.ensures.bytes);
 }

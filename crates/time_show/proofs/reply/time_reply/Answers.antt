@@ -13,5 +13,7 @@ value_reply_of_width-requires c = record { width = rw (ap tree_width c.time_item
 
 pub returns : goal.returns
 returns c =
-    let P : Tree → Type 0 = λ tree. Answers (asked_value (tree_width tree) (λ time. tree_outcome tree (facts_of_time time)) c.time_value.result) (reply_text c.value_reply_of_width.result) in
+    let P : Tree → Type 0 =
+    λ tree. Answers (asked_value (tree_width tree) (λ time. tree_outcome tree (facts_of_time time))
+    c.time_value.result) (reply_text c.value_reply_of_width.result) in
     rw (← c.time_value.ensures) (subst P c.time_items-items.ensures c.value_reply_of_width.ensures)

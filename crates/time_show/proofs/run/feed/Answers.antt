@@ -1,10 +1,12 @@
-use Rattle.std.proofs.Common.{ℕ, List, [], ◌∷◌, ◌++◌, ◌≡◌, ◌+◌, ◌-◌, length, take, drop, Option, Some, None, refl, ap, ◌∙◌, append_assoc}
+use Rattle.std.proofs.Common.{ℕ, List, [], ◌∷◌, ◌++◌, ◌≡◌, ◌+◌, ◌-◌, length, take, drop, Option, Some, None, refl, ap}
+use Rattle.std.proofs.Common.{◌∙◌, append_assoc}
 use Rattle.std.proofs.lemmas.Result.{err_from_is_err_and}
 use Rattle.time_show.specs.LineBuffer.{kept_with}
 use Rattle.time_show.specs.Lines.{line_feed, IsOneLine}
 use Rattle.time_show.specs.Run.{state, AcceptsAnswer, CutsAnswerOff, AnswersOn, CutsAnswersOff}
 use Rattle.time_show.proofs.LinesLemmas.{EndsAt, line-found, slice-end}
-use Rattle.time_show.proofs.RunLemmas.{AnswersOn-none, AnswersOn-then, AnswersOn-kept, AnswersOn-line, CutsAnswersOff-line, CutsAnswersOff-after}
+use Rattle.time_show.proofs.RunLemmas.{AnswersOn-none, AnswersOn-then, AnswersOn-kept, AnswersOn-line}
+use Rattle.time_show.proofs.RunLemmas.{CutsAnswersOff-line, CutsAnswersOff-after}
 use Rattle.time_show.proofs.run.feed.Goals as goal
 
 -- the bytes of a line and its line feed, taken from what is left
@@ -12,24 +14,31 @@ next-line : (bytes fed rest : List ℕ) (end : ℕ) → bytes ≡ fed ++ rest �
     bytes ≡ (fed ++ (take end rest ++ line_feed ∷ [])) ++ drop (end + 1) rest
 next-line bytes fed rest end whole ends =
     whole ∙ ap (λ more. fed ++ more) ends.whole
-    ∙ rw (append_assoc fed (take end rest ++ line_feed ∷ []) (drop (end + 1) rest), append_assoc (take end rest) (line_feed ∷ []) (drop (end + 1) rest))
+    ∙ rw (
+      append_assoc fed (take end rest ++ line_feed ∷ []) (drop (end + 1) rest),
+      append_assoc (take end rest)
+          (line_feed ∷ []) (drop (end + 1) rest),
+    )
 
 -- one more line is answered
 step : (bytes fed rest : List ℕ) (end : ℕ) (k0 k1 k2 k3 h0 h1 h2 : Option (List ℕ)) (w0 w1 w2 : List ℕ) →
     bytes ≡ fed ++ rest → EndsAt rest end → k2 ≡ kept_with k1 (take end rest) → k3 ≡ Some [] →
     AnswersOn fed (state k0 h0 w0) (state k1 h1 w1) → AcceptsAnswer (state k2 h1 w1) (state k2 h2 w2) →
-    (fed : List ℕ) × (bytes ≡ fed ++ take (length rest - (end + 1)) (drop (end + 1) rest)) × AnswersOn fed (state k0 h0 w0) (state k3 h2 w2)
+    (fed : List ℕ) × (bytes ≡ fed ++ take (length rest - (end + 1)) (drop (end + 1) rest)) × AnswersOn fed
+    (state k0 h0 w0) (state k3 h2 w2)
 step bytes fed rest end k0 k1 k2 k3 h0 h1 h2 w0 w1 w2 whole ends kept empty on accepts = (
   fed ++ (take end rest ++ line_feed ∷ []),
   rw (slice-end (end + 1) rest) (next-line bytes fed rest end whole ends),
-  rw empty (AnswersOn-then fed (take end rest ++ line_feed ∷ []) (state k0 h0 w0) (state k1 h1 w1) (state (Some []) h2 w2) on
+  rw empty (AnswersOn-then fed (take end rest ++ line_feed ∷ []) (state k0 h0 w0) (state k1 h1 w1)
+      (state (Some []) h2 w2) on
       (AnswersOn-line (take end rest) k1 (state k2 h1 w1) (state k2 h2 w2) ends.front kept accepts)),
 )
 
 -- the answer to one more line is cut off
 stop : (bytes fed rest : List ℕ) (end : ℕ) (k0 k1 k2 h0 h1 h2 : Option (List ℕ)) (w0 w1 : List ℕ) →
     bytes ≡ fed ++ rest → EndsAt rest end → k2 ≡ kept_with k1 (take end rest) →
-    AnswersOn fed (state k0 h0 w0) (state k1 h1 w1) → CutsAnswerOff (state k2 h1 w1) h2 → CutsAnswersOff bytes (state k0 h0 w0) h2
+    AnswersOn fed (state k0 h0 w0) (state k1 h1 w1) → CutsAnswerOff (state k2 h1 w1) h2
+    → CutsAnswersOff bytes (state k0 h0 w0) h2
 stop bytes fed rest end k0 k1 k2 h0 h1 h2 w0 w1 whole ends kept on cuts =
     rw (whole ∙ ap (λ more. fed ++ more) ends.whole)
     (CutsAnswersOff-after fed (take end rest ++ line_feed ∷ drop (end + 1) rest) (state k0 h0 w0) (state k1 h1 w1) h2 on
@@ -41,7 +50,8 @@ finish : (bytes fed rest : List ℕ) (k0 k1 k2 h0 h1 : Option (List ℕ)) (w0 w1
     AnswersOn fed (state k0 h0 w0) (state k1 h1 w1) → AnswersOn bytes (state k0 h0 w0) (state k2 h1 w1)
 finish bytes fed rest k0 k1 k2 h0 h1 w0 w1 whole one kept on =
     rw (whole, kept)
-    (AnswersOn-then fed rest (state k0 h0 w0) (state k1 h1 w1) (state (kept_with k1 rest) h1 w1) on (AnswersOn-kept rest (state k1 h1 w1) one))
+    (AnswersOn-then fed rest (state k0 h0 w0) (state k1 h1 w1) (state (kept_with k1 rest) h1 w1) on
+    (AnswersOn-kept rest (state k1 h1 w1) one))
 
 pub loop-end-init : goal.loop-end-init
 loop-end-init g c = ([], refl, AnswersOn-none (state _ _ _))
@@ -49,8 +59,10 @@ loop-end-init g c = ([], refl, AnswersOn-none (state _ _ _))
 pub loop-end-preserved : goal.loop-end-preserved
 loop-end-preserved g c =
     let i = c.loop-end.invariant in
-    let ends : EndsAt c.loop-end.rest.now c.in-Some.end = line-found c.loop-end.rest.now (Some c.in-Some.end) c.in-Some.ensures in
-    step _ i.0 c.loop-end.rest.now c.in-Some.end _ _ _ _ _ _ _ _ _ _ i.1 ends c.extend.ensures c.clear.ensures i.2 c.in_ok-answer_line.ensures.ok
+    let ends : EndsAt c.loop-end.rest.now c.in-Some.end = line-found c.loop-end.rest.now (Some c.in-Some.end)
+    c.in-Some.ensures in
+    step _ i.0 c.loop-end.rest.now c.in-Some.end _ _ _ _ _ _ _ _ _ _ i.1 ends c.extend.ensures c.clear.ensures i.2
+    c.in_ok-answer_line.ensures.ok
 
 pub returns-clause-ok : goal.returns-clause-ok
 returns-clause-ok g c =
@@ -62,5 +74,7 @@ pub returns-in_err-answer_line-clause-err : goal.returns-in_err-answer_line-clau
 returns-in_err-answer_line-clause-err g c =
     let p = err_from_is_err_and c.from_residual.result c.from_residual.ensures.1 in
     let i = c.loop-end.invariant in
-    let ends : EndsAt c.loop-end.rest.now c.in-Some.end = line-found c.loop-end.rest.now (Some c.in-Some.end) c.in-Some.ensures in
-    rw p.1 (stop _ i.0 c.loop-end.rest.now c.in-Some.end _ _ _ _ _ _ _ _ i.1 ends c.extend.ensures i.2 c.in_err-answer_line.ensures.err)
+    let ends : EndsAt c.loop-end.rest.now c.in-Some.end = line-found c.loop-end.rest.now (Some c.in-Some.end)
+    c.in-Some.ensures in
+    rw p.1 (stop _ i.0 c.loop-end.rest.now c.in-Some.end _ _ _ _ _ _ _ _ i.1 ends c.extend.ensures i.2
+    c.in_err-answer_line.ensures.err)

@@ -5,7 +5,8 @@ use Rattle.time_show.proofs.run.run.Goals as goal
 
 pub loop-preserved : goal.loop-preserved
 loop-preserved g c =
-    Running-on _ _ _ _ _ _ _ _ (take c.in-Ok.count c.read.new.buf) c.loop.invariant c.in-Ok.ensures.bytes.0 c.in_ok-answer_block.ensures.ok
+    Running-on _ _ _ _ _ _ _ _ (take c.in-Ok.count c.read.new.buf) c.loop.invariant c.in-Ok.ensures.bytes.0
+    c.in_ok-answer_block.ensures.ok
 
 pub returns-in_err-answer_last-clause-ran : goal.returns-in_err-answer_last-clause-ran
 returns-in_err-answer_last-clause-ran g c =
@@ -20,5 +21,7 @@ returns-then-count-eq0-clause-ran g c =
 
 pub returns-in_err-answer_block-clause-ran : goal.returns-in_err-answer_block-clause-ran
 returns-in_err-answer_block-clause-ran g c =
-    let p = err_from_is_err_and c.from_residual-in_err-answer_block.result c.from_residual-in_err-answer_block.ensures.1 in
-    rw (p.1, p.2) (Ran-cut _ _ _ _ _ _ _ (take c.in-Ok.count c.read.new.buf) c.loop.invariant c.in-Ok.ensures.bytes.0 c.in_err-answer_block.ensures.err)
+    let p = err_from_is_err_and c.from_residual-in_err-answer_block.result
+    c.from_residual-in_err-answer_block.ensures.1 in
+    rw (p.1, p.2) (Ran-cut _ _ _ _ _ _ _ (take c.in-Ok.count c.read.new.buf) c.loop.invariant c.in-Ok.ensures.bytes.0
+    c.in_err-answer_block.ensures.err)

@@ -1,26 +1,34 @@
 use Rattle.std.proofs.Common.{sym, ◌∙◌}
 use Rattle.time_below.proofs.NodeLemmas.{next_of, smaller_rest}
 use Rattle.time_fmt.proofs.WriteLemmas.{appends_text}
-use Rattle.time_fmt.proofs.Engine.{all_along, by_lengths, refused_along, text_refused, written_along, text_at_end, outcome_of_first, text_of_first}
+use Rattle.time_fmt.proofs.Engine.{all_along, by_lengths, refused_along, text_refused, written_along, text_at_end}
+use Rattle.time_fmt.proofs.Engine.{outcome_of_first, text_of_first}
 use Rattle.time_fmt.proofs.formattable.engine.+engine.Goals as goal
 use Rattle.time_fmt.proofs.formattable.engine.+engine.Goals.{write_nodes-in-Some, write_nodes-in-None+in-Ok}
 
 pub write_nodes-returns-in-Err-clause-appends : goal.write_nodes-returns-in-Err-clause-appends
 write_nodes-returns-in-Err-clause-appends g t c =
-    let next = next_of g.T.Node.tree c.args.nodes.now c.loop-node.node-index c.node-item.result c.loop-node-test.true c.node-item.is in
-    refused_along c.args.output.now c.loop-node.taken c.write_node.new.output c.in-Err.refusal _ _ _ _ _ c.loop-node.invariant next
+    let next = next_of g.T.Node.tree c.args.nodes.now c.loop-node.node-index c.node-item.result c.loop-node-test.true
+    c.node-item.is in
+    refused_along c.args.output.now c.loop-node.taken c.write_node.new.output c.in-Err.refusal _ _ _ _ _
+    c.loop-node.invariant next
     (rw (c.put_back.ensures.put, c.in-None.ensures.appends) at c.in-Err.ensures.appends)
 
 pub write_nodes-returns-in-Err-clause-text : goal.write_nodes-returns-in-Err-clause-text
 write_nodes-returns-in-Err-clause-text g t c =
-    let next = next_of g.T.Node.tree c.args.nodes.now c.loop-node.node-index c.node-item.result c.loop-node-test.true c.node-item.is in
-    text_refused c.args.output.now c.loop-node.taken c.write_node.new.output c.in-Err.refusal _ _ _ _ _ c.loop-node.invariant next (rw (c.put_back.ensures.put, c.in-None.ensures.appends) at c.in-Err.ensures.appends) c.in-Err.ensures.text
+    let next = next_of g.T.Node.tree c.args.nodes.now c.loop-node.node-index c.node-item.result c.loop-node-test.true
+    c.node-item.is in
+    text_refused c.args.output.now c.loop-node.taken c.write_node.new.output c.in-Err.refusal _ _ _ _ _
+    c.loop-node.invariant next (rw (c.put_back.ensures.put, c.in-None.ensures.appends) at c.in-Err.ensures.appends)
+    c.in-Err.ensures.text
 
 -- a leaf, or any other node after a leaf that wrote nothing
 pub write_nodes-loop-node-preserved : goal.write_nodes-loop-node-preserved
 write_nodes-loop-node-preserved g t c =
-    let next = next_of g.T.Node.tree c.args.nodes.now c.loop-node.node-index c.node-item.result c.loop-node-test.true c.node-item.is in
-    let smaller = smaller_rest g.T.Node.size c.args.nodes.now c.loop-node.node-index c.node-item.result c.loop-node-test.true c.node-item.is in
+    let next = next_of g.T.Node.tree c.args.nodes.now c.loop-node.node-index c.node-item.result c.loop-node-test.true
+    c.node-item.is in
+    let smaller = smaller_rest g.T.Node.size c.args.nodes.now c.loop-node.node-index c.node-item.result
+    c.loop-node-test.true c.node-item.is in
     elim c.match-write_leaf.branch [
       | write_nodes-in-Some w ↦
           let step = w.in-Some.ensures in
@@ -40,23 +48,27 @@ write_nodes-loop-node-preserved g t c =
     ]
 
 pub write_nodes-returns-clause-text : goal.write_nodes-returns-clause-text
-write_nodes-returns-clause-text g t c = text_at_end g.T.Node.tree c.args.nodes.now _ (g.V.ComponentProvider.facts c.args.value.now) c.loop-node-test.false c.loop-node.invariant.text
+write_nodes-returns-clause-text g t c = text_at_end g.T.Node.tree c.args.nodes.now _
+    (g.V.ComponentProvider.facts c.args.value.now) c.loop-node-test.false c.loop-node.invariant.text
 
 pub write_node-returns-in-Some-clause-appends : goal.write_node-returns-in-Some-clause-appends
 write_node-returns-in-Some-clause-appends g t c =
-    let first = outcome_of_first g.T.Node.tree c.in-First.nodes.now c.in-Some.node.now (g.V.ComponentProvider.facts c.args.value.now) (sym c.in-Some.ensures.value) in
+    let first = outcome_of_first g.T.Node.tree c.in-First.nodes.now c.in-Some.node.now
+    (g.V.ComponentProvider.facts c.args.value.now) (sym c.in-Some.ensures.value) in
     rw (← c.in-First.ensures.tree, first) c.write_node.ensures.appends
 
 pub write_node-returns-in-Some-clause-text : goal.write_node-returns-in-Some-clause-text
 write_node-returns-in-Some-clause-text g t c =
-    let first = text_of_first g.T.Node.tree c.in-First.nodes.now c.in-Some.node.now (g.V.ComponentProvider.facts c.args.value.now) (sym c.in-Some.ensures.value) in
+    let first = text_of_first g.T.Node.tree c.in-First.nodes.now c.in-Some.node.now
+    (g.V.ComponentProvider.facts c.args.value.now) (sym c.in-Some.ensures.value) in
     rw (← c.in-First.ensures.tree) (first c.write_node.ensures.text)
 
 -- at the end of the loop nothing is left
 pub write_nodes-returns-clause-appends : goal.write_nodes-returns-clause-appends
 write_nodes-returns-clause-appends g t c =
     rw (c.put_back-2.ensures.put, c.len.ensures, c.len-begin.ensures, c.take_out-taken.ensures.taken)
-    (all_along g.T.Node.tree c.args.nodes.now _ c.args.output.now c.loop-node.taken (g.V.ComponentProvider.facts c.args.value.now) c.loop-node-test.false c.loop-node.invariant)
+    (all_along g.T.Node.tree c.args.nodes.now _ c.args.output.now c.loop-node.taken
+    (g.V.ComponentProvider.facts c.args.value.now) c.loop-node-test.false c.loop-node.invariant)
 
 pub write_nodes-returns-clause-agrees : goal.write_nodes-returns-clause-agrees
 write_nodes-returns-clause-agrees g t c = c.loop-node.invariant.state
@@ -66,7 +78,8 @@ write_nodes-returns-in-Err-clause-agrees g t c = c.in-Err.ensures.agrees
 
 -- each layer has the outcome of its tree
 pub write_node-returns-in-Bytes-clause-appends : goal.write_node-returns-in-Bytes-clause-appends
-write_node-returns-in-Bytes-clause-appends g t c = rw (← c.in-Bytes.ensures.tree) (appends_text c.write_bytes.ensures.writes)
+write_node-returns-in-Bytes-clause-appends g t c =
+    rw (← c.in-Bytes.ensures.tree) (appends_text c.write_bytes.ensures.writes)
 
 pub write_node-returns-in-Text-clause-appends : goal.write_node-returns-in-Text-clause-appends
 write_node-returns-in-Text-clause-appends g t c = rw (← c.in-Text.ensures.tree) (appends_text c.write.ensures.writes)
@@ -84,7 +97,9 @@ pub write_node-returns-in-All-clause-text : goal.write_node-returns-in-All-claus
 write_node-returns-in-All-clause-text g t c = rw (← c.in-All.ensures.tree) c.write_nodes.ensures.text
 
 pub write_node-returns-in-Optional-clause-appends : goal.write_node-returns-in-Optional-clause-appends
-write_node-returns-in-Optional-clause-appends g t c = rw (← c.in-Optional.ensures.tree) c.write_node-in-Optional.ensures.appends
+write_node-returns-in-Optional-clause-appends g t c =
+    rw (← c.in-Optional.ensures.tree) c.write_node-in-Optional.ensures.appends
 
 pub write_node-returns-in-Optional-clause-text : goal.write_node-returns-in-Optional-clause-text
-write_node-returns-in-Optional-clause-text g t c = rw (← c.in-Optional.ensures.tree) c.write_node-in-Optional.ensures.text
+write_node-returns-in-Optional-clause-text g t c =
+    rw (← c.in-Optional.ensures.tree) c.write_node-in-Optional.ensures.text

@@ -11,7 +11,8 @@ returns-in_err-make_room-clause-err g c =
 
 pub returns-in_err-write_bytes-clause-err : goal.returns-in_err-write_bytes-clause-err
 returns-in_err-write_bytes-clause-err g c =
-    let p = err_from_is_err_and c.from_residual-in_err-write_bytes.result c.from_residual-in_err-write_bytes.ensures.1 in
+    let p = err_from_is_err_and c.from_residual-in_err-write_bytes.result c.from_residual-in_err-write_bytes.ensures.1
+    in
     let empty : c.make_room.new.self ≡ [] = c.in_ok-make_room.ensures.room (omega arith) in
     let before : Accepts _ (buffered _ []) [] = rw empty at c.in_ok-make_room.ensures.ok in
     rw p.1 (CutsOff-after _ _ _ [] c.args.bytes.now before c.in_err-write_bytes.ensures.err)

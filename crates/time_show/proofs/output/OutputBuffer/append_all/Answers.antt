@@ -9,8 +9,10 @@ returns-in_err-make_room-clause-err g c =
 
 pub returns-clause-ok : goal.returns-clause-ok
 returns-clause-ok g c =
-    on_ok_weaker c.append_each.result (λ p. Accepts-then _ _ _ _ _ c.in_ok-make_room.ensures.ok p) c.append_each.ensures.ok
+    on_ok_weaker c.append_each.result (λ p. Accepts-then _ _ _ _ _ c.in_ok-make_room.ensures.ok p)
+    c.append_each.ensures.ok
 
 pub returns-clause-err : goal.returns-clause-err
 returns-clause-err g c =
-    on_err_weaker c.append_each.result (λ p. CutsOff-after _ _ _ _ _ c.in_ok-make_room.ensures.ok p) c.append_each.ensures.err
+    on_err_weaker c.append_each.result (λ p. CutsOff-after _ _ _ _ _ c.in_ok-make_room.ensures.ok p)
+    c.append_each.ensures.err
