@@ -3,10 +3,11 @@
 
     python3 bench/run.py [FOLDER]
 
-Works on a copy of the repository, in FOLDER or a temporary one, to which `bench/texts.rt.in` is added as a
-program, and once more with `LENT`. All are proved before they are built, and so are the crates below them, in
-a new folder from nothing. Instructions are counted by callgrind, where it is installed, as the difference of
-1,000 and 3,000 turns; of what grows, of 10 and 30. Times are the least of 15 rounds in turns.
+Works on a copy of the repository, in FOLDER or a temporary one, to which `bench/texts.rt.in` and the two
+files beside it are added as a program, and once more with `LENT`. All are proved before they are built, and
+so are the crates below them, in a new folder from nothing. Instructions are counted by callgrind, where it is
+installed, as the difference of 1,000 and 3,000 turns; of what grows, of 10 and 30. Times are the least of 15
+rounds in turns.
 """
 
 import os
@@ -82,14 +83,15 @@ def built(folder):
     """Proves and builds the three programs in a copy of the repository."""
     top = os.path.dirname(os.path.dirname(os.path.abspath(__file__)))
     shutil.copytree(top, folder, dirs_exist_ok=True, ignore=shutil.ignore_patterns(".git", "out"))
-    with open(os.path.join(folder, "bench", "texts.rt.in"), encoding="utf-8") as file:
-        source = file.read()
     known, lent = "const LENT: bool = false;", "const LENT: bool = true;"
-    for name, text in [("time_bench", source), ("time_bench_lent", source.replace(known, lent))]:
-        crate = os.path.join(folder, "crates", name, "src")
-        os.makedirs(crate, exist_ok=True)
-        with open(os.path.join(crate, "main.rt"), "w", encoding="utf-8") as file:
-            file.write(text)
+    for name, constant in [("time_bench", known), ("time_bench_lent", lent)]:
+        sources = os.path.join(folder, "crates", name, "src")
+        os.makedirs(sources, exist_ok=True)
+        for part, file in [("texts", "main"), ("data", "data"), ("parted", "parted")]:
+            with open(os.path.join(folder, "bench", f"{part}.rt.in"), encoding="utf-8") as source:
+                text = source.read().replace(known, constant)
+            with open(os.path.join(sources, f"{file}.rt"), "w", encoding="utf-8") as target:
+                target.write(text)
         with open(os.path.join(folder, "crates.txt"), "a", encoding="utf-8") as crates:
             crates.write(f"{name}: time_below time_digits time_provide time_fmt time_known\n")
     programs = []
