@@ -138,8 +138,6 @@ length-subsecond_text digits.Eight n = omega (arith, length-take 8 (fixed 9 n))
 length-subsecond_text digits.Nine n = omega (arith, length-take 9 (fixed 9 n))
 length-subsecond_text digits.OneOrMore n = length-trimmed_fraction n
 
-pub ruleset subsecond_lengths = (length-subsecond_text, length-trimmed_fraction)
-
 -- the word of the last eight of nine digits shows these eight again
 pub eight_of_word : (n word : ℕ) (digits eight : List ℕ) → digits ≡ fixed 9 n → eight ≡ drop (length digits - 8) digits
     → word ≡ from_le_bytes w64 eight

@@ -71,7 +71,7 @@ impl Modifier for modifier::Subsecond {
     }
 
     #[inline(always)]
-    #[tactic(auto, using(crate::proofs::DecimalLemmas::subsecond_lengths))]
+    #[tactic(auto, using(crate::proofs::TrimLemmas::subsecond_lengths))]
     fn write<V: ComponentProvider>(
         self,
         output: &mut Vec<u8>,
@@ -84,45 +84,13 @@ impl Modifier for modifier::Subsecond {
         let nanosecond = value.nanosecond(state);
         match self.digits {
             SubsecondDigits::Three => Ok(write_three_decimals(output, nanosecond)),
-            SubsecondDigits::OneOrMore => Ok(write_needed_digits(output, nanosecond)),
+            // Mostly all nine are needed.
+            SubsecondDigits::OneOrMore if nanosecond.get() % 10 != 0 => {
+                Ok(write_nine_digits(output, nanosecond))
+            }
             rare => Ok(write_rare_decimals(output, nanosecond, rare)),
         }
     }
-}
-
-// As many decimals as are needed: nine at once, and fewer apart, since a part is inlined wherever it is used.
-#[inline(always)]
-#[tactic(auto, using(crate::proofs::TrimLemmas::whole_fractions))]
-fn write_needed_digits(output: &mut Vec<u8>, nanosecond: Nanoseconds) -> usize
-    requires room { HasRoom output.old (length (trimmed_fraction nanosecond)) }
-    ensures writes { Writes output.old output.new result (trimmed_fraction nanosecond) }
-{
-    if nanosecond.get() % 10 != 0 {
-        write_nine_digits(output, nanosecond)
-    } else {
-        write_fewer_digits(output, nanosecond)
-    }
-}
-
-// The same of a vector that is taken out once more.
-#[inline]
-fn write_fewer_digits(output: &mut Vec<u8>, nanosecond: Nanoseconds) -> usize
-    requires room { HasRoom output.old (length (trimmed_fraction nanosecond)) }
-    ensures writes { Writes output.old output.new result (trimmed_fraction nanosecond) }
-{
-    let mut taken = take_out(output);
-    let count = write_fraction_apart(&mut taken, nanosecond);
-    put_back(output, taken);
-    count
-}
-
-// The same of a vector that was taken out.
-#[inline(never)]
-fn write_fraction_apart(output: &mut Vec<u8>, nanosecond: Nanoseconds) -> usize
-    requires room { HasRoom output.old (length (trimmed_fraction nanosecond)) }
-    ensures writes { Writes output.old output.new result (trimmed_fraction nanosecond) }
-{
-    write_fraction(output, nanosecond)
 }
 
 // Any number of decimals, apart, since few texts have another than three or as many as are needed.
