@@ -3,7 +3,8 @@ use Rattle.std.proofs.Common.{◌≡◌, ℕ, ◌+◌, ◌^◌, ◌<◌, ◌≤�
 use Rattle.std.proofs.Common.{refl, sym, ◌∙◌, arith, ℤ, pos, unsigned_abs, length-append}
 use Rattle.std.proofs.lemmas.Fmt.{length-decimal-le}
 use Rattle.std.proofs.Math.ListN.{length-take}
-use Rattle.std.specs.Prelude.{int_lt}
+use Rattle.std.proofs.lemmas.Grind.{common_steps}
+use Rattle.std.specs.Prelude.{◌↔◌, ◌<ℤ◌, IsTrue, int_lt}
 use Rattle.time_below.specs.declared.format_description.modifier.Padding.{Padding}
 use Rattle.time_below.specs.declared.format_description.modifier.Padding.TheVariants as padding
 use Rattle.time_below.specs.declared.month.Month.{Month}
@@ -82,6 +83,10 @@ length-standard_year_text p s year h =
     signed_within p (int_lt year (pos 0)) s 4 4 (unsigned_abs year) (omega arith)
     (length-decimal-le 4 (unsigned_abs year) (omega arith) (omega arith) (omega arith))
 
+-- a year before the year 0 is negative
+pub is_negative_of : (b : Bool) (year : ℤ) → IsTrue b ↔ (year <ℤ pos 0) → b ≡ int_lt year (pos 0)
+is_negative_of b year h = grind (arith, common_steps)
+
 -- a century has at most four digits and a sign
 pub length-extended_century_text : (p : Padding) (s is_negative : Bool) (century : ℕ) → century ≤ 9_999
     → length (extended_century_text p s is_negative century) ≤ 5
@@ -97,6 +102,10 @@ length-standard_century_text p s is_negative century h =
     (length-decimal-le 2 century (omega arith) (omega arith) (omega arith))
 
 -- ---- lengths of names, and of the digit of a weekday
+
+-- a month has two digits at most
+pub month_below : (m : Month) → month_number m < 100
+month_below m = grind arith
 
 -- no name of a month is longer than September
 pub length-month_name : (m : Month) → length (month_name (month_number m)) ≤ 9

@@ -10,7 +10,7 @@ use Rattle.time_below.specs.Width.{tree_width, trees_width, is_guaranteed_text, 
 use Rattle.time_fmt.specs.declared.error.Format.{Format}
 use Rattle.time_fmt.specs.Description.{tree_outcome, trees_outcome}
 use Rattle.time_fmt.specs.Guarantee.{IsTextIf}
-use Rattle.time_fmt.specs.Outcome.{Outcome, Names, Appends}
+use Rattle.time_fmt.specs.Outcome.{Outcome, Names, Appends, AppendsUpTo}
 use Rattle.time_fmt.proofs.WriteLemmas.{some_of, join_refused, join_done}
 use Rattle.time_fmt.proofs.GuaranteeLemmas.{text_more, text_stops, empty_utf8}
 
@@ -33,30 +33,36 @@ pub record Along (agrees : Type 0) (old now : Vec ℕ Global) (sum : ℕ) (f : F
 pub refused_along : {agrees : Type 0} {sum all_size left_size : ℕ} (old mid new : Vec ℕ Global) (e : Format)
     (f : Facts) (all left others : Trees) (t : Tree) →
     Along agrees old mid sum f all left all_size left_size → left ≡ more t others
-    → Appends mid new (Err e) (tree_outcome t f) → Appends old new (Err e) (trees_outcome all f)
-refused_along old mid new e f all left others t along next step =
+    → AppendsUpTo (tree_width t) mid new (Err e) (tree_outcome t f)
+    → AppendsUpTo (trees_width all) old new (Err e) (trees_outcome all f)
+refused_along old mid new e f all left others t along next up_to =
+    let step = up_to.appends in
     let first = tree_outcome t f in
     let r = some_of (Names e) first.refusal step.named in
     let same : trees_outcome left f ≡ first = ap (λ ts. trees_outcome ts f) next
     ∙ join_refused first (trees_outcome others f) r.0 r.1 in
     let bytes : old.items ++ (trees_outcome all f).bytes ≡ mid.items ++ first.bytes = along.bytes
     ∙ ap (λ (o : Outcome). mid.items ++ o.bytes) same in
+    let width : trees_width left ≡ tree_width t + trees_width others = ap trees_width next in
     record {
-      appended = step.appended ∙ sym bytes;
-      counted = tt;
-      named = rw (along.refusal, same) step.named;
-      grown = omega (arith, step.grown, along.grown, along.count, ap (λ (o : Outcome). length o.bytes) same);
-      capacity = step.capacity ∙ along.capacity;
+      appends = record {
+        appended = step.appended ∙ sym bytes;
+        counted = tt;
+        named = rw (along.refusal, same) step.named;
+        grown = omega (arith, step.grown, along.grown, along.count, ap (λ (o : Outcome). length o.bytes) same);
+        capacity = step.capacity ∙ along.capacity;
+      };
+      within = omega (arith, along.within, width, up_to.within);
     }
 
 -- the text so far, and that of a node that is refused, make the text of the list
 pub text_refused : {agrees : Type 0} {sum all_size left_size : ℕ} (old mid new : Vec ℕ Global) (e : Format) (f : Facts)
     (all left others : Trees) (t : Tree) →
     Along agrees old mid sum f all left all_size left_size → left ≡ more t others
-    → Appends mid new (Err e) (tree_outcome t f)
+    → AppendsUpTo (tree_width t) mid new (Err e) (tree_outcome t f)
     → IsTextIf (is_guaranteed_text t) (tree_outcome t f) → IsTextIf (are_guaranteed_text all) (trees_outcome all f)
 text_refused old mid new e f all left others t along next step first =
-    let r = some_of (Names e) (tree_outcome t f).refusal step.named in
+    let r = some_of (Names e) (tree_outcome t f).refusal step.appends.named in
     let stops = text_stops t others f first (join_refused (tree_outcome t f) (trees_outcome others f) r.0 r.1) in
     let P : Trees → Type 0 = λ ts. IsTextIf (are_guaranteed_text ts) (trees_outcome ts f) in
     along.text (subst P (sym next) stops)
@@ -65,10 +71,11 @@ text_refused old mid new e f all left others t along next step first =
 pub written_along : {agrees agrees_after : Type 0} {sum count all_size left_size rest_size : ℕ}
     (old mid new : Vec ℕ Global) (f : Facts) (all left others : Trees) (t : Tree) →
     Along agrees old mid sum f all left all_size left_size → left ≡ more t others → rest_size ≤ left_size
-    → Appends mid new (Ok count) (tree_outcome t f)
-    → vec_len new ≤ vec_len mid + tree_width t → agrees_after → IsTextIf (is_guaranteed_text t) (tree_outcome t f)
+    → AppendsUpTo (tree_width t) mid new (Ok count) (tree_outcome t f) → agrees_after
+    → IsTextIf (is_guaranteed_text t) (tree_outcome t f)
     → Along agrees_after old new (sum + count) f all others all_size rest_size
-written_along old mid new f all left others t along next smaller step within agrees first =
+written_along old mid new f all left others t along next smaller up_to agrees first =
+    let step = up_to.appends in
     let a = tree_outcome t f in
     let b = trees_outcome others f in
     let e : trees_outcome left f ≡ record { bytes = a.bytes ++ b.bytes; refusal = b.refusal } =
@@ -87,8 +94,8 @@ written_along old mid new f all left others t along next smaller step within agr
       refusal = along.refusal ∙ ap (λ (o : Outcome). o.refusal) e;
       count = omega (arith, along.count, length, step.counted.1);
       grown = omega (arith, along.grown, step.grown, step.counted.1);
-      room = omega (arith, along.room, width, step.capacity, within);
-      within = omega (arith, along.within, width, within);
+      room = omega (arith, along.room, width, step.capacity, up_to.within);
+      within = omega (arith, along.within, width, up_to.within);
       capacity = step.capacity ∙ along.capacity;
       text = λ rest. along.text (subst P (sym next) (text_more t others f first rest));
     }
@@ -106,21 +113,24 @@ by_lengths {agrees} {sum} {all_size} {left_size} old now f all left along =
 pub all_along : {A agrees : Type 0} {sum all_size left_size : ℕ} (tree : A → Tree) (nodes : List A) (i : ℕ)
     (old now : Vec ℕ Global) (f : Facts) → length nodes ≤ i
     → Along agrees old now sum f (trees (map tree nodes)) (trees (map tree (drop i nodes))) all_size left_size
-    → Appends old now (Ok sum) (trees_outcome (trees (map tree nodes)) f)
+    → AppendsUpTo (trees_width (trees (map tree nodes))) old now (Ok sum) (trees_outcome (trees (map tree nodes)) f)
 all_along {A} {agrees} {sum} tree nodes i old now f past along =
     let none : trees (map tree (drop i nodes)) ≡ end = at_drop_all (λ xs. trees (map tree xs)) nodes i past in
     let bytes : (trees_outcome (trees (map tree (drop i nodes))) f).bytes ≡ [] =
     ap (λ ts. (trees_outcome ts f).bytes) none in
     record {
-      appended = sym (along.bytes ∙ ap (λ bs. now.items ++ bs) bytes ∙ append-nil now.items);
-      counted = (
-        along.refusal
-            ∙ ap (λ ts. (trees_outcome ts f).refusal) none,
-        omega (arith, along.count, ap length bytes),
-      );
-      named = tt;
-      grown = omega (arith, along.grown, along.count, ap length bytes);
-      capacity = along.capacity;
+      appends = record {
+        appended = sym (along.bytes ∙ ap (λ bs. now.items ++ bs) bytes ∙ append-nil now.items);
+        counted = (
+          along.refusal
+              ∙ ap (λ ts. (trees_outcome ts f).refusal) none,
+          omega (arith, along.count, ap length bytes),
+        );
+        named = tt;
+        grown = omega (arith, along.grown, along.count, ap length bytes);
+        capacity = along.capacity;
+      };
+      within = omega (arith, along.within);
     }
 
 -- nor is it of a text
@@ -139,6 +149,12 @@ pub outcome_of_first : {A : Type 0} (tree : A → Tree) (nodes : List A) (x : A)
     → tree_outcome (first_of (trees (map tree nodes))) f ≡ tree_outcome (tree x) f
 outcome_of_first tree [] x f h = cc
 outcome_of_first tree (y ∷ ys) x f h = let e : y ≡ x = cc in ap (λ z. tree_outcome (tree z) f) e
+
+-- and its width
+pub width_of_first : {A : Type 0} (tree : A → Tree) (nodes : List A) (x : A) → slice_get nodes 0 ≡ Some x
+    → tree_width (first_of (trees (map tree nodes))) ≡ tree_width (tree x)
+width_of_first tree [] x h = cc
+width_of_first tree (y ∷ ys) x h = let e : y ≡ x = cc in ap (λ z. tree_width (tree z)) e
 
 -- and it is a text if x is one
 pub text_of_first : {A : Type 0} (tree : A → Tree) (nodes : List A) (x : A) (f : Facts) → slice_get nodes 0 ≡ Some x

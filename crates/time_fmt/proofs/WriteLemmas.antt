@@ -1,11 +1,11 @@
 -- Texts that were written one after another are one text, and one text is what an outcome appends; so are
 -- outcomes.
-use Rattle.std.proofs.Common.{◌≡◌, ℕ, ◌+◌, ◌++◌, List, length-append, append_assoc, refl, sym, ap, ◌∙◌, arith, Option}
+use Rattle.std.proofs.Common.{◌≡◌, ℕ, ◌+◌, ◌++◌, List, length, length-append, append_assoc, refl, sym, ap, ◌∙◌, arith, Option}
 use Rattle.std.proofs.Common.{Some, None, IsSomeAnd, Ok, Err, Vec}
 use Rattle.std.proofs.lemmas.List.{append-nil}
 use Rattle.std.specs.Global.{Global}
 use Rattle.time_fmt.specs.declared.error.Format.{Format}
-use Rattle.time_fmt.specs.Outcome.{Outcome, Refusal, Names, Appends, done, refused, join}
+use Rattle.time_fmt.specs.Outcome.{Outcome, Refusal, Names, Appends, AppendsUpTo, done, refused, join}
 use Rattle.time_fmt.specs.Room.{Writes, WritesUpTo}
 
 -- what was written first, and then the rest, is the one text after the other
@@ -23,6 +23,11 @@ pub appends_text : {old new : Vec ℕ Global} {n : ℕ} {text : List ℕ} → Wr
     → Appends old new (Ok n) (done text)
 appends_text w =
     record { appended = w.appended; counted = (refl, w.counted); named = tt; grown = w.grown; capacity = w.capacity }
+
+-- and no more than that
+pub text_up_to : {old new : Vec ℕ Global} {n : ℕ} {text : List ℕ} → Writes old new n text
+    → AppendsUpTo (length text) old new (Ok n) (done text)
+text_up_to w = record { appends = appends_text w; within = omega (arith, w.grown) }
 
 -- so is one of at most so many bytes
 pub appends_up_to : {width : ℕ} {old new : Vec ℕ Global} {n : ℕ} {text : List ℕ} → WritesUpTo width old new n text

@@ -50,7 +50,13 @@ pub record AppendsUpTo (width : ℕ) (old new : Vec ℕ Global) (answer : Result
   pub appends : Appends old new answer o
   pub within : vec_len new ≤ vec_len old + width
 
--- the same, where the capacity may change
+-- the same, whole or not at all: a refusal leaves all as it was
+pub record AppendsWhole (width : ℕ) (old new : Vec ℕ Global) (answer : Result ℕ Format) (o : Outcome) : Type 0 where
+  pub appends : Appends old new answer o
+  pub whole : IfErr answer (λ _. new ≡ old)
+  pub within : vec_len new ≤ vec_len old + width
+
+-- the same as the first, where the capacity may change
 pub record Adds (old new : Vec ℕ Global) (answer : Result ℕ Format) (o : Outcome) : Type 0 where
   pub appended : new.items ≡ old.items ++ o.bytes
   pub counted : IfOk answer (λ n. (o.refusal ≡ None) × (n ≡ length o.bytes))

@@ -3,7 +3,7 @@ ghost use Rattle.std.specs.Prelude.{◌≡◌, ◌+◌, ◌≤◌, IsTrue, IsUtf
 ghost use Rattle.time_below.specs.Conversion.{is_current};
 ghost use Rattle.time_below.specs.Width.{component_width};
 ghost use Rattle.time_fmt.specs.Description.{component_outcome, current_outcome};
-ghost use Rattle.time_fmt.specs.Outcome.{Appends};
+ghost use Rattle.time_fmt.specs.Outcome.{Appends, AppendsUpTo};
 ghost use Rattle.time_fmt.specs.Room.{HasRoom};
 
 use crate::error::Format;
@@ -24,9 +24,8 @@ pub(crate) fn write_common<V: ComponentProvider>(
     requires room { HasRoom output.old (component_width component) }
     requires agrees { V.agrees state.old value.now }
     ensures appends { MatchOption result (output.new ≡ output.old)
-        (λ count. Appends output.old output.new (Ok count)
+        (λ count. AppendsUpTo (component_width component) output.old output.new (Ok count)
         (component_outcome component (V.facts value.now))) }
-    ensures within { vec_len output.new ≤ vec_len output.old + component_width component }
     ensures agrees { V.agrees state.new value.now }
 {
     match component {
@@ -55,10 +54,9 @@ fn write_apart<M: Modifier, V: ComponentProvider>(
     requires room { HasRoom output.old (component_width (M.component_of part)) }
     requires agrees { V.agrees state.old value.now }
     ensures appends { MatchOption result (output.new ≡ output.old)
-        (λ count. Appends output.old output.new (Ok count)
+        (λ count. AppendsUpTo (component_width (M.component_of part))
+        output.old output.new (Ok count)
         (component_outcome (M.component_of part) (V.facts value.now))) }
-    ensures within { vec_len output.new
-        ≤ vec_len output.old + component_width (M.component_of part) }
     ensures agrees { V.agrees state.new value.now }
 {
     let mut taken = take_out(output);
@@ -78,10 +76,9 @@ fn write_lent<M: Modifier, V: ComponentProvider>(
     requires room { HasRoom output.old (component_width (M.component_of part)) }
     requires agrees { V.agrees state.old value.now }
     ensures appends { MatchOption result (output.new ≡ output.old)
-        (λ count. Appends output.old output.new (Ok count)
+        (λ count. AppendsUpTo (component_width (M.component_of part))
+        output.old output.new (Ok count)
         (component_outcome (M.component_of part) (V.facts value.now))) }
-    ensures within { vec_len output.new
-        ≤ vec_len output.old + component_width (M.component_of part) }
     ensures agrees { V.agrees state.new value.now }
 {
     write_unless_refused(part, output, value, state)
@@ -98,10 +95,9 @@ fn write_unless_refused<M: Modifier, V: ComponentProvider>(
     requires room { HasRoom output.old (component_width (M.component_of part)) }
     requires agrees { V.agrees state.old value.now }
     ensures appends { MatchOption result (output.new ≡ output.old)
-        (λ count. Appends output.old output.new (Ok count)
+        (λ count. AppendsUpTo (component_width (M.component_of part))
+        output.old output.new (Ok count)
         (component_outcome (M.component_of part) (V.facts value.now))) }
-    ensures within { vec_len output.new
-        ≤ vec_len output.old + component_width (M.component_of part) }
     ensures agrees { V.agrees state.new value.now }
 {
     match part.write(output, value, state) {
@@ -151,9 +147,8 @@ pub(crate) fn write_any<V: ComponentProvider>(
 ) -> Result<usize, Format>
     requires room { HasRoom output.old (component_width component) }
     requires agrees { V.agrees state.old value.now }
-    ensures appends { Appends output.old output.new result
+    ensures appends { AppendsUpTo (component_width component) output.old output.new result
         (component_outcome component (V.facts value.now)) }
-    ensures within { vec_len output.new ≤ vec_len output.old + component_width component }
     ensures text { IsUtf8 (component_outcome component (V.facts value.now)).bytes }
     ensures agrees { V.agrees state.new value.now }
 {
@@ -171,9 +166,8 @@ fn current_write_into<V: ComponentProvider>(
     requires current { IsTrue (is_current component) }
     requires room { HasRoom output.old (component_width component) }
     requires agrees { V.agrees state.old value.now }
-    ensures appends { Appends output.old output.new result
+    ensures appends { AppendsUpTo (component_width component) output.old output.new result
         (current_outcome component (V.facts value.now)) }
-    ensures within { vec_len output.new ≤ vec_len output.old + component_width component }
     ensures agrees { V.agrees state.new value.now }
 {
     match component {

@@ -1,9 +1,9 @@
 //! The choices of one component: what it is, how wide it is and how it is written, in one place.
-ghost use Rattle.std.specs.Prelude.{◌≡◌, ◌+◌, ◌≤◌, IfErr, vec_len};
+ghost use Rattle.std.specs.Prelude.{◌≡◌};
 ghost use Rattle.time_below.specs.declared.format_description.component.Component.{Component};
 ghost use Rattle.time_below.specs.Width.{component_width};
 ghost use Rattle.time_fmt.specs.Description.{component_outcome};
-ghost use Rattle.time_fmt.specs.Outcome.{Appends};
+ghost use Rattle.time_fmt.specs.Outcome.{AppendsWhole};
 ghost use Rattle.time_fmt.specs.Room.{HasRoom};
 
 use crate::error::Format;
@@ -33,10 +33,8 @@ pub trait Modifier: Copy {
     ) -> Result<usize, Format>
         requires room { HasRoom output.old (component_width (component_of self)) }
         requires agrees { V.agrees state.old value.now }
-        ensures appends { Appends output.old output.new result
+        ensures appends { AppendsWhole (component_width (component_of self))
+            output.old output.new result
             (component_outcome (component_of self) (V.facts value.now)) }
-        ensures refused { IfErr result (λ _. output.new ≡ output.old) }
-        ensures within { vec_len output.new
-            ≤ vec_len output.old + component_width (component_of self) }
         ensures agrees { V.agrees state.new value.now };
 }

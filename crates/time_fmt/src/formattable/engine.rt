@@ -4,7 +4,7 @@ ghost use Rattle.time_below.specs.Tree.{trees};
 ghost use Rattle.time_below.specs.Width.{tree_width, trees_width, is_guaranteed_text, are_guaranteed_text};
 ghost use Rattle.time_fmt.specs.Description.{tree_outcome, trees_outcome};
 ghost use Rattle.time_fmt.specs.Guarantee.{IsTextIf};
-ghost use Rattle.time_fmt.specs.Outcome.{Appends};
+ghost use Rattle.time_fmt.specs.Outcome.{AppendsUpTo};
 ghost use Rattle.time_fmt.specs.Room.{HasRoom};
 
 use crate::component::{write_any, write_common};
@@ -25,10 +25,9 @@ pub(super) fn write_nodes<T: Node, V: ComponentProvider>(
 ) -> Result<usize, Format>
     requires room { HasRoom output.old (trees_width (trees (map T.tree nodes.now))) }
     requires agrees { V.agrees state.old value.now }
-    ensures appends { Appends output.old output.new result
+    ensures appends { AppendsUpTo (trees_width (trees (map T.tree nodes.now)))
+        output.old output.new result
         (trees_outcome (trees (map T.tree nodes.now)) (V.facts value.now)) }
-    ensures within { vec_len output.new
-        ≤ vec_len output.old + trees_width (trees (map T.tree nodes.now)) }
     ensures text { IsTextIf (are_guaranteed_text (trees (map T.tree nodes.now)))
         (trees_outcome (trees (map T.tree nodes.now)) (V.facts value.now)) }
     ensures agrees { V.agrees state.new value.now }
@@ -65,9 +64,8 @@ fn write_leaf<T: Node, V: ComponentProvider>(
     requires room { HasRoom output.old (tree_width (T.tree node.now)) }
     requires agrees { V.agrees state.old value.now }
     ensures appends { MatchOption result (output.new ≡ output.old)
-        (λ count. Appends output.old output.new (Ok count)
+        (λ count. AppendsUpTo (tree_width (T.tree node.now)) output.old output.new (Ok count)
         (tree_outcome (T.tree node.now) (V.facts value.now))) }
-    ensures within { vec_len output.new ≤ vec_len output.old + tree_width (T.tree node.now) }
     ensures text { IfSome result (λ _. IsTextIf (is_guaranteed_text (T.tree node.now))
         (tree_outcome (T.tree node.now) (V.facts value.now))) }
     ensures agrees { V.agrees state.new value.now }
@@ -93,9 +91,8 @@ pub(super) fn write_node<T: Node, V: ComponentProvider>(
 ) -> Result<usize, Format>
     requires room { HasRoom output.old (tree_width (T.tree node.now)) }
     requires agrees { V.agrees state.old value.now }
-    ensures appends { Appends output.old output.new result
+    ensures appends { AppendsUpTo (tree_width (T.tree node.now)) output.old output.new result
         (tree_outcome (T.tree node.now) (V.facts value.now)) }
-    ensures within { vec_len output.new ≤ vec_len output.old + tree_width (T.tree node.now) }
     ensures text { IsTextIf (is_guaranteed_text (T.tree node.now))
         (tree_outcome (T.tree node.now) (V.facts value.now)) }
     ensures agrees { V.agrees state.new value.now }

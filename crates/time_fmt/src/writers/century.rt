@@ -268,7 +268,6 @@ impl Modifier for modifier::CalendarYearLastTwo {
     }
 
     #[inline(always)]
-    #[tactic(auto, using(crate::proofs::TextLemmas::two_places))]
     fn write<V: ComponentProvider>(
         self,
         output: &mut Vec<u8>,
@@ -304,7 +303,6 @@ impl Modifier for modifier::IsoYearLastTwo {
     }
 
     #[inline(always)]
-    #[tactic(auto, using(crate::proofs::TextLemmas::two_places))]
     fn write<V: ComponentProvider>(
         self,
         output: &mut Vec<u8>,

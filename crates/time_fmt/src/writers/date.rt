@@ -34,7 +34,6 @@ impl Modifier for modifier::Day {
     }
 
     #[inline(always)]
-    #[tactic(auto, using(crate::proofs::TextLemmas::two_places))]
     fn write<V: ComponentProvider>(
         self,
         output: &mut Vec<u8>,
@@ -68,7 +67,6 @@ impl Modifier for modifier::MonthShort {
     }
 
     #[inline(always)]
-    #[tactic(auto, using(crate::proofs::DateTextLemmas::name_lengths))]
     fn write<V: ComponentProvider>(
         self,
         output: &mut Vec<u8>,
@@ -101,7 +99,6 @@ impl Modifier for modifier::MonthLong {
     }
 
     #[inline(always)]
-    #[tactic(auto, using(crate::proofs::DateTextLemmas::name_lengths))]
     fn write<V: ComponentProvider>(
         self,
         output: &mut Vec<u8>,
@@ -139,7 +136,6 @@ impl Modifier for modifier::MonthNumerical {
     }
 
     #[inline(always)]
-    #[tactic(auto, using(crate::proofs::TextLemmas::two_places))]
     fn write<V: ComponentProvider>(
         self,
         output: &mut Vec<u8>,
@@ -173,7 +169,6 @@ impl Modifier for modifier::Ordinal {
     }
 
     #[inline(always)]
-    #[tactic(auto, using(crate::proofs::DateTextLemmas::day_lengths))]
     fn write<V: ComponentProvider>(
         self,
         output: &mut Vec<u8>,

@@ -77,7 +77,6 @@ impl Modifier for modifier::OffsetMinute {
     }
 
     #[inline(always)]
-    #[tactic(auto, using(crate::proofs::TextLemmas::two_places))]
     fn write<V: ComponentProvider>(
         self,
         output: &mut Vec<u8>,
@@ -115,7 +114,6 @@ impl Modifier for modifier::OffsetSecond {
     }
 
     #[inline(always)]
-    #[tactic(auto, using(crate::proofs::TextLemmas::two_places))]
     fn write<V: ComponentProvider>(
         self,
         output: &mut Vec<u8>,

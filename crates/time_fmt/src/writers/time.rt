@@ -34,7 +34,6 @@ impl Modifier for modifier::Hour12 {
     }
 
     #[inline(always)]
-    #[tactic(auto, using(crate::proofs::TextLemmas::two_places))]
     fn write<V: ComponentProvider>(
         self,
         output: &mut Vec<u8>,
@@ -66,7 +65,6 @@ impl Modifier for modifier::Hour24 {
     }
 
     #[inline(always)]
-    #[tactic(auto, using(crate::proofs::TextLemmas::two_places))]
     fn write<V: ComponentProvider>(
         self,
         output: &mut Vec<u8>,
@@ -98,7 +96,6 @@ impl Modifier for modifier::Minute {
     }
 
     #[inline(always)]
-    #[tactic(auto, using(crate::proofs::TextLemmas::two_places))]
     fn write<V: ComponentProvider>(
         self,
         output: &mut Vec<u8>,
@@ -169,7 +166,6 @@ impl Modifier for modifier::Second {
     }
 
     #[inline(always)]
-    #[tactic(auto, using(crate::proofs::TextLemmas::two_places))]
     fn write<V: ComponentProvider>(
         self,
         output: &mut Vec<u8>,

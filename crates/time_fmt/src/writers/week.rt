@@ -42,7 +42,6 @@ impl Modifier for modifier::WeekdayShort {
     }
 
     #[inline(always)]
-    #[tactic(auto, using(crate::proofs::DateTextLemmas::name_lengths))]
     fn write<V: ComponentProvider>(
         self,
         output: &mut Vec<u8>,
@@ -79,7 +78,6 @@ impl Modifier for modifier::WeekdayLong {
     }
 
     #[inline(always)]
-    #[tactic(auto, using(crate::proofs::DateTextLemmas::name_lengths))]
     fn write<V: ComponentProvider>(
         self,
         output: &mut Vec<u8>,
@@ -121,7 +119,6 @@ impl Modifier for modifier::WeekdaySunday {
     }
 
     #[inline(always)]
-    #[tactic(auto, using(crate::proofs::DateTextLemmas::weekday_digit_lengths))]
     fn write<V: ComponentProvider>(
         self,
         output: &mut Vec<u8>,
@@ -163,7 +160,6 @@ impl Modifier for modifier::WeekdayMonday {
     }
 
     #[inline(always)]
-    #[tactic(auto, using(crate::proofs::DateTextLemmas::weekday_digit_lengths))]
     fn write<V: ComponentProvider>(
         self,
         output: &mut Vec<u8>,
@@ -199,7 +195,6 @@ impl Modifier for modifier::WeekNumberIso {
     }
 
     #[inline(always)]
-    #[tactic(auto, using(crate::proofs::TextLemmas::two_places))]
     fn write<V: ComponentProvider>(
         self,
         output: &mut Vec<u8>,
@@ -235,7 +230,6 @@ impl Modifier for modifier::WeekNumberSunday {
     }
 
     #[inline(always)]
-    #[tactic(auto, using(crate::proofs::TextLemmas::two_places))]
     fn write<V: ComponentProvider>(
         self,
         output: &mut Vec<u8>,
@@ -271,7 +265,6 @@ impl Modifier for modifier::WeekNumberMonday {
     }
 
     #[inline(always)]
-    #[tactic(auto, using(crate::proofs::TextLemmas::two_places))]
     fn write<V: ComponentProvider>(
         self,
         output: &mut Vec<u8>,

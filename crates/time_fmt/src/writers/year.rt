@@ -46,7 +46,6 @@ impl Modifier for modifier::CalendarYearFullExtendedRange {
     }
 
     #[inline(always)]
-    #[tactic(auto, using(crate::proofs::DateTextLemmas::year_lengths))]
     fn write<V: ComponentProvider>(
         self,
         output: &mut Vec<u8>,
@@ -126,7 +125,6 @@ impl Modifier for modifier::IsoYearFullExtendedRange {
     }
 
     #[inline(always)]
-    #[tactic(auto, using(crate::proofs::DateTextLemmas::year_lengths))]
     fn write<V: ComponentProvider>(
         self,
         output: &mut Vec<u8>,

@@ -8,16 +8,12 @@ current_write_into-requires-clause-room g c =
     rw c.current.ensures.converted (omega (arith, c.requires.room, width_of_current c.args.component))
 
 pub returns-clause-appends : goal.returns-clause-appends
-returns-clause-appends g c = rw c.current.ensures.converted at c.current_write_into.ensures.appends
-
-pub returns-clause-within : goal.returns-clause-within
-returns-clause-within g c =
-    omega (
-      arith,
-      rw c.current.ensures.converted at c.current_write_into.ensures.within,
-      width_of_current
-          c.args.component,
-    )
+returns-clause-appends g c =
+    let current = rw c.current.ensures.converted at c.current_write_into.ensures.appends in
+    record {
+      appends = current.appends;
+      within = omega (arith, current.within, width_of_current c.args.component);
+    }
 
 pub returns-clause-text : goal.returns-clause-text
 returns-clause-text g c = text_of_component c.args.component (g.V.ComponentProvider.facts c.args.value.now)

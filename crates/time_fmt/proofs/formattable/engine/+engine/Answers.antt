@@ -1,8 +1,8 @@
 use Rattle.std.proofs.Common.{sym, ◌∙◌}
 use Rattle.time_below.proofs.NodeLemmas.{next_of, smaller_rest}
-use Rattle.time_fmt.proofs.WriteLemmas.{appends_text}
+use Rattle.time_fmt.proofs.WriteLemmas.{text_up_to}
 use Rattle.time_fmt.proofs.Engine.{all_along, by_lengths, refused_along, text_refused, written_along, text_at_end}
-use Rattle.time_fmt.proofs.Engine.{outcome_of_first, text_of_first}
+use Rattle.time_fmt.proofs.Engine.{outcome_of_first, width_of_first, text_of_first}
 use Rattle.time_fmt.proofs.formattable.engine.+engine.Goals as goal
 use Rattle.time_fmt.proofs.formattable.engine.+engine.Goals.{write_nodes-in-Some, write_nodes-in-None+in-Ok}
 
@@ -36,7 +36,7 @@ write_nodes-loop-node-preserved g t c =
           (by_lengths {agrees = g.V.ComponentProvider.agrees c.write_leaf.new.state c.args.value.now} _ _ _ _ _
           (written_along {agrees_after = g.V.ComponentProvider.agrees c.write_leaf.new.state c.args.value.now}
           c.args.output.now c.loop-node.taken c.write_leaf.new.output _ _ _ _ _ c.loop-node.invariant next smaller
-          step.appends step.within step.agrees step.text))
+          step.appends step.agrees step.text))
       | write_nodes-in-None+in-Ok w ↦
           let step = w.in-Ok.ensures in
           let same = w.put_back.ensures.put ∙ w.in-None.ensures.appends in
@@ -44,7 +44,7 @@ write_nodes-loop-node-preserved g t c =
           (by_lengths {agrees = g.V.ComponentProvider.agrees w.write_node.new.state c.args.value.now} _ _ _ _ _
           (written_along {agrees_after = g.V.ComponentProvider.agrees w.write_node.new.state c.args.value.now}
           c.args.output.now c.loop-node.taken w.write_node.new.output _ _ _ _ _ c.loop-node.invariant next smaller
-          (rw same at step.appends) (rw same at step.within) step.agrees step.text))
+          (rw same at step.appends) step.agrees step.text))
     ]
 
 pub write_nodes-returns-clause-text : goal.write_nodes-returns-clause-text
@@ -55,7 +55,8 @@ pub write_node-returns-in-Some-clause-appends : goal.write_node-returns-in-Some-
 write_node-returns-in-Some-clause-appends g t c =
     let first = outcome_of_first g.T.Node.tree c.in-First.nodes.now c.in-Some.node.now
     (g.V.ComponentProvider.facts c.args.value.now) (sym c.in-Some.ensures.value) in
-    rw (← c.in-First.ensures.tree, first) c.write_node.ensures.appends
+    let width = width_of_first g.T.Node.tree c.in-First.nodes.now c.in-Some.node.now (sym c.in-Some.ensures.value) in
+    rw (← c.in-First.ensures.tree, first, width) c.write_node.ensures.appends
 
 pub write_node-returns-in-Some-clause-text : goal.write_node-returns-in-Some-clause-text
 write_node-returns-in-Some-clause-text g t c =
@@ -79,10 +80,10 @@ write_nodes-returns-in-Err-clause-agrees g t c = c.in-Err.ensures.agrees
 -- each layer has the outcome of its tree
 pub write_node-returns-in-Bytes-clause-appends : goal.write_node-returns-in-Bytes-clause-appends
 write_node-returns-in-Bytes-clause-appends g t c =
-    rw (← c.in-Bytes.ensures.tree) (appends_text c.write_bytes.ensures.writes)
+    rw (← c.in-Bytes.ensures.tree) (text_up_to c.write_bytes.ensures.writes)
 
 pub write_node-returns-in-Text-clause-appends : goal.write_node-returns-in-Text-clause-appends
-write_node-returns-in-Text-clause-appends g t c = rw (← c.in-Text.ensures.tree) (appends_text c.write.ensures.writes)
+write_node-returns-in-Text-clause-appends g t c = rw (← c.in-Text.ensures.tree) (text_up_to c.write.ensures.writes)
 
 pub write_node-returns-in-Component-clause-appends : goal.write_node-returns-in-Component-clause-appends
 write_node-returns-in-Component-clause-appends g t c = rw (← c.in-Component.ensures.tree) c.write_any.ensures.appends
