@@ -1,5 +1,5 @@
 -- Nodes one after another: what is written so far, and then the outcome of what is left, is the outcome of all.
-use Rattle.std.proofs.Common.{◌≡◌, ap, sym, ◌∙◌, arith, ℕ, ◌+◌, ◌-◌, ◌≤◌, ◌++◌, List, [], ◌∷◌, map, drop, length}
+use Rattle.std.proofs.Common.{◌≡◌, refl, ap, sym, ◌∙◌, arith, ℕ, ◌+◌, ◌-◌, ◌≤◌, ◌++◌, List, [], ◌∷◌, map, drop, length}
 use Rattle.std.proofs.Common.{append_assoc, length-append, subst, Some, Ok, Err, vec_len, vec_capacity, Vec}
 use Rattle.std.specs.Prelude.{slice_get}
 use Rattle.std.specs.Global.{Global}
@@ -11,6 +11,7 @@ use Rattle.time_fmt.specs.declared.error.Format.{Format}
 use Rattle.time_fmt.specs.Description.{tree_outcome, trees_outcome}
 use Rattle.time_fmt.specs.Guarantee.{IsTextIf}
 use Rattle.time_fmt.specs.Outcome.{Outcome, Names, Appends, AppendsUpTo}
+use Rattle.time_fmt.specs.Room.{HasRoom}
 use Rattle.time_fmt.proofs.WriteLemmas.{some_of, join_refused, join_done}
 use Rattle.time_fmt.proofs.GuaranteeLemmas.{text_more, text_stops, empty_utf8}
 
@@ -28,6 +29,32 @@ pub record Along (agrees : Type 0) (old now : Vec ℕ Global) (sum : ℕ) (f : F
   pub capacity : vec_capacity now ≡ vec_capacity old
   pub text : IsTextIf (are_guaranteed_text left) (trees_outcome left f)
       → IsTextIf (are_guaranteed_text all) (trees_outcome all f)
+
+-- before the first node nothing is written
+pub along_from_the_start : {agrees : Type 0} (output : Vec ℕ Global) (f : Facts) (all : Trees) (size : ℕ) → agrees
+    → HasRoom output (trees_width all)
+    → Along agrees output output (vec_len output - vec_len output) f all all size size
+along_from_the_start output f all size agrees room =
+    record {
+      state = agrees;
+      size = omega arith;
+      bytes = refl;
+      refusal = refl;
+      count = omega arith;
+      grown = omega arith;
+      room = room;
+      within = omega arith;
+      capacity = refl;
+      text = λ h. h;
+    }
+
+-- the next node has room
+pub room_for_next : {agrees : Type 0} {sum all_size left_size : ℕ} (old now : Vec ℕ Global) (f : Facts)
+    (all left others : Trees) (t : Tree) →
+    Along agrees old now sum f all left all_size left_size → left ≡ more t others → HasRoom now (tree_width t)
+room_for_next old now f all left others t along next =
+    let width : trees_width left ≡ tree_width t + trees_width others = ap trees_width next in
+    omega (arith, along.room, width)
 
 -- what was written before a node that is refused, and what the node wrote, is what the list writes
 pub refused_along : {agrees : Type 0} {sum all_size left_size : ℕ} (old mid new : Vec ℕ Global) (e : Format)

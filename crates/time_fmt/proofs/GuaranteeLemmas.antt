@@ -1,7 +1,8 @@
 -- Texts of components are ASCII, and texts one after another are UTF-8 where each of them is.
 use Rattle.std.proofs.Common.{◌≡◌, ℕ, zero, suc, ◌-◌, ◌%◌, ◌<◌, Bool, true, false, ◌&&◌, nat_lt, List, [], ◌∷◌, ◌++◌}
 use Rattle.std.proofs.Common.{decimal, IsAscii, IsUtf8, IsTrue, IfSome, Option, Some, None, if◌then◌else◌, refl, arith}
-use Rattle.std.proofs.Common.{ℤ, pos, unsigned_abs}
+use Rattle.std.proofs.Common.{ℤ, pos, unsigned_abs, ◌+◌, ◌≤◌, length, Result, Vec, vec_len}
+use Rattle.std.specs.Global.{Global}
 use Rattle.std.specs.Prelude.{codes, int_lt, slice_index_or, ◌||◌, nat_le}
 use Rattle.std.specs.List.{list_all}
 use Rattle.std.proofs.lemmas.Bool.{ltb-true}
@@ -33,7 +34,9 @@ use Rattle.time_fmt.specs.DateText.{month_names, month_name, weekday_names, week
 use Rattle.time_fmt.specs.Description.{of_group, in_standard_range, century_of, current_outcome, component_outcome}
 use Rattle.time_fmt.specs.Description.{tree_outcome, trees_outcome}
 use Rattle.time_fmt.specs.Guarantee.{IsTextIf}
-use Rattle.time_fmt.specs.Outcome.{Outcome, done, refused, join, out_of_range}
+use Rattle.time_fmt.specs.Outcome.{Outcome, Adds, done, refused, join, out_of_range}
+use Rattle.time_fmt.specs.declared.error.Format.{Format}
+use Rattle.time_fmt.proofs.WriteLemmas.{added_alone}
 use Rattle.time_below.specs.ComponentRange.{conditional_range}
 use Rattle.time_fmt.specs.Text.{padded_text, sign_text, hour_12, period_text, subsecond_text, timestamp_text}
 
@@ -292,3 +295,14 @@ text_stops t ts f first stops h = rw stops (first (both_true (is_guaranteed_text
 -- one outcome after another is a text where both are
 pub text_both : (p q : Bool) (a b : Outcome) → IsTextIf p a → IsTextIf q b → IsTextIf (p && q) (join a b)
 text_both p q a b first second h = let both = both_true p q h in joined_utf8 a b (first both.0) (second both.1)
+
+-- no bytes are a text
+no_bytes : (bytes : List ℕ) → length bytes ≤ 0 → IsUtf8 bytes
+no_bytes [] h = empty_utf8
+no_bytes (b ∷ bs) h = let never : ⊥ = omega (arith, h) in absurd never
+
+-- so is what was added to nothing within no width
+pub text_of_nothing : {answer : Result ℕ Format} {o : Outcome} {width : ℕ} (old new : Vec ℕ Global) → width ≡ 0
+    → old.items ≡ [] → Adds old new answer o → vec_len new ≤ vec_len old + width → IsUtf8 new.items
+text_of_nothing {o = o} old new none empty adds within =
+    rw (added_alone old new empty adds) (no_bytes o.bytes (omega (arith, none, adds.grown, within)))

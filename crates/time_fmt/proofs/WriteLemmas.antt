@@ -1,11 +1,11 @@
 -- Texts that were written one after another are one text, and one text is what an outcome appends; so are
 -- outcomes.
-use Rattle.std.proofs.Common.{◌≡◌, ℕ, ◌+◌, ◌++◌, List, length, length-append, append_assoc, refl, sym, ap, ◌∙◌, arith, Option}
-use Rattle.std.proofs.Common.{Some, None, IsSomeAnd, Ok, Err, Vec}
+use Rattle.std.proofs.Common.{◌≡◌, ℕ, ◌+◌, ◌++◌, List, [], length, length-append, append_assoc, refl, sym, ap, ◌∙◌, arith, Option}
+use Rattle.std.proofs.Common.{Some, None, IsSomeAnd, Result, Ok, Err, Vec, vec_len}
 use Rattle.std.proofs.lemmas.List.{append-nil}
 use Rattle.std.specs.Global.{Global}
 use Rattle.time_fmt.specs.declared.error.Format.{Format}
-use Rattle.time_fmt.specs.Outcome.{Outcome, Refusal, Names, Appends, AppendsUpTo, done, refused, join}
+use Rattle.time_fmt.specs.Outcome.{Outcome, Refusal, Names, Appends, AppendsUpTo, Adds, done, refused, join}
 use Rattle.time_fmt.specs.Room.{Writes, WritesUpTo}
 
 -- what was written first, and then the rest, is the one text after the other
@@ -29,11 +29,41 @@ pub text_up_to : {old new : Vec ℕ Global} {n : ℕ} {text : List ℕ} → Writ
     → AppendsUpTo (length text) old new (Ok n) (done text)
 text_up_to w = record { appends = appends_text w; within = omega (arith, w.grown) }
 
+-- nothing is appended where nothing is written
+pub nothing_up_to : (output : Vec ℕ Global) → AppendsUpTo 0 output output (Ok 0) (done [])
+nothing_up_to output =
+    record {
+      appends = record {
+        appended = sym (append-nil output.items);
+        counted = (refl, refl);
+        named = tt;
+        grown = omega arith;
+        capacity = refl;
+      };
+      within = omega arith;
+    }
+
 -- so is one of at most so many bytes
 pub appends_up_to : {width : ℕ} {old new : Vec ℕ Global} {n : ℕ} {text : List ℕ} → WritesUpTo width old new n text
     → Appends old new (Ok n) (done text)
 appends_up_to w =
     record { appended = w.appended; counted = (refl, w.counted); named = tt; grown = w.grown; capacity = w.capacity }
+
+-- what is added to nothing is all there is
+pub added_alone : {answer : Result ℕ Format} {o : Outcome} (old new : Vec ℕ Global) → old.items ≡ [] → Adds old new answer o
+    → new.items ≡ o.bytes
+added_alone {o = o} old new empty adds = adds.appended ∙ ap (λ (items : List ℕ). items ++ o.bytes) empty
+
+-- what is appended after room was made is added
+pub adds_after_room : {answer : Result ℕ Format} {o : Outcome} (old mid new : Vec ℕ Global) → mid.items ≡ old.items
+    → vec_len mid ≡ vec_len old → Appends mid new answer o → Adds old new answer o
+adds_after_room {o = o} old mid new items len appends =
+    record {
+      appended = appends.appended ∙ ap (λ (xs : List ℕ). xs ++ o.bytes) items;
+      counted = appends.counted;
+      named = appends.named;
+      grown = appends.grown ∙ ap (λ (n : ℕ). n + length o.bytes) len;
+    }
 
 -- a refusal before any byte appends nothing
 pub appends_nothing : (output : Vec ℕ Global) (e : Format) (r : Refusal) → Names e r

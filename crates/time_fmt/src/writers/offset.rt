@@ -38,7 +38,6 @@ impl Modifier for modifier::OffsetHour {
     }
 
     #[inline(always)]
-    #[tactic(auto, using(crate::proofs::TextLemmas::text_lengths))]
     fn write<V: ComponentProvider>(
         self,
         output: &mut Vec<u8>,

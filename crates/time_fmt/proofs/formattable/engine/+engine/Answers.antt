@@ -1,7 +1,8 @@
 use Rattle.std.proofs.Common.{sym, ◌∙◌}
 use Rattle.time_below.proofs.NodeLemmas.{next_of, smaller_rest}
-use Rattle.time_fmt.proofs.WriteLemmas.{text_up_to}
-use Rattle.time_fmt.proofs.Engine.{all_along, by_lengths, refused_along, text_refused, written_along, text_at_end}
+use Rattle.time_fmt.proofs.WriteLemmas.{text_up_to, nothing_up_to}
+use Rattle.time_fmt.proofs.GuaranteeLemmas.{empty_utf8}
+use Rattle.time_fmt.proofs.Engine.{along_from_the_start, room_for_next, all_along, by_lengths, refused_along, text_refused, written_along, text_at_end}
 use Rattle.time_fmt.proofs.Engine.{outcome_of_first, width_of_first, text_of_first}
 use Rattle.time_fmt.proofs.formattable.engine.+engine.Goals as goal
 use Rattle.time_fmt.proofs.formattable.engine.+engine.Goals.{write_nodes-in-Some, write_nodes-in-None+in-Ok}
@@ -104,3 +105,34 @@ write_node-returns-in-Optional-clause-appends g t c =
 pub write_node-returns-in-Optional-clause-text : goal.write_node-returns-in-Optional-clause-text
 write_node-returns-in-Optional-clause-text g t c =
     rw (← c.in-Optional.ensures.tree) c.write_node-in-Optional.ensures.text
+
+-- each layer has the room of its tree
+pub write_node-write_bytes-requires : goal.write_node-write_bytes-requires
+write_node-write_bytes-requires g t c = record { room = rw (← c.in-Bytes.ensures.tree) at c.requires.room }
+
+pub write_node-write-requires : goal.write_node-write-requires
+write_node-write-requires g t c = record { room = rw (← c.in-Text.ensures.tree) at c.requires.room }
+
+pub write_node-write_any-requires-clause-room : goal.write_node-write_any-requires-clause-room
+write_node-write_any-requires-clause-room g t c = rw (← c.in-Component.ensures.tree) at c.requires.room
+
+pub write_nodes-loop-node-init : goal.write_nodes-loop-node-init
+write_nodes-loop-node-init g t c =
+    rw c.take_out-taken.ensures.taken (along_from_the_start c.args.output.now _ _ _ c.requires.agrees c.requires.room)
+
+pub write_nodes-write_leaf-requires-clause-room : goal.write_nodes-write_leaf-requires-clause-room
+write_nodes-write_leaf-requires-clause-room g t c =
+    let next = next_of g.T.Node.tree c.args.nodes.now c.loop-node.node-index c.node-item.result c.loop-node-test.true
+    c.node-item.is in
+    room_for_next c.args.output.now c.loop-node.taken _ _ _ _ _ c.loop-node.invariant next
+
+pub write_node-returns-in-Bytes-clause-text : goal.write_node-returns-in-Bytes-clause-text
+write_node-returns-in-Bytes-clause-text g t c =
+    rw (← c.in-Bytes.ensures.tree) (λ h. let never : ⊥ = cc in absurd never)
+
+pub write_node-returns-in-Nothing-clause-appends : goal.write_node-returns-in-Nothing-clause-appends
+write_node-returns-in-Nothing-clause-appends g t c =
+    rw (← c.in-Nothing.ensures.tree) (nothing_up_to c.args.output.now)
+
+pub write_node-returns-in-Nothing-clause-text : goal.write_node-returns-in-Nothing-clause-text
+write_node-returns-in-Nothing-clause-text g t c = rw (← c.in-Nothing.ensures.tree) (λ _. empty_utf8)

@@ -13,6 +13,9 @@ returns-then-not-SUPPLIES_TIMESTAMP-clause-appends g c =
 
 pub returns-clause-appends : goal.returns-clause-appends
 returns-clause-appends g c =
-    of_supplied (g.V.ComponentProvider.facts c.args.value.now).moment _ (milliseconds) (λ n. done (timestamp_text c.args.self.sign_is_mandatory n))
-    (g.met.V.ComponentProvider.supplies_timestamp c.args.value.now) c.SUPPLIES_TIMESTAMP.ensures c.if-not-SUPPLIES_TIMESTAMP.false c.unix_timestamp_milliseconds.ensures.value
-    (whole_text (search rules) (length-milliseconds_text c.args.self.sign_is_mandatory c.unix_timestamp_milliseconds.result c.unix_timestamp_milliseconds.ensures.range))
+    of_supplied (g.V.ComponentProvider.facts c.args.value.now).moment _ (milliseconds)
+    (λ n. done (timestamp_text c.args.self.sign_is_mandatory n))
+    (g.met.V.ComponentProvider.supplies_timestamp c.args.value.now) c.SUPPLIES_TIMESTAMP.ensures c.if-not-SUPPLIES_TIMESTAMP.false
+    c.unix_timestamp_milliseconds.ensures.value
+    (whole_text (search rules)
+    (length-milliseconds_text c.args.self.sign_is_mandatory c.unix_timestamp_milliseconds.result c.unix_timestamp_milliseconds.ensures.range))
