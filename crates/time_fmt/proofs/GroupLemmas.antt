@@ -1,6 +1,6 @@
 -- What a component gives of a group that the value supplies, and of one that it does not.
-use Rattle.std.proofs.Common.{◌≡◌, ℕ, ◌<◌, ◌≤◌, Bool, true, false, List, length, is_some, refl, sym, subst, arith, Option}
-use Rattle.std.proofs.Common.{Some, None, Result, Ok, Err, Vec, codes}
+use Rattle.std.proofs.Common.{◌≡◌, ℕ, ◌<◌, ◌≤◌, Bool, true, false, List, length, is_some, refl, subst, arith}
+use Rattle.std.proofs.Common.{Option, Some, None, Result, Ok, Err, Vec, codes}
 use Rattle.std.specs.Global.{Global}
 use Rattle.std.specs.Prelude.{nat_le}
 use Rattle.time_below.specs.ComponentRange.{conditional_range}
@@ -42,7 +42,8 @@ pub of_supplied : {G A : Type 0} {width : ℕ} {declared asked : Bool} (group : 
     → AppendsWhole width old new answer (outcome value)
     → AppendsWhole width old new answer (of_group group (λ g. outcome (part g)))
 of_supplied None other part outcome law asks test read appends = let never : ⊥ = cc in absurd never
-of_supplied {width = width} (Some g) other part outcome {old = old} {new = new} {answer = answer} law asks test read appends =
+of_supplied {width = width} (Some g) other part outcome {old = old} {new = new} {answer = answer} law asks test read
+    appends =
     subst (λ a. AppendsWhole width old new answer (outcome a)) read appends
 
 -- a year or a century in the standard range is written

@@ -1,7 +1,7 @@
 -- Texts that were written one after another are one text, and one text is what an outcome appends; so are
 -- outcomes.
-use Rattle.std.proofs.Common.{◌≡◌, ℕ, ◌+◌, ◌++◌, List, [], length, length-append, append_assoc, refl, sym, ap, ◌∙◌, arith, Option}
-use Rattle.std.proofs.Common.{Some, None, IsSomeAnd, Result, Ok, Err, Vec, vec_len}
+use Rattle.std.proofs.Common.{◌≡◌, ℕ, ◌+◌, ◌++◌, List, [], length, length-append, append_assoc, refl, sym, ap, ◌∙◌}
+use Rattle.std.proofs.Common.{arith, Option, Some, None, IsSomeAnd, Result, Ok, Err, Vec, vec_len}
 use Rattle.std.proofs.lemmas.List.{append-nil}
 use Rattle.std.specs.Global.{Global}
 use Rattle.time_fmt.specs.declared.error.Format.{Format}
@@ -50,8 +50,8 @@ appends_up_to w =
     record { appended = w.appended; counted = (refl, w.counted); named = tt; grown = w.grown; capacity = w.capacity }
 
 -- what is added to nothing is all there is
-pub added_alone : {answer : Result ℕ Format} {o : Outcome} (old new : Vec ℕ Global) → old.items ≡ [] → Adds old new answer o
-    → new.items ≡ o.bytes
+pub added_alone : {answer : Result ℕ Format} {o : Outcome} (old new : Vec ℕ Global) → old.items ≡ []
+    → Adds old new answer o → new.items ≡ o.bytes
 added_alone {o = o} old new empty adds = adds.appended ∙ ap (λ (items : List ℕ). items ++ o.bytes) empty
 
 -- what is appended after room was made is added

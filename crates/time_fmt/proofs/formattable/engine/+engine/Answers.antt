@@ -2,7 +2,8 @@ use Rattle.std.proofs.Common.{sym, ◌∙◌}
 use Rattle.time_below.proofs.NodeLemmas.{next_of, smaller_rest}
 use Rattle.time_fmt.proofs.WriteLemmas.{text_up_to, nothing_up_to}
 use Rattle.time_fmt.proofs.GuaranteeLemmas.{empty_utf8}
-use Rattle.time_fmt.proofs.Engine.{along_from_the_start, room_for_next, all_along, by_lengths, refused_along, text_refused, written_along, text_at_end}
+use Rattle.time_fmt.proofs.Engine.{along_from_the_start, room_for_next, all_along}
+use Rattle.time_fmt.proofs.Engine.{by_lengths, refused_along, text_refused, written_along, text_at_end}
 use Rattle.time_fmt.proofs.Engine.{outcome_of_first, width_of_first, text_of_first}
 use Rattle.time_fmt.proofs.formattable.engine.+engine.Goals as goal
 use Rattle.time_fmt.proofs.formattable.engine.+engine.Goals.{write_nodes-in-Some, write_nodes-in-None+in-Ok}

@@ -11,14 +11,14 @@ returns-then-not-SUPPLIES_DATE-clause-appends g c =
     (g.met.V.ComponentProvider.supplies_date c.args.value.now) c.SUPPLIES_DATE.ensures c.if-not-SUPPLIES_DATE.true
 
 pub fmt_calendar_year_last_two-requires : goal.fmt_calendar_year_last_two-requires
-fmt_calendar_year_last_two-requires g c = record {
-  room = room_within c.args.output.now c.requires.room (two_places _ _ (omega arith));
-}
+fmt_calendar_year_last_two-requires g c =
+    record { room = room_within c.args.output.now c.requires.room (two_places _ _ (omega arith)) }
 
 pub returns-clause-appends : goal.returns-clause-appends
 returns-clause-appends g c =
-    of_supplied (g.V.ComponentProvider.facts c.args.value.now).date _ (λ x. x.year)
-    (λ y. done (padded_text c.args.self.padding 2 (unsigned_abs y % 100)))
+    let choices = c.args.self in
+    of_supplied (g.V.ComponentProvider.facts c.args.value.now).date _ (λ d. d.year)
+    (λ y. done (padded_text choices.padding 2 (unsigned_abs y % 100)))
     (g.met.V.ComponentProvider.supplies_date c.args.value.now) c.SUPPLIES_DATE.ensures c.if-not-SUPPLIES_DATE.false
     c.calendar_year.ensures.value
     (whole_text (rw c.last_two.ensures at c.fmt_calendar_year_last_two.ensures.writes)

@@ -1,4 +1,4 @@
-use Rattle.std.proofs.Common.{refl, pos}
+use Rattle.std.proofs.Common.{◌≤◌, refl, pos, unsigned_abs}
 use Rattle.std.specs.Prelude.{int_lt}
 use Rattle.time_fmt.specs.DateText.{standard_century_text}
 use Rattle.time_fmt.specs.Description.{in_standard_range, century_of}
@@ -12,19 +12,29 @@ returns-then-not-SUPPLIES_DATE-clause-appends g c =
     (g.met.V.ComponentProvider.supplies_date c.args.value.now) c.SUPPLIES_DATE.ensures c.if-not-SUPPLIES_DATE.true
 
 pub fmt_iso_year_century_standard_range-requires : goal.fmt_iso_year_century_standard_range-requires
-fmt_iso_year_century_standard_range-requires g c = record {
-  room = room_within c.args.output.now c.requires.room (length-standard_century_text c.args.self.padding
-      c.args.self.sign_is_mandatory c.is_negative.result _ (rw c.in-Ok.ensures.value (c.in-Ok.ensures.accepted.0 refl)));
-}
+fmt_iso_year_century_standard_range-requires g c =
+    let choices = c.args.self in
+    let below : unsigned_abs c.in-Ok.century ≤ 99 = rw c.in-Ok.ensures.value (c.in-Ok.ensures.accepted.0 refl) in
+    record {
+      room = room_within c.args.output.now c.requires.room
+          (length-standard_century_text choices.padding choices.sign_is_mandatory c.is_negative.result
+          (unsigned_abs c.in-Ok.century) below);
+    }
 
 pub returns-in-Ok-clause-appends : goal.returns-in-Ok-clause-appends
 returns-in-Ok-clause-appends g c =
+    let choices = c.args.self in
+    let year = c.iso_year-year in
     let below = c.in-Ok.ensures.accepted.0 refl in
-    let sign = is_negative_of c.is_negative.result c.iso_year-year.result c.is_negative.ensures in
-    of_supplied (g.V.ComponentProvider.facts c.args.value.now).date _ (λ x. x.iso_year)
-    (λ y. in_standard_range 99 (century_of y) (standard_century_text c.args.self.padding c.args.self.sign_is_mandatory (int_lt y (pos 0)) (century_of y)))
+    let sign = is_negative_of c.is_negative.result year.result c.is_negative.ensures in
+    of_supplied (g.V.ComponentProvider.facts c.args.value.now).date _ (λ d. d.iso_year)
+    (λ y. in_standard_range 99 (century_of y)
+    (standard_century_text choices.padding choices.sign_is_mandatory (int_lt y (pos 0)) (century_of y)))
     (g.met.V.ComponentProvider.supplies_date c.args.value.now) c.SUPPLIES_DATE.ensures c.if-not-SUPPLIES_DATE.false
-    c.iso_year-year.ensures.value
-    (in_range 99 (century_of c.iso_year-year.result) (standard_century_text c.args.self.padding c.args.self.sign_is_mandatory (int_lt c.iso_year-year.result (pos 0)) (century_of c.iso_year-year.result)) below
-    (rw (c.in-Ok.ensures.value, sign) at c.fmt_iso_year_century_standard_range.ensures.writes)
-    (length-standard_century_text c.args.self.padding c.args.self.sign_is_mandatory (int_lt c.iso_year-year.result (pos 0)) (century_of c.iso_year-year.result) below))
+    year.ensures.value
+    (in_range 99 (century_of year.result)
+    (standard_century_text choices.padding choices.sign_is_mandatory (int_lt year.result (pos 0))
+    (century_of year.result))
+    below (rw (c.in-Ok.ensures.value, sign) at c.fmt_iso_year_century_standard_range.ensures.writes)
+    (length-standard_century_text choices.padding choices.sign_is_mandatory (int_lt year.result (pos 0))
+    (century_of year.result) below))

@@ -11,13 +11,12 @@ returns-then-not-SUPPLIES_DATE-clause-appends g c =
     (g.met.V.ComponentProvider.supplies_date c.args.value.now) c.SUPPLIES_DATE.ensures c.if-not-SUPPLIES_DATE.true
 
 pub fmt_month_short-requires : goal.fmt_month_short-requires
-fmt_month_short-requires g c = record {
-  room = room_within c.args.output.now c.requires.room (length-short_name _);
-}
+fmt_month_short-requires g c =
+    record { room = room_within c.args.output.now c.requires.room (length-short_name _) }
 
 pub returns-clause-appends : goal.returns-clause-appends
 returns-clause-appends g c =
-    of_supplied (g.V.ComponentProvider.facts c.args.value.now).date _ (λ x. x.month)
+    of_supplied (g.V.ComponentProvider.facts c.args.value.now).date _ (λ d. d.month)
     (λ n. done (short_name (month_name n)))
     (g.met.V.ComponentProvider.supplies_date c.args.value.now) c.SUPPLIES_DATE.ensures c.if-not-SUPPLIES_DATE.false
     c.month.ensures.value

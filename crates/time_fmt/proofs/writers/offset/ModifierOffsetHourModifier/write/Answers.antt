@@ -13,19 +13,24 @@ returns-then-not-SUPPLIES_OFFSET-clause-appends g c =
     (g.met.V.ComponentProvider.supplies_offset c.args.value.now) c.SUPPLIES_OFFSET.ensures c.if-not-SUPPLIES_OFFSET.true
 
 pub fmt_offset_hour-requires : goal.fmt_offset_hour-requires
-fmt_offset_hour-requires g c = record {
-  room = room_within c.args.output.now c.requires.room (length-offset_hour_text c.args.self.padding
-      c.args.self.sign_is_mandatory c.offset_is_negative-is_negative.result c.offset_hour.result c.offset_hour.ensures.range);
-}
+fmt_offset_hour-requires g c =
+    let choices = c.args.self in
+    record {
+      room = room_within c.args.output.now c.requires.room
+          (length-offset_hour_text choices.padding choices.sign_is_mandatory c.offset_is_negative-is_negative.result
+          c.offset_hour.result c.offset_hour.ensures.range);
+    }
 
 pub returns-clause-appends : goal.returns-clause-appends
 returns-clause-appends g c =
+    let choices = c.args.self in
     let offset = the_offset (g.V.ComponentProvider.facts c.args.value.now) in
     let below = rw c.offset_hour.ensures.value at c.offset_hour.ensures.range in
     of_supplied (g.V.ComponentProvider.facts c.args.value.now).offset _ (λ o. o)
-    (λ o. done (offset_hour_text c.args.self.padding c.args.self.sign_is_mandatory (is_negative o) o.hours))
-    (g.met.V.ComponentProvider.supplies_offset c.args.value.now) c.SUPPLIES_OFFSET.ensures c.if-not-SUPPLIES_OFFSET.false
-    refl
+    (λ o. done (offset_hour_text choices.padding choices.sign_is_mandatory (is_negative o) o.hours))
+    (g.met.V.ComponentProvider.supplies_offset c.args.value.now) c.SUPPLIES_OFFSET.ensures
+    c.if-not-SUPPLIES_OFFSET.false refl
     (whole_text
-    (rw (c.offset_is_negative-is_negative.ensures.value, c.offset_hour.ensures.value) at c.fmt_offset_hour.ensures.writes)
-    (length-offset_hour_text c.args.self.padding c.args.self.sign_is_mandatory (is_negative offset) offset.hours below))
+    (rw (c.offset_is_negative-is_negative.ensures.value, c.offset_hour.ensures.value)
+    at c.fmt_offset_hour.ensures.writes)
+    (length-offset_hour_text choices.padding choices.sign_is_mandatory (is_negative offset) offset.hours below))

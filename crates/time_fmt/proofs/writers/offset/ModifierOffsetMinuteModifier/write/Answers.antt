@@ -8,17 +8,20 @@ use Rattle.time_fmt.proofs.writers.offset.ModifierOffsetMinuteModifier.write.Goa
 pub returns-then-not-SUPPLIES_OFFSET-clause-appends : goal.returns-then-not-SUPPLIES_OFFSET-clause-appends
 returns-then-not-SUPPLIES_OFFSET-clause-appends g c =
     not_supplied (g.V.ComponentProvider.facts c.args.value.now).offset _ c.args.output.now
-    (g.met.V.ComponentProvider.supplies_offset c.args.value.now) c.SUPPLIES_OFFSET.ensures c.if-not-SUPPLIES_OFFSET.true
+    (g.met.V.ComponentProvider.supplies_offset c.args.value.now) c.SUPPLIES_OFFSET.ensures
+    c.if-not-SUPPLIES_OFFSET.true
 
 pub fmt_offset_minute-requires : goal.fmt_offset_minute-requires
-fmt_offset_minute-requires g c = record {
-  room = room_within c.args.output.now c.requires.room (two_places _ _ (omega (arith, c.offset_minute.ensures.range)));
-}
+fmt_offset_minute-requires g c =
+    record { room = room_within c.args.output.now c.requires.room
+      (two_places _ _ (omega (arith, c.offset_minute.ensures.range))) }
 
 pub returns-clause-appends : goal.returns-clause-appends
 returns-clause-appends g c =
-    of_supplied (g.V.ComponentProvider.facts c.args.value.now).offset _ (λ x. x.minutes)
-    (λ n. done (padded_text c.args.self.padding 2 (unsigned_abs n)))
-    (g.met.V.ComponentProvider.supplies_offset c.args.value.now) c.SUPPLIES_OFFSET.ensures c.if-not-SUPPLIES_OFFSET.false
+    let choices = c.args.self in
+    of_supplied (g.V.ComponentProvider.facts c.args.value.now).offset _ (λ o. o.minutes)
+    (λ n. done (padded_text choices.padding 2 (unsigned_abs n)))
+    (g.met.V.ComponentProvider.supplies_offset c.args.value.now) c.SUPPLIES_OFFSET.ensures
+    c.if-not-SUPPLIES_OFFSET.false
     c.offset_minute.ensures.value
     (whole_text c.fmt_offset_minute.ensures.writes (two_places _ _ (omega (arith, c.offset_minute.ensures.range))))

@@ -11,14 +11,15 @@ returns-then-not-SUPPLIES_TIME-clause-appends g c =
     (g.met.V.ComponentProvider.supplies_time c.args.value.now) c.SUPPLIES_TIME.ensures c.if-not-SUPPLIES_TIME.true
 
 pub fmt_minute-requires : goal.fmt_minute-requires
-fmt_minute-requires g c = record {
-  room = room_within c.args.output.now c.requires.room (two_places _ _ (omega (arith, c.minute.ensures.range)));
-}
+fmt_minute-requires g c =
+    record { room = room_within c.args.output.now c.requires.room
+      (two_places _ _ (omega (arith, c.minute.ensures.range))) }
 
 pub returns-clause-appends : goal.returns-clause-appends
 returns-clause-appends g c =
-    of_supplied (g.V.ComponentProvider.facts c.args.value.now).time _ (λ x. x.minute)
-    (λ n. done (padded_text c.args.self.padding 2 n))
+    let choices = c.args.self in
+    of_supplied (g.V.ComponentProvider.facts c.args.value.now).time _ (λ t. t.minute)
+    (λ n. done (padded_text choices.padding 2 n))
     (g.met.V.ComponentProvider.supplies_time c.args.value.now) c.SUPPLIES_TIME.ensures c.if-not-SUPPLIES_TIME.false
     c.minute.ensures.value
     (whole_text c.fmt_minute.ensures.writes (two_places _ _ (omega (arith, c.minute.ensures.range))))

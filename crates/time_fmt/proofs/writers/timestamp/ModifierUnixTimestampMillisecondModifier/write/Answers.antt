@@ -9,13 +9,17 @@ use Rattle.time_fmt.proofs.writers.timestamp.ModifierUnixTimestampMillisecondMod
 pub returns-then-not-SUPPLIES_TIMESTAMP-clause-appends : goal.returns-then-not-SUPPLIES_TIMESTAMP-clause-appends
 returns-then-not-SUPPLIES_TIMESTAMP-clause-appends g c =
     not_supplied (g.V.ComponentProvider.facts c.args.value.now).moment _ c.args.output.now
-    (g.met.V.ComponentProvider.supplies_timestamp c.args.value.now) c.SUPPLIES_TIMESTAMP.ensures c.if-not-SUPPLIES_TIMESTAMP.true
+    (g.met.V.ComponentProvider.supplies_timestamp c.args.value.now) c.SUPPLIES_TIMESTAMP.ensures
+    c.if-not-SUPPLIES_TIMESTAMP.true
 
 pub returns-clause-appends : goal.returns-clause-appends
 returns-clause-appends g c =
+    let choices = c.args.self in
     of_supplied (g.V.ComponentProvider.facts c.args.value.now).moment _ (milliseconds)
-    (λ n. done (timestamp_text c.args.self.sign_is_mandatory n))
-    (g.met.V.ComponentProvider.supplies_timestamp c.args.value.now) c.SUPPLIES_TIMESTAMP.ensures c.if-not-SUPPLIES_TIMESTAMP.false
+    (λ n. done (timestamp_text choices.sign_is_mandatory n))
+    (g.met.V.ComponentProvider.supplies_timestamp c.args.value.now) c.SUPPLIES_TIMESTAMP.ensures
+    c.if-not-SUPPLIES_TIMESTAMP.false
     c.unix_timestamp_milliseconds.ensures.value
     (whole_text (search rules)
-    (length-milliseconds_text c.args.self.sign_is_mandatory c.unix_timestamp_milliseconds.result c.unix_timestamp_milliseconds.ensures.range))
+    (length-milliseconds_text choices.sign_is_mandatory c.unix_timestamp_milliseconds.result
+    c.unix_timestamp_milliseconds.ensures.range))

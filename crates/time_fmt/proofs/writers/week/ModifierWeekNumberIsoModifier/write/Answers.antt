@@ -11,14 +11,15 @@ returns-then-not-SUPPLIES_DATE-clause-appends g c =
     (g.met.V.ComponentProvider.supplies_date c.args.value.now) c.SUPPLIES_DATE.ensures c.if-not-SUPPLIES_DATE.true
 
 pub fmt_week_number_iso-requires : goal.fmt_week_number_iso-requires
-fmt_week_number_iso-requires g c = record {
-  room = room_within c.args.output.now c.requires.room (two_places _ _ (omega (arith, c.iso_week_number.ensures.range)));
-}
+fmt_week_number_iso-requires g c =
+    record { room = room_within c.args.output.now c.requires.room
+      (two_places _ _ (omega (arith, c.iso_week_number.ensures.range))) }
 
 pub returns-clause-appends : goal.returns-clause-appends
 returns-clause-appends g c =
-    of_supplied (g.V.ComponentProvider.facts c.args.value.now).date _ (λ x. x.iso_week)
-    (λ n. done (padded_text c.args.self.padding 2 n))
+    let choices = c.args.self in
+    of_supplied (g.V.ComponentProvider.facts c.args.value.now).date _ (λ d. d.iso_week)
+    (λ n. done (padded_text choices.padding 2 n))
     (g.met.V.ComponentProvider.supplies_date c.args.value.now) c.SUPPLIES_DATE.ensures c.if-not-SUPPLIES_DATE.false
     c.iso_week_number.ensures.value
     (whole_text c.fmt_week_number_iso.ensures.writes

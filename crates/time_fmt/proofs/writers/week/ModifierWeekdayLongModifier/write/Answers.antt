@@ -11,13 +11,12 @@ returns-then-not-SUPPLIES_DATE-clause-appends g c =
     (g.met.V.ComponentProvider.supplies_date c.args.value.now) c.SUPPLIES_DATE.ensures c.if-not-SUPPLIES_DATE.true
 
 pub fmt_weekday_long-requires : goal.fmt_weekday_long-requires
-fmt_weekday_long-requires g c = record {
-  room = room_within c.args.output.now c.requires.room (length-weekday_name c.weekday.result);
-}
+fmt_weekday_long-requires g c =
+    record { room = room_within c.args.output.now c.requires.room (length-weekday_name c.weekday.result) }
 
 pub returns-clause-appends : goal.returns-clause-appends
 returns-clause-appends g c =
-    of_supplied (g.V.ComponentProvider.facts c.args.value.now).date _ (λ x. x.weekday)
+    of_supplied (g.V.ComponentProvider.facts c.args.value.now).date _ (λ d. d.weekday)
     (λ n. done (weekday_name n))
     (g.met.V.ComponentProvider.supplies_date c.args.value.now) c.SUPPLIES_DATE.ensures c.if-not-SUPPLIES_DATE.false
     c.weekday.ensures.value

@@ -11,14 +11,16 @@ returns-then-not-SUPPLIES_DATE-clause-appends g c =
     (g.met.V.ComponentProvider.supplies_date c.args.value.now) c.SUPPLIES_DATE.ensures c.if-not-SUPPLIES_DATE.true
 
 pub fmt_weekday_monday-requires : goal.fmt_weekday_monday-requires
-fmt_weekday_monday-requires g c = record {
-  room = room_within c.args.output.now c.requires.room (length-monday_digit c.args.self.one_indexed c.weekday.result);
-}
+fmt_weekday_monday-requires g c =
+    let choices = c.args.self in
+    record { room = room_within c.args.output.now c.requires.room
+      (length-monday_digit choices.one_indexed c.weekday.result) }
 
 pub returns-clause-appends : goal.returns-clause-appends
 returns-clause-appends g c =
-    of_supplied (g.V.ComponentProvider.facts c.args.value.now).date _ (λ x. x.weekday)
-    (λ n. done (decimal (indexed c.args.self.one_indexed n)))
+    let choices = c.args.self in
+    of_supplied (g.V.ComponentProvider.facts c.args.value.now).date _ (λ d. d.weekday)
+    (λ n. done (decimal (indexed choices.one_indexed n)))
     (g.met.V.ComponentProvider.supplies_date c.args.value.now) c.SUPPLIES_DATE.ensures c.if-not-SUPPLIES_DATE.false
     c.weekday.ensures.value
-    (whole_text c.fmt_weekday_monday.ensures.writes (length-monday_digit c.args.self.one_indexed c.weekday.result))
+    (whole_text c.fmt_weekday_monday.ensures.writes (length-monday_digit choices.one_indexed c.weekday.result))

@@ -1,4 +1,4 @@
-use Rattle.std.proofs.Common.{refl, unsigned_abs}
+use Rattle.std.proofs.Common.{◌≤◌, refl, unsigned_abs}
 use Rattle.time_fmt.specs.DateText.{standard_year_text}
 use Rattle.time_fmt.specs.Description.{in_standard_range}
 use Rattle.time_fmt.proofs.DateTextLemmas.{length-standard_year_text}
@@ -11,17 +11,24 @@ returns-then-not-SUPPLIES_DATE-clause-appends g c =
     (g.met.V.ComponentProvider.supplies_date c.args.value.now) c.SUPPLIES_DATE.ensures c.if-not-SUPPLIES_DATE.true
 
 pub fmt_iso_year_full_standard_range-requires : goal.fmt_iso_year_full_standard_range-requires
-fmt_iso_year_full_standard_range-requires g c = record {
-  room = room_within c.args.output.now c.requires.room
-      (length-standard_year_text c.args.self.padding c.args.self.sign_is_mandatory c.in-Ok.year (rw c.in-Ok.ensures.value (c.in-Ok.ensures.accepted.0 refl)));
-}
+fmt_iso_year_full_standard_range-requires g c =
+    let choices = c.args.self in
+    let below : unsigned_abs c.in-Ok.year ≤ 9_999 = rw c.in-Ok.ensures.value (c.in-Ok.ensures.accepted.0 refl) in
+    record {
+      room = room_within c.args.output.now c.requires.room
+          (length-standard_year_text choices.padding choices.sign_is_mandatory c.in-Ok.year below);
+    }
 
 pub returns-in-Ok-clause-appends : goal.returns-in-Ok-clause-appends
 returns-in-Ok-clause-appends g c =
+    let choices = c.args.self in
+    let year = c.iso_year in
     let below = c.in-Ok.ensures.accepted.0 refl in
-    of_supplied (g.V.ComponentProvider.facts c.args.value.now).date _ (λ x. x.iso_year)
-    (λ y. in_standard_range 9_999 (unsigned_abs y) (standard_year_text c.args.self.padding c.args.self.sign_is_mandatory y))
+    of_supplied (g.V.ComponentProvider.facts c.args.value.now).date _ (λ d. d.iso_year)
+    (λ y. in_standard_range 9_999 (unsigned_abs y) (standard_year_text choices.padding choices.sign_is_mandatory y))
     (g.met.V.ComponentProvider.supplies_date c.args.value.now) c.SUPPLIES_DATE.ensures c.if-not-SUPPLIES_DATE.false
-    c.iso_year.ensures.value
-    (in_range 9_999 (unsigned_abs c.iso_year.result) (standard_year_text c.args.self.padding c.args.self.sign_is_mandatory c.iso_year.result) below (rw c.in-Ok.ensures.value at c.fmt_iso_year_full_standard_range.ensures.writes)
-    (length-standard_year_text c.args.self.padding c.args.self.sign_is_mandatory c.iso_year.result below))
+    year.ensures.value
+    (in_range 9_999 (unsigned_abs year.result)
+    (standard_year_text choices.padding choices.sign_is_mandatory year.result) below
+    (rw c.in-Ok.ensures.value at c.fmt_iso_year_full_standard_range.ensures.writes)
+    (length-standard_year_text choices.padding choices.sign_is_mandatory year.result below))
