@@ -1,7 +1,6 @@
 -- The first decimals of the second are the digits of a smaller number.
 use Rattle.std.proofs.Common.{◌≡◌, ℕ, ◌+◌, ◌-◌, ◌*◌, ◌/◌, ◌%◌, ◌^◌, ◌<◌, ◌≤◌, List, ◌++◌, length, take, drop, decimal}
 use Rattle.std.proofs.Common.{sym, ap, ◌∙◌, refl, arith, length-append, append_assoc}
-use Rattle.std.specs.Int.{w64, to_le_bytes, from_le_bytes}
 use Rattle.std.proofs.lemmas.List.{take-append-le, take_all}
 use Rattle.std.proofs.Math.ListN.{length-take}
 use Rattle.time_below.specs.declared.format_description.modifier.SubsecondDigits.{SubsecondDigits}
@@ -10,9 +9,7 @@ use Rattle.time_below.specs.Width.{subsecond_width}
 use Rattle.time_digits.specs.Digits.{fixed, zero_padded}
 use Rattle.time_digits.proofs.DigitLemmas.{fixed-append, fixed-mod, length-fixed, zero_padded_is, decimal_one}
 use Rattle.time_digits.proofs.LengthLemmas.{length-digit}
-use Rattle.time_digits.specs.Fraction.{trimmed_fraction, last_zeros}
-use Rattle.time_digits.proofs.FractionLemmas.{last_of_nine, length-trimmed_fraction, trimmed_fraction-take}
-use Rattle.time_digits.proofs.WordLemmas.{digits_of_word}
+use Rattle.time_digits.proofs.FractionLemmas.{length-trimmed_fraction}
 use Rattle.time_fmt.specs.Decimals.{decimals}
 use Rattle.time_fmt.specs.Text.{subsecond_text}
 use Rattle.time_fmt.proofs.NumberLemmas.{two_zeros, four_zeros, six_zeros}
@@ -137,15 +134,3 @@ length-subsecond_text digits.Seven n = omega (arith, length-take 7 (fixed 9 n))
 length-subsecond_text digits.Eight n = omega (arith, length-take 8 (fixed 9 n))
 length-subsecond_text digits.Nine n = omega (arith, length-take 9 (fixed 9 n))
 length-subsecond_text digits.OneOrMore n = length-trimmed_fraction n
-
--- the word of the last eight of nine digits shows these eight again
-pub eight_of_word : (n word : ℕ) (digits eight : List ℕ) → digits ≡ fixed 9 n → eight ≡ drop (length digits - 8) digits
-    → word ≡ from_le_bytes w64 eight
-    → to_le_bytes w64 word ≡ fixed 8 n
-eight_of_word n word digits eight nine last read = digits_of_word eight n word (last ∙ last_of_nine n digits nine) read
-
--- without as many bytes as there are zeros at the end of the eight, the nine digits are the trimmed fraction
-pub kept_of_nine : (n word dropped : ℕ) (digits : List ℕ) → digits ≡ fixed 9 n → to_le_bytes w64 word ≡ fixed 8 n
-    → dropped ≡ last_zeros (to_le_bytes w64 word)
-    → take (9 - dropped) digits ≡ trimmed_fraction n
-kept_of_nine n word dropped digits nine eight zeros = rw (nine, zeros, eight) (sym (trimmed_fraction-take n))

@@ -10,7 +10,7 @@ use Rattle.time_below.specs.Width.{tree_width, trees_width, is_guaranteed_text, 
 use Rattle.time_fmt.specs.declared.error.Format.{Format}
 use Rattle.time_fmt.specs.Description.{tree_outcome, trees_outcome}
 use Rattle.time_fmt.specs.Guarantee.{IsTextIf}
-use Rattle.time_fmt.specs.Outcome.{Outcome, Names, Appends, AppendsUpTo}
+use Rattle.time_fmt.specs.Outcome.{Outcome, Names, AppendsUpTo}
 use Rattle.time_fmt.specs.Room.{HasRoom}
 use Rattle.time_fmt.proofs.WriteLemmas.{some_of, join_refused, join_done}
 use Rattle.time_fmt.proofs.GuaranteeLemmas.{text_more, text_stops, empty_utf8}

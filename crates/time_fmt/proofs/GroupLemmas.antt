@@ -1,5 +1,5 @@
 -- What a component gives of a group that the value supplies, and of one that it does not.
-use Rattle.std.proofs.Common.{◌≡◌, ℕ, ◌<◌, ◌≤◌, Bool, true, false, List, length, is_some, refl, subst, arith}
+use Rattle.std.proofs.Common.{◌≡◌, ℕ, ◌≤◌, Bool, true, false, List, length, is_some, refl, subst, arith}
 use Rattle.std.proofs.Common.{Option, Some, None, Result, Ok, Err, Vec, codes}
 use Rattle.std.specs.Global.{Global}
 use Rattle.std.specs.Prelude.{nat_le}
@@ -55,7 +55,7 @@ in_range greatest magnitude text below w h =
 
 -- and one beyond it is refused
 pub beyond_range : {width : ℕ} (greatest magnitude : ℕ) (text : List ℕ) (output : Vec ℕ Global) (e : Format)
-    → greatest < magnitude → Names e (out_of_range (conditional_range (codes "year")))
+    → (magnitude ≤ greatest → false ≡ true) → Names e (out_of_range (conditional_range (codes "year")))
     → AppendsWhole width output output (Err e) (in_standard_range greatest magnitude text)
-beyond_range greatest magnitude text output e above named =
-    let not : nat_le magnitude greatest ≡ false = grind arith in rw not (nothing_of output e _ named)
+beyond_range greatest magnitude text output e never named =
+    let not : nat_le magnitude greatest ≡ false = grind (arith, never) in rw not (nothing_of output e _ named)

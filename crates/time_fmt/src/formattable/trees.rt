@@ -82,13 +82,14 @@ impl Formattable for FormatDescriptionV3<'_> {
         value: &V,
         state: &mut V::State,
     ) -> Result<usize, Format> {
-        write_node(self.inner(), output, value, state)
+        v3_write_into(self.inner(), output, value, state)
     }
 }
 
 /// Appends the text of the description where there is room for its width. Takes no memory.
 ///
 /// Answers the number of bytes appended, or the refusal that ends the text.
+#[inline]
 pub fn v3_write_into<V: ComponentProvider>(
     item: &FormatDescriptionV3Inner<'_>,
     output: &mut Vec<u8>,

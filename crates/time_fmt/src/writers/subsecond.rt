@@ -11,12 +11,12 @@ use crate::error::Format;
 use crate::modifier::Modifier;
 use crate::writers::digits::{
     format_five_digits_pad_zero, format_four_digits_pad_zero, format_single_digit,
-    format_six_digits_pad_zero, format_three_digits, format_two_digits,
+    format_six_digits_pad_zero, format_two_digits,
 };
-use crate::writers::plain::{put_back, take_out, write_bytes, write_many, write_pair};
+use crate::writers::plain::{put_back, take_out, write, write_pair};
 use time_below::format_description::modifier::{Padding, SubsecondDigits};
 use time_below::format_description::{modifier, subsecond_width};
-use time_digits::num_fmt::{subsecond_from_nanos, three_digits_zero_padded, zeros_to_drop};
+use time_digits::num_fmt::{three_digits_zero_padded, truncated_subsecond_from_nanos};
 use time_digits::{ru8, ru16, ru32};
 use time_provide::ComponentProvider;
 use time_provide::ranges::Nanoseconds;
@@ -42,22 +42,17 @@ pub fn fmt_subsecond(
             let first = ru8::new((number / 10_000_000) as u8).unwrap();
             format_two_digits(output, first, Padding::Zero)
         }
-        SubsecondDigits::Three => {
-            let first = ru16::new((number / 1_000_000) as u16).unwrap();
-            format_three_digits(output, first, Padding::Zero)
-        }
+        SubsecondDigits::Three => write_three_decimals(output, nanosecond),
         SubsecondDigits::Four => {
             format_four_digits_pad_zero(output, ru16::new((number / 100_000) as u16).unwrap())
         }
         SubsecondDigits::Five => {
             format_five_digits_pad_zero(output, ru32::new(number / 10_000).unwrap())
         }
-        SubsecondDigits::Six => {
-            format_six_digits_pad_zero(output, ru32::new(number / 1_000).unwrap())
-        }
+        SubsecondDigits::Six => write_six_decimals(output, nanosecond),
         SubsecondDigits::Seven => format_seven_digits(output, number / 100),
         SubsecondDigits::Eight => format_eight_digits(output, number / 10),
-        SubsecondDigits::Nine => write_many(output, &subsecond_from_nanos(nanosecond)),
+        SubsecondDigits::Nine => write_nine_digits(output, nanosecond),
         SubsecondDigits::OneOrMore => write_fraction(output, nanosecond),
     }
 }
@@ -222,25 +217,8 @@ fn write_trimmed_fraction(output: &mut Vec<u8>, nanosecond: Nanoseconds) -> usiz
     requires room { HasRoom output.old (length (trimmed_fraction nanosecond)) }
     ensures writes { Writes output.old output.new result (trimmed_fraction nanosecond) }
 {
-    let digits = nine_digits(nanosecond);
-    let last_eight = *digits.last_chunk::<8>().unwrap();
-    let dropped = zeros_to_drop(u64::from_le_bytes(last_eight));
-    write_bytes(output, &digits[..digits.len() - dropped as usize])
-}
-
-// The nine digits of a number of nanoseconds.
-#[inline]
-fn nine_digits(nanosecond: Nanoseconds) -> [u8; 9]
-    ensures { result ≡ fixed 9 nanosecond }
-{
-    let [first, second, third, fourth, fifth] = subsecond_from_nanos(nanosecond);
-    let first = first.as_bytes();
-    let (second, third) = (second.as_bytes(), third.as_bytes());
-    let (fourth, fifth) = (fourth.as_bytes(), fifth.as_bytes());
-    [
-        first[0], second[0], second[1], third[0], third[1], fourth[0], fourth[1], fifth[0],
-        fifth[1],
-    ]
+    let digits = truncated_subsecond_from_nanos(nanosecond);
+    write(output, digits.as_str())
 }
 
 // Appends a number in seven places, with zeros in front.

@@ -12,8 +12,10 @@ returns-then-not-SUPPLIES_DATE-clause-appends g c =
 
 pub fmt_day-requires : goal.fmt_day-requires
 fmt_day-requires g c =
-    record { room = room_within c.args.output.now c.requires.room
-      (two_places _ _ (omega (arith, c.day.ensures.range))) }
+    record {
+      room = room_within c.args.output.now c.requires.room
+          (two_places _ _ (omega (arith, c.day.ensures.range)));
+    }
 
 pub returns-clause-appends : goal.returns-clause-appends
 returns-clause-appends g c =

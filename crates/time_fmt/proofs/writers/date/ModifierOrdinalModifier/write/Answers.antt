@@ -12,8 +12,10 @@ returns-then-not-SUPPLIES_DATE-clause-appends g c =
 
 pub fmt_ordinal-requires : goal.fmt_ordinal-requires
 fmt_ordinal-requires g c =
-    record { room = room_within c.args.output.now c.requires.room
-      (three_places _ _ (omega (arith, c.ordinal.ensures.range))) }
+    record {
+      room = room_within c.args.output.now c.requires.room
+          (three_places _ _ (omega (arith, c.ordinal.ensures.range)));
+    }
 
 pub returns-clause-appends : goal.returns-clause-appends
 returns-clause-appends g c =

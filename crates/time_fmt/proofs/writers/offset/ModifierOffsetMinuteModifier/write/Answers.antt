@@ -13,8 +13,10 @@ returns-then-not-SUPPLIES_OFFSET-clause-appends g c =
 
 pub fmt_offset_minute-requires : goal.fmt_offset_minute-requires
 fmt_offset_minute-requires g c =
-    record { room = room_within c.args.output.now c.requires.room
-      (two_places _ _ (omega (arith, c.offset_minute.ensures.range))) }
+    record {
+      room = room_within c.args.output.now c.requires.room
+          (two_places _ _ (omega (arith, c.offset_minute.ensures.range)));
+    }
 
 pub returns-clause-appends : goal.returns-clause-appends
 returns-clause-appends g c =

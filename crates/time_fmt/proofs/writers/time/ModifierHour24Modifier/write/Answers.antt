@@ -12,8 +12,10 @@ returns-then-not-SUPPLIES_TIME-clause-appends g c =
 
 pub fmt_hour_24-requires : goal.fmt_hour_24-requires
 fmt_hour_24-requires g c =
-    record { room = room_within c.args.output.now c.requires.room
-      (two_places _ _ (omega (arith, c.hour.ensures.range))) }
+    record {
+      room = room_within c.args.output.now c.requires.room
+          (two_places _ _ (omega (arith, c.hour.ensures.range)));
+    }
 
 pub returns-clause-appends : goal.returns-clause-appends
 returns-clause-appends g c =

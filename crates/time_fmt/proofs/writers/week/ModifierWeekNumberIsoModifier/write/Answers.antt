@@ -12,8 +12,10 @@ returns-then-not-SUPPLIES_DATE-clause-appends g c =
 
 pub fmt_week_number_iso-requires : goal.fmt_week_number_iso-requires
 fmt_week_number_iso-requires g c =
-    record { room = room_within c.args.output.now c.requires.room
-      (two_places _ _ (omega (arith, c.iso_week_number.ensures.range))) }
+    record {
+      room = room_within c.args.output.now c.requires.room
+          (two_places _ _ (omega (arith, c.iso_week_number.ensures.range)));
+    }
 
 pub returns-clause-appends : goal.returns-clause-appends
 returns-clause-appends g c =

@@ -12,8 +12,10 @@ returns-then-not-SUPPLIES_DATE-clause-appends g c =
 
 pub fmt_week_number_monday-requires : goal.fmt_week_number_monday-requires
 fmt_week_number_monday-requires g c =
-    record { room = room_within c.args.output.now c.requires.room
-      (two_places _ _ (omega (arith, c.monday_based_week.ensures.range))) }
+    record {
+      room = room_within c.args.output.now c.requires.room
+          (two_places _ _ (omega (arith, c.monday_based_week.ensures.range)));
+    }
 
 pub returns-clause-appends : goal.returns-clause-appends
 returns-clause-appends g c =

@@ -13,8 +13,10 @@ returns-then-not-SUPPLIES_DATE-clause-appends g c =
 pub fmt_weekday_monday-requires : goal.fmt_weekday_monday-requires
 fmt_weekday_monday-requires g c =
     let choices = c.args.self in
-    record { room = room_within c.args.output.now c.requires.room
-      (length-monday_digit choices.one_indexed c.weekday.result) }
+    record {
+      room = room_within c.args.output.now c.requires.room
+          (length-monday_digit choices.one_indexed c.weekday.result);
+    }
 
 pub returns-clause-appends : goal.returns-clause-appends
 returns-clause-appends g c =

@@ -14,8 +14,10 @@ returns-then-not-SUPPLIES_DATE-clause-appends g c =
 pub fmt_weekday_sunday-requires : goal.fmt_weekday_sunday-requires
 fmt_weekday_sunday-requires g c =
     let choices = c.args.self in
-    record { room = room_within c.args.output.now c.requires.room
-      (length-sunday_digit choices.one_indexed c.weekday.result) }
+    record {
+      room = room_within c.args.output.now c.requires.room
+          (length-sunday_digit choices.one_indexed c.weekday.result);
+    }
 
 pub returns-clause-appends : goal.returns-clause-appends
 returns-clause-appends g c =

@@ -13,9 +13,11 @@ returns-then-not-SUPPLIES_DATE-clause-appends g c =
 pub fmt_iso_year_full_extended_range-requires : goal.fmt_iso_year_full_extended_range-requires
 fmt_iso_year_full_extended_range-requires g c =
     let choices = c.args.self in
-    record { room = room_within c.args.output.now c.requires.room
-      (length-extended_year_text choices.padding choices.sign_is_mandatory c.iso_year.result
-    c.iso_year.ensures.range) }
+    record {
+      room = room_within c.args.output.now c.requires.room
+          (length-extended_year_text choices.padding choices.sign_is_mandatory c.iso_year.result
+          c.iso_year.ensures.range);
+    }
 
 pub returns-clause-appends : goal.returns-clause-appends
 returns-clause-appends g c =
