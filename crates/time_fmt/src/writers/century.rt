@@ -56,7 +56,6 @@ impl Modifier for modifier::CalendarYearCenturyExtendedRange {
     }
 
     #[inline(always)]
-    #[tactic(auto, using(crate::proofs::DateTextLemmas::century_lengths))]
     fn write<V: ComponentProvider>(
         self,
         output: &mut Vec<u8>,
@@ -110,7 +109,6 @@ impl Modifier for modifier::CalendarYearCenturyStandardRange {
     }
 
     #[inline(always)]
-    #[tactic(auto, using(crate::proofs::DateTextLemmas::century_lengths))]
     fn write<V: ComponentProvider>(
         self,
         output: &mut Vec<u8>,
@@ -168,7 +166,6 @@ impl Modifier for modifier::IsoYearCenturyExtendedRange {
     }
 
     #[inline(always)]
-    #[tactic(auto, using(crate::proofs::DateTextLemmas::century_lengths))]
     fn write<V: ComponentProvider>(
         self,
         output: &mut Vec<u8>,
@@ -223,7 +220,6 @@ impl Modifier for modifier::IsoYearCenturyStandardRange {
     }
 
     #[inline(always)]
-    #[tactic(auto, using(crate::proofs::DateTextLemmas::century_lengths))]
     fn write<V: ComponentProvider>(
         self,
         output: &mut Vec<u8>,
