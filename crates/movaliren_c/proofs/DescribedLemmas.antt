@@ -201,7 +201,7 @@ along_more g items i d t old now new sum count f all inside there along step wit
       is_every = along.is_every;
       is_rest = next.1;
       along = written_along old now new f (trees along.every) (trees along.rest) (trees next.0) t
-          along.along (ap trees next.2) (omega arith) step within state text;
+          along.along (ap trees next.2) (omega arith) (record { appends = step; within = within }) state text;
     }
 
 -- an item that is refused
@@ -210,11 +210,13 @@ pub along_refused : {agrees : Type 0} {I : Type 0} (g : I → Result Tree Reason
     Result (List Tree) Reason)
     → i < length items → g (get_or items i d) ≡ Ok t
     → AlongItems agrees old now sum f all (list_of (map g (drop i items)))
-    → Appends now new (Err e) (tree_outcome t f) → IsAppended old new (Err e) all f
-along_refused g items i d t old now new sum e f all inside there along step =
+    → Appends now new (Err e) (tree_outcome t f) → vec_len new ≤ vec_len now + tree_width t
+    → IsAppended old new (Err e) all f
+along_refused g items i d t old now new sum e f all inside there along step within =
     let next = next_item g items i d t old now sum f all inside there along in
-    rw along.is_every (refused_along old now new e f (trees along.every) (trees along.rest) (trees
-    next.0) t along.along (ap trees next.2) step)
+    let refused = refused_along old now new e f (trees along.every) (trees along.rest) (trees next.0) t along.along
+    (ap trees next.2) (record { appends = step; within = within }) in
+    rw along.is_every refused.appends
 
 -- at the end of a list nothing is left
 ended_along : {agrees : Type 0} (old now : Vec ℕ Global) (sum : ℕ) (f : Facts) (all : Trees)

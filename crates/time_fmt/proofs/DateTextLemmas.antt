@@ -22,7 +22,7 @@ use Rattle.time_below.specs.Calendar.{from_sunday}
 use Rattle.time_fmt.specs.DateText.{month_name, weekday_name, short_name, indexed, extended_year_text}
 use Rattle.time_fmt.specs.DateText.{standard_year_text, extended_century_text, standard_century_text}
 use Rattle.time_fmt.specs.Text.{padded_text, sign_text}
-use Rattle.time_fmt.proofs.TextLemmas.{length-sign_text, length-padded_text}
+use Rattle.time_fmt.proofs.TextLemmas.{length-sign_text, length-padded_text, two_places}
 
 -- ---- numbers that fill their places
 
@@ -161,3 +161,13 @@ pub length-sunday_digit : (one_indexed : Bool) (w : Weekday)
     → length (decimal (indexed one_indexed (from_sunday (days_from_monday w)))) ≤ 1
 length-sunday_digit one_indexed w = length-indexed one_indexed (from_sunday (days_from_monday w))
     (omega (arith, days_in_week w))
+
+pub ruleset name_lengths = (length-month_name, length-weekday_name, length-short_name, two_places)
+
+pub ruleset weekday_digit_lengths = (length-monday_digit, length-sunday_digit)
+
+pub ruleset year_lengths = (length-extended_year_text, length-standard_year_text)
+
+pub ruleset century_lengths = (length-extended_century_text, length-standard_century_text)
+
+pub ruleset day_lengths = (two_places, three_places)

@@ -79,4 +79,4 @@ length-milliseconds_text s n h =
       length-decimal-le 17 (unsigned_abs n) (omega arith) (omega arith) (omega arith),
     )
 
-pub ruleset timestamp_lengths = (length-seconds_text, length-milliseconds_text)
+pub ruleset text_lengths = (two_places, length-offset_hour_text, length-seconds_text, length-milliseconds_text)

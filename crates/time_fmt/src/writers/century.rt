@@ -56,6 +56,7 @@ impl Modifier for modifier::CalendarYearCenturyExtendedRange {
     }
 
     #[inline(always)]
+    #[tactic(auto, using(crate::proofs::DateTextLemmas::century_lengths))]
     fn write<V: ComponentProvider>(
         self,
         output: &mut Vec<u8>,
@@ -109,6 +110,7 @@ impl Modifier for modifier::CalendarYearCenturyStandardRange {
     }
 
     #[inline(always)]
+    #[tactic(auto, using(crate::proofs::DateTextLemmas::century_lengths))]
     fn write<V: ComponentProvider>(
         self,
         output: &mut Vec<u8>,
@@ -166,6 +168,7 @@ impl Modifier for modifier::IsoYearCenturyExtendedRange {
     }
 
     #[inline(always)]
+    #[tactic(auto, using(crate::proofs::DateTextLemmas::century_lengths))]
     fn write<V: ComponentProvider>(
         self,
         output: &mut Vec<u8>,
@@ -220,6 +223,7 @@ impl Modifier for modifier::IsoYearCenturyStandardRange {
     }
 
     #[inline(always)]
+    #[tactic(auto, using(crate::proofs::DateTextLemmas::century_lengths))]
     fn write<V: ComponentProvider>(
         self,
         output: &mut Vec<u8>,

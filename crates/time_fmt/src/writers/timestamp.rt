@@ -34,7 +34,7 @@ impl Modifier for modifier::UnixTimestampSecond {
     }
 
     #[inline(always)]
-    #[tactic(auto, using(crate::proofs::TextLemmas::timestamp_lengths))]
+    #[tactic(auto, using(crate::proofs::TextLemmas::text_lengths))]
     fn write<V: ComponentProvider>(
         self,
         output: &mut Vec<u8>,
@@ -72,7 +72,7 @@ impl Modifier for modifier::UnixTimestampMillisecond {
     }
 
     #[inline(always)]
-    #[tactic(auto, using(crate::proofs::TextLemmas::timestamp_lengths))]
+    #[tactic(auto, using(crate::proofs::TextLemmas::text_lengths))]
     fn write<V: ComponentProvider>(
         self,
         output: &mut Vec<u8>,

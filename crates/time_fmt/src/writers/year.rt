@@ -83,6 +83,7 @@ impl Modifier for modifier::CalendarYearFullStandardRange {
     }
 
     #[inline(always)]
+    #[tactic(auto, using(crate::proofs::DateTextLemmas::year_lengths))]
     fn write<V: ComponentProvider>(
         self,
         output: &mut Vec<u8>,
@@ -161,6 +162,7 @@ impl Modifier for modifier::IsoYearFullStandardRange {
     }
 
     #[inline(always)]
+    #[tactic(auto, using(crate::proofs::DateTextLemmas::year_lengths))]
     fn write<V: ComponentProvider>(
         self,
         output: &mut Vec<u8>,

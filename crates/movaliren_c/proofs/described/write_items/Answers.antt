@@ -21,7 +21,8 @@ returns-in-Err-write_part g c =
           _ c.args.output.now c.loop-item.output c.write_part.new.output c.loop-item.sum
           c.in-Err-write_part.error (g.V.ComponentProvider.facts c.args.value.now) (trees_of
           c.args.texts.now c.args.items.now) (omega (arith, c.loop-item-test.true)) there
-          c.loop-item.invariant c.in-Err-write_part.ensures.appends;
+          c.loop-item.invariant c.in-Err-write_part.ensures.appends
+          c.in-Err-write_part.ensures.within;
     }
 
 pub loop-item-preserved : goal.loop-item-preserved
