@@ -49,8 +49,6 @@ pub enum Error {
     OutOfMemory,
     /// The format cannot represent a component. The library never returns this reason.
     Other,
-    /// The text is not UTF-8. No format of this crate writes such a text.
-    NotText,
     /// The library returned a number that this crate does not know.
     Unknown(isize),
 }
@@ -114,7 +112,6 @@ impl fmt::Display for Error {
             Error::NoRoom => "the text does not fit the buffer",
             Error::OutOfMemory => "out of memory",
             Error::Other => "the format cannot represent a component",
-            Error::NotText => "the text is not UTF-8",
             Error::Unknown(_) => "unknown error",
         })
     }

@@ -46,8 +46,7 @@ pub trait Format<V>: raw::Call<V> {
     /// # Ok::<(), movaliren::Error>(())
     /// ```
     fn format_str<'a>(&self, buffer: &'a mut [u8], value: &V) -> Result<&'a str, Error> {
-        let text = self.format_to(buffer, value)?;
-        core::str::from_utf8(text).map_err(|_| Error::NotText)
+        raw::write_str(self, value, buffer)
     }
 
     /// Returns the text of the value in place, without an allocation for it.
@@ -62,7 +61,7 @@ pub trait Format<V>: raw::Call<V> {
     /// # Ok::<(), movaliren::Error>(())
     /// ```
     fn text(&self, value: &V) -> Result<Text, Error> {
-        Text::written(|buffer| self.write(buffer, value))
+        Text::written(self, value)
     }
 
     /// Appends the text of the value, and returns the number of its bytes.

@@ -175,8 +175,8 @@ type Buffer = [MaybeUninit<u8>];
 ///
 /// # Safety
 ///
-/// After `Ok(count)` the first `count` bytes of the buffer are initialized, and there are so many.
-/// No byte of the buffer is made uninitialized.
+/// After `Ok(count)` the buffer has so many bytes, and the first `count` of them are initialized and
+/// are UTF-8. No byte of the buffer is made uninitialized.
 pub unsafe trait Call<V> {
     fn call(&self, value: &V, buffer: &mut Buffer) -> Result<usize, Error>;
 }
@@ -185,8 +185,8 @@ pub unsafe trait Call<V> {
 ///
 /// # Safety
 ///
-/// The first `bytes` bytes of the buffer, as `Progress` counts them, are initialized, and there are
-/// so many. No byte of the buffer is made uninitialized.
+/// The buffer has as many bytes as `Progress` counts, and the first ones are initialized. No byte of
+/// the buffer is made uninitialized.
 pub unsafe trait CallAll<V> {
     fn call_all(&self, values: &[V], end: u8, buffer: &mut Buffer) -> Progress;
 }
@@ -212,7 +212,8 @@ fn pointer(buffer: &mut Buffer) -> *mut u8 {
 
 macro_rules! calls {
     ($($format:ty: $function:ident, $batch:ident;)*) => { $(
-        // SAFETY: the function returns how many bytes it has written to the start of the buffer.
+        // SAFETY: the function returns how many bytes it has written to the start of the buffer, which
+        // are ASCII.
         unsafe impl Call<Moment> for $format {
             fn call(&self, value: &Moment, buffer: &mut Buffer) -> Result<usize, Error> {
                 // SAFETY: `Moment` has the header's layout, and pointer and length are the buffer's.
@@ -240,7 +241,8 @@ calls! {
     Iso8601: movaliren_iso8601, movaliren_iso8601_batch;
 }
 
-// SAFETY: the function returns how many bytes it has written to the start of the buffer.
+// SAFETY: the function returns how many bytes it has written to the start of the buffer, which are
+// ASCII.
 unsafe impl Call<Moment> for Iso8601By {
     fn call(&self, value: &Moment, buffer: &mut Buffer) -> Result<usize, Error> {
         // SAFETY: both structs have the header's layout; pointer and length are the buffer's.
@@ -268,7 +270,8 @@ unsafe impl CallAll<Moment> for Iso8601By {
     }
 }
 
-// SAFETY: the function returns how many bytes it has written to the start of the buffer.
+// SAFETY: the function returns how many bytes it has written to the start of the buffer, which are
+// ASCII.
 unsafe impl Call<UtcMoment> for Stamp {
     fn call(&self, value: &UtcMoment, buffer: &mut Buffer) -> Result<usize, Error> {
         // SAFETY: pointer and length are the buffer's.
@@ -295,7 +298,8 @@ unsafe impl CallAll<UtcMoment> for Stamp {
     }
 }
 
-// SAFETY: the function returns how many bytes it has written to the start of the buffer.
+// SAFETY: the function returns how many bytes it has written to the start of the buffer. These are
+// whole literals, which are UTF-8, and components, which are ASCII.
 unsafe impl Call<Moment> for Description {
     fn call(&self, value: &Moment, buffer: &mut Buffer) -> Result<usize, Error> {
         let (items, texts) = self.parts();
@@ -315,7 +319,8 @@ unsafe impl Call<Moment> for Description {
     }
 }
 
-// SAFETY: the function returns how many bytes it has written to the start of the buffer.
+// SAFETY: the function returns how many bytes it has written to the start of the buffer. These are
+// whole literals, which are UTF-8, and components, which are ASCII.
 unsafe impl Call<UtcMoment> for Description {
     fn call(&self, value: &UtcMoment, buffer: &mut Buffer) -> Result<usize, Error> {
         let (items, texts) = self.parts();
@@ -336,7 +341,8 @@ unsafe impl Call<UtcMoment> for Description {
     }
 }
 
-// SAFETY: the function returns how many bytes it has written to the start of the buffer.
+// SAFETY: the function returns how many bytes it has written to the start of the buffer. These are
+// whole literals, which are UTF-8, and components, which are ASCII.
 unsafe impl Call<Date> for Description {
     fn call(&self, value: &Date, buffer: &mut Buffer) -> Result<usize, Error> {
         let (items, texts) = self.parts();
@@ -380,6 +386,19 @@ pub(crate) fn write<V>(
     room: &mut [u8],
 ) -> Result<usize, Error> {
     format.call(value, lent(room))
+}
+
+/// Writes the text of the value to the start of the slice, and returns it.
+pub(crate) fn write_str<'a, V>(
+    format: &(impl Call<V> + ?Sized),
+    value: &V,
+    room: &'a mut [u8],
+) -> Result<&'a str, Error> {
+    let count = write(format, value, room)?;
+    let text = &room[..count];
+    debug_assert!(str::from_utf8(text).is_ok());
+    // SAFETY: `Call` promises that these bytes are UTF-8.
+    Ok(unsafe { str::from_utf8_unchecked(text) })
 }
 
 /// Writes the texts of the values to the start of the slice.
@@ -436,13 +455,6 @@ pub(crate) fn append_str<V>(
     width: usize,
     output: &mut String,
 ) -> Result<usize, Error> {
-    let len = output.len();
-    // SAFETY: bytes are appended alone, and they are removed below unless they are UTF-8.
-    let bytes = unsafe { output.as_mut_vec() };
-    let count = append(format, value, width, bytes)?;
-    if str::from_utf8(&bytes[len..]).is_err() {
-        bytes.truncate(len);
-        return Err(Error::NotText);
-    }
-    Ok(count)
+    // SAFETY: all that is done is to append what `Call` promises to be UTF-8.
+    append(format, value, width, unsafe { output.as_mut_vec() })
 }

@@ -1,4 +1,5 @@
 //! A text in place.
+use crate::raw::{self, Call};
 use crate::Error;
 use alloc::string::String;
 use core::borrow::Borrow;
@@ -31,25 +32,17 @@ impl Text {
     /// The greatest number of bytes in a `Text`.
     pub const CAPACITY: usize = 64;
 
-    /// The text that is written to the start of 64 bytes.
-    pub(crate) fn written(
-        write: impl FnOnce(&mut [u8]) -> Result<usize, Error>,
-    ) -> Result<Text, Error> {
+    /// The text of the value by the format.
+    pub(crate) fn written<V>(format: &(impl Call<V> + ?Sized), value: &V) -> Result<Text, Error> {
         let mut bytes = [0; Text::CAPACITY];
-        let count = write(&mut bytes)?;
-        match str::from_utf8(&bytes[..count]) {
-            // At most 64.
-            Ok(text) => Ok(Text {
-                len: text.len() as u8,
-                bytes,
-            }),
-            Err(_) => Err(Error::NotText),
-        }
+        // At most 64.
+        let len = raw::write_str(format, value, &mut bytes)?.len() as u8;
+        Ok(Text { bytes, len })
     }
 
     /// The text as a `str`.
     pub fn as_str(&self) -> &str {
-        // SAFETY: `written` has seen that these bytes are UTF-8, and nothing changes them.
+        // SAFETY: `written` had these bytes as a `str`, and nothing changes them.
         unsafe { str::from_utf8_unchecked(self.as_bytes()) }
     }
 
