@@ -12,7 +12,7 @@ const NOT_FOUND: &str = "\
 error: the library of Movaliren was not found. Do one of these:
   - build it in the repository:  (cd crates/movaliren_c && rt lib)
   - install it, where pkg-config finds it:  make -C bindings/c install PREFIX=..
-  - set MOVALIREN_LIB to the folder of libmovaliren.a or libmovaliren_c.a";
+  - set MOVALIREN_LIB to the folder of libmovaliren.a, libmovaliren.so or libmovaliren_c.a";
 
 const NO_KIT: &str = "\
 error: libmovaliren_c.a needs liblibc_c.a of the toolchain's kit, which was not found. Put `rt` on the
@@ -36,10 +36,18 @@ fn printed(command: &mut Command) -> Option<String> {
     (output.status.success() && !text.is_empty()).then_some(text)
 }
 
-fn folder_installed() -> Option<PathBuf> {
+/// The folders that pkg-config names: behind `-L`, and the folder of libraries, for which it prints no
+/// `-L` where the linker looks there by itself.
+fn folders_installed() -> Vec<PathBuf> {
     println!("cargo:rerun-if-env-changed=PKG_CONFIG_PATH");
     let program = folder_of("PKG_CONFIG").unwrap_or_else(|| "pkg-config".into());
-    printed(Command::new(program).args(["--variable=libdir", "movaliren"])).map(PathBuf::from)
+    let asked = |word: &str| printed(Command::new(&program).args([word, "movaliren"]));
+    let flags = asked("--libs-only-L").unwrap_or_default();
+    flags
+        .split_whitespace()
+        .filter_map(|flag| flag.strip_prefix("-L").map(PathBuf::from))
+        .chain(asked("--variable=libdir").map(PathBuf::from))
+        .collect()
 }
 
 fn folder_of_kit() -> Option<PathBuf> {
@@ -50,33 +58,30 @@ fn folder_of_kit() -> Option<PathBuf> {
     folder_of("RATTLE_C").or_else(in_kit)
 }
 
-fn link(folder: &Path, kind: &str, library: &str) {
+/// Links the library if the folder has the file.
+fn is_linked(folder: &Path, file: &str, kind: &str, library: &str) -> bool {
+    let path = folder.join(file);
+    if !path.exists() {
+        return false;
+    }
+    println!("cargo:rerun-if-changed={}", path.display());
     println!("cargo:rustc-link-search=native={}", folder.display());
     println!("cargo:rustc-link-lib={kind}={library}");
+    true
 }
 
 /// Links the library if the folder has it.
-fn is_linked(folder: &Path) -> bool {
-    let file = |name: &str| {
-        let path = folder.join(name);
-        println!("cargo:rerun-if-changed={}", path.display());
-        path.exists()
-    };
-    if file("libmovaliren.a") {
-        link(folder, "static", "movaliren");
-    } else if file("libmovaliren_c.a") {
-        // The library calls what the kit's archive has, so it stands first.
-        link(folder, "static", "movaliren_c");
-        match folder_of_kit() {
-            Some(kit) => link(&kit, "static", "libc_c"),
-            None => fail(NO_KIT),
+fn is_in(folder: &Path) -> bool {
+    if is_linked(folder, "libmovaliren_c.a", "static", "movaliren_c") {
+        // It calls what the kit's archive has, so that one stands behind it.
+        let has_kit = |kit: PathBuf| is_linked(&kit, "liblibc_c.a", "static", "libc_c");
+        if !folder_of_kit().map_or(false, has_kit) {
+            fail(NO_KIT);
         }
-    } else if file("libmovaliren.so") {
-        link(folder, "dylib", "movaliren");
-    } else {
-        return false;
+        return true;
     }
-    true
+    is_linked(folder, "libmovaliren.a", "static", "movaliren")
+        || is_linked(folder, "libmovaliren.so", "dylib", "movaliren")
 }
 
 fn fail(message: &str) -> ! {
@@ -87,11 +92,8 @@ fn fail(message: &str) -> ! {
 fn main() {
     println!("cargo:rerun-if-changed=build.rs");
     let is_found = match folder_of("MOVALIREN_LIB") {
-        Some(folder) => is_linked(&folder),
-        None => {
-            is_linked(&folder_beside())
-                || folder_installed().map_or(false, |folder| is_linked(&folder))
-        }
+        Some(folder) => is_in(&folder),
+        None => is_in(&folder_beside()) || folders_installed().iter().any(|folder| is_in(folder)),
     };
     if !is_found {
         fail(NOT_FOUND);
