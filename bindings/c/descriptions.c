@@ -12,14 +12,14 @@ static ptrdiff_t described(const void *format, const void *value, uint8_t *room,
 {
     const struct description *d = format;
     return movaliren_format(
-        d->items, d->items_len, (const uint8_t *)d->texts, strlen(d->texts), value, room, room_len);
+        d->items, d->items_len, d->texts, strlen(d->texts), value, room, room_len);
 }
 
 static ptrdiff_t described_utc(const void *format, const void *value, uint8_t *room, size_t room_len)
 {
     const struct description *d = format;
     const struct movaliren_utc_moment *moment = value;
-    return movaliren_format_utc(d->items, d->items_len, (const uint8_t *)d->texts, strlen(d->texts),
+    return movaliren_format_utc(d->items, d->items_len, d->texts, strlen(d->texts),
         moment->seconds, moment->nanosecond, room, room_len);
 }
 
@@ -28,7 +28,7 @@ static ptrdiff_t described_date(
 {
     const struct description *d = format;
     const struct movaliren_moment *date = value;
-    return movaliren_format_date(d->items, d->items_len, (const uint8_t *)d->texts, strlen(d->texts),
+    return movaliren_format_date(d->items, d->items_len, d->texts, strlen(d->texts),
         date->year, date->month, date->day, room, room_len);
 }
 
@@ -123,8 +123,8 @@ static void try_widths(void)
 {
     static const struct movaliren_item items[]
         = { { .kind = MOVALIREN_MONTH_LONG }, { .len = 2 }, { .kind = MOVALIREN_SUBSECOND } };
-    if (movaliren_width(items, 3, (const uint8_t *)"ab", 2) != 20
-        || movaliren_width(items, 3, (const uint8_t *)"a", 1) != MOVALIREN_ERROR_BAD_ITEM) {
+    if (movaliren_width(items, 3, "ab", 2) != 20
+        || movaliren_width(items, 3, "a", 1) != MOVALIREN_ERROR_BAD_ITEM) {
         failures++;
         puts("a width is wrong");
     }
