@@ -130,11 +130,41 @@ static void try_widths(void)
     }
 }
 
+/* A description that is built over so many items and bytes of texts: of a day, a text of two bytes and a
+ * month. */
+static ptrdiff_t built(size_t items_room, size_t texts_room)
+{
+    static const struct movaliren_moment moment = MOMENT(1997, 11, 12, 9, 55, 6, 0, -6, 0, 0);
+    struct movaliren_item items[3];
+    char texts[2], text[8];
+    struct movaliren_description line = MOVALIREN_DESCRIPTION(items, texts);
+    line.items_room = items_room, line.texts_room = texts_room;
+    movaliren_add(&line, MOVALIREN_DAY, MOVALIREN_SPACE, 0, 0);
+    movaliren_add_text(&line, ". ");
+    movaliren_add(&line, MOVALIREN_MONTH, MOVALIREN_ZERO, 0, 0);
+    if (line.reason)
+        return line.reason;
+    ptrdiff_t n = movaliren_format(
+        line.items, line.items_len, line.texts, line.texts_len, &moment, text, sizeof text);
+    return n == 6 && !memcmp(text, "12. 11", 6) ? n : -100;
+}
+
+static void try_building(void)
+{
+    for (size_t items = 0; items <= 3; items++)
+        for (size_t texts = 0; texts <= 2; texts++)
+            if (built(items, texts) != (items == 3 && texts == 2 ? 6 : MOVALIREN_ERROR_NO_ROOM)) {
+                failures++;
+                printf("built over %zu items and %zu bytes\n", items, texts);
+            }
+}
+
 int main(void)
 {
     try_descriptions();
     try_the_empty_description();
     try_widths();
+    try_building();
     printf("descriptions: %d wrong\n", failures);
     return failures != 0;
 }

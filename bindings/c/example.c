@@ -31,21 +31,25 @@ int main(void)
     show("by week", movaliren_iso8601_by(&week, &moment, room, most), room);
     show("stamp", movaliren_stamp(879350106, 120000000, room, most), room);
 
-    static const char texts[] = ", week -W";
-    static const struct movaliren_item items[] = {
-        { .kind = MOVALIREN_DAY, .padding = MOVALIREN_NO_PADDING },
-        { .kind = MOVALIREN_TEXT, .start = 1, .len = 1 },
-        { .kind = MOVALIREN_MONTH_LONG },
-        { .kind = MOVALIREN_TEXT, .start = 0, .len = 7 },
-        { .kind = MOVALIREN_ISO_YEAR },
-        { .kind = MOVALIREN_TEXT, .start = 7, .len = 2 },
-        { .kind = MOVALIREN_WEEK_ISO },
-    };
-    const size_t count = sizeof items / sizeof *items, len = sizeof texts - 1;
-    printf("%-13s %td\n", "width", movaliren_width(items, count, texts, len));
-    show("a moment", movaliren_format(items, count, texts, len, &moment, room, most), room);
+    struct movaliren_item items[7];
+    char texts[10];
+    struct movaliren_description line = MOVALIREN_DESCRIPTION(items, texts);
+    movaliren_add(&line, MOVALIREN_DAY, MOVALIREN_NO_PADDING, 0, 0);
+    movaliren_add_text(&line, " ");
+    movaliren_add(&line, MOVALIREN_MONTH_LONG, MOVALIREN_ZERO, 0, 0);
+    movaliren_add_text(&line, ", week ");
+    movaliren_add(&line, MOVALIREN_ISO_YEAR, MOVALIREN_ZERO, 0, 0);
+    movaliren_add_text(&line, "-W");
+    movaliren_add(&line, MOVALIREN_WEEK_ISO, MOVALIREN_ZERO, 0, 0);
+    if (line.reason)
+        return 1;
+    printf("%-13s %td\n", "width", movaliren_width(items, line.items_len, texts, line.texts_len));
+    show("a moment",
+        movaliren_format(items, line.items_len, texts, line.texts_len, &moment, room, most), room);
     show("a date",
-        movaliren_format_date(items, count, texts, len, 2026, 11, 22, room, most), room);
+        movaliren_format_date(
+            items, line.items_len, texts, line.texts_len, 2026, 11, 22, room, most),
+        room);
 
     struct movaliren_moment moments[] = { moment, moment, moment };
     moments[1].offset_hours = 0;

@@ -31,6 +31,7 @@
 
 #include <stddef.h>
 #include <stdint.h>
+#include <string.h>
 
 #define MOVALIREN_VERSION "0.1.0"
 
@@ -199,12 +200,15 @@ struct movaliren_iso_config {
     uint8_t comma;              /* before the decimals, in the place of a point */
 };
 
-/* The configuration of movaliren_iso8601, as an initialiser. */
-#define MOVALIREN_ISO_DEFAULT                                                          \
+/* The configuration of movaliren_iso8601 with another number of decimals, as an initialiser: with 3 it
+ * writes milliseconds with their zeros, as 1997-11-12T15:55:06.120Z. */
+#define MOVALIREN_ISO_DECIMALS(number)                                                 \
     {                                                                                  \
         MOVALIREN_ISO_DATE_TIME_OFFSET, MOVALIREN_ISO_CALENDAR, MOVALIREN_ISO_SECOND,  \
-            9, MOVALIREN_ISO_MINUTE, 1, 0, 0                                           \
+            number, MOVALIREN_ISO_MINUTE, 1, 0, 0                                      \
     }
+
+#define MOVALIREN_ISO_DEFAULT MOVALIREN_ISO_DECIMALS(9)
 
 /* ISO 8601 by a configuration, whose numbers are tested before the moment. */
 ptrdiff_t movaliren_iso8601_by(const struct movaliren_iso_config *config,
@@ -304,6 +308,67 @@ ptrdiff_t movaliren_format_date(const struct movaliren_item *items, size_t items
  * room of this many is never too little. */
 ptrdiff_t movaliren_width(const struct movaliren_item *items, size_t items_len,
     const void *texts, size_t texts_len);
+
+/* A description that is built in two arrays of the caller, so that nobody counts where a text starts:
+ *
+ *     struct movaliren_item items[8];
+ *     char texts[32];
+ *     struct movaliren_description line = MOVALIREN_DESCRIPTION(items, texts);
+ *     movaliren_add(&line, MOVALIREN_DAY, MOVALIREN_NO_PADDING, 0, 0);
+ *     movaliren_add_text(&line, " of ");
+ *     movaliren_add(&line, MOVALIREN_MONTH_LONG, MOVALIREN_ZERO, 0, 0);
+ *     if (line.reason == 0)
+ *         n = movaliren_format(line.items, line.items_len, line.texts, line.texts_len, &moment, ..); */
+struct movaliren_description {
+    struct movaliren_item *items;
+    size_t items_len, items_room;
+    char *texts;
+    size_t texts_len, texts_room;
+    ptrdiff_t reason; /* MOVALIREN_ERROR_NO_ROOM once an item did not fit, and then nothing is added */
+};
+
+/* The empty description over two arrays, as an initialiser. */
+#define MOVALIREN_DESCRIPTION(items, texts)                                            \
+    {                                                                                  \
+        items, 0, sizeof(items) / sizeof *(items), texts, 0, sizeof(texts), 0          \
+    }
+
+static inline void movaliren_add_item(
+    struct movaliren_description *description, struct movaliren_item item)
+{
+    if (description->items_len == description->items_room)
+        description->reason = MOVALIREN_ERROR_NO_ROOM;
+    if (description->reason == 0)
+        description->items[description->items_len++] = item;
+}
+
+/* Adds a component. */
+static inline void movaliren_add(struct movaliren_description *description, uint32_t kind,
+    uint8_t padding, uint8_t flag, uint8_t digits)
+{
+    const struct movaliren_item item = { kind, padding, flag, digits, 0, 0, 0 };
+    movaliren_add_item(description, item);
+}
+
+/* Adds a text of these bytes. */
+static inline void movaliren_add_bytes(
+    struct movaliren_description *description, const void *bytes, size_t len)
+{
+    const struct movaliren_item item = { MOVALIREN_TEXT, 0, 0, 0, 0, description->texts_len, len };
+    if (len > description->texts_room - description->texts_len)
+        description->reason = MOVALIREN_ERROR_NO_ROOM;
+    movaliren_add_item(description, item);
+    if (description->reason == 0) {
+        memcpy(description->texts + description->texts_len, bytes, len);
+        description->texts_len += len;
+    }
+}
+
+/* Adds a text that ends with a zero, which is no part of it. */
+static inline void movaliren_add_text(struct movaliren_description *description, const char *text)
+{
+    movaliren_add_bytes(description, text, strlen(text));
+}
 
 #ifdef __cplusplus
 }
