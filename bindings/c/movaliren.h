@@ -73,7 +73,7 @@ static inline const char *movaliren_error_text(ptrdiff_t reason)
     case MOVALIREN_ERROR_MONTH:
         return "the month is outside 1 to 12";
     case MOVALIREN_ERROR_DAY:
-        return "the month of that year has no such day";
+        return "the month has no such day";
     case MOVALIREN_ERROR_HOUR:
         return "the hour is outside 0 to 23";
     case MOVALIREN_ERROR_MINUTE:
@@ -89,29 +89,29 @@ static inline const char *movaliren_error_text(ptrdiff_t reason)
     case MOVALIREN_ERROR_OFFSET_SECONDS:
         return "the seconds of the offset are outside -59 to 59";
     case MOVALIREN_ERROR_MOMENT_SECONDS:
-        return "the seconds are outside those of the years -999999 to 999999";
+        return "the seconds are outside the years -999999 to 999999";
     case MOVALIREN_ERROR_NO_PLACE_FOR_YEAR:
-        return "the format has no place for the year";
+        return "the format cannot represent the year";
     case MOVALIREN_ERROR_NO_PLACE_FOR_OFFSET_HOUR:
-        return "the format has no place for the hours of the offset";
+        return "the format cannot represent the hours of the offset";
     case MOVALIREN_ERROR_NO_PLACE_FOR_OFFSET_MINUTE:
-        return "the format has no place for the minutes of the offset";
+        return "the format cannot represent the minutes of the offset";
     case MOVALIREN_ERROR_NO_PLACE_FOR_OFFSET_SECOND:
-        return "the format has no place for the seconds of the offset";
+        return "the format cannot represent the seconds of the offset";
     case MOVALIREN_ERROR_INSUFFICIENT:
-        return "the value lacks a component";
+        return "the value lacks a component of the format";
     case MOVALIREN_ERROR_OUT_OF_RANGE:
-        return "a component is outside the range that the description has for it";
+        return "a component is outside the range of its item";
     case MOVALIREN_ERROR_BAD_CONFIG:
-        return "a number of the configuration is none that there is";
+        return "invalid configuration value";
     case MOVALIREN_ERROR_BAD_ITEM:
-        return "an item is none that there is";
+        return "invalid item";
     case MOVALIREN_ERROR_NO_ROOM:
-        return "the text does not fit the room";
+        return "the text does not fit the buffer";
     case MOVALIREN_ERROR_OUT_OF_MEMORY:
-        return "memory was refused";
+        return "out of memory";
     case MOVALIREN_ERROR_OTHER:
-        return "the format has no place for a component";
+        return "the format cannot represent a component";
     default:
         return "no error";
     }
