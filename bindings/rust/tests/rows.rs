@@ -269,15 +269,22 @@ fn a_text_in_place_has_at_most_64_bytes() {
 #[test]
 fn decimals_of_a_second() {
     use SubsecondDigits::*;
-    let second = |digits| Description::new().subsecond(digits);
-    assert_text(&second(OneOrMore), &EXAMPLE, "12");
-    assert_text(&second(One), &EXAMPLE, "1");
-    assert_text(&second(Nine), &EXAMPLE, "120000000");
-    assert_text(
-        &second(SubsecondDigits::default()),
-        &EXAMPLE.at(0, 0, 0, 0),
-        "0",
-    );
+    let moment = EXAMPLE.at(9, 55, 6, 120_345_670);
+    for (digits, text) in [
+        (OneOrMore, "12034567"),
+        (One, "1"),
+        (Two, "12"),
+        (Three, "120"),
+        (Four, "1203"),
+        (Five, "12034"),
+        (Six, "120345"),
+        (Seven, "1203456"),
+        (Eight, "12034567"),
+        (Nine, "120345670"),
+    ] {
+        assert_text(&Description::new().subsecond(digits), &moment, text);
+    }
+    assert_eq!(SubsecondDigits::default(), OneOrMore);
 }
 
 #[test]
