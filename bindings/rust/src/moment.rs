@@ -213,7 +213,8 @@ mod clock {
         }
     }
 
-    /// A nanosecond of 1,000,000,000 or more is [`Error::Nanosecond`].
+    /// A nanosecond of 1,000,000,000 or more is [`Error::Nanosecond`]. Seconds that the standard library
+    /// cannot reach from 1970 are [`Error::MomentSeconds`].
     ///
     /// ```
     /// use movaliren::{Error, UtcMoment};

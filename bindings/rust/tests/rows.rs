@@ -345,7 +345,7 @@ fn stamps_sort() {
 fn each_time_of_the_system_is_a_moment_and_back() {
     use std::time::{Duration, SystemTime, UNIX_EPOCH};
     let most = UNIX_EPOCH + Duration::new(i64::MAX as u64, 999_999_999);
-    let least = UNIX_EPOCH - Duration::from_secs(1 << 63);
+    let least = UNIX_EPOCH - Duration::from_secs(i64::MAX as u64);
     for (time, moment) in [
         (UNIX_EPOCH, UtcMoment::new(0, 0)),
         (
@@ -354,8 +354,11 @@ fn each_time_of_the_system_is_a_moment_and_back() {
         ),
         (UNIX_EPOCH - Duration::from_secs(2), UtcMoment::new(-2, 0)),
         (most, UtcMoment::new(i64::MAX, 999_999_999)),
-        (least, UtcMoment::new(i64::MIN, 0)),
-        (least + Duration::from_nanos(1), UtcMoment::new(i64::MIN, 1)),
+        (least, UtcMoment::new(-i64::MAX, 0)),
+        (
+            least + Duration::from_nanos(1),
+            UtcMoment::new(-i64::MAX, 1),
+        ),
     ] {
         assert_eq!(UtcMoment::from(time), moment);
         assert_eq!(SystemTime::try_from(moment), Ok(time));
