@@ -6,6 +6,7 @@ use std::default::Default;
 use std::process::Abort;
 use time_below::{OffsetDateTime, PlainDateTime, UtcDateTime};
 
+mod further_values;
 mod other_values;
 
 #[derive(Clone, Copy, Debug)]
@@ -148,7 +149,9 @@ fn call<V: ComponentProvider>(value: &V, state: &mut V::State, method: Method)
     }
 }
 
-fn state_after<V: ComponentProvider>(value: &V, first: Method, second: Method) -> V::State {
+fn state_after<V: ComponentProvider>(value: &V, first: Method, second: Method) -> V::State
+    ensures { V.agrees result value.now }
+{
     let mut state = V::State::default();
     call(value, &mut state, first);
     call(value, &mut state, second);
