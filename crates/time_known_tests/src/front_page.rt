@@ -17,7 +17,7 @@ use time_fmt::{ComponentProvider, ComputeMetadata, Format, TimestampState};
 use time_known::iso8601::{Config, DateKind, DecimalSign, FormattedComponents, TimePrecision};
 use time_known::{Iso8601, Rfc2822, Rfc3339, stamp_into};
 
-/// Appends the time of a log line such as `09:55:06.120`, and answers the number of its bytes.
+/// Appends the time of a log line such as `09:55:06.120`, and returns the number of its bytes.
 pub fn append_log_time(line: &mut Vec<u8>, moment: &OffsetDateTime) -> Result<usize, Format> {
     text!(HOUR, b":", MINUTE, b":", SECOND, b".", THREE_DECIMALS).format_into(
         line,
@@ -102,7 +102,7 @@ pub fn at_offset(seconds: i64, offset: UtcOffset) -> Option<OffsetDateTime> {
 }
 
 /// Writes a text into a vector that is kept for all texts, in place of the text before. Never
-/// allocates: the answer is `None` if the vector is smaller than the width.
+/// allocates: returns `None` if the vector is smaller than the width.
 pub fn write_kept<D: Formattable, V: ComponentProvider>(
     kept: &mut Vec<u8>,
     description: &D,
