@@ -94,8 +94,11 @@ pub fn append_unix_time(line: &mut Vec<u8>, seconds: i64) -> Option<Result<usize
 /// The moment of these Unix seconds as a local date and time at this offset, if it is one.
 pub fn at_offset(seconds: i64, offset: UtcOffset) -> Option<OffsetDateTime> {
     let (offset_hours, offset_minutes, offset_seconds) = offset.as_hms();
-    let ahead = offset_hours as i64 * 3600 + offset_minutes as i64 * 60 + offset_seconds as i64;
-    let Ok(local) = Timestamp::new(seconds.saturating_add(ahead), 0) else {
+    let local_seconds = seconds
+        .saturating_add(offset_hours as i64 * 3600)
+        .saturating_add(offset_minutes as i64 * 60)
+        .saturating_add(offset_seconds as i64);
+    let Ok(local) = Timestamp::new(local_seconds, 0) else {
         return None;
     };
     Some(OffsetDateTime::new_in_offset(local.date(), local.time(), offset))
