@@ -19,6 +19,7 @@ use Rattle.time_digits.specs.Digits.{zero_padded}
 use Rattle.time_digits.proofs.DigitLemmas.{decimal_longer, padded_whole}
 use Rattle.time_digits.proofs.LengthLemmas.{length-padded-le}
 use Rattle.time_below.specs.Calendar.{from_sunday}
+use Rattle.time_fmt.proofs.GroupLemmas.{whole_text, in_range, beyond_range}
 use Rattle.time_fmt.specs.DateText.{month_name, weekday_name, short_name, indexed, extended_year_text}
 use Rattle.time_fmt.specs.DateText.{standard_year_text, extended_century_text, standard_century_text}
 use Rattle.time_fmt.specs.Text.{padded_text, sign_text}
@@ -162,12 +163,26 @@ pub length-sunday_digit : (one_indexed : Bool) (w : Weekday)
 length-sunday_digit one_indexed w = length-indexed one_indexed (from_sunday (days_from_monday w))
     (omega (arith, days_in_week w))
 
-pub ruleset name_lengths = (length-month_name, length-weekday_name, length-short_name, two_places)
+pub ruleset name_lengths = (length-month_name, length-weekday_name, length-short_name, whole_text)
 
-pub ruleset weekday_digit_lengths = (length-monday_digit, length-sunday_digit)
+pub ruleset weekday_digit_lengths = (length-monday_digit, length-sunday_digit, whole_text)
 
-pub ruleset year_lengths = (length-extended_year_text, length-standard_year_text)
+pub ruleset year_lengths = (
+  length-extended_year_text,
+  length-standard_year_text,
+  whole_text,
+  in_range,
+  beyond_range,
+)
 
-pub ruleset century_lengths = (length-extended_century_text, length-standard_century_text)
+pub ruleset century_lengths = (
+  length-extended_century_text,
+  length-standard_century_text,
+  is_negative_of,
+  two_places,
+  whole_text,
+  in_range,
+  beyond_range,
+)
 
-pub ruleset day_lengths = (two_places, three_places)
+pub ruleset day_lengths = (two_places, three_places, whole_text)

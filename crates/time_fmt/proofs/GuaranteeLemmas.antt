@@ -19,7 +19,8 @@ use Rattle.time_below.specs.declared.format_description.modifier.Padding.{Paddin
 use Rattle.time_below.specs.declared.format_description.modifier.Padding.TheVariants as padding
 use Rattle.time_below.specs.declared.format_description.modifier.SubsecondDigits.{SubsecondDigits}
 use Rattle.time_below.specs.declared.format_description.modifier.SubsecondDigits.TheVariants as digits
-use Rattle.time_below.specs.Facts.{Facts}
+use Rattle.time_below.specs.Facts.{Facts, the_date, the_time, the_offset, the_moment}
+use Rattle.time_below.specs.Group.{group_of}
 use Rattle.time_below.specs.Moment.{milliseconds}
 use Rattle.time_below.specs.Offset.{is_negative}
 use Rattle.time_below.specs.TimeOfDay.{period_of}
@@ -31,10 +32,11 @@ use Rattle.time_digits.proofs.FractionLemmas.{IsAscii-trimmed_fraction}
 use Rattle.time_digits.proofs.LengthLemmas.{IsAscii-padded, IsAscii-number}
 use Rattle.time_below.specs.Calendar.{from_sunday}
 use Rattle.time_fmt.specs.DateText.{month_names, month_name, weekday_names, weekday_name, indexed}
-use Rattle.time_fmt.specs.Description.{of_group, in_standard_range, century_of, current_outcome, component_outcome}
+use Rattle.time_fmt.specs.Description.{has_group, in_standard_range, century_of, supplied_outcome, current_outcome}
+use Rattle.time_fmt.specs.Description.{component_outcome}
 use Rattle.time_fmt.specs.Description.{tree_outcome, trees_outcome}
 use Rattle.time_fmt.specs.Guarantee.{IsTextIf}
-use Rattle.time_fmt.specs.Outcome.{Outcome, Adds, done, refused, join, out_of_range}
+use Rattle.time_fmt.specs.Outcome.{Outcome, Adds, done, refused, join, insufficient, out_of_range}
 use Rattle.time_fmt.specs.declared.error.Format.{Format}
 use Rattle.time_fmt.proofs.WriteLemmas.{added_alone}
 use Rattle.time_below.specs.ComponentRange.{conditional_range}
@@ -164,12 +166,6 @@ IsAscii-timestamp_text s n = IsAscii-append (sign_text (int_lt n (pos 0)) s) (de
 
 -- ---- components
 
--- so is what a group gives
-ascii_of_group : {G : Type 0} (group : Option G) (outcome : G → Outcome) → ((g : G) → IsAscii (outcome g).bytes)
-    → IsAscii (of_group group outcome).bytes
-ascii_of_group None outcome each = IsAscii-nil
-ascii_of_group (Some g) outcome each = each g
-
 -- so is a year or a century in its range
 ascii_in_range : (greatest magnitude : ℕ) (text : List ℕ) → IsAscii text
     → IsAscii (in_standard_range greatest magnitude text).bytes
@@ -178,79 +174,64 @@ ascii_in_range greatest magnitude text h =
     (λ b. IsAscii (if b then done text else refused (out_of_range (conditional_range (codes "year")))).bytes)
     [ true ↦ h | false ↦ IsAscii-nil ]
 
--- the text of a component is ASCII
+-- the text of a component is ASCII, of a value that supplies its group
+ascii_supplied : (c : Component) (f : Facts) → IsAscii (supplied_outcome c f).bytes
+ascii_supplied (component.Day m) f = IsAscii-padded_text m.padding 2 (the_date f).day
+ascii_supplied (component.MonthShort m) f =
+    IsAscii-take (month_name (the_date f).month) 3 (IsAscii-month_name (the_date f).month)
+ascii_supplied (component.MonthLong m) f = IsAscii-month_name (the_date f).month
+ascii_supplied (component.MonthNumerical m) f = IsAscii-padded_text m.padding 2 (the_date f).month
+ascii_supplied (component.Ordinal m) f = IsAscii-padded_text m.padding 3 (the_date f).ordinal
+ascii_supplied (component.WeekdayShort m) f =
+    IsAscii-take (weekday_name (the_date f).weekday) 3 (IsAscii-weekday_name (the_date f).weekday)
+ascii_supplied (component.WeekdayLong m) f = IsAscii-weekday_name (the_date f).weekday
+ascii_supplied (component.WeekdaySunday m) f =
+    IsAscii-number (indexed m.one_indexed (from_sunday (the_date f).weekday))
+ascii_supplied (component.WeekdayMonday m) f = IsAscii-number (indexed m.one_indexed (the_date f).weekday)
+ascii_supplied (component.WeekNumberIso m) f = IsAscii-padded_text m.padding 2 (the_date f).iso_week
+ascii_supplied (component.WeekNumberSunday m) f = IsAscii-padded_text m.padding 2 (the_date f).sunday_based_week
+ascii_supplied (component.WeekNumberMonday m) f = IsAscii-padded_text m.padding 2 (the_date f).monday_based_week
+ascii_supplied (component.CalendarYearFullExtendedRange m) f =
+    signed (int_lt (the_date f).year (pos 0)) (m.sign_is_mandatory || int_lt (pos 9_999) (the_date f).year) m.padding 4 (unsigned_abs (the_date f).year)
+ascii_supplied (component.CalendarYearFullStandardRange m) f =
+    ascii_in_range 9_999 (unsigned_abs (the_date f).year) _ (signed (int_lt (the_date f).year (pos 0)) m.sign_is_mandatory m.padding 4 (unsigned_abs (the_date f).year))
+ascii_supplied (component.CalendarYearCenturyExtendedRange m) f =
+    signed (int_lt (the_date f).year (pos 0)) (m.sign_is_mandatory || nat_lt 99 (century_of (the_date f).year)) m.padding 2 (century_of (the_date f).year)
+ascii_supplied (component.CalendarYearCenturyStandardRange m) f =
+    ascii_in_range 99 (century_of (the_date f).year) _ (signed (int_lt (the_date f).year (pos 0)) m.sign_is_mandatory m.padding 2 (century_of (the_date f).year))
+ascii_supplied (component.CalendarYearLastTwo m) f =
+    IsAscii-padded_text m.padding 2 ((unsigned_abs (the_date f).year) % 100)
+ascii_supplied (component.IsoYearFullExtendedRange m) f =
+    signed (int_lt (the_date f).iso_year (pos 0)) (m.sign_is_mandatory || int_lt (pos 9_999) (the_date f).iso_year) m.padding 4 (unsigned_abs (the_date f).iso_year)
+ascii_supplied (component.IsoYearFullStandardRange m) f =
+    ascii_in_range 9_999 (unsigned_abs (the_date f).iso_year) _ (signed (int_lt (the_date f).iso_year (pos 0)) m.sign_is_mandatory m.padding 4 (unsigned_abs (the_date f).iso_year))
+ascii_supplied (component.IsoYearCenturyExtendedRange m) f =
+    signed (int_lt (the_date f).iso_year (pos 0)) (m.sign_is_mandatory || nat_lt 99 (century_of (the_date f).iso_year)) m.padding 2 (century_of (the_date f).iso_year)
+ascii_supplied (component.IsoYearCenturyStandardRange m) f =
+    ascii_in_range 99 (century_of (the_date f).iso_year) _ (signed (int_lt (the_date f).iso_year (pos 0)) m.sign_is_mandatory m.padding 2 (century_of (the_date f).iso_year))
+ascii_supplied (component.IsoYearLastTwo m) f =
+    IsAscii-padded_text m.padding 2 ((unsigned_abs (the_date f).iso_year) % 100)
+ascii_supplied (component.Hour12 m) f = IsAscii-padded_text m.padding 2 (hour_12 (the_time f).hour)
+ascii_supplied (component.Hour24 m) f = IsAscii-padded_text m.padding 2 (the_time f).hour
+ascii_supplied (component.Minute m) f = IsAscii-padded_text m.padding 2 (the_time f).minute
+ascii_supplied (component.Period m) f = IsAscii-period_text (period_of (the_time f)) m.is_uppercase
+ascii_supplied (component.Second m) f = IsAscii-padded_text m.padding 2 (the_time f).second
+ascii_supplied (component.Subsecond m) f = IsAscii-subsecond_text m.digits (the_time f).nanosecond
+ascii_supplied (component.OffsetHour m) f =
+    signed (is_negative (the_offset f)) m.sign_is_mandatory m.padding 2 (unsigned_abs (the_offset f).hours)
+ascii_supplied (component.OffsetMinute m) f = IsAscii-padded_text m.padding 2 (unsigned_abs (the_offset f).minutes)
+ascii_supplied (component.OffsetSecond m) f = IsAscii-padded_text m.padding 2 (unsigned_abs (the_offset f).seconds)
+ascii_supplied (component.UnixTimestampSecond m) f = IsAscii-timestamp_text m.sign_is_mandatory (the_moment f).seconds
+ascii_supplied (component.UnixTimestampMillisecond m) f =
+    IsAscii-timestamp_text m.sign_is_mandatory (milliseconds (the_moment f))
+ascii_supplied c f = IsAscii-nil
+
+-- and of any value
 pub ascii_current : (c : Component) (f : Facts) → IsAscii (current_outcome c f).bytes
-ascii_current (component.Day m) f = ascii_of_group f.date _ (λ d. IsAscii-padded_text m.padding 2 d.day)
-ascii_current (component.MonthShort m) f =
-    ascii_of_group f.date _ (λ d. IsAscii-take (month_name d.month) 3 (IsAscii-month_name d.month))
-ascii_current (component.MonthLong m) f = ascii_of_group f.date _ (λ d. IsAscii-month_name d.month)
-ascii_current (component.MonthNumerical m) f = ascii_of_group f.date _ (λ d. IsAscii-padded_text m.padding 2 d.month)
-ascii_current (component.Ordinal m) f = ascii_of_group f.date _ (λ d. IsAscii-padded_text m.padding 3 d.ordinal)
-ascii_current (component.WeekdayShort m) f =
-    ascii_of_group f.date _ (λ d. IsAscii-take (weekday_name d.weekday) 3 (IsAscii-weekday_name d.weekday))
-ascii_current (component.WeekdayLong m) f = ascii_of_group f.date _ (λ d. IsAscii-weekday_name d.weekday)
-ascii_current (component.WeekdaySunday m) f =
-    ascii_of_group f.date _ (λ d. IsAscii-number (indexed m.one_indexed (from_sunday d.weekday)))
-ascii_current (component.WeekdayMonday m) f =
-    ascii_of_group f.date _ (λ d. IsAscii-number (indexed m.one_indexed d.weekday))
-ascii_current (component.WeekNumberIso m) f = ascii_of_group f.date _ (λ d. IsAscii-padded_text m.padding 2 d.iso_week)
-ascii_current (component.WeekNumberSunday m) f =
-    ascii_of_group f.date _ (λ d. IsAscii-padded_text m.padding 2 d.sunday_based_week)
-ascii_current (component.WeekNumberMonday m) f =
-    ascii_of_group f.date _ (λ d. IsAscii-padded_text m.padding 2 d.monday_based_week)
-ascii_current (component.CalendarYearFullExtendedRange m) f =
-    ascii_of_group f.date _
-    (λ d. signed (int_lt d.year (pos 0)) (m.sign_is_mandatory || int_lt (pos 9_999) d.year) m.padding 4
-    (unsigned_abs d.year))
-ascii_current (component.CalendarYearFullStandardRange m) f =
-    ascii_of_group f.date _
-    (λ d. ascii_in_range 9_999 (unsigned_abs d.year) _
-    (signed (int_lt d.year (pos 0)) m.sign_is_mandatory m.padding 4 (unsigned_abs d.year)))
-ascii_current (component.CalendarYearCenturyExtendedRange m) f =
-    ascii_of_group f.date _
-    (λ d. signed (int_lt d.year (pos 0)) (m.sign_is_mandatory || nat_lt 99 (century_of d.year)) m.padding 2
-    (century_of d.year))
-ascii_current (component.CalendarYearCenturyStandardRange m) f =
-    ascii_of_group f.date _
-    (λ d. ascii_in_range 99 (century_of d.year) _
-    (signed (int_lt d.year (pos 0)) m.sign_is_mandatory m.padding 2 (century_of d.year)))
-ascii_current (component.CalendarYearLastTwo m) f =
-    ascii_of_group f.date _ (λ d. IsAscii-padded_text m.padding 2 ((unsigned_abs d.year) % 100))
-ascii_current (component.IsoYearFullExtendedRange m) f =
-    ascii_of_group f.date _
-    (λ d. signed (int_lt d.iso_year (pos 0)) (m.sign_is_mandatory || int_lt (pos 9_999) d.iso_year) m.padding 4
-    (unsigned_abs d.iso_year))
-ascii_current (component.IsoYearFullStandardRange m) f =
-    ascii_of_group f.date _
-    (λ d. ascii_in_range 9_999 (unsigned_abs d.iso_year) _
-    (signed (int_lt d.iso_year (pos 0)) m.sign_is_mandatory m.padding 4 (unsigned_abs d.iso_year)))
-ascii_current (component.IsoYearCenturyExtendedRange m) f =
-    ascii_of_group f.date _
-    (λ d. signed (int_lt d.iso_year (pos 0)) (m.sign_is_mandatory || nat_lt 99 (century_of d.iso_year)) m.padding 2
-    (century_of d.iso_year))
-ascii_current (component.IsoYearCenturyStandardRange m) f =
-    ascii_of_group f.date _
-    (λ d. ascii_in_range 99 (century_of d.iso_year) _
-    (signed (int_lt d.iso_year (pos 0)) m.sign_is_mandatory m.padding 2 (century_of d.iso_year)))
-ascii_current (component.IsoYearLastTwo m) f =
-    ascii_of_group f.date _ (λ d. IsAscii-padded_text m.padding 2 ((unsigned_abs d.iso_year) % 100))
-ascii_current (component.Hour12 m) f = ascii_of_group f.time _ (λ t. IsAscii-padded_text m.padding 2 (hour_12 t.hour))
-ascii_current (component.Hour24 m) f = ascii_of_group f.time _ (λ t. IsAscii-padded_text m.padding 2 t.hour)
-ascii_current (component.Minute m) f = ascii_of_group f.time _ (λ t. IsAscii-padded_text m.padding 2 t.minute)
-ascii_current (component.Period m) f = ascii_of_group f.time _ (λ t. IsAscii-period_text (period_of t) m.is_uppercase)
-ascii_current (component.Second m) f = ascii_of_group f.time _ (λ t. IsAscii-padded_text m.padding 2 t.second)
-ascii_current (component.Subsecond m) f = ascii_of_group f.time _ (λ t. IsAscii-subsecond_text m.digits t.nanosecond)
-ascii_current (component.OffsetHour m) f =
-    ascii_of_group f.offset _ (λ o. signed (is_negative o) m.sign_is_mandatory m.padding 2 (unsigned_abs o.hours))
-ascii_current (component.OffsetMinute m) f =
-    ascii_of_group f.offset _ (λ o. IsAscii-padded_text m.padding 2 (unsigned_abs o.minutes))
-ascii_current (component.OffsetSecond m) f =
-    ascii_of_group f.offset _ (λ o. IsAscii-padded_text m.padding 2 (unsigned_abs o.seconds))
-ascii_current (component.UnixTimestampSecond m) f =
-    ascii_of_group f.moment _ (λ s. IsAscii-timestamp_text m.sign_is_mandatory s.seconds)
-ascii_current (component.UnixTimestampMillisecond m) f =
-    ascii_of_group f.moment _ (λ s. IsAscii-timestamp_text m.sign_is_mandatory (milliseconds s))
-ascii_current c f = IsAscii-nil
+ascii_current c f =
+    elim (has_group (group_of c) f) as
+    (λ b. IsAscii (if b then supplied_outcome c f else refused insufficient).bytes)
+    [ true ↦ ascii_supplied c f | false ↦ IsAscii-nil ]
 
 -- ---- outcomes one after another
 

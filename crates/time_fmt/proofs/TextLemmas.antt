@@ -8,6 +8,7 @@ use Rattle.time_below.specs.declared.format_description.modifier.Padding.{Paddin
 use Rattle.time_below.specs.declared.format_description.modifier.Padding.TheVariants as padding
 use Rattle.time_digits.specs.Digits.{padded, zero_padded}
 use Rattle.time_digits.proofs.LengthLemmas.{length-padded}
+use Rattle.time_fmt.proofs.GroupLemmas.{whole_text}
 use Rattle.time_fmt.specs.Text.{padded_text, sign_text, offset_hour_text, timestamp_text}
 
 -- a text in so many places has no more bytes, where the number has no more digits
@@ -79,4 +80,10 @@ length-milliseconds_text s n h =
       length-decimal-le 17 (unsigned_abs n) (omega arith) (omega arith) (omega arith),
     )
 
-pub ruleset text_lengths = (two_places, length-offset_hour_text, length-seconds_text, length-milliseconds_text)
+pub ruleset text_lengths = (
+  two_places,
+  length-offset_hour_text,
+  length-seconds_text,
+  length-milliseconds_text,
+  whole_text,
+)

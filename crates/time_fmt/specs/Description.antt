@@ -1,5 +1,6 @@
 -- What a description gives for the components of a value.
 use Rattle.std.specs.Prelude.{ℕ, Bool, true, ◌/◌, ◌%◌, nat_le, codes, decimal, List, [], Option, Some, None, ℤ, pos}
+use Rattle.std.specs.Prelude.{is_some}
 use Rattle.std.specs.Prelude.{int_lt, unsigned_abs, if◌then◌else◌}
 use Rattle.time_below.specs.ComponentRange.{conditional_range}
 use Rattle.time_below.specs.Conversion.{current_component}
@@ -7,7 +8,8 @@ use Rattle.time_below.specs.declared.format_description.component.Component.{Com
 use Rattle.time_below.specs.declared.format_description.component.Component.TheVariants as component
 use Rattle.time_below.specs.declared.format_description.component.Group.{Group}
 use Rattle.time_below.specs.declared.format_description.component.Group.TheVariants as group
-use Rattle.time_below.specs.Facts.{Facts}
+use Rattle.time_below.specs.Facts.{Facts, the_date, the_time, the_offset, the_moment}
+use Rattle.time_below.specs.Group.{group_of}
 use Rattle.time_below.specs.Moment.{milliseconds}
 use Rattle.time_below.specs.Offset.{is_negative}
 use Rattle.time_below.specs.TimeOfDay.{period_of}
@@ -27,6 +29,10 @@ is_supplied date time offset moment group.Offset = offset
 is_supplied date time offset moment group.Timestamp = moment
 is_supplied date time offset moment group.None = true
 
+-- whether a value supplies a group
+abbrev pub has_group : Group → Facts → Bool
+has_group g f = is_supplied (is_some f.date) (is_some f.time) (is_some f.offset) (is_some f.moment) g
+
 -- what a group gives that the value supplies, or the refusal of one that it does not
 abbrev pub of_group : {G : Type 0} → Option G → (G → Outcome) → Outcome
 of_group None outcome = refused insufficient
@@ -41,68 +47,62 @@ in_standard_range greatest magnitude text =
 abbrev pub century_of : ℤ → ℕ
 century_of year = unsigned_abs year / 100
 
--- the outcome of a component that is not deprecated
+-- the outcome of a component that is not deprecated, of a value that supplies its group
+abbrev pub supplied_outcome : Component → Facts → Outcome
+supplied_outcome (component.Day m) f = done (padded_text m.padding 2 (the_date f).day)
+supplied_outcome (component.MonthShort m) f = done (short_name (month_name (the_date f).month))
+supplied_outcome (component.MonthLong m) f = done (month_name (the_date f).month)
+supplied_outcome (component.MonthNumerical m) f = done (padded_text m.padding 2 (the_date f).month)
+supplied_outcome (component.Ordinal m) f = done (padded_text m.padding 3 (the_date f).ordinal)
+supplied_outcome (component.WeekdayShort m) f = done (short_name (weekday_name (the_date f).weekday))
+supplied_outcome (component.WeekdayLong m) f = done (weekday_name (the_date f).weekday)
+supplied_outcome (component.WeekdaySunday m) f =
+    done (decimal (indexed m.one_indexed (from_sunday (the_date f).weekday)))
+supplied_outcome (component.WeekdayMonday m) f = done (decimal (indexed m.one_indexed (the_date f).weekday))
+supplied_outcome (component.WeekNumberIso m) f = done (padded_text m.padding 2 (the_date f).iso_week)
+supplied_outcome (component.WeekNumberSunday m) f = done (padded_text m.padding 2 (the_date f).sunday_based_week)
+supplied_outcome (component.WeekNumberMonday m) f = done (padded_text m.padding 2 (the_date f).monday_based_week)
+supplied_outcome (component.CalendarYearFullExtendedRange m) f =
+    done (extended_year_text m.padding m.sign_is_mandatory (the_date f).year)
+supplied_outcome (component.CalendarYearFullStandardRange m) f =
+    in_standard_range 9_999 (unsigned_abs (the_date f).year) (standard_year_text m.padding m.sign_is_mandatory (the_date f).year)
+supplied_outcome (component.CalendarYearCenturyExtendedRange m) f =
+    done (extended_century_text m.padding m.sign_is_mandatory (int_lt (the_date f).year (pos 0)) (century_of (the_date f).year))
+supplied_outcome (component.CalendarYearCenturyStandardRange m) f =
+    in_standard_range 99 (century_of (the_date f).year) (standard_century_text m.padding m.sign_is_mandatory (int_lt (the_date f).year (pos 0)) (century_of (the_date f).year))
+supplied_outcome (component.CalendarYearLastTwo m) f =
+    done (padded_text m.padding 2 (unsigned_abs (the_date f).year % 100))
+supplied_outcome (component.IsoYearFullExtendedRange m) f =
+    done (extended_year_text m.padding m.sign_is_mandatory (the_date f).iso_year)
+supplied_outcome (component.IsoYearFullStandardRange m) f =
+    in_standard_range 9_999 (unsigned_abs (the_date f).iso_year) (standard_year_text m.padding m.sign_is_mandatory (the_date f).iso_year)
+supplied_outcome (component.IsoYearCenturyExtendedRange m) f =
+    done (extended_century_text m.padding m.sign_is_mandatory (int_lt (the_date f).iso_year (pos 0)) (century_of (the_date f).iso_year))
+supplied_outcome (component.IsoYearCenturyStandardRange m) f =
+    in_standard_range 99 (century_of (the_date f).iso_year) (standard_century_text m.padding m.sign_is_mandatory (int_lt (the_date f).iso_year (pos 0)) (century_of (the_date f).iso_year))
+supplied_outcome (component.IsoYearLastTwo m) f =
+    done (padded_text m.padding 2 (unsigned_abs (the_date f).iso_year % 100))
+supplied_outcome (component.Hour12 m) f = done (padded_text m.padding 2 (hour_12 (the_time f).hour))
+supplied_outcome (component.Hour24 m) f = done (padded_text m.padding 2 (the_time f).hour)
+supplied_outcome (component.Minute m) f = done (padded_text m.padding 2 (the_time f).minute)
+supplied_outcome (component.Period m) f = done (period_text (period_of (the_time f)) m.is_uppercase)
+supplied_outcome (component.Second m) f = done (padded_text m.padding 2 (the_time f).second)
+supplied_outcome (component.Subsecond m) f = done (subsecond_text m.digits (the_time f).nanosecond)
+supplied_outcome (component.OffsetHour m) f =
+    done (offset_hour_text m.padding m.sign_is_mandatory (is_negative (the_offset f)) (the_offset f).hours)
+supplied_outcome (component.OffsetMinute m) f = done (padded_text m.padding 2 (unsigned_abs (the_offset f).minutes))
+supplied_outcome (component.OffsetSecond m) f = done (padded_text m.padding 2 (unsigned_abs (the_offset f).seconds))
+supplied_outcome (component.UnixTimestampSecond m) f =
+    done (timestamp_text m.sign_is_mandatory (the_moment f).seconds)
+supplied_outcome (component.UnixTimestampMillisecond m) f =
+    done (timestamp_text m.sign_is_mandatory (milliseconds (the_moment f)))
+supplied_outcome (component.Ignore m) f = done []
+supplied_outcome (component.End m) f = done []
+supplied_outcome c f = done []
+
+-- of a value that does not it is refused
 abbrev pub current_outcome : Component → Facts → Outcome
-current_outcome (component.Day m) f = of_group f.date (λ d. done (padded_text m.padding 2 d.day))
-current_outcome (component.MonthShort m) f = of_group f.date (λ d. done (short_name (month_name d.month)))
-current_outcome (component.MonthLong m) f = of_group f.date (λ d. done (month_name d.month))
-current_outcome (component.MonthNumerical m) f = of_group f.date (λ d. done (padded_text m.padding 2 d.month))
-current_outcome (component.Ordinal m) f = of_group f.date (λ d. done (padded_text m.padding 3 d.ordinal))
-current_outcome (component.WeekdayShort m) f = of_group f.date (λ d. done (short_name (weekday_name d.weekday)))
-current_outcome (component.WeekdayLong m) f = of_group f.date (λ d. done (weekday_name d.weekday))
-current_outcome (component.WeekdaySunday m) f =
-    of_group f.date (λ d. done (decimal (indexed m.one_indexed (from_sunday d.weekday))))
-current_outcome (component.WeekdayMonday m) f = of_group f.date (λ d. done (decimal (indexed m.one_indexed d.weekday)))
-current_outcome (component.WeekNumberIso m) f = of_group f.date (λ d. done (padded_text m.padding 2 d.iso_week))
-current_outcome (component.WeekNumberSunday m) f =
-    of_group f.date (λ d. done (padded_text m.padding 2 d.sunday_based_week))
-current_outcome (component.WeekNumberMonday m) f =
-    of_group f.date (λ d. done (padded_text m.padding 2 d.monday_based_week))
-current_outcome (component.CalendarYearFullExtendedRange m) f =
-    of_group f.date (λ d. done (extended_year_text m.padding m.sign_is_mandatory d.year))
-current_outcome (component.CalendarYearFullStandardRange m) f =
-    of_group f.date (λ d. in_standard_range 9_999 (unsigned_abs d.year)
-    (standard_year_text m.padding m.sign_is_mandatory d.year))
-current_outcome (component.CalendarYearCenturyExtendedRange m) f =
-    of_group f.date (λ d. done
-    (extended_century_text m.padding m.sign_is_mandatory (int_lt d.year (pos 0)) (century_of d.year)))
-current_outcome (component.CalendarYearCenturyStandardRange m) f =
-    of_group f.date (λ d. in_standard_range 99 (century_of d.year)
-    (standard_century_text m.padding m.sign_is_mandatory (int_lt d.year (pos 0)) (century_of d.year)))
-current_outcome (component.CalendarYearLastTwo m) f =
-    of_group f.date (λ d. done (padded_text m.padding 2 (unsigned_abs d.year % 100)))
-current_outcome (component.IsoYearFullExtendedRange m) f =
-    of_group f.date (λ d. done (extended_year_text m.padding m.sign_is_mandatory d.iso_year))
-current_outcome (component.IsoYearFullStandardRange m) f =
-    of_group f.date (λ d. in_standard_range 9_999 (unsigned_abs d.iso_year)
-    (standard_year_text m.padding m.sign_is_mandatory d.iso_year))
-current_outcome (component.IsoYearCenturyExtendedRange m) f =
-    of_group f.date (λ d. done
-    (extended_century_text m.padding m.sign_is_mandatory (int_lt d.iso_year (pos 0)) (century_of d.iso_year)))
-current_outcome (component.IsoYearCenturyStandardRange m) f =
-    of_group f.date (λ d. in_standard_range 99 (century_of d.iso_year)
-    (standard_century_text m.padding m.sign_is_mandatory (int_lt d.iso_year (pos 0)) (century_of d.iso_year)))
-current_outcome (component.IsoYearLastTwo m) f =
-    of_group f.date (λ d. done (padded_text m.padding 2 (unsigned_abs d.iso_year % 100)))
-current_outcome (component.Hour12 m) f = of_group f.time (λ t. done (padded_text m.padding 2 (hour_12 t.hour)))
-current_outcome (component.Hour24 m) f = of_group f.time (λ t. done (padded_text m.padding 2 t.hour))
-current_outcome (component.Minute m) f = of_group f.time (λ t. done (padded_text m.padding 2 t.minute))
-current_outcome (component.Period m) f = of_group f.time (λ t. done (period_text (period_of t) m.is_uppercase))
-current_outcome (component.Second m) f = of_group f.time (λ t. done (padded_text m.padding 2 t.second))
-current_outcome (component.Subsecond m) f = of_group f.time (λ t. done (subsecond_text m.digits t.nanosecond))
-current_outcome (component.OffsetHour m) f =
-    of_group f.offset (λ o. done (offset_hour_text m.padding m.sign_is_mandatory (is_negative o) o.hours))
-current_outcome (component.OffsetMinute m) f =
-    of_group f.offset (λ o. done (padded_text m.padding 2 (unsigned_abs o.minutes)))
-current_outcome (component.OffsetSecond m) f =
-    of_group f.offset (λ o. done (padded_text m.padding 2 (unsigned_abs o.seconds)))
-current_outcome (component.UnixTimestampSecond m) f =
-    of_group f.moment (λ s. done (timestamp_text m.sign_is_mandatory s.seconds))
-current_outcome (component.UnixTimestampMillisecond m) f =
-    of_group f.moment (λ s. done (timestamp_text m.sign_is_mandatory (milliseconds s)))
-current_outcome (component.Ignore m) f = done []
-current_outcome (component.End m) f = done []
-current_outcome c f = done []
+current_outcome c f = if has_group (group_of c) f then supplied_outcome c f else refused insufficient
 
 -- a deprecated component has the outcome of the current one
 abbrev pub component_outcome : Component → Facts → Outcome

@@ -1,13 +1,14 @@
 //! The seconds and milliseconds since 1970-01-01T00:00:00 UTC: their texts, widths and writers.
-ghost use Rattle.std.specs.Prelude.{length};
+ghost use Rattle.std.specs.Prelude.{length, refl};
 ghost use Rattle.time_below.specs.declared.format_description.component.Component.TheVariants as component;
+ghost use Rattle.time_below.specs.declared.format_description.component.Group.TheVariants as group;
 ghost use Rattle.time_fmt.specs.Room.{HasRoom, Writes};
 ghost use Rattle.time_fmt.specs.Text.{timestamp_text};
 
 use crate::error::Format;
 use crate::modifier::Modifier;
 use crate::writers::digits::{fmt_sign, format_u64_pad_none};
-use time_below::format_description::modifier;
+use time_below::format_description::{Group, modifier};
 use time_provide::ComponentProvider;
 
 /// Appends the seconds since 1970-01-01T00:00:00 UTC, a sign and all their digits.
@@ -28,6 +29,10 @@ pub fn fmt_unix_timestamp_second(
 impl Modifier for modifier::UnixTimestampSecond {
     ghost component_of = { component.UnixTimestampSecond };
 
+    ghost GROUP = { group.Timestamp };
+
+    const GROUP: Group = Group::Timestamp;
+
     #[inline(always)]
     fn width(self) -> usize {
         15
@@ -35,17 +40,16 @@ impl Modifier for modifier::UnixTimestampSecond {
 
     #[inline(always)]
     #[tactic(auto, using(crate::proofs::TextLemmas::text_lengths))]
-    fn write<V: ComponentProvider>(
+    fn write_supplied<V: ComponentProvider>(
         self,
         output: &mut Vec<u8>,
         value: &V,
         state: &mut V::State,
     ) -> Result<usize, Format> {
-        if !V::SUPPLIES_TIMESTAMP {
-            return Err(Format::InsufficientTypeInformation);
-        }
         Ok(fmt_unix_timestamp_second(output, value.unix_timestamp_seconds(state), self))
     }
+
+    ghost grouped = { λ _ _. refl };
 }
 
 /// Appends the milliseconds since 1970-01-01T00:00:00 UTC, a sign and all their digits.
@@ -66,6 +70,10 @@ pub fn fmt_unix_timestamp_millisecond(
 impl Modifier for modifier::UnixTimestampMillisecond {
     ghost component_of = { component.UnixTimestampMillisecond };
 
+    ghost GROUP = { group.Timestamp };
+
+    const GROUP: Group = Group::Timestamp;
+
     #[inline(always)]
     fn width(self) -> usize {
         18
@@ -73,17 +81,16 @@ impl Modifier for modifier::UnixTimestampMillisecond {
 
     #[inline(always)]
     #[tactic(auto, using(crate::proofs::TextLemmas::text_lengths))]
-    fn write<V: ComponentProvider>(
+    fn write_supplied<V: ComponentProvider>(
         self,
         output: &mut Vec<u8>,
         value: &V,
         state: &mut V::State,
     ) -> Result<usize, Format> {
-        if !V::SUPPLIES_TIMESTAMP {
-            return Err(Format::InsufficientTypeInformation);
-        }
         Ok(fmt_unix_timestamp_millisecond(output, value.unix_timestamp_milliseconds(state), self))
     }
+
+    ghost grouped = { λ _ _. refl };
 }
 
 // The sign, and all digits.

@@ -1,11 +1,12 @@
 //! Whole years: their texts, widths and writers.
 //!
 //! The calendar year and the year of the week calendar have the same texts.
-ghost use Rattle.std.specs.Prelude.{◌≡◌, ◌↔◌, ◌≤◌, IsOk, IfOk, IfErr, codes, length, unsigned_abs};
-ghost use Rattle.time_below.specs.ComponentRange.{conditional_range};
+ghost use Rattle.std.specs.Prelude.{length, refl, unsigned_abs};
 ghost use Rattle.time_below.specs.declared.format_description.component.Component.TheVariants as component;
+ghost use Rattle.time_below.specs.declared.format_description.component.Group.TheVariants as group;
+ghost use Rattle.time_fmt.specs.Description.{in_standard_range};
 ghost use Rattle.time_fmt.specs.DateText.{extended_year_text, standard_year_text};
-ghost use Rattle.time_fmt.specs.Outcome.{Names, out_of_range};
+ghost use Rattle.time_fmt.specs.Outcome.{AppendsWhole};
 ghost use Rattle.time_fmt.specs.Room.{HasRoom, Writes};
 ghost use Rattle.time_fmt.specs.Text.{padded_text};
 
@@ -14,8 +15,8 @@ use crate::modifier::Modifier;
 use crate::writers::digits::{fmt_sign, format_four_digits};
 use crate::writers::plain::{put_back, take_out, write_many};
 use time_below::ComponentRange;
-use time_below::format_description::modifier;
 use time_below::format_description::modifier::Padding;
+use time_below::format_description::{Group, modifier};
 use time_digits::num_fmt::four_to_six_digits;
 use time_digits::{ri16, ru16, ru32};
 use time_provide::ComponentProvider;
@@ -40,23 +41,27 @@ pub fn fmt_calendar_year_full_extended_range(
 impl Modifier for modifier::CalendarYearFullExtendedRange {
     ghost component_of = { component.CalendarYearFullExtendedRange };
 
+    ghost GROUP = { group.Date };
+
+    const GROUP: Group = Group::Date;
+
     #[inline(always)]
     fn width(self) -> usize {
         7
     }
 
     #[inline(always)]
-    fn write<V: ComponentProvider>(
+    #[tactic(auto, using(crate::proofs::DateTextLemmas::year_lengths))]
+    fn write_supplied<V: ComponentProvider>(
         self,
         output: &mut Vec<u8>,
         value: &V,
         state: &mut V::State,
     ) -> Result<usize, Format> {
-        if !V::SUPPLIES_DATE {
-            return Err(Format::InsufficientTypeInformation);
-        }
         Ok(fmt_calendar_year_full_extended_range(output, value.calendar_year(state), self))
     }
+
+    ghost grouped = { λ _ _. refl };
 }
 
 /// Appends the sign and four places of the year, -9,999 to 9,999.
@@ -77,6 +82,10 @@ pub fn fmt_calendar_year_full_standard_range(
 impl Modifier for modifier::CalendarYearFullStandardRange {
     ghost component_of = { component.CalendarYearFullStandardRange };
 
+    ghost GROUP = { group.Date };
+
+    const GROUP: Group = Group::Date;
+
     #[inline(always)]
     fn width(self) -> usize {
         5
@@ -84,20 +93,17 @@ impl Modifier for modifier::CalendarYearFullStandardRange {
 
     #[inline(always)]
     #[tactic(auto, using(crate::proofs::DateTextLemmas::year_lengths))]
-    fn write<V: ComponentProvider>(
+    fn write_supplied<V: ComponentProvider>(
         self,
         output: &mut Vec<u8>,
         value: &V,
         state: &mut V::State,
     ) -> Result<usize, Format> {
-        if !V::SUPPLIES_DATE {
-            return Err(Format::InsufficientTypeInformation);
-        }
-        match standard_year(value.calendar_year(state)) {
-            Ok(year) => Ok(fmt_calendar_year_full_standard_range(output, year, self)),
-            Err(refusal) => Err(refusal),
-        }
+        let year = value.calendar_year(state);
+        write_accepted_year(output, year, self.padding, self.sign_is_mandatory)
     }
+
+    ghost grouped = { λ _ _. refl };
 }
 
 /// Appends the sign and four places of the week calendar's year, -999,999 to 999,999
@@ -119,23 +125,27 @@ pub fn fmt_iso_year_full_extended_range(
 impl Modifier for modifier::IsoYearFullExtendedRange {
     ghost component_of = { component.IsoYearFullExtendedRange };
 
+    ghost GROUP = { group.Date };
+
+    const GROUP: Group = Group::Date;
+
     #[inline(always)]
     fn width(self) -> usize {
         7
     }
 
     #[inline(always)]
-    fn write<V: ComponentProvider>(
+    #[tactic(auto, using(crate::proofs::DateTextLemmas::year_lengths))]
+    fn write_supplied<V: ComponentProvider>(
         self,
         output: &mut Vec<u8>,
         value: &V,
         state: &mut V::State,
     ) -> Result<usize, Format> {
-        if !V::SUPPLIES_DATE {
-            return Err(Format::InsufficientTypeInformation);
-        }
         Ok(fmt_iso_year_full_extended_range(output, value.iso_year(state), self))
     }
+
+    ghost grouped = { λ _ _. refl };
 }
 
 /// Appends the sign and four places of the week calendar's year, -9,999 to 9,999 (ISO 8601-1:2019).
@@ -156,6 +166,10 @@ pub fn fmt_iso_year_full_standard_range(
 impl Modifier for modifier::IsoYearFullStandardRange {
     ghost component_of = { component.IsoYearFullStandardRange };
 
+    ghost GROUP = { group.Date };
+
+    const GROUP: Group = Group::Date;
+
     #[inline(always)]
     fn width(self) -> usize {
         5
@@ -163,20 +177,17 @@ impl Modifier for modifier::IsoYearFullStandardRange {
 
     #[inline(always)]
     #[tactic(auto, using(crate::proofs::DateTextLemmas::year_lengths))]
-    fn write<V: ComponentProvider>(
+    fn write_supplied<V: ComponentProvider>(
         self,
         output: &mut Vec<u8>,
         value: &V,
         state: &mut V::State,
     ) -> Result<usize, Format> {
-        if !V::SUPPLIES_DATE {
-            return Err(Format::InsufficientTypeInformation);
-        }
-        match standard_year(value.iso_year(state)) {
-            Ok(year) => Ok(fmt_iso_year_full_standard_range(output, year, self)),
-            Err(refusal) => Err(refusal),
-        }
+        let year = value.iso_year(state);
+        write_accepted_year(output, year, self.padding, self.sign_is_mandatory)
     }
+
+    ghost grouped = { λ _ _. refl };
 }
 
 // Most years have four digits and no sign.
@@ -266,16 +277,23 @@ fn write_year_digits(output: &mut Vec<u8>, year: ru32<0, 999_999>, padding: Padd
     }
 }
 
-// The year, if it has at most four digits.
-fn standard_year(year: Year) -> Result<StandardYear, Format>
-    ensures accepted { IsOk result ↔ (unsigned_abs year ≤ 9_999) }
-    ensures value { IfOk result (λ y. y ≡ year) }
-    ensures refusal { IfErr result
-        (λ e. Names e (out_of_range (conditional_range (codes "year")))) }
+// Appends a year of either calendar, if it has at most four digits.
+#[tactic(auto, using(crate::proofs::DateTextLemmas::year_lengths))]
+fn write_accepted_year(
+    output: &mut Vec<u8>,
+    year: Year,
+    padding: Padding,
+    sign_is_mandatory: bool,
+) -> Result<usize, Format>
+    requires room { HasRoom output.old 5 }
+    ensures appends { AppendsWhole 5 output.old output.new result
+        (in_standard_range 9_999 (unsigned_abs year)
+        (standard_year_text padding sign_is_mandatory year)) }
 {
     let number = year.get();
     if number.unsigned_abs() > 9_999 {
         return Err(Format::ComponentRange(ComponentRange::conditional("year")));
     }
-    Ok(ri16::new(number as i16).unwrap())
+    let year = ri16::new(number as i16).unwrap();
+    Ok(write_standard_year(output, year, padding, sign_is_mandatory))
 }
