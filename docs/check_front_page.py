@@ -60,7 +60,10 @@ COMMANDS = {
     f"printf '{LINE}\\n' | (cd crates/time_show && rt try)": lambda: answer_of(LINE) and True,
     "./gate --tests": has("gate", "--tests"),
     "(cd crates/time_example && rt try <stdin)": example_output,
-    "(cd crates/movaliren_c && rt lib) && make -C bindings/c example": has("bindings/c/Makefile", "example: "),
+    "(cd crates/movaliren_c && rt lib) && make -C bindings/c install PREFIX=$HOME/.local":
+        has("bindings/c/Makefile", "install: "),
+    "cc log.c -pthread $(pkg-config --cflags --libs movaliren)":
+        has("bindings/c/log.c", "cc log.c -pthread $(pkg-config --cflags --libs movaliren)"),
     "(cd crates/movaliren_c && rt lib) && (cd bindings/rust && cargo run --offline --example show)":
         has("bindings/check", "--example show"),
 }
@@ -76,14 +79,12 @@ def pieces(page):
 def commands(page):
     """The commands that are not known, were left out, or have another answer than the one shown."""
     shown, wrong = blocks(page), []
-    seen = [text.strip() for language, text in shown if language == "sh"]
+    seen = [line for language, text in shown if language == "sh" for line in text.splitlines()]
     for at, (language, text) in enumerate(shown):
-        command = text.strip()
-        if language != "sh":
-            continue
-        answer = COMMANDS.get(command, lambda: None)()
-        if answer is None or (answer is not True and shown[at + 1:at + 2] != [("text", answer)]):
-            wrong.append(command)
+        for command in text.splitlines() if language == "sh" else []:
+            answer = COMMANDS.get(command, lambda: None)()
+            if answer is None or (answer is not True and shown[at + 1:at + 2] != [("text", answer)]):
+                wrong.append(command)
     return wrong + [command for command in COMMANDS if command not in seen]
 
 
