@@ -19,7 +19,7 @@ fn reply(text: &[u8], len: usize) -> Reply<'_> {
     }
 }
 
-/// So many bytes wait, and go out: all at once, and before a longer answer that has no room beside them.
+/// Waiting bytes go out: all at once, and before a longer answer that does not fit beside them.
 fn assert_goes_out(rt: &impl Abort, alloc: Global, text: &[u8], len: usize) -> Result<(), Fail> {
     let mut output = Vec::with_capacity(alloc, 2 * OUTPUT_LIMIT)?;
     let mut answers = OutputBuffer::new();
