@@ -135,7 +135,7 @@ fn answer_last<W: Write>(
 ///
 /// After `Ok` the input was read to its end, and all its lines were answered. After a failed read the
 /// whole lines so far were answered, and after a failed write some first lines, with a beginning of
-/// the answer to the next.
+/// the answer to the next. That one has its line feed, unless the input has ended.
 ///
 /// No clause says that reads go on as long as they succeed, nor how much memory is asked for; tests
 /// do. The body asks for the text of one answer at a time, and answers a refusal of that memory by
