@@ -16,6 +16,7 @@ ROW = re.compile(r"^\| `(\w+)` \|(?: (`[A-Z_0-9]+`|-) \|)? (`[a-z_]+.*?) \| .* \
 CONSTANT = re.compile(r"^\| `([A-Z_0-9]+)` \| `(\w+)` \| (.*) \|$", re.M)
 DEFINED = re.compile(r"^pub const (\w+): modifier::(\w+) =\s*modifier::\w+ \{(.*?)\};", re.S | re.M)
 TESTED = re.compile(r"Component::(\w+)\(\s*modifier::\w+ \{(.*?)\}\s*\),\s*\"(.*?)\",\s*(\d+),?\s*\)", re.S)
+TABLE = re.compile(r"^const COMPONENTS: .*?^};$", re.S | re.M)
 LINE_TESTED = re.compile(r"^    (\w+) \{([^{}]*)\}\s+\"(.*?)\" (\d+),$", re.M)
 
 page = (TOP / "docs/COMPONENTS.md").read_text()
@@ -36,7 +37,7 @@ def documented():
 def tested():
     text = (TOP / "crates/time_fmt_tests/src/fmt/components_table.rt").read_text()
     return [(name, choices(fields), example, width)
-            for name, fields, example, width in TESTED.findall(text) + LINE_TESTED.findall(text)]
+            for name, fields, example, width in TESTED.findall(text) + LINE_TESTED.findall("".join(TABLE.findall(text)))]
 
 
 def shown():
