@@ -36,8 +36,8 @@ def documented():
 
 def tested():
     text = (TOP / "crates/time_fmt_tests/src/fmt/components_table.rt").read_text()
-    return [(name, choices(fields), example, width)
-            for name, fields, example, width in TESTED.findall(text) + LINE_TESTED.findall("".join(TABLE.findall(text)))]
+    rows = TESTED.findall(text) + LINE_TESTED.findall("".join(TABLE.findall(text)))
+    return [(name, choices(fields), example, width) for name, fields, example, width in rows]
 
 
 def shown():
