@@ -58,7 +58,7 @@ LINE = "time 9 55 6 120000000"
 COMMANDS = {
     f"printf '{LINE}\\n' | (cd crates/time_show && rt run)": lambda: answer_of(LINE),
     f"printf '{LINE}\\n' | (cd crates/time_show && rt try)": lambda: answer_of(LINE) and True,
-    "./gate": has("gate", "rt ci"),
+    "./gate --tests": has("gate", "--tests"),
     "(cd crates/time_example && rt try <stdin)": example_output,
     "(cd crates/movaliren_c && rt lib) && make -C bindings/c install PREFIX=$HOME/.local":
         has("bindings/c/Makefile", "install: "),
