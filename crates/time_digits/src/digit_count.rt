@@ -48,7 +48,7 @@ mod tests {
     use crate::same::assert_same;
     use std::process::Abort;
 
-    // Through the trait's bound, as generic callers count.
+    // Counts through the trait's bound, as generic callers do.
     fn assert_digits<N: DigitCount>(rt: &impl Abort, n: N, want: u8) {
         assert_same(rt, n.num_digits(), want);
     }

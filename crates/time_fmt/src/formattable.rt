@@ -73,12 +73,17 @@ pub trait Formattable: ComputeMetadata {
             → IsTextIf (Self.is_guaranteed self.now) (outcome_of self.now (V.facts value.now)) }
         ensures agrees { V.agrees state.new value.now }
 
-        // Where there is room the capacity stays, and else it grows to what is needed or is doubled.
+        // Where there is room the capacity stays, and else it becomes what is needed or twice what it
+        // was, whichever is more.
         ensures in_place { HasRoom output.old (Self.width_of self.now)
             → vec_capacity output.new ≡ vec_capacity output.old }
         ensures grown { vec_capacity output.old ≤ vec_capacity output.new }
         ensures bounded { vec_capacity output.new ≤ max (2 * vec_capacity output.old)
             (vec_len output.old + Self.width_of self.now) }
+        ensures doubled { result ≢ Err Format.OutOfMemory
+            → vec_capacity output.old < vec_len output.old + Self.width_of self.now
+            → max (2 * vec_capacity output.old) (vec_len output.old + Self.width_of self.now)
+            ≤ vec_capacity output.new }
 
         // The want of memory changes nothing, and where there is room it is never answered.
         ensures unchanged { result ≡ Err Format.OutOfMemory → output.new.items ≡ output.old.items }
@@ -151,6 +156,9 @@ fn make_room(output: &mut Vec<u8>, width: usize) -> Result<(), AllocError>
     ensures bounded { vec_capacity output.new ≤ max (2 * vec_capacity output.old)
         (vec_len output.old + width) }
     ensures refused { OnErr result (vec_capacity output.new ≡ vec_capacity output.old) }
+    ensures doubled { OnOk result (vec_capacity output.old < vec_len output.old + width
+        → max (2 * vec_capacity output.old) (vec_len output.old + width)
+        ≤ vec_capacity output.new) }
 {
     let (len, capacity) = (output.len(), output.capacity());
     if width <= capacity - len {
