@@ -1,11 +1,10 @@
 #!/usr/bin/env python3
 """Tries the wrong bodies of must-fail/ many at once. The prover must refuse each in the function that it names.
 
-An edit has a line `refused: FUNCTION`, the function's path in its crate, or several; `rt` ignores them. The prover holds
-a body to the contracts of what it calls, so a wrong body is refused in its own function. Edits within the bodies of
-different functions are made in one copy of the crate, and the check's line of each function tells a reason of its own
-from a call of a refused function. An edit outside the body that it names, as of a constant or a clause, is tried alone.
-So is each edit of a joined check that does not tell, before it fails.
+An edit has a line `refused: FUNCTION`, its path in the crate, or several; `rt` ignores them. The prover holds a body to
+the contracts of what it calls, so edits within the bodies of different functions are made in one copy of the crate, and
+the check's line of each function tells a reason of its own from a call of a refused function. An edit elsewhere, as of a
+constant or a clause, is tried alone. So is each edit of a joined check that does not tell, before it fails.
 
 A check of the unedited crate adds what a copy of crates/NAME/out/incremental lacks, and each other check starts from a
 copy of that. The last line is `N passed, M failed`.
@@ -137,11 +136,12 @@ def main():
     rt.rtlib.guarded()
     crates, passed, failed = rt.rtlib.crates_below(os.getcwd()), 0, 0
     with concurrent.futures.ThreadPoolExecutor(len(crates)) as pool:
-        wanted = [it for it in crates if it.name in given.crates or not given.crates]
-        for told in concurrent.futures.as_completed([pool.submit(tried_all, it, given) for it in wanted]):
+        wanted = [it for it in crates if it.name in (given.crates or [it.name])]
+        for done, told in enumerate(concurrent.futures.as_completed([pool.submit(tried_all, it, given) for it in wanted]), 1):
             for is_well, text in told.result():
                 print(text, flush=True)
                 passed, failed = passed + is_well, failed + (not is_well)
+            print(f"wrong bodies: {len(wanted) - done} crates to come", flush=True)
     print(f"{passed} passed, {failed} failed")
     return 1 if failed else 0
 
