@@ -78,7 +78,8 @@ pub trait Modifier: Copy {
         else refused insufficient) };
 }
 
-// Whether the values of a type supply a group.
+// Whether the values of a type supply a group. No more than `inline`: with `inline(always)` a text of
+// 16 parts that is used in four places was no longer part of its callers.
 #[inline]
 pub(crate) fn supplies<V: ComponentProvider>(group: Group) -> bool
     ensures { result ≡ is_supplied V.SUPPLIES_DATE V.SUPPLIES_TIME

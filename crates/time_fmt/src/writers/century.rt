@@ -4,8 +4,7 @@
 ghost use Rattle.std.specs.Prelude.{◌≡◌, ◌%◌, int_lt, length, pos, refl, unsigned_abs};
 ghost use Rattle.time_below.specs.declared.format_description.component.Component.TheVariants as component;
 ghost use Rattle.time_below.specs.declared.format_description.component.Group.TheVariants as group;
-ghost use Rattle.time_fmt.specs.DateText.{extended_century_text, standard_century_text};
-ghost use Rattle.time_fmt.specs.Description.{century_of, in_standard_range};
+ghost use Rattle.time_fmt.specs.Kind.{kind_text, kind_outcome, extended_century, standard_century, century_of};
 ghost use Rattle.time_fmt.specs.Outcome.{AppendsWhole};
 ghost use Rattle.time_fmt.specs.Room.{HasRoom, Writes};
 ghost use Rattle.time_fmt.specs.Text.{padded_text};
@@ -31,11 +30,11 @@ pub fn fmt_calendar_year_century_extended_range(
     modifier: modifier::CalendarYearCenturyExtendedRange,
 ) -> usize
     requires room { HasRoom output.old
-        (length (extended_century_text modifier.padding modifier.sign_is_mandatory
-        is_negative (unsigned_abs century))) }
+        (length (kind_text (extended_century modifier.padding modifier.sign_is_mandatory
+        is_negative (unsigned_abs century)))) }
     ensures writes { Writes output.old output.new result
-        (extended_century_text modifier.padding modifier.sign_is_mandatory
-        is_negative (unsigned_abs century)) }
+        (kind_text (extended_century modifier.padding modifier.sign_is_mandatory
+        is_negative (unsigned_abs century))) }
 {
     let century = century.abs();
     write_extended_century(
@@ -60,7 +59,7 @@ impl Modifier for modifier::CalendarYearCenturyExtendedRange {
     }
 
     #[inline(always)]
-    #[tactic(auto, using(crate::proofs::DateTextLemmas::century_lengths))]
+    #[tactic(auto, using(crate::proofs::TextLemmas::signed_lengths))]
     fn write_supplied<V: ComponentProvider>(
         self,
         output: &mut Vec<u8>,
@@ -83,11 +82,11 @@ pub fn fmt_calendar_year_century_standard_range(
     modifier: modifier::CalendarYearCenturyStandardRange,
 ) -> usize
     requires room { HasRoom output.old
-        (length (standard_century_text modifier.padding modifier.sign_is_mandatory
-        is_negative (unsigned_abs century))) }
+        (length (kind_text (standard_century modifier.padding modifier.sign_is_mandatory
+        is_negative (unsigned_abs century)))) }
     ensures writes { Writes output.old output.new result
-        (standard_century_text modifier.padding modifier.sign_is_mandatory
-        is_negative (unsigned_abs century)) }
+        (kind_text (standard_century modifier.padding modifier.sign_is_mandatory
+        is_negative (unsigned_abs century))) }
 {
     let century = century.abs();
     write_standard_century(
@@ -112,7 +111,7 @@ impl Modifier for modifier::CalendarYearCenturyStandardRange {
     }
 
     #[inline(always)]
-    #[tactic(auto, using(crate::proofs::DateTextLemmas::century_lengths))]
+    #[tactic(auto, using(crate::proofs::TextLemmas::signed_lengths))]
     fn write_supplied<V: ComponentProvider>(
         self,
         output: &mut Vec<u8>,
@@ -136,11 +135,11 @@ pub fn fmt_iso_year_century_extended_range(
     modifier: modifier::IsoYearCenturyExtendedRange,
 ) -> usize
     requires room { HasRoom output.old
-        (length (extended_century_text modifier.padding modifier.sign_is_mandatory
-        is_negative (unsigned_abs century))) }
+        (length (kind_text (extended_century modifier.padding modifier.sign_is_mandatory
+        is_negative (unsigned_abs century)))) }
     ensures writes { Writes output.old output.new result
-        (extended_century_text modifier.padding modifier.sign_is_mandatory
-        is_negative (unsigned_abs century)) }
+        (kind_text (extended_century modifier.padding modifier.sign_is_mandatory
+        is_negative (unsigned_abs century))) }
 {
     let century = century.abs();
     write_extended_century(
@@ -165,7 +164,7 @@ impl Modifier for modifier::IsoYearCenturyExtendedRange {
     }
 
     #[inline(always)]
-    #[tactic(auto, using(crate::proofs::DateTextLemmas::century_lengths))]
+    #[tactic(auto, using(crate::proofs::TextLemmas::signed_lengths))]
     fn write_supplied<V: ComponentProvider>(
         self,
         output: &mut Vec<u8>,
@@ -189,11 +188,11 @@ pub fn fmt_iso_year_century_standard_range(
     modifier: modifier::IsoYearCenturyStandardRange,
 ) -> usize
     requires room { HasRoom output.old
-        (length (standard_century_text modifier.padding modifier.sign_is_mandatory
-        is_negative (unsigned_abs century))) }
+        (length (kind_text (standard_century modifier.padding modifier.sign_is_mandatory
+        is_negative (unsigned_abs century)))) }
     ensures writes { Writes output.old output.new result
-        (standard_century_text modifier.padding modifier.sign_is_mandatory
-        is_negative (unsigned_abs century)) }
+        (kind_text (standard_century modifier.padding modifier.sign_is_mandatory
+        is_negative (unsigned_abs century))) }
 {
     let century = century.abs();
     write_standard_century(
@@ -218,7 +217,7 @@ impl Modifier for modifier::IsoYearCenturyStandardRange {
     }
 
     #[inline(always)]
-    #[tactic(auto, using(crate::proofs::DateTextLemmas::century_lengths))]
+    #[tactic(auto, using(crate::proofs::TextLemmas::signed_lengths))]
     fn write_supplied<V: ComponentProvider>(
         self,
         output: &mut Vec<u8>,
@@ -258,7 +257,7 @@ impl Modifier for modifier::CalendarYearLastTwo {
     }
 
     #[inline(always)]
-    #[tactic(auto, using(crate::proofs::DateTextLemmas::century_lengths))]
+    #[tactic(auto, using(crate::proofs::TextLemmas::text_lengths))]
     fn write_supplied<V: ComponentProvider>(
         self,
         output: &mut Vec<u8>,
@@ -297,7 +296,7 @@ impl Modifier for modifier::IsoYearLastTwo {
     }
 
     #[inline(always)]
-    #[tactic(auto, using(crate::proofs::DateTextLemmas::century_lengths))]
+    #[tactic(auto, using(crate::proofs::TextLemmas::text_lengths))]
     fn write_supplied<V: ComponentProvider>(
         self,
         output: &mut Vec<u8>,
@@ -318,9 +317,9 @@ fn write_extended_century(
     sign_is_mandatory: bool,
 ) -> usize
     requires room { HasRoom output.old
-        (length (extended_century_text padding sign_is_mandatory is_negative century)) }
+        (length (kind_text (extended_century padding sign_is_mandatory is_negative century))) }
     ensures writes { Writes output.old output.new result
-        (extended_century_text padding sign_is_mandatory is_negative century) }
+        (kind_text (extended_century padding sign_is_mandatory is_negative century)) }
 {
     let sign = fmt_sign(output, is_negative, sign_is_mandatory || century.get() > 99);
     sign + write_century_digits(output, century, padding)
@@ -334,16 +333,16 @@ fn write_standard_century(
     sign_is_mandatory: bool,
 ) -> usize
     requires room { HasRoom output.old
-        (length (standard_century_text padding sign_is_mandatory is_negative century)) }
+        (length (kind_text (standard_century padding sign_is_mandatory is_negative century))) }
     ensures writes { Writes output.old output.new result
-        (standard_century_text padding sign_is_mandatory is_negative century) }
+        (kind_text (standard_century padding sign_is_mandatory is_negative century)) }
 {
     let sign = fmt_sign(output, is_negative, sign_is_mandatory);
     sign + format_two_digits(output, century, padding)
 }
 
 // Appends a century in two places, or all its digits.
-#[tactic(auto, using(crate::proofs::DateTextLemmas::whole_century))]
+#[tactic(auto, using(crate::proofs::TextLemmas::whole_century))]
 fn write_century_digits(output: &mut Vec<u8>, century: ru16<0, 9_999>, padding: Padding) -> usize
     requires room { HasRoom output.old (length (padded_text padding 2 century)) }
     ensures writes { Writes output.old output.new result (padded_text padding 2 century) }
@@ -363,11 +362,12 @@ fn write_any_century(
     padding: Padding,
     sign_is_mandatory: bool,
 ) -> usize
-    requires room { HasRoom output.old (length (extended_century_text padding sign_is_mandatory
-        (int_lt year (pos 0)) (century_of year))) }
+    requires room { HasRoom output.old
+        (length (kind_text (extended_century padding sign_is_mandatory
+        (int_lt year (pos 0)) (century_of year)))) }
     ensures writes { Writes output.old output.new result
-        (extended_century_text padding sign_is_mandatory
-        (int_lt year (pos 0)) (century_of year)) }
+        (kind_text (extended_century padding sign_is_mandatory
+        (int_lt year (pos 0)) (century_of year))) }
 {
     let number = year.get();
     let century = ru16::new((number.unsigned_abs() / 100) as u16).unwrap();
@@ -375,7 +375,7 @@ fn write_any_century(
 }
 
 // The same, if it has at most two digits.
-#[tactic(auto, using(crate::proofs::DateTextLemmas::century_lengths))]
+#[tactic(auto, using(crate::proofs::TextLemmas::signed_lengths))]
 fn write_accepted_century(
     output: &mut Vec<u8>,
     year: Year,
@@ -384,8 +384,7 @@ fn write_accepted_century(
 ) -> Result<usize, Format>
     requires room { HasRoom output.old 3 }
     ensures appends { AppendsWhole 3 output.old output.new result
-        (in_standard_range 99 (century_of year)
-        (standard_century_text padding sign_is_mandatory
+        (kind_outcome (standard_century padding sign_is_mandatory
         (int_lt year (pos 0)) (century_of year))) }
 {
     let number = year.get();

@@ -39,7 +39,7 @@ impl Modifier for modifier::Day {
     }
 
     #[inline(always)]
-    #[tactic(auto, using(crate::proofs::DateTextLemmas::day_lengths))]
+    #[tactic(auto, using(crate::proofs::TextLemmas::text_lengths))]
     fn write_supplied<V: ComponentProvider>(
         self,
         output: &mut Vec<u8>,
@@ -76,7 +76,7 @@ impl Modifier for modifier::MonthShort {
     }
 
     #[inline(always)]
-    #[tactic(auto, using(crate::proofs::DateTextLemmas::name_lengths))]
+    #[tactic(auto, using(crate::proofs::TextLemmas::text_lengths))]
     fn write_supplied<V: ComponentProvider>(
         self,
         output: &mut Vec<u8>,
@@ -112,7 +112,7 @@ impl Modifier for modifier::MonthLong {
     }
 
     #[inline(always)]
-    #[tactic(auto, using(crate::proofs::DateTextLemmas::name_lengths))]
+    #[tactic(auto, using(crate::proofs::TextLemmas::text_lengths))]
     fn write_supplied<V: ComponentProvider>(
         self,
         output: &mut Vec<u8>,
@@ -153,7 +153,7 @@ impl Modifier for modifier::MonthNumerical {
     }
 
     #[inline(always)]
-    #[tactic(auto, using(crate::proofs::DateTextLemmas::day_lengths))]
+    #[tactic(auto, using(crate::proofs::TextLemmas::text_lengths))]
     fn write_supplied<V: ComponentProvider>(
         self,
         output: &mut Vec<u8>,
@@ -190,7 +190,7 @@ impl Modifier for modifier::Ordinal {
     }
 
     #[inline(always)]
-    #[tactic(auto, using(crate::proofs::DateTextLemmas::day_lengths))]
+    #[tactic(auto, using(crate::proofs::TextLemmas::text_lengths))]
     fn write_supplied<V: ComponentProvider>(
         self,
         output: &mut Vec<u8>,

@@ -2,8 +2,9 @@
 ghost use Rattle.std.specs.Prelude.{length, unsigned_abs, refl};
 ghost use Rattle.time_below.specs.declared.format_description.component.Component.TheVariants as component;
 ghost use Rattle.time_below.specs.declared.format_description.component.Group.TheVariants as group;
+ghost use Rattle.time_fmt.specs.Kind.{kind_text, offset_hour};
 ghost use Rattle.time_fmt.specs.Room.{HasRoom, Writes};
-ghost use Rattle.time_fmt.specs.Text.{padded_text, offset_hour_text};
+ghost use Rattle.time_fmt.specs.Text.{padded_text};
 
 use crate::error::Format;
 use crate::modifier::Modifier;
@@ -22,9 +23,10 @@ pub fn fmt_offset_hour(
     modifier: modifier::OffsetHour,
 ) -> usize
     requires room { HasRoom output.old
-        (length (offset_hour_text modifier.padding modifier.sign_is_mandatory is_negative hour)) }
+        (length (kind_text
+        (offset_hour modifier.padding modifier.sign_is_mandatory is_negative hour))) }
     ensures writes { Writes output.old output.new result
-        (offset_hour_text modifier.padding modifier.sign_is_mandatory is_negative hour) }
+        (kind_text (offset_hour modifier.padding modifier.sign_is_mandatory is_negative hour)) }
 {
     let sign = fmt_sign(output, is_negative, modifier.sign_is_mandatory);
     sign + format_two_digits(output, hour.abs().expand(), modifier.padding)
@@ -43,7 +45,7 @@ impl Modifier for modifier::OffsetHour {
     }
 
     #[inline(always)]
-    #[tactic(auto, using(crate::proofs::TextLemmas::text_lengths))]
+    #[tactic(auto, using(crate::proofs::TextLemmas::signed_lengths))]
     fn write_supplied<V: ComponentProvider>(
         self,
         output: &mut Vec<u8>,

@@ -2,8 +2,8 @@
 ghost use Rattle.std.specs.Prelude.{length, refl};
 ghost use Rattle.time_below.specs.declared.format_description.component.Component.TheVariants as component;
 ghost use Rattle.time_below.specs.declared.format_description.component.Group.TheVariants as group;
+ghost use Rattle.time_fmt.specs.Kind.{kind_text, timestamp};
 ghost use Rattle.time_fmt.specs.Room.{HasRoom, Writes};
-ghost use Rattle.time_fmt.specs.Text.{timestamp_text};
 
 use crate::error::Format;
 use crate::modifier::Modifier;
@@ -19,9 +19,9 @@ pub fn fmt_unix_timestamp_second(
     modifier: modifier::UnixTimestampSecond,
 ) -> usize
     requires room { HasRoom output.old
-        (length (timestamp_text modifier.sign_is_mandatory seconds)) }
+        (length (kind_text (timestamp modifier.sign_is_mandatory seconds))) }
     ensures writes { Writes output.old output.new result
-        (timestamp_text modifier.sign_is_mandatory seconds) }
+        (kind_text (timestamp modifier.sign_is_mandatory seconds)) }
 {
     format_signed(output, seconds, modifier.sign_is_mandatory)
 }
@@ -39,7 +39,7 @@ impl Modifier for modifier::UnixTimestampSecond {
     }
 
     #[inline(always)]
-    #[tactic(auto, using(crate::proofs::TextLemmas::text_lengths))]
+    #[tactic(auto, using(crate::proofs::TextLemmas::signed_lengths))]
     fn write_supplied<V: ComponentProvider>(
         self,
         output: &mut Vec<u8>,
@@ -60,9 +60,9 @@ pub fn fmt_unix_timestamp_millisecond(
     modifier: modifier::UnixTimestampMillisecond,
 ) -> usize
     requires room { HasRoom output.old
-        (length (timestamp_text modifier.sign_is_mandatory milliseconds)) }
+        (length (kind_text (timestamp modifier.sign_is_mandatory milliseconds))) }
     ensures writes { Writes output.old output.new result
-        (timestamp_text modifier.sign_is_mandatory milliseconds) }
+        (kind_text (timestamp modifier.sign_is_mandatory milliseconds)) }
 {
     format_signed(output, milliseconds, modifier.sign_is_mandatory)
 }
@@ -80,7 +80,7 @@ impl Modifier for modifier::UnixTimestampMillisecond {
     }
 
     #[inline(always)]
-    #[tactic(auto, using(crate::proofs::TextLemmas::text_lengths))]
+    #[tactic(auto, using(crate::proofs::TextLemmas::signed_lengths))]
     fn write_supplied<V: ComponentProvider>(
         self,
         output: &mut Vec<u8>,
@@ -96,8 +96,9 @@ impl Modifier for modifier::UnixTimestampMillisecond {
 // The sign, and all digits.
 #[tactic(auto, using(crate::proofs::TextLemmas::signed_parts))]
 fn format_signed(output: &mut Vec<u8>, number: i64, sign_is_mandatory: bool) -> usize
-    requires room { HasRoom output.old (length (timestamp_text sign_is_mandatory number)) }
-    ensures writes { Writes output.old output.new result (timestamp_text sign_is_mandatory number) }
+    requires room { HasRoom output.old (length (kind_text (timestamp sign_is_mandatory number))) }
+    ensures writes { Writes output.old output.new result
+        (kind_text (timestamp sign_is_mandatory number)) }
 {
     let sign = fmt_sign(output, number < 0, sign_is_mandatory);
     sign + format_u64_pad_none(output, number.unsigned_abs())

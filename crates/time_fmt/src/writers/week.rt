@@ -47,7 +47,7 @@ impl Modifier for modifier::WeekdayShort {
     }
 
     #[inline(always)]
-    #[tactic(auto, using(crate::proofs::DateTextLemmas::name_lengths))]
+    #[tactic(auto, using(crate::proofs::TextLemmas::text_lengths))]
     fn write_supplied<V: ComponentProvider>(
         self,
         output: &mut Vec<u8>,
@@ -87,7 +87,7 @@ impl Modifier for modifier::WeekdayLong {
     }
 
     #[inline(always)]
-    #[tactic(auto, using(crate::proofs::DateTextLemmas::name_lengths))]
+    #[tactic(auto, using(crate::proofs::TextLemmas::text_lengths))]
     fn write_supplied<V: ComponentProvider>(
         self,
         output: &mut Vec<u8>,
@@ -132,7 +132,7 @@ impl Modifier for modifier::WeekdaySunday {
     }
 
     #[inline(always)]
-    #[tactic(auto, using(crate::proofs::DateTextLemmas::weekday_digit_lengths))]
+    #[tactic(auto, using(crate::proofs::TextLemmas::text_lengths))]
     fn write_supplied<V: ComponentProvider>(
         self,
         output: &mut Vec<u8>,
@@ -177,7 +177,7 @@ impl Modifier for modifier::WeekdayMonday {
     }
 
     #[inline(always)]
-    #[tactic(auto, using(crate::proofs::DateTextLemmas::weekday_digit_lengths))]
+    #[tactic(auto, using(crate::proofs::TextLemmas::text_lengths))]
     fn write_supplied<V: ComponentProvider>(
         self,
         output: &mut Vec<u8>,
@@ -216,7 +216,7 @@ impl Modifier for modifier::WeekNumberIso {
     }
 
     #[inline(always)]
-    #[tactic(auto, using(crate::proofs::DateTextLemmas::day_lengths))]
+    #[tactic(auto, using(crate::proofs::TextLemmas::text_lengths))]
     fn write_supplied<V: ComponentProvider>(
         self,
         output: &mut Vec<u8>,
@@ -255,7 +255,7 @@ impl Modifier for modifier::WeekNumberSunday {
     }
 
     #[inline(always)]
-    #[tactic(auto, using(crate::proofs::DateTextLemmas::day_lengths))]
+    #[tactic(auto, using(crate::proofs::TextLemmas::text_lengths))]
     fn write_supplied<V: ComponentProvider>(
         self,
         output: &mut Vec<u8>,
@@ -294,7 +294,7 @@ impl Modifier for modifier::WeekNumberMonday {
     }
 
     #[inline(always)]
-    #[tactic(auto, using(crate::proofs::DateTextLemmas::day_lengths))]
+    #[tactic(auto, using(crate::proofs::TextLemmas::text_lengths))]
     fn write_supplied<V: ComponentProvider>(
         self,
         output: &mut Vec<u8>,

@@ -1,11 +1,10 @@
 //! Whole years: their texts, widths and writers.
 //!
 //! The calendar year and the year of the week calendar have the same texts.
-ghost use Rattle.std.specs.Prelude.{length, refl, unsigned_abs};
+ghost use Rattle.std.specs.Prelude.{length, refl};
 ghost use Rattle.time_below.specs.declared.format_description.component.Component.TheVariants as component;
 ghost use Rattle.time_below.specs.declared.format_description.component.Group.TheVariants as group;
-ghost use Rattle.time_fmt.specs.Description.{in_standard_range};
-ghost use Rattle.time_fmt.specs.DateText.{extended_year_text, standard_year_text};
+ghost use Rattle.time_fmt.specs.Kind.{kind_text, kind_outcome, extended_year, standard_year};
 ghost use Rattle.time_fmt.specs.Outcome.{AppendsWhole};
 ghost use Rattle.time_fmt.specs.Room.{HasRoom, Writes};
 ghost use Rattle.time_fmt.specs.Text.{padded_text};
@@ -31,9 +30,9 @@ pub fn fmt_calendar_year_full_extended_range(
     modifier: modifier::CalendarYearFullExtendedRange,
 ) -> usize
     requires room { HasRoom output.old
-        (length (extended_year_text modifier.padding modifier.sign_is_mandatory year)) }
+        (length (kind_text (extended_year modifier.padding modifier.sign_is_mandatory year))) }
     ensures writes { Writes output.old output.new result
-        (extended_year_text modifier.padding modifier.sign_is_mandatory year) }
+        (kind_text (extended_year modifier.padding modifier.sign_is_mandatory year)) }
 {
     write_extended_year(output, year, modifier.padding, modifier.sign_is_mandatory)
 }
@@ -51,7 +50,7 @@ impl Modifier for modifier::CalendarYearFullExtendedRange {
     }
 
     #[inline(always)]
-    #[tactic(auto, using(crate::proofs::DateTextLemmas::year_lengths))]
+    #[tactic(auto, using(crate::proofs::TextLemmas::signed_lengths))]
     fn write_supplied<V: ComponentProvider>(
         self,
         output: &mut Vec<u8>,
@@ -72,9 +71,9 @@ pub fn fmt_calendar_year_full_standard_range(
     modifier: modifier::CalendarYearFullStandardRange,
 ) -> usize
     requires room { HasRoom output.old
-        (length (standard_year_text modifier.padding modifier.sign_is_mandatory year)) }
+        (length (kind_text (standard_year modifier.padding modifier.sign_is_mandatory year))) }
     ensures writes { Writes output.old output.new result
-        (standard_year_text modifier.padding modifier.sign_is_mandatory year) }
+        (kind_text (standard_year modifier.padding modifier.sign_is_mandatory year)) }
 {
     write_standard_year(output, year, modifier.padding, modifier.sign_is_mandatory)
 }
@@ -92,7 +91,7 @@ impl Modifier for modifier::CalendarYearFullStandardRange {
     }
 
     #[inline(always)]
-    #[tactic(auto, using(crate::proofs::DateTextLemmas::year_lengths))]
+    #[tactic(auto, using(crate::proofs::TextLemmas::signed_lengths))]
     fn write_supplied<V: ComponentProvider>(
         self,
         output: &mut Vec<u8>,
@@ -115,9 +114,9 @@ pub fn fmt_iso_year_full_extended_range(
     modifier: modifier::IsoYearFullExtendedRange,
 ) -> usize
     requires room { HasRoom output.old
-        (length (extended_year_text modifier.padding modifier.sign_is_mandatory year)) }
+        (length (kind_text (extended_year modifier.padding modifier.sign_is_mandatory year))) }
     ensures writes { Writes output.old output.new result
-        (extended_year_text modifier.padding modifier.sign_is_mandatory year) }
+        (kind_text (extended_year modifier.padding modifier.sign_is_mandatory year)) }
 {
     write_extended_year(output, year, modifier.padding, modifier.sign_is_mandatory)
 }
@@ -135,7 +134,7 @@ impl Modifier for modifier::IsoYearFullExtendedRange {
     }
 
     #[inline(always)]
-    #[tactic(auto, using(crate::proofs::DateTextLemmas::year_lengths))]
+    #[tactic(auto, using(crate::proofs::TextLemmas::signed_lengths))]
     fn write_supplied<V: ComponentProvider>(
         self,
         output: &mut Vec<u8>,
@@ -156,9 +155,9 @@ pub fn fmt_iso_year_full_standard_range(
     modifier: modifier::IsoYearFullStandardRange,
 ) -> usize
     requires room { HasRoom output.old
-        (length (standard_year_text modifier.padding modifier.sign_is_mandatory year)) }
+        (length (kind_text (standard_year modifier.padding modifier.sign_is_mandatory year))) }
     ensures writes { Writes output.old output.new result
-        (standard_year_text modifier.padding modifier.sign_is_mandatory year) }
+        (kind_text (standard_year modifier.padding modifier.sign_is_mandatory year)) }
 {
     write_standard_year(output, year, modifier.padding, modifier.sign_is_mandatory)
 }
@@ -176,7 +175,7 @@ impl Modifier for modifier::IsoYearFullStandardRange {
     }
 
     #[inline(always)]
-    #[tactic(auto, using(crate::proofs::DateTextLemmas::year_lengths))]
+    #[tactic(auto, using(crate::proofs::TextLemmas::signed_lengths))]
     fn write_supplied<V: ComponentProvider>(
         self,
         output: &mut Vec<u8>,
@@ -199,9 +198,9 @@ fn write_extended_year(
     sign_is_mandatory: bool,
 ) -> usize
     requires room { HasRoom output.old
-        (length (extended_year_text padding sign_is_mandatory year)) }
+        (length (kind_text (extended_year padding sign_is_mandatory year))) }
     ensures writes { Writes output.old output.new result
-        (extended_year_text padding sign_is_mandatory year) }
+        (kind_text (extended_year padding sign_is_mandatory year)) }
 {
     let number = year.get();
     if !sign_is_mandatory && 0 <= number && number <= 9_999 {
@@ -219,9 +218,9 @@ fn write_rare_year(
     sign_is_mandatory: bool,
 ) -> usize
     requires room { HasRoom output.old
-        (length (extended_year_text padding sign_is_mandatory year)) }
+        (length (kind_text (extended_year padding sign_is_mandatory year))) }
     ensures writes { Writes output.old output.new result
-        (extended_year_text padding sign_is_mandatory year) }
+        (kind_text (extended_year padding sign_is_mandatory year)) }
 {
     let mut taken = take_out(output);
     let count = write_signed_year(&mut taken, year, padding, sign_is_mandatory);
@@ -239,9 +238,9 @@ fn write_signed_year(
     sign_is_mandatory: bool,
 ) -> usize
     requires room { HasRoom output.old
-        (length (extended_year_text padding sign_is_mandatory year)) }
+        (length (kind_text (extended_year padding sign_is_mandatory year))) }
     ensures writes { Writes output.old output.new result
-        (extended_year_text padding sign_is_mandatory year) }
+        (kind_text (extended_year padding sign_is_mandatory year)) }
 {
     let number = year.get();
     let sign = fmt_sign(output, number < 0, sign_is_mandatory || number > 9_999);
@@ -255,16 +254,16 @@ fn write_standard_year(
     sign_is_mandatory: bool,
 ) -> usize
     requires room { HasRoom output.old
-        (length (standard_year_text padding sign_is_mandatory year)) }
+        (length (kind_text (standard_year padding sign_is_mandatory year))) }
     ensures writes { Writes output.old output.new result
-        (standard_year_text padding sign_is_mandatory year) }
+        (kind_text (standard_year padding sign_is_mandatory year)) }
 {
     let sign = fmt_sign(output, year.get() < 0, sign_is_mandatory);
     sign + format_four_digits(output, year.abs(), padding)
 }
 
 // Appends a year in four places, or all its digits.
-#[tactic(auto, using(crate::proofs::DateTextLemmas::whole_year))]
+#[tactic(auto, using(crate::proofs::TextLemmas::whole_year))]
 fn write_year_digits(output: &mut Vec<u8>, year: ru32<0, 999_999>, padding: Padding) -> usize
     requires room { HasRoom output.old (length (padded_text padding 4 year)) }
     ensures writes { Writes output.old output.new result (padded_text padding 4 year) }
@@ -278,7 +277,7 @@ fn write_year_digits(output: &mut Vec<u8>, year: ru32<0, 999_999>, padding: Padd
 }
 
 // Appends a year of either calendar, if it has at most four digits.
-#[tactic(auto, using(crate::proofs::DateTextLemmas::year_lengths))]
+#[tactic(auto, using(crate::proofs::TextLemmas::signed_lengths))]
 fn write_accepted_year(
     output: &mut Vec<u8>,
     year: Year,
@@ -287,8 +286,7 @@ fn write_accepted_year(
 ) -> Result<usize, Format>
     requires room { HasRoom output.old 5 }
     ensures appends { AppendsWhole 5 output.old output.new result
-        (in_standard_range 9_999 (unsigned_abs year)
-        (standard_year_text padding sign_is_mandatory year)) }
+        (kind_outcome (standard_year padding sign_is_mandatory year)) }
 {
     let number = year.get();
     if number.unsigned_abs() > 9_999 {

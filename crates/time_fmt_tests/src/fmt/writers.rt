@@ -64,7 +64,7 @@ const THREE: &[(u16, Padding, &str)] = &[
 ];
 
 #[test]
-#[tactic(auto, using(time_fmt::proofs::DateTextLemmas::three_places))]
+#[tactic(auto, using(time_fmt::proofs::TextLemmas::three_places))]
 fn three_digits(rt: HostRuntime) -> Result<(), Fail> {
     for &(number, padding, text) in THREE {
         let mut output = empty(&rt)?;
