@@ -13,7 +13,8 @@ TOP = pathlib.Path(__file__).resolve().parent.parent
 ROW = re.compile(r"^\| `(\w+)` \| (.*?) \| .* \| (\d+) \| (-|`.*`) \|$", re.M)
 CONSTANT = re.compile(r"^\| `(\w+)` \| `(\w+)` \| (.*) \|$", re.M)
 DEFINED = re.compile(r"^pub const (\w+): modifier::(\w+) =\s*modifier::\w+ \{(.*?)\};", re.S | re.M)
-TESTED = re.compile(r"Component::(\w+)\(\s*modifier::\w+ \{(.*?)\}\s*\),\s*\"(.*?)\",\s*(\d+),?\s*\)", re.S)
+TABLE = re.compile(r"^const COMPONENTS: .*?^};$", re.S | re.M)
+TESTED = re.compile(r"^    (\w+) \{([^{}]*)\}\s+\"(.*?)\" (\d+),$", re.M)
 
 
 def choices(text):
@@ -31,9 +32,9 @@ def documented():
 
 
 def tested():
-    paths = list(TOP.glob("crates/*/src/fmt/components_table.rt"))
+    text = (TOP / "crates/time_fmt_tests/src/fmt/components_table.rt").read_text()
     return [(name, choices(fields), example, width)
-            for path in paths for name, fields, example, width in TESTED.findall(path.read_text())]
+            for table in TABLE.findall(text) for name, fields, example, width in TESTED.findall(table)]
 
 
 def main():
