@@ -45,9 +45,10 @@ pub fn stamp(moment: &UtcMoment) -> Result<[u8; 30], Error> {
 }
 
 macro_rules! known {
-    ($($name:ident over $($value:ty),*: $width:literal bytes;)*) => { $(
+    ($($name:ident over $($value:ty),*; batches over $batch:ty: $width:literal bytes;)*) => { $(
         impl $name {
             /// The greatest number of bytes that a text has.
+            #[inline]
             pub const fn width(&self) -> usize {
                 $width
             }
@@ -55,19 +56,20 @@ macro_rules! known {
 
         $(
             impl Format<$value> for $name {
+                #[inline]
                 fn width(&self) -> usize {
                     $width
                 }
             }
-
-            impl Batch<$value> for $name {}
         )*
+
+        impl Batch<$batch> for $name {}
     )* };
 }
 
 known! {
-    Rfc3339 over Moment: 35 bytes;
-    Rfc2822 over Moment: 31 bytes;
-    Iso8601 over Moment: 35 bytes;
-    Stamp over UtcMoment: 30 bytes;
+    Rfc3339 over Moment, UtcMoment; batches over Moment: 35 bytes;
+    Rfc2822 over Moment, UtcMoment; batches over Moment: 31 bytes;
+    Iso8601 over Moment, UtcMoment; batches over Moment: 35 bytes;
+    Stamp over UtcMoment; batches over UtcMoment: 30 bytes;
 }

@@ -168,7 +168,7 @@ const _: () = assert!(core::mem::size_of::<IsoConfig>() == 8);
 const _: () = assert!(core::mem::size_of::<Item>() == 24);
 const _: () = assert!(core::mem::size_of::<library::Progress>() == 24);
 
-/// Memory that a call writes to, and never reads.
+/// Memory that a call writes to. No answer depends on what it held.
 type Buffer = [MaybeUninit<u8>];
 
 /// A format, by the function of the library that writes its text.
@@ -191,10 +191,12 @@ pub unsafe trait CallAll<V> {
     fn call_all(&self, values: &[V], end: u8, buffer: &mut Buffer) -> Progress;
 }
 
+#[inline]
 fn count_of(answer: isize) -> Result<usize, Error> {
     usize::try_from(answer).map_err(|_| Error::from_number(answer))
 }
 
+#[inline]
 fn progress_of(progress: library::Progress) -> Progress {
     Progress {
         moments: progress.moments,
@@ -206,6 +208,7 @@ fn progress_of(progress: library::Progress) -> Progress {
     }
 }
 
+#[inline]
 fn pointer(buffer: &mut Buffer) -> *mut u8 {
     buffer.as_mut_ptr().cast()
 }
@@ -215,6 +218,7 @@ macro_rules! calls {
         // SAFETY: the function returns how many bytes it has written to the start of the buffer, which
         // are ASCII.
         unsafe impl Call<Moment> for $format {
+            #[inline]
             fn call(&self, value: &Moment, buffer: &mut Buffer) -> Result<usize, Error> {
                 // SAFETY: `Moment` has the header's layout, and pointer and length are the buffer's.
                 count_of(unsafe { library::$function(value, pointer(buffer), buffer.len()) })
@@ -223,6 +227,7 @@ macro_rules! calls {
 
         // SAFETY: the function returns how many bytes it has written to the start of the buffer.
         unsafe impl CallAll<Moment> for $format {
+            #[inline]
             fn call_all(&self, values: &[Moment], end: u8, buffer: &mut Buffer) -> Progress {
                 // SAFETY: `Moment` has the header's layout, and both pointers stand beside the
                 // lengths of their slices.
@@ -244,6 +249,7 @@ calls! {
 // SAFETY: the function returns how many bytes it has written to the start of the buffer, which are
 // ASCII.
 unsafe impl Call<Moment> for Iso8601By {
+    #[inline]
     fn call(&self, value: &Moment, buffer: &mut Buffer) -> Result<usize, Error> {
         // SAFETY: both structs have the header's layout; pointer and length are the buffer's.
         count_of(unsafe {
@@ -254,6 +260,7 @@ unsafe impl Call<Moment> for Iso8601By {
 
 // SAFETY: the function returns how many bytes it has written to the start of the buffer.
 unsafe impl CallAll<Moment> for Iso8601By {
+    #[inline]
     fn call_all(&self, values: &[Moment], end: u8, buffer: &mut Buffer) -> Progress {
         // SAFETY: both structs have the header's layout, and both pointers stand beside the lengths
         // of their slices.
@@ -273,34 +280,47 @@ unsafe impl CallAll<Moment> for Iso8601By {
 // SAFETY: the function returns how many bytes it has written to the start of the buffer, which are
 // ASCII.
 unsafe impl Call<UtcMoment> for Stamp {
+    #[inline]
     fn call(&self, value: &UtcMoment, buffer: &mut Buffer) -> Result<usize, Error> {
+        let (seconds, nanosecond) = (value.seconds, value.nanosecond);
         // SAFETY: pointer and length are the buffer's.
         count_of(unsafe {
-            library::movaliren_stamp(
-                value.seconds,
-                value.nanosecond,
-                pointer(buffer),
-                buffer.len(),
-            )
+            library::movaliren_stamp(seconds, nanosecond, pointer(buffer), buffer.len())
         })
     }
 }
 
 // SAFETY: the function returns how many bytes it has written to the start of the buffer.
 unsafe impl CallAll<UtcMoment> for Stamp {
+    #[inline]
     fn call_all(&self, values: &[UtcMoment], end: u8, buffer: &mut Buffer) -> Progress {
+        let (moments, moments_len) = (values.as_ptr(), values.len());
         // SAFETY: `UtcMoment` has the header's layout, and both pointers stand beside the lengths of
         // their slices.
         progress_of(unsafe {
-            let (moments, moments_len) = (values.as_ptr(), values.len());
             library::movaliren_stamp_batch(moments, moments_len, end, pointer(buffer), buffer.len())
         })
     }
 }
 
+macro_rules! utc_calls {
+    ($($format:ty),*) => { $(
+        // SAFETY: the call over a `Moment` promises the same of the same buffer.
+        unsafe impl Call<UtcMoment> for $format {
+            #[inline]
+            fn call(&self, value: &UtcMoment, buffer: &mut Buffer) -> Result<usize, Error> {
+                self.call(&Moment::try_from(*value)?, buffer)
+            }
+        }
+    )* };
+}
+
+utc_calls!(Rfc3339, Rfc2822, Iso8601, Iso8601By);
+
 // SAFETY: the function returns how many bytes it has written to the start of the buffer. These are
 // whole literals, which are UTF-8, and components, which are ASCII.
 unsafe impl Call<Moment> for Description {
+    #[inline]
     fn call(&self, value: &Moment, buffer: &mut Buffer) -> Result<usize, Error> {
         let (items, texts) = self.parts();
         // SAFETY: both structs have the header's layout, and each pointer stands beside the length
@@ -322,6 +342,7 @@ unsafe impl Call<Moment> for Description {
 // SAFETY: the function returns how many bytes it has written to the start of the buffer. These are
 // whole literals, which are UTF-8, and components, which are ASCII.
 unsafe impl Call<UtcMoment> for Description {
+    #[inline]
     fn call(&self, value: &UtcMoment, buffer: &mut Buffer) -> Result<usize, Error> {
         let (items, texts) = self.parts();
         // SAFETY: `Item` has the header's layout, and each pointer stands beside the length of its
@@ -344,6 +365,7 @@ unsafe impl Call<UtcMoment> for Description {
 // SAFETY: the function returns how many bytes it has written to the start of the buffer. These are
 // whole literals, which are UTF-8, and components, which are ASCII.
 unsafe impl Call<Date> for Description {
+    #[inline]
     fn call(&self, value: &Date, buffer: &mut Buffer) -> Result<usize, Error> {
         let (items, texts) = self.parts();
         // SAFETY: `Item` has the header's layout, and each pointer stands beside the length of its

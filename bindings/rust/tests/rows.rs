@@ -72,9 +72,34 @@ fn texts() {
     );
     let moment = UtcMoment::new(879_350_106, 120_000_000);
     assert_text(&Stamp, &moment, "1997-11-12T15:55:06.120000000Z");
+    assert_text(&Rfc3339, &moment, "1997-11-12T15:55:06.12Z");
+    assert_text(&Rfc2822, &moment, "Wed, 12 Nov 1997 15:55:06 +0000");
+    assert_text(&Iso8601, &moment, "1997-11-12T15:55:06.120000000Z");
+    assert_text(
+        &Iso8601By::default(),
+        &moment,
+        "1997-11-12T15:55:06.120000000Z",
+    );
     assert_eq!(
         stamp(&moment).as_ref(),
         Ok(b"1997-11-12T15:55:06.120000000Z")
+    );
+}
+
+#[test]
+fn refuses_seconds_that_have_no_text() {
+    let late = UtcMoment::new(253_402_300_800, 0);
+    assert_error(&Rfc3339, &late, Error::NoPlaceForYear);
+    assert_error(
+        &Rfc2822,
+        &UtcMoment::new(-2_208_988_801, 0),
+        Error::NoPlaceForYear,
+    );
+    assert_error(&Iso8601, &UtcMoment::new(i64::MIN, 0), Error::MomentSeconds);
+    assert_error(
+        &Iso8601By::new(),
+        &UtcMoment::new(0, 1_000_000_000),
+        Error::Nanosecond,
     );
 }
 
