@@ -1,30 +1,53 @@
-/* Each request for memory is refused in turn: the answer is the want of memory, the room is as it was,
- * and the next call is right. What takes no memory asks for none. */
+/* Each request for memory is refused in turn: the answer is out of memory, the buffer is unchanged,
+ * and the next call is right. What allocates nothing asks for no memory, and what is allocated is freed. */
 #include "movaliren.h"
 
 #include <stdio.h>
 #include <stdlib.h>
 #include <string.h>
 
-static long asked, refused;
+/* The requests for memory so far, the one that is refused, and the allocations that are not freed yet. */
+static long asked, refused, live;
+
+/* The bytes of all requests so far. */
+static size_t bytes;
 
 void *__real_malloc(size_t size);
 void *__real_realloc(void *pointer, size_t size);
 void *__real_calloc(size_t count, size_t size);
+void __real_free(void *pointer);
+
+static int is_given(size_t size)
+{
+    bytes += size;
+    return ++asked != refused;
+}
 
 void *__wrap_malloc(size_t size)
 {
-    return ++asked == refused ? 0 : __real_malloc(size);
+    void *given = is_given(size) ? __real_malloc(size) : 0;
+    live += given != 0;
+    return given;
 }
 
 void *__wrap_realloc(void *pointer, size_t size)
 {
-    return ++asked == refused ? 0 : __real_realloc(pointer, size);
+    void *given = is_given(size) ? __real_realloc(pointer, size) : 0;
+    live += given && !pointer;
+    return given;
 }
 
 void *__wrap_calloc(size_t count, size_t size)
 {
-    return ++asked == refused ? 0 : __real_calloc(count, size);
+    void *given = is_given(count * size) ? __real_calloc(count, size) : 0;
+    live += given != 0;
+    return given;
+}
+
+void __wrap_free(void *pointer)
+{
+    live -= pointer != 0;
+    __real_free(pointer);
 }
 
 enum { ROOM = 300, CALLS = 14 };
@@ -43,7 +66,7 @@ static ptrdiff_t bytes_of(struct movaliren_progress progress)
 
 static ptrdiff_t call(int which, uint8_t *room)
 {
-    const uint8_t *dash = (const uint8_t *)"-";
+    const char *dash = "-";
     switch (which) {
     case 0: return movaliren_format(items, 5, dash, 1, &moment, room, ROOM);
     case 1: return movaliren_format_utc(items, 5, dash, 1, 0, 0, room, ROOM);
@@ -62,15 +85,15 @@ static ptrdiff_t call(int which, uint8_t *room)
     }
 }
 
-/* Whether each request of the call is refused well. */
-static int is_refused_well(int which, long most)
+/* Whether each request of the call is refused well, no more is asked for than its width, and all of it is freed. */
+static int is_refused_well(int which, long most, size_t width)
 {
     static uint8_t right[ROOM], room[ROOM], as_it_was[ROOM];
     memset(right, '#', ROOM), memset(as_it_was, '#', ROOM);
-    asked = refused = 0;
+    asked = refused = 0, bytes = 0;
     const ptrdiff_t count = call(which, right);
     const long requests = asked;
-    int is_well = count > 0 && requests == most;
+    int is_well = count > 0 && requests == most && bytes == width;
     for (long request = 1; request <= requests; request++) {
         memset(room, '#', ROOM);
         asked = 0, refused = request;
@@ -79,16 +102,51 @@ static int is_refused_well(int which, long most)
         asked = refused = 0;
         is_well &= call(which, room) == count && !memcmp(room, right, ROOM);
     }
+    is_well &= !live;
     if (!is_well)
         printf("call %d answers %td and asks %ld times\n", which, count, requests);
     return is_well;
 }
 
+/* Whether all is freed where the text has no room, and where a component is refused behind some bytes. */
+static int is_freed_after_errors(void)
+{
+    static const struct movaliren_item day_and_hour[]
+        = { { .kind = MOVALIREN_DAY }, { .kind = MOVALIREN_HOUR } };
+    const void *dash = "-";
+    char three[3], wide[ROOM];
+    void *few = three, *enough = wide;
+    return movaliren_format(items, 5, dash, 1, &moment, few, 3) == MOVALIREN_ERROR_NO_ROOM && !live
+        && movaliren_format_date(day_and_hour, 2, dash, 1, 2026, 1, 1, enough, ROOM)
+        == MOVALIREN_ERROR_INSUFFICIENT && !live;
+}
+
+enum { LONG = 100000, MAY = 3, MONTH_WIDTH = 9 };
+
+/* Whether a long text is written where there is room for it, and not for its width. */
+static int is_long_text_written(void)
+{
+    static const struct movaliren_item long_items[] = { { .len = LONG }, { .kind = MOVALIREN_MONTH_LONG } };
+    static char letters[LONG], long_room[LONG + MAY];
+    const void *texts = memset(letters, 'x', LONG);
+    void *room = long_room;
+    bytes = 0;
+    const ptrdiff_t count
+        = movaliren_format_date(long_items, 2, texts, LONG, 2026, 5, 1, room, LONG + MAY);
+    return count == LONG + MAY && !memcmp(long_room, letters, LONG)
+        && !memcmp(long_room + LONG, "May", MAY) && bytes == LONG + MONTH_WIDTH && !live;
+}
+
 int main(void)
 {
     int wrong = 0;
+    static uint8_t unused[ROOM];
+    const size_t width = (size_t)call(3, unused);
     for (int which = 0; which < CALLS; which++)
-        wrong += !is_refused_well(which, which < 3);
+        wrong += !is_refused_well(which, which < 3, which < 3 ? width : 0);
+    refused = 0;
+    wrong += !is_freed_after_errors();
+    wrong += !is_long_text_written();
     printf("memory: %d wrong\n", wrong);
     return wrong != 0;
 }

@@ -101,10 +101,11 @@ abbrev pub IsText : Result Outcome Reason → Result ℕ Reason → List ℕ →
 IsText (Ok o) answer before after = IsWritten answer o before after
 IsText (Err r) answer before after = (answer ≡ Err r) × (after ≡ before)
 
--- the same, or memory was refused and the room is as it was
+-- the same, or there is an outcome, memory was refused for it, and the room is as it was
 abbrev pub IsTextInMemory : Result Outcome Reason → Result ℕ Reason → List ℕ → List ℕ → Type 0
-IsTextInMemory asked answer before after =
-    ((answer ≡ Err reason.OutOfMemory) × (after ≡ before)) ⊎ IsText asked answer before after
+IsTextInMemory (Ok o) answer before after =
+    ((answer ≡ Err reason.OutOfMemory) × (after ≡ before)) ⊎ IsWritten answer o before after
+IsTextInMemory (Err r) answer before after = (answer ≡ Err r) × (after ≡ before)
 
 -- ---- lines
 

@@ -1,6 +1,6 @@
 //! Descriptions that cross as data.
 ghost use Rattle.std.specs.Prelude.{◌≡◌, ◌+◌, ◌≤◌, Ok, vec_len};
-ghost use Rattle.movaliren_c.specs.Answer.{Answers, IsTextInMemory};
+ghost use Rattle.movaliren_c.specs.Answer.{Answers, IsText, IsTextInMemory};
 ghost use Rattle.movaliren_c.specs.Items.{HasRoomFor, IsAppended, described, part_tree, trees_of, width_answer};
 ghost use Rattle.movaliren_c.specs.Value.{date_value, moment_value, timestamp_value};
 ghost use Rattle.time_below.specs.Facts.{facts_of_date, facts_of_offset_date_time, facts_of_timestamp};
@@ -33,7 +33,11 @@ pub extern "C" fn movaliren_format(
     moment: &Moment,
     room: &mut [u8],
 ) -> isize
-    ensures { Answers result (λ answer. IsTextInMemory
+    ensures text { Answers result (λ answer. IsTextInMemory
+        (described (trees_of texts.now items.now) (moment_value moment.now)
+        facts_of_offset_date_time) answer room.old room.new) }
+    ensures nothing_needed { width_answer (trees_of texts.now items.now) ≡ Ok 0
+        → Answers result (λ answer. IsText
         (described (trees_of texts.now items.now) (moment_value moment.now)
         facts_of_offset_date_time) answer room.old room.new) }
 {
@@ -50,7 +54,11 @@ pub extern "C" fn movaliren_format_utc(
     nanosecond: u32,
     room: &mut [u8],
 ) -> isize
-    ensures { Answers result (λ answer. IsTextInMemory
+    ensures text { Answers result (λ answer. IsTextInMemory
+        (described (trees_of texts.now items.now) (timestamp_value seconds nanosecond)
+        facts_of_timestamp) answer room.old room.new) }
+    ensures nothing_needed { width_answer (trees_of texts.now items.now) ≡ Ok 0
+        → Answers result (λ answer. IsText
         (described (trees_of texts.now items.now) (timestamp_value seconds nanosecond)
         facts_of_timestamp) answer room.old room.new) }
 {
@@ -69,7 +77,11 @@ pub extern "C" fn movaliren_format_date(
     day: u8,
     room: &mut [u8],
 ) -> isize
-    ensures { Answers result (λ answer. IsTextInMemory
+    ensures text { Answers result (λ answer. IsTextInMemory
+        (described (trees_of texts.now items.now) (date_value year month day)
+        facts_of_date) answer room.old room.new) }
+    ensures nothing_needed { width_answer (trees_of texts.now items.now) ≡ Ok 0
+        → Answers result (λ answer. IsText
         (described (trees_of texts.now items.now) (date_value year month day)
         facts_of_date) answer room.old room.new) }
 {
@@ -94,8 +106,10 @@ fn value_described<V: ComponentProvider + Drop>(
 ) -> Result<usize, Reason>
 where
     V::State: Drop,
-    ensures { IsTextInMemory (described (trees_of texts.now items.now) value V.facts)
+    ensures text { IsTextInMemory (described (trees_of texts.now items.now) value V.facts)
         result room.old room.new }
+    ensures nothing_needed { width_answer (trees_of texts.now items.now) ≡ Ok 0
+        → IsText (described (trees_of texts.now items.now) value V.facts) result room.old room.new }
 {
     match width(items, texts) {
         Ok(width) => match value {
@@ -118,7 +132,10 @@ fn written<V: ComponentProvider>(
 where
     V::State: Drop,
     requires width { width_answer (trees_of texts.now items.now) ≡ Ok width }
-    ensures { IsTextInMemory (described (trees_of texts.now items.now) (Ok value.now) V.facts)
+    ensures text { IsTextInMemory (described (trees_of texts.now items.now) (Ok value.now) V.facts)
+        result room.old room.new }
+    ensures nothing_needed { width ≡ 0
+        → IsText (described (trees_of texts.now items.now) (Ok value.now) V.facts)
         result room.old room.new }
 {
     if width == GREATEST_WIDTH {

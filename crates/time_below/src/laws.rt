@@ -1,10 +1,36 @@
-//! Laws of the calendar and of offsets: what their definitions come to. Each body is empty.
-ghost use Rattle.std.specs.Prelude.{◌≡◌, ◌+◌, ◌%◌, ℕ, ℤ, pos, ◌+ℤ◌};
+//! Laws of equality, of the calendar and of offsets: what their definitions come to. Each body is empty.
+ghost use Rattle.std.specs.Prelude.{◌≡◌, ◌↔◌, ◌+◌, ◌%◌, ℕ, ℤ, pos, ◌+ℤ◌, IsTrue};
 ghost use Rattle.std.specs.Int.{IsInRange};
 ghost use Rattle.time_below.specs.Calendar.{OrdinalDate, IsDate, IsYear, IsDayNumber, IsDayOfMonth, day_number, date_at, next_day, month_of, day_of, date_of, weekday_of, iso_year_of, iso_week_of, days_of_name, monday_based_week_of, sunday_based_week_of};
+ghost use Rattle.time_below.specs.ComponentRange.{range_refusal};
 ghost use Rattle.time_below.specs.TimeOfDay.{IsTimeOfDay};
 ghost use Rattle.time_below.specs.Offset.{Offset, IsOffset, Settles, settled};
 ghost use Rattle.time_below.specs.Moment.{Moment, DateAndTime, OffsetDateAndTime, IsMoment, IsTimestampSecond, IsNearTimestampSecond, utc_date, utc_time, utc_date_and_time, unix_seconds, local_unix_seconds};
+
+use crate::component_range::ComponentRange;
+use crate::month::Month;
+use crate::period::Period;
+use crate::weekday::Weekday;
+
+/// Two months are equal exactly if they are the same.
+pub fn month_equality(a: Month, b: Month)
+    ensures { IsTrue (⟦<Month as PartialEq>⟧.eq a b) ↔ (a ≡ b) }
+{}
+
+/// Two weekdays are equal exactly if they are the same.
+pub fn weekday_equality(a: Weekday, b: Weekday)
+    ensures { IsTrue (⟦<Weekday as PartialEq>⟧.eq a b) ↔ (a ≡ b) }
+{}
+
+/// Two halves of the day are equal exactly if they are the same.
+pub fn period_equality(a: Period, b: Period)
+    ensures { IsTrue (⟦<Period as PartialEq>⟧.eq a b) ↔ (a ≡ b) }
+{}
+
+/// Two refusals of a component are equal exactly if they have the same name and the same condition.
+pub fn range_equality(a: ComponentRange, b: ComponentRange)
+    ensures { IsTrue (⟦<ComponentRange as PartialEq>⟧.eq a b) ↔ (range_refusal a ≡ range_refusal b) }
+{}
 
 /// Each date has one day number, and each day number from -999999-01-01 to 999999-12-31 one date.
 pub fn one_date_for_each_day()

@@ -5,6 +5,7 @@ ghost use Rattle.time_below.specs.Width.{component_width};
 ghost use Rattle.time_fmt.specs.Laws.{Means, EqualTreesHaveEqualOutcomes, FirstIsItsFirstItem, ListIsItsItemsInOrder, OutcomesAreAMonoid, MetadataIsACommutativeMonoid};
 ghost use Rattle.time_fmt.specs.Longest.{ReachesWidth};
 
+pub mod choices;
 pub mod parts;
 
 use crate::formattable::{BorrowedItems, Formattable, OwnedItems};

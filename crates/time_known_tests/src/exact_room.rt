@@ -185,7 +185,7 @@ fn stamps_behind_others(rt: HostRuntime) -> Result<(), Fail> {
     assert_same(&rt, output.capacity(), 35);
     assert_that(&rt, matches!(stamp_into(&mut output, &value), Ok(30)));
     assert_same(&rt, output.len(), 60);
-    assert_that(&rt, 65 <= output.capacity());
+    assert_that(&rt, 70 <= output.capacity());
     assert_that(&rt, matches!(two_stamps(&mut output, &value), Ok(60)));
     assert_same(&rt, output.len(), 120);
     Ok(())

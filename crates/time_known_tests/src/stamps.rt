@@ -150,7 +150,7 @@ fn room_of_stamps(rt: HostRuntime) -> Result<(), Fail> {
     } else {
         assert_that(&rt, matches!(&answer, Ok(30)));
         assert_same(&rt, output.len(), 60);
-        assert_that(&rt, 65 <= output.capacity());
+        assert_that(&rt, 70 <= output.capacity());
     }
     Ok(())
 }

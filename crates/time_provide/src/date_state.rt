@@ -24,6 +24,7 @@ impl DateState {
     pub(crate) fn day(&mut self, date: Date) -> Day
         requires { Agrees self.old (date_facts date) }
         ensures value { result ≡ day_of date }
+        ensures held { self.new ≡ record self.old { day = Some result; month = self.new.month } }
         ensures range { IsInRange 1 31 result }
         ensures agrees { Agrees self.new (date_facts date) }
     {
@@ -42,6 +43,7 @@ impl DateState {
     pub(crate) fn month(&mut self, date: Date) -> Month
         requires { Agrees self.old (date_facts date) }
         ensures value { month_number result ≡ month_of date }
+        ensures held { self.new ≡ record self.old { month = Some result } }
         ensures agrees { Agrees self.new (date_facts date) }
     {
         if let Some(month) = self.month {
@@ -56,6 +58,8 @@ impl DateState {
     pub(crate) fn iso_week(&mut self, date: Date) -> IsoWeekNumber
         requires { Agrees self.old (date_facts date) }
         ensures value { result ≡ iso_week_of date }
+        ensures held { self.new
+            ≡ record self.old { iso_week = Some result; iso_year = self.new.iso_year } }
         ensures range { IsInRange 1 53 result }
         ensures agrees { Agrees self.new (date_facts date) }
     {
@@ -70,6 +74,8 @@ impl DateState {
     pub(crate) fn iso_year(&mut self, date: Date) -> Year
         requires { Agrees self.old (date_facts date) }
         ensures value { result ≡ iso_year_of date }
+        ensures held { self.new
+            ≡ record self.old { iso_week = self.new.iso_week; iso_year = Some result } }
         ensures range { unsigned_abs result ≤ 999_999 }
         ensures agrees { Agrees self.new (date_facts date) }
     {
@@ -85,6 +91,8 @@ impl DateState {
         requires { Agrees self.old (date_facts date) }
         ensures year { result.0 ≡ iso_year_of date }
         ensures week { result.1 ≡ iso_week_of date }
+        ensures held { self.new
+            ≡ record self.old { iso_week = Some result.1; iso_year = Some result.0 } }
         ensures year_range { unsigned_abs result.0 ≤ 999_999 }
         ensures week_range { IsInRange 1 53 result.1 }
         ensures agrees { Agrees self.new (date_facts date) }

@@ -19,6 +19,7 @@ impl TimestampState {
     pub(crate) fn date(&mut self, moment: Timestamp) -> Date
         requires { AgreesWithMoment self.old moment }
         ensures value { result ≡ utc_date moment.seconds }
+        ensures held { self.new ≡ record self.old { date = Some result } }
         ensures agrees { AgreesWithMoment self.new moment }
     {
         if let Some(date) = self.date {
@@ -33,6 +34,7 @@ impl TimestampState {
     pub(crate) fn time(&mut self, moment: Timestamp) -> Time
         requires { AgreesWithMoment self.old moment }
         ensures value { result ≡ utc_time moment }
+        ensures held { self.new ≡ record self.old { time = Some result } }
         ensures agrees { AgreesWithMoment self.new moment }
     {
         if let Some(time) = self.time {

@@ -1,8 +1,8 @@
 -- A run goes on from what it has answered.
 use Rattle.std.proofs.Common.{ℕ, Ok, Err, ◌≡◌, ◌≢◌, ◌++◌, List, [], ◌∷◌, Option, Some, None, refl, ap, sym, ◌∙◌, arith}
-use Rattle.std.proofs.Common.{rules, append-nil, append_assoc}
+use Rattle.std.proofs.Common.{rules, append-nil, append_assoc, inl, inr}
 use Rattle.std.proofs.lemmas.Grind.{common_steps}
-use Rattle.std.specs.Io.KnownBytes.{Appends, Consumes}
+use Rattle.std.specs.Io.KnownBytes.{Appends, Consumes, IsAtEnd}
 use Rattle.time_show.specs.declared.run.ShowError.TheVariants.{Write}
 use Rattle.time_show.specs.Answer.{IsAnswer, AreAnswers, BreaksOff}
 use Rattle.time_show.specs.LineBuffer.{kept_of, kept_with}
@@ -12,7 +12,7 @@ use Rattle.time_show.specs.Run.{RunState, state, output_of, AnsweredUpTo, Accept
 use Rattle.time_show.specs.Run.{CutsAnswersOff, AnswersRest, CutsRestOff, Ran}
 use Rattle.time_show.proofs.OutputBufferLemmas.{Appends-then, Accepts-none, Accepts-flushed, Accepts-then}
 use Rattle.time_show.proofs.OutputBufferLemmas.{CutsOff-after, CutsOff-flushed}
-use Rattle.time_show.proofs.LinesLemmas.{lines_of-append, lines_of-rest, whole_lines_of-fed, unended_of-fed}
+use Rattle.time_show.proofs.LinesLemmas.{lines_of-rest, whole_lines_of-append, whole_lines_of-fed, unended_of-fed}
 use Rattle.time_show.proofs.LinesLemmas.{whole_lines_of-more, unended_of-more}
 
 -- the answers to some lines, and the answer to one more
@@ -346,17 +346,19 @@ Ran-cut l0 l1 l2 h0 h1 h2 k1 block run next off =
     × AreAnswers (whole_lines_of (run.bytes ++ first)) (run.text ++ more) × AppendsStart h1 h2 more =
     off run.bytes run.text run.answered in
     let read = run.bytes ++ cut.0 in
-    let lines : lines_of (run.bytes ++ block) ≡ whole_lines_of read ++ lines_of (unended_of read ++ cut.1) =
-    ap (λ more. lines_of (run.bytes ++ more)) cut.3 ∙ ap lines_of (sym (append_assoc run.bytes cut.0 cut.1))
-    ∙ lines_of-append read cut.1 in
+    let lines : whole_lines_of (run.bytes ++ block)
+    ≡ whole_lines_of read ++ whole_lines_of (unended_of read ++ cut.1) =
+    ap (λ more. whole_lines_of (run.bytes ++ more)) cut.3
+    ∙ ap whole_lines_of (sym (append_assoc run.bytes cut.0 cut.1)) ∙ whole_lines_of-append read cut.1 in
     record {
       bytes = run.bytes ++ block;
       text = run.text ++ cut.5.sent;
       read = Consumes-then l0 l1 l2 run.bytes block run.read next;
       written = Appends-then h0 h1 h2 run.text cut.5.sent run.written cut.5.went_out;
-      shown = rw lines
-          (BreaksOff-before (whole_lines_of read) (lines_of (unended_of read ++ cut.1)) (run.text ++ cut.5.sent)
-          (BreaksOff-unsent (whole_lines_of read) run.text cut.2 h1 h2 cut.4 cut.5));
+      shown = inl (rw lines
+          (BreaksOff-before (whole_lines_of read) (whole_lines_of (unended_of read ++ cut.1))
+          (run.text ++ cut.5.sent)
+          (BreaksOff-unsent (whole_lines_of read) run.text cut.2 h1 h2 cut.4 cut.5)));
     }
 
 -- The input ended, and all its lines are answered.
@@ -376,8 +378,8 @@ Ran-ended done l0 l1 l2 h0 h1 h2 k1 run end rest =
 
 -- The input ended, and the answer to its last line is cut off.
 pub Ran-end_cut : {T : Type 0} (l0 l1 l2 h0 h1 h2 k1 : Option (List ℕ)) → Running l0 l1 h0 h1 k1 → Consumes l1 l2 [] →
-    CutsRestOff (state k1 h1 []) h2 → Ran {T = T} (Err Write) l0 l2 h0 h2
-Ran-end_cut l0 l1 l2 h0 h1 h2 k1 run end off =
+    IsAtEnd l2 → CutsRestOff (state k1 h1 []) h2 → Ran {T = T} (Err Write) l0 l2 h0 h2
+Ran-end_cut l0 l1 l2 h0 h1 h2 k1 run end ended off =
     let cut : (more : List ℕ) × AreAnswers (lines_of run.bytes) (run.text ++ more) × AppendsStart h1 h2 more =
     off run.bytes run.text run.answered in
     record {
@@ -385,5 +387,5 @@ Ran-end_cut l0 l1 l2 h0 h1 h2 k1 run end off =
       text = run.text ++ cut.2.sent;
       read = Consumes-end l0 l1 l2 run.bytes run.read end;
       written = Appends-then h0 h1 h2 run.text cut.2.sent run.written cut.2.went_out;
-      shown = BreaksOff-unsent (lines_of run.bytes) run.text cut.0 h1 h2 cut.1 cut.2;
+      shown = inr (ended, BreaksOff-unsent (lines_of run.bytes) run.text cut.0 h1 h2 cut.1 cut.2);
     }

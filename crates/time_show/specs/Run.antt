@@ -1,6 +1,6 @@
 -- A run of the program: how it goes on from what it has answered, and what it leaves behind.
-use Rattle.std.specs.Prelude.{ℕ, ◌≡◌, ◌++◌, List, Option, Result, Ok, Err}
-use Rattle.std.specs.Io.KnownBytes.{Appends, Consumes}
+use Rattle.std.specs.Prelude.{ℕ, ◌≡◌, ◌++◌, ◌⊎◌, List, Option, Result, Ok, Err}
+use Rattle.std.specs.Io.KnownBytes.{Appends, Consumes, IsAtEnd}
 use Rattle.time_show.specs.declared.run.ShowError.{ShowError}
 use Rattle.time_show.specs.declared.run.ShowError.TheVariants.{Read, Write}
 use Rattle.time_show.specs.Answer.{IsAnswer, AreAnswers, BreaksOff}
@@ -63,11 +63,13 @@ CutsRestOff old held =
     (before text : List ℕ) → AnsweredUpTo before old.kept text →
     (more : List ℕ) × AreAnswers (lines_of before) (text ++ more) × CutsOff (output_of old) held more
 
--- what is written for these bytes of input
-abbrev pub Shows : {T : Type 0} → Result T ShowError → List ℕ → List ℕ → Type 0
-Shows (Ok done) bytes text = AreAnswers (lines_of bytes) text
-Shows (Err Read) bytes text = AreAnswers (whole_lines_of bytes) text
-Shows (Err Write) bytes text = BreaksOff (lines_of bytes) text
+-- What is written for these bytes of input, after which so much of it is left. After a failed write the answer that
+-- breaks off is that of a line with its line feed, or the input has ended.
+abbrev pub Shows : {T : Type 0} → Result T ShowError → Option (List ℕ) → List ℕ → List ℕ → Type 0
+Shows (Ok done) left bytes text = AreAnswers (lines_of bytes) text
+Shows (Err Read) left bytes text = AreAnswers (whole_lines_of bytes) text
+Shows (Err Write) left bytes text =
+    BreaksOff (whole_lines_of bytes) text ⊎ (IsAtEnd left × BreaksOff (lines_of bytes) text)
 
 -- the input lost some bytes, the output gained some text, and the text is what the bytes are answered by
 pub record Ran {T : Type 0} (result : Result T ShowError)
@@ -76,4 +78,4 @@ pub record Ran {T : Type 0} (result : Result T ShowError)
   pub text : List ℕ
   pub read : Consumes left_before left_after bytes
   pub written : Appends held_before held_after text
-  pub shown : Shows result bytes text
+  pub shown : Shows result left_after bytes text

@@ -30,8 +30,9 @@ const SHORT_TEXT: usize = 64;
 #[derive(Clone, Copy)]
 pub struct WriteFailed;
 
-/// Writes all the bytes. A write that takes no byte fails.
+/// Writes all the bytes. A write that takes no byte fails, and where there are no bytes none is made.
 fn write_bytes<W: Write>(output: &mut W, bytes: &[u8]) -> Result<(), WriteFailed>
+    ensures nothing { bytes.now ≡ [] → output.new ≡ output.old }
     ensures ok { OnOk result (Appends (W.contents output.old) (W.contents output.new) bytes.now) }
     ensures err { OnErr result
         (AppendsStart (W.contents output.old) (W.contents output.new) bytes.now) }
@@ -101,8 +102,10 @@ impl OutputBuffer {
         self.len = end;
     }
 
-    /// Writes what waits, and empties the buffer. After an error the buffer is as it was.
+    /// Writes what waits, and empties the buffer. After an error the buffer is as it was, and where
+    /// nothing waits no write is made.
     pub fn flush<W: Write>(&mut self, output: &mut W) -> Result<(), WriteFailed>
+        ensures nothing { self.old ≡ [] → output.new ≡ output.old }
         ensures empty { OnOk result (self.new ≡ []) }
         ensures kept { OnErr result (self.new ≡ self.old) }
         ensures ok { OnOk result
@@ -235,7 +238,7 @@ impl OutputBuffer {
         self.append_any(output, count, width, text)
     }
 
-    /// The same by parts, of any length.
+    /// Puts an answer of any length beside what waits, part by part.
     #[inline(never)]
     fn append_any<W: Write>(
         &mut self,

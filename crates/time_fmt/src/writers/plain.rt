@@ -11,6 +11,7 @@ use std::mem::{forget, replace};
 #[inline(always)]
 pub(crate) fn take_out(output: &mut Vec<u8>) -> Vec<u8>
     ensures taken { result ≡ output.old }
+    ensures left { vec_capacity output.new ≡ 0 }
 {
     let alloc = *output.allocator();
     replace(output, Vec::new(alloc))

@@ -6,6 +6,7 @@ use std::default::Default;
 use std::process::Abort;
 use time_below::{OffsetDateTime, PlainDateTime, UtcDateTime};
 
+mod further_values;
 mod other_values;
 
 #[derive(Clone, Copy, Debug)]
@@ -148,7 +149,9 @@ fn call<V: ComponentProvider>(value: &V, state: &mut V::State, method: Method)
     }
 }
 
-fn state_after<V: ComponentProvider>(value: &V, first: Method, second: Method) -> V::State {
+fn state_after<V: ComponentProvider>(value: &V, first: Method, second: Method) -> V::State
+    ensures { V.agrees result value.now }
+{
     let mut state = V::State::default();
     call(value, &mut state, first);
     call(value, &mut state, second);
@@ -168,7 +171,7 @@ fn either(a: [bool; 4], b: [bool; 4]) -> [bool; 4] {
     [a[0] || b[0], a[1] || b[1], a[2] || b[2], a[3] || b[3]]
 }
 
-// After two methods in turn the state holds the entries of both: what is held is kept.
+// The state holds the entries of both methods after they were called in turn.
 fn check_entries<V: ComponentProvider<State = DateState>>(rt: &impl Abort, value: &V) {
     for &(first, of_first, _) in ENTRIES {
         for &(second, of_second, _) in ENTRIES {

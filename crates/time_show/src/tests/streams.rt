@@ -121,6 +121,22 @@ fn fails_at_the_write_of_each_answer(rt: HostRuntime) -> Result<(), Fail> {
     Ok(())
 }
 
+/// A read that ends no line writes nothing, and each answer goes out by one write.
+#[test]
+fn writes_nothing_where_nothing_waits(rt: HostRuntime) {
+    for step in 1..65usize {
+        let mut source = Source {
+            bytes: INPUT,
+            step,
+            calls: 1000,
+        };
+        let mut sink = Sink::new(rt.alloc(), 1000, 1000);
+        assert_same(&rt, run(rt.alloc(), &mut source, &mut sink), Ok(()));
+        assert!(rt; sink.lengths.iter().all(|length| *length > 0));
+        assert!(rt; sink.lengths.len() <= ANSWERS.len());
+    }
+}
+
 /// A line of ten bytes, its end among them, that is no command.
 const TEN_BYTES: &[u8] = b"time 1 2 \n";
 

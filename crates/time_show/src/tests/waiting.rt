@@ -2,12 +2,30 @@
 use super::assert_same;
 use crate::output::{OUTPUT_LIMIT, OutputBuffer};
 use crate::reply::Reply;
-use std::alloc::Global;
+use std::io;
+use std::io::Write;
 use std::process::Abort;
 use std::test::Fail;
 
 /// The bytes of a formatted value's answer beside its text, where both numbers have one digit.
 const FRAME: usize = 8;
+
+/// Counts the bytes that it takes, and holds none.
+#[derive(Drop)]
+struct Counter {
+    bytes: usize,
+}
+
+impl Write for Counter {
+    fn write(&mut self, buf: &[u8]) -> io::Result<usize> {
+        self.bytes = self.bytes.saturating_add(buf.len());
+        Ok(buf.len())
+    }
+
+    fn flush(&mut self) -> io::Result<()> {
+        Ok(())
+    }
+}
 
 /// An answer whose text has so many bytes. It has eight more, `ok 0 0 ` and a line feed, and no answer
 /// has fewer.
@@ -19,29 +37,29 @@ fn reply(text: &[u8], len: usize) -> Reply<'_> {
     }
 }
 
-/// So many bytes wait, and go out: all at once, and before a longer answer that has no room beside them.
-fn assert_goes_out(rt: &impl Abort, alloc: Global, text: &[u8], len: usize) -> Result<(), Fail> {
-    let mut output = Vec::with_capacity(alloc, 2 * OUTPUT_LIMIT)?;
-    let mut answers = OutputBuffer::new();
+/// Waiting bytes go out: all at once, and before a longer answer that does not fit beside them.
+fn assert_goes_out(rt: &impl Abort, answers: &mut OutputBuffer, text: &[u8], len: usize) {
+    let mut output = Counter { bytes: 0 };
     let waits = answers.append_reply(&mut output, reply(text, len)).is_ok();
-    assert!(rt; waits && output.is_empty());
+    assert!(rt; waits && output.bytes == 0);
     assert!(rt; answers.flush(&mut output).is_ok());
-    assert_same(rt, output.len(), len.saturating_add(FRAME));
-    output.clear();
+    assert_same(rt, output.bytes, len.saturating_add(FRAME));
+    output.bytes = 0;
     let waits = answers.append_reply(&mut output, reply(text, len)).is_ok();
-    assert!(rt; waits && output.is_empty());
+    assert!(rt; waits && output.bytes == 0);
     let rest = text.len().saturating_sub(len);
     let follows = answers.append_reply(&mut output, reply(text, rest)).is_ok();
     assert!(rt; follows);
-    assert_same(rt, output.len(), len.saturating_add(FRAME));
-    Ok(())
+    assert_same(rt, output.bytes, len.saturating_add(FRAME));
+    assert!(rt; answers.flush(&mut output).is_ok());
 }
 
 #[test]
 fn each_number_of_bytes_that_wait(rt: HostRuntime) -> Result<(), Fail> {
     let text = vec![in rt.alloc(); b'x'; OUTPUT_LIMIT - FRAME]?;
+    let mut answers = OutputBuffer::new();
     for len in 0..=text.len() {
-        assert_goes_out(&rt, rt.alloc(), text.as_slice(), len)?;
+        assert_goes_out(&rt, &mut answers, text.as_slice(), len);
     }
     Ok(())
 }

@@ -1,4 +1,4 @@
-use Rattle.std.proofs.Common.{◌≡◌, ◌≤◌, ℕ, List, ◌++◌, length, take, drop, ◌+◌, ◌-◌, arith, append-nil}
+use Rattle.std.proofs.Common.{◌≡◌, ◌≤◌, ℕ, List, ◌++◌, length, take, drop, ◌+◌, ◌-◌, arith, ap, append-nil}
 use Rattle.std.proofs.lemmas.Grind.{common_steps, pieces}
 use Rattle.std.proofs.Math.Seq.{take-add}
 use Rattle.time_show.proofs.OutputBufferLemmas.{Appends-then, Appends-kept, AppendsStart-at}
@@ -26,7 +26,17 @@ loop-done-preserved g c = record {
       c.in-Ok.ensures.bound;
   written = rw (taken-more c.args.bytes.now c.loop-done.done c.in-Ok.count c.loop-done.invariant.in_range)
       (Appends-then _ _ _ _ _ c.loop-done.invariant.written c.in-Ok.ensures.bytes);
+  untouched = λ e. absurd (omega (arith, ap length e));
 }
+
+pub returns-clause-nothing : goal.returns-clause-nothing
+returns-clause-nothing g c = c.loop-done.invariant.untouched
+
+pub returns-in-Ok-eq0-clause-nothing : goal.returns-in-Ok-eq0-clause-nothing
+returns-in-Ok-eq0-clause-nothing g c e = absurd (omega (arith, ap length e))
+
+pub returns-in-Err-clause-nothing : goal.returns-in-Err-clause-nothing
+returns-in-Err-clause-nothing g c e = absurd (omega (arith, ap length e))
 
 pub returns-in-Err-clause-err : goal.returns-in-Err-clause-err
 returns-in-Err-clause-err g c =

@@ -1,4 +1,4 @@
-use Rattle.std.proofs.Common.{take}
+use Rattle.std.proofs.Common.{take, rules}
 use Rattle.std.proofs.lemmas.Result.{err_from_is_err_and}
 use Rattle.time_show.proofs.RunLemmas.{Running-on, Ran-cut, Ran-ended, Ran-end_cut}
 use Rattle.time_show.proofs.run.run.Goals as goal
@@ -12,7 +12,8 @@ pub returns-in_err-answer_last-clause-ran : goal.returns-in_err-answer_last-clau
 returns-in_err-answer_last-clause-ran g c =
     let p = err_from_is_err_and c.from_residual.result c.from_residual.ensures.1 in
     let end = rw c.if-count-eq0.true at c.in-Ok.ensures.bytes.0 in
-    rw (p.1, p.2) (Ran-end_cut _ _ _ _ _ _ _ c.loop.invariant end c.in_err-answer_last.ensures.err)
+    let ended = c.in-Ok.ensures.bytes.1 c.if-count-eq0.true (search rules) in
+    rw (p.1, p.2) (Ran-end_cut _ _ _ _ _ _ _ c.loop.invariant end ended c.in_err-answer_last.ensures.err)
 
 pub returns-then-count-eq0-clause-ran : goal.returns-then-count-eq0-clause-ran
 returns-then-count-eq0-clause-ran g c =
