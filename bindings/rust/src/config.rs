@@ -2,7 +2,7 @@
 use crate::batch::Batch;
 use crate::format::Format;
 use crate::raw::IsoConfig;
-use crate::Moment;
+use crate::{Moment, UtcMoment};
 
 /// Which parts are written.
 #[derive(Clone, Copy, Debug, PartialEq, Eq, Hash)]
@@ -162,10 +162,16 @@ impl Iso8601By {
     }
 }
 
-impl Format<Moment> for Iso8601By {
-    fn width(&self) -> usize {
-        self.width()
-    }
+macro_rules! by_configuration {
+    ($($value:ty),*) => { $(
+        impl Format<$value> for Iso8601By {
+            fn width(&self) -> usize {
+                self.width()
+            }
+        }
+
+        impl Batch<$value> for Iso8601By {}
+    )* };
 }
 
-impl Batch<Moment> for Iso8601By {}
+by_configuration!(Moment, UtcMoment);

@@ -29,6 +29,22 @@ pub struct Iso8601;
 #[derive(Clone, Copy, Debug, Default, PartialEq, Eq, Hash)]
 pub struct Stamp;
 
+/// RFC 3339 of moments, by the local time that is so many seconds ahead of UTC.
+///
+/// ```
+/// use movaliren::{Format, Rfc3339Local, UtcMoment};
+///
+/// let text = Rfc3339Local(-28_800).text(&UtcMoment::new(851_042_397, 0))?;
+/// assert_eq!(text.as_str(), "1996-12-19T16:39:57-08:00");
+/// # Ok::<(), movaliren::Error>(())
+/// ```
+#[derive(Clone, Copy, Debug, Default, PartialEq, Eq, Hash)]
+pub struct Rfc3339Local(pub i64);
+
+/// RFC 2822 of moments, by the local time that is so many seconds ahead of UTC.
+#[derive(Clone, Copy, Debug, Default, PartialEq, Eq, Hash)]
+pub struct Rfc2822Local(pub i64);
+
 /// Returns the stamp of a moment in UTC.
 ///
 /// ```
@@ -66,8 +82,10 @@ macro_rules! known {
 }
 
 known! {
-    Rfc3339 over Moment: 35 bytes;
-    Rfc2822 over Moment: 31 bytes;
-    Iso8601 over Moment: 35 bytes;
+    Rfc3339 over Moment, UtcMoment: 35 bytes;
+    Rfc2822 over Moment, UtcMoment: 31 bytes;
+    Iso8601 over Moment, UtcMoment: 35 bytes;
+    Rfc3339Local over UtcMoment: 35 bytes;
+    Rfc2822Local over UtcMoment: 31 bytes;
     Stamp over UtcMoment: 30 bytes;
 }
