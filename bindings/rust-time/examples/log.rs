@@ -1,26 +1,13 @@
 //! Logs the clock with milliseconds, from eight threads.
-use movaliren::{Description, Kind, SubsecondDigits};
+use movaliren::{Iso8601By, TimePrecision};
 use movaliren_time::Timer;
 use std::thread;
 
+const MILLISECONDS: Iso8601By = Iso8601By::new().time_precision(TimePrecision::Second, 3);
+
 fn main() {
-    let milliseconds = Description::new()
-        .component(Kind::Year)
-        .literal("-")
-        .component(Kind::Month)
-        .literal("-")
-        .component(Kind::Day)
-        .literal("T")
-        .component(Kind::Hour)
-        .literal(":")
-        .component(Kind::Minute)
-        .literal(":")
-        .component(Kind::Second)
-        .literal(".")
-        .subsecond(SubsecondDigits::Three)
-        .literal("Z");
     tracing_subscriber::fmt()
-        .with_timer(Timer::new(milliseconds))
+        .with_timer(Timer::new(MILLISECONDS))
         .init();
     thread::scope(|scope| {
         for thread in 0..8 {

@@ -7,10 +7,10 @@ use tracing_subscriber::fmt::time::FormatTime;
 /// A timer that writes the system's clock by a format.
 ///
 /// ```
-/// use movaliren::Stamp;
+/// use movaliren::Rfc3339;
 /// use movaliren_time::Timer;
 ///
-/// tracing_subscriber::fmt().with_timer(Timer::new(Stamp)).init();
+/// tracing_subscriber::fmt().with_timer(Timer::new(Rfc3339)).init();
 /// tracing::info!("opened");
 /// ```
 #[derive(Clone, Copy, Debug, Default)]

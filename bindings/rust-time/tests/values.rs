@@ -1,7 +1,7 @@
 //! Texts of 200,000 random values beside those of `time` and of `chrono`.
 use chrono::{DateTime, FixedOffset, NaiveDateTime, SecondsFormat, Utc};
 use movaliren::{
-    Description, Error, Format, Iso8601By, Kind, Rfc2822, Rfc3339, Stamp, TimePrecision,
+    Description, Error, Format, Iso8601By, Kind, Rfc2822, Rfc3339, Stamp, TimePrecision, UtcMoment,
 };
 use movaliren_time::{ToDate, ToMoment, ToUtcMoment};
 use std::fmt::Debug;
@@ -95,15 +95,26 @@ fn descriptions_are_those_of_time() {
 }
 
 #[test]
-fn texts_in_utc_are_those_of_time_and_chrono() {
+fn texts_of_seconds_are_those_of_time() {
+    for value in values() {
+        let time = OffsetDateTime::from_unix_timestamp(value.0).unwrap();
+        let time = time.replace_nanosecond(value.1).unwrap();
+        let moment = time.to_utc_moment();
+        assert_eq!(moment, UtcMoment::new(value.0, value.1));
+        assert_same(Rfc3339.format(&moment), time.format(&well_known::Rfc3339));
+        assert_same(Rfc2822.format(&moment), time.format(&well_known::Rfc2822));
+    }
+}
+
+#[test]
+fn texts_of_seconds_are_those_of_chrono() {
     for value in values() {
         let chrono = chrono_of(value);
-        let utc = chrono.with_timezone(&Utc);
+        let (utc, moment) = (chrono.with_timezone(&Utc), chrono.to_utc_moment());
         let theirs = utc.to_rfc3339_opts(SecondsFormat::Nanos, true);
-        assert_eq!(Stamp.text(&chrono.to_utc_moment()).unwrap(), &*theirs);
-        if let Some(time) = time_of(value) {
-            assert_eq!(time.to_utc_moment(), chrono.to_utc_moment());
-        }
+        assert_eq!(Stamp.text(&moment).unwrap(), &*theirs);
+        let theirs = utc.to_rfc3339_opts(SecondsFormat::Millis, true);
+        assert_eq!(MILLISECONDS.text(&moment).unwrap(), &*theirs);
     }
 }
 

@@ -64,9 +64,15 @@ pub enum DecimalSign {
 /// ISO 8601 by a configuration, at first that of [`Iso8601`](crate::Iso8601).
 ///
 /// The setters are `const`, so a configuration can be a constant.
+/// A [`UtcMoment`] is written in UTC, of the years 0 to 9999.
 ///
 /// ```
-/// use movaliren::{DateKind, DecimalSign, Format, Iso8601By, Moment, TimePrecision};
+/// use movaliren::{DateKind, DecimalSign, Format, Iso8601By, Moment, TimePrecision, UtcMoment};
+///
+/// const MILLISECONDS: Iso8601By = Iso8601By::new().time_precision(TimePrecision::Second, 3);
+///
+/// let moment = UtcMoment::new(879_350_106, 120_000_000);
+/// assert_eq!(MILLISECONDS.text(&moment)?, "1997-11-12T15:55:06.120Z");
 ///
 /// const WEEK: Iso8601By = Iso8601By::new()
 ///     .date_kind(DateKind::Week)
@@ -152,11 +158,13 @@ impl Iso8601By {
     }
 
     /// The greatest number of bytes that a text has.
+    #[inline]
     pub const fn width(&self) -> usize {
         // 13 bytes of the date, 10 and the decimals of the time, 6 of the offset.
         29 + self.0.decimals as usize
     }
 
+    #[inline]
     pub(crate) fn config(&self) -> &IsoConfig {
         &self.0
     }
@@ -165,6 +173,7 @@ impl Iso8601By {
 macro_rules! by_configuration {
     ($($value:ty),*) => { $(
         impl Format<$value> for Iso8601By {
+            #[inline]
             fn width(&self) -> usize {
                 self.width()
             }

@@ -196,10 +196,12 @@ impl Description {
     }
 
     /// The greatest number of bytes that a text has.
+    #[inline]
     pub fn width(&self) -> usize {
         self.width
     }
 
+    #[inline]
     pub(crate) fn parts(&self) -> (&[Item], &[u8]) {
         (&self.items, &self.texts)
     }
@@ -218,6 +220,7 @@ impl Description {
 macro_rules! described {
     ($($value:ty),*) => { $(
         impl Format<$value> for Description {
+            #[inline]
             fn width(&self) -> usize {
                 self.width
             }

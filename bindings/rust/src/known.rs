@@ -64,6 +64,7 @@ macro_rules! known {
     ($($name:ident over $($value:ty),*: $width:literal bytes;)*) => { $(
         impl $name {
             /// The greatest number of bytes that a text has.
+            #[inline]
             pub const fn width(&self) -> usize {
                 $width
             }
@@ -71,6 +72,7 @@ macro_rules! known {
 
         $(
             impl Format<$value> for $name {
+                #[inline]
                 fn width(&self) -> usize {
                     $width
                 }

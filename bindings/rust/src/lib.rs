@@ -2,7 +2,9 @@
 //! sort, and descriptions.
 //!
 //! ```
-//! use movaliren::{Format, Moment, Rfc3339};
+//! use movaliren::{Format, Moment, Rfc3339, UtcMoment};
+//!
+//! println!("{} opened", Rfc3339.text(&UtcMoment::now())?);
 //!
 //! let moment = Moment::new(1997, 11, 12).at(9, 55, 6, 120_000_000).offset(-6, 0, 0);
 //! println!("{} opened", Rfc3339.text(&moment)?);

@@ -1,4 +1,5 @@
 //! The values that are formatted.
+use crate::{stamp, Error};
 use core::cmp::Ordering;
 
 /// A local date and time, and its offset from UTC.
@@ -163,19 +164,42 @@ impl UtcMoment {
     }
 }
 
+/// The date and time in UTC, of a moment of the years 0 to 9999.
+///
+/// They are read from the moment's [`stamp`], so no other code knows the calendar. Another year is
+/// [`Error::NoPlaceForYear`].
+///
+/// ```
+/// use movaliren::{Moment, UtcMoment};
+///
+/// let moment = Moment::try_from(UtcMoment::new(879_350_106, 120_000_000))?;
+/// assert_eq!(moment, Moment::new(1997, 11, 12).at(15, 55, 6, 120_000_000));
+/// # Ok::<(), movaliren::Error>(())
+/// ```
+impl TryFrom<UtcMoment> for Moment {
+    type Error = Error;
+
+    fn try_from(moment: UtcMoment) -> Result<Self, Error> {
+        let text = stamp(&moment)?;
+        let digit = |place: usize| text[place] - b'0';
+        let two = |place: usize| digit(place) * 10 + digit(place + 1);
+        let year = i32::from(two(0)) * 100 + i32::from(two(2));
+        Ok(Moment::new(year, two(5), two(8)).at(two(11), two(14), two(17), moment.nanosecond))
+    }
+}
+
 #[cfg(feature = "std")]
 mod clock {
-    use super::UtcMoment;
-    use crate::Error;
+    use super::{Error, UtcMoment};
     use std::time::{Duration, SystemTime, UNIX_EPOCH};
 
     impl UtcMoment {
         /// Returns the moment of the system's clock.
         ///
         /// ```
-        /// use movaliren::{Format, Stamp, UtcMoment};
+        /// use movaliren::{Format, Rfc3339, UtcMoment};
         ///
-        /// println!("{} opened", Stamp.text(&UtcMoment::now())?);
+        /// println!("{} opened", Rfc3339.text(&UtcMoment::now())?);
         /// # Ok::<(), movaliren::Error>(())
         /// ```
         pub fn now() -> Self {

@@ -252,7 +252,7 @@ const _: () = assert!(core::mem::size_of::<IsoConfig>() == 8);
 const _: () = assert!(core::mem::size_of::<Item>() == 24);
 const _: () = assert!(core::mem::size_of::<library::Progress>() == 24);
 
-/// Memory that a call writes to, and never reads.
+/// Memory that a call writes to. No answer depends on what it held.
 type Buffer = [MaybeUninit<u8>];
 
 /// A format, by the function of the library that writes its text.
@@ -275,10 +275,12 @@ pub unsafe trait CallAll<V> {
     fn call_all(&self, values: &[V], end: u8, buffer: &mut Buffer) -> Progress;
 }
 
+#[inline]
 fn count_of(answer: isize) -> Result<usize, Error> {
     usize::try_from(answer).map_err(|_| Error::from_number(answer))
 }
 
+#[inline]
 fn progress_of(progress: library::Progress) -> Progress {
     Progress {
         moments: progress.moments,
@@ -290,6 +292,7 @@ fn progress_of(progress: library::Progress) -> Progress {
     }
 }
 
+#[inline]
 fn pointer(buffer: &mut Buffer) -> *mut u8 {
     buffer.as_mut_ptr().cast()
 }
@@ -299,6 +302,7 @@ macro_rules! calls {
         // SAFETY: the function returns how many bytes it has written to the start of the buffer, which
         // are ASCII.
         unsafe impl Call<Moment> for $format {
+            #[inline]
             fn call(&self, value: &Moment, buffer: &mut Buffer) -> Result<usize, Error> {
                 // SAFETY: `Moment` has the header's layout, and pointer and length are the buffer's.
                 count_of(unsafe { library::$function(value, pointer(buffer), buffer.len()) })
@@ -307,6 +311,7 @@ macro_rules! calls {
 
         // SAFETY: the function returns how many bytes it has written to the start of the buffer.
         unsafe impl CallAll<Moment> for $format {
+            #[inline]
             fn call_all(&self, values: &[Moment], end: u8, buffer: &mut Buffer) -> Progress {
                 // SAFETY: `Moment` has the header's layout, and both pointers stand beside the
                 // lengths of their slices.
@@ -328,6 +333,7 @@ calls! {
 // SAFETY: the function returns how many bytes it has written to the start of the buffer, which are
 // ASCII.
 unsafe impl Call<Moment> for Iso8601By {
+    #[inline]
     fn call(&self, value: &Moment, buffer: &mut Buffer) -> Result<usize, Error> {
         // SAFETY: both structs have the header's layout; pointer and length are the buffer's.
         count_of(unsafe {
@@ -338,6 +344,7 @@ unsafe impl Call<Moment> for Iso8601By {
 
 // SAFETY: the function returns how many bytes it has written to the start of the buffer.
 unsafe impl CallAll<Moment> for Iso8601By {
+    #[inline]
     fn call_all(&self, values: &[Moment], end: u8, buffer: &mut Buffer) -> Progress {
         // SAFETY: both structs have the header's layout, and both pointers stand beside the lengths
         // of their slices.
@@ -359,6 +366,7 @@ macro_rules! utc_calls {
         // SAFETY: the function returns how many bytes it has written to the start of the buffer, which
         // are ASCII.
         unsafe impl Call<UtcMoment> for $format {
+            #[inline]
             fn call(&self, value: &UtcMoment, buffer: &mut Buffer) -> Result<usize, Error> {
                 let (seconds, nanosecond) = (value.seconds, value.nanosecond);
                 // SAFETY: pointer and length are the buffer's.
@@ -370,6 +378,7 @@ macro_rules! utc_calls {
 
         // SAFETY: the function returns how many bytes it has written to the start of the buffer.
         unsafe impl CallAll<UtcMoment> for $format {
+            #[inline]
             fn call_all(&self, values: &[UtcMoment], end: u8, buffer: &mut Buffer) -> Progress {
                 // SAFETY: `UtcMoment` has the header's layout, and both pointers stand beside the
                 // lengths of their slices.
@@ -392,6 +401,7 @@ utc_calls! {
 // SAFETY: the function returns how many bytes it has written to the start of the buffer, which are
 // ASCII.
 unsafe impl Call<UtcMoment> for Iso8601By {
+    #[inline]
     fn call(&self, value: &UtcMoment, buffer: &mut Buffer) -> Result<usize, Error> {
         // SAFETY: `IsoConfig` has the header's layout; pointer and length are the buffer's.
         count_of(unsafe {
@@ -408,6 +418,7 @@ unsafe impl Call<UtcMoment> for Iso8601By {
 
 // SAFETY: the function returns how many bytes it has written to the start of the buffer.
 unsafe impl CallAll<UtcMoment> for Iso8601By {
+    #[inline]
     fn call_all(&self, values: &[UtcMoment], end: u8, buffer: &mut Buffer) -> Progress {
         // SAFETY: both structs have the header's layout, and both pointers stand beside the lengths
         // of their slices.
@@ -429,6 +440,7 @@ macro_rules! local_calls {
         // SAFETY: the function returns how many bytes it has written to the start of the buffer, which
         // are ASCII.
         unsafe impl Call<UtcMoment> for $format {
+            #[inline]
             fn call(&self, value: &UtcMoment, buffer: &mut Buffer) -> Result<usize, Error> {
                 let (seconds, nanosecond) = (value.seconds, value.nanosecond);
                 // SAFETY: pointer and length are the buffer's.
@@ -440,6 +452,7 @@ macro_rules! local_calls {
 
         // SAFETY: the function returns how many bytes it has written to the start of the buffer.
         unsafe impl CallAll<UtcMoment> for $format {
+            #[inline]
             fn call_all(&self, values: &[UtcMoment], end: u8, buffer: &mut Buffer) -> Progress {
                 // SAFETY: `UtcMoment` has the header's layout, and both pointers stand beside the
                 // lengths of their slices.
@@ -461,6 +474,7 @@ local_calls! {
 // SAFETY: the function returns how many bytes it has written to the start of the buffer. These are
 // whole literals, which are UTF-8, and components, which are ASCII.
 unsafe impl Call<Moment> for Description {
+    #[inline]
     fn call(&self, value: &Moment, buffer: &mut Buffer) -> Result<usize, Error> {
         let (items, texts) = self.parts();
         // SAFETY: both structs have the header's layout, and each pointer stands beside the length
@@ -482,6 +496,7 @@ unsafe impl Call<Moment> for Description {
 // SAFETY: the function returns how many bytes it has written to the start of the buffer. These are
 // whole literals, which are UTF-8, and components, which are ASCII.
 unsafe impl Call<UtcMoment> for Description {
+    #[inline]
     fn call(&self, value: &UtcMoment, buffer: &mut Buffer) -> Result<usize, Error> {
         let (items, texts) = self.parts();
         // SAFETY: `Item` has the header's layout, and each pointer stands beside the length of its
@@ -504,6 +519,7 @@ unsafe impl Call<UtcMoment> for Description {
 // SAFETY: the function returns how many bytes it has written to the start of the buffer. These are
 // whole literals, which are UTF-8, and components, which are ASCII.
 unsafe impl Call<Date> for Description {
+    #[inline]
     fn call(&self, value: &Date, buffer: &mut Buffer) -> Result<usize, Error> {
         let (items, texts) = self.parts();
         // SAFETY: `Item` has the header's layout, and each pointer stands beside the length of its

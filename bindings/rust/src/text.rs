@@ -41,12 +41,14 @@ impl Text {
     }
 
     /// The text as a `str`.
+    #[inline]
     pub fn as_str(&self) -> &str {
         // SAFETY: `written` had these bytes as a `str`, and nothing changes them.
         unsafe { str::from_utf8_unchecked(self.as_bytes()) }
     }
 
     /// The bytes of the text.
+    #[inline]
     pub fn as_bytes(&self) -> &[u8] {
         &self.bytes[..usize::from(self.len)]
     }
@@ -55,6 +57,7 @@ impl Text {
 impl ops::Deref for Text {
     type Target = str;
 
+    #[inline]
     fn deref(&self) -> &str {
         self.as_str()
     }

@@ -97,6 +97,23 @@ fn texts() {
 }
 
 #[test]
+fn refuses_seconds_that_have_no_text() {
+    let late = UtcMoment::new(253_402_300_800, 0);
+    assert_error(&Rfc3339, &late, Error::NoPlaceForYear);
+    assert_error(
+        &Rfc2822,
+        &UtcMoment::new(-2_208_988_801, 0),
+        Error::NoPlaceForYear,
+    );
+    assert_error(&Iso8601, &UtcMoment::new(i64::MIN, 0), Error::MomentSeconds);
+    assert_error(
+        &Iso8601By::new(),
+        &UtcMoment::new(0, 1_000_000_000),
+        Error::Nanosecond,
+    );
+}
+
+#[test]
 fn configurations() {
     let config = Iso8601By::default();
     let date = config.parts(Parts::Date);
