@@ -178,9 +178,9 @@ macro_rules! by_configuration {
                 self.width()
             }
         }
+
+        impl Batch<$value> for Iso8601By {}
     )* };
 }
 
 by_configuration!(Moment, UtcMoment);
-
-impl Batch<Moment> for Iso8601By {}

@@ -8,12 +8,14 @@
 
 mod batch;
 mod calendar_date;
+mod clock_batch;
 mod described;
 mod fields;
 mod iso8601;
 mod item;
 mod kept_offset;
 pub mod laws;
+mod local;
 mod moment;
 mod moment_text;
 mod pieces;
@@ -23,4 +25,5 @@ mod rfc3339;
 mod room;
 mod sinks;
 mod stamp;
+mod utc;
 mod writer;
