@@ -31,6 +31,11 @@ int main(void)
     show("by week", movaliren_iso8601_by(&week, &moment, room, most), room);
     show("stamp", movaliren_stamp(879350106, 120000000, room, most), room);
 
+    static const struct movaliren_iso_config milliseconds = MOVALIREN_ISO_DECIMALS(3);
+    show("milliseconds",
+        movaliren_iso8601_by_utc(&milliseconds, 879350106, 120000000, room, most), room);
+    show("local time", movaliren_rfc3339_local(879350106, 120000000, -21600, room, most), room);
+
     struct movaliren_item items[7];
     char texts[10];
     struct movaliren_description line = MOVALIREN_DESCRIPTION(items, texts);

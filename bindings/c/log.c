@@ -1,4 +1,4 @@
-/* Eight threads log the clock. Built over an installed library by
+/* Eight threads log the clock with milliseconds. Built over an installed library by
  *     cc log.c -pthread $(pkg-config --cflags --libs movaliren) */
 #define _POSIX_C_SOURCE 200809L
 #include <movaliren.h>
@@ -6,13 +6,16 @@
 #include <stdio.h>
 #include <time.h>
 
+static const struct movaliren_iso_config milliseconds = MOVALIREN_ISO_DECIMALS(3);
+
 static void *work(void *name)
 {
-    char stamp[MOVALIREN_STAMP_ROOM + 1];
+    char stamp[MOVALIREN_ISO8601_ROOM + 1];
     for (int line = 0; line < 3; line++) {
         struct timespec now;
         clock_gettime(CLOCK_REALTIME, &now);
-        ptrdiff_t n = movaliren_stamp(now.tv_sec, now.tv_nsec, stamp, MOVALIREN_STAMP_ROOM);
+        ptrdiff_t n = movaliren_iso8601_by_utc(
+            &milliseconds, now.tv_sec, now.tv_nsec, stamp, sizeof stamp - 1);
         if (n < 0)
             return (void *)movaliren_error_text(n);
         stamp[n] = 0;

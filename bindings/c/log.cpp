@@ -1,4 +1,4 @@
-// Eight threads log the clock. Built over an installed library by
+// Eight threads log the clock with milliseconds. Built over an installed library by
 //     c++ log.cpp -pthread $(pkg-config --cflags --libs movaliren)
 #include <chrono>
 #include <iostream>
@@ -12,9 +12,11 @@
 static std::string stamp(std::chrono::system_clock::time_point now)
 {
     using namespace std::chrono;
+    static const movaliren_iso_config milliseconds_of = MOVALIREN_ISO_DECIMALS(3);
     const auto since = duration_cast<nanoseconds>(now.time_since_epoch()).count();
-    char text[MOVALIREN_STAMP_ROOM];
-    const auto n = movaliren_stamp(since / 1000000000, since % 1000000000, text, sizeof text);
+    char text[MOVALIREN_ISO8601_ROOM];
+    const auto n = movaliren_iso8601_by_utc(
+        &milliseconds_of, since / 1000000000, since % 1000000000, text, sizeof text);
     if (n < 0)
         throw std::runtime_error(movaliren_error_text(n));
     return std::string(text, n);

@@ -50,7 +50,7 @@ void __wrap_free(void *pointer)
     __real_free(pointer);
 }
 
-enum { ROOM = 300, CALLS = 14 };
+enum { ROOM = 300, CALLS = 26 };
 
 static const struct movaliren_moment moment = { .year = 1997, .month = 11, .day = 12, .hour = 9,
     .minute = 55, .second = 6, .nanosecond = 120000000, .offset_hours = -6 };
@@ -81,7 +81,19 @@ static ptrdiff_t call(int which, uint8_t *room)
     case 10: return bytes_of(movaliren_rfc2822_batch(&moment, 1, '\n', room, ROOM));
     case 11: return bytes_of(movaliren_iso8601_batch(&moment, 1, '\n', room, ROOM));
     case 12: return bytes_of(movaliren_iso8601_by_batch(&config, &moment, 1, '\n', room, ROOM));
-    default: return bytes_of(movaliren_stamp_batch(&epoch, 1, '\n', room, ROOM));
+    case 13: return bytes_of(movaliren_stamp_batch(&epoch, 1, '\n', room, ROOM));
+    case 14: return movaliren_rfc3339_utc(0, 1, room, ROOM);
+    case 15: return movaliren_rfc2822_utc(0, 1, room, ROOM);
+    case 16: return movaliren_iso8601_utc(0, 1, room, ROOM);
+    case 17: return movaliren_iso8601_by_utc(&config, 0, 1, room, ROOM);
+    case 18: return movaliren_rfc3339_local(0, 1, 60, room, ROOM);
+    case 19: return movaliren_rfc2822_local(0, 1, 60, room, ROOM);
+    case 20: return bytes_of(movaliren_rfc3339_utc_batch(&epoch, 1, '\n', room, ROOM));
+    case 21: return bytes_of(movaliren_rfc2822_utc_batch(&epoch, 1, '\n', room, ROOM));
+    case 22: return bytes_of(movaliren_iso8601_utc_batch(&epoch, 1, '\n', room, ROOM));
+    case 23: return bytes_of(movaliren_iso8601_by_utc_batch(&config, &epoch, 1, '\n', room, ROOM));
+    case 24: return bytes_of(movaliren_rfc3339_local_batch(&epoch, 1, 60, '\n', room, ROOM));
+    default: return bytes_of(movaliren_rfc2822_local_batch(&epoch, 1, 60, '\n', room, ROOM));
     }
 }
 

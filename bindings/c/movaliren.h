@@ -1,8 +1,8 @@
 /* Moments as text, by Movaliren's proved formatter. For Linux on x86-64 processors of the level
  * x86-64-v2 or above.
  *
- *     char line[MOVALIREN_STAMP_ROOM + 1];
- *     ptrdiff_t n = movaliren_stamp(seconds, nanosecond, line, MOVALIREN_STAMP_ROOM);
+ *     char line[MOVALIREN_RFC3339_ROOM + 1];
+ *     ptrdiff_t n = movaliren_rfc3339_utc(now.tv_sec, now.tv_nsec, line, MOVALIREN_RFC3339_ROOM);
  *     if (n < 0)
  *         fprintf(stderr, "%s\n", movaliren_error_text(n));
  *     else
@@ -214,6 +214,28 @@ struct movaliren_iso_config {
 ptrdiff_t movaliren_iso8601_by(const struct movaliren_iso_config *config,
     const struct movaliren_moment *moment, void *room, size_t room_len);
 
+/* ---- moments by the clock: seconds and a nanosecond, as in movaliren_utc_moment */
+
+/* In UTC, with Z or +0000 for the offset. */
+ptrdiff_t movaliren_rfc3339_utc(int64_t seconds, uint32_t nanosecond, void *room, size_t room_len);
+ptrdiff_t movaliren_rfc2822_utc(int64_t seconds, uint32_t nanosecond, void *room, size_t room_len);
+ptrdiff_t movaliren_iso8601_utc(int64_t seconds, uint32_t nanosecond, void *room, size_t room_len);
+
+/* A line of a log with milliseconds, as 1997-11-12T15:55:06.120Z:
+ *
+ *     static const struct movaliren_iso_config milliseconds = MOVALIREN_ISO_DECIMALS(3);
+ *     n = movaliren_iso8601_by_utc(&milliseconds, now.tv_sec, now.tv_nsec, line, sizeof line - 1); */
+ptrdiff_t movaliren_iso8601_by_utc(const struct movaliren_iso_config *config, int64_t seconds,
+    uint32_t nanosecond, void *room, size_t room_len);
+
+/* By the local date and time, where clocks are so many seconds ahead of UTC, as tm_gmtoff says. At
+ * most 25:59:59 either way, or it is MOVALIREN_ERROR_OFFSET_HOURS; the formats take no seconds of an
+ * offset. The moment is tested before the offset. */
+ptrdiff_t movaliren_rfc3339_local(
+    int64_t seconds, uint32_t nanosecond, int64_t offset, void *room, size_t room_len);
+ptrdiff_t movaliren_rfc2822_local(
+    int64_t seconds, uint32_t nanosecond, int64_t offset, void *room, size_t room_len);
+
 /* ---- many moments in one call */
 
 /* How far a batch came: so many moments stand in the room, in so many bytes. reason is 0 where these
@@ -238,6 +260,19 @@ struct movaliren_progress movaliren_iso8601_by_batch(const struct movaliren_iso_
     size_t room_len);
 struct movaliren_progress movaliren_stamp_batch(const struct movaliren_utc_moment *moments,
     size_t moments_len, uint8_t end, void *room, size_t room_len);
+struct movaliren_progress movaliren_rfc3339_utc_batch(const struct movaliren_utc_moment *moments,
+    size_t moments_len, uint8_t end, void *room, size_t room_len);
+struct movaliren_progress movaliren_rfc2822_utc_batch(const struct movaliren_utc_moment *moments,
+    size_t moments_len, uint8_t end, void *room, size_t room_len);
+struct movaliren_progress movaliren_iso8601_utc_batch(const struct movaliren_utc_moment *moments,
+    size_t moments_len, uint8_t end, void *room, size_t room_len);
+struct movaliren_progress movaliren_iso8601_by_utc_batch(const struct movaliren_iso_config *config,
+    const struct movaliren_utc_moment *moments, size_t moments_len, uint8_t end, void *room,
+    size_t room_len);
+struct movaliren_progress movaliren_rfc3339_local_batch(const struct movaliren_utc_moment *moments,
+    size_t moments_len, int64_t offset, uint8_t end, void *room, size_t room_len);
+struct movaliren_progress movaliren_rfc2822_local_batch(const struct movaliren_utc_moment *moments,
+    size_t moments_len, int64_t offset, uint8_t end, void *room, size_t room_len);
 
 /* ---- descriptions */
 

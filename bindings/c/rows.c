@@ -262,6 +262,86 @@ static void try_stamps(void)
     }
 }
 
+/* ---- moments by the clock, in UTC and at an offset. The texts are those of the RFCs. */
+
+struct clock {
+    struct movaliren_utc_moment moment;
+    int64_t offset;
+};
+
+#define BY_THE_CLOCK(name, one, many)                                                              \
+    static ptrdiff_t name(const void *format, const void *value, uint8_t *room, size_t room_len)   \
+    {                                                                                              \
+        const struct clock *c = value;                                                             \
+        (void)format;                                                                              \
+        return one;                                                                                \
+    }                                                                                              \
+    static ptrdiff_t name##_batch(                                                                 \
+        const void *format, const void *value, uint8_t *room, size_t room_len)                     \
+    {                                                                                              \
+        const struct clock *c = value;                                                             \
+        (void)format;                                                                              \
+        return of_one(many, room);                                                                 \
+    }
+
+#define NOW c->moment.seconds, c->moment.nanosecond
+
+static const struct movaliren_iso_config milliseconds = MOVALIREN_ISO_DECIMALS(3);
+
+BY_THE_CLOCK(rfc3339_utc, movaliren_rfc3339_utc(NOW, room, room_len),
+    movaliren_rfc3339_utc_batch(&c->moment, 1, 0, room, room_len + 1))
+BY_THE_CLOCK(rfc2822_utc, movaliren_rfc2822_utc(NOW, room, room_len),
+    movaliren_rfc2822_utc_batch(&c->moment, 1, 0, room, room_len + 1))
+BY_THE_CLOCK(iso8601_utc, movaliren_iso8601_utc(NOW, room, room_len),
+    movaliren_iso8601_utc_batch(&c->moment, 1, 0, room, room_len + 1))
+BY_THE_CLOCK(milliseconds_utc, movaliren_iso8601_by_utc(&milliseconds, NOW, room, room_len),
+    movaliren_iso8601_by_utc_batch(&milliseconds, &c->moment, 1, 0, room, room_len + 1))
+BY_THE_CLOCK(rfc3339_local, movaliren_rfc3339_local(NOW, c->offset, room, room_len),
+    movaliren_rfc3339_local_batch(&c->moment, 1, c->offset, 0, room, room_len + 1))
+BY_THE_CLOCK(rfc2822_local, movaliren_rfc2822_local(NOW, c->offset, room, room_len),
+    movaliren_rfc2822_local_batch(&c->moment, 1, c->offset, 0, room, room_len + 1))
+
+#define BOTH(name) name, name##_batch
+
+static void try_the_clock(void)
+{
+    static const struct {
+        writer *write, *batch;
+        struct clock clock;
+        const char *text;
+        int error;
+    } rows[] = {
+        { BOTH(rfc3339_utc), { { 482196050, 520000000 }, 0 }, "1985-04-12T23:20:50.52Z", 0 },
+        { BOTH(rfc3339_utc), { { -1, 999999999 }, 0 }, "1969-12-31T23:59:59.999999999Z", 0 },
+        { BOTH(rfc3339_utc), { { 253402300800, 0 }, 0 }, 0, MOVALIREN_ERROR_NO_PLACE_FOR_YEAR },
+        { BOTH(rfc3339_utc), { { INT64_MAX, 0 }, 0 }, 0, MOVALIREN_ERROR_MOMENT_SECONDS },
+        { BOTH(rfc3339_utc), { { 0, 1000000000 }, 0 }, 0, MOVALIREN_ERROR_NANOSECOND },
+        { BOTH(rfc2822_utc), { { 880127706, 0 }, 0 }, "Fri, 21 Nov 1997 15:55:06 +0000", 0 },
+        { BOTH(rfc2822_utc), { { -2208988801, 0 }, 0 }, 0, MOVALIREN_ERROR_NO_PLACE_FOR_YEAR },
+        { BOTH(iso8601_utc), { { 482196050, 520000000 }, 0 }, "1985-04-12T23:20:50.520000000Z", 0 },
+        { BOTH(milliseconds_utc), { { 482196050, 520000000 }, 0 }, "1985-04-12T23:20:50.520Z", 0 },
+        { BOTH(rfc3339_local), { { 851042397, 0 }, -28800 }, "1996-12-19T16:39:57-08:00", 0 },
+        { BOTH(rfc3339_local), { { -1041337173, 870000000 }, 1200 },
+            "1937-01-01T12:00:27.87+00:20", 0 },
+        { BOTH(rfc3339_local), { { 253402300799, 0 }, 1800 }, 0, MOVALIREN_ERROR_NO_PLACE_FOR_YEAR },
+        { BOTH(rfc3339_local), { { 0, 0 }, -86400 }, 0, MOVALIREN_ERROR_NO_PLACE_FOR_OFFSET_HOUR },
+        { BOTH(rfc3339_local), { { 0, 0 }, 3601 }, 0, MOVALIREN_ERROR_NO_PLACE_FOR_OFFSET_SECOND },
+        { BOTH(rfc3339_local), { { 0, 0 }, 93600 }, 0, MOVALIREN_ERROR_OFFSET_HOURS },
+        { BOTH(rfc3339_local), { { 0, 1000000000 }, INT64_MIN }, 0, MOVALIREN_ERROR_NANOSECOND },
+        { BOTH(rfc3339_local), { { 31494784780799, 0 }, 1 }, 0, MOVALIREN_ERROR_MOMENT_SECONDS },
+        { BOTH(rfc2822_local), { { 880127706, 0 }, -21600 }, "Fri, 21 Nov 1997 09:55:06 -0600", 0 },
+        { BOTH(rfc2822_local), { { 0, 0 }, 93540 }, "Fri, 02 Jan 1970 01:59:00 +2559", 0 },
+    };
+    for (size_t i = 0; i < sizeof rows / sizeof *rows; i++) {
+        writer *writers[] = { rows[i].write, rows[i].batch };
+        for (size_t k = 0; k < 2; k++)
+            if (rows[i].text)
+                expect_text(writers[k], 0, &rows[i].clock, rows[i].text);
+            else
+                expect_error(writers[k], 0, &rows[i].clock, rows[i].error);
+    }
+}
+
 /* ---- batches */
 
 static void expect_progress(struct movaliren_progress progress, size_t moments, size_t bytes,
@@ -315,6 +395,7 @@ int main(void)
     try_configurations();
     try_long_decimals();
     try_stamps();
+    try_the_clock();
     try_batches();
     try_empty_slices();
     printf("rows: %d wrong\n", failures);

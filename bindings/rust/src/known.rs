@@ -29,6 +29,22 @@ pub struct Iso8601;
 #[derive(Clone, Copy, Debug, Default, PartialEq, Eq, Hash)]
 pub struct Stamp;
 
+/// RFC 3339 of moments, by the local time that is so many seconds ahead of UTC.
+///
+/// ```
+/// use movaliren::{Format, Rfc3339Local, UtcMoment};
+///
+/// let text = Rfc3339Local(-28_800).text(&UtcMoment::new(851_042_397, 0))?;
+/// assert_eq!(text.as_str(), "1996-12-19T16:39:57-08:00");
+/// # Ok::<(), movaliren::Error>(())
+/// ```
+#[derive(Clone, Copy, Debug, Default, PartialEq, Eq, Hash)]
+pub struct Rfc3339Local(pub i64);
+
+/// RFC 2822 of moments, by the local time that is so many seconds ahead of UTC.
+#[derive(Clone, Copy, Debug, Default, PartialEq, Eq, Hash)]
+pub struct Rfc2822Local(pub i64);
+
 /// Returns the stamp of a moment in UTC.
 ///
 /// ```
@@ -45,7 +61,7 @@ pub fn stamp(moment: &UtcMoment) -> Result<[u8; 30], Error> {
 }
 
 macro_rules! known {
-    ($($name:ident over $($value:ty),*; batches over $batch:ty: $width:literal bytes;)*) => { $(
+    ($($name:ident over $($value:ty),*: $width:literal bytes;)*) => { $(
         impl $name {
             /// The greatest number of bytes that a text has.
             #[inline]
@@ -61,15 +77,17 @@ macro_rules! known {
                     $width
                 }
             }
-        )*
 
-        impl Batch<$batch> for $name {}
+            impl Batch<$value> for $name {}
+        )*
     )* };
 }
 
 known! {
-    Rfc3339 over Moment, UtcMoment; batches over Moment: 35 bytes;
-    Rfc2822 over Moment, UtcMoment; batches over Moment: 31 bytes;
-    Iso8601 over Moment, UtcMoment; batches over Moment: 35 bytes;
-    Stamp over UtcMoment; batches over UtcMoment: 30 bytes;
+    Rfc3339 over Moment, UtcMoment: 35 bytes;
+    Rfc2822 over Moment, UtcMoment: 31 bytes;
+    Iso8601 over Moment, UtcMoment: 35 bytes;
+    Rfc3339Local over UtcMoment: 35 bytes;
+    Rfc2822Local over UtcMoment: 31 bytes;
+    Stamp over UtcMoment: 30 bytes;
 }

@@ -45,6 +45,6 @@ pub use config::{DateKind, DecimalSign, Iso8601By, OffsetPrecision, Parts, TimeP
 pub use description::{Date, Description, Kind, Padding, SubsecondDigits};
 pub use error::Error;
 pub use format::Format;
-pub use known::{stamp, Iso8601, Rfc2822, Rfc3339, Stamp};
+pub use known::{stamp, Iso8601, Rfc2822, Rfc2822Local, Rfc3339, Rfc3339Local, Stamp};
 pub use moment::{Moment, UtcMoment};
 pub use text::Text;

@@ -3,7 +3,7 @@
 //! A call lends the library slices, whose pointers are never null and whose lengths are below
 //! `isize::MAX`. The buffer is borrowed mutably, so it overlaps nothing else. Each struct that crosses
 //! is `#[repr(C)]`, with the fields of the header in its order. The library keeps no pointer.
-use crate::known::{Iso8601, Rfc2822, Rfc3339, Stamp};
+use crate::known::{Iso8601, Rfc2822, Rfc2822Local, Rfc3339, Rfc3339Local, Stamp};
 use crate::{Date, Description, Error, Iso8601By, Moment, Progress, UtcMoment};
 use alloc::string::String;
 use alloc::vec::Vec;
@@ -119,6 +119,90 @@ mod library {
         pub(super) fn movaliren_stamp_batch(
             moments: *const UtcMoment,
             moments_len: usize,
+            end: u8,
+            room: *mut u8,
+            room_len: usize,
+        ) -> Progress;
+        pub(super) fn movaliren_rfc3339_utc(
+            seconds: i64,
+            nanosecond: u32,
+            room: *mut u8,
+            room_len: usize,
+        ) -> isize;
+        pub(super) fn movaliren_rfc2822_utc(
+            seconds: i64,
+            nanosecond: u32,
+            room: *mut u8,
+            room_len: usize,
+        ) -> isize;
+        pub(super) fn movaliren_iso8601_utc(
+            seconds: i64,
+            nanosecond: u32,
+            room: *mut u8,
+            room_len: usize,
+        ) -> isize;
+        pub(super) fn movaliren_iso8601_by_utc(
+            config: *const IsoConfig,
+            seconds: i64,
+            nanosecond: u32,
+            room: *mut u8,
+            room_len: usize,
+        ) -> isize;
+        pub(super) fn movaliren_rfc3339_local(
+            seconds: i64,
+            nanosecond: u32,
+            offset: i64,
+            room: *mut u8,
+            room_len: usize,
+        ) -> isize;
+        pub(super) fn movaliren_rfc2822_local(
+            seconds: i64,
+            nanosecond: u32,
+            offset: i64,
+            room: *mut u8,
+            room_len: usize,
+        ) -> isize;
+        pub(super) fn movaliren_rfc3339_utc_batch(
+            moments: *const UtcMoment,
+            moments_len: usize,
+            end: u8,
+            room: *mut u8,
+            room_len: usize,
+        ) -> Progress;
+        pub(super) fn movaliren_rfc2822_utc_batch(
+            moments: *const UtcMoment,
+            moments_len: usize,
+            end: u8,
+            room: *mut u8,
+            room_len: usize,
+        ) -> Progress;
+        pub(super) fn movaliren_iso8601_utc_batch(
+            moments: *const UtcMoment,
+            moments_len: usize,
+            end: u8,
+            room: *mut u8,
+            room_len: usize,
+        ) -> Progress;
+        pub(super) fn movaliren_iso8601_by_utc_batch(
+            config: *const IsoConfig,
+            moments: *const UtcMoment,
+            moments_len: usize,
+            end: u8,
+            room: *mut u8,
+            room_len: usize,
+        ) -> Progress;
+        pub(super) fn movaliren_rfc3339_local_batch(
+            moments: *const UtcMoment,
+            moments_len: usize,
+            offset: i64,
+            end: u8,
+            room: *mut u8,
+            room_len: usize,
+        ) -> Progress;
+        pub(super) fn movaliren_rfc2822_local_batch(
+            moments: *const UtcMoment,
+            moments_len: usize,
+            offset: i64,
             end: u8,
             room: *mut u8,
             room_len: usize,
@@ -277,45 +361,115 @@ unsafe impl CallAll<Moment> for Iso8601By {
     }
 }
 
-// SAFETY: the function returns how many bytes it has written to the start of the buffer, which are
-// ASCII.
-unsafe impl Call<UtcMoment> for Stamp {
-    #[inline]
-    fn call(&self, value: &UtcMoment, buffer: &mut Buffer) -> Result<usize, Error> {
-        let (seconds, nanosecond) = (value.seconds, value.nanosecond);
-        // SAFETY: pointer and length are the buffer's.
-        count_of(unsafe {
-            library::movaliren_stamp(seconds, nanosecond, pointer(buffer), buffer.len())
-        })
-    }
-}
-
-// SAFETY: the function returns how many bytes it has written to the start of the buffer.
-unsafe impl CallAll<UtcMoment> for Stamp {
-    #[inline]
-    fn call_all(&self, values: &[UtcMoment], end: u8, buffer: &mut Buffer) -> Progress {
-        let (moments, moments_len) = (values.as_ptr(), values.len());
-        // SAFETY: `UtcMoment` has the header's layout, and both pointers stand beside the lengths of
-        // their slices.
-        progress_of(unsafe {
-            library::movaliren_stamp_batch(moments, moments_len, end, pointer(buffer), buffer.len())
-        })
-    }
-}
-
 macro_rules! utc_calls {
-    ($($format:ty),*) => { $(
-        // SAFETY: the call over a `Moment` promises the same of the same buffer.
+    ($($format:ty: $function:ident, $batch:ident;)*) => { $(
+        // SAFETY: the function returns how many bytes it has written to the start of the buffer, which
+        // are ASCII.
         unsafe impl Call<UtcMoment> for $format {
             #[inline]
             fn call(&self, value: &UtcMoment, buffer: &mut Buffer) -> Result<usize, Error> {
-                self.call(&Moment::try_from(*value)?, buffer)
+                let (seconds, nanosecond) = (value.seconds, value.nanosecond);
+                // SAFETY: pointer and length are the buffer's.
+                count_of(unsafe {
+                    library::$function(seconds, nanosecond, pointer(buffer), buffer.len())
+                })
+            }
+        }
+
+        // SAFETY: the function returns how many bytes it has written to the start of the buffer.
+        unsafe impl CallAll<UtcMoment> for $format {
+            #[inline]
+            fn call_all(&self, values: &[UtcMoment], end: u8, buffer: &mut Buffer) -> Progress {
+                // SAFETY: `UtcMoment` has the header's layout, and both pointers stand beside the
+                // lengths of their slices.
+                progress_of(unsafe {
+                    let (moments, moments_len) = (values.as_ptr(), values.len());
+                    library::$batch(moments, moments_len, end, pointer(buffer), buffer.len())
+                })
             }
         }
     )* };
 }
 
-utc_calls!(Rfc3339, Rfc2822, Iso8601, Iso8601By);
+utc_calls! {
+    Rfc3339: movaliren_rfc3339_utc, movaliren_rfc3339_utc_batch;
+    Rfc2822: movaliren_rfc2822_utc, movaliren_rfc2822_utc_batch;
+    Iso8601: movaliren_iso8601_utc, movaliren_iso8601_utc_batch;
+    Stamp: movaliren_stamp, movaliren_stamp_batch;
+}
+
+// SAFETY: the function returns how many bytes it has written to the start of the buffer, which are
+// ASCII.
+unsafe impl Call<UtcMoment> for Iso8601By {
+    #[inline]
+    fn call(&self, value: &UtcMoment, buffer: &mut Buffer) -> Result<usize, Error> {
+        // SAFETY: `IsoConfig` has the header's layout; pointer and length are the buffer's.
+        count_of(unsafe {
+            library::movaliren_iso8601_by_utc(
+                self.config(),
+                value.seconds,
+                value.nanosecond,
+                pointer(buffer),
+                buffer.len(),
+            )
+        })
+    }
+}
+
+// SAFETY: the function returns how many bytes it has written to the start of the buffer.
+unsafe impl CallAll<UtcMoment> for Iso8601By {
+    #[inline]
+    fn call_all(&self, values: &[UtcMoment], end: u8, buffer: &mut Buffer) -> Progress {
+        // SAFETY: both structs have the header's layout, and both pointers stand beside the lengths
+        // of their slices.
+        progress_of(unsafe {
+            library::movaliren_iso8601_by_utc_batch(
+                self.config(),
+                values.as_ptr(),
+                values.len(),
+                end,
+                pointer(buffer),
+                buffer.len(),
+            )
+        })
+    }
+}
+
+macro_rules! local_calls {
+    ($($format:ty: $function:ident, $batch:ident;)*) => { $(
+        // SAFETY: the function returns how many bytes it has written to the start of the buffer, which
+        // are ASCII.
+        unsafe impl Call<UtcMoment> for $format {
+            #[inline]
+            fn call(&self, value: &UtcMoment, buffer: &mut Buffer) -> Result<usize, Error> {
+                let (seconds, nanosecond) = (value.seconds, value.nanosecond);
+                // SAFETY: pointer and length are the buffer's.
+                count_of(unsafe {
+                    library::$function(seconds, nanosecond, self.0, pointer(buffer), buffer.len())
+                })
+            }
+        }
+
+        // SAFETY: the function returns how many bytes it has written to the start of the buffer.
+        unsafe impl CallAll<UtcMoment> for $format {
+            #[inline]
+            fn call_all(&self, values: &[UtcMoment], end: u8, buffer: &mut Buffer) -> Progress {
+                // SAFETY: `UtcMoment` has the header's layout, and both pointers stand beside the
+                // lengths of their slices.
+                progress_of(unsafe {
+                    let (moments, moments_len) = (values.as_ptr(), values.len());
+                    let (room, room_len) = (pointer(buffer), buffer.len());
+                    library::$batch(moments, moments_len, self.0, end, room, room_len)
+                })
+            }
+        }
+    )* };
+}
+
+local_calls! {
+    Rfc3339Local: movaliren_rfc3339_local, movaliren_rfc3339_local_batch;
+    Rfc2822Local: movaliren_rfc2822_local, movaliren_rfc2822_local_batch;
+}
 
 // SAFETY: the function returns how many bytes it has written to the start of the buffer. These are
 // whole literals, which are UTF-8, and components, which are ASCII.

@@ -80,10 +80,37 @@ fn texts() {
         &moment,
         "1997-11-12T15:55:06.120000000Z",
     );
+    assert_text(
+        &Rfc3339Local(-21_600),
+        &moment,
+        "1997-11-12T09:55:06.12-06:00",
+    );
+    assert_text(
+        &Rfc2822Local(-21_600),
+        &moment,
+        "Wed, 12 Nov 1997 09:55:06 -0600",
+    );
     assert_eq!(
         stamp(&moment).as_ref(),
         Ok(b"1997-11-12T15:55:06.120000000Z")
     );
+}
+
+#[test]
+fn refuses_an_offset_that_has_no_text() {
+    let moment = UtcMoment::new(879_350_106, 0);
+    for (offset, error) in [
+        (93_600, Error::OffsetHours),
+        (i64::MIN, Error::OffsetHours),
+        (86_400, Error::NoPlaceForOffsetHour),
+        (-1, Error::NoPlaceForOffsetSecond),
+    ] {
+        assert_error(&Rfc3339Local(offset), &moment, error);
+    }
+    let second = Error::NoPlaceForOffsetSecond;
+    assert_error(&Rfc2822Local(1), &moment, second);
+    let late = UtcMoment::new(i64::MAX, 0);
+    assert_error(&Rfc3339Local(i64::MAX), &late, Error::MomentSeconds);
 }
 
 #[test]
@@ -230,7 +257,7 @@ fn batches() {
         b"# 1997-11-12T09:55:06.12-06:00\n2026-11-22T00:00:00Z\n"
     );
     assert_eq!(progress.bytes + 2, lines.len());
-    let none = Rfc2822.batch_into(&mut lines, &[], 0);
+    let none = Rfc2822.batch_into(&mut lines, &[] as &[Moment], 0);
     assert_eq!((none.moments, none.bytes, none.stopped), (0, 0, None));
 }
 
@@ -250,6 +277,12 @@ fn a_batch_has_the_texts_of_its_moments() {
         .map(|i| UtcMoment::new(i * 1_000_003, 1))
         .collect();
     assert_batch(&Stamp, &moments);
+    assert_batch(&Rfc3339, &moments);
+    assert_batch(&Rfc2822, &moments);
+    assert_batch(&Iso8601, &moments);
+    assert_batch(&Iso8601By::default(), &moments);
+    assert_batch(&Rfc3339Local(3600), &moments);
+    assert_batch(&Rfc2822Local(-3600), &moments);
 }
 
 fn assert_batch<V>(format: &impl Batch<V>, values: &[V]) {

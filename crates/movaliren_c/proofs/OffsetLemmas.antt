@@ -1,6 +1,8 @@
--- The parts of an offset that settle to one sign keep their sizes.
-use Rattle.std.proofs.Common.{◌≡◌, ℤ, unsigned_abs}
-use Rattle.time_below.specs.Offset.{settled}
+-- The parts of an offset that settle to one sign.
+use Rattle.std.proofs.Common.{◌≡◌, ℕ, zero, suc, ℤ, pos, neg_ℤ, unsigned_abs, Bool, true, false, refl, ap, ◌∙◌, arith}
+use Rattle.std.specs.Prelude.{int_lt, if◌then◌else◌}
+use Rattle.std.proofs.lemmas.Bool.Decides.{nat_tests}
+use Rattle.time_below.specs.Offset.{Offset, settled, signed, signed_like}
 use Rattle.time_below.proofs.OffsetLemmas.{Settles-settled}
 
 pub minutes_size : (h m s : ℤ) → unsigned_abs (settled h m s).minutes ≡ unsigned_abs m
@@ -10,3 +12,33 @@ pub seconds_size : (h m s : ℤ) → unsigned_abs (settled h m s).seconds ≡ un
 seconds_size h m s = (Settles-settled h m s).seconds_size
 
 pub ruleset settled_sizes = (minutes_size, seconds_size)
+
+-- ---- parts of one sign stay as they are
+
+either : (b : Bool) (x : ℤ) → (if b then x else x) ≡ x
+either true x = refl
+either false x = refl
+
+stays_above : (h m : ℕ) → signed_like (pos h) (pos m) ≡ pos m
+stays_above h m =
+    let above : int_lt (pos h) (pos 0) ≡ false = grind (arith, nat_tests) in
+    rw above (either (int_lt (pos 0) (pos h)) (pos m))
+
+stays_below : (h m : ℕ) → signed_like (neg_ℤ (pos h)) (neg_ℤ (pos m)) ≡ neg_ℤ (pos m)
+stays_below zero m = refl
+stays_below (suc h) zero = refl
+stays_below (suc h) (suc m) = refl
+
+stays : (b : Bool) (h m : ℕ) → signed_like (signed b h) (signed b m) ≡ signed b m
+stays false h m = stays_above h m
+stays true h m = stays_below h m
+
+same_parts : (h m s x y : ℤ) → x ≡ m → y ≡ s
+    → ◌≡◌ {A = Offset} (record { hours = h; minutes = x; seconds = y }) (record { hours = h; minutes = m; seconds = s })
+same_parts h m s x y minutes seconds = rw (minutes, seconds) refl
+
+pub settled_signed : (b : Bool) (h m s : ℕ)
+    → ◌≡◌ {A = Offset} (settled (signed b h) (signed b m) (signed b s)) (record { hours = signed b h; minutes = signed b m; seconds = signed b s })
+settled_signed b h m s =
+    same_parts (signed b h) (signed b m) (signed b s) _ _ (stays b h m)
+    (ap (λ (x : ℤ). signed_like (signed b h) x) (stays b m s) ∙ stays b h s)

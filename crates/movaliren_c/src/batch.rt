@@ -85,7 +85,7 @@ pub extern "C" fn movaliren_stamp_batch(moments: &[UtcMoment], end: u8, room: &m
 }
 
 /// The texts of the items, one after another, each ended by this byte.
-fn lines_written<W: Writer>(writer: &W, items: &[W::Item], end: u8, room: &mut [u8]) -> Progress
+pub fn lines_written<W: Writer>(writer: &W, items: &[W::Item], end: u8, room: &mut [u8]) -> Progress
     ensures { IsBatch items.now (λ item. ended end (W.asked writer.now item))
         result room.old room.new }
 {

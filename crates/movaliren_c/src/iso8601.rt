@@ -17,8 +17,8 @@ use crate::reason::{Reason, answer_number};
 use crate::room::copied;
 use crate::writer::Writer;
 use arrayvec::ArrayString;
-pub use choices::IsoConfig;
-use choices::{Choices, choices_at};
+use choices::Choices;
+pub use choices::{IsoConfig, choices_at};
 use date::push_date;
 pub use default_text::default_written;
 use offset::push_offset;
@@ -75,7 +75,7 @@ impl Writer for IsoConfig {
     fn write(&self, moment: &Moment, room: &mut [u8]) -> Result<usize, Reason> {
         match choices_at(self) {
             Ok(choices) => match moment_value(moment) {
-                Ok(value) => written(choices, &value, room),
+                Ok(value) => written_by(choices, &value, room),
                 Err(reason) => Err(reason),
             },
             Err(reason) => Err(reason),
@@ -86,7 +86,7 @@ impl Writer for IsoConfig {
 /// Writes the text of the value to the start of the room: 284 bytes are the most that there are, 13
 /// of the date, 265 of the time and 6 of the offset.
 #[inline(always)]
-fn written(choices: Choices, value: &LocalMoment, room: &mut [u8]) -> Result<usize, Reason>
+pub fn written_by(choices: Choices, value: &LocalMoment, room: &mut [u8]) -> Result<usize, Reason>
     ensures { IsWritten result (iso8601_of choices value.now) room.old room.new }
 {
     let mut line = ArrayString::<284>::new();

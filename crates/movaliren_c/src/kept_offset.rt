@@ -1,6 +1,7 @@
 //! Offsets that keep the parts by which they were told.
-ghost use Rattle.std.specs.Prelude.{◌≡◌, ◌≤◌, IfOk, unsigned_abs};
-ghost use Rattle.time_below.specs.Offset.{is_negative, is_utc, utc};
+ghost use Rattle.std.specs.Prelude.{◌≡◌, ◌<◌, ◌≤◌, IfOk, unsigned_abs};
+ghost use Rattle.time_below.specs.Offset.{is_negative, is_utc, signed, utc};
+ghost use Rattle.movaliren_c.specs.Utc.{east_value};
 ghost use Rattle.movaliren_c.specs.Value.{offset_part, offset_value};
 
 use crate::moment::Moment;
@@ -41,6 +42,38 @@ impl KeptOffset {
             minutes,
             seconds,
         })
+    }
+
+    /// The offset of so many seconds east of UTC, if it is at most 25:59:59 either way.
+    pub fn of_seconds(east: i64) -> Result<KeptOffset, Reason>
+        ensures value { result ≡ east_value east }
+        ensures range { IfOk result (λ _. unsigned_abs east < 93_600) }
+    {
+        let size = east.unsigned_abs();
+        if size > 93_599 {
+            return Err(Reason::OffsetHours);
+        }
+        let (hours, minutes, seconds) = (size / 3600, size % 3600 / 60, size % 60);
+        Ok(KeptOffset::signed(east < 0, hours as u8, minutes as u8, seconds as u8))
+    }
+
+    /// The offset of parts of one sign.
+    #[tactic(auto, using(crate::proofs::OffsetLemmas::settled_signed))]
+    fn signed(is_negative: bool, hours: u8, minutes: u8, seconds: u8) -> KeptOffset
+        requires hours { hours ≤ 25 }
+        requires minutes { minutes ≤ 59 }
+        requires seconds { seconds ≤ 59 }
+        ensures { result ≡ record {
+          hours = signed is_negative hours;
+          minutes = signed is_negative minutes;
+          seconds = signed is_negative seconds;
+        } }
+    {
+        KeptOffset {
+            hours: signed_part(is_negative, hours),
+            minutes: signed_part(is_negative, minutes),
+            seconds: signed_part(is_negative, seconds),
+        }
     }
 
     /// The offset of UTC itself.
@@ -128,4 +161,17 @@ fn offset_part(reason: Reason, greatest: u8, number: i8) -> Result<i8, Reason>
         return Err(reason);
     }
     Ok(number)
+}
+
+/// A part of this size, with a sign.
+fn signed_part(is_negative: bool, size: u8) -> i8
+    requires { size ≤ 59 }
+    ensures value { result ≡ signed is_negative size }
+    ensures size { unsigned_abs result ≡ size }
+{
+    if is_negative {
+        -(size as i8)
+    } else {
+        size as i8
+    }
 }

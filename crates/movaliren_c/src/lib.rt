@@ -8,11 +8,13 @@
 
 mod batch;
 mod calendar_date;
+mod clock_batch;
 mod described;
 mod iso8601;
 mod item;
 mod kept_offset;
 pub mod laws;
+mod local;
 mod moment;
 mod pieces;
 mod reason;
@@ -20,4 +22,5 @@ mod rfc2822;
 mod rfc3339;
 mod room;
 mod stamp;
+mod utc;
 mod writer;

@@ -1,6 +1,7 @@
 //! Moments as they cross the border, and the values that they give.
 ghost use Rattle.std.specs.Prelude.{◌≡◌};
 ghost use Rattle.time_below.specs.Offset.{utc};
+ghost use Rattle.movaliren_c.specs.Utc.{value_at, with_offset};
 ghost use Rattle.movaliren_c.specs.Value.{date_value, time_value, moment_value, timestamp_value, stamp_value};
 
 use crate::calendar_date::CalendarDate;
@@ -59,6 +60,17 @@ impl LocalMoment {
             date: CalendarDate::of_date(value.date()),
             time: value.time(),
             offset: KeptOffset::utc(),
+        }
+    }
+
+    /// The same date and time, with this offset.
+    pub fn with_offset(value: UtcDateTime, offset: KeptOffset) -> LocalMoment
+        ensures { result ≡ with_offset offset value }
+    {
+        LocalMoment {
+            date: CalendarDate::of_date(value.date()),
+            time: value.time(),
+            offset,
         }
     }
 
@@ -161,4 +173,15 @@ pub fn stamp_value(seconds: i64, nanosecond: u32) -> Result<UtcDateTime, Reason>
 {
     let moment = timestamp_value(seconds, nanosecond)?;
     Ok(UtcDateTime::new(moment.date(), moment.time()))
+}
+
+/// The date and time so long after 1970, with this offset.
+#[tactic(auto, unfolding(crate::specs::Utc::value_at))]
+pub fn value_at(seconds: i64, nanosecond: u32, offset: KeptOffset) -> Result<LocalMoment, Reason>
+    ensures { result ≡ value_at seconds nanosecond offset }
+{
+    match stamp_value(seconds, nanosecond) {
+        Ok(value) => Ok(LocalMoment::with_offset(value, offset)),
+        Err(reason) => Err(reason),
+    }
 }

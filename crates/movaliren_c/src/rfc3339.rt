@@ -48,7 +48,7 @@ pub extern "C" fn movaliren_rfc3339(moment: &Moment, room: &mut [u8]) -> isize
 
 /// Writes the text of the value to the start of the room.
 #[inline(always)]
-fn written(value: &LocalMoment, room: &mut [u8]) -> Result<usize, Reason>
+pub fn written(value: &LocalMoment, room: &mut [u8]) -> Result<usize, Reason>
     ensures { IsWritten result (rfc3339_of value.now) room.old room.new }
 {
     match accepted_year(value) {

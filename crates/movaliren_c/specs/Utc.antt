@@ -1,0 +1,56 @@
+-- The value that seconds since 1970 and a nanosecond give, in UTC or at an offset.
+use Rattle.std.specs.Prelude.{ℕ, ◌/◌, ◌%◌, ℤ, ◌+ℤ◌, pos, unsigned_abs, nat_lt, int_lt, Result, Ok}
+use Rattle.movaliren_c.specs.Answer.{gives}
+use Rattle.movaliren_c.specs.Chosen.{choices_at}
+use Rattle.movaliren_c.specs.Value.{checked, with_value, timestamp_value, stamp_value}
+use Rattle.movaliren_c.specs.declared.iso8601.choices.IsoConfig.{IsoConfig}
+use Rattle.movaliren_c.specs.declared.reason.Reason.{Reason}
+use Rattle.movaliren_c.specs.declared.reason.Reason.TheVariants as reason
+use Rattle.time_below.specs.Moment.{Moment, DateAndTime, OffsetDateAndTime}
+use Rattle.time_below.specs.Offset.{Offset, signed, utc}
+use Rattle.time_fmt.specs.Outcome.{Outcome}
+use Rattle.time_known.specs.Iso8601.{iso8601_of}
+
+-- a date and time, and this offset
+abbrev pub with_offset : Offset → DateAndTime → OffsetDateAndTime
+with_offset o v = record { date = v.date; time = v.time; offset = o }
+
+-- the date and time so long after 1970, and this offset
+unfoldable pub value_at : ℤ → ℕ → Offset → Result OffsetDateAndTime Reason
+value_at seconds nanosecond o =
+    with_value (stamp_value seconds nanosecond) (λ v. Ok (with_offset o v))
+
+-- a moment in UTC
+abbrev pub utc_value : ℤ → ℕ → Result OffsetDateAndTime Reason
+utc_value seconds nanosecond = value_at seconds nanosecond utc
+
+-- the outcome of a moment in UTC by a configuration, which is tested first
+unfoldable pub iso8601_by_utc : IsoConfig → ℤ → ℕ → Result Outcome Reason
+iso8601_by_utc config seconds nanosecond =
+    with_value (choices_at config) (λ c. gives (utc_value seconds nanosecond) (iso8601_of c))
+
+-- the offset of so many seconds east of UTC
+abbrev pub offset_of_seconds : ℤ → Offset
+offset_of_seconds east =
+    let size = unsigned_abs east in
+    let sign = int_lt east (pos 0) in
+    record {
+      hours = signed sign (size / 3600);
+      minutes = signed sign (size % 3600 / 60);
+      seconds = signed sign (size % 60);
+    }
+
+-- if it is at most 25:59:59 either way
+abbrev pub east_value : ℤ → Result Offset Reason
+east_value east =
+    checked (nat_lt (unsigned_abs east) 93_600) reason.OffsetHours (Ok (offset_of_seconds east))
+
+-- a moment by the local date and time where clocks are so many seconds ahead of UTC
+abbrev pub moved_east : Moment → ℤ → Result OffsetDateAndTime Reason
+moved_east m east =
+    with_value (east_value east) (λ o. value_at (m.seconds +ℤ east) m.nanosecond o)
+
+-- the moment is tested first, then the offset, then the local date
+abbrev pub local_value : ℤ → ℕ → ℤ → Result OffsetDateAndTime Reason
+local_value seconds nanosecond east =
+    with_value (timestamp_value seconds nanosecond) (λ m. moved_east m east)
