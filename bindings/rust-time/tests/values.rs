@@ -1,7 +1,8 @@
 //! Texts of 200,000 random values beside those of `time` and of `chrono`.
 use chrono::{DateTime, FixedOffset, NaiveDateTime, SecondsFormat, Utc};
 use movaliren::{
-    Description, Error, Format, Iso8601By, Kind, Rfc2822, Rfc3339, Stamp, TimePrecision, UtcMoment,
+    Description, Error, Format, Iso8601By, Kind, Rfc2822, Rfc2822Local, Rfc3339, Rfc3339Local,
+    Stamp, TimePrecision, UtcMoment,
 };
 use movaliren_time::{ToDate, ToMoment, ToUtcMoment};
 use std::fmt::Debug;
@@ -115,6 +116,19 @@ fn texts_of_seconds_are_those_of_chrono() {
         assert_eq!(Stamp.text(&moment).unwrap(), &*theirs);
         let theirs = utc.to_rfc3339_opts(SecondsFormat::Millis, true);
         assert_eq!(MILLISECONDS.text(&moment).unwrap(), &*theirs);
+    }
+}
+
+#[test]
+fn texts_with_an_offset_are_those_of_time() {
+    for value in values() {
+        if let Some(time) = time_of(value) {
+            let (moment, offset) = (time.to_utc_moment(), value.2.into());
+            let local = Rfc3339Local(offset);
+            assert_same(local.format(&moment), time.format(&well_known::Rfc3339));
+            let local = Rfc2822Local(offset);
+            assert_same(local.format(&moment), time.format(&well_known::Rfc2822));
+        }
     }
 }
 

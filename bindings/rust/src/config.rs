@@ -64,7 +64,6 @@ pub enum DecimalSign {
 /// ISO 8601 by a configuration, at first that of [`Iso8601`](crate::Iso8601).
 ///
 /// The setters are `const`, so a configuration can be a constant.
-/// A [`UtcMoment`] is written in UTC, of the years 0 to 9999.
 ///
 /// ```
 /// use movaliren::{DateKind, DecimalSign, Format, Iso8601By, Moment, TimePrecision, UtcMoment};

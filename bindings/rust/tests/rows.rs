@@ -97,6 +97,23 @@ fn texts() {
 }
 
 #[test]
+fn refuses_an_offset_that_has_no_text() {
+    let moment = UtcMoment::new(879_350_106, 0);
+    for (offset, error) in [
+        (93_600, Error::OffsetHours),
+        (i64::MIN, Error::OffsetHours),
+        (86_400, Error::NoPlaceForOffsetHour),
+        (-1, Error::NoPlaceForOffsetSecond),
+    ] {
+        assert_error(&Rfc3339Local(offset), &moment, error);
+    }
+    let second = Error::NoPlaceForOffsetSecond;
+    assert_error(&Rfc2822Local(1), &moment, second);
+    let late = UtcMoment::new(i64::MAX, 0);
+    assert_error(&Rfc3339Local(i64::MAX), &late, Error::MomentSeconds);
+}
+
+#[test]
 fn refuses_seconds_that_have_no_text() {
     let late = UtcMoment::new(253_402_300_800, 0);
     assert_error(&Rfc3339, &late, Error::NoPlaceForYear);
