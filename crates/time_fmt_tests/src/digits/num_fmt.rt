@@ -1,9 +1,15 @@
 //! Worked rows, both ends and the powers of ten of each text.
-//!
-//! Rows stand in constants that are lent, since a table in a function's own body is proved cell by cell.
-use super::*;
-use crate::same::assert_same;
+use crate::texts::assert_same;
 use std::process::Abort;
+use time_digits::{
+    DIV_100_FACTOR, DIV_100_SHIFT, SINGLE_DIGITS, SPACE_PADDED_PAIRS, ZERO_PADDED_PAIRS, div_100,
+    five_digits_zero_padded, four_digits_space_padded, four_digits_zero_padded, four_to_six_digits,
+    one_to_four_digits_no_padding, one_to_three_digits_no_padding, one_to_two_digits_no_padding,
+    ru8, ru16, ru32, single_digit, six_digits_zero_padded, subsecond_from_nanos,
+    three_digits_space_padded, three_digits_zero_padded, truncated_subsecond_from_nanos,
+    two_digits_space_padded, two_digits_zero_padded, u64_pad_none, write_one_digit,
+    write_two_digits, zeros_to_drop,
+};
 
 fn digit(rt: &impl Abort, n: u8) -> ru8<0, 9> {
     ru8::new(n).expect(rt, "a digit")
@@ -42,7 +48,7 @@ const QUOTIENTS: &[(u16, u8, u8)] = &[
 ];
 
 #[test]
-fn quotients(rt: HostRuntime) {
+fn a_quotient_by_100_and_its_rest(rt: HostRuntime) {
     for &(n, high, low) in QUOTIENTS {
         let [found_high, found_low] = div_100(four(&rt, n));
         assert_same(&rt, (found_high.get(), found_low.get()), (high, low));
@@ -50,7 +56,7 @@ fn quotients(rt: HostRuntime) {
 }
 
 #[test]
-fn quotients_of_all_numbers(rt: HostRuntime) {
+fn quotients_of_all_numbers_are_right(rt: HostRuntime) {
     for n in 0..10_000u16 {
         let [high, low] = div_100(four(&rt, n));
         assert_same(&rt, u16::from(high.get()), n / 100);
@@ -59,14 +65,14 @@ fn quotients_of_all_numbers(rt: HostRuntime) {
 }
 
 #[test]
-fn the_first_wrong_quotient(rt: HostRuntime) {
+fn the_first_wrong_quotient_is_out_of_range(rt: HostRuntime) {
     let product = 43_699 * DIV_100_FACTOR;
     assert_same(&rt, product, 229_113_857);
     assert_same(&rt, product >> DIV_100_SHIFT, 437);
 }
 
 #[test]
-fn pairs_of_the_tables(rt: HostRuntime) {
+fn each_pair_stands_in_its_table(rt: HostRuntime) {
     assert_same(&rt, SINGLE_DIGITS.len(), 10);
     assert_same(&rt, ZERO_PADDED_PAIRS.len(), 200);
     assert_same(&rt, SPACE_PADDED_PAIRS.len(), 200);
@@ -99,7 +105,7 @@ const PAIRS: &[(u8, &str, &str, &str)] = &[
 ];
 
 #[test]
-fn one_and_two_digits(rt: HostRuntime) {
+fn one_and_two_digits_are_filled_as_asked_for(rt: HostRuntime) {
     for &(n, want) in DIGITS {
         assert_same(&rt, single_digit(digit(&rt, n)), want);
     }
@@ -124,7 +130,7 @@ const THREE: &[TwoPieces] = &[
 ];
 
 #[test]
-fn three_digits(rt: HostRuntime) {
+fn three_digits_are_filled_as_asked_for(rt: HostRuntime) {
     for &(n, plain, zeros, spaces) in THREE {
         assert_same(&rt, one_to_three_digits_no_padding(three(&rt, n)), plain);
         assert_same(&rt, three_digits_zero_padded(three(&rt, n)), zeros);
@@ -143,7 +149,7 @@ const FOUR: &[TwoPieces] = &[
 ];
 
 #[test]
-fn four_digits(rt: HostRuntime) {
+fn four_digits_are_filled_as_asked_for(rt: HostRuntime) {
     for &(n, plain, zeros, spaces) in FOUR {
         assert_same(&rt, one_to_four_digits_no_padding(four(&rt, n)), plain);
         assert_same(&rt, four_digits_zero_padded(four(&rt, n)), zeros);
@@ -162,7 +168,7 @@ const FOUR_TO_SIX: &[(u32, [&str; 3])] = &[
 ];
 
 #[test]
-fn four_to_six(rt: HostRuntime) {
+fn four_to_six_digits_have_no_zeros_before_them(rt: HostRuntime) {
     for &(n, want) in FOUR_TO_SIX {
         assert_same(&rt, four_to_six_digits(six(&rt, n)), want);
     }
@@ -183,7 +189,7 @@ const SIX: &[(u32, [&str; 3])] = &[
 ];
 
 #[test]
-fn five_and_six_digits(rt: HostRuntime) {
+fn five_and_six_digits_are_filled_with_zeros(rt: HostRuntime) {
     for &(n, want) in FIVE {
         assert_same(&rt, five_digits_zero_padded(five(&rt, n)), want);
     }
@@ -201,7 +207,7 @@ const NANOSECONDS: &[(u32, [&str; 5])] = &[
 ];
 
 #[test]
-fn nanoseconds(rt: HostRuntime) {
+fn nanoseconds_have_nine_digits(rt: HostRuntime) {
     for &(n, want) in NANOSECONDS {
         assert_same(&rt, subsecond_from_nanos(nine(&rt, n)), want);
     }
@@ -216,7 +222,7 @@ const WORDS: &[([u8; 8], u32)] = &[
 ];
 
 #[test]
-fn last_zeros_of_a_word(rt: HostRuntime) {
+fn the_last_zeros_of_a_word_are_counted(rt: HostRuntime) {
     for &(text, want) in WORDS {
         assert_same(&rt, zeros_to_drop(u64::from_le_bytes(text)), want);
     }
@@ -239,7 +245,7 @@ const TRIMMED: &[(u32, &str)] = &[
 ];
 
 #[test]
-fn trimmed_nanoseconds(rt: HostRuntime) {
+fn a_fraction_ends_at_its_last_digit(rt: HostRuntime) {
     for &(n, want) in TRIMMED {
         let text = truncated_subsecond_from_nanos(nine(&rt, n));
         assert_same(&rt, text.as_str(), want);
@@ -263,7 +269,7 @@ const WHOLE: &[(u64, &str)] = &[
 ];
 
 #[test]
-fn whole_numbers(rt: HostRuntime) {
+fn whole_numbers_have_no_more_than_their_digits(rt: HostRuntime) {
     for &(n, want) in WHOLE {
         let text = u64_pad_none(n);
         assert_same(&rt, text.as_str(), want);
@@ -272,7 +278,7 @@ fn whole_numbers(rt: HostRuntime) {
 }
 
 #[test]
-fn written_digits(rt: HostRuntime) {
+fn digits_are_written_in_their_place(rt: HostRuntime) {
     let mut buf = *b"......";
     write_two_digits(&mut buf, 2, pair(&rt, 7));
     assert_same(&rt, buf, *b"..07..");
