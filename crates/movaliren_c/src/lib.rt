@@ -9,15 +9,18 @@
 mod batch;
 mod calendar_date;
 mod described;
+mod fields;
 mod iso8601;
 mod item;
 mod kept_offset;
 pub mod laws;
 mod moment;
+mod moment_text;
 mod pieces;
 mod reason;
 mod rfc2822;
 mod rfc3339;
 mod room;
+mod sinks;
 mod stamp;
 mod writer;
