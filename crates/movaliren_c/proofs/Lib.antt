@@ -5,3 +5,4 @@ pub mod FractionLemmas
 pub mod NumberLemmas
 pub mod OffsetLemmas
 pub mod PushLemmas
+pub mod SinkLemmas

@@ -8,36 +8,49 @@ ghost use Rattle.time_known.specs.Iso8601.{iso8601_of};
 
 mod choices;
 mod date;
-mod default_text;
 mod offset;
 mod time;
 
+use crate::fields::{accepted_year_of, fields_of};
 use crate::moment::{LocalMoment, Moment, moment_value};
-use crate::reason::{Reason, answer_number};
+use crate::moment_text::{MomentText, write_moment};
+use crate::reason::{Reason, answer_number, reason_for};
 use crate::room::copied;
 use crate::writer::Writer;
 use arrayvec::ArrayString;
 use choices::Choices;
 pub use choices::{IsoConfig, choices_at};
 use date::push_date;
-pub use default_text::default_written;
 use offset::push_offset;
 use time::push_time;
-use time_known::iso8601::FormattedComponents;
+use time_known::iso8601::{DefaultText, FormattedComponents};
 
 /// The format of ISO 8601 by its default configuration, over moments with an offset.
 pub struct Iso8601;
+
+impl MomentText for DefaultText {
+    ghost outcome = { iso8601_of default_choices };
+
+    #[inline(always)]
+    fn of_value(value: &LocalMoment) -> Result<Self, Reason> {
+        match accepted_year_of(0, 25, value) {
+            Ok(year) => {
+                let fields = fields_of(year, value);
+                Ok(DefaultText { fields })
+            }
+            Err(component) => Err(reason_for(component)),
+        }
+    }
+}
 
 impl Writer for Iso8601 {
     type Item = Moment;
 
     ghost asked = { λ _ moment. gives (moment_value moment) (iso8601_of default_choices) };
 
+    #[inline(never)]
     fn write(&self, moment: &Moment, room: &mut [u8]) -> Result<usize, Reason> {
-        match moment_value(moment) {
-            Ok(value) => default_written(&value, room),
-            Err(reason) => Err(reason),
-        }
+        write_moment::<DefaultText>(moment, room)
     }
 }
 

@@ -7,10 +7,12 @@ ghost use Rattle.time_known.specs.Rfc3339.{rfc3339_of};
 
 use crate::kept_offset::KeptOffset;
 use crate::moment::{LocalMoment, UtcMoment, timestamp_value, value_at};
+use crate::moment_text::write_value;
 use crate::reason::{Reason, answer_number};
 use crate::writer::Writer;
-use crate::{rfc2822, rfc3339};
 use time_below::Timestamp;
+use time_known::rfc2822::Rfc2822Text;
+use time_known::rfc3339::Rfc3339Text;
 
 /// The moment by the local date and time where clocks are so many seconds ahead of UTC.
 fn local_value(seconds: i64, nanosecond: u32, offset: i64) -> Result<LocalMoment, Reason>
@@ -59,7 +61,7 @@ impl Writer for Rfc3339Local {
 
     fn write(&self, moment: &UtcMoment, room: &mut [u8]) -> Result<usize, Reason> {
         match local_value(moment.seconds, moment.nanosecond, self.offset) {
-            Ok(value) => rfc3339::written(&value, room),
+            Ok(value) => write_value::<Rfc3339Text>(&value, room),
             Err(reason) => Err(reason),
         }
     }
@@ -99,7 +101,7 @@ impl Writer for Rfc2822Local {
 
     fn write(&self, moment: &UtcMoment, room: &mut [u8]) -> Result<usize, Reason> {
         match local_value(moment.seconds, moment.nanosecond, self.offset) {
-            Ok(value) => rfc2822::written(&value, room),
+            Ok(value) => write_value::<Rfc2822Text>(&value, room),
             Err(reason) => Err(reason),
         }
     }

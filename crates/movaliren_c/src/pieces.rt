@@ -4,7 +4,7 @@ ghost use Rattle.std.specs.Prelude.{◌≡◌, ◌+◌, ◌*◌, ◌<◌, ◌≤
 ghost use Rattle.arrayvec.specs.ArrayString.{array_string_len};
 ghost use Rattle.time_below.specs.Facts.{date_facts};
 ghost use Rattle.time_digits.specs.Digits.{fixed, zero_padded};
-ghost use Rattle.time_known.specs.WellKnown.{month_and_day_text, clock_text, offset_hours_text, offset_minutes_text, offset_text};
+ghost use Rattle.time_known.specs.WellKnown.{month_and_day_text, clock_text, offset_hours_text, offset_minutes_text};
 
 use crate::calendar_date::CalendarDate;
 use crate::kept_offset::KeptOffset;
@@ -111,17 +111,4 @@ pub fn push_offset_minutes<const N: usize>(line: &mut ArrayString<N>, offset: &K
     ensures len { array_string_len line.new ≡ array_string_len line.old + 2 }
 {
     push_pair(line, offset.minutes_size());
-}
-
-/// Appends the sign of the whole offset, its hours and its minutes, and the separator between them.
-#[inline(always)]
-pub fn push_offset<const N: usize>(line: &mut ArrayString<N>, offset: &KeptOffset, separator: &str)
-    requires room { array_string_len line.old + (5 + length separator.now) ≤ N }
-    ensures bytes { line.new.bytes ≡ line.old.bytes ++ offset_text separator.now offset.now }
-    ensures len { array_string_len line.new
-        ≡ array_string_len line.old + (5 + length separator.now) }
-{
-    push_offset_hours(line, offset);
-    line.push_str(separator);
-    push_offset_minutes(line, offset);
 }

@@ -1,8 +1,11 @@
 //! Why a call gives no text.
 ghost use Rattle.std.specs.Prelude.{◌≡◌, ◌<◌, IfOk};
-ghost use Rattle.movaliren_c.specs.Answer.{answer_number, reason_number, IsReasonFor};
+ghost use Rattle.movaliren_c.specs.Answer.{answer_number, reason_number, IsReasonFor, Refuses};
+ghost use Rattle.time_fmt.specs.Outcome.{invalid_component};
+ghost use Rattle.time_known.specs.Accepted.{component_name};
 
 use time_fmt::Format;
+use time_known::accepted::OutOfRange;
 
 /// Why there is no text.
 #[derive(Clone, Copy)]
@@ -109,5 +112,17 @@ pub fn reason_of(error: Format) -> Reason
             "offset_second" => Reason::NoPlaceForOffsetSecond,
             _ => Reason::Other,
         },
+    }
+}
+
+/// The reason that a format has no place for a component.
+pub fn reason_for(component: OutOfRange) -> Reason
+    ensures { Refuses result (invalid_component (component_name component)) }
+{
+    match component {
+        OutOfRange::Year => Reason::NoPlaceForYear,
+        OutOfRange::OffsetHour => Reason::NoPlaceForOffsetHour,
+        OutOfRange::OffsetMinute => Reason::NoPlaceForOffsetMinute,
+        OutOfRange::OffsetSecond => Reason::NoPlaceForOffsetSecond,
     }
 }

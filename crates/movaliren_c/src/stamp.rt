@@ -4,11 +4,12 @@ ghost use Rattle.movaliren_c.specs.Answer.{Answers, IsText, IsWritten, gives};
 ghost use Rattle.movaliren_c.specs.Value.{stamp_value};
 ghost use Rattle.time_known.specs.Stamps.{stamp_of};
 
-use crate::iso8601::default_written;
 use crate::moment::{LocalMoment, UtcMoment, stamp_value};
+use crate::moment_text::write_value;
 use crate::reason::{Reason, answer_number};
 use crate::writer::Writer;
 use time_below::UtcDateTime;
+use time_known::iso8601::DefaultText;
 
 /// Stamps of moments in UTC.
 pub struct Stamp;
@@ -30,7 +31,7 @@ impl Writer for Stamp {
 fn stamp_written(value: UtcDateTime, room: &mut [u8]) -> Result<usize, Reason>
     ensures { IsWritten result (stamp_of value) room.old room.new }
 {
-    default_written(&LocalMoment::in_utc(value), room)
+    write_value::<DefaultText>(&LocalMoment::in_utc(value), room)
 }
 
 /// The stamp of a moment.

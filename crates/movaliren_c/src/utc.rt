@@ -7,14 +7,18 @@ ghost use Rattle.time_known.specs.Iso8601.{iso8601_of};
 ghost use Rattle.time_known.specs.Rfc2822.{rfc2822_of};
 ghost use Rattle.time_known.specs.Rfc3339.{rfc3339_of};
 
-use crate::iso8601::{IsoConfig, choices_at, default_written, written_by};
+use crate::iso8601::{IsoConfig, choices_at, written_by};
 use crate::kept_offset::KeptOffset;
 use crate::moment::{LocalMoment, UtcMoment, value_at};
+use crate::moment_text::write_value;
 use crate::reason::{Reason, answer_number};
 use crate::writer::Writer;
-use crate::{rfc2822, rfc3339};
+use time_known::iso8601::DefaultText;
+use time_known::rfc2822::Rfc2822Text;
+use time_known::rfc3339::Rfc3339Text;
 
 /// The local date and time in UTC of a moment.
+#[inline(always)]
 pub fn utc_value(seconds: i64, nanosecond: u32) -> Result<LocalMoment, Reason>
     ensures { result ≡ utc_value seconds nanosecond }
 {
@@ -31,7 +35,7 @@ impl Writer for Rfc3339Utc {
 
     fn write(&self, moment: &UtcMoment, room: &mut [u8]) -> Result<usize, Reason> {
         match utc_value(moment.seconds, moment.nanosecond) {
-            Ok(value) => rfc3339::written(&value, room),
+            Ok(value) => write_value::<Rfc3339Text>(&value, room),
             Err(reason) => Err(reason),
         }
     }
@@ -62,7 +66,7 @@ impl Writer for Rfc2822Utc {
 
     fn write(&self, moment: &UtcMoment, room: &mut [u8]) -> Result<usize, Reason> {
         match utc_value(moment.seconds, moment.nanosecond) {
-            Ok(value) => rfc2822::written(&value, room),
+            Ok(value) => write_value::<Rfc2822Text>(&value, room),
             Err(reason) => Err(reason),
         }
     }
@@ -94,7 +98,7 @@ impl Writer for Iso8601Utc {
 
     fn write(&self, moment: &UtcMoment, room: &mut [u8]) -> Result<usize, Reason> {
         match utc_value(moment.seconds, moment.nanosecond) {
-            Ok(value) => default_written(&value, room),
+            Ok(value) => write_value::<DefaultText>(&value, room),
             Err(reason) => Err(reason),
         }
     }

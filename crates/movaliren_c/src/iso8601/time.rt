@@ -1,18 +1,18 @@
 //! The time of day of a text of ISO 8601-1:2019, section 5.3.
-ghost use Rattle.std.specs.Prelude.{◌≡◌, ◌+◌, ◌-◌, ◌*◌, ◌<◌, ◌≤◌, ◌++◌, codes, length};
+ghost use Rattle.std.specs.Prelude.{◌≡◌, ◌+◌, ◌*◌, ◌<◌, ◌≤◌, ◌++◌, codes, length};
 ghost use Rattle.arrayvec.specs.ArrayString.{array_string_len};
 ghost use Rattle.movaliren_c.specs.Answer.{IsPushed};
 ghost use Rattle.time_digits.specs.Digits.{zero_padded};
-ghost use Rattle.time_fmt.specs.Decimals.{decimals};
 ghost use Rattle.time_known.specs.Config.{decimal_sign_text};
 ghost use Rattle.time_known.specs.Iso8601.{decimal_part, iso_time, nanoseconds_of_hour, nanoseconds_of_minute, units_text};
 
 use crate::iso8601::choices::Choices;
 use crate::pieces::{push_clock, push_nine_digits, push_pair};
 use crate::reason::Reason;
+use crate::sinks::push_decimals;
 use arrayvec::ArrayString;
 use time_below::Time;
-use time_digits::{ru8, single_digit};
+use time_digits::ru8;
 use time_known::iso8601::{DecimalSign, TimePrecision};
 
 const NANOSECONDS_PER_SECOND: u64 = 1_000_000_000;
@@ -122,21 +122,5 @@ fn sign_text(sign: DecimalSign) -> &'static str
     match sign {
         DecimalSign::Point => ".",
         DecimalSign::Comma => ",",
-    }
-}
-
-/// Appends the first decimals of the rest over the unit, not rounded, by long division.
-fn push_decimals<const N: usize>(line: &mut ArrayString<N>, rest: u64, unit: u64, count: u8)
-    requires part { rest < unit }
-    requires unit { unit ≤ NANOSECONDS_PER_HOUR }
-    requires room { array_string_len line.old + count ≤ N }
-    ensures bytes { line.new.bytes ≡ line.old.bytes ++ decimals rest unit count }
-    ensures len { array_string_len line.new ≡ array_string_len line.old + count }
-{
-    let mut left = rest;
-    for _ in 0..count {
-        let scaled = left * 10;
-        line.push_str(single_digit(ru8::within((scaled / unit) as u8)));
-        left = scaled % unit;
     }
 }

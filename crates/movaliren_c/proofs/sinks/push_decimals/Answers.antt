@@ -2,7 +2,7 @@ use Rattle.std.proofs.Common.{◌≡◌, ◌-◌, ◌+◌, ◌*◌, ◌/◌, ◌
 use Rattle.time_fmt.specs.Decimals.{decimals}
 use Rattle.time_fmt.proofs.LongDivisionLemmas.{decimals_left, decimals_end}
 use Rattle.movaliren_c.proofs.FractionLemmas.{one_digit, decimal_below}
-use Rattle.movaliren_c.proofs.iso8601.time.push_decimals.Goals as goal
+use Rattle.movaliren_c.proofs.sinks.push_decimals.Goals as goal
 
 pub loop-preserved : goal.loop-preserved
 loop-preserved g c =

@@ -1,7 +1,7 @@
 use Rattle.std.proofs.Common.{◌≡◌, ◌+◌, ◌-◌, ◌<◌, ◌++◌}
 use Rattle.arrayvec.specs.ArrayString.{array_string_len}
 use Rattle.time_fmt.specs.Decimals.{decimals}
-use Rattle.movaliren_c.proofs.iso8601.time.push_decimals.Given as goal
+use Rattle.movaliren_c.proofs.sinks.push_decimals.Given as goal
 
 -- the digits so far, and then the decimals of what is left, are all decimals
 abbrev pub invariant-loop : goal.invariant-loop

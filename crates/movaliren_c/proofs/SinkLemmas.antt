@@ -1,0 +1,6 @@
+-- A piece that is written into the middle of a room.
+use Rattle.std.proofs.lemmas.List.{drop-drop}
+use Rattle.std.proofs.lemmas.Slice.{take-put_mid, drop-put_mid}
+
+-- what stands before its end, and what behind it
+pub ruleset written_pieces = (take-put_mid, drop-put_mid, drop-drop)

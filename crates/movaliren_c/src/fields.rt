@@ -1,0 +1,84 @@
+//! The fields of values, from which the texts of moments are written.
+ghost use Rattle.std.specs.Prelude.{◌≡◌, ◌≤◌, ℕ, List, IfOk, IfErr, unsigned_abs};
+ghost use Rattle.time_below.specs.Facts.{date_facts};
+ghost use Rattle.time_fmt.specs.Outcome.{done};
+ghost use Rattle.time_known.specs.Accepted.{checked_text, refused_for};
+ghost use Rattle.time_known.specs.Fields.{fields, offset_fields, time_fields};
+
+use crate::kept_offset::KeptOffset;
+use crate::moment::LocalMoment;
+use time_below::Time;
+use time_digits::{ru8, ru16, ru32};
+use time_known::accepted::{OutOfRange, accepted_year};
+use time_known::fields::{Fields, OffsetFields, TimeFields};
+
+/// The year of four digits, or the first component of the value that has no place.
+#[inline(always)]
+pub fn accepted_year_of(
+    first: u16,
+    greatest_hour: u8,
+    value: &LocalMoment,
+) -> Result<ru16<0, 9_999>, OutOfRange>
+    ensures accepted { IfOk result (λ _. (text : List ℕ)
+        → checked_text first greatest_hour value.now.date.year
+        (unsigned_abs value.now.offset.hours) (unsigned_abs value.now.offset.seconds) text
+        ≡ done text) }
+    ensures year { IfOk result (λ y. y ≡ unsigned_abs value.now.date.year) }
+    ensures refused { IfErr result (λ component. (text : List ℕ)
+        → checked_text first greatest_hour value.now.date.year
+        (unsigned_abs value.now.offset.hours) (unsigned_abs value.now.offset.seconds) text
+        ≡ refused_for component) }
+    ensures hours { unsigned_abs value.now.offset.hours ≤ 25 }
+{
+    let offset = value.offset();
+    accepted_year(
+        first,
+        greatest_hour,
+        value.date().year(),
+        offset.hours_size(),
+        offset.seconds_size(),
+    )
+}
+
+/// The fields of a value of this year.
+#[inline(always)]
+pub fn fields_of(year: ru16<0, 9_999>, value: &LocalMoment) -> Fields
+    requires year { year ≡ unsigned_abs value.now.date.year }
+    ensures { result ≡ fields (date_facts value.now.date) value.now.time value.now.offset }
+{
+    Fields {
+        year,
+        month: ru8::within(value.date().month()),
+        day: ru8::within(value.date().day()),
+        time: time_of(value.time()),
+        offset: offset_of(value.offset()),
+    }
+}
+
+/// The fields of a time of day.
+#[inline(always)]
+pub fn time_of(time: Time) -> TimeFields
+    ensures { result ≡ time_fields time }
+{
+    let (hour, minute, second, nanosecond) = time.as_hms_nano();
+    TimeFields {
+        hour: ru8::within(hour),
+        minute: ru8::within(minute),
+        second: ru8::within(second),
+        nanosecond: ru32::within(nanosecond),
+    }
+}
+
+/// The fields of an offset.
+#[inline(always)]
+pub fn offset_of(offset: &KeptOffset) -> OffsetFields
+    ensures { result ≡ offset_fields offset.now }
+{
+    OffsetFields {
+        is_utc: offset.is_utc(),
+        is_negative: offset.is_negative(),
+        hours: ru8::within(offset.hours_size()),
+        minutes: ru8::within(offset.minutes_size()),
+        seconds: ru8::within(offset.seconds_size()),
+    }
+}
