@@ -176,6 +176,7 @@ pub fn stamp_value(seconds: i64, nanosecond: u32) -> Result<UtcDateTime, Reason>
 }
 
 /// The date and time so long after 1970, with this offset.
+#[inline(always)]
 #[tactic(auto, unfolding(crate::specs::Utc::value_at))]
 pub fn value_at(seconds: i64, nanosecond: u32, offset: KeptOffset) -> Result<LocalMoment, Reason>
     ensures { result ≡ value_at seconds nanosecond offset }

@@ -18,6 +18,7 @@ use time_known::rfc2822::Rfc2822Text;
 use time_known::rfc3339::Rfc3339Text;
 
 /// The local date and time in UTC of a moment.
+#[inline(always)]
 pub fn utc_value(seconds: i64, nanosecond: u32) -> Result<LocalMoment, Reason>
     ensures { result ≡ utc_value seconds nanosecond }
 {
