@@ -1,5 +1,5 @@
 #!/usr/bin/env python3
-"""Compares what crosses the border in its three tellings: the Rattle crate, the C header, the Rust crate.
+"""Compares what crosses the border in its three interfaces: the Rattle crate, the C header, the Rust crate.
 
 Numbers of reasons, of kinds and of choices; the texts of reasons; fields of structs, in order, with their types;
 functions, with their parameters in order and the types of these and of the answer; the version. Prints each
@@ -38,7 +38,7 @@ CHOICES = [
 
 
 def read():
-    """The texts of the three tellings, by their paths."""
+    """The texts of the three interfaces, by their paths."""
     paths = [*CRATE.glob("src/**/*.rt"), *CRATE.glob("specs/*.antt"), HEADER, CARGO, *RUST.glob("*.rs")]
     return {path: path.read_text() for path in sorted(paths)}
 
@@ -69,9 +69,9 @@ class Tellings:
         self.cargo = joined(texts, ".toml", r"#[^\n]*")
         self.differences = []
 
-    def same(self, what, *tellings):
-        if any(telling != tellings[0] for telling in tellings):
-            self.differences.append("\n".join([f"{what} differs:", *(f"    {telling}" for telling in tellings)]))
+    def same(self, what, *interfaces):
+        if any(interface != interfaces[0] for interface in interfaces):
+            self.differences.append("\n".join([f"{what} differs:", *(f"    {interface}" for interface in interfaces)]))
 
     def numbers(self, text, pattern):
         return {words(name): int(number) for name, number in re.findall(pattern, text)}
@@ -164,7 +164,7 @@ class Tellings:
         base = told.removeprefix("const ").rstrip("* ")
         if "*" not in told:
             return STRUCTS.get(base) or TYPES[base]
-        # A pointer to any other type is as no telling has it.
+        # A pointer to any other type is as no interface has it.
         base = STRUCTS.get(base) or POINTED.get(base, base)
         return ("*const " if told.startswith("const ") else "*mut ") + base
 
@@ -198,11 +198,11 @@ class Tellings:
         return {name: (re.findall(r"(\w+): ([^,]+?)\s*(?:,|$)", told), answer) for name, told, answer in found}
 
     def functions(self):
-        tellings = [self.rattle_functions(), self.c_functions(), self.rust_functions()]
-        self.same("the set of functions", *(sorted(telling) for telling in tellings))
-        for name in tellings[0]:
-            self.same(name, *(telling.get(name) for telling in tellings))
-        return len(tellings[0])
+        interfaces = [self.rattle_functions(), self.c_functions(), self.rust_functions()]
+        self.same("the set of functions", *(sorted(interface) for interface in interfaces))
+        for name in interfaces[0]:
+            self.same(name, *(interface.get(name) for interface in interfaces))
+        return len(interfaces[0])
 
     def compared(self):
         self.reasons()
@@ -246,7 +246,7 @@ DRIFTS = [
 
 
 def renamed(texts):
-    """Each function by another name, in each telling."""
+    """Each function by another name, in each interface."""
     for name in Tellings(texts).c_functions():
         for suffix, head in (".rt", "fn "), (".h", "ptrdiff_t "), (".h", "movaliren_progress "), (".rs", "fn "):
             for path, text in texts.items():
@@ -276,7 +276,7 @@ def main():
         print("\n".join(sorted(Tellings(texts).c_functions())))
         return 0
     differences = Tellings(texts).compared()
-    print("\n".join(differences or ["names: the three tellings are the same"]))
+    print("\n".join(differences or ["names: the three interfaces are the same"]))
     return bool(differences)
 
 

@@ -68,7 +68,7 @@ Refuses r refusal = ⊥
 abbrev pub IsRefusedFor : Reason → Outcome → Type 0
 IsRefusedFor r o = IsSomeAnd o.refusal (Refuses r)
 
--- the reason that an error is: of each refusal that it names, or the want of memory
+-- the reason of an error: of each refusal that it names, or out of memory
 abbrev pub IsReasonFor : Reason → Format → Type 0
 IsReasonFor r error.InsufficientTypeInformation = r ≡ reason.Insufficient
 IsReasonFor r (error.ComponentRange range) = r ≡ reason.OutOfRange

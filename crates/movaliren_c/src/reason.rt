@@ -44,9 +44,9 @@ pub enum Reason {
     Insufficient,
     /// A component is outside the range that the description has for it.
     OutOfRange,
-    /// A number of the configuration is none that there is.
+    /// Invalid configuration value.
     BadConfig,
-    /// An item is none that there is.
+    /// Invalid item.
     BadItem,
     /// The text does not fit the room.
     NoRoom,

@@ -82,7 +82,7 @@ fn taken_beside(alloc: Global, width: usize) -> Result<Vec<Vec<u8>>, AllocError>
     }
 }
 
-/// The want of memory changes nothing, and the next call writes what it is asked for. For a width
+/// A failed allocation changes nothing, and the next call writes what it is asked for. For a width
 /// that a machine could hold, nothing is left meanwhile.
 fn assert_refused<D: Formattable>(
     rt: &impl Abort,
