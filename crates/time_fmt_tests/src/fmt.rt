@@ -3,7 +3,9 @@
 mod components_table;
 mod dates;
 mod errors;
+mod held;
 mod hostile;
+mod kept;
 mod memory;
 mod moments;
 mod parts;
