@@ -1,10 +1,11 @@
 #!/usr/bin/env python3
 """Compares what crosses the border in its three tellings: the Rattle crate, the C header, the Rust crate.
 
-Numbers of reasons, of kinds and of choices; fields of structs, in order, with their types; functions, with their
-parameters in order and the types of these and of the answer. Prints each difference, and ends with status 1 if there
-is one. `names.py --drifts` instead makes one change in each place where one may drift, and ends with status 1 if a
-change is not told."""
+Numbers of reasons, of kinds and of choices; the texts of reasons; fields of structs, in order, with their types;
+functions, with their parameters in order and the types of these and of the answer; the version. Prints each
+difference, and ends with status 1 if there is one. `names.py --drifts` instead makes one change in each place where
+one may drift, and ends with status 1 if a change is not told. `names.py --functions` prints the names of the header's
+functions."""
 
 import pathlib
 import re
@@ -14,11 +15,14 @@ HERE = pathlib.Path(__file__).resolve().parent
 CRATE = HERE.parent / "crates/movaliren_c"
 HEADER = HERE / "c/movaliren.h"
 RUST = HERE / "rust/src"
+CARGO = HERE / "rust/Cargo.toml"
 
 TYPES = {
     "int8_t": "i8", "uint8_t": "u8", "int32_t": "i32", "uint32_t": "u32", "int64_t": "i64",
     "size_t": "usize", "ptrdiff_t": "isize",
 }
+# Bytes are behind a `void *`, so that a caller may have an array of `char`.
+POINTED = {"void": "u8"}
 STRUCTS = {
     "moment": "Moment", "utc_moment": "UtcMoment", "item": "Item", "iso_config": "IsoConfig",
     "progress": "Progress",
@@ -35,7 +39,7 @@ CHOICES = [
 
 def read():
     """The texts of the three tellings, by their paths."""
-    paths = [*CRATE.glob("src/**/*.rt"), *CRATE.glob("specs/*.antt"), HEADER, *RUST.glob("*.rs")]
+    paths = [*CRATE.glob("src/**/*.rt"), *CRATE.glob("specs/*.antt"), HEADER, CARGO, *RUST.glob("*.rs")]
     return {path: path.read_text() for path in sorted(paths)}
 
 
@@ -62,6 +66,7 @@ class Tellings:
         self.specs = joined(texts, ".antt", r"--[^\n]*")
         self.c = joined(texts, ".h", r"/\*.*?\*/")
         self.rust = joined(texts, ".rs", r"//[^\n]*")
+        self.cargo = joined(texts, ".toml", r"#[^\n]*")
         self.differences = []
 
     def same(self, what, *tellings):
@@ -80,6 +85,20 @@ class Tellings:
             self.numbers(self.c, r"MOVALIREN_ERROR_(\w+) = (-\d+)"),
             rust,
             {name: -number for name, number in specs.items()},
+        )
+
+    def texts(self):
+        c = re.findall(r'case MOVALIREN_ERROR_(\w+):\s*return ("[^"]*");', self.c)
+        rust = re.findall(r'Error::(\w+) => \{?\s*("[^"]*")', self.rust)
+        here = {words(name): text for name, text in rust}
+        self.same("the text of a reason", {words(name): text for name, text in c}, here)
+        self.same("the set of texts", sorted(here), sorted(self.numbers(self.c, r"MOVALIREN_ERROR_(\w+) = (-\d+)")))
+
+    def version(self):
+        self.same(
+            "the version",
+            re.findall(r'#define MOVALIREN_VERSION ("[^"]*")', self.c),
+            re.findall(r'^version = ("[^"]*")', self.cargo, re.M),
         )
 
     def header_numbers(self, enum):
@@ -143,9 +162,10 @@ class Tellings:
         """A type of the header in the words of Rust."""
         told = told.replace("struct movaliren_", "").strip()
         base = told.removeprefix("const ").rstrip("* ")
-        base = STRUCTS.get(base) or TYPES[base]
         if "*" not in told:
-            return base
+            return STRUCTS.get(base) or TYPES[base]
+        # A pointer to any other type is as no telling has it.
+        base = STRUCTS.get(base) or POINTED.get(base, base)
         return ("*const " if told.startswith("const ") else "*mut ") + base
 
     def c_functions(self):
@@ -186,6 +206,8 @@ class Tellings:
 
     def compared(self):
         self.reasons()
+        self.texts()
+        self.version()
         self.kinds()
         self.choices()
         self.structs()
@@ -209,6 +231,11 @@ DRIFTS = [
     (HEADER, "MOVALIREN_ISO_ORDINAL = 2", "MOVALIREN_ISO_ORDINAL = 3"),
     (HEADER, "size_t bytes;", "ptrdiff_t bytes;"),
     (HEADER, "int32_t year, uint8_t month, uint8_t day", "int32_t year, uint8_t day, uint8_t month"),
+    (HEADER, "void *room", "uint8_t *room"),
+    (HEADER, "const void *texts", "void *texts"),
+    (HEADER, "the hour is outside 0 to 23", "the hour is outside 1 to 24"),
+    (HEADER, '#define MOVALIREN_VERSION "0.', '#define MOVALIREN_VERSION "1.'),
+    (RUST / "error.rs", '"out of memory"', '"memory was refused"'),
     (RUST / "error.rs", "-8 => Error::OffsetHours", "-9 => Error::OffsetHours"),
     (RUST / "description.rs", "Period = 26", "Period = 28"),
     (RUST / "config.rs", "TimeOffset = 6", "TimeOffset = 7"),
@@ -234,6 +261,9 @@ def main():
     texts = read()
     if sys.argv[1:] == ["--drifts"]:
         return try_drifts(texts) != 0
+    if sys.argv[1:] == ["--functions"]:
+        print("\n".join(sorted(Tellings(texts).c_functions())))
+        return 0
     differences = Tellings(texts).compared()
     print("\n".join(differences or ["names: the three tellings are the same"]))
     return bool(differences)

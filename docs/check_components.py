@@ -1,8 +1,9 @@
 #!/usr/bin/env python3
-"""Compares the tables of `docs/COMPONENTS.md` with the code, and tells what differs.
+"""Compares the tables of `docs/COMPONENTS.md` with the code, and prints what differs.
 
-Each row of a component has its name, all its choices by name and value, its width and its example, and a test
-formats it. Each row of a constant has its component and its choices.
+A row of a component has its name, perhaps a constant, its choices, its width and its example, and a test formats it.
+A choice without a value has the usual one, which a table names. A constant has the usual choices, but for its row's
+own of a choice that has none.
 """
 
 import pathlib
@@ -10,45 +11,61 @@ import re
 import sys
 
 TOP = pathlib.Path(__file__).resolve().parent.parent
-ROW = re.compile(r"^\| `(\w+)` \| (.*?) \| .* \| (\d+) \| (-|`.*`) \|$", re.M)
-CONSTANT = re.compile(r"^\| `(\w+)` \| `(\w+)` \| (.*) \|$", re.M)
+USUAL = re.compile(r"^\| `([a-z_]+)` \| `(\w+)` \| `", re.M)
+ROW = re.compile(r"^\| `(\w+)` \|(?: (`[A-Z_0-9]+`|-) \|)? (`[a-z_]+.*?) \| .* \| (\d+) \| (-|`.*`) \|$", re.M)
+CONSTANT = re.compile(r"^\| `([A-Z_0-9]+)` \| `(\w+)` \| (.*) \|$", re.M)
 DEFINED = re.compile(r"^pub const (\w+): modifier::(\w+) =\s*modifier::\w+ \{(.*?)\};", re.S | re.M)
 TESTED = re.compile(r"Component::(\w+)\(\s*modifier::\w+ \{(.*?)\}\s*\),\s*\"(.*?)\",\s*(\d+),?\s*\)", re.S)
+TABLE = re.compile(r"^const COMPONENTS: .*?^};$", re.S | re.M)
+LINE_TESTED = re.compile(r"^    (\w+) \{([^{}]*)\}\s+\"(.*?)\" (\d+),$", re.M)
+
+page = (TOP / "docs/COMPONENTS.md").read_text()
+usual = dict(USUAL.findall(page))
 
 
 def choices(text):
-    return sorted((name, value.split("::")[-1]) for name, value in re.findall(r"(\w+): ([\w:]+)", text))
-
-
-def constants(pattern, path):
-    return sorted((name, kind, choices(fields)) for name, kind, fields in pattern.findall((TOP / path).read_text()))
+    """The choices by name and value, in the code's words or in those of the page."""
+    named = re.findall(r"(\w+): ([\w:]+)", text) + [(name, usual[name]) for name in re.findall(r"`([a-z_]+)`", text)]
+    return sorted((name, value.split("::")[-1]) for name, value in named)
 
 
 def documented():
-    text = (TOP / "docs/COMPONENTS.md").read_text()
     return [(name, choices(fields), "" if example == "-" else example[1:-1], width)
-            for name, fields, width, example in ROW.findall(text)]
+            for name, _, fields, width, example in ROW.findall(page)]
 
 
 def tested():
-    paths = list(TOP.glob("crates/*/src/fmt/components_table.rt"))
-    return [(name, choices(fields), example, width)
-            for path in paths for name, fields, example, width in TESTED.findall(path.read_text())]
+    text = (TOP / "crates/time_fmt_tests/src/fmt/components_table.rt").read_text()
+    rows = TESTED.findall(text) + LINE_TESTED.findall("".join(TABLE.findall(text)))
+    return [(name, choices(fields), example, width) for name, fields, example, width in rows]
+
+
+def shown():
+    rows = [(constant[1:-1], name, [(choice, usual.get(choice, value)) for choice, value in choices(fields)])
+            for name, constant, fields, _, _ in ROW.findall(page) if constant not in ("", "-")]
+    return sorted(rows + [(name, kind, choices(fields)) for name, kind, fields in CONSTANT.findall(page)])
+
+
+def defined():
+    code = (TOP / "crates/time_fmt/src/parts.rt").read_text()
+    return sorted((name, kind, choices(fields)) for name, kind, fields in DEFINED.findall(code))
+
+
+def compared(what, ours, theirs):
+    for row in ours:
+        if row not in theirs:
+            print(f"not in the code: {row}")
+    for row in theirs:
+        if row not in ours:
+            print(f"not in the table: {row}")
+    same = sorted(map(repr, ours)) == sorted(map(repr, theirs)) and ours
+    print(f"{len(ours)} {what}, {len(theirs)} in the code: {'the same' if same else 'they differ'}")
+    return same
 
 
 def main():
-    rows, tests = documented(), tested()
-    for row in rows:
-        if row not in tests:
-            print(f"not tested: {row}")
-    for row in tests:
-        if row not in rows:
-            print(f"not in the table: {row}")
-    same = sorted(map(repr, rows)) == sorted(map(repr, tests))
-    print(f"{len(rows)} rows, {len(tests)} tested: {'the same' if same else 'they differ'}")
-    shown, defined = constants(CONSTANT, "docs/COMPONENTS.md"), constants(DEFINED, "crates/time_fmt/src/parts.rt")
-    print(f"{len(shown)} constants: {'the same' if shown == defined else 'they differ'}")
-    return 0 if same and rows and shown == defined else 1
+    same = [compared("rows", documented(), tested()), compared("constants", shown(), defined())]
+    return 0 if all(same) else 1
 
 
 if __name__ == "__main__":

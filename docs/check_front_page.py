@@ -1,8 +1,8 @@
 #!/usr/bin/env python3
-"""Compares what README.md shows with the code that is proved, and tells what differs.
+"""Compares what README.md and docs/RECIPES.md show with the code, and prints what differs.
 
-Each piece of Rattle on that page stands word for word in the example's program or among the recipes, each
-recipe is shown, and what the program prints is what the gate sees it print.
+Each piece of Rattle, C or Rust stands word for word in a file that the gate compiles and runs, and each recipe
+is shown. Each command of README.md is one that this script knows; its answer is what the gate sees printed.
 """
 
 import pathlib
@@ -10,26 +10,96 @@ import re
 import sys
 
 TOP = pathlib.Path(__file__).resolve().parent.parent
-EXAMPLE = TOP / "crates/time_example"
-RECIPES = TOP / "crates/time_known_tests/src/front_page.rt"
+RECIPES = "crates/time_known_tests/src/front_page.rt"
+MOST_LINES = 170
 
 
-def blocks(language):
-    page = (TOP / "README.md").read_text()
-    return re.findall(rf"^```{language}\n(.*?)^```$", page, re.S | re.M)
+def read(path):
+    return (TOP / path).read_text()
+
+
+def without_marks(text):
+    """An example in a doc comment stands there behind these marks."""
+    return re.sub(r"^\s*//[/!] ?", "", text, flags=re.M)
+
+
+def sources():
+    """The files that the gate compiles, by the language of the blocks that show them."""
+    rust = [*TOP.glob("bindings/rust*/examples/*.rs"), *TOP.glob("bindings/rust*/src/*.rs")]
+    texts = [path.read_text() for path in rust]
+    rattle = [read("crates/time_example/src/main.rt"), read(RECIPES)]
+    return {
+        "rust": [*rattle, *texts, *map(without_marks, texts)],
+        "c": [path.read_text() for path in (TOP / "bindings/c").glob("*.c")],
+    }
+
+
+def blocks(page):
+    """The blocks of code of a page in order, each with its language."""
+    return re.findall(r"^```(\w+)\n(.*?)^```$", page, re.S | re.M)
+
+
+def answer_of(line):
+    """What the stored run of `time_show` answers to a line of its input."""
+    asked, answers = (read(f"crates/time_show/{name}").splitlines() for name in ("stdin", "stdout"))
+    return answers[asked.index(line)] + "\n" if line in asked else None
+
+
+def example_output():
+    return read("crates/time_example/stdout")
+
+
+def has(path, text):
+    return lambda: text in read(path) or None
+
+
+# Each command of README.md, and what its check gives: an output that is shown behind it, or True where none is.
+LINE = "time 9 55 6 120000000"
+COMMANDS = {
+    f"printf '{LINE}\\n' | (cd crates/time_show && rt run)": lambda: answer_of(LINE),
+    f"printf '{LINE}\\n' | (cd crates/time_show && rt try)": lambda: answer_of(LINE) and True,
+    "./gate --tests": has("gate", "--tests"),
+    "(cd crates/time_example && rt try <stdin)": example_output,
+    "(cd crates/movaliren_c && rt lib) && make -C bindings/c install PREFIX=$HOME/.local":
+        has("bindings/c/Makefile", "install: "),
+    "cc log.c -pthread $(pkg-config --cflags --libs movaliren)":
+        has("bindings/c/log.c", "cc log.c -pthread $(pkg-config --cflags --libs movaliren)"),
+    "(cd crates/movaliren_c && rt lib) && (cd bindings/rust && cargo run --offline --example show)":
+        has("bindings/check", "--example show"),
+}
+
+
+def pieces(page):
+    """The pieces of code of a page that stand in no file of their language."""
+    files = sources()
+    return [text.split("\n")[0] for language, text in blocks(page)
+            if language in files and not any(text in file for file in files[language])]
+
+
+def commands(page):
+    """The commands that are not known, were left out, or have another answer than the one shown."""
+    shown, wrong = blocks(page), []
+    seen = [line for language, text in shown if language == "sh" for line in text.splitlines()]
+    for at, (language, text) in enumerate(shown):
+        for command in text.splitlines() if language == "sh" else []:
+            answer = COMMANDS.get(command, lambda: None)()
+            if answer is None or (answer is not True and shown[at + 1:at + 2] != [("text", answer)]):
+                wrong.append(command)
+    return wrong + [command for command in COMMANDS if command not in seen]
 
 
 def main():
-    program, recipes = (EXAMPLE / "src/main.rt").read_text(), RECIPES.read_text()
-    shown = blocks("rust")
-    differing = [it.split("\n")[0] for it in shown if it not in program and it not in recipes]
-    differing += [it for it in re.findall(r"^pub fn \w+", recipes, re.M) if not any(it in block for block in shown)]
-    if blocks("text") != [(EXAMPLE / "stdout").read_text()]:
-        differing += ["what the program prints"]
+    front, recipes = read("README.md"), read("docs/RECIPES.md")
+    differing = pieces(front) + pieces(recipes) + commands(front)
+    differing += [it for it in re.findall(r"^pub fn \w+", read(RECIPES), re.M) if it not in recipes]
+    lines = len(front.splitlines())
+    if lines > MOST_LINES:
+        differing.append(f"README.md has {lines} lines, more than {MOST_LINES}")
     for it in differing:
-        print(f"the front page and the code differ: {it}")
-    print(f"{len(shown)} pieces of the front page: {'they differ' if differing else 'the same as the code'}")
-    return 1 if differing or not shown else 0
+        print(f"the documents and the code differ: {it}")
+    shown = len(blocks(front)) + len(blocks(recipes))
+    print(f"{shown} pieces of code and commands: {'they differ' if differing else 'the same as the code'}")
+    return 1 if differing else 0
 
 
 if __name__ == "__main__":

@@ -12,14 +12,14 @@ static ptrdiff_t described(const void *format, const void *value, uint8_t *room,
 {
     const struct description *d = format;
     return movaliren_format(
-        d->items, d->items_len, (const uint8_t *)d->texts, strlen(d->texts), value, room, room_len);
+        d->items, d->items_len, d->texts, strlen(d->texts), value, room, room_len);
 }
 
 static ptrdiff_t described_utc(const void *format, const void *value, uint8_t *room, size_t room_len)
 {
     const struct description *d = format;
     const struct movaliren_utc_moment *moment = value;
-    return movaliren_format_utc(d->items, d->items_len, (const uint8_t *)d->texts, strlen(d->texts),
+    return movaliren_format_utc(d->items, d->items_len, d->texts, strlen(d->texts),
         moment->seconds, moment->nanosecond, room, room_len);
 }
 
@@ -28,7 +28,7 @@ static ptrdiff_t described_date(
 {
     const struct description *d = format;
     const struct movaliren_moment *date = value;
-    return movaliren_format_date(d->items, d->items_len, (const uint8_t *)d->texts, strlen(d->texts),
+    return movaliren_format_date(d->items, d->items_len, d->texts, strlen(d->texts),
         date->year, date->month, date->day, room, room_len);
 }
 
@@ -123,11 +123,40 @@ static void try_widths(void)
 {
     static const struct movaliren_item items[]
         = { { .kind = MOVALIREN_MONTH_LONG }, { .len = 2 }, { .kind = MOVALIREN_SUBSECOND } };
-    if (movaliren_width(items, 3, (const uint8_t *)"ab", 2) != 20
-        || movaliren_width(items, 3, (const uint8_t *)"a", 1) != MOVALIREN_ERROR_BAD_ITEM) {
+    if (movaliren_width(items, 3, "ab", 2) != 20
+        || movaliren_width(items, 3, "a", 1) != MOVALIREN_ERROR_BAD_ITEM) {
         failures++;
         puts("a width is wrong");
     }
+}
+
+/* A description that is built over so many items and bytes of texts: of a day, a text of two bytes and a
+ * month. */
+static ptrdiff_t built(size_t items_room, size_t texts_room)
+{
+    static const struct movaliren_moment moment = MOMENT(1997, 11, 12, 9, 55, 6, 0, -6, 0, 0);
+    struct movaliren_item items[3];
+    char texts[2], text[8];
+    struct movaliren_description line = MOVALIREN_DESCRIPTION(items, texts);
+    line.items_room = items_room, line.texts_room = texts_room;
+    movaliren_add(&line, MOVALIREN_DAY, MOVALIREN_SPACE, 0, 0);
+    movaliren_add_text(&line, ". ");
+    movaliren_add(&line, MOVALIREN_MONTH, MOVALIREN_ZERO, 0, 0);
+    if (line.reason)
+        return line.reason;
+    ptrdiff_t n = movaliren_format(
+        line.items, line.items_len, line.texts, line.texts_len, &moment, text, sizeof text);
+    return n == 6 && !memcmp(text, "12. 11", 6) ? n : -100;
+}
+
+static void try_building(void)
+{
+    for (size_t items = 0; items <= 3; items++)
+        for (size_t texts = 0; texts <= 2; texts++)
+            if (built(items, texts) != (items == 3 && texts == 2 ? 6 : MOVALIREN_ERROR_NO_ROOM)) {
+                failures++;
+                printf("built over %zu items and %zu bytes\n", items, texts);
+            }
 }
 
 int main(void)
@@ -135,6 +164,7 @@ int main(void)
     try_descriptions();
     try_the_empty_description();
     try_widths();
+    try_building();
     printf("descriptions: %d wrong\n", failures);
     return failures != 0;
 }

@@ -3,55 +3,62 @@
 
 #include <stdio.h>
 
-static void show(const char *name, ptrdiff_t count, const uint8_t *room)
+/* The buffer has one byte more than the call was given. */
+static void show(const char *name, ptrdiff_t count, char *room)
 {
-    if (count < 0)
-        printf("%-13s error %td\n", name, count);
-    else
-        printf("%-13s %.*s\n", name, (int)count, room);
+    if (count < 0) {
+        printf("%-13s none: %s\n", name, movaliren_error_text(count));
+    } else {
+        room[count] = 0;
+        printf("%-13s %s\n", name, room);
+    }
 }
 
 int main(void)
 {
-    uint8_t room[MOVALIREN_ISO8601_BY_ROOM];
+    char room[MOVALIREN_ISO8601_BY_ROOM + 1];
+    const size_t most = MOVALIREN_ISO8601_BY_ROOM;
     struct movaliren_moment moment = { .year = 1997, .month = 11, .day = 12, .hour = 9,
         .minute = 55, .second = 6, .nanosecond = 120000000, .offset_hours = -6 };
-    show("RFC 3339", movaliren_rfc3339(&moment, room, sizeof room), room);
-    show("RFC 2822", movaliren_rfc2822(&moment, room, sizeof room), room);
-    show("ISO 8601", movaliren_iso8601(&moment, room, sizeof room), room);
+    show("RFC 3339", movaliren_rfc3339(&moment, room, most), room);
+    show("RFC 2822", movaliren_rfc2822(&moment, room, most), room);
+    show("ISO 8601", movaliren_iso8601(&moment, room, most), room);
 
     struct movaliren_iso_config week = MOVALIREN_ISO_DEFAULT;
     week.date_kind = MOVALIREN_ISO_WEEK;
     week.decimals = 3;
     week.comma = 1;
-    show("by week", movaliren_iso8601_by(&week, &moment, room, sizeof room), room);
-    show("stamp", movaliren_stamp(879350106, 120000000, room, sizeof room), room);
+    show("by week", movaliren_iso8601_by(&week, &moment, room, most), room);
+    show("stamp", movaliren_stamp(879350106, 120000000, room, most), room);
 
-    static const char texts[] = ", week -W";
-    static const struct movaliren_item items[] = {
-        { .kind = MOVALIREN_DAY, .padding = MOVALIREN_NO_PADDING },
-        { .kind = MOVALIREN_TEXT, .start = 1, .len = 1 },
-        { .kind = MOVALIREN_MONTH_LONG },
-        { .kind = MOVALIREN_TEXT, .start = 0, .len = 7 },
-        { .kind = MOVALIREN_ISO_YEAR },
-        { .kind = MOVALIREN_TEXT, .start = 7, .len = 2 },
-        { .kind = MOVALIREN_WEEK_ISO },
-    };
-    const size_t count = sizeof items / sizeof *items, len = sizeof texts - 1;
-    const uint8_t *bytes = (const uint8_t *)texts;
-    printf("%-13s %td\n", "width", movaliren_width(items, count, bytes, len));
-    show("a moment", movaliren_format(items, count, bytes, len, &moment, room, sizeof room), room);
+    struct movaliren_item items[7];
+    char texts[10];
+    struct movaliren_description line = MOVALIREN_DESCRIPTION(items, texts);
+    movaliren_add(&line, MOVALIREN_DAY, MOVALIREN_NO_PADDING, 0, 0);
+    movaliren_add_text(&line, " ");
+    movaliren_add(&line, MOVALIREN_MONTH_LONG, MOVALIREN_ZERO, 0, 0);
+    movaliren_add_text(&line, ", week ");
+    movaliren_add(&line, MOVALIREN_ISO_YEAR, MOVALIREN_ZERO, 0, 0);
+    movaliren_add_text(&line, "-W");
+    movaliren_add(&line, MOVALIREN_WEEK_ISO, MOVALIREN_ZERO, 0, 0);
+    if (line.reason)
+        return 1;
+    printf("%-13s %td\n", "width", movaliren_width(items, line.items_len, texts, line.texts_len));
+    show("a moment",
+        movaliren_format(items, line.items_len, texts, line.texts_len, &moment, room, most), room);
     show("a date",
-        movaliren_format_date(items, count, bytes, len, 2026, 11, 22, room, sizeof room), room);
+        movaliren_format_date(
+            items, line.items_len, texts, line.texts_len, 2026, 11, 22, room, most),
+        room);
 
     struct movaliren_moment moments[] = { moment, moment, moment };
     moments[1].offset_hours = 0;
     moments[2].day = 31;
-    struct movaliren_progress progress = movaliren_rfc3339_batch(moments, 3, '\n', room, sizeof room);
-    printf("%-13s %zu of 3 moments, error %td\n%.*s", "a batch", progress.moments, progress.reason,
-        (int)progress.bytes, room);
+    struct movaliren_progress progress = movaliren_rfc3339_batch(moments, 3, '\n', room, most);
+    printf("%-13s %zu of 3 moments, then none: %s\n%.*s", "a batch", progress.moments,
+        movaliren_error_text(progress.reason), (int)progress.bytes, room);
 
     moment.year = 10000;
-    show("year 10000", movaliren_rfc3339(&moment, room, sizeof room), room);
+    show("year 10000", movaliren_rfc3339(&moment, room, most), room);
     return 0;
 }

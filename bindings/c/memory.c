@@ -1,5 +1,5 @@
-/* Each request for memory is refused in turn: the answer is the want of memory, the room is as it was,
- * and the next call is right. What takes no memory asks for none, and what takes some gives it back. */
+/* Each request for memory is refused in turn: the answer is out of memory, the buffer is unchanged,
+ * and the next call is right. What allocates nothing asks for no memory, and what is allocated is freed. */
 #include "movaliren.h"
 
 #include <stdio.h>
@@ -66,7 +66,7 @@ static ptrdiff_t bytes_of(struct movaliren_progress progress)
 
 static ptrdiff_t call(int which, uint8_t *room)
 {
-    const uint8_t *dash = (const uint8_t *)"-";
+    const char *dash = "-";
     switch (which) {
     case 0: return movaliren_format(items, 5, dash, 1, &moment, room, ROOM);
     case 1: return movaliren_format_utc(items, 5, dash, 1, 0, 0, room, ROOM);

@@ -1,51 +1,124 @@
-/* Moments as text, by Movaliren's proved formatter. x86-64 Linux alone. Link with libmovaliren_c.a
- * and then the kit's liblibc_c.a, in this order.
+/* Moments as text, by Movaliren's proved formatter. For Linux on x86-64 processors of the level
+ * x86-64-v2 or above.
  *
- * Each call answers the number of bytes at the start of the room, which are the whole text (no zero
- * stands behind it), and the bytes behind them are as they were; or a negative movaliren_error, and
- * then all of the room is as it was. A call reads its arguments, keeps nothing and prints nothing.
- * Calls of different threads need no lock. Only movaliren_format, movaliren_format_utc and
- * movaliren_format_date take memory, by malloc, once, and give it back by free: these three may not
- * come from a signal handler, nor from the forked child of a process with threads.
+ *     char line[MOVALIREN_STAMP_ROOM + 1];
+ *     ptrdiff_t n = movaliren_stamp(seconds, nanosecond, line, MOVALIREN_STAMP_ROOM);
+ *     if (n < 0)
+ *         fprintf(stderr, "%s\n", movaliren_error_text(n));
+ *     else
+ *         line[n] = 0, puts(line);
  *
- * The caller owes: no pointer is null, not even where its length is 0; each length is true and below
- * PTRDIFF_MAX; the room overlaps nothing else that the call is given; all fields are set. */
+ * Each call answers the number of bytes that it wrote to the start of the buffer `room`. These are the
+ * whole text, without a zero at the end; the bytes behind them are unchanged. Or it answers a negative
+ * movaliren_error, and the buffer is unchanged. A call reads its arguments, keeps nothing and prints
+ * nothing. Calls of different threads need no lock.
+ *
+ * Only movaliren_format, movaliren_format_utc and movaliren_format_date allocate: once, freed before
+ * they return. They may not be called from a signal handler, nor in the forked child of a process with
+ * threads. They allocate through two symbols, which the installed library defines by malloc and free,
+ * and a program with an allocator of its own defines both in their place:
+ *
+ *     struct { uint64_t is_there; void *block; } rattle_alloc(size_t size, size_t alignment);
+ *     void rattle_dealloc(void *block);
+ *
+ * The other calls need neither: a program that makes no other links without them by -Wl,--gc-sections.
+ *
+ * The caller guarantees: no pointer is null, not even where its length is 0 (the contracts that are
+ * proved speak of arrays, and a null pointer is none; "" will do); each length is that of its array and
+ * below PTRDIFF_MAX; the buffer overlaps nothing else that the call is given; all fields are set. */
 #ifndef MOVALIREN_H
 #define MOVALIREN_H
 
 #include <stddef.h>
 #include <stdint.h>
+#include <string.h>
+
+#define MOVALIREN_VERSION "0.1.0"
 
 #ifdef __cplusplus
 extern "C" {
 #endif
 
 enum movaliren_error {
-    MOVALIREN_ERROR_YEAR = -1,            /* the year is outside -999999 to 999999 */
-    MOVALIREN_ERROR_MONTH = -2,           /* the month is outside 1 to 12 */
-    MOVALIREN_ERROR_DAY = -3,             /* the month of that year has no such day */
-    MOVALIREN_ERROR_HOUR = -4,            /* the hour is outside 0 to 23 */
-    MOVALIREN_ERROR_MINUTE = -5,          /* the minute is outside 0 to 59 */
-    MOVALIREN_ERROR_SECOND = -6,          /* the second is outside 0 to 59 */
-    MOVALIREN_ERROR_NANOSECOND = -7,      /* the nanosecond is outside 0 to 999999999 */
-    MOVALIREN_ERROR_OFFSET_HOURS = -8,    /* the hours of the offset are outside -25 to 25 */
-    MOVALIREN_ERROR_OFFSET_MINUTES = -9,  /* its minutes are outside -59 to 59 */
-    MOVALIREN_ERROR_OFFSET_SECONDS = -10, /* its seconds are outside -59 to 59 */
-    MOVALIREN_ERROR_MOMENT_SECONDS = -11, /* the seconds are outside the years -999999 to 999999 */
-    MOVALIREN_ERROR_NO_PLACE_FOR_YEAR = -12,          /* the format has no place for the year, */
-    MOVALIREN_ERROR_NO_PLACE_FOR_OFFSET_HOUR = -13,   /* for the hours of the offset, */
-    MOVALIREN_ERROR_NO_PLACE_FOR_OFFSET_MINUTE = -14, /* for its minutes, */
-    MOVALIREN_ERROR_NO_PLACE_FOR_OFFSET_SECOND = -15, /* or for its seconds */
-    MOVALIREN_ERROR_INSUFFICIENT = -16, /* the value lacks a component: a date has no hour */
-    MOVALIREN_ERROR_OUT_OF_RANGE = -17, /* a component is outside the range of its item */
-    MOVALIREN_ERROR_BAD_CONFIG = -18,   /* a number of the configuration is none that there is */
-    MOVALIREN_ERROR_BAD_ITEM = -19,     /* an item is none that there is */
-    MOVALIREN_ERROR_NO_ROOM = -20,      /* the text does not fit the room */
-    MOVALIREN_ERROR_OUT_OF_MEMORY = -21, /* memory was refused */
-    MOVALIREN_ERROR_OTHER = -22          /* never answered */
+    MOVALIREN_ERROR_YEAR = -1,
+    MOVALIREN_ERROR_MONTH = -2,
+    MOVALIREN_ERROR_DAY = -3,
+    MOVALIREN_ERROR_HOUR = -4,
+    MOVALIREN_ERROR_MINUTE = -5,
+    MOVALIREN_ERROR_SECOND = -6,
+    MOVALIREN_ERROR_NANOSECOND = -7,
+    MOVALIREN_ERROR_OFFSET_HOURS = -8,
+    MOVALIREN_ERROR_OFFSET_MINUTES = -9,
+    MOVALIREN_ERROR_OFFSET_SECONDS = -10,
+    MOVALIREN_ERROR_MOMENT_SECONDS = -11,
+    MOVALIREN_ERROR_NO_PLACE_FOR_YEAR = -12,
+    MOVALIREN_ERROR_NO_PLACE_FOR_OFFSET_HOUR = -13,
+    MOVALIREN_ERROR_NO_PLACE_FOR_OFFSET_MINUTE = -14,
+    MOVALIREN_ERROR_NO_PLACE_FOR_OFFSET_SECOND = -15,
+    MOVALIREN_ERROR_INSUFFICIENT = -16,
+    MOVALIREN_ERROR_OUT_OF_RANGE = -17,
+    MOVALIREN_ERROR_BAD_CONFIG = -18,
+    MOVALIREN_ERROR_BAD_ITEM = -19,
+    MOVALIREN_ERROR_NO_ROOM = -20,
+    MOVALIREN_ERROR_OUT_OF_MEMORY = -21,
+    MOVALIREN_ERROR_OTHER = -22 /* never answered */
 };
 
-/* Room of this many bytes is never too little; for movaliren_iso8601_by by any configuration. */
+/* The reason in words. */
+static inline const char *movaliren_error_text(ptrdiff_t reason)
+{
+    switch (reason) {
+    case MOVALIREN_ERROR_YEAR:
+        return "the year is outside -999999 to 999999";
+    case MOVALIREN_ERROR_MONTH:
+        return "the month is outside 1 to 12";
+    case MOVALIREN_ERROR_DAY:
+        return "the month has no such day";
+    case MOVALIREN_ERROR_HOUR:
+        return "the hour is outside 0 to 23";
+    case MOVALIREN_ERROR_MINUTE:
+        return "the minute is outside 0 to 59";
+    case MOVALIREN_ERROR_SECOND:
+        return "the second is outside 0 to 59";
+    case MOVALIREN_ERROR_NANOSECOND:
+        return "the nanosecond is outside 0 to 999999999";
+    case MOVALIREN_ERROR_OFFSET_HOURS:
+        return "the hours of the offset are outside -25 to 25";
+    case MOVALIREN_ERROR_OFFSET_MINUTES:
+        return "the minutes of the offset are outside -59 to 59";
+    case MOVALIREN_ERROR_OFFSET_SECONDS:
+        return "the seconds of the offset are outside -59 to 59";
+    case MOVALIREN_ERROR_MOMENT_SECONDS:
+        return "the seconds are outside the years -999999 to 999999";
+    case MOVALIREN_ERROR_NO_PLACE_FOR_YEAR:
+        return "the format cannot represent the year";
+    case MOVALIREN_ERROR_NO_PLACE_FOR_OFFSET_HOUR:
+        return "the format cannot represent the hours of the offset";
+    case MOVALIREN_ERROR_NO_PLACE_FOR_OFFSET_MINUTE:
+        return "the format cannot represent the minutes of the offset";
+    case MOVALIREN_ERROR_NO_PLACE_FOR_OFFSET_SECOND:
+        return "the format cannot represent the seconds of the offset";
+    case MOVALIREN_ERROR_INSUFFICIENT:
+        return "the value lacks a component of the format";
+    case MOVALIREN_ERROR_OUT_OF_RANGE:
+        return "a component is outside the range of its item";
+    case MOVALIREN_ERROR_BAD_CONFIG:
+        return "invalid configuration value";
+    case MOVALIREN_ERROR_BAD_ITEM:
+        return "invalid item";
+    case MOVALIREN_ERROR_NO_ROOM:
+        return "the text does not fit the buffer";
+    case MOVALIREN_ERROR_OUT_OF_MEMORY:
+        return "out of memory";
+    case MOVALIREN_ERROR_OTHER:
+        return "the format cannot represent a component";
+    default:
+        return "no error";
+    }
+}
+
+/* A buffer of this many bytes is never too small, by any configuration. One byte more has room for a
+ * zero behind the text. */
 enum {
     MOVALIREN_RFC3339_ROOM = 35,
     MOVALIREN_RFC2822_ROOM = 31,
@@ -79,18 +152,18 @@ struct movaliren_utc_moment {
 
 /* RFC 3339, as 1985-04-12T23:20:50.52Z. */
 ptrdiff_t movaliren_rfc3339(
-    const struct movaliren_moment *moment, uint8_t *room, size_t room_len);
+    const struct movaliren_moment *moment, void *room, size_t room_len);
 
 /* RFC 2822, as Fri, 21 Nov 1997 09:55:06 -0600. */
 ptrdiff_t movaliren_rfc2822(
-    const struct movaliren_moment *moment, uint8_t *room, size_t room_len);
+    const struct movaliren_moment *moment, void *room, size_t room_len);
 
 /* ISO 8601 by default, as 1997-11-12T09:55:06.000000000-06:00. */
 ptrdiff_t movaliren_iso8601(
-    const struct movaliren_moment *moment, uint8_t *room, size_t room_len);
+    const struct movaliren_moment *moment, void *room, size_t room_len);
 
 /* A stamp, as 1997-11-12T15:55:06.000000000Z: 30 bytes, in the order of the moments. */
-ptrdiff_t movaliren_stamp(int64_t seconds, uint32_t nanosecond, uint8_t *room, size_t room_len);
+ptrdiff_t movaliren_stamp(int64_t seconds, uint32_t nanosecond, void *room, size_t room_len);
 
 /* ---- configurations of ISO 8601 */
 
@@ -127,16 +200,19 @@ struct movaliren_iso_config {
     uint8_t comma;              /* before the decimals, in the place of a point */
 };
 
-/* The configuration of movaliren_iso8601, as an initialiser. */
-#define MOVALIREN_ISO_DEFAULT                                                          \
+/* The configuration of movaliren_iso8601 with another number of decimals, as an initialiser: with 3 it
+ * writes milliseconds with their zeros, as 1997-11-12T15:55:06.120Z. */
+#define MOVALIREN_ISO_DECIMALS(number)                                                 \
     {                                                                                  \
         MOVALIREN_ISO_DATE_TIME_OFFSET, MOVALIREN_ISO_CALENDAR, MOVALIREN_ISO_SECOND,  \
-            9, MOVALIREN_ISO_MINUTE, 1, 0, 0                                           \
+            number, MOVALIREN_ISO_MINUTE, 1, 0, 0                                      \
     }
+
+#define MOVALIREN_ISO_DEFAULT MOVALIREN_ISO_DECIMALS(9)
 
 /* ISO 8601 by a configuration, whose numbers are tested before the moment. */
 ptrdiff_t movaliren_iso8601_by(const struct movaliren_iso_config *config,
-    const struct movaliren_moment *moment, uint8_t *room, size_t room_len);
+    const struct movaliren_moment *moment, void *room, size_t room_len);
 
 /* ---- many moments in one call */
 
@@ -152,16 +228,16 @@ struct movaliren_progress {
 
 /* The texts of the moments, one after another, each ended by this byte. */
 struct movaliren_progress movaliren_rfc3339_batch(const struct movaliren_moment *moments,
-    size_t moments_len, uint8_t end, uint8_t *room, size_t room_len);
+    size_t moments_len, uint8_t end, void *room, size_t room_len);
 struct movaliren_progress movaliren_rfc2822_batch(const struct movaliren_moment *moments,
-    size_t moments_len, uint8_t end, uint8_t *room, size_t room_len);
+    size_t moments_len, uint8_t end, void *room, size_t room_len);
 struct movaliren_progress movaliren_iso8601_batch(const struct movaliren_moment *moments,
-    size_t moments_len, uint8_t end, uint8_t *room, size_t room_len);
+    size_t moments_len, uint8_t end, void *room, size_t room_len);
 struct movaliren_progress movaliren_iso8601_by_batch(const struct movaliren_iso_config *config,
-    const struct movaliren_moment *moments, size_t moments_len, uint8_t end, uint8_t *room,
+    const struct movaliren_moment *moments, size_t moments_len, uint8_t end, void *room,
     size_t room_len);
 struct movaliren_progress movaliren_stamp_batch(const struct movaliren_utc_moment *moments,
-    size_t moments_len, uint8_t end, uint8_t *room, size_t room_len);
+    size_t moments_len, uint8_t end, void *room, size_t room_len);
 
 /* ---- descriptions */
 
@@ -219,19 +295,80 @@ struct movaliren_item {
 /* By the items in order, of which the texts are cut from one array of bytes. The items are tested
  * before the value. */
 ptrdiff_t movaliren_format(const struct movaliren_item *items, size_t items_len,
-    const uint8_t *texts, size_t texts_len, const struct movaliren_moment *moment, uint8_t *room,
+    const void *texts, size_t texts_len, const struct movaliren_moment *moment, void *room,
     size_t room_len);
 ptrdiff_t movaliren_format_utc(const struct movaliren_item *items, size_t items_len,
-    const uint8_t *texts, size_t texts_len, int64_t seconds, uint32_t nanosecond, uint8_t *room,
+    const void *texts, size_t texts_len, int64_t seconds, uint32_t nanosecond, void *room,
     size_t room_len);
 ptrdiff_t movaliren_format_date(const struct movaliren_item *items, size_t items_len,
-    const uint8_t *texts, size_t texts_len, int32_t year, uint8_t month, uint8_t day, uint8_t *room,
+    const void *texts, size_t texts_len, int32_t year, uint8_t month, uint8_t day, void *room,
     size_t room_len);
 
 /* The most bytes that a text of these items has, up to PTRDIFF_MAX, or MOVALIREN_ERROR_BAD_ITEM:
  * room of this many is never too little. */
 ptrdiff_t movaliren_width(const struct movaliren_item *items, size_t items_len,
-    const uint8_t *texts, size_t texts_len);
+    const void *texts, size_t texts_len);
+
+/* A description that is built in two arrays of the caller, so that nobody counts where a text starts:
+ *
+ *     struct movaliren_item items[8];
+ *     char texts[32];
+ *     struct movaliren_description line = MOVALIREN_DESCRIPTION(items, texts);
+ *     movaliren_add(&line, MOVALIREN_DAY, MOVALIREN_NO_PADDING, 0, 0);
+ *     movaliren_add_text(&line, " of ");
+ *     movaliren_add(&line, MOVALIREN_MONTH_LONG, MOVALIREN_ZERO, 0, 0);
+ *     if (line.reason == 0)
+ *         n = movaliren_format(line.items, line.items_len, line.texts, line.texts_len, &moment, ..); */
+struct movaliren_description {
+    struct movaliren_item *items;
+    size_t items_len, items_room;
+    char *texts;
+    size_t texts_len, texts_room;
+    ptrdiff_t reason; /* MOVALIREN_ERROR_NO_ROOM once an item did not fit, and then nothing is added */
+};
+
+/* The empty description over two arrays, as an initialiser. */
+#define MOVALIREN_DESCRIPTION(items, texts)                                            \
+    {                                                                                  \
+        items, 0, sizeof(items) / sizeof *(items), texts, 0, sizeof(texts), 0          \
+    }
+
+static inline void movaliren_add_item(
+    struct movaliren_description *description, struct movaliren_item item)
+{
+    if (description->items_len == description->items_room)
+        description->reason = MOVALIREN_ERROR_NO_ROOM;
+    if (description->reason == 0)
+        description->items[description->items_len++] = item;
+}
+
+/* Adds a component. */
+static inline void movaliren_add(struct movaliren_description *description, uint32_t kind,
+    uint8_t padding, uint8_t flag, uint8_t digits)
+{
+    const struct movaliren_item item = { kind, padding, flag, digits, 0, 0, 0 };
+    movaliren_add_item(description, item);
+}
+
+/* Adds a text of these bytes. */
+static inline void movaliren_add_bytes(
+    struct movaliren_description *description, const void *bytes, size_t len)
+{
+    const struct movaliren_item item = { MOVALIREN_TEXT, 0, 0, 0, 0, description->texts_len, len };
+    if (len > description->texts_room - description->texts_len)
+        description->reason = MOVALIREN_ERROR_NO_ROOM;
+    movaliren_add_item(description, item);
+    if (description->reason == 0) {
+        memcpy(description->texts + description->texts_len, bytes, len);
+        description->texts_len += len;
+    }
+}
+
+/* Adds a text that ends with a zero, which is no part of it. */
+static inline void movaliren_add_text(struct movaliren_description *description, const char *text)
+{
+    movaliren_add_bytes(description, text, strlen(text));
+}
 
 #ifdef __cplusplus
 }

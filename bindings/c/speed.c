@@ -91,7 +91,7 @@ static long description(int i)
         { .kind = MOVALIREN_MONTH }, { .len = 1 }, { .kind = MOVALIREN_DAY }, { .start = 1, .len = 1 },
         { .kind = MOVALIREN_HOUR }, { .start = 2, .len = 1 }, { .kind = MOVALIREN_MINUTE },
         { .start = 2, .len = 1 }, { .kind = MOVALIREN_SECOND } };
-    return movaliren_format(items, 11, (const uint8_t *)"- :", 3, &values[i], room, LINE);
+    return movaliren_format(items, 11, "- :", 3, &values[i], room, LINE);
 }
 
 static long strftime_time(int i)
@@ -108,7 +108,7 @@ static const struct {
     const char *name;
     long (*one)(int);
     struct movaliren_progress (*batch)(
-        const struct movaliren_moment *, size_t, uint8_t, uint8_t *, size_t);
+        const struct movaliren_moment *, size_t, uint8_t, void *, size_t);
 } calls[] = {
     { "none", none, 0 },
     { "rfc3339", rfc3339, 0 },

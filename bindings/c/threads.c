@@ -19,7 +19,6 @@ static void *work(void *argument)
     static const struct movaliren_iso_config config = MOVALIREN_ISO_DEFAULT;
     static const struct movaliren_item items[] = { { .kind = MOVALIREN_DAY }, { .len = 1 },
         { .kind = MOVALIREN_MONTH_LONG }, { .len = 1 }, { .kind = MOVALIREN_UNIX_MILLISECOND } };
-    const uint8_t *space = (const uint8_t *)" ";
     uint8_t room[64];
     long *wrong = argument;
     for (int i = 0; i < CALLS; i++) {
@@ -31,7 +30,7 @@ static void *work(void *argument)
             "2026-11-22T00:00:00.000000001Z");
         *wrong += !is_text(movaliren_stamp(0, 1, room, sizeof room), room,
             "1970-01-01T00:00:00.000000001Z");
-        *wrong += !is_text(movaliren_format(items, 5, space, 1, &moment, room, sizeof room), room,
+        *wrong += !is_text(movaliren_format(items, 5, " ", 1, &moment, room, sizeof room), room,
             "22 November 1795305600000");
     }
     return 0;

@@ -1,4 +1,4 @@
-//! The example of the front page: each way to a text once, and what a refusal looks like.
+//! The example of the front page: each way to a text once, and an error.
 use movaliren::{
     stamp, Batch, DateKind, DecimalSign, Description, Format, Iso8601, Iso8601By, Kind, Moment,
     Padding, Rfc2822, Rfc3339, TimePrecision, UtcMoment,
@@ -8,7 +8,7 @@ fn main() -> Result<(), Box<dyn std::error::Error>> {
     let moment = Moment::new(1997, 11, 12)
         .at(9, 55, 6, 120_000_000)
         .offset(-6, 0, 0);
-    println!("RFC 3339      {}", Rfc3339.format(&moment)?);
+    println!("RFC 3339      {}", Rfc3339.text(&moment)?);
     println!("RFC 2822      {}", Rfc2822.format(&moment)?);
     println!("ISO 8601      {}", Iso8601.format(&moment)?);
 
@@ -22,11 +22,11 @@ fn main() -> Result<(), Box<dyn std::error::Error>> {
 
     let description = Description::new()
         .component_with(Kind::Day, Padding::NoPadding, false)
-        .text(" ")
+        .literal(" ")
         .component(Kind::MonthLong)
-        .text(", week ")
+        .literal(", week ")
         .component(Kind::IsoYear)
-        .text("-W")
+        .literal("-W")
         .component(Kind::WeekIso);
     println!("width         {}", description.width());
     println!("a moment      {}", description.format(&moment)?);

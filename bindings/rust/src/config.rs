@@ -1,11 +1,11 @@
 //! ISO 8601 by a configuration.
-use crate::batch::{Batch, Progress};
+use crate::batch::Batch;
 use crate::format::Format;
-use crate::raw::{self, IsoConfig};
-use crate::{Error, Moment};
+use crate::raw::IsoConfig;
+use crate::{Moment, UtcMoment};
 
 /// Which parts are written.
-#[derive(Clone, Copy, Debug, PartialEq, Eq)]
+#[derive(Clone, Copy, Debug, PartialEq, Eq, Hash)]
 pub enum Parts {
     /// The date alone.
     Date = 1,
@@ -22,7 +22,7 @@ pub enum Parts {
 }
 
 /// Which date is written.
-#[derive(Clone, Copy, Debug, PartialEq, Eq)]
+#[derive(Clone, Copy, Debug, PartialEq, Eq, Hash)]
 pub enum DateKind {
     /// The year, the month and the day.
     Calendar = 0,
@@ -33,7 +33,7 @@ pub enum DateKind {
 }
 
 /// The smallest whole unit of a time.
-#[derive(Clone, Copy, Debug, PartialEq, Eq)]
+#[derive(Clone, Copy, Debug, PartialEq, Eq, Hash)]
 pub enum TimePrecision {
     /// The hour.
     Hour = 0,
@@ -44,7 +44,7 @@ pub enum TimePrecision {
 }
 
 /// The smallest unit of an offset.
-#[derive(Clone, Copy, Debug, PartialEq, Eq)]
+#[derive(Clone, Copy, Debug, PartialEq, Eq, Hash)]
 pub enum OffsetPrecision {
     /// The hour. An offset with minutes has no text.
     Hour = 0,
@@ -53,7 +53,7 @@ pub enum OffsetPrecision {
 }
 
 /// The sign before decimals.
-#[derive(Clone, Copy, Debug, PartialEq, Eq)]
+#[derive(Clone, Copy, Debug, PartialEq, Eq, Hash)]
 pub enum DecimalSign {
     /// `.`.
     Point = 0,
@@ -63,22 +63,38 @@ pub enum DecimalSign {
 
 /// ISO 8601 by a configuration, at first that of [`Iso8601`](crate::Iso8601).
 ///
-/// ```
-/// use movaliren::{DateKind, DecimalSign, Format, Iso8601By, Moment, TimePrecision};
+/// The setters are `const`, so a configuration can be a constant.
+/// A [`UtcMoment`] is written in UTC, of the years 0 to 9999.
 ///
-/// let week = Iso8601By::default()
+/// ```
+/// use movaliren::{DateKind, DecimalSign, Format, Iso8601By, Moment, TimePrecision, UtcMoment};
+///
+/// const MILLISECONDS: Iso8601By = Iso8601By::new().time_precision(TimePrecision::Second, 3);
+///
+/// let moment = UtcMoment::new(879_350_106, 120_000_000);
+/// assert_eq!(MILLISECONDS.text(&moment)?, "1997-11-12T15:55:06.120Z");
+///
+/// const WEEK: Iso8601By = Iso8601By::new()
 ///     .date_kind(DateKind::Week)
 ///     .time_precision(TimePrecision::Second, 3)
 ///     .decimal_sign(DecimalSign::Comma);
+///
 /// let moment = Moment::new(1997, 11, 12).at(9, 55, 6, 120_000_000).offset(-6, 0, 0);
-/// assert_eq!(week.format(&moment)?, "1997-W46-3T09:55:06,120-06:00");
+/// assert_eq!(WEEK.format(&moment)?, "1997-W46-3T09:55:06,120-06:00");
 /// # Ok::<(), movaliren::Error>(())
 /// ```
-#[derive(Clone, Copy, Debug, PartialEq, Eq)]
+#[derive(Clone, Copy, Debug, PartialEq, Eq, Hash)]
 pub struct Iso8601By(IsoConfig);
 
 impl Default for Iso8601By {
     fn default() -> Self {
+        Iso8601By::new()
+    }
+}
+
+impl Iso8601By {
+    /// Returns the configuration of [`Iso8601`](crate::Iso8601).
+    pub const fn new() -> Self {
         Iso8601By(IsoConfig {
             components: Parts::DateTimeOffset as u8,
             date_kind: DateKind::Calendar as u8,
@@ -90,73 +106,81 @@ impl Default for Iso8601By {
             comma: DecimalSign::Point as u8,
         })
     }
-}
 
-impl Iso8601By {
-    /// The same with these parts.
+    /// Sets the parts that are written.
     #[must_use]
-    pub fn parts(mut self, parts: Parts) -> Self {
+    pub const fn parts(mut self, parts: Parts) -> Self {
         self.0.components = parts as u8;
         self
     }
 
-    /// The same with this kind of date.
+    /// Sets the kind of date.
     #[must_use]
-    pub fn date_kind(mut self, kind: DateKind) -> Self {
+    pub const fn date_kind(mut self, kind: DateKind) -> Self {
         self.0.date_kind = kind as u8;
         self
     }
 
-    /// The same with the time to this unit, and so many decimals of it, or none.
+    /// Sets the smallest unit of the time, and the number of its decimals. 0 writes none.
     #[must_use]
-    pub fn time_precision(mut self, precision: TimePrecision, decimals: u8) -> Self {
+    pub const fn time_precision(mut self, precision: TimePrecision, decimals: u8) -> Self {
         self.0.time_precision = precision as u8;
         self.0.decimals = decimals;
         self
     }
 
-    /// The same with the offset to this unit.
+    /// Sets the smallest unit of the offset.
     #[must_use]
-    pub fn offset_precision(mut self, precision: OffsetPrecision) -> Self {
+    pub const fn offset_precision(mut self, precision: OffsetPrecision) -> Self {
         self.0.offset_precision = precision as u8;
         self
     }
 
-    /// The same with or without separators.
+    /// Sets whether separators are written.
     #[must_use]
-    pub fn separators(mut self, use_separators: bool) -> Self {
+    pub const fn separators(mut self, use_separators: bool) -> Self {
         self.0.use_separators = use_separators as u8;
         self
     }
 
-    /// The same with a sign and six digits of the year, or with four digits.
+    /// Sets whether the year has a sign and six digits, or four digits.
     #[must_use]
-    pub fn six_digit_year(mut self, is_six_digits: bool) -> Self {
+    pub const fn six_digit_year(mut self, is_six_digits: bool) -> Self {
         self.0.year_is_six_digits = is_six_digits as u8;
         self
     }
 
-    /// The same with this sign before decimals.
+    /// Sets the sign before the decimals.
     #[must_use]
-    pub fn decimal_sign(mut self, sign: DecimalSign) -> Self {
+    pub const fn decimal_sign(mut self, sign: DecimalSign) -> Self {
         self.0.comma = sign as u8;
         self
     }
-}
 
-impl Format<Moment> for Iso8601By {
-    fn width(&self) -> usize {
+    /// The greatest number of bytes that a text has.
+    #[inline]
+    pub const fn width(&self) -> usize {
         // 13 bytes of the date, 10 and the decimals of the time, 6 of the offset.
         29 + self.0.decimals as usize
     }
 
-    fn write(&self, room: &mut [u8], value: &Moment) -> Result<usize, Error> {
-        raw::iso8601_by(&self.0, value, room)
+    #[inline]
+    pub(crate) fn config(&self) -> &IsoConfig {
+        &self.0
     }
 }
 
-impl Batch<Moment> for Iso8601By {
-    fn batch_to(&self, room: &mut [u8], values: &[Moment], end: u8) -> Progress {
-        raw::iso8601_by_batch(&self.0, values, end, room)
-    }
+macro_rules! by_configuration {
+    ($($value:ty),*) => { $(
+        impl Format<$value> for Iso8601By {
+            #[inline]
+            fn width(&self) -> usize {
+                self.width()
+            }
+        }
+    )* };
 }
+
+by_configuration!(Moment, UtcMoment);
+
+impl Batch<Moment> for Iso8601By {}

@@ -1,11 +1,11 @@
 //! Descriptions: texts and components in order.
 use crate::format::Format;
 use crate::raw::{self, Item};
-use crate::{Error, Moment, UtcMoment};
+use crate::{Moment, UtcMoment};
 use alloc::vec::Vec;
 
-/// What stands before a number that is shorter than its places.
-#[derive(Clone, Copy, Debug, PartialEq, Eq, Default)]
+/// What is written before a number with fewer digits than its width.
+#[derive(Clone, Copy, Debug, Default, PartialEq, Eq, Hash)]
 pub enum Padding {
     /// Zeros.
     #[default]
@@ -16,8 +16,8 @@ pub enum Padding {
     NoPadding = 2,
 }
 
-/// A component. Those that lie in a range have no text of a value outside it.
-#[derive(Clone, Copy, Debug, PartialEq, Eq)]
+/// A component. One with a range refuses a value outside it.
+#[derive(Clone, Copy, Debug, PartialEq, Eq, Hash)]
 pub enum Kind {
     /// The day of the month.
     Day = 1,
@@ -87,8 +87,34 @@ pub enum Kind {
     UnixMillisecond = 33,
 }
 
+/// The number of decimals of a second.
+#[derive(Clone, Copy, Debug, Default, PartialEq, Eq, Hash)]
+pub enum SubsecondDigits {
+    /// One or more: without the zeros at the end.
+    #[default]
+    OneOrMore = 0,
+    /// One.
+    One = 1,
+    /// Two.
+    Two = 2,
+    /// Three: milliseconds.
+    Three = 3,
+    /// Four.
+    Four = 4,
+    /// Five.
+    Five = 5,
+    /// Six: microseconds.
+    Six = 6,
+    /// Seven.
+    Seven = 7,
+    /// Eight.
+    Eight = 8,
+    /// Nine: nanoseconds.
+    Nine = 9,
+}
+
 /// A date alone, for a description.
-#[derive(Clone, Copy, Debug, PartialEq, Eq, Hash)]
+#[derive(Clone, Copy, Debug, PartialEq, Eq, PartialOrd, Ord, Hash)]
 pub struct Date {
     /// The year, -999,999 to 999,999.
     pub year: i32,
@@ -98,16 +124,16 @@ pub struct Date {
     pub day: u8,
 }
 
-/// A description, which knows its width. It formats a [`Moment`], a [`UtcMoment`] and a [`Date`].
+/// A list of literals and components. It formats a [`Moment`], a [`UtcMoment`] and a [`Date`].
 ///
 /// ```
 /// use movaliren::{Date, Description, Format, Kind, Padding};
 ///
 /// let description = Description::new()
 ///     .component_with(Kind::Day, Padding::NoPadding, false)
-///     .text(" ")
+///     .literal(" ")
 ///     .component(Kind::MonthLong)
-///     .text(" ")
+///     .literal(" ")
 ///     .component(Kind::Year);
 /// let date = Date { year: 2026, month: 11, day: 22 };
 /// assert_eq!(description.format(&date)?, "22 November 2026");
@@ -122,14 +148,14 @@ pub struct Description {
 }
 
 impl Description {
-    /// The empty description.
+    /// Returns the empty description.
     pub fn new() -> Self {
         Self::default()
     }
 
-    /// The same, and then this text.
+    /// Adds a literal, which is written as it is.
     #[must_use]
-    pub fn text(mut self, text: &str) -> Self {
+    pub fn literal(mut self, text: &str) -> Self {
         let start = self.texts.len();
         self.texts.extend_from_slice(text.as_bytes());
         self.then(Item {
@@ -139,15 +165,16 @@ impl Description {
         })
     }
 
-    /// The same, and then this component, with zeros before it and no plus.
+    /// Adds a component, with zeros before it and no plus.
     #[must_use]
     pub fn component(self, kind: Kind) -> Self {
         self.component_with(kind, Padding::Zero, false)
     }
 
-    /// The same, and then this component, so padded. The flag means a plus before a year, a century, the
-    /// hours of an offset or seconds and milliseconds since 1970, counting from 1 for a weekday, and upper
-    /// case for the half of the day.
+    /// Adds a component with this padding.
+    ///
+    /// The flag asks for a plus before a year, a century, the hours of an offset or the time since
+    /// 1970. A weekday is then counted from 1, and the half of the day is in upper case.
     #[must_use]
     pub fn component_with(self, kind: Kind, padding: Padding, flag: bool) -> Self {
         self.then(Item {
@@ -158,55 +185,69 @@ impl Description {
         })
     }
 
-    /// The same, and then so many decimals of the second, 1 to 9, or with `None` as many as are needed.
+    /// Adds the decimals of the second.
     #[must_use]
-    pub fn subsecond(self, digits: Option<u8>) -> Self {
+    pub fn subsecond(self, digits: SubsecondDigits) -> Self {
         self.then(Item {
             kind: Kind::Subsecond as u32,
-            digits: digits.map_or(0, |digits| digits.clamp(1, 9)),
+            digits: digits as u8,
             ..Item::NONE
         })
     }
 
-    /// The most bytes that a text has.
+    /// The greatest number of bytes that a text has.
+    #[inline]
     pub fn width(&self) -> usize {
         self.width
     }
 
+    #[inline]
+    pub(crate) fn parts(&self) -> (&[Item], &[u8]) {
+        (&self.items, &self.texts)
+    }
+
+    /// The width of a list is the sum of those of its items, up to `isize::MAX`.
     fn then(mut self, item: Item) -> Self {
+        let most = isize::MAX as usize;
+        // An item that is made here has a width.
+        let width = raw::width(&[item], &self.texts).unwrap_or(most);
         self.items.push(item);
-        // A description that is made here has a width.
-        self.width = raw::width(&self.items, &self.texts).unwrap_or(usize::MAX);
+        self.width = self.width.saturating_add(width).min(most);
         self
     }
 }
 
-impl Format<Moment> for Description {
-    fn width(&self) -> usize {
-        self.width
-    }
-
-    fn write(&self, room: &mut [u8], value: &Moment) -> Result<usize, Error> {
-        raw::format(&self.items, &self.texts, value, room)
-    }
+macro_rules! described {
+    ($($value:ty),*) => { $(
+        impl Format<$value> for Description {
+            #[inline]
+            fn width(&self) -> usize {
+                self.width
+            }
+        }
+    )* };
 }
 
-impl Format<UtcMoment> for Description {
-    fn width(&self) -> usize {
-        self.width
-    }
+described!(Moment, UtcMoment, Date);
 
-    fn write(&self, room: &mut [u8], value: &UtcMoment) -> Result<usize, Error> {
-        raw::format_utc(&self.items, &self.texts, value, room)
-    }
-}
+#[cfg(test)]
+mod tests {
+    use super::*;
 
-impl Format<Date> for Description {
-    fn width(&self) -> usize {
-        self.width
-    }
-
-    fn write(&self, room: &mut [u8], value: &Date) -> Result<usize, Error> {
-        raw::format_date(&self.items, &self.texts, value, room)
+    #[test]
+    fn the_width_is_that_of_the_whole_list() {
+        let mut description = Description::new();
+        for text in ["", "a", "hours and minutes"] {
+            for kind in [
+                Kind::Day,
+                Kind::MonthLong,
+                Kind::YearExtended,
+                Kind::UnixSecond,
+            ] {
+                description = description.literal(text).component(kind);
+                let (items, texts) = description.parts();
+                assert_eq!(raw::width(items, texts), Ok(description.width()));
+            }
+        }
     }
 }

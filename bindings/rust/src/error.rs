@@ -9,7 +9,7 @@ pub enum Error {
     Year,
     /// The month is outside 1 to 12.
     Month,
-    /// The month of that year has no such day.
+    /// The month has no such day.
     Day,
     /// The hour is outside 0 to 23.
     Hour,
@@ -25,33 +25,31 @@ pub enum Error {
     OffsetMinutes,
     /// The seconds of the offset are outside -59 to 59.
     OffsetSeconds,
-    /// The seconds are outside those of the years -999999 to 999999.
+    /// The seconds are outside the years -999999 to 999999.
     MomentSeconds,
-    /// The format has no place for the year.
+    /// The format cannot represent the year.
     NoPlaceForYear,
-    /// The format has no place for the hours of the offset.
+    /// The format cannot represent the hours of the offset.
     NoPlaceForOffsetHour,
-    /// The format has no place for the minutes of the offset.
+    /// The format cannot represent the minutes of the offset.
     NoPlaceForOffsetMinute,
-    /// The format has no place for the seconds of the offset.
+    /// The format cannot represent the seconds of the offset.
     NoPlaceForOffsetSecond,
-    /// The value lacks a component: a date has no hour.
+    /// The value lacks a component of the format: a date has no hour.
     Insufficient,
-    /// A component is outside the range that the description has for it.
+    /// A component is outside the range of its item.
     OutOfRange,
-    /// A number of the configuration is none that there is.
+    /// A value of the configuration is invalid. The configurations of this crate are valid.
     BadConfig,
-    /// An item is none that there is.
+    /// An item is invalid. The descriptions of this crate have valid items.
     BadItem,
-    /// The text does not fit the room.
+    /// The text does not fit the buffer.
     NoRoom,
-    /// Memory was refused.
+    /// An allocation failed.
     OutOfMemory,
-    /// The format has no place for a component of another name.
+    /// The format cannot represent a component. The library never returns this reason.
     Other,
-    /// The bytes are no UTF-8, which no format of this crate writes.
-    NotText,
-    /// The library answered a number that this crate does not know.
+    /// The library returned a number that this crate does not know.
     Unknown(isize),
 }
 
@@ -90,7 +88,7 @@ impl fmt::Display for Error {
         f.write_str(match self {
             Error::Year => "the year is outside -999999 to 999999",
             Error::Month => "the month is outside 1 to 12",
-            Error::Day => "the month of that year has no such day",
+            Error::Day => "the month has no such day",
             Error::Hour => "the hour is outside 0 to 23",
             Error::Minute => "the minute is outside 0 to 59",
             Error::Second => "the second is outside 0 to 59",
@@ -98,24 +96,23 @@ impl fmt::Display for Error {
             Error::OffsetHours => "the hours of the offset are outside -25 to 25",
             Error::OffsetMinutes => "the minutes of the offset are outside -59 to 59",
             Error::OffsetSeconds => "the seconds of the offset are outside -59 to 59",
-            Error::MomentSeconds => "the seconds are outside those of the years -999999 to 999999",
-            Error::NoPlaceForYear => "the format has no place for the year",
-            Error::NoPlaceForOffsetHour => "the format has no place for the hours of the offset",
+            Error::MomentSeconds => "the seconds are outside the years -999999 to 999999",
+            Error::NoPlaceForYear => "the format cannot represent the year",
+            Error::NoPlaceForOffsetHour => "the format cannot represent the hours of the offset",
             Error::NoPlaceForOffsetMinute => {
-                "the format has no place for the minutes of the offset"
+                "the format cannot represent the minutes of the offset"
             }
             Error::NoPlaceForOffsetSecond => {
-                "the format has no place for the seconds of the offset"
+                "the format cannot represent the seconds of the offset"
             }
-            Error::Insufficient => "the value lacks a component",
-            Error::OutOfRange => "a component is outside the range that the description has for it",
-            Error::BadConfig => "a number of the configuration is none that there is",
-            Error::BadItem => "an item is none that there is",
-            Error::NoRoom => "the text does not fit the room",
-            Error::OutOfMemory => "memory was refused",
-            Error::Other => "the format has no place for a component",
-            Error::NotText => "the bytes are no UTF-8",
-            Error::Unknown(number) => return write!(f, "the library answered {number}"),
+            Error::Insufficient => "the value lacks a component of the format",
+            Error::OutOfRange => "a component is outside the range of its item",
+            Error::BadConfig => "invalid configuration value",
+            Error::BadItem => "invalid item",
+            Error::NoRoom => "the text does not fit the buffer",
+            Error::OutOfMemory => "out of memory",
+            Error::Other => "the format cannot represent a component",
+            Error::Unknown(_) => "unknown error",
         })
     }
 }

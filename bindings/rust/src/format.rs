@@ -1,57 +1,96 @@
 //! What all formats do.
-use crate::Error;
+use crate::{raw, Error, Text};
 use alloc::string::String;
 use alloc::vec::Vec;
 
-/// A format, and values that it formats.
-pub trait Format<V> {
-    /// The most bytes that a text has.
+/// A format of values of the type `V`.
+///
+/// Each method either writes the whole text or returns an error. This trait is sealed: the formats of
+/// this crate implement it.
+pub trait Format<V>: raw::Call<V> {
+    /// The greatest number of bytes that a text has.
     fn width(&self) -> usize;
 
-    /// Writes the text of the value to the start of the room, and answers the number of its bytes. What
-    /// is behind them is as it was, and after an error all of the room is.
-    fn write(&self, room: &mut [u8], value: &V) -> Result<usize, Error>;
+    /// Writes the text of the value to the start of the buffer, and returns the number of its bytes.
+    ///
+    /// The bytes behind the text are unchanged. After an error the whole buffer is.
+    fn write(&self, buffer: &mut [u8], value: &V) -> Result<usize, Error> {
+        raw::write(self, value, buffer)
+    }
 
-    /// The text of the value, at the start of the room.
+    /// Writes the text of the value to the start of the buffer, and returns it.
     ///
     /// ```
     /// use movaliren::{Error, Format, Moment, Rfc3339};
     ///
-    /// let mut room = [0; 35];
-    /// let text = Rfc3339.format_to(&mut room, &Moment::new(2026, 11, 22))?;
+    /// let mut buffer = [0; 35];
+    /// let text = Rfc3339.format_to(&mut buffer, &Moment::new(2026, 11, 22))?;
     /// assert_eq!(text, b"2026-11-22T00:00:00Z");
-    /// assert_eq!(Rfc3339.format_to(&mut room[..19], &Moment::new(2026, 11, 22)), Err(Error::NoRoom));
+    /// let short = &mut buffer[..19];
+    /// assert_eq!(Rfc3339.format_to(short, &Moment::new(2026, 11, 22)), Err(Error::NoRoom));
     /// # Ok::<(), Error>(())
     /// ```
-    fn format_to<'a>(&self, room: &'a mut [u8], value: &V) -> Result<&'a [u8], Error> {
-        let count = self.write(room, value)?;
-        Ok(&room[..count])
+    fn format_to<'a>(&self, buffer: &'a mut [u8], value: &V) -> Result<&'a [u8], Error> {
+        let count = self.write(buffer, value)?;
+        Ok(&buffer[..count])
     }
 
-    /// Appends the text of the value, and answers the number of its bytes. After an error the output is
-    /// as it was, but for its capacity.
+    /// Writes the text of the value to the start of the buffer, and returns it as a `str`.
+    ///
+    /// ```
+    /// use movaliren::{Format, Moment, Rfc2822};
+    ///
+    /// let mut buffer = [0; 31];
+    /// let text = Rfc2822.format_str(&mut buffer, &Moment::new(2026, 11, 22))?;
+    /// assert_eq!(text, "Sun, 22 Nov 2026 00:00:00 +0000");
+    /// # Ok::<(), movaliren::Error>(())
+    /// ```
+    fn format_str<'a>(&self, buffer: &'a mut [u8], value: &V) -> Result<&'a str, Error> {
+        raw::write_str(self, value, buffer)
+    }
+
+    /// Returns the text of the value in place, without an allocation for it.
+    ///
+    /// A text of more than [`Text::CAPACITY`] bytes is [`Error::NoRoom`].
+    ///
+    /// ```
+    /// use movaliren::{Format, Iso8601, Moment};
+    ///
+    /// let text = Iso8601.text(&Moment::new(2026, 11, 22))?;
+    /// println!("{text} opened");
+    /// # Ok::<(), movaliren::Error>(())
+    /// ```
+    fn text(&self, value: &V) -> Result<Text, Error> {
+        Text::written(self, value)
+    }
+
+    /// Appends the text of the value, and returns the number of its bytes.
+    ///
+    /// Reserves the width first. After an error the contents are unchanged.
     fn format_into(&self, output: &mut Vec<u8>, value: &V) -> Result<usize, Error> {
-        appended(output, self.width(), |room| self.write(room, value))
+        raw::append(self, value, self.width(), output)
     }
 
-    /// The text of the value.
+    /// Appends the text of the value to a `String`, and returns the number of its bytes.
+    ///
+    /// Reserves the width first. After an error the contents are unchanged.
+    ///
+    /// ```
+    /// use movaliren::{Format, Moment, Rfc3339};
+    ///
+    /// let mut line = String::from("opened ");
+    /// Rfc3339.format_into_string(&mut line, &Moment::new(2026, 11, 22))?;
+    /// assert_eq!(line, "opened 2026-11-22T00:00:00Z");
+    /// # Ok::<(), movaliren::Error>(())
+    /// ```
+    fn format_into_string(&self, output: &mut String, value: &V) -> Result<usize, Error> {
+        raw::append_str(self, value, self.width(), output)
+    }
+
+    /// Returns the text of the value as a new `String`.
     fn format(&self, value: &V) -> Result<String, Error> {
-        let mut output = Vec::new();
-        self.format_into(&mut output, value)?;
-        String::from_utf8(output).map_err(|_| Error::NotText)
+        let mut output = String::new();
+        self.format_into_string(&mut output, value)?;
+        Ok(output)
     }
-}
-
-/// Makes room for the width, lets the call write there, and keeps as many bytes as it says.
-pub(crate) fn appended(
-    output: &mut Vec<u8>,
-    width: usize,
-    call: impl FnOnce(&mut [u8]) -> Result<usize, Error>,
-) -> Result<usize, Error> {
-    let before = output.len();
-    output.try_reserve(width).map_err(|_| Error::OutOfMemory)?;
-    output.resize(before + width, 0);
-    let answer = call(&mut output[before..]);
-    output.truncate(before + answer.unwrap_or(0));
-    answer
 }

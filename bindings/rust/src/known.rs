@@ -1,29 +1,35 @@
-//! The well-known formats, of which none takes memory.
+//! The well-known formats, of which none allocates.
 use crate::batch::Batch;
 use crate::format::Format;
-use crate::{raw, Error, Moment, Progress, UtcMoment};
+use crate::{Error, Moment, UtcMoment};
 
-/// RFC 3339, as `1985-04-12T23:20:50.52Z`, of at most 35 bytes: years 0 to 9999, and offsets below 24
-/// hours without seconds.
-#[derive(Clone, Copy, Debug, PartialEq, Eq)]
+/// RFC 3339, as `1985-04-12T23:20:50.52Z`.
+///
+/// A text has at most 35 bytes. Years are 0 to 9999. Offsets are below 24 hours and have no seconds.
+#[derive(Clone, Copy, Debug, Default, PartialEq, Eq, Hash)]
 pub struct Rfc3339;
 
-/// RFC 2822, as `Fri, 21 Nov 1997 09:55:06 -0600`, of 31 bytes: years 1900 to 9999, and offsets without
-/// seconds. The fraction of the second is not written.
-#[derive(Clone, Copy, Debug, PartialEq, Eq)]
+/// RFC 2822, as `Fri, 21 Nov 1997 09:55:06 -0600`.
+///
+/// A text has 31 bytes. Years are 1900 to 9999. Offsets have no seconds. The fraction of the second is
+/// left out.
+#[derive(Clone, Copy, Debug, Default, PartialEq, Eq, Hash)]
 pub struct Rfc2822;
 
-/// ISO 8601 by the default configuration, as `1997-11-12T09:55:06.000000000-06:00`, of at most 35 bytes:
-/// years 0 to 9999, and offsets without seconds. [`Iso8601By`](crate::Iso8601By) has the choices.
-#[derive(Clone, Copy, Debug, PartialEq, Eq)]
+/// ISO 8601 by the default configuration, as `1997-11-12T09:55:06.000000000-06:00`.
+///
+/// A text has at most 35 bytes. Years are 0 to 9999. Offsets have no seconds.
+/// [`Iso8601By`](crate::Iso8601By) has the choices.
+#[derive(Clone, Copy, Debug, Default, PartialEq, Eq, Hash)]
 pub struct Iso8601;
 
-/// Stamps of moments in UTC, as `1997-11-12T15:55:06.000000000Z`: of 30 bytes, whose order is that of
-/// the moments; years 0 to 9999.
-#[derive(Clone, Copy, Debug, PartialEq, Eq)]
+/// Stamps of moments in UTC, as `1997-11-12T15:55:06.000000000Z`.
+///
+/// A text has 30 bytes. The bytes of two texts are in the order of their moments. Years are 0 to 9999.
+#[derive(Clone, Copy, Debug, Default, PartialEq, Eq, Hash)]
 pub struct Stamp;
 
-/// The stamp of a moment in UTC.
+/// Returns the stamp of a moment in UTC.
 ///
 /// ```
 /// use movaliren::{stamp, UtcMoment};
@@ -33,32 +39,37 @@ pub struct Stamp;
 /// # Ok::<(), movaliren::Error>(())
 /// ```
 pub fn stamp(moment: &UtcMoment) -> Result<[u8; 30], Error> {
-    let mut room = [0; 30];
-    Stamp.write(&mut room, moment)?;
-    Ok(room)
+    let mut text = [0; 30];
+    Stamp.write(&mut text, moment)?;
+    Ok(text)
 }
 
 macro_rules! known {
-    ($name:ident of $value:ty, $width:literal bytes, $one:ident, $many:ident) => {
-        impl Format<$value> for $name {
-            fn width(&self) -> usize {
+    ($($name:ident over $($value:ty),*; batches over $batch:ty: $width:literal bytes;)*) => { $(
+        impl $name {
+            /// The greatest number of bytes that a text has.
+            #[inline]
+            pub const fn width(&self) -> usize {
                 $width
             }
-
-            fn write(&self, room: &mut [u8], value: &$value) -> Result<usize, Error> {
-                raw::$one(value, room)
-            }
         }
 
-        impl Batch<$value> for $name {
-            fn batch_to(&self, room: &mut [u8], values: &[$value], end: u8) -> Progress {
-                raw::$many(values, end, room)
+        $(
+            impl Format<$value> for $name {
+                #[inline]
+                fn width(&self) -> usize {
+                    $width
+                }
             }
-        }
-    };
+        )*
+
+        impl Batch<$batch> for $name {}
+    )* };
 }
 
-known!(Rfc3339 of Moment, 35 bytes, rfc3339, rfc3339_batch);
-known!(Rfc2822 of Moment, 31 bytes, rfc2822, rfc2822_batch);
-known!(Iso8601 of Moment, 35 bytes, iso8601, iso8601_batch);
-known!(Stamp of UtcMoment, 30 bytes, stamp, stamp_batch);
+known! {
+    Rfc3339 over Moment, UtcMoment; batches over Moment: 35 bytes;
+    Rfc2822 over Moment, UtcMoment; batches over Moment: 31 bytes;
+    Iso8601 over Moment, UtcMoment; batches over Moment: 35 bytes;
+    Stamp over UtcMoment; batches over UtcMoment: 30 bytes;
+}

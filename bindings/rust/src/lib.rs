@@ -1,11 +1,13 @@
-//! Moments as text, by Movaliren's proved formatter: RFC 3339, RFC 2822, ISO 8601, stamps that sort,
-//! and descriptions.
+//! Dates and times as text, by Movaliren's proved formatter: RFC 3339, RFC 2822, ISO 8601, stamps that
+//! sort, and descriptions.
 //!
 //! ```
-//! use movaliren::{Format, Moment, Rfc3339};
+//! use movaliren::{Format, Moment, Rfc3339, UtcMoment};
+//!
+//! println!("{} opened", Rfc3339.text(&UtcMoment::now())?);
 //!
 //! let moment = Moment::new(1997, 11, 12).at(9, 55, 6, 120_000_000).offset(-6, 0, 0);
-//! assert_eq!(Rfc3339.format(&moment)?, "1997-11-12T09:55:06.12-06:00");
+//! println!("{} opened", Rfc3339.text(&moment)?);
 //!
 //! let mut line = b"log ".to_vec();
 //! assert_eq!(Rfc3339.format_into(&mut line, &moment), Ok(28));
@@ -13,11 +15,13 @@
 //! # Ok::<(), movaliren::Error>(())
 //! ```
 //!
-//! What is proved is the library behind this crate: that each text is the one of its definition, and
-//! that each reason is the definition's. This crate lends it slices, and names its reasons. It has no
-//! `unsafe` outside one module, and no dependency. The archive is for x86-64 Linux alone.
+//! The library behind this crate is proved: each text is the one of its definition, and each error is
+//! the definition's. This crate lends it slices and names its errors, and is tested.
+//!
+//! The crate has no dependencies. `unsafe` stands in two modules, the calls and the text in place. The
+//! library is built for Linux on `x86-64-v2`.
 #![no_std]
-#![deny(unsafe_code)]
+#![deny(unsafe_code, unsafe_op_in_unsafe_fn)]
 #![warn(missing_docs)]
 
 extern crate alloc;
@@ -33,11 +37,14 @@ mod known;
 mod moment;
 #[allow(unsafe_code)]
 mod raw;
+#[allow(unsafe_code)]
+mod text;
 
 pub use batch::{Batch, Progress};
 pub use config::{DateKind, DecimalSign, Iso8601By, OffsetPrecision, Parts, TimePrecision};
-pub use description::{Date, Description, Kind, Padding};
+pub use description::{Date, Description, Kind, Padding, SubsecondDigits};
 pub use error::Error;
 pub use format::Format;
 pub use known::{stamp, Iso8601, Rfc2822, Rfc3339, Stamp};
 pub use moment::{Moment, UtcMoment};
+pub use text::Text;

@@ -1,10 +1,14 @@
-//! The library's functions. All `unsafe` of the crate stands here.
+//! The functions of the library, and the calls of them.
 //!
-//! What each call owes, and why it is so: pointers and lengths are those of slices, which are never
-//! null, even where they are empty, and whose lengths are below `isize::MAX`; the room is borrowed
-//! mutably, so that it overlaps nothing else; each struct is `#[repr(C)]`, of the header's fields in its
-//! order, and all its fields are set.
-use crate::{Date, Error, Moment, Progress, UtcMoment};
+//! A call lends the library slices, whose pointers are never null and whose lengths are below
+//! `isize::MAX`. The buffer is borrowed mutably, so it overlaps nothing else. Each struct that crosses
+//! is `#[repr(C)]`, with the fields of the header in its order. The library keeps no pointer.
+use crate::known::{Iso8601, Rfc2822, Rfc3339, Stamp};
+use crate::{Date, Description, Error, Iso8601By, Moment, Progress, UtcMoment};
+use alloc::string::String;
+use alloc::vec::Vec;
+use core::mem::MaybeUninit;
+use core::{slice, str};
 
 #[repr(C)]
 #[derive(Clone, Copy, Debug)]
@@ -32,7 +36,7 @@ impl Item {
 }
 
 #[repr(C)]
-#[derive(Clone, Copy, Debug, PartialEq, Eq)]
+#[derive(Clone, Copy, Debug, PartialEq, Eq, Hash)]
 pub(crate) struct IsoConfig {
     pub(crate) components: u8,
     pub(crate) date_kind: u8,
@@ -164,11 +168,36 @@ const _: () = assert!(core::mem::size_of::<IsoConfig>() == 8);
 const _: () = assert!(core::mem::size_of::<Item>() == 24);
 const _: () = assert!(core::mem::size_of::<library::Progress>() == 24);
 
-fn answered(number: isize) -> Result<usize, Error> {
-    usize::try_from(number).map_err(|_| Error::from_number(number))
+/// Memory that a call writes to. No answer depends on what it held.
+type Buffer = [MaybeUninit<u8>];
+
+/// A format, by the function of the library that writes its text.
+///
+/// # Safety
+///
+/// After `Ok(count)` the buffer has so many bytes, and the first `count` of them are initialized and
+/// are UTF-8. No byte of the buffer is made uninitialized.
+pub unsafe trait Call<V> {
+    fn call(&self, value: &V, buffer: &mut Buffer) -> Result<usize, Error>;
 }
 
-fn came_so_far(progress: library::Progress) -> Progress {
+/// A format, by the function of the library that writes many texts.
+///
+/// # Safety
+///
+/// The buffer has as many bytes as `Progress` counts, and the first ones are initialized. No byte of
+/// the buffer is made uninitialized.
+pub unsafe trait CallAll<V> {
+    fn call_all(&self, values: &[V], end: u8, buffer: &mut Buffer) -> Progress;
+}
+
+#[inline]
+fn count_of(answer: isize) -> Result<usize, Error> {
+    usize::try_from(answer).map_err(|_| Error::from_number(answer))
+}
+
+#[inline]
+fn progress_of(progress: library::Progress) -> Progress {
     Progress {
         moments: progress.moments,
         bytes: progress.bytes,
@@ -179,147 +208,275 @@ fn came_so_far(progress: library::Progress) -> Progress {
     }
 }
 
-macro_rules! of_moment {
-    ($($name:ident = $call:ident),*) => { $(
-        pub(crate) fn $name(moment: &Moment, room: &mut [u8]) -> Result<usize, Error> {
-            // SAFETY: as the module says.
-            answered(unsafe { library::$call(moment, room.as_mut_ptr(), room.len()) })
+#[inline]
+fn pointer(buffer: &mut Buffer) -> *mut u8 {
+    buffer.as_mut_ptr().cast()
+}
+
+macro_rules! calls {
+    ($($format:ty: $function:ident, $batch:ident;)*) => { $(
+        // SAFETY: the function returns how many bytes it has written to the start of the buffer, which
+        // are ASCII.
+        unsafe impl Call<Moment> for $format {
+            #[inline]
+            fn call(&self, value: &Moment, buffer: &mut Buffer) -> Result<usize, Error> {
+                // SAFETY: `Moment` has the header's layout, and pointer and length are the buffer's.
+                count_of(unsafe { library::$function(value, pointer(buffer), buffer.len()) })
+            }
+        }
+
+        // SAFETY: the function returns how many bytes it has written to the start of the buffer.
+        unsafe impl CallAll<Moment> for $format {
+            #[inline]
+            fn call_all(&self, values: &[Moment], end: u8, buffer: &mut Buffer) -> Progress {
+                // SAFETY: `Moment` has the header's layout, and both pointers stand beside the
+                // lengths of their slices.
+                progress_of(unsafe {
+                    let (moments, moments_len) = (values.as_ptr(), values.len());
+                    library::$batch(moments, moments_len, end, pointer(buffer), buffer.len())
+                })
+            }
         }
     )* };
 }
 
-of_moment!(
-    rfc3339 = movaliren_rfc3339,
-    rfc2822 = movaliren_rfc2822,
-    iso8601 = movaliren_iso8601
-);
+calls! {
+    Rfc3339: movaliren_rfc3339, movaliren_rfc3339_batch;
+    Rfc2822: movaliren_rfc2822, movaliren_rfc2822_batch;
+    Iso8601: movaliren_iso8601, movaliren_iso8601_batch;
+}
 
-macro_rules! of_moments {
-    ($($name:ident of $moment:ty = $call:ident),*) => { $(
-        pub(crate) fn $name(moments: &[$moment], end: u8, room: &mut [u8]) -> Progress {
-            // SAFETY: as the module says.
-            came_so_far(unsafe {
-                library::$call(moments.as_ptr(), moments.len(), end, room.as_mut_ptr(), room.len())
-            })
+// SAFETY: the function returns how many bytes it has written to the start of the buffer, which are
+// ASCII.
+unsafe impl Call<Moment> for Iso8601By {
+    #[inline]
+    fn call(&self, value: &Moment, buffer: &mut Buffer) -> Result<usize, Error> {
+        // SAFETY: both structs have the header's layout; pointer and length are the buffer's.
+        count_of(unsafe {
+            library::movaliren_iso8601_by(self.config(), value, pointer(buffer), buffer.len())
+        })
+    }
+}
+
+// SAFETY: the function returns how many bytes it has written to the start of the buffer.
+unsafe impl CallAll<Moment> for Iso8601By {
+    #[inline]
+    fn call_all(&self, values: &[Moment], end: u8, buffer: &mut Buffer) -> Progress {
+        // SAFETY: both structs have the header's layout, and both pointers stand beside the lengths
+        // of their slices.
+        progress_of(unsafe {
+            library::movaliren_iso8601_by_batch(
+                self.config(),
+                values.as_ptr(),
+                values.len(),
+                end,
+                pointer(buffer),
+                buffer.len(),
+            )
+        })
+    }
+}
+
+// SAFETY: the function returns how many bytes it has written to the start of the buffer, which are
+// ASCII.
+unsafe impl Call<UtcMoment> for Stamp {
+    #[inline]
+    fn call(&self, value: &UtcMoment, buffer: &mut Buffer) -> Result<usize, Error> {
+        let (seconds, nanosecond) = (value.seconds, value.nanosecond);
+        // SAFETY: pointer and length are the buffer's.
+        count_of(unsafe {
+            library::movaliren_stamp(seconds, nanosecond, pointer(buffer), buffer.len())
+        })
+    }
+}
+
+// SAFETY: the function returns how many bytes it has written to the start of the buffer.
+unsafe impl CallAll<UtcMoment> for Stamp {
+    #[inline]
+    fn call_all(&self, values: &[UtcMoment], end: u8, buffer: &mut Buffer) -> Progress {
+        let (moments, moments_len) = (values.as_ptr(), values.len());
+        // SAFETY: `UtcMoment` has the header's layout, and both pointers stand beside the lengths of
+        // their slices.
+        progress_of(unsafe {
+            library::movaliren_stamp_batch(moments, moments_len, end, pointer(buffer), buffer.len())
+        })
+    }
+}
+
+macro_rules! utc_calls {
+    ($($format:ty),*) => { $(
+        // SAFETY: the call over a `Moment` promises the same of the same buffer.
+        unsafe impl Call<UtcMoment> for $format {
+            #[inline]
+            fn call(&self, value: &UtcMoment, buffer: &mut Buffer) -> Result<usize, Error> {
+                self.call(&Moment::try_from(*value)?, buffer)
+            }
         }
     )* };
 }
 
-of_moments!(
-    rfc3339_batch of Moment = movaliren_rfc3339_batch,
-    rfc2822_batch of Moment = movaliren_rfc2822_batch,
-    iso8601_batch of Moment = movaliren_iso8601_batch,
-    stamp_batch of UtcMoment = movaliren_stamp_batch
-);
+utc_calls!(Rfc3339, Rfc2822, Iso8601, Iso8601By);
 
-pub(crate) fn iso8601_by(
-    config: &IsoConfig,
-    moment: &Moment,
-    room: &mut [u8],
-) -> Result<usize, Error> {
-    // SAFETY: as the module says.
-    answered(unsafe {
-        library::movaliren_iso8601_by(config, moment, room.as_mut_ptr(), room.len())
+// SAFETY: the function returns how many bytes it has written to the start of the buffer. These are
+// whole literals, which are UTF-8, and components, which are ASCII.
+unsafe impl Call<Moment> for Description {
+    #[inline]
+    fn call(&self, value: &Moment, buffer: &mut Buffer) -> Result<usize, Error> {
+        let (items, texts) = self.parts();
+        // SAFETY: both structs have the header's layout, and each pointer stands beside the length
+        // of its slice.
+        count_of(unsafe {
+            library::movaliren_format(
+                items.as_ptr(),
+                items.len(),
+                texts.as_ptr(),
+                texts.len(),
+                value,
+                pointer(buffer),
+                buffer.len(),
+            )
+        })
+    }
+}
+
+// SAFETY: the function returns how many bytes it has written to the start of the buffer. These are
+// whole literals, which are UTF-8, and components, which are ASCII.
+unsafe impl Call<UtcMoment> for Description {
+    #[inline]
+    fn call(&self, value: &UtcMoment, buffer: &mut Buffer) -> Result<usize, Error> {
+        let (items, texts) = self.parts();
+        // SAFETY: `Item` has the header's layout, and each pointer stands beside the length of its
+        // slice.
+        count_of(unsafe {
+            library::movaliren_format_utc(
+                items.as_ptr(),
+                items.len(),
+                texts.as_ptr(),
+                texts.len(),
+                value.seconds,
+                value.nanosecond,
+                pointer(buffer),
+                buffer.len(),
+            )
+        })
+    }
+}
+
+// SAFETY: the function returns how many bytes it has written to the start of the buffer. These are
+// whole literals, which are UTF-8, and components, which are ASCII.
+unsafe impl Call<Date> for Description {
+    #[inline]
+    fn call(&self, value: &Date, buffer: &mut Buffer) -> Result<usize, Error> {
+        let (items, texts) = self.parts();
+        // SAFETY: `Item` has the header's layout, and each pointer stands beside the length of its
+        // slice.
+        count_of(unsafe {
+            library::movaliren_format_date(
+                items.as_ptr(),
+                items.len(),
+                texts.as_ptr(),
+                texts.len(),
+                value.year,
+                value.month,
+                value.day,
+                pointer(buffer),
+                buffer.len(),
+            )
+        })
+    }
+}
+
+/// The greatest number of bytes that a text of the items has.
+pub(crate) fn width(items: &[Item], texts: &[u8]) -> Result<usize, Error> {
+    // SAFETY: `Item` has the header's layout, and each pointer stands beside the length of its slice.
+    count_of(unsafe {
+        library::movaliren_width(items.as_ptr(), items.len(), texts.as_ptr(), texts.len())
     })
 }
 
-pub(crate) fn iso8601_by_batch(
-    config: &IsoConfig,
-    moments: &[Moment],
+/// The slice as memory that a call writes to.
+fn lent(room: &mut [u8]) -> &mut Buffer {
+    // SAFETY: pointer and length are the slice's, the lifetime is its own, and `MaybeUninit<u8>` has
+    // the layout of `u8`. The slice stays initialized, since no call makes a byte uninitialized.
+    unsafe { slice::from_raw_parts_mut(room.as_mut_ptr().cast(), room.len()) }
+}
+
+/// Writes the text of the value to the start of the slice.
+pub(crate) fn write<V>(
+    format: &(impl Call<V> + ?Sized),
+    value: &V,
+    room: &mut [u8],
+) -> Result<usize, Error> {
+    format.call(value, lent(room))
+}
+
+/// Writes the text of the value to the start of the slice, and returns it.
+pub(crate) fn write_str<'a, V>(
+    format: &(impl Call<V> + ?Sized),
+    value: &V,
+    room: &'a mut [u8],
+) -> Result<&'a str, Error> {
+    let count = write(format, value, room)?;
+    let text = &room[..count];
+    debug_assert!(str::from_utf8(text).is_ok());
+    // SAFETY: `Call` promises that these bytes are UTF-8.
+    Ok(unsafe { str::from_utf8_unchecked(text) })
+}
+
+/// Writes the texts of the values to the start of the slice.
+pub(crate) fn write_all<V>(
+    format: &(impl CallAll<V> + ?Sized),
+    values: &[V],
     end: u8,
     room: &mut [u8],
 ) -> Progress {
-    // SAFETY: as the module says.
-    came_so_far(unsafe {
-        library::movaliren_iso8601_by_batch(
-            config,
-            moments.as_ptr(),
-            moments.len(),
-            end,
-            room.as_mut_ptr(),
-            room.len(),
-        )
-    })
+    format.call_all(values, end, lent(room))
 }
 
-pub(crate) fn stamp(moment: &UtcMoment, room: &mut [u8]) -> Result<usize, Error> {
-    // SAFETY: as the module says.
-    answered(unsafe {
-        library::movaliren_stamp(
-            moment.seconds,
-            moment.nanosecond,
-            room.as_mut_ptr(),
-            room.len(),
-        )
-    })
-}
-
-pub(crate) fn format(
-    items: &[Item],
-    texts: &[u8],
-    moment: &Moment,
-    room: &mut [u8],
+/// Appends the text of the value, which has at most so many bytes.
+pub(crate) fn append<V>(
+    format: &(impl Call<V> + ?Sized),
+    value: &V,
+    width: usize,
+    output: &mut Vec<u8>,
 ) -> Result<usize, Error> {
-    // SAFETY: as the module says.
-    answered(unsafe {
-        library::movaliren_format(
-            items.as_ptr(),
-            items.len(),
-            texts.as_ptr(),
-            texts.len(),
-            moment,
-            room.as_mut_ptr(),
-            room.len(),
-        )
-    })
+    output.try_reserve(width).map_err(|_| Error::OutOfMemory)?;
+    let count = format.call(value, output.spare_capacity_mut())?;
+    // SAFETY: the first `count` bytes behind the vector's own are within its capacity and
+    // initialized, as `Call` promises of the buffer that it was lent.
+    unsafe { output.set_len(output.len() + count) };
+    Ok(count)
 }
 
-pub(crate) fn format_utc(
-    items: &[Item],
-    texts: &[u8],
-    moment: &UtcMoment,
-    room: &mut [u8],
+/// Appends the texts of the values, which have at most so many bytes.
+pub(crate) fn append_all<V>(
+    format: &(impl CallAll<V> + ?Sized),
+    values: &[V],
+    end: u8,
+    width: usize,
+    output: &mut Vec<u8>,
+) -> Progress {
+    if output.try_reserve(width).is_err() {
+        return Progress {
+            moments: 0,
+            bytes: 0,
+            stopped: Some(Error::OutOfMemory),
+        };
+    }
+    let progress = format.call_all(values, end, output.spare_capacity_mut());
+    // SAFETY: so many bytes behind the vector's own are within its capacity and initialized, as
+    // `CallAll` promises of the buffer that it was lent.
+    unsafe { output.set_len(output.len() + progress.bytes) };
+    progress
+}
+
+/// Appends the text of the value, which has at most so many bytes.
+pub(crate) fn append_str<V>(
+    format: &(impl Call<V> + ?Sized),
+    value: &V,
+    width: usize,
+    output: &mut String,
 ) -> Result<usize, Error> {
-    // SAFETY: as the module says.
-    answered(unsafe {
-        library::movaliren_format_utc(
-            items.as_ptr(),
-            items.len(),
-            texts.as_ptr(),
-            texts.len(),
-            moment.seconds,
-            moment.nanosecond,
-            room.as_mut_ptr(),
-            room.len(),
-        )
-    })
-}
-
-pub(crate) fn format_date(
-    items: &[Item],
-    texts: &[u8],
-    date: &Date,
-    room: &mut [u8],
-) -> Result<usize, Error> {
-    // SAFETY: as the module says.
-    answered(unsafe {
-        library::movaliren_format_date(
-            items.as_ptr(),
-            items.len(),
-            texts.as_ptr(),
-            texts.len(),
-            date.year,
-            date.month,
-            date.day,
-            room.as_mut_ptr(),
-            room.len(),
-        )
-    })
-}
-
-pub(crate) fn width(items: &[Item], texts: &[u8]) -> Result<usize, Error> {
-    // SAFETY: as the module says.
-    answered(unsafe {
-        library::movaliren_width(items.as_ptr(), items.len(), texts.as_ptr(), texts.len())
-    })
+    // SAFETY: all that is done is to append what `Call` promises to be UTF-8.
+    append(format, value, width, unsafe { output.as_mut_vec() })
 }

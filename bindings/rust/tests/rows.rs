@@ -6,9 +6,13 @@ const EXAMPLE: Moment = Moment::new(1997, 11, 12)
     .at(9, 55, 6, 120_000_000)
     .offset(-6, 0, 0);
 
-/// The text by each of the three ways, with exact room, and the refusal of room one byte short.
+/// The text by each way, also in a buffer that it fills, and the error of one that is a byte short.
 fn assert_text<V>(format: &impl Format<V>, value: &V, text: &str) {
     assert_eq!(format.format(value).as_deref(), Ok(text));
+    assert_in_place(format, value, text);
+    let mut line = String::from("log ");
+    assert_eq!(format.format_into_string(&mut line, value), Ok(text.len()));
+    assert_eq!(&line[4..], text);
     let mut line = b"log ".to_vec();
     assert_eq!(format.format_into(&mut line, value), Ok(text.len()));
     assert_eq!(&line[4..], text.as_bytes());
@@ -19,6 +23,7 @@ fn assert_text<V>(format: &impl Format<V>, value: &V, text: &str) {
         Ok(text.as_bytes())
     );
     assert_eq!(room[text.len()], b'#');
+    assert_eq!(format.format_str(&mut room, value), Ok(text));
     if let Some(short) = text.len().checked_sub(1) {
         let mut room = vec![b'#'; short];
         assert_eq!(format.format_to(&mut room, value), Err(Error::NoRoom));
@@ -26,9 +31,21 @@ fn assert_text<V>(format: &impl Format<V>, value: &V, text: &str) {
     }
 }
 
-/// The refusal by each of the three ways, which leave what was there.
+fn assert_in_place<V>(format: &impl Format<V>, value: &V, text: &str) {
+    if text.len() <= Text::CAPACITY {
+        assert_eq!(format.text(value).as_deref(), Ok(text));
+    } else {
+        assert_eq!(format.text(value), Err(Error::NoRoom));
+    }
+}
+
+/// The error by each way, which leaves what was there.
 fn assert_error<V>(format: &impl Format<V>, value: &V, error: Error) {
     assert_eq!(format.format(value), Err(error));
+    assert_eq!(format.text(value), Err(error));
+    let mut line = String::from("log ");
+    assert_eq!(format.format_into_string(&mut line, value), Err(error));
+    assert_eq!(line, "log ");
     let mut line = b"log ".to_vec();
     assert_eq!(format.format_into(&mut line, value), Err(error));
     assert_eq!(line, b"log ");
@@ -55,9 +72,34 @@ fn texts() {
     );
     let moment = UtcMoment::new(879_350_106, 120_000_000);
     assert_text(&Stamp, &moment, "1997-11-12T15:55:06.120000000Z");
+    assert_text(&Rfc3339, &moment, "1997-11-12T15:55:06.12Z");
+    assert_text(&Rfc2822, &moment, "Wed, 12 Nov 1997 15:55:06 +0000");
+    assert_text(&Iso8601, &moment, "1997-11-12T15:55:06.120000000Z");
+    assert_text(
+        &Iso8601By::default(),
+        &moment,
+        "1997-11-12T15:55:06.120000000Z",
+    );
     assert_eq!(
         stamp(&moment).as_ref(),
         Ok(b"1997-11-12T15:55:06.120000000Z")
+    );
+}
+
+#[test]
+fn refuses_seconds_that_have_no_text() {
+    let late = UtcMoment::new(253_402_300_800, 0);
+    assert_error(&Rfc3339, &late, Error::NoPlaceForYear);
+    assert_error(
+        &Rfc2822,
+        &UtcMoment::new(-2_208_988_801, 0),
+        Error::NoPlaceForYear,
+    );
+    assert_error(&Iso8601, &UtcMoment::new(i64::MIN, 0), Error::MomentSeconds);
+    assert_error(
+        &Iso8601By::new(),
+        &UtcMoment::new(0, 1_000_000_000),
+        Error::Nanosecond,
     );
 }
 
@@ -129,7 +171,7 @@ fn reasons() {
     assert_error(&Stamp, &UtcMoment::new(i64::MAX, 0), Error::MomentSeconds);
     assert_error(&Stamp, &UtcMoment::new(0, 1_000_000_000), Error::Nanosecond);
     let any: Box<dyn std::error::Error + Send + Sync> = Error::Day.into();
-    assert_eq!(any.to_string(), "the month of that year has no such day");
+    assert_eq!(any.to_string(), "the month has no such day");
 }
 
 #[test]
@@ -141,14 +183,14 @@ fn descriptions() {
     };
     let day = Description::new()
         .component(Kind::Day)
-        .text("/")
+        .literal("/")
         .component(Kind::Month);
     assert_eq!(day.width(), 5);
     assert_text(&day, &EXAMPLE, "12/11");
     assert_text(&day, &date, "12/11");
     assert_text(&day, &UtcMoment::new(0, 0), "01/01");
     assert_text(&Description::new(), &EXAMPLE, "");
-    let hour = Description::new().text("on ").component(Kind::Hour);
+    let hour = Description::new().literal("on ").component(Kind::Hour);
     assert_error(&hour, &date, Error::Insufficient);
     let year = Description::new().component(Kind::Year);
     assert_error(
@@ -161,10 +203,10 @@ fn descriptions() {
     );
     let clock = Description::new()
         .component(Kind::Hour)
-        .text("\u{2236}")
+        .literal("\u{2236}")
         .component(Kind::Minute)
-        .text(".")
-        .subsecond(Some(3));
+        .literal(".")
+        .subsecond(SubsecondDigits::Three);
     assert_text(&clock, &EXAMPLE, "09\u{2236}55.120");
     let period = Description::new()
         .component_with(Kind::Hour12, Padding::Space, false)
@@ -222,15 +264,131 @@ fn assert_batch<V>(format: &impl Batch<V>, values: &[V]) {
 }
 
 #[test]
+fn the_texts_in_place_show_compare_and_convert() {
+    let text = Rfc3339.text(&EXAMPLE).unwrap();
+    assert_eq!(format!("{text}"), "1997-11-12T09:55:06.12-06:00");
+    assert_eq!(format!("{text:?}"), "\"1997-11-12T09:55:06.12-06:00\"");
+    assert_eq!(
+        format!("{text:.10}|{text:>30}"),
+        format!("1997-11-12|  {text}")
+    );
+    assert_eq!(AsRef::<[u8]>::as_ref(&text), text.as_bytes());
+    assert_eq!(String::from(text), *text);
+    assert!(text < Rfc3339.text(&Moment::new(1998, 1, 1)).unwrap());
+    assert_eq!(text, Rfc3339.text(&EXAMPLE).unwrap());
+    assert!("1997-11-12T09:55:06.12-06:00" == text && text == *"1997-11-12T09:55:06.12-06:00");
+}
+
+#[test]
+fn a_text_in_place_has_at_most_64_bytes() {
+    let mut line = Description::new().literal(&"\u{2236}".repeat(21));
+    assert_text(&line, &EXAMPLE, &"\u{2236}".repeat(21));
+    line = line.literal(".");
+    assert_eq!(
+        line.text(&EXAMPLE).map(|text| text.len()),
+        Ok(Text::CAPACITY)
+    );
+    line = line.literal(".");
+    assert_eq!(line.text(&EXAMPLE), Err(Error::NoRoom));
+}
+
+#[test]
+fn decimals_of_a_second() {
+    use SubsecondDigits::*;
+    let moment = EXAMPLE.at(9, 55, 6, 120_345_670);
+    for (digits, text) in [
+        (OneOrMore, "12034567"),
+        (One, "1"),
+        (Two, "12"),
+        (Three, "120"),
+        (Four, "1203"),
+        (Five, "12034"),
+        (Six, "120345"),
+        (Seven, "1203456"),
+        (Eight, "12034567"),
+        (Nine, "120345670"),
+    ] {
+        assert_text(&Description::new().subsecond(digits), &moment, text);
+    }
+    assert_eq!(SubsecondDigits::default(), OneOrMore);
+}
+
+#[test]
+fn a_configuration_can_be_a_constant() {
+    const MILLISECONDS: Iso8601By = Iso8601By::new().time_precision(TimePrecision::Second, 3);
+    assert_text(&MILLISECONDS, &EXAMPLE, "1997-11-12T09:55:06.120-06:00");
+    assert_eq!(Iso8601By::default(), Iso8601By::new());
+}
+
+#[test]
+fn a_moment_has_the_parts_that_were_set() {
+    let parts = (EXAMPLE.year(), EXAMPLE.month(), EXAMPLE.day());
+    assert_eq!(parts, (1997, 11, 12));
+    let parts = (
+        EXAMPLE.hour(),
+        EXAMPLE.minute(),
+        EXAMPLE.second(),
+        EXAMPLE.nanosecond(),
+    );
+    assert_eq!(parts, (9, 55, 6, 120_000_000));
+    assert_eq!(EXAMPLE.offset_hms(), (-6, 0, 0));
+}
+
+#[test]
+fn moments_are_in_the_order_of_their_parts() {
+    let moments = [
+        Moment::new(-1, 12, 31),
+        Moment::new(0, 1, 31),
+        Moment::new(0, 2, 1),
+        Moment::new(0, 2, 1).at(0, 0, 0, 1),
+        Moment::new(0, 2, 1).at(0, 0, 1, 0),
+        Moment::new(0, 2, 1).at(0, 1, 0, 0).offset(-1, 0, 0),
+        Moment::new(0, 2, 1).at(0, 1, 0, 0),
+        Moment::new(0, 2, 2),
+    ];
+    assert!(moments.windows(2).all(|pair| pair[0] < pair[1]));
+}
+
+#[test]
+fn the_defaults_are_the_start_of_1970() {
+    let epoch = "1970-01-01T00:00:00.000000000Z";
+    assert_text(&Iso8601, &Moment::default(), epoch);
+    assert_text(&Stamp, &UtcMoment::default(), epoch);
+}
+
+#[test]
 fn stamps_sort() {
     use std::time::{Duration, UNIX_EPOCH};
     let epoch = UtcMoment::from(UNIX_EPOCH);
     let before = UtcMoment::from(UNIX_EPOCH - Duration::from_nanos(1));
     let whole = UtcMoment::from(UNIX_EPOCH - Duration::from_secs(2));
-    assert_eq!(
-        (before, whole),
-        (UtcMoment::new(-1, 999_999_999), UtcMoment::new(-2, 0))
-    );
     assert!(stamp(&whole).unwrap() < stamp(&before).unwrap());
     assert!(stamp(&before).unwrap() < stamp(&epoch).unwrap());
+    assert!(stamp(&epoch).unwrap() < stamp(&UtcMoment::now()).unwrap());
+}
+
+#[test]
+fn each_time_of_the_system_is_a_moment_and_back() {
+    use std::time::{Duration, SystemTime, UNIX_EPOCH};
+    let most = UNIX_EPOCH + Duration::new(i64::MAX as u64, 999_999_999);
+    let least = UNIX_EPOCH - Duration::from_secs(i64::MAX as u64);
+    for (time, moment) in [
+        (UNIX_EPOCH, UtcMoment::new(0, 0)),
+        (
+            UNIX_EPOCH - Duration::from_nanos(1),
+            UtcMoment::new(-1, 999_999_999),
+        ),
+        (UNIX_EPOCH - Duration::from_secs(2), UtcMoment::new(-2, 0)),
+        (most, UtcMoment::new(i64::MAX, 999_999_999)),
+        (least, UtcMoment::new(-i64::MAX, 0)),
+        (
+            least + Duration::from_nanos(1),
+            UtcMoment::new(-i64::MAX, 1),
+        ),
+    ] {
+        assert_eq!(UtcMoment::from(time), moment);
+        assert_eq!(SystemTime::try_from(moment), Ok(time));
+    }
+    let error = SystemTime::try_from(UtcMoment::new(0, 1_000_000_000));
+    assert_eq!(error, Err(Error::Nanosecond));
 }

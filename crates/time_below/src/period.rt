@@ -3,8 +3,8 @@
 /// The half of a day on the 12-hour clock.
 #[derive(Debug, Clone, Copy, PartialEq, Eq)]
 pub enum Period {
-    /// Before noon: hours 0 to 11.
+    /// Hours 0 to 11.
     Am,
-    /// From noon on: hours 12 to 23.
+    /// Hours 12 to 23.
     Pm,
 }

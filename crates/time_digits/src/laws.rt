@@ -16,8 +16,8 @@ pub fn decimal_by_last_digit()
         → decimal n ≡ decimal (n / 10) ++ (48 + n % 10) ∷ [] }
 {}
 
-/// For each number from 0 to 999,999,999 the trimmed fraction is the shortest list of one to nine
-/// digits that, filled with zeros to nine, is the nine digits of the number; no other list is.
+/// The trimmed fraction of each number from 0 to 999,999,999 is the shortest list of one to nine
+/// digits that, filled with zeros to nine, is the nine digits of the number. No other list is.
 #[tactic(auto, using(crate::proofs::FractionLemmas::only_trimmed_fraction))]
 pub fn trimmed_fraction_is_shortest()
     ensures { (n : ℕ) → n < 1_000_000_000 → IsOnlyTrimmedFraction n }

@@ -8,8 +8,6 @@ pub mod digit_count;
 pub mod laws;
 pub mod num_fmt;
 pub mod ranged;
-#[cfg(test)]
-mod same;
 pub mod stack_str;
 pub mod tables;
 

@@ -349,6 +349,3 @@ fn write_four_digits(buf: &mut [u8], offset: usize, value: ru16<0, 9_999>)
     write_two_digits(buf, offset, high);
     write_two_digits(buf, offset + 2, low);
 }
-
-#[cfg(test)]
-mod tests;

@@ -5,6 +5,3 @@ pub mod unsigned;
 
 pub use signed::{ri8, ri16, ri32};
 pub use unsigned::{ru8, ru16, ru32};
-
-#[cfg(test)]
-mod tests;

@@ -81,31 +81,3 @@ impl<const N: usize> StackTrailingStr<N> {
         unsafe { std::str::from_utf8_unchecked(&bytes[self.start..]) }
     }
 }
-
-#[cfg(test)]
-mod tests {
-    use super::*;
-    use crate::same::assert_same;
-
-    #[test]
-    fn first_bytes(rt: HostRuntime) {
-        let text = StackStr::new(*b"12000", 2);
-        assert_same(&rt, text.as_str(), "12");
-        assert_same(&rt, text.len(), 2);
-        let copy = text;
-        assert_same(&rt, copy.as_str(), text.as_str());
-        assert_same(&rt, StackStr::new(*b"12", 2).as_str(), "12");
-        assert_same(&rt, StackStr::new(*b"12", 0).as_str(), "");
-    }
-
-    #[test]
-    fn last_bytes(rt: HostRuntime) {
-        let text = StackTrailingStr::new(*b"00042", 3);
-        assert_same(&rt, text.as_str(), "42");
-        assert_same(&rt, text.len(), 2);
-        let copy = text;
-        assert_same(&rt, copy.as_str(), text.as_str());
-        assert_same(&rt, StackTrailingStr::new(*b"42", 0).as_str(), "42");
-        assert_same(&rt, StackTrailingStr::new(*b"42", 2).as_str(), "");
-    }
-}

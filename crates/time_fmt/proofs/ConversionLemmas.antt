@@ -1,5 +1,5 @@
--- The current component is no wider than the deprecated one.
-use Rattle.std.proofs.Common.{◌≤◌, Bool, true, false, arith}
+-- The current component is not deprecated, and is no wider than the deprecated one.
+use Rattle.std.proofs.Common.{◌≡◌, ℕ, ◌≤◌, Bool, true, false, refl, arith}
 use Rattle.time_below.specs.Conversion.{current_component, current_month, current_weekday, current_week_number}
 use Rattle.time_below.specs.Conversion.{current_hour, current_unix_timestamp, current_year}
 use Rattle.time_below.specs.Width.{component_width, month_width, weekday_width, unix_timestamp_width, year_width}
@@ -24,56 +24,61 @@ use Rattle.time_below.specs.declared.format_description.modifier.YearRepr.TheVar
 use Rattle.time_below.specs.declared.format_description.modifier.YearRange.{YearRange}
 use Rattle.time_below.specs.declared.format_description.modifier.YearRange.TheVariants as range
 
--- the width of a deprecated month is at least that of the month that it becomes
-of_month : (r : MonthRepr) (m : Month) → component_width (current_month r m) ≤ month_width r
-of_month month.Numerical m = omega arith
-of_month month.Long m = omega arith
-of_month month.Short m = omega arith
+-- a component that is converted once more stays, and is no wider than so much
+abbrev pub IsCurrentWithin : ℕ → Component → Type 0
+IsCurrentWithin width c = (current_component c ≡ c) × (component_width c ≤ width)
 
--- so is that of a weekday
-of_weekday : (r : WeekdayRepr) (m : Weekday) → component_width (current_weekday r m) ≤ weekday_width r
-of_weekday weekday.Short m = omega arith
-of_weekday weekday.Long m = omega arith
-of_weekday weekday.Sunday m = omega arith
-of_weekday weekday.Monday m = omega arith
+-- so is each component that a deprecated one becomes
+of_month : (r : MonthRepr) (m : Month) → IsCurrentWithin (month_width r) (current_month r m)
+of_month month.Numerical m = (refl, omega arith)
+of_month month.Long m = (refl, omega arith)
+of_month month.Short m = (refl, omega arith)
 
--- so is that of a week number
-of_week_number : (r : WeekNumberRepr) (m : WeekNumber) → component_width (current_week_number r m) ≤ 2
-of_week_number week.Iso m = omega arith
-of_week_number week.Sunday m = omega arith
-of_week_number week.Monday m = omega arith
+of_weekday : (r : WeekdayRepr) (m : Weekday) → IsCurrentWithin (weekday_width r) (current_weekday r m)
+of_weekday weekday.Short m = (refl, omega arith)
+of_weekday weekday.Long m = (refl, omega arith)
+of_weekday weekday.Sunday m = (refl, omega arith)
+of_weekday weekday.Monday m = (refl, omega arith)
 
--- so is that of an hour
-of_hour : (is_12_hour_clock : Bool) (m : Hour) → component_width (current_hour is_12_hour_clock m) ≤ 2
-of_hour true m = omega arith
-of_hour false m = omega arith
+of_week_number : (r : WeekNumberRepr) (m : WeekNumber) → IsCurrentWithin 2 (current_week_number r m)
+of_week_number week.Iso m = (refl, omega arith)
+of_week_number week.Sunday m = (refl, omega arith)
+of_week_number week.Monday m = (refl, omega arith)
 
--- so is that of a timestamp
+of_hour : (is_12_hour_clock : Bool) (m : Hour) → IsCurrentWithin 2 (current_hour is_12_hour_clock m)
+of_hour true m = (refl, omega arith)
+of_hour false m = (refl, omega arith)
+
 of_unix_timestamp : (p : UnixTimestampPrecision) (m : UnixTimestamp)
-    → component_width (current_unix_timestamp p m) ≤ unix_timestamp_width p
-of_unix_timestamp precision.Second m = omega arith
-of_unix_timestamp precision.Millisecond m = omega arith
+    → IsCurrentWithin (unix_timestamp_width p) (current_unix_timestamp p m)
+of_unix_timestamp precision.Second m = (refl, omega arith)
+of_unix_timestamp precision.Millisecond m = (refl, omega arith)
 
--- so is that of a year
 of_year : (week_based : Bool) (r : YearRepr) (size : YearRange) (m : Year)
-    → component_width (current_year week_based r size m) ≤ year_width r
-of_year true year.Full range.Extended m = omega arith
-of_year true year.Full range.Standard m = omega arith
-of_year true year.Century range.Extended m = omega arith
-of_year true year.Century range.Standard m = omega arith
-of_year true year.LastTwo size m = omega arith
-of_year false year.Full range.Extended m = omega arith
-of_year false year.Full range.Standard m = omega arith
-of_year false year.Century range.Extended m = omega arith
-of_year false year.Century range.Standard m = omega arith
-of_year false year.LastTwo size m = omega arith
+    → IsCurrentWithin (year_width r) (current_year week_based r size m)
+of_year true year.Full range.Extended m = (refl, omega arith)
+of_year true year.Full range.Standard m = (refl, omega arith)
+of_year true year.Century range.Extended m = (refl, omega arith)
+of_year true year.Century range.Standard m = (refl, omega arith)
+of_year true year.LastTwo size m = (refl, omega arith)
+of_year false year.Full range.Extended m = (refl, omega arith)
+of_year false year.Full range.Standard m = (refl, omega arith)
+of_year false year.Century range.Extended m = (refl, omega arith)
+of_year false year.Century range.Standard m = (refl, omega arith)
+of_year false year.LastTwo size m = (refl, omega arith)
 
--- the component that one becomes is no wider
+-- so is that of any component
+of_component : (c : Component) → IsCurrentWithin (component_width c) (current_component c)
+of_component (component.Month m) = of_month m.repr m
+of_component (component.Weekday m) = of_weekday m.repr m
+of_component (component.WeekNumber m) = of_week_number m.repr m
+of_component (component.Hour m) = of_hour m.is_12_hour_clock m
+of_component (component.UnixTimestamp m) = of_unix_timestamp m.precision m
+of_component (component.Year m) = of_year m.iso_week_based m.repr m.range m
+of_component c = (refl, omega arith)
+
+pub current_is_kept : (c : Component) → current_component (current_component c) ≡ current_component c
+current_is_kept c = (of_component c).0
+
 pub width_of_current : (c : Component) → component_width (current_component c) ≤ component_width c
-width_of_current (component.Month m) = of_month m.repr m
-width_of_current (component.Weekday m) = of_weekday m.repr m
-width_of_current (component.WeekNumber m) = of_week_number m.repr m
-width_of_current (component.Hour m) = of_hour m.is_12_hour_clock m
-width_of_current (component.UnixTimestamp m) = of_unix_timestamp m.precision m
-width_of_current (component.Year m) = of_year m.iso_week_based m.repr m.range m
-width_of_current c = omega arith
+width_of_current c = (of_component c).1

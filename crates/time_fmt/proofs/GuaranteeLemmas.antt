@@ -1,44 +1,43 @@
 -- Texts of components are ASCII, and texts one after another are UTF-8 where each of them is.
-use Rattle.std.proofs.Common.{◌≡◌, ℕ, zero, suc, ◌-◌, ◌%◌, ◌<◌, Bool, true, false, ◌&&◌, nat_lt, List, [], ◌∷◌, ◌++◌}
-use Rattle.std.proofs.Common.{decimal, IsAscii, IsUtf8, IsTrue, IfSome, Option, Some, None, if◌then◌else◌, refl, arith}
-use Rattle.std.proofs.Common.{ℤ, pos, unsigned_abs, ◌+◌, ◌≤◌, length, Result, Vec, vec_len}
+use Rattle.std.proofs.Common.{◌≡◌, ℕ, ◌+◌, ◌-◌, ◌<◌, ◌≤◌, Bool, true, false, ◌&&◌, nat_lt, List, [], ◌∷◌, ◌++◌, length}
+use Rattle.std.proofs.Common.{IsAscii, IsUtf8, IsTrue, IfSome, Option, Some, None, if◌then◌else◌, refl, arith, Result}
+use Rattle.std.proofs.Common.{Vec, vec_len}
 use Rattle.std.specs.Global.{Global}
-use Rattle.std.specs.Prelude.{codes, int_lt, slice_index_or, ◌||◌, nat_le}
+use Rattle.std.specs.Prelude.{codes, nat_le}
 use Rattle.std.specs.List.{list_all}
-use Rattle.std.proofs.lemmas.Bool.{ltb-true}
+use Rattle.std.proofs.lemmas.Bool.{and_parts, ltb-true}
 use Rattle.std.proofs.lemmas.List.Elements.{All-weaker}
 use Rattle.std.proofs.lemmas.List.Sums.{AllPass-from_list_all}
 use Rattle.std.proofs.lemmas.Str.{IsAscii-append, IsAscii-take, IsUtf8-append, IsUtf8-from_ascii}
 use Rattle.std.proofs.lemmas.Str.Ascii.{IsAscii-from_all, IsAscii-nil}
+use Rattle.time_below.specs.ComponentRange.{conditional_range}
 use Rattle.time_below.specs.Conversion.{current_component}
 use Rattle.time_below.specs.declared.period.Period.{Period}
 use Rattle.time_below.specs.declared.period.Period.TheVariants.{Am, Pm}
 use Rattle.time_below.specs.declared.format_description.component.Component.{Component}
-use Rattle.time_below.specs.declared.format_description.component.Component.TheVariants as component
 use Rattle.time_below.specs.declared.format_description.modifier.Padding.{Padding}
 use Rattle.time_below.specs.declared.format_description.modifier.Padding.TheVariants as padding
 use Rattle.time_below.specs.declared.format_description.modifier.SubsecondDigits.{SubsecondDigits}
 use Rattle.time_below.specs.declared.format_description.modifier.SubsecondDigits.TheVariants as digits
 use Rattle.time_below.specs.Facts.{Facts}
-use Rattle.time_below.specs.Moment.{milliseconds}
-use Rattle.time_below.specs.Offset.{is_negative}
-use Rattle.time_below.specs.TimeOfDay.{period_of}
+use Rattle.time_below.specs.Group.{group_of}
 use Rattle.time_below.specs.Tree.{Tree, Trees, of_component, more}
-use Rattle.time_below.specs.Width.{is_guaranteed_text, are_guaranteed_text}
+use Rattle.time_below.specs.Width.{is_guaranteed_text, are_guaranteed_text, subsecond_width}
 use Rattle.time_digits.specs.Digits.{fixed}
 use Rattle.time_digits.proofs.DigitLemmas.{IsAscii-fixed}
 use Rattle.time_digits.proofs.FractionLemmas.{IsAscii-trimmed_fraction}
 use Rattle.time_digits.proofs.LengthLemmas.{IsAscii-padded, IsAscii-number}
-use Rattle.time_below.specs.Calendar.{from_sunday}
 use Rattle.time_fmt.specs.DateText.{month_names, month_name, weekday_names, weekday_name, indexed}
-use Rattle.time_fmt.specs.Description.{of_group, in_standard_range, century_of, current_outcome, component_outcome}
+use Rattle.time_fmt.specs.Description.{has_group, kind_of, supplied_outcome, current_outcome, component_outcome}
 use Rattle.time_fmt.specs.Description.{tree_outcome, trees_outcome}
 use Rattle.time_fmt.specs.Guarantee.{IsTextIf}
-use Rattle.time_fmt.specs.Outcome.{Outcome, Adds, done, refused, join, out_of_range}
+use Rattle.time_fmt.specs.Kind as kind
+use Rattle.time_fmt.specs.Kind.{Kind, kind_text, kind_outcome}
+use Rattle.time_fmt.specs.Outcome.{Outcome, Adds, done, refused, join, insufficient, out_of_range}
+use Rattle.time_fmt.specs.Text.{padded_text, sign_text, period_text, subsecond_text}
 use Rattle.time_fmt.specs.declared.error.Format.{Format}
+use Rattle.time_fmt.proofs.TextLemmas.{passes_at}
 use Rattle.time_fmt.proofs.WriteLemmas.{added_alone}
-use Rattle.time_below.specs.ComponentRange.{conditional_range}
-use Rattle.time_fmt.specs.Text.{padded_text, sign_text, hour_12, period_text, subsecond_text, timestamp_text}
 
 -- ---- texts
 
@@ -60,82 +59,15 @@ IsAscii-sign_text true is_wanted = ascii_test (codes "-") refl
 IsAscii-sign_text false true = ascii_test (codes "+") refl
 IsAscii-sign_text false false = IsAscii-nil
 
--- so is a number behind its sign
-signed : (n w : Bool) (p : Padding) (places m : ℕ) → IsAscii (sign_text n w ++ padded_text p places m)
-signed n w p places m = IsAscii-append (sign_text n w) (padded_text p places m) (IsAscii-sign_text n w)
-    (IsAscii-padded_text p places m)
-
--- each of the names is
-abbrev AreAscii : List (List ℕ) → Type 0
-AreAscii [] = Unit {0}
-AreAscii (name ∷ names) = IsAscii name × AreAscii names
-
--- so is the name at a place
-name_at : (names : List (List ℕ)) (i : ℕ) → AreAscii names → IsAscii (slice_index_or names i [])
-name_at [] i h = IsAscii-nil
-name_at (name ∷ names) zero h = h.0
-name_at (name ∷ names) (suc i) h = name_at names i h.1
-
--- the names of months are
-ascii_months : AreAscii month_names
-ascii_months = (
-  ascii_test (codes "January") refl,
-  (
-    ascii_test (codes "February") refl,
-    (
-      ascii_test (codes "March") refl,
-      (
-        ascii_test (codes "April") refl,
-        (
-          ascii_test (codes "May") refl,
-          (
-            ascii_test (codes "June") refl,
-            (
-              ascii_test (codes "July") refl,
-              (
-                ascii_test (codes "August") refl,
-                (
-                  ascii_test (codes "September") refl,
-                  (
-                    ascii_test (codes "October") refl,
-                    (ascii_test (codes "November") refl, (ascii_test (codes "December") refl, tt)),
-                  ),
-                ),
-              ),
-            ),
-          ),
-        ),
-      ),
-    ),
-  ),
-)
-
 -- so is the name of a month
 pub IsAscii-month_name : (m : ℕ) → IsAscii (month_name m)
-IsAscii-month_name m = name_at month_names (m - 1) ascii_months
-
--- the names of weekdays are
-ascii_weekend : AreAscii (codes "Saturday" ∷ codes "Sunday" ∷ [])
-ascii_weekend = (ascii_test (codes "Saturday") refl, (ascii_test (codes "Sunday") refl, tt))
-
-ascii_weekdays : AreAscii weekday_names
-ascii_weekdays = (
-  ascii_test (codes "Monday") refl,
-  (
-    ascii_test (codes "Tuesday") refl,
-    (
-      ascii_test (codes "Wednesday") refl,
-      (
-        ascii_test (codes "Thursday") refl,
-        (ascii_test (codes "Friday") refl, ascii_weekend),
-      ),
-    ),
-  ),
-)
+IsAscii-month_name m =
+    ascii_test (month_name m) (passes_at (list_all (λ b. nat_lt b 128)) month_names (m - 1) refl refl)
 
 -- so is the name of a weekday
 pub IsAscii-weekday_name : (w : ℕ) → IsAscii (weekday_name w)
-IsAscii-weekday_name w = name_at weekday_names w ascii_weekdays
+IsAscii-weekday_name w =
+    ascii_test (weekday_name w) (passes_at (list_all (λ b. nat_lt b 128)) weekday_names w refl refl)
 
 -- so is the half of a day
 IsAscii-period_text : (p : Period) (is_uppercase : Bool) → IsAscii (period_text p is_uppercase)
@@ -147,110 +79,38 @@ IsAscii-period_text Pm false = ascii_test (codes "pm") refl
 -- so are decimals of the second
 IsAscii-subsecond_text : (d : SubsecondDigits) (n : ℕ) → IsAscii (subsecond_text d n)
 IsAscii-subsecond_text digits.OneOrMore n = IsAscii-trimmed_fraction n
-IsAscii-subsecond_text digits.One n = IsAscii-take (fixed 9 n) 1 (IsAscii-fixed 9 n)
-IsAscii-subsecond_text digits.Two n = IsAscii-take (fixed 9 n) 2 (IsAscii-fixed 9 n)
-IsAscii-subsecond_text digits.Three n = IsAscii-take (fixed 9 n) 3 (IsAscii-fixed 9 n)
-IsAscii-subsecond_text digits.Four n = IsAscii-take (fixed 9 n) 4 (IsAscii-fixed 9 n)
-IsAscii-subsecond_text digits.Five n = IsAscii-take (fixed 9 n) 5 (IsAscii-fixed 9 n)
-IsAscii-subsecond_text digits.Six n = IsAscii-take (fixed 9 n) 6 (IsAscii-fixed 9 n)
-IsAscii-subsecond_text digits.Seven n = IsAscii-take (fixed 9 n) 7 (IsAscii-fixed 9 n)
-IsAscii-subsecond_text digits.Eight n = IsAscii-take (fixed 9 n) 8 (IsAscii-fixed 9 n)
-IsAscii-subsecond_text digits.Nine n = IsAscii-take (fixed 9 n) 9 (IsAscii-fixed 9 n)
-
--- so is a timestamp
-IsAscii-timestamp_text : (s : Bool) (n : ℤ) → IsAscii (timestamp_text s n)
-IsAscii-timestamp_text s n = IsAscii-append (sign_text (int_lt n (pos 0)) s) (decimal (unsigned_abs n))
-    (IsAscii-sign_text (int_lt n (pos 0)) s) (IsAscii-number (unsigned_abs n))
+IsAscii-subsecond_text d n = IsAscii-take (fixed 9 n) (subsecond_width d) (IsAscii-fixed 9 n)
 
 -- ---- components
 
--- so is what a group gives
-ascii_of_group : {G : Type 0} (group : Option G) (outcome : G → Outcome) → ((g : G) → IsAscii (outcome g).bytes)
-    → IsAscii (of_group group outcome).bytes
-ascii_of_group None outcome each = IsAscii-nil
-ascii_of_group (Some g) outcome each = each g
+-- so is each kind of text
+IsAscii-kind_text : (k : Kind) → IsAscii (kind_text k)
+IsAscii-kind_text (kind.number p places n) = IsAscii-padded_text p places n
+IsAscii-kind_text (kind.signed n w p places m) =
+    IsAscii-append (sign_text n w) (padded_text p places m) (IsAscii-sign_text n w) (IsAscii-padded_text p places m)
+IsAscii-kind_text (kind.limited greatest n k) = IsAscii-kind_text k
+IsAscii-kind_text (kind.month n) = IsAscii-month_name n
+IsAscii-kind_text (kind.weekday n) = IsAscii-weekday_name n
+IsAscii-kind_text (kind.short k) = IsAscii-take (kind_text k) 3 (IsAscii-kind_text k)
+IsAscii-kind_text (kind.digit one_indexed days) = IsAscii-number (indexed one_indexed days)
+IsAscii-kind_text (kind.half_day p is_uppercase) = IsAscii-period_text p is_uppercase
+IsAscii-kind_text (kind.decimals d n) = IsAscii-subsecond_text d n
+IsAscii-kind_text kind.empty = IsAscii-nil
 
--- so is a year or a century in its range
-ascii_in_range : (greatest magnitude : ℕ) (text : List ℕ) → IsAscii text
-    → IsAscii (in_standard_range greatest magnitude text).bytes
-ascii_in_range greatest magnitude text h =
-    elim (nat_le magnitude greatest) as
-    (λ b. IsAscii (if b then done text else refused (out_of_range (conditional_range (codes "year")))).bytes)
-    [ true ↦ h | false ↦ IsAscii-nil ]
+-- so is what is left of it in its range
+IsAscii-kind_outcome : (k : Kind) → IsAscii (kind_outcome k).bytes
+IsAscii-kind_outcome (kind.limited greatest n k) =
+    elim (nat_le n greatest) as
+    (λ b. IsAscii (if b then done (kind_text k) else refused (out_of_range (conditional_range (codes "year")))).bytes)
+    [ true ↦ IsAscii-kind_text k | false ↦ IsAscii-nil ]
+IsAscii-kind_outcome k = IsAscii-kind_text k
 
--- the text of a component is ASCII
+-- so is the text of a component, whether or not the value supplies its group
 pub ascii_current : (c : Component) (f : Facts) → IsAscii (current_outcome c f).bytes
-ascii_current (component.Day m) f = ascii_of_group f.date _ (λ d. IsAscii-padded_text m.padding 2 d.day)
-ascii_current (component.MonthShort m) f =
-    ascii_of_group f.date _ (λ d. IsAscii-take (month_name d.month) 3 (IsAscii-month_name d.month))
-ascii_current (component.MonthLong m) f = ascii_of_group f.date _ (λ d. IsAscii-month_name d.month)
-ascii_current (component.MonthNumerical m) f = ascii_of_group f.date _ (λ d. IsAscii-padded_text m.padding 2 d.month)
-ascii_current (component.Ordinal m) f = ascii_of_group f.date _ (λ d. IsAscii-padded_text m.padding 3 d.ordinal)
-ascii_current (component.WeekdayShort m) f =
-    ascii_of_group f.date _ (λ d. IsAscii-take (weekday_name d.weekday) 3 (IsAscii-weekday_name d.weekday))
-ascii_current (component.WeekdayLong m) f = ascii_of_group f.date _ (λ d. IsAscii-weekday_name d.weekday)
-ascii_current (component.WeekdaySunday m) f =
-    ascii_of_group f.date _ (λ d. IsAscii-number (indexed m.one_indexed (from_sunday d.weekday)))
-ascii_current (component.WeekdayMonday m) f =
-    ascii_of_group f.date _ (λ d. IsAscii-number (indexed m.one_indexed d.weekday))
-ascii_current (component.WeekNumberIso m) f = ascii_of_group f.date _ (λ d. IsAscii-padded_text m.padding 2 d.iso_week)
-ascii_current (component.WeekNumberSunday m) f =
-    ascii_of_group f.date _ (λ d. IsAscii-padded_text m.padding 2 d.sunday_based_week)
-ascii_current (component.WeekNumberMonday m) f =
-    ascii_of_group f.date _ (λ d. IsAscii-padded_text m.padding 2 d.monday_based_week)
-ascii_current (component.CalendarYearFullExtendedRange m) f =
-    ascii_of_group f.date _
-    (λ d. signed (int_lt d.year (pos 0)) (m.sign_is_mandatory || int_lt (pos 9_999) d.year) m.padding 4
-    (unsigned_abs d.year))
-ascii_current (component.CalendarYearFullStandardRange m) f =
-    ascii_of_group f.date _
-    (λ d. ascii_in_range 9_999 (unsigned_abs d.year) _
-    (signed (int_lt d.year (pos 0)) m.sign_is_mandatory m.padding 4 (unsigned_abs d.year)))
-ascii_current (component.CalendarYearCenturyExtendedRange m) f =
-    ascii_of_group f.date _
-    (λ d. signed (int_lt d.year (pos 0)) (m.sign_is_mandatory || nat_lt 99 (century_of d.year)) m.padding 2
-    (century_of d.year))
-ascii_current (component.CalendarYearCenturyStandardRange m) f =
-    ascii_of_group f.date _
-    (λ d. ascii_in_range 99 (century_of d.year) _
-    (signed (int_lt d.year (pos 0)) m.sign_is_mandatory m.padding 2 (century_of d.year)))
-ascii_current (component.CalendarYearLastTwo m) f =
-    ascii_of_group f.date _ (λ d. IsAscii-padded_text m.padding 2 ((unsigned_abs d.year) % 100))
-ascii_current (component.IsoYearFullExtendedRange m) f =
-    ascii_of_group f.date _
-    (λ d. signed (int_lt d.iso_year (pos 0)) (m.sign_is_mandatory || int_lt (pos 9_999) d.iso_year) m.padding 4
-    (unsigned_abs d.iso_year))
-ascii_current (component.IsoYearFullStandardRange m) f =
-    ascii_of_group f.date _
-    (λ d. ascii_in_range 9_999 (unsigned_abs d.iso_year) _
-    (signed (int_lt d.iso_year (pos 0)) m.sign_is_mandatory m.padding 4 (unsigned_abs d.iso_year)))
-ascii_current (component.IsoYearCenturyExtendedRange m) f =
-    ascii_of_group f.date _
-    (λ d. signed (int_lt d.iso_year (pos 0)) (m.sign_is_mandatory || nat_lt 99 (century_of d.iso_year)) m.padding 2
-    (century_of d.iso_year))
-ascii_current (component.IsoYearCenturyStandardRange m) f =
-    ascii_of_group f.date _
-    (λ d. ascii_in_range 99 (century_of d.iso_year) _
-    (signed (int_lt d.iso_year (pos 0)) m.sign_is_mandatory m.padding 2 (century_of d.iso_year)))
-ascii_current (component.IsoYearLastTwo m) f =
-    ascii_of_group f.date _ (λ d. IsAscii-padded_text m.padding 2 ((unsigned_abs d.iso_year) % 100))
-ascii_current (component.Hour12 m) f = ascii_of_group f.time _ (λ t. IsAscii-padded_text m.padding 2 (hour_12 t.hour))
-ascii_current (component.Hour24 m) f = ascii_of_group f.time _ (λ t. IsAscii-padded_text m.padding 2 t.hour)
-ascii_current (component.Minute m) f = ascii_of_group f.time _ (λ t. IsAscii-padded_text m.padding 2 t.minute)
-ascii_current (component.Period m) f = ascii_of_group f.time _ (λ t. IsAscii-period_text (period_of t) m.is_uppercase)
-ascii_current (component.Second m) f = ascii_of_group f.time _ (λ t. IsAscii-padded_text m.padding 2 t.second)
-ascii_current (component.Subsecond m) f = ascii_of_group f.time _ (λ t. IsAscii-subsecond_text m.digits t.nanosecond)
-ascii_current (component.OffsetHour m) f =
-    ascii_of_group f.offset _ (λ o. signed (is_negative o) m.sign_is_mandatory m.padding 2 (unsigned_abs o.hours))
-ascii_current (component.OffsetMinute m) f =
-    ascii_of_group f.offset _ (λ o. IsAscii-padded_text m.padding 2 (unsigned_abs o.minutes))
-ascii_current (component.OffsetSecond m) f =
-    ascii_of_group f.offset _ (λ o. IsAscii-padded_text m.padding 2 (unsigned_abs o.seconds))
-ascii_current (component.UnixTimestampSecond m) f =
-    ascii_of_group f.moment _ (λ s. IsAscii-timestamp_text m.sign_is_mandatory s.seconds)
-ascii_current (component.UnixTimestampMillisecond m) f =
-    ascii_of_group f.moment _ (λ s. IsAscii-timestamp_text m.sign_is_mandatory (milliseconds s))
-ascii_current c f = IsAscii-nil
+ascii_current c f =
+    elim (has_group (group_of c) f) as
+    (λ b. IsAscii (if b then supplied_outcome c f else refused insufficient).bytes)
+    [ true ↦ IsAscii-kind_outcome (kind_of c f) | false ↦ IsAscii-nil ]
 
 -- ---- outcomes one after another
 
@@ -258,11 +118,6 @@ ascii_current c f = IsAscii-nil
 joined_utf8 : (a b : Outcome) → IsUtf8 a.bytes → IsUtf8 b.bytes → IsUtf8 (join a b).bytes
 joined_utf8 a b p q = elim a.refusal as (λ r. IsUtf8 (join (record { bytes = a.bytes; refusal = r }) b).bytes)
     [ None ↦ IsUtf8-append a.bytes b.bytes p q | Some r ↦ p ]
-
--- two tests hold
-both_true : (a b : Bool) → IsTrue (a && b) → IsTrue a × IsTrue b
-both_true true b h = (refl, h)
-both_true false b h = let no : ⊥ = cc in absurd no
 
 -- no bytes are UTF-8
 pub empty_utf8 : IsUtf8 []
@@ -283,18 +138,18 @@ pub text_more : (t : Tree) (ts : Trees) (f : Facts) → IsTextIf (is_guaranteed_
     → IsTextIf (are_guaranteed_text ts) (trees_outcome ts f)
     → IsTextIf (are_guaranteed_text (more t ts)) (trees_outcome (more t ts) f)
 text_more t ts f first others h =
-    let both = both_true (is_guaranteed_text t) (are_guaranteed_text ts) h in
+    let both = and_parts (is_guaranteed_text t) (are_guaranteed_text ts) h in
     joined_utf8 (tree_outcome t f) (trees_outcome ts f) (first both.0) (others both.1)
 
 -- of a list that stops at its first tree the others do not count
 pub text_stops : (t : Tree) (ts : Trees) (f : Facts) → IsTextIf (is_guaranteed_text t) (tree_outcome t f)
     → join (tree_outcome t f) (trees_outcome ts f) ≡ tree_outcome t f
     → IsTextIf (are_guaranteed_text (more t ts)) (trees_outcome (more t ts) f)
-text_stops t ts f first stops h = rw stops (first (both_true (is_guaranteed_text t) (are_guaranteed_text ts) h).0)
+text_stops t ts f first stops h = rw stops (first (and_parts (is_guaranteed_text t) (are_guaranteed_text ts) h).0)
 
 -- one outcome after another is a text where both are
 pub text_both : (p q : Bool) (a b : Outcome) → IsTextIf p a → IsTextIf q b → IsTextIf (p && q) (join a b)
-text_both p q a b first second h = let both = both_true p q h in joined_utf8 a b (first both.0) (second both.1)
+text_both p q a b first second h = let both = and_parts p q h in joined_utf8 a b (first both.0) (second both.1)
 
 -- no bytes are a text
 no_bytes : (bytes : List ℕ) → length bytes ≤ 0 → IsUtf8 bytes

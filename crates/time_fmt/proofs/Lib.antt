@@ -1,8 +1,6 @@
 pub mod ConversionLemmas
-pub mod DateTextLemmas
 pub mod DecimalLemmas
 pub mod Engine
-pub mod GroupLemmas
 pub mod GuaranteeLemmas
 pub mod LawLemmas
 pub mod LongDivisionLemmas

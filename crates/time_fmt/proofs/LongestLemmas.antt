@@ -1,30 +1,30 @@
 -- Each width is reached by one of the two longest values.
-use Rattle.std.proofs.Common.{◌≡◌, ℕ, List, inl, inr, Bool, true, false, length, pos, refl}
-use Rattle.std.specs.Prelude.{decimal, neg_ℤ}
+use Rattle.std.proofs.Common.{◌≡◌, ℕ, ◌+◌, ◌<◌, Bool, true, false, ◌&&◌, nat_lt, inl, inr, length, refl, ap, ◌∙◌, arith, IsTrue}
+use Rattle.std.proofs.Common.{decimal, length-append}
+use Rattle.std.proofs.lemmas.Bool.{and_parts, eqb-true, leb-true, ltb-true}
 use Rattle.std.specs.Fmt.{digits}
+use Rattle.std.specs.Prelude.{◌==◌, nat_le, codes}
 use Rattle.time_below.specs.Calendar.{days_of_months, last_begun, date_at}
 use Rattle.time_below.specs.declared.format_description.component.Component.{Component}
 use Rattle.time_below.specs.declared.format_description.component.Component.TheVariants as component
 use Rattle.time_below.specs.declared.format_description.modifier.Padding.{Padding}
-use Rattle.time_below.specs.declared.format_description.modifier.Padding.TheVariants as padding
 use Rattle.time_below.specs.declared.format_description.modifier.SubsecondDigits.{SubsecondDigits}
 use Rattle.time_below.specs.declared.format_description.modifier.SubsecondDigits.TheVariants as chosen
-use Rattle.time_below.specs.Width.{subsecond_width}
-use Rattle.time_below.specs.declared.period.Period.TheVariants.{Pm}
-use Rattle.time_digits.specs.Digits.{fixed, padded}
+use Rattle.time_below.specs.declared.period.Period.{Period}
+use Rattle.time_below.specs.declared.period.Period.TheVariants.{Am, Pm}
+use Rattle.time_below.specs.Facts.{facts_of_offset_date_time}
+use Rattle.time_below.specs.Moment.{OffsetDateAndTime}
+use Rattle.time_below.specs.Width.{component_width, subsecond_width}
+use Rattle.time_digits.specs.Digits.{fixed}
 use Rattle.time_digits.specs.Fraction.{last_zeros, trimmed_fraction}
-use Rattle.time_fmt.specs.DateText.{indexed, extended_year_text, standard_year_text, extended_century_text}
-use Rattle.time_fmt.specs.DateText.{standard_century_text}
-use Rattle.time_fmt.specs.Longest.{ReachesWidth}
-use Rattle.time_fmt.specs.Text.{padded_text, subsecond_text, offset_hour_text, period_text}
-
--- a text for each padding
-by_padding : (text : Padding → List ℕ) (bytes : ℕ) → length (text padding.Space) ≡ bytes
-    → length (text padding.Zero) ≡ bytes →
-    length (text padding.None) ≡ bytes → (p : Padding) → length (text p) ≡ bytes
-by_padding text bytes space zero none padding.Space = space
-by_padding text bytes space zero none padding.Zero = zero
-by_padding text bytes space zero none padding.None = none
+use Rattle.time_digits.proofs.LengthLemmas.{length-digit}
+use Rattle.time_fmt.specs.DateText.{indexed}
+use Rattle.time_fmt.specs.Description.{kind_of}
+use Rattle.time_fmt.specs.Kind as kind
+use Rattle.time_fmt.specs.Kind.{Kind, kind_text, kind_outcome}
+use Rattle.time_fmt.specs.Longest.{ReachesWidth, longest_extended, longest_standard}
+use Rattle.time_fmt.specs.Text.{padded_text, period_text, subsecond_text}
+use Rattle.time_fmt.proofs.TextLemmas.{no_padding}
 
 -- decimals of the second, as many as are chosen, or nine
 subseconds : (decimals : SubsecondDigits) → length (subsecond_text decimals 123_456_789) ≡ subsecond_width decimals
@@ -40,84 +40,79 @@ subseconds chosen.Eight = refl
 subseconds chosen.Nine = refl
 subseconds chosen.OneOrMore = refl
 
--- a choice of two
-by_choice : (text : Bool → List ℕ) (bytes : ℕ) → length (text true) ≡ bytes → length (text false) ≡ bytes → (b : Bool)
-    → length (text b) ≡ bytes
-by_choice text bytes first other true = first
-by_choice text bytes first other false = other
+-- whether a text fills a width, whatever is chosen for its padding, its case and its sign
+abbrev fills : Kind → ℕ → Bool
+fills (kind.number p places n) width = nat_le places (length (decimal n)) && (length (decimal n) == width)
+fills (kind.signed is_negative is_wanted p places n) width =
+    is_negative && (nat_le places (length (decimal n)) && (length (decimal n) + 1 == width))
+fills (kind.limited greatest n k) width = nat_le n greatest && fills k width
+fills (kind.digit one_indexed days) width = nat_lt days 9 && (1 == width)
+fills (kind.half_day p is_uppercase) width = 2 == width
+fills (kind.decimals d n) width = false
+fills k width = length (kind_text k) == width
 
--- the years and centuries of the two values, whose sign is a minus whether or not one is wanted
-extended_years : (p : Padding) (b : Bool) → length (extended_year_text p b (neg_ℤ (pos 999_999))) ≡ 7
-unfolding digits padded
-extended_years p b = by_padding (λ p. extended_year_text p b (neg_ℤ (pos 999_999))) 7 refl refl refl p
+-- a number whose digits fill its places
+number_fills : (p : Padding) (places n width : ℕ) → IsTrue (nat_le places (length (decimal n)))
+    → length (decimal n) ≡ width → length (padded_text p places n) ≡ width
+number_fills p places n width enough e =
+    ap length (no_padding p places n (leb-true places (length (decimal n)) enough)) ∙ e
 
-standard_years : (p : Padding) (b : Bool) → length (standard_year_text p b (neg_ℤ (pos 9_999))) ≡ 5
-unfolding digits padded
-standard_years p b = by_padding (λ p. standard_year_text p b (neg_ℤ (pos 9_999))) 5 refl refl refl p
+-- a weekday by a digit, and the half of a day
+digit_fills : (one_indexed : Bool) (days : ℕ) → days < 9 → length (decimal (indexed one_indexed days)) ≡ 1
+digit_fills true days h = length-digit (days + 1) (omega arith)
+digit_fills false days h = length-digit days (omega arith)
 
-extended_centuries : (p : Padding) (b : Bool) → length (extended_century_text p b true 9_999) ≡ 5
-unfolding digits padded
-extended_centuries p b = by_padding (λ p. extended_century_text p b true 9_999) 5 refl refl refl p
+half_day_fills : (p : Period) (is_uppercase : Bool) → length (period_text p is_uppercase) ≡ 2
+half_day_fills Am true = refl
+half_day_fills Am false = refl
+half_day_fills Pm true = refl
+half_day_fills Pm false = refl
 
-standard_centuries : (p : Padding) (b : Bool) → length (standard_century_text p b true 99) ≡ 3
-unfolding digits padded
-standard_centuries p b = by_padding (λ p. standard_century_text p b true 99) 3 refl refl refl p
+-- it has then so many bytes
+text_fills : (k : Kind) (width : ℕ) → IsTrue (fills k width) → length (kind_text k) ≡ width
+text_fills (kind.number p places n) width h =
+    let both = and_parts (nat_le places (length (decimal n))) (length (decimal n) == width) h in
+    number_fills p places n width both.0 (eqb-true (length (decimal n)) width both.1)
+text_fills (kind.signed true is_wanted p places n) width h =
+    let both = and_parts (nat_le places (length (decimal n))) (length (decimal n) + 1 == width) h in
+    omega (
+      arith,
+      length-append (codes "-") (padded_text p places n),
+      number_fills p places n (length (decimal n)) both.0 refl,
+      eqb-true (length (decimal n) + 1) width both.1,
+    )
+text_fills (kind.signed false is_wanted p places n) width h = cc
+text_fills (kind.limited greatest n k) width h = text_fills k width (and_parts (nat_le n greatest) (fills k width) h).1
+text_fills (kind.digit one_indexed days) width h =
+    let both = and_parts (nat_lt days 9) (1 == width) h in
+    digit_fills one_indexed days (ltb-true days 9 both.0) ∙ eqb-true 1 width both.1
+text_fills (kind.half_day p is_uppercase) width h = half_day_fills p is_uppercase ∙ eqb-true 2 width h
+text_fills (kind.decimals d n) width h = cc
+text_fills k width h = eqb-true (length (kind_text k)) width h
 
--- so is that of an offset
-offset_hours : (p : Padding) (b : Bool) → length (offset_hour_text p b true (neg_ℤ (pos 23))) ≡ 3
-unfolding digits padded
-offset_hours p b = by_padding (λ p. offset_hour_text p b true (neg_ℤ (pos 23))) 3 refl refl refl p
+-- of the one value or the other
+reached : (c : Component) (value : OffsetDateAndTime)
+    → IsTrue (fills (kind_of c (facts_of_offset_date_time value)) (component_width c))
+    → length (kind_text (kind_of c (facts_of_offset_date_time value))) ≡ component_width c
+reached c value h = text_fills (kind_of c (facts_of_offset_date_time value)) (component_width c) h
 
 -- each width is reached
 pub reaches_width : (c : Component) → ReachesWidth c
-unfolding digits days_of_months last_begun date_at fixed padded
-reaches_width (component.Day m) h = inl (by_padding (λ p. padded_text p 2 12) 2 refl refl refl m.padding)
-reaches_width (component.MonthShort m) h = inl refl
-reaches_width (component.MonthLong m) h = inl refl
-reaches_width (component.MonthNumerical m) h = inr (by_padding (λ p. padded_text p 2 10) 2 refl refl refl m.padding)
-reaches_width (component.Ordinal m) h = inl (by_padding (λ p. padded_text p 3 255) 3 refl refl refl m.padding)
-reaches_width (component.WeekdayShort m) h = inl refl
-reaches_width (component.WeekdayLong m) h = inl refl
-reaches_width (component.WeekdaySunday m) h = inl (by_choice (λ b. decimal (indexed b 3)) 1 refl refl m.one_indexed)
-reaches_width (component.WeekdayMonday m) h = inl (by_choice (λ b. decimal (indexed b 2)) 1 refl refl m.one_indexed)
-reaches_width (component.WeekNumberIso m) h = inl (by_padding (λ p. padded_text p 2 37) 2 refl refl refl m.padding)
-reaches_width (component.WeekNumberSunday m) h = inl (by_padding (λ p. padded_text p 2 36) 2 refl refl refl m.padding)
-reaches_width (component.WeekNumberMonday m) h = inl (by_padding (λ p. padded_text p 2 37) 2 refl refl refl m.padding)
-reaches_width (component.CalendarYearFullExtendedRange m) h =
-    inl (extended_years m.padding m.sign_is_mandatory)
+unfolding digits days_of_months last_begun date_at
+reaches_width (component.MonthNumerical m) h = inr (reached (component.MonthNumerical m) longest_standard refl)
 reaches_width (component.CalendarYearFullStandardRange m) h =
-    inr (standard_years m.padding m.sign_is_mandatory)
-reaches_width (component.CalendarYearCenturyExtendedRange m) h =
-    inl (extended_centuries m.padding m.sign_is_mandatory)
+    inr (reached (component.CalendarYearFullStandardRange m) longest_standard refl)
 reaches_width (component.CalendarYearCenturyStandardRange m) h =
-    inr (standard_centuries m.padding m.sign_is_mandatory)
-reaches_width (component.CalendarYearLastTwo m) h =
-    inl (by_padding (λ p. padded_text p 2 99) 2 refl refl refl m.padding)
-reaches_width (component.IsoYearFullExtendedRange m) h =
-    inl (extended_years m.padding m.sign_is_mandatory)
+    inr (reached (component.CalendarYearCenturyStandardRange m) longest_standard refl)
 reaches_width (component.IsoYearFullStandardRange m) h =
-    inr (standard_years m.padding m.sign_is_mandatory)
-reaches_width (component.IsoYearCenturyExtendedRange m) h =
-    inl (extended_centuries m.padding m.sign_is_mandatory)
+    inr (reached (component.IsoYearFullStandardRange m) longest_standard refl)
 reaches_width (component.IsoYearCenturyStandardRange m) h =
-    inr (standard_centuries m.padding m.sign_is_mandatory)
-reaches_width (component.IsoYearLastTwo m) h = inl (by_padding (λ p. padded_text p 2 99) 2 refl refl refl m.padding)
-reaches_width (component.Hour12 m) h = inl (by_padding (λ p. padded_text p 2 12) 2 refl refl refl m.padding)
-reaches_width (component.Hour24 m) h = inl (by_padding (λ p. padded_text p 2 12) 2 refl refl refl m.padding)
-reaches_width (component.Minute m) h = inl (by_padding (λ p. padded_text p 2 34) 2 refl refl refl m.padding)
-reaches_width (component.Period m) h = inl (by_choice (λ b. period_text Pm b) 2 refl refl m.is_uppercase)
-reaches_width (component.Second m) h = inl (by_padding (λ p. padded_text p 2 56) 2 refl refl refl m.padding)
+    inr (reached (component.IsoYearCenturyStandardRange m) longest_standard refl)
 reaches_width (component.Subsecond m) h = inl (subseconds m.digits)
-reaches_width (component.OffsetHour m) h = inl (offset_hours m.padding m.sign_is_mandatory)
-reaches_width (component.OffsetMinute m) h = inl (by_padding (λ p. padded_text p 2 45) 2 refl refl refl m.padding)
-reaches_width (component.OffsetSecond m) h = inl (by_padding (λ p. padded_text p 2 30) 2 refl refl refl m.padding)
-reaches_width (component.UnixTimestampSecond m) h = inl refl
-reaches_width (component.UnixTimestampMillisecond m) h = inl refl
-reaches_width (component.Ignore m) h = inl refl
-reaches_width (component.End m) h = inl refl
 reaches_width (component.Month m) h = cc
 reaches_width (component.Weekday m) h = cc
 reaches_width (component.WeekNumber m) h = cc
 reaches_width (component.Hour m) h = cc
 reaches_width (component.UnixTimestamp m) h = cc
 reaches_width (component.Year m) h = cc
+reaches_width c h = inl (reached c longest_extended refl)

@@ -13,7 +13,7 @@ four_digits n h = length-decimal-le 4 n (omega arith) (omega arith) (omega arith
 
 -- and fits four places
 pub four_places : (p : Padding) (n : ℕ) → n < 10_000 → length (padded_text p 4 n) ≤ 4
-four_places p n h = length-padded_text p 4 n (four_digits n h)
+four_places p n h = length-padded_text p 4 4 n (omega arith) (four_digits n h)
 
 -- zeros fill two places
 pub two_zeros : (n : ℕ) → n < 100 → length (zero_padded 2 n) ≡ 2

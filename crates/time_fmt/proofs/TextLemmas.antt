@@ -1,31 +1,42 @@
--- How long the texts of components are.
-use Rattle.std.proofs.Common.{◌≡◌, ℕ, ◌+◌, ◌-◌, ◌%◌, ◌^◌, ◌<◌, ◌≤◌, Bool, true, false, List, ◌++◌, length, replicate}
-use Rattle.std.proofs.Common.{take, refl, decimal, arith, ℤ, pos, unsigned_abs, length-append, append_assoc}
-use Rattle.std.specs.Prelude.{int_lt}
+-- How long each kind of text is.
+use Rattle.std.proofs.Common.{◌≡◌, ℕ, zero, suc, ◌+◌, ◌-◌, ◌^◌, ◌<◌, ◌≤◌, Bool, true, false, ◌&&◌, List, [], ◌∷◌, ◌++◌}
+use Rattle.std.proofs.Common.{IsTrue, length, replicate, refl, sym, ◌∙◌, decimal, arith, length-append, append_assoc}
+use Rattle.std.specs.List.{list_all}
+use Rattle.std.specs.Prelude.{slice_index_or, nat_le}
+use Rattle.std.proofs.lemmas.Bool.{and_parts, leb-true}
 use Rattle.std.proofs.lemmas.Fmt.{length-decimal-le}
 use Rattle.std.proofs.lemmas.List.{length-replicate}
+use Rattle.std.proofs.Math.ListN.{length-take}
 use Rattle.time_below.specs.declared.format_description.modifier.Padding.{Padding}
 use Rattle.time_below.specs.declared.format_description.modifier.Padding.TheVariants as padding
+use Rattle.time_below.specs.declared.weekday.Weekday.{Weekday}
+use Rattle.time_below.specs.Calendar.{from_sunday}
+use Rattle.time_below.specs.Weekday.{days_from_monday}
 use Rattle.time_digits.specs.Digits.{padded, zero_padded}
-use Rattle.time_digits.proofs.LengthLemmas.{length-padded}
-use Rattle.time_fmt.specs.Text.{padded_text, sign_text, offset_hour_text, timestamp_text}
+use Rattle.time_digits.proofs.DigitLemmas.{decimal_longer, padded_whole}
+use Rattle.time_digits.proofs.LengthLemmas.{length-padded, length-padded-le}
+use Rattle.time_fmt.specs.DateText.{month_names, month_name, weekday_names, weekday_name, short_name, indexed}
+use Rattle.time_fmt.specs.Text.{padded_text, sign_text}
+use Rattle.time_fmt.proofs.WriteLemmas.{whole_text, in_range, beyond_range}
 
--- a text in so many places has no more bytes, where the number has no more digits
-pub length-padded_text : (p : Padding) (places n : ℕ) → length (decimal n) ≤ places
-    → length (padded_text p places n) ≤ places
-length-padded_text padding.Space places n h = omega (arith, length-padded 32 places n h)
-length-padded_text padding.Zero places n h = omega (arith, length-padded 48 places n h)
-length-padded_text padding.None places n h = h
+-- ---- numbers
+
+-- a number has no more bytes than its places and its digits
+pub length-padded_text : (p : Padding) (places width n : ℕ) → places ≤ width → length (decimal n) ≤ width
+    → length (padded_text p places n) ≤ width
+length-padded_text padding.Space places width n h d = length-padded-le 32 places n width h d
+length-padded_text padding.Zero places width n h d = length-padded-le 48 places n width h d
+length-padded_text padding.None places width n h d = d
 
 -- a number below 100 fits two places
 pub two_places : (p : Padding) (n : ℕ) → n < 100 → length (padded_text p 2 n) ≤ 2
-two_places p n h = length-padded_text p 2 n (length-decimal-le 2 n (omega arith) (omega arith) (omega arith))
+two_places p n h =
+    length-padded_text p 2 2 n (omega arith) (length-decimal-le 2 n (omega arith) (omega arith) (omega arith))
 
--- a sign has one byte at most
-pub length-sign_text : (is_negative is_wanted : Bool) → length (sign_text is_negative is_wanted) ≤ 1
-length-sign_text true is_wanted = omega arith
-length-sign_text false true = omega arith
-length-sign_text false false = omega arith
+-- and one below 1,000 three
+pub three_places : (p : Padding) (n : ℕ) → n < 1000 → length (padded_text p 3 n) ≤ 3
+three_places p n h =
+    length-padded_text p 3 3 n (omega arith) (length-decimal-le 3 n (omega arith) (omega arith) (omega arith))
 
 -- zeros and then the digits, in so many places
 pub places_of : (places n : ℕ) → length (decimal n) ≤ places → length (zero_padded places n) ≡ places
@@ -43,40 +54,142 @@ length-zeros n = length-replicate {A = ℕ} n 48
 
 pub ruleset zeros_before = (places_of, zero_padded_is_zeros, length-zeros, append_assoc)
 
+-- digits that fill their places stand alone
+pub no_padding : (p : Padding) (places n : ℕ) → places ≤ length (decimal n) → padded_text p places n ≡ decimal n
+no_padding padding.Space places n h = padded_whole 32 places n h
+no_padding padding.Zero places n h = padded_whole 48 places n h
+no_padding padding.None places n h = refl
+
+-- a year from 10,000 on, and a century from 100 on
+pub whole_year : (p : Padding) (n : ℕ) → 10_000 ≤ n → n < 2 ^ 64 → padded_text p 4 n ≡ zero_padded 4 n
+whole_year p n low high =
+    let long = decimal_longer 4 n low high in
+    no_padding p 4 n (omega arith) ∙ sym (padded_whole 48 4 n (omega arith))
+
+pub whole_century : (p : Padding) (n : ℕ) → 100 ≤ n → n < 2 ^ 64 → padded_text p 2 n ≡ decimal n
+whole_century p n low high = let long = decimal_longer 2 n low high in no_padding p 2 n (omega arith)
+
+-- ---- numbers behind their signs
+
+-- a sign has one byte at most
+pub length-sign_text : (is_negative is_wanted : Bool) → length (sign_text is_negative is_wanted) ≤ 1
+length-sign_text true is_wanted = omega arith
+length-sign_text false true = omega arith
+length-sign_text false false = omega arith
+
 -- one text after another
 pub ruleset signed_parts = (length-append, append_assoc)
 
--- the hour of an offset is a sign and two digits
-pub length-offset_hour_text : (p : Padding) (s n : Bool) (hour : ℤ) → unsigned_abs hour ≤ 25
-    → length (offset_hour_text p s n hour) ≤ 3
-length-offset_hour_text p s n hour h =
+-- a sign and then so many digits
+signed_within : (is_negative is_wanted : Bool) (p : Padding) (places most n : ℕ) → places ≤ most → 0 < most
+    → n < 10 ^ most → n < 2 ^ 64
+    → length (sign_text is_negative is_wanted ++ padded_text p places n) ≤ most + 1
+signed_within is_negative is_wanted p places most n h some below fits =
     omega (
       arith,
-      length-append (sign_text n s) (padded_text p 2 (unsigned_abs hour)),
-      length-sign_text n s,
-      two_places p (unsigned_abs hour) (omega arith),
+      length-append (sign_text is_negative is_wanted) (padded_text p places n),
+      length-sign_text is_negative is_wanted,
+      length-padded_text p places most n h (length-decimal-le most n some below fits),
     )
 
--- the text of a number of seconds, and of milliseconds
-pub length-seconds_text : (s : Bool) (n : ℤ) → unsigned_abs n < 100_000_000_000_000 → length (timestamp_text s n) ≤ 15
-length-seconds_text s n h =
-    let sign = sign_text (int_lt n (pos 0)) s in
-    omega (
-      arith,
-      length-append sign (decimal (unsigned_abs n)),
-      length-sign_text (int_lt n (pos 0)) s,
-      length-decimal-le 14 (unsigned_abs n) (omega arith) (omega arith) (omega arith),
-    )
+-- a century or an hour of an offset: two digits, and at most four
+pub signed_two : (is_negative is_wanted : Bool) (p : Padding) (n : ℕ) → n < 100
+    → length (sign_text is_negative is_wanted ++ padded_text p 2 n) ≤ 3
+signed_two is_negative is_wanted p n h =
+    signed_within is_negative is_wanted p 2 2 n (omega arith) (omega arith) (omega arith) (omega arith)
 
-pub length-milliseconds_text : (s : Bool) (n : ℤ) → unsigned_abs n < 100_000_000_000_000_000
-    → length (timestamp_text s n) ≤ 18
-length-milliseconds_text s n h =
-    let sign = sign_text (int_lt n (pos 0)) s in
-    omega (
-      arith,
-      length-append sign (decimal (unsigned_abs n)),
-      length-sign_text (int_lt n (pos 0)) s,
-      length-decimal-le 17 (unsigned_abs n) (omega arith) (omega arith) (omega arith),
-    )
+pub signed_two_to_four : (is_negative is_wanted : Bool) (p : Padding) (n : ℕ) → n < 10_000
+    → length (sign_text is_negative is_wanted ++ padded_text p 2 n) ≤ 5
+signed_two_to_four is_negative is_wanted p n h =
+    signed_within is_negative is_wanted p 2 4 n (omega arith) (omega arith) (omega arith) (omega arith)
 
-pub ruleset text_lengths = (two_places, length-offset_hour_text, length-seconds_text, length-milliseconds_text)
+-- a year: four digits, and at most six
+pub signed_four : (is_negative is_wanted : Bool) (p : Padding) (n : ℕ) → n < 10_000
+    → length (sign_text is_negative is_wanted ++ padded_text p 4 n) ≤ 5
+signed_four is_negative is_wanted p n h =
+    signed_within is_negative is_wanted p 4 4 n (omega arith) (omega arith) (omega arith) (omega arith)
+
+pub signed_four_to_six : (is_negative is_wanted : Bool) (p : Padding) (n : ℕ) → n < 1_000_000
+    → length (sign_text is_negative is_wanted ++ padded_text p 4 n) ≤ 7
+signed_four_to_six is_negative is_wanted p n h =
+    signed_within is_negative is_wanted p 4 6 n (omega arith) (omega arith) (omega arith) (omega arith)
+
+-- a number of seconds, and of milliseconds
+pub signed_seconds : (is_negative is_wanted : Bool) (n : ℕ) → n < 100_000_000_000_000
+    → length (sign_text is_negative is_wanted ++ decimal n) ≤ 15
+signed_seconds is_negative is_wanted n h =
+    signed_within is_negative is_wanted padding.None 1 14 n (omega arith) (omega arith) (omega arith) (omega arith)
+
+pub signed_milliseconds : (is_negative is_wanted : Bool) (n : ℕ) → n < 100_000_000_000_000_000
+    → length (sign_text is_negative is_wanted ++ decimal n) ≤ 18
+signed_milliseconds is_negative is_wanted n h =
+    signed_within is_negative is_wanted padding.None 1 17 n (omega arith) (omega arith) (omega arith) (omega arith)
+
+-- ---- names, and the digit of a weekday
+
+-- a test that no bytes and all names of a list pass is passed by the one at any place
+pub passes_at : (test : List ℕ → Bool) (names : List (List ℕ)) (i : ℕ) → IsTrue (test []) → IsTrue (list_all test names)
+    → IsTrue (test (slice_index_or names i []))
+passes_at test [] i none all = none
+passes_at test (name ∷ names) zero none all = (and_parts (test name) (list_all test names) all).0
+passes_at test (name ∷ names) (suc i) none all =
+    passes_at test names i none (and_parts (test name) (list_all test names) all).1
+
+-- no name of a month is longer than September
+pub length-month_name : (n : ℕ) → length (month_name n) ≤ 9
+length-month_name n =
+    leb-true (length (month_name n)) 9 (passes_at (λ name. nat_le (length name) 9) month_names (n - 1) refl refl)
+
+-- no name of a weekday is longer than Wednesday
+pub length-weekday_name : (n : ℕ) → length (weekday_name n) ≤ 9
+length-weekday_name n =
+    leb-true (length (weekday_name n)) 9 (passes_at (λ name. nat_le (length name) 9) weekday_names n refl refl)
+
+-- a short name has three letters at most
+pub length-short_name : (name : List ℕ) → length (short_name name) ≤ 3
+length-short_name name = omega (arith, length-take 3 name)
+
+-- a weekday has fewer than seven days before it in its week
+days_in_week : (w : Weekday) → days_from_monday w ≤ 6
+days_in_week w = grind arith
+
+-- a number of days below seven, counted from 0 or from 1 on
+length-indexed : (one_indexed : Bool) (days : ℕ) → days ≤ 6 → length (decimal (indexed one_indexed days)) ≤ 1
+length-indexed true days h = length-decimal-le 1 (days + 1) (omega arith) (omega arith) (omega arith)
+length-indexed false days h = length-decimal-le 1 days (omega arith) (omega arith) (omega arith)
+
+-- a weekday is one digit, from Monday
+pub length-monday_digit : (one_indexed : Bool) (w : Weekday)
+    → length (decimal (indexed one_indexed (days_from_monday w))) ≤ 1
+length-monday_digit one_indexed w = length-indexed one_indexed (days_from_monday w) (days_in_week w)
+
+-- or from Sunday
+pub length-sunday_digit : (one_indexed : Bool) (w : Weekday)
+    → length (decimal (indexed one_indexed (from_sunday (days_from_monday w)))) ≤ 1
+length-sunday_digit one_indexed w = length-indexed one_indexed (from_sunday (days_from_monday w))
+    (omega (arith, days_in_week w))
+
+-- ---- what a writer of a component cites
+
+pub ruleset text_lengths = (
+  two_places,
+  three_places,
+  length-month_name,
+  length-weekday_name,
+  length-short_name,
+  length-monday_digit,
+  length-sunday_digit,
+  whole_text,
+)
+
+pub ruleset signed_lengths = (
+  signed_two,
+  signed_two_to_four,
+  signed_four,
+  signed_four_to_six,
+  signed_seconds,
+  signed_milliseconds,
+  whole_text,
+  in_range,
+  beyond_range,
+)

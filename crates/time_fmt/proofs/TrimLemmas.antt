@@ -10,6 +10,7 @@ use Rattle.time_digits.proofs.DigitLemmas.{fixed_step, fixed_digits, fixed-appen
 use Rattle.time_digits.proofs.FractionLemmas.{only_trimmed_fraction}
 use Rattle.time_digits.proofs.LengthLemmas.{length-fixed}
 use Rattle.time_digits.proofs.FractionLemmas.{length-trimmed_fraction}
+use Rattle.time_fmt.proofs.WriteLemmas.{whole_text}
 use Rattle.time_fmt.proofs.DecimalLemmas.{take-fixed, length-first, length-subsecond_text}
 
 -- nine digits are the first ones, and zeros
@@ -84,4 +85,4 @@ length-six n zeros some = ap length (sym (six_are n zeros some)) ∙ length-firs
 pub ruleset whole_fractions = (nine_are, three_are, six_are, length-nine, length-three, length-six)
 
 -- what the decimals of a component are, and how many
-pub ruleset subsecond_lengths = (length-subsecond_text, length-trimmed_fraction, nine_are, length-nine)
+pub ruleset subsecond_lengths = (length-subsecond_text, length-trimmed_fraction, nine_are, length-nine, whole_text)

@@ -1,23 +1,24 @@
 -- What a description gives for the components of a value.
-use Rattle.std.specs.Prelude.{ℕ, Bool, true, ◌/◌, ◌%◌, nat_le, codes, decimal, List, [], Option, Some, None, ℤ, pos}
-use Rattle.std.specs.Prelude.{int_lt, unsigned_abs, if◌then◌else◌}
-use Rattle.time_below.specs.ComponentRange.{conditional_range}
+use Rattle.std.specs.Prelude.{Bool, true, ◌%◌, List, [], Option, Some, None, is_some, pos, int_lt, unsigned_abs}
+use Rattle.std.specs.Prelude.{if◌then◌else◌}
 use Rattle.time_below.specs.Conversion.{current_component}
 use Rattle.time_below.specs.declared.format_description.component.Component.{Component}
 use Rattle.time_below.specs.declared.format_description.component.Component.TheVariants as component
 use Rattle.time_below.specs.declared.format_description.component.Group.{Group}
 use Rattle.time_below.specs.declared.format_description.component.Group.TheVariants as group
-use Rattle.time_below.specs.Facts.{Facts}
+use Rattle.time_below.specs.Facts.{Facts, the_date, the_time, the_offset, the_moment}
+use Rattle.time_below.specs.Group.{group_of}
 use Rattle.time_below.specs.Moment.{milliseconds}
 use Rattle.time_below.specs.Offset.{is_negative}
 use Rattle.time_below.specs.TimeOfDay.{period_of}
 use Rattle.time_below.specs.Tree.{Tree, Trees, byte_literal, text_literal, of_component, all_of, first_of, nothing, end}
 use Rattle.time_below.specs.Tree.{more}
 use Rattle.time_below.specs.Calendar.{from_sunday}
-use Rattle.time_fmt.specs.DateText.{month_name, weekday_name, short_name, indexed, extended_year_text}
-use Rattle.time_fmt.specs.DateText.{standard_year_text, extended_century_text, standard_century_text}
-use Rattle.time_fmt.specs.Outcome.{Outcome, done, refused, join, insufficient, out_of_range}
-use Rattle.time_fmt.specs.Text.{padded_text, hour_12, period_text, subsecond_text, offset_hour_text, timestamp_text}
+use Rattle.time_fmt.specs.Kind as kind
+use Rattle.time_fmt.specs.Kind.{Kind, kind_outcome, extended_year, standard_year, century_of, extended_century}
+use Rattle.time_fmt.specs.Kind.{standard_century, offset_hour, timestamp}
+use Rattle.time_fmt.specs.Outcome.{Outcome, done, refused, join, insufficient}
+use Rattle.time_fmt.specs.Text.{hour_12}
 
 -- whether a value that has these parts has the part of such components
 abbrev pub is_supplied : Bool → Bool → Bool → Bool → Group → Bool
@@ -27,82 +28,64 @@ is_supplied date time offset moment group.Offset = offset
 is_supplied date time offset moment group.Timestamp = moment
 is_supplied date time offset moment group.None = true
 
+-- whether a value supplies a group
+abbrev pub has_group : Group → Facts → Bool
+has_group g f = is_supplied (is_some f.date) (is_some f.time) (is_some f.offset) (is_some f.moment) g
+
 -- what a group gives that the value supplies, or the refusal of one that it does not
 abbrev pub of_group : {G : Type 0} → Option G → (G → Outcome) → Outcome
 of_group None outcome = refused insufficient
 of_group (Some group) outcome = outcome group
 
--- the text of a year or a century of at most so much, or the refusal of a greater one
-abbrev pub in_standard_range : ℕ → ℕ → List ℕ → Outcome
-in_standard_range greatest magnitude text =
-    if nat_le magnitude greatest then done text else refused (out_of_range (conditional_range (codes "year")))
+-- what a component that is not deprecated shows of a value that supplies its group
+abbrev pub kind_of : Component → Facts → Kind
+kind_of (component.Day m) f = kind.number m.padding 2 (the_date f).day
+kind_of (component.MonthShort m) f = kind.short (kind.month (the_date f).month)
+kind_of (component.MonthLong m) f = kind.month (the_date f).month
+kind_of (component.MonthNumerical m) f = kind.number m.padding 2 (the_date f).month
+kind_of (component.Ordinal m) f = kind.number m.padding 3 (the_date f).ordinal
+kind_of (component.WeekdayShort m) f = kind.short (kind.weekday (the_date f).weekday)
+kind_of (component.WeekdayLong m) f = kind.weekday (the_date f).weekday
+kind_of (component.WeekdaySunday m) f = kind.digit m.one_indexed (from_sunday (the_date f).weekday)
+kind_of (component.WeekdayMonday m) f = kind.digit m.one_indexed (the_date f).weekday
+kind_of (component.WeekNumberIso m) f = kind.number m.padding 2 (the_date f).iso_week
+kind_of (component.WeekNumberSunday m) f = kind.number m.padding 2 (the_date f).sunday_based_week
+kind_of (component.WeekNumberMonday m) f = kind.number m.padding 2 (the_date f).monday_based_week
+kind_of (component.CalendarYearFullExtendedRange m) f = extended_year m.padding m.sign_is_mandatory (the_date f).year
+kind_of (component.CalendarYearFullStandardRange m) f = standard_year m.padding m.sign_is_mandatory (the_date f).year
+kind_of (component.CalendarYearCenturyExtendedRange m) f =
+    extended_century m.padding m.sign_is_mandatory (int_lt (the_date f).year (pos 0)) (century_of (the_date f).year)
+kind_of (component.CalendarYearCenturyStandardRange m) f =
+    standard_century m.padding m.sign_is_mandatory (int_lt (the_date f).year (pos 0)) (century_of (the_date f).year)
+kind_of (component.CalendarYearLastTwo m) f = kind.number m.padding 2 (unsigned_abs (the_date f).year % 100)
+kind_of (component.IsoYearFullExtendedRange m) f = extended_year m.padding m.sign_is_mandatory (the_date f).iso_year
+kind_of (component.IsoYearFullStandardRange m) f = standard_year m.padding m.sign_is_mandatory (the_date f).iso_year
+kind_of (component.IsoYearCenturyExtendedRange m) f =
+    extended_century m.padding m.sign_is_mandatory (int_lt (the_date f).iso_year (pos 0)) (century_of (the_date f).iso_year)
+kind_of (component.IsoYearCenturyStandardRange m) f =
+    standard_century m.padding m.sign_is_mandatory (int_lt (the_date f).iso_year (pos 0)) (century_of (the_date f).iso_year)
+kind_of (component.IsoYearLastTwo m) f = kind.number m.padding 2 (unsigned_abs (the_date f).iso_year % 100)
+kind_of (component.Hour12 m) f = kind.number m.padding 2 (hour_12 (the_time f).hour)
+kind_of (component.Hour24 m) f = kind.number m.padding 2 (the_time f).hour
+kind_of (component.Minute m) f = kind.number m.padding 2 (the_time f).minute
+kind_of (component.Period m) f = kind.half_day (period_of (the_time f)) m.is_uppercase
+kind_of (component.Second m) f = kind.number m.padding 2 (the_time f).second
+kind_of (component.Subsecond m) f = kind.decimals m.digits (the_time f).nanosecond
+kind_of (component.OffsetHour m) f =
+    offset_hour m.padding m.sign_is_mandatory (is_negative (the_offset f)) (the_offset f).hours
+kind_of (component.OffsetMinute m) f = kind.number m.padding 2 (unsigned_abs (the_offset f).minutes)
+kind_of (component.OffsetSecond m) f = kind.number m.padding 2 (unsigned_abs (the_offset f).seconds)
+kind_of (component.UnixTimestampSecond m) f = timestamp m.sign_is_mandatory (the_moment f).seconds
+kind_of (component.UnixTimestampMillisecond m) f = timestamp m.sign_is_mandatory (milliseconds (the_moment f))
+kind_of c f = kind.empty
 
--- the century of a year, toward zero
-abbrev pub century_of : ℤ → ℕ
-century_of year = unsigned_abs year / 100
+-- its outcome
+abbrev pub supplied_outcome : Component → Facts → Outcome
+supplied_outcome c f = kind_outcome (kind_of c f)
 
--- the outcome of a component that is not deprecated
+-- of a value that does not it is refused
 abbrev pub current_outcome : Component → Facts → Outcome
-current_outcome (component.Day m) f = of_group f.date (λ d. done (padded_text m.padding 2 d.day))
-current_outcome (component.MonthShort m) f = of_group f.date (λ d. done (short_name (month_name d.month)))
-current_outcome (component.MonthLong m) f = of_group f.date (λ d. done (month_name d.month))
-current_outcome (component.MonthNumerical m) f = of_group f.date (λ d. done (padded_text m.padding 2 d.month))
-current_outcome (component.Ordinal m) f = of_group f.date (λ d. done (padded_text m.padding 3 d.ordinal))
-current_outcome (component.WeekdayShort m) f = of_group f.date (λ d. done (short_name (weekday_name d.weekday)))
-current_outcome (component.WeekdayLong m) f = of_group f.date (λ d. done (weekday_name d.weekday))
-current_outcome (component.WeekdaySunday m) f =
-    of_group f.date (λ d. done (decimal (indexed m.one_indexed (from_sunday d.weekday))))
-current_outcome (component.WeekdayMonday m) f = of_group f.date (λ d. done (decimal (indexed m.one_indexed d.weekday)))
-current_outcome (component.WeekNumberIso m) f = of_group f.date (λ d. done (padded_text m.padding 2 d.iso_week))
-current_outcome (component.WeekNumberSunday m) f =
-    of_group f.date (λ d. done (padded_text m.padding 2 d.sunday_based_week))
-current_outcome (component.WeekNumberMonday m) f =
-    of_group f.date (λ d. done (padded_text m.padding 2 d.monday_based_week))
-current_outcome (component.CalendarYearFullExtendedRange m) f =
-    of_group f.date (λ d. done (extended_year_text m.padding m.sign_is_mandatory d.year))
-current_outcome (component.CalendarYearFullStandardRange m) f =
-    of_group f.date (λ d. in_standard_range 9_999 (unsigned_abs d.year)
-    (standard_year_text m.padding m.sign_is_mandatory d.year))
-current_outcome (component.CalendarYearCenturyExtendedRange m) f =
-    of_group f.date (λ d. done
-    (extended_century_text m.padding m.sign_is_mandatory (int_lt d.year (pos 0)) (century_of d.year)))
-current_outcome (component.CalendarYearCenturyStandardRange m) f =
-    of_group f.date (λ d. in_standard_range 99 (century_of d.year)
-    (standard_century_text m.padding m.sign_is_mandatory (int_lt d.year (pos 0)) (century_of d.year)))
-current_outcome (component.CalendarYearLastTwo m) f =
-    of_group f.date (λ d. done (padded_text m.padding 2 (unsigned_abs d.year % 100)))
-current_outcome (component.IsoYearFullExtendedRange m) f =
-    of_group f.date (λ d. done (extended_year_text m.padding m.sign_is_mandatory d.iso_year))
-current_outcome (component.IsoYearFullStandardRange m) f =
-    of_group f.date (λ d. in_standard_range 9_999 (unsigned_abs d.iso_year)
-    (standard_year_text m.padding m.sign_is_mandatory d.iso_year))
-current_outcome (component.IsoYearCenturyExtendedRange m) f =
-    of_group f.date (λ d. done
-    (extended_century_text m.padding m.sign_is_mandatory (int_lt d.iso_year (pos 0)) (century_of d.iso_year)))
-current_outcome (component.IsoYearCenturyStandardRange m) f =
-    of_group f.date (λ d. in_standard_range 99 (century_of d.iso_year)
-    (standard_century_text m.padding m.sign_is_mandatory (int_lt d.iso_year (pos 0)) (century_of d.iso_year)))
-current_outcome (component.IsoYearLastTwo m) f =
-    of_group f.date (λ d. done (padded_text m.padding 2 (unsigned_abs d.iso_year % 100)))
-current_outcome (component.Hour12 m) f = of_group f.time (λ t. done (padded_text m.padding 2 (hour_12 t.hour)))
-current_outcome (component.Hour24 m) f = of_group f.time (λ t. done (padded_text m.padding 2 t.hour))
-current_outcome (component.Minute m) f = of_group f.time (λ t. done (padded_text m.padding 2 t.minute))
-current_outcome (component.Period m) f = of_group f.time (λ t. done (period_text (period_of t) m.is_uppercase))
-current_outcome (component.Second m) f = of_group f.time (λ t. done (padded_text m.padding 2 t.second))
-current_outcome (component.Subsecond m) f = of_group f.time (λ t. done (subsecond_text m.digits t.nanosecond))
-current_outcome (component.OffsetHour m) f =
-    of_group f.offset (λ o. done (offset_hour_text m.padding m.sign_is_mandatory (is_negative o) o.hours))
-current_outcome (component.OffsetMinute m) f =
-    of_group f.offset (λ o. done (padded_text m.padding 2 (unsigned_abs o.minutes)))
-current_outcome (component.OffsetSecond m) f =
-    of_group f.offset (λ o. done (padded_text m.padding 2 (unsigned_abs o.seconds)))
-current_outcome (component.UnixTimestampSecond m) f =
-    of_group f.moment (λ s. done (timestamp_text m.sign_is_mandatory s.seconds))
-current_outcome (component.UnixTimestampMillisecond m) f =
-    of_group f.moment (λ s. done (timestamp_text m.sign_is_mandatory (milliseconds s)))
-current_outcome (component.Ignore m) f = done []
-current_outcome (component.End m) f = done []
-current_outcome c f = done []
+current_outcome c f = if has_group (group_of c) f then supplied_outcome c f else refused insufficient
 
 -- a deprecated component has the outcome of the current one
 abbrev pub component_outcome : Component → Facts → Outcome

@@ -3,6 +3,7 @@ pub mod Decimals
 pub mod Description
 pub mod Errors
 pub mod Guarantee
+pub mod Kind
 pub mod Laws
 pub mod Longest
 pub mod Lossy

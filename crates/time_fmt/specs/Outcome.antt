@@ -6,7 +6,7 @@ use Rattle.time_below.specs.ComponentRange.{RangeRefusal, range_refusal}
 use Rattle.time_fmt.specs.declared.error.Format.{Format}
 use Rattle.time_fmt.specs.declared.error.Format.TheVariants as error
 
--- what a description may refuse: the want of memory is none of it
+-- what a description may refuse; being out of memory is no refusal
 pub data Refusal : Type 0 where
   insufficient : Refusal
   invalid_component : List ℕ → Refusal

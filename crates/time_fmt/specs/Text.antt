@@ -1,6 +1,5 @@
--- The texts of numbers and signs, and those of the components of a time, an offset and a timestamp.
-use Rattle.std.specs.Prelude.{ℕ, ◌+◌, ◌%◌, ◌++◌, Bool, List, [], codes, decimal, take, ℤ, pos, int_lt, unsigned_abs}
-use Rattle.std.specs.Prelude.{if◌then◌else◌}
+-- The texts of numbers and signs, and those of a time of day.
+use Rattle.std.specs.Prelude.{ℕ, ◌+◌, ◌%◌, Bool, List, [], codes, decimal, take, if◌then◌else◌}
 use Rattle.time_digits.specs.Digits.{fixed, zero_padded, space_padded}
 use Rattle.time_digits.specs.Fraction.{trimmed_fraction}
 use Rattle.time_below.specs.declared.period.Period.{Period}
@@ -33,12 +32,3 @@ period_text Pm is_uppercase = if is_uppercase then codes "PM" else codes "pm"
 abbrev pub subsecond_text : SubsecondDigits → ℕ → List ℕ
 subsecond_text digits.OneOrMore nanosecond = trimmed_fraction nanosecond
 subsecond_text digits nanosecond = take (subsecond_width digits) (fixed 9 nanosecond)
-
--- the sign of the whole offset, and the magnitude of its hour
-abbrev pub offset_hour_text : Padding → Bool → Bool → ℤ → List ℕ
-offset_hour_text p sign_is_mandatory is_negative hour =
-    sign_text is_negative sign_is_mandatory ++ padded_text p 2 (unsigned_abs hour)
-
--- a signed number by all its digits
-abbrev pub timestamp_text : Bool → ℤ → List ℕ
-timestamp_text sign_is_mandatory n = sign_text (int_lt n (pos 0)) sign_is_mandatory ++ decimal (unsigned_abs n)

@@ -51,12 +51,12 @@ pub trait Formattable: ComputeMetadata {
             (outcome_of self.now (V.facts value.now)) }
         ensures agrees { V.agrees state.new value.now };
 
-    /// Appends the text of the value, after one reservation where the room is missing, of the width
-    /// or of twice the capacity, whichever is more.
+    /// Appends the text of the value. Reserves once if there is too little room: the width, or twice
+    /// the capacity if that is more.
     ///
-    /// Answers the number of bytes appended, or the refusal that ends the text; what was appended
-    /// before it stays. Where the reservation is refused, or the width has reached the greatest
-    /// `usize`, the answer is the want of memory, and the output and the state are as they were.
+    /// Returns the number of bytes appended, or the refusal that ends the text; what was appended
+    /// before it stays. If the reservation fails, or the width has reached the greatest `usize`, the
+    /// result is `OutOfMemory`, and output and state are unchanged.
     fn format_into<V: ComponentProvider>(
         &self,
         output: &mut Vec<u8>,
@@ -85,7 +85,7 @@ pub trait Formattable: ComputeMetadata {
             → max (2 * vec_capacity output.old) (vec_len output.old + Self.width_of self.now)
             ≤ vec_capacity output.new }
 
-        // The want of memory changes nothing, and where there is room it is never answered.
+        // `OutOfMemory` changes nothing, and is never returned where there is room.
         ensures unchanged { result ≡ Err Format.OutOfMemory → output.new.items ≡ output.old.items }
         ensures same_capacity { result ≡ Err Format.OutOfMemory
             → vec_capacity output.new ≡ vec_capacity output.old }
@@ -105,8 +105,8 @@ pub trait Formattable: ComputeMetadata {
     /// The text of the value, after one reservation; bytes that are no UTF-8, which only byte
     /// literals make, are read as a whole with U+FFFD for what is no character.
     ///
-    /// Where the reservation is refused, or the width has reached the greatest `usize`, or memory is
-    /// refused for the reading of bytes that are no UTF-8, the answer is the want of memory.
+    /// The result is `OutOfMemory` if an allocation fails, for the text or for reading bytes that are no
+    /// UTF-8, or if the width has reached the greatest `usize`.
     fn format<V: ComponentProvider>(
         &self,
         alloc: Global,
@@ -129,7 +129,7 @@ pub trait Formattable: ComputeMetadata {
             → IsSomeAnd (outcome_of self.now (V.facts value.now)).refusal (Names e)) }
         ensures agrees { V.agrees state.new value.now }
 
-        // The want of memory leaves the state, where the outcome has a refusal or its bytes are text.
+        // `OutOfMemory` leaves the state unchanged where the outcome has a refusal or is UTF-8.
         ensures same_state { result ≡ Err Format.OutOfMemory
             → IsRefusedOrText (outcome_of self.now (V.facts value.now)) → state.new ≡ state.old }
         ensures too_wide { usize.MAX ≤ Self.width_of self.now → result ≡ Err Format.OutOfMemory }

@@ -1,12 +1,15 @@
 //! The choices of one component: what it is, how wide it is and how it is written, in one place.
-ghost use Rattle.std.specs.Prelude.{◌≡◌};
+ghost use Rattle.std.specs.Prelude.{◌≡◌, IsTrue, if◌then◌else◌};
 ghost use Rattle.time_below.specs.declared.format_description.component.Component.{Component};
+ghost use Rattle.time_below.specs.declared.format_description.component.Group.{Group};
+ghost use Rattle.time_below.specs.Facts.{Facts};
 ghost use Rattle.time_below.specs.Width.{component_width};
-ghost use Rattle.time_fmt.specs.Description.{component_outcome};
-ghost use Rattle.time_fmt.specs.Outcome.{AppendsWhole};
+ghost use Rattle.time_fmt.specs.Description.{component_outcome, supplied_outcome, has_group, is_supplied};
+ghost use Rattle.time_fmt.specs.Outcome.{AppendsWhole, refused, insufficient};
 ghost use Rattle.time_fmt.specs.Room.{HasRoom};
 
 use crate::error::Format;
+use time_below::format_description::Group;
 use time_provide::ComponentProvider;
 
 /// The choices of one component, whose type says which component it is.
@@ -18,14 +21,39 @@ pub trait Modifier: Copy {
     /// The component with these choices.
     ghost component_of: { Self → Component };
 
+    ghost GROUP: { Group };
+
+    /// The part of a value that the component is taken from.
+    const GROUP: Group;
+
     /// The most bytes that its text has, whatever the value.
     fn width(self) -> usize
         ensures { result ≡ component_width (component_of self) };
 
+    /// Appends its text where there is room for its width, of a value that supplies its group. Takes
+    /// no memory.
+    ///
+    /// Answers the number of bytes appended, or the refusal of the component, which has no bytes.
+    fn write_supplied<V: ComponentProvider>(
+        self,
+        output: &mut Vec<u8>,
+        value: &V,
+        state: &mut V::State,
+    ) -> Result<usize, Format>
+        requires supplied { IsTrue (is_supplied V.SUPPLIES_DATE V.SUPPLIES_TIME
+            V.SUPPLIES_OFFSET V.SUPPLIES_TIMESTAMP GROUP) }
+        requires room { HasRoom output.old (component_width (component_of self)) }
+        requires agrees { V.agrees state.old value.now }
+        ensures appends { AppendsWhole (component_width (component_of self))
+            output.old output.new result
+            (supplied_outcome (component_of self) (V.facts value.now)) }
+        ensures agrees { V.agrees state.new value.now };
+
     /// Appends its text where there is room for its width. Takes no memory.
     ///
     /// Answers the number of bytes appended, or the refusal of the component, which has no bytes.
-    fn write<V: ComponentProvider>(
+    #[inline(always)]
+    final fn write<V: ComponentProvider>(
         self,
         output: &mut Vec<u8>,
         value: &V,
@@ -36,5 +64,32 @@ pub trait Modifier: Copy {
         ensures appends { AppendsWhole (component_width (component_of self))
             output.old output.new result
             (component_outcome (component_of self) (V.facts value.now)) }
-        ensures agrees { V.agrees state.new value.now };
+        ensures agrees { V.agrees state.new value.now }
+    {
+        if !supplies::<V>(Self::GROUP) {
+            return Err(Format::InsufficientTypeInformation);
+        }
+        self.write_supplied(output, value, state)
+    }
+
+    // The component is of its group, and is not deprecated.
+    ghost grouped: { (part : Self) (f : Facts) → component_outcome (component_of part) f
+        ≡ (if has_group GROUP f then supplied_outcome (component_of part) f
+        else refused insufficient) };
+}
+
+// Whether the values of a type supply a group. No more than `inline`: with `inline(always)` a text of
+// 16 parts that is used in four places was no longer part of its callers.
+#[inline]
+pub(crate) fn supplies<V: ComponentProvider>(group: Group) -> bool
+    ensures { result ≡ is_supplied V.SUPPLIES_DATE V.SUPPLIES_TIME
+        V.SUPPLIES_OFFSET V.SUPPLIES_TIMESTAMP group }
+{
+    match group {
+        Group::Date => V::SUPPLIES_DATE,
+        Group::Time => V::SUPPLIES_TIME,
+        Group::Offset => V::SUPPLIES_OFFSET,
+        Group::Timestamp => V::SUPPLIES_TIMESTAMP,
+        Group::None => true,
+    }
 }

@@ -12,8 +12,8 @@ use std::test::Fail;
 use time_below::{ComponentRange, Time};
 
 #[test]
-fn a_time_of_day(rt: HostRuntime) {
-    let time = time_at(&rt, 23, 59, 59, 999_999_999);
+fn a_time_has_its_parts(rt: HostRuntime) {
+    let time = time_at(&rt, (23, 59, 59, 999_999_999));
     assert_same(&rt, time.as_hms_nano(), (23, 59, 59, 999_999_999));
     assert_same(&rt, time.hour(), 23);
 }
@@ -26,7 +26,7 @@ const REFUSED: &[(u8, u8, u8, u32, &str)] = &[
 ];
 
 #[test]
-fn refused_times(rt: HostRuntime) {
+fn refuses_a_time_by_its_first_part_out_of_range(rt: HostRuntime) {
     for &(hour, minute, second, nanosecond, name) in REFUSED {
         let Err(refusal) = Time::from_hms_nano(hour, minute, second, nanosecond) else {
             panic!(rt; "accepted {name}");
@@ -36,7 +36,7 @@ fn refused_times(rt: HostRuntime) {
 }
 
 #[test]
-fn refusals_are_shown(rt: HostRuntime) -> Result<(), Fail> {
+fn a_refusal_is_shown_with_its_condition(rt: HostRuntime) -> Result<(), Fail> {
     let hour = ComponentRange::unconditional("hour");
     assert_same(
         &rt,
@@ -53,7 +53,7 @@ fn refusals_are_shown(rt: HostRuntime) -> Result<(), Fail> {
 }
 
 #[test]
-fn parts_of_a_refusal(rt: HostRuntime) {
+fn a_refusal_has_a_name_and_a_condition(rt: HostRuntime) {
     let refusal = ComponentRange::conditional("day");
     assert_same(&rt, refusal.name(), "day");
     assert_that(&rt, refusal.is_conditional());

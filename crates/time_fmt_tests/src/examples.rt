@@ -14,7 +14,7 @@ use time_fmt::parts::*;
 
 /// Appends a date and time as `1997-11-12 09:55:06`: what the list of these eleven items gives.
 ///
-/// Answers the number of bytes appended, or the want of memory.
+/// Returns the number of bytes appended, or `OutOfMemory`.
 pub fn append_date_time(line: &mut Vec<u8>, moment: &OffsetDateTime) -> Result<usize, Format>
     ensures as_list { result ≢ Err Format.OutOfMemory
         → Adds line.old line.new result

@@ -1,5 +1,33 @@
 //! Components, descriptions and writers: the texts, counts and widths of worked rows, and what happens
 //! where memory is refused.
+
+/// Rows of a value, a component by its choices, and the text of that component.
+macro_rules! rows {
+    ($($value:expr => $name:ident { $($choice:ident: $chosen:expr),* } $text:literal,)+) => {
+        &[$(($value, Component::$name(modifier::$name { $($choice: $chosen),* }), $text)),+]
+    };
+}
+
+/// Rows of a value and a component that has a padding alone, with its texts by zeros, spaces and nothing.
+macro_rules! padded {
+    ($($value:expr => $name:ident $zeros:literal $spaces:literal $plain:literal,)+) => {
+        rows! {$(
+            $value => $name { padding: Padding::Zero } $zeros,
+            $value => $name { padding: Padding::Space } $spaces,
+            $value => $name { padding: Padding::None } $plain,
+        )+}
+    };
+}
+
+/// Rows of a value and a component that has a padding and a sign, whether the sign is mandatory, and the text.
+macro_rules! signed {
+    ($($value:expr => $name:ident $padding:ident $sign:literal $text:literal,)+) => {
+        rows! {$(
+            $value => $name { padding: Padding::$padding, sign_is_mandatory: $sign } $text,
+        )+}
+    };
+}
+
 mod components_table;
 mod dates;
 mod errors;
@@ -12,5 +40,6 @@ mod parts;
 mod sizes;
 mod times;
 mod trees;
+mod v3;
 mod widths;
 mod writers;

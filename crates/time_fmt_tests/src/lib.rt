@@ -4,6 +4,8 @@
 
 #[cfg(test)]
 mod below;
+#[cfg(test)]
+mod digits;
 pub mod examples;
 #[cfg(test)]
 mod fmt;

@@ -19,7 +19,7 @@ use Rattle.time_known.proofs.OutcomeLemmas.{IsYearWithin, within}
 use Rattle.time_known.proofs.StampLemmas.{year_within, stamp_year, stamp_done, default_is_whole, stamps_are_completed}
 use Rattle.time_known.proofs.StampLemmas.{year_refused}
 
--- the want of memory
+-- the result of a failed allocation
 abbrev pub no_memory : Result ℕ Format
 no_memory = Err error.OutOfMemory
 
@@ -103,7 +103,7 @@ completed_years (Err e) {v = v} a some = (
   λ year. absurd (named_none (stamp_of v) e (not_refused v year) (a.appends some).named),
 )
 
--- an error other than the want of memory refuses the year
+-- an error other than `OutOfMemory` refuses the year
 refused_year : (old new : Vec ℕ Global) (v : DateAndTime) (e : Format) → Adds old new (Err e) (stamp_of v)
     → stamp_of v ≡ refused (invalid_component (codes "year"))
 refused_year old new v e adds =
@@ -125,7 +125,7 @@ adds_nothing old new v e adds =
     adds.appended ∙ ap (λ (o : Outcome). old.items ++ o.bytes) (refused_year old new v e adds)
     ∙ append-nil old.items
 
--- any error but one is not the want of memory
+-- any error but one is not `OutOfMemory`
 not_memory : {e : Format} → e ≢ error.OutOfMemory → ◌≢◌ {A = Result ℕ Format} (Err e) no_memory
 not_memory {e} other same = other cc
 

@@ -1,23 +1,21 @@
 //! RFC 2822.
-ghost use Rattle.std.specs.Prelude.{◌≡◌, ◌+◌, IsTrue, IfOk, IfErr, true, unsigned_abs};
-ghost use Rattle.time_below.specs.Facts.{the_date, the_time, the_offset};
-ghost use Rattle.time_fmt.specs.Outcome.{refused, invalid_component};
-ghost use Rattle.time_fmt.specs.Room.{HasRoom, WritesUpTo};
-ghost use Rattle.time_provide.specs.Real.{AgreesOnTime};
-ghost use Rattle.time_known.specs.Groups.{Accepts, AreAllSupplied, SuppliesDateIn, at_groups};
+ghost use Rattle.std.specs.Prelude.{true};
+ghost use Rattle.time_below.specs.Weekday.{days_from_monday};
 ghost use Rattle.time_known.specs.Longest.{FillsRfc2822Width};
 ghost use Rattle.time_known.specs.ReadBack.{ReadsAs};
-ghost use Rattle.time_known.specs.Rfc2822.{rfc2822_outcome, rfc2822_of_groups, rfc2822_text, named_date_text, date_text};
+ghost use Rattle.time_known.specs.Rfc2822.{rfc2822_of_fields, rfc2822_outcome, named_date_of_fields, day_of_fields};
 ghost use Rattle.time_known.specs.Rfc2822.{rfc2822_width, named_date_width, date_width};
 ghost use Rattle.time_known.specs.Rfc2822Grammar.{Rfc2822Spells, to_whole_second};
+ghost use Rattle.time_known.specs.Sink.{Fits, PutsUpTo};
 
+use crate::accepted::accepted_year_of;
+use crate::fields::{Fields, fields_of};
 use crate::groups::Groups;
-use crate::pieces::{
-    four_digit_year, put_back, take_out, write_clock, write_four_digits, write_month_name,
-    write_pair, write_signed_offset, write_weekday_name,
+use crate::put::{
+    put_clock, put_four_digits, put_month_name, put_pair, put_signed_offset, put_weekday_name,
 };
-use time_digits::ru16;
-use time_fmt::writers::write;
+use crate::sink::{Sink, Text, append};
+use time_below::Weekday;
 use time_fmt::{ComputeMetadata, Format, Formattable, Metadata};
 use time_provide::ComponentProvider;
 
@@ -60,108 +58,75 @@ impl Formattable for Rfc2822 {
         if !Groups::ALL.are_supplied_by::<V>() {
             return Err(Format::InsufficientTypeInformation);
         }
-        match accepted_year(value, state) {
+        match accepted_year_of(1900, 25, value, state) {
             Ok(year) => {
-                let mut taken = take_out(output);
-                let count = append_date_time(&mut taken, year, value, state);
-                put_back(output, taken);
-                Ok(count)
+                let weekday = value.weekday(state);
+                let fields = fields_of(year, value, state);
+                Ok(append(output, &Rfc2822Text { weekday, fields }))
             }
-            Err(name) => Err(Format::InvalidComponent(name)),
+            Err(component) => Err(Format::InvalidComponent(component.name())),
         }
     }
 }
 
-// The year of four digits, or the name of the first component that has no place in such a text.
-#[inline]
-fn accepted_year<V: ComponentProvider>(
-    value: &V,
-    state: &mut V::State,
-) -> Result<ru16<0, 9_999>, &'static str>
-    requires supplied { AreAllSupplied V.SUPPLIES_DATE V.SUPPLIES_TIME V.SUPPLIES_OFFSET }
-    requires agrees { V.agrees state.old value.now }
-    ensures refused { IfErr result
-        (λ name. at_groups rfc2822_of_groups (V.facts value.now)
-        ≡ refused (invalid_component name.now)) }
-    ensures accepted { IfOk result
-        (Accepts rfc2822_of_groups rfc2822_text (V.facts value.now)) }
-    ensures agrees { V.agrees state.new value.now }
-{
-    let Some(year) = four_digit_year(value.calendar_year(state), 1900) else {
-        return Err("year");
-    };
-    if value.offset_second(state).get() != 0 {
-        return Err("offset_second");
+/// The text of fields of which nothing is refused, and of the weekday of their date.
+#[derive(Clone, Copy)]
+pub struct Rfc2822Text {
+    /// The weekday.
+    pub weekday: Weekday,
+    /// The fields.
+    pub fields: Fields,
+}
+
+impl Text for Rfc2822Text {
+    ghost width = { λ _. rfc2822_width };
+
+    ghost text = { λ t. rfc2822_of_fields (days_from_monday t.weekday) t.fields };
+
+    #[inline(always)]
+    fn put_into<S: Sink>(&self, output: &mut S) {
+        put_rfc2822(output, self.weekday, &self.fields);
     }
-    Ok(year)
 }
 
-// Appends `date-time`, of this year, in pieces that are inlined.
+// Puts `date-time`.
 #[inline(always)]
-#[tactic(auto, using(crate::proofs::LengthLemmas::joined_lengths))]
-fn append_date_time<V: ComponentProvider>(
-    output: &mut Vec<u8>,
-    year: ru16<0, 9_999>,
-    value: &V,
-    state: &mut V::State,
-) -> usize
-    requires supplied { AreAllSupplied V.SUPPLIES_DATE V.SUPPLIES_TIME V.SUPPLIES_OFFSET }
-    requires year { year ≡ unsigned_abs (the_date (V.facts value.now)).year }
-    requires room { HasRoom output.old rfc2822_width }
-    requires agrees { V.agrees state.old value.now }
-    ensures writes { WritesUpTo rfc2822_width output.old output.new result
-        (at_groups rfc2822_text (V.facts value.now)) }
-    ensures agrees { AgreesOnTime (V.agrees state.new value.now) (V.facts value.now) }
+fn put_rfc2822<S: Sink>(output: &mut S, weekday: Weekday, fields: &Fields)
+    requires room { Fits rfc2822_width (S.buffer output.old) }
+    ensures puts { PutsUpTo rfc2822_width (S.buffer output.old) (S.buffer output.new)
+        (rfc2822_of_fields (days_from_monday weekday) fields.now) }
 {
-    let date = write_named_date(output, year, value, state);
-    let space = write(output, " ");
-    let time = write_clock(output, value, state, ":");
-    let second_space = write(output, " ");
-    date + space + time + second_space + write_signed_offset(output, value, state, "")
+    put_named_date(output, weekday, fields);
+    output.put(" ");
+    put_clock(output, &fields.time, ":");
+    output.put(" ");
+    put_signed_offset(output, &fields.offset, "");
 }
 
-// Appends `day-of-week "," date`, of this year.
+// Puts `day-of-week "," date`.
 #[inline(always)]
 #[tactic(auto, using(crate::proofs::LengthLemmas::joined_lengths))]
-fn write_named_date<V: ComponentProvider>(
-    output: &mut Vec<u8>,
-    year: ru16<0, 9_999>,
-    value: &V,
-    state: &mut V::State,
-) -> usize
-    requires date { SuppliesDateIn year V.SUPPLIES_DATE (V.facts value.now) }
-    requires room { HasRoom output.old named_date_width }
-    requires agrees { V.agrees state.old value.now }
-    ensures writes { WritesUpTo named_date_width output.old output.new result
-        (named_date_text (the_date (V.facts value.now))) }
-    ensures agrees { V.agrees state.new value.now }
+fn put_named_date<S: Sink>(output: &mut S, weekday: Weekday, fields: &Fields)
+    requires room { Fits named_date_width (S.buffer output.old) }
+    ensures puts { PutsUpTo named_date_width (S.buffer output.old) (S.buffer output.new)
+        (named_date_of_fields (days_from_monday weekday) fields.now) }
 {
-    let weekday = write_weekday_name(output, value.weekday(state));
-    let comma = write(output, ", ");
-    weekday + comma + write_date(output, year, value, state)
+    put_weekday_name(output, weekday);
+    output.put(", ");
+    put_day(output, fields);
 }
 
-// Appends `date`, of this year. The day is read first, since its computation gives the month too.
+// Puts `date`.
 #[inline(always)]
 #[tactic(auto, using(crate::proofs::LengthLemmas::joined_lengths))]
-fn write_date<V: ComponentProvider>(
-    output: &mut Vec<u8>,
-    year: ru16<0, 9_999>,
-    value: &V,
-    state: &mut V::State,
-) -> usize
-    requires date { SuppliesDateIn year V.SUPPLIES_DATE (V.facts value.now) }
-    requires room { HasRoom output.old date_width }
-    requires agrees { V.agrees state.old value.now }
-    ensures writes { WritesUpTo date_width output.old output.new result
-        (date_text (the_date (V.facts value.now))) }
-    ensures agrees { V.agrees state.new value.now }
+fn put_day<S: Sink>(output: &mut S, fields: &Fields)
+    requires room { Fits date_width (S.buffer output.old) }
+    ensures puts { PutsUpTo date_width (S.buffer output.old) (S.buffer output.new)
+        (day_of_fields fields.now) }
 {
-    let day = value.day(state);
-    let month = value.month(state);
-    let count = write_pair(output, day.expand());
-    let space = write(output, " ");
-    let name = write_month_name(output, month);
-    let second_space = write(output, " ");
-    count + space + name + second_space + write_four_digits(output, year)
+    put_pair(output, fields.day.expand());
+    output.put(" ");
+    put_month_name(output, fields.month);
+    output.put(" ");
+    put_four_digits(output, fields.year);
 }

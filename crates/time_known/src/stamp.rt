@@ -14,10 +14,9 @@ use time_provide::DateState;
 /// default configuration of ISO 8601. Of two stamps the one whose bytes come first is that of the
 /// earlier moment.
 ///
-/// Answers 30, the number of bytes appended. A year outside 0 to 9,999 is refused as the component
-/// `year`, and nothing is appended. Where the room for the 35 bytes of the format's width is missing,
-/// one reservation makes it; where that is refused, the answer is the want of memory, and the output
-/// is as it was.
+/// Returns 30, the number of bytes appended. A year outside 0 to 9,999 is refused as the component
+/// `year`, and nothing is appended. Reserves once if there is no room for the 35 bytes of the format's
+/// width. If that fails, the result is `OutOfMemory`, and the output is unchanged.
 pub fn stamp_into(output: &mut Vec<u8>, value: &UtcDateTime) -> Result<usize, Format>
     ensures appended { IfOk result
         (λ _. output.new.items ≡ output.old.items ++ stamp_text value.now) }
@@ -39,7 +38,7 @@ pub fn stamp_into(output: &mut Vec<u8>, value: &UtcDateTime) -> Result<usize, Fo
     ensures bounded { vec_capacity output.new
         ≤ max (2 * vec_capacity output.old) (vec_len output.old + stamp_width) }
 
-    // The want of memory leaves the capacity, and where there is room it is never answered.
+    // `OutOfMemory` leaves the capacity unchanged, and is never returned where there is room.
     ensures same_capacity { result ≡ Err Format.OutOfMemory
         → vec_capacity output.new ≡ vec_capacity output.old }
     ensures room { HasRoom output.old stamp_width → result ≢ Err Format.OutOfMemory }

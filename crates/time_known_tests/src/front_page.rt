@@ -1,4 +1,4 @@
-//! The recipes of the front page of the repository.
+//! The recipes of `docs/RECIPES.md`, which shows each of them word for word.
 ghost use Rattle.std.specs.Prelude.{◌≡◌, vec_capacity};
 
 #[cfg(test)]
@@ -7,23 +7,31 @@ mod tests;
 use std::alloc::Global;
 use std::default::Default;
 use time_below::format_description::modifier::{
-    CalendarYearFullStandardRange, Day, MonthLong, Padding,
+    CalendarYearFullStandardRange, Day, Hour12, MonthLong, Padding,
 };
 use time_below::format_description::{BorrowedFormatItem, Component};
-use time_below::{Date, OffsetDateTime, Timestamp, UtcDateTime};
+use time_below::{Date, OffsetDateTime, Time, Timestamp, UtcDateTime, UtcOffset};
 use time_digits::ru8;
 use time_fmt::parts::*;
 use time_fmt::{ComponentProvider, ComputeMetadata, Format, TimestampState};
-use time_known::iso8601::{Config, DecimalSign, TimePrecision};
+use time_known::iso8601::{Config, DateKind, DecimalSign, FormattedComponents, TimePrecision};
 use time_known::{Iso8601, Rfc2822, Rfc3339, stamp_into};
 
-/// Appends the time of a log line such as `09:55:06.120`, and answers the number of its bytes.
+/// Appends the time of a log line such as `09:55:06.120`, and returns the number of its bytes.
 pub fn append_log_time(line: &mut Vec<u8>, moment: &OffsetDateTime) -> Result<usize, Format> {
     text!(HOUR, b":", MINUTE, b":", SECOND, b".", THREE_DECIMALS).format_into(
         line,
         moment,
         &mut DateState::default(),
     )
+}
+
+/// Appends a time by the 12-hour clock, such as `9:55 AM`.
+pub fn append_clock(line: &mut Vec<u8>, time: &Time) -> Result<usize, Format> {
+    let hour = Hour12 {
+        padding: Padding::None,
+    };
+    text!(hour, b":", MINUTE, b" ", PERIOD).format_into(line, time, &mut ())
 }
 
 /// Appends a date such as `22 November 2026`, by a list that could be made when the program runs.
@@ -67,6 +75,14 @@ pub fn append_milliseconds(line: &mut Vec<u8>, moment: &OffsetDateTime) -> Resul
     Iso8601::new(config).format_into(line, moment, &mut DateState::default())
 }
 
+/// Appends a week date such as `2026-W47-7`: the year of the week, the week, the day from Monday.
+pub fn append_week_date(line: &mut Vec<u8>, date: &Date) -> Result<usize, Format> {
+    let config = Config::default()
+        .set_formatted_components(FormattedComponents::Date)
+        .set_date_kind(DateKind::Week);
+    Iso8601::new(config).format_into(line, date, &mut DateState::default())
+}
+
 /// Appends the moment of these Unix seconds such as `1970-01-01T00:00:00Z`, if it is one.
 pub fn append_unix_time(line: &mut Vec<u8>, seconds: i64) -> Option<Result<usize, Format>> {
     let Ok(timestamp) = Timestamp::new(seconds, 0) else {
@@ -75,23 +91,36 @@ pub fn append_unix_time(line: &mut Vec<u8>, seconds: i64) -> Option<Result<usize
     Some(Rfc3339.format_into(line, &timestamp, &mut TimestampState::default()))
 }
 
-/// Writes the text of any value by any description into a vector that is kept for all texts, in the
-/// place of the one before it. Takes no memory: a text that is wider than the vector is not begun.
+/// The moment of these Unix seconds as a local date and time at this offset, if it is one.
+pub fn at_offset(seconds: i64, offset: UtcOffset) -> Option<OffsetDateTime> {
+    let (offset_hours, offset_minutes, offset_seconds) = offset.as_hms();
+    let local_seconds = seconds
+        .saturating_add(offset_hours as i64 * 3600)
+        .saturating_add(offset_minutes as i64 * 60)
+        .saturating_add(offset_seconds as i64);
+    let Ok(local) = Timestamp::new(local_seconds, 0) else {
+        return None;
+    };
+    Some(OffsetDateTime::new_in_offset(local.date(), local.time(), offset))
+}
+
+/// Writes a text into a vector that is kept for all texts, in place of the text before. Never
+/// allocates: returns `None` if the vector is smaller than the width.
 pub fn write_kept<D: Formattable, V: ComponentProvider>(
     kept: &mut Vec<u8>,
     description: &D,
     value: &V,
     state: &mut V::State,
-) -> Result<usize, Format>
+) -> Option<Result<usize, Format>>
     requires { V.agrees state.old value.now }
     ensures { vec_capacity kept.new ≡ vec_capacity kept.old }
 {
     kept.clear();
     let width = description.compute_metadata().max_bytes_needed;
     if width == usize::MAX || kept.capacity() < width {
-        return Err(Format::OutOfMemory);
+        return None;
     }
-    description.write_into(kept, value, state)
+    Some(description.write_into(kept, value, state))
 }
 
 /// Appends an entry such as `2026-11-22T09:55:06.120000000Z up`, which sorts as its moment does.
@@ -114,6 +143,6 @@ pub fn reason(refusal: &Format) -> &'static str {
         Format::InsufficientTypeInformation => "the value has no such part",
         Format::InvalidComponent(name) => name,
         Format::ComponentRange(range) => range.name(),
-        Format::OutOfMemory => "memory was refused",
+        Format::OutOfMemory => "out of memory",
     }
 }

@@ -1,6 +1,6 @@
-//! The program formats by several descriptions, and tells what came of each call. Run by
-//! `rt try --fail-alloc N` it has the Nth of its requests for memory refused. A call that is refused
-//! leaves output and state as they were, and the same call then gives the right text.
+//! The program formats by several descriptions, and prints what came of each call. Under
+//! `rt try --fail-alloc N` its Nth allocation fails. A call whose allocation fails leaves output and
+//! state unchanged, and the same call then gives the right text.
 #![tactic(auto)]
 
 ghost use Rattle.std.specs.Prelude.{◌≡◌, ◌↔◌, if◌then◌else◌};
@@ -23,7 +23,7 @@ const STAMP: &str = "1997-11-12T09:55:06-06:00";
 enum Came {
     /// The right text at once.
     Right,
-    /// The want of memory, which changed nothing, and then the right text.
+    /// Out of memory, which changed nothing, and then the right text.
     RightAfterRefusal,
     /// Anything else.
     Wrong,
@@ -70,7 +70,7 @@ fn example() -> Option<OffsetDateTime> {
     Some(OffsetDateTime::new_in_offset(date, time, offset))
 }
 
-/// Appends the text to this vector, and once more where memory was refused.
+/// Appends the text to this vector, and once more after a failed allocation.
 fn appended<D: Formattable>(
     output: &mut Vec<u8>,
     description: &D,
@@ -106,7 +106,7 @@ fn appended_to_new<D: Formattable>(
     }
 }
 
-/// Formats the text, and once more where memory was refused.
+/// Formats the text, and once more after a failed allocation.
 fn formatted<D: Formattable>(
     alloc: Global,
     description: &D,

@@ -36,7 +36,7 @@ outcome_text width outcome = elim outcome.refusal [
 abbrev pub out_of_memory_name : List ℕ
 out_of_memory_name = codes "out-of-memory"
 
--- With ample memory the answer is this text, and for want of memory a value may be refused.
+-- The answer is this text. A value may be refused instead when an allocation fails.
 abbrev pub Answers : Asked → List ℕ → Type 0
 Answers no_command text = text ≡ bad_line_text
 Answers (no_value part) text = text ≡ refused_text 0 (part_name part)

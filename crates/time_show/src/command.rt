@@ -15,11 +15,11 @@ pub enum Command {
     Time(TimeNumbers),
     /// A local date and time with its offset, by RFC 3339.
     Rfc3339(DateTimeNumbers),
-    /// The same by RFC 2822.
+    /// A local date and time with its offset, by RFC 2822.
     Rfc2822(DateTimeNumbers),
-    /// The same by the default configuration of ISO 8601.
+    /// A local date and time with its offset, by the default configuration of ISO 8601.
     Iso(DateTimeNumbers),
-    /// The same with a comma before the decimals.
+    /// A local date and time with its offset, by ISO 8601 with a comma before the decimals.
     IsoComma(DateTimeNumbers),
     /// The stamp of a date and time in UTC.
     Stamp(UtcNumbers),

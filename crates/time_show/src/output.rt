@@ -238,7 +238,7 @@ impl OutputBuffer {
         self.append_any(output, count, width, text)
     }
 
-    /// The same by parts, of any length.
+    /// Puts an answer of any length beside what waits, part by part.
     #[inline(never)]
     fn append_any<W: Write>(
         &mut self,

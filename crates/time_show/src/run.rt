@@ -133,12 +133,12 @@ fn answer_last<W: Write>(
 
 /// Answers each line of the input, one after another.
 ///
-/// After `Ok` the input was read to its end, and all its lines were answered. After a failed read the
-/// whole lines so far were answered, and after a failed write some first lines, with a beginning of
-/// the answer to the next. That one has its line feed, unless the input has ended.
+/// `Ok` means that the input was read to its end and all its lines were answered. A failed read means
+/// that the whole lines so far were answered. A failed write means that some first lines were, with a
+/// beginning of the answer to the next, which has its line feed unless the input has ended.
 ///
 /// No clause says that reads go on as long as they succeed, nor how much memory is asked for; tests
-/// do. The body asks for the text of one answer at a time, and answers a refusal of that memory by
+/// do. The body allocates the text of one answer at a time, and answers a failed allocation by
 /// `refused 0 out-of-memory`.
 pub fn run<R: Read, W: Write>(alloc: Global, input: &mut R, output: &mut W) -> Result<(), ShowError>
     ensures end { OnOk result (IsAtEnd (R.remaining input.new)) }

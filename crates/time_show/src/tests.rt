@@ -19,7 +19,7 @@ fn assert_same<T: PartialEq + Debug + Copy>(rt: &impl Abort, found: T, wanted: T
     assert_eq!(rt; found, wanted);
 }
 
-/// The same, of one of many turns.
+/// Compares what one of many turns gave, and names the turn.
 fn assert_same_at<T: PartialEq + Debug + Copy>(rt: &impl Abort, found: T, wanted: T, turn: usize) {
     assert_eq!(rt; found, wanted, "at {turn}");
 }

@@ -7,7 +7,7 @@ use crate::format_description::modifier::{
 };
 use crate::format_description::{Component, modifier};
 
-// By the number or the name, as is chosen.
+// The number or the name of the month, by the choice.
 #[inline(never)]
 pub(crate) fn current_month(modifier: modifier::Month) -> Component
     ensures converted { result ≡ current_component (Component.Month modifier) }
@@ -26,7 +26,7 @@ pub(crate) fn current_month(modifier: modifier::Month) -> Component
     }
 }
 
-// By the name or a digit, as is chosen.
+// The name of the weekday or a digit, by the choice.
 #[inline(never)]
 pub(crate) fn current_weekday(modifier: modifier::Weekday) -> Component
     ensures converted { result ≡ current_component (Component.Weekday modifier) }
@@ -48,7 +48,7 @@ pub(crate) fn current_weekday(modifier: modifier::Weekday) -> Component
     }
 }
 
-// By the weeks that are chosen.
+// The week number of the chosen calendar.
 #[inline(never)]
 pub(crate) fn current_week_number(modifier: modifier::WeekNumber) -> Component
     ensures converted { result ≡ current_component (Component.WeekNumber modifier) }
@@ -67,7 +67,7 @@ pub(crate) fn current_week_number(modifier: modifier::WeekNumber) -> Component
     }
 }
 
-// Of the clock that is chosen.
+// The hour of the chosen clock.
 #[inline(never)]
 pub(crate) fn current_hour(modifier: modifier::Hour) -> Component
     ensures converted { result ≡ current_component (Component.Hour modifier) }
@@ -83,7 +83,7 @@ pub(crate) fn current_hour(modifier: modifier::Hour) -> Component
     }
 }
 
-// In the unit that is chosen.
+// The timestamp in the chosen unit.
 #[inline(never)]
 pub(crate) fn current_unix_timestamp(modifier: modifier::UnixTimestamp) -> Component
     ensures converted { result ≡ current_component (Component.UnixTimestamp modifier) }
@@ -103,7 +103,7 @@ pub(crate) fn current_unix_timestamp(modifier: modifier::UnixTimestamp) -> Compo
     }
 }
 
-// Of the calendar, the part and the range that are chosen.
+// The year by the chosen calendar, part and range.
 #[inline(never)]
 pub(crate) fn current_year(modifier: modifier::Year) -> Component
     ensures converted { result ≡ current_component (Component.Year modifier) }

@@ -114,6 +114,29 @@ pub enum FormatDescriptionV3Inner<'a> {
     OwnedFirst(Vec<Self>),
 }
 
+// A match in which each variant that is a component becomes the variant of the same name, with the
+// same choices. The other arms follow.
+macro_rules! same_named {
+    ($value:expr, $from:ident => $to:ident, $($other:pat => $answer:expr),+ $(,)?) => {
+        same_named!(@arms $value, $from => $to, [
+            Day MonthShort MonthLong MonthNumerical Ordinal WeekdayShort WeekdayLong WeekdaySunday
+            WeekdayMonday WeekNumberIso WeekNumberSunday WeekNumberMonday
+            CalendarYearFullExtendedRange CalendarYearFullStandardRange
+            CalendarYearCenturyExtendedRange CalendarYearCenturyStandardRange CalendarYearLastTwo
+            IsoYearFullExtendedRange IsoYearFullStandardRange IsoYearCenturyExtendedRange
+            IsoYearCenturyStandardRange IsoYearLastTwo Hour12 Hour24 Minute Period Second Subsecond
+            OffsetHour OffsetMinute OffsetSecond UnixTimestampSecond UnixTimestampMillisecond
+            Ignore End
+        ], $($other => $answer),+)
+    };
+    (@arms $value:expr, $from:ident => $to:ident, [$($name:ident)+], $($other:pat => $answer:expr),+) => {
+        match $value {
+            $($from::$name(choices) => $to::$name(choices),)+
+            $($other => $answer,)+
+        }
+    };
+}
+
 impl Node for FormatDescriptionV3Inner<'_> {
     ghost tree = { v3_tree };
 
@@ -121,73 +144,18 @@ impl Node for FormatDescriptionV3Inner<'_> {
 
     #[inline(always)]
     fn layer(&self) -> Layer<'_, Self> {
-        let component = match *self {
-            Self::Day(modifier) => Component::Day(modifier),
-            Self::MonthShort(modifier) => Component::MonthShort(modifier),
-            Self::MonthLong(modifier) => Component::MonthLong(modifier),
-            Self::MonthNumerical(modifier) => Component::MonthNumerical(modifier),
-            Self::Ordinal(modifier) => Component::Ordinal(modifier),
-            Self::WeekdayShort(modifier) => Component::WeekdayShort(modifier),
-            Self::WeekdayLong(modifier) => Component::WeekdayLong(modifier),
-            Self::WeekdaySunday(modifier) => Component::WeekdaySunday(modifier),
-            Self::WeekdayMonday(modifier) => Component::WeekdayMonday(modifier),
-            Self::WeekNumberIso(modifier) => Component::WeekNumberIso(modifier),
-            Self::WeekNumberSunday(modifier) => Component::WeekNumberSunday(modifier),
-            Self::WeekNumberMonday(modifier) => Component::WeekNumberMonday(modifier),
-            Self::CalendarYearFullExtendedRange(modifier) =>
-                Component::CalendarYearFullExtendedRange(modifier),
-            Self::CalendarYearFullStandardRange(modifier) =>
-                Component::CalendarYearFullStandardRange(modifier),
-            Self::CalendarYearCenturyExtendedRange(modifier) =>
-                Component::CalendarYearCenturyExtendedRange(modifier),
-            Self::CalendarYearCenturyStandardRange(modifier) =>
-                Component::CalendarYearCenturyStandardRange(modifier),
-            Self::CalendarYearLastTwo(modifier) => Component::CalendarYearLastTwo(modifier),
-            Self::IsoYearFullExtendedRange(modifier) => Component::IsoYearFullExtendedRange(
-                modifier,
-            ),
-            Self::IsoYearFullStandardRange(modifier) => Component::IsoYearFullStandardRange(
-                modifier,
-            ),
-            Self::IsoYearCenturyExtendedRange(modifier) => Component::IsoYearCenturyExtendedRange(
-                modifier,
-            ),
-            Self::IsoYearCenturyStandardRange(modifier) => Component::IsoYearCenturyStandardRange(
-                modifier,
-            ),
-            Self::IsoYearLastTwo(modifier) => Component::IsoYearLastTwo(modifier),
-            Self::Hour12(modifier) => Component::Hour12(modifier),
-            Self::Hour24(modifier) => Component::Hour24(modifier),
-            Self::Minute(modifier) => Component::Minute(modifier),
-            Self::Period(modifier) => Component::Period(modifier),
-            Self::Second(modifier) => Component::Second(modifier),
-            Self::Subsecond(modifier) => Component::Subsecond(modifier),
-            Self::OffsetHour(modifier) => Component::OffsetHour(modifier),
-            Self::OffsetMinute(modifier) => Component::OffsetMinute(modifier),
-            Self::OffsetSecond(modifier) => Component::OffsetSecond(modifier),
-            Self::UnixTimestampSecond(modifier) => Component::UnixTimestampSecond(modifier),
-            Self::UnixTimestampMillisecond(modifier) => Component::UnixTimestampMillisecond(
-                modifier,
-            ),
-            Self::Ignore(modifier) => Component::Ignore(modifier),
-            Self::End(modifier) => Component::End(modifier),
+        let component = same_named!(*self, FormatDescriptionV3Inner => Component,
             Self::BorrowedLiteral(ref text) => return Layer::Text(text),
             Self::OwnedLiteral(ref text) => return Layer::Text(text.as_str()),
             Self::BorrowedCompound(items) => return Layer::All(items),
             Self::OwnedCompound(ref items) => return Layer::All(items),
             Self::BorrowedOptional { format: false, .. }
-            | Self::OwnedOptional { format: false, .. } => {
-                return Layer::Nothing;
-            }
-            Self::BorrowedOptional { item, .. } => {
-                return Layer::Optional(item);
-            }
-            Self::OwnedOptional { ref item, .. } => {
-                return Layer::Optional(item);
-            }
+            | Self::OwnedOptional { format: false, .. } => return Layer::Nothing,
+            Self::BorrowedOptional { item, .. } => return Layer::Optional(item),
+            Self::OwnedOptional { ref item, .. } => return Layer::Optional(item),
             Self::BorrowedFirst(items) => return Layer::First(items),
             Self::OwnedFirst(ref items) => return Layer::First(items),
-        };
+        );
         Layer::Component(component)
     }
 }
@@ -197,70 +165,21 @@ impl From<Component> for FormatDescriptionV3Inner<'_> {
     ghost from_gives = { λ component inner. v3_tree inner ≡ of_component (current_component component) };
 
     fn from(component: Component) -> Self {
-        match component.current() {
-            Component::Day(modifier) => Self::Day(modifier),
-            Component::MonthShort(modifier) => Self::MonthShort(modifier),
-            Component::MonthLong(modifier) => Self::MonthLong(modifier),
-            Component::MonthNumerical(modifier) => Self::MonthNumerical(modifier),
-            Component::Ordinal(modifier) => Self::Ordinal(modifier),
-            Component::WeekdayShort(modifier) => Self::WeekdayShort(modifier),
-            Component::WeekdayLong(modifier) => Self::WeekdayLong(modifier),
-            Component::WeekdaySunday(modifier) => Self::WeekdaySunday(modifier),
-            Component::WeekdayMonday(modifier) => Self::WeekdayMonday(modifier),
-            Component::WeekNumberIso(modifier) => Self::WeekNumberIso(modifier),
-            Component::WeekNumberSunday(modifier) => Self::WeekNumberSunday(modifier),
-            Component::WeekNumberMonday(modifier) => Self::WeekNumberMonday(modifier),
-            Component::CalendarYearFullExtendedRange(modifier) =>
-                Self::CalendarYearFullExtendedRange(modifier),
-            Component::CalendarYearFullStandardRange(modifier) =>
-                Self::CalendarYearFullStandardRange(modifier),
-            Component::CalendarYearCenturyExtendedRange(modifier) =>
-                Self::CalendarYearCenturyExtendedRange(modifier),
-            Component::CalendarYearCenturyStandardRange(modifier) =>
-                Self::CalendarYearCenturyStandardRange(modifier),
-            Component::CalendarYearLastTwo(modifier) => Self::CalendarYearLastTwo(modifier),
-            Component::IsoYearFullExtendedRange(modifier) => Self::IsoYearFullExtendedRange(
-                modifier,
-            ),
-            Component::IsoYearFullStandardRange(modifier) => Self::IsoYearFullStandardRange(
-                modifier,
-            ),
-            Component::IsoYearCenturyExtendedRange(modifier) => Self::IsoYearCenturyExtendedRange(
-                modifier,
-            ),
-            Component::IsoYearCenturyStandardRange(modifier) => Self::IsoYearCenturyStandardRange(
-                modifier,
-            ),
-            Component::IsoYearLastTwo(modifier) => Self::IsoYearLastTwo(modifier),
-            Component::Hour12(modifier) => Self::Hour12(modifier),
-            Component::Hour24(modifier) => Self::Hour24(modifier),
-            Component::Minute(modifier) => Self::Minute(modifier),
-            Component::Period(modifier) => Self::Period(modifier),
-            Component::Second(modifier) => Self::Second(modifier),
-            Component::Subsecond(modifier) => Self::Subsecond(modifier),
-            Component::OffsetHour(modifier) => Self::OffsetHour(modifier),
-            Component::OffsetMinute(modifier) => Self::OffsetMinute(modifier),
-            Component::OffsetSecond(modifier) => Self::OffsetSecond(modifier),
-            Component::UnixTimestampSecond(modifier) => Self::UnixTimestampSecond(modifier),
-            Component::UnixTimestampMillisecond(modifier) => Self::UnixTimestampMillisecond(
-                modifier,
-            ),
-            Component::Ignore(modifier) => Self::Ignore(modifier),
-            Component::End(modifier) => Self::End(modifier),
+        same_named!(component.current(), Component => FormatDescriptionV3Inner,
             Component::Month(_)
             | Component::Weekday(_)
             | Component::WeekNumber(_)
             | Component::Hour(_)
             | Component::UnixTimestamp(_)
             | Component::Year(_) => unreachable!(),
-        }
+        )
     }
 }
 
 /// A description of the third version, with what is known of its text.
 ///
-/// It is walked by recursion: 1,000 levels of items in items are formatted on a stack of 8 MiB, as a
-/// test shows, and more than 34,000 were when it was measured, at up to 241 bytes a level.
+/// It is walked by recursion, so the stack bounds its depth. A test formats 1,000 levels of items in
+/// items; a level took at most 305 bytes of the stack when it was measured.
 #[derive(Drop)]
 pub struct FormatDescriptionV3<'a> {
     inner: FormatDescriptionV3Inner<'a>,

@@ -32,7 +32,7 @@ pub enum SubsecondDigits {
     Eight,
     /// Nanoseconds.
     Nine,
-    /// As many as are needed, at least one.
+    /// The fewest digits that show the fraction exactly, at least one.
     OneOrMore,
 }
 
@@ -55,14 +55,14 @@ pub struct Day {
 /// The first three letters of the month's English name.
 #[derive(Clone, Copy)]
 pub struct MonthShort {
-    /// For parsers alone.
+    /// Read by parsers alone.
     pub case_sensitive: bool,
 }
 
 /// The month's English name, at most nine letters.
 #[derive(Clone, Copy)]
 pub struct MonthLong {
-    /// For parsers alone.
+    /// Read by parsers alone.
     pub case_sensitive: bool,
 }
 
@@ -83,14 +83,14 @@ pub struct Ordinal {
 /// The first three letters of the weekday's English name.
 #[derive(Clone, Copy)]
 pub struct WeekdayShort {
-    /// For parsers alone.
+    /// Read by parsers alone.
     pub case_sensitive: bool,
 }
 
 /// The weekday's English name, at most nine letters.
 #[derive(Clone, Copy)]
 pub struct WeekdayLong {
-    /// For parsers alone.
+    /// Read by parsers alone.
     pub case_sensitive: bool,
 }
 
@@ -134,7 +134,7 @@ pub struct WeekNumberMonday {
 pub struct CalendarYearFullExtendedRange {
     /// What stands before a number of fewer than four digits.
     pub padding: Padding,
-    /// Whether a sign is also written where it is a plus.
+    /// Whether a plus is written before a number that is not negative.
     pub sign_is_mandatory: bool,
 }
 
@@ -143,7 +143,7 @@ pub struct CalendarYearFullExtendedRange {
 pub struct CalendarYearFullStandardRange {
     /// What stands before a number of fewer than four digits.
     pub padding: Padding,
-    /// Whether a sign is also written where it is a plus.
+    /// Whether a plus is written before a number that is not negative.
     pub sign_is_mandatory: bool,
 }
 
@@ -153,7 +153,7 @@ pub struct CalendarYearFullStandardRange {
 pub struct CalendarYearCenturyExtendedRange {
     /// What stands before a number of one digit.
     pub padding: Padding,
-    /// Whether a sign is also written where it is a plus.
+    /// Whether a plus is written before a number that is not negative.
     pub sign_is_mandatory: bool,
 }
 
@@ -162,7 +162,7 @@ pub struct CalendarYearCenturyExtendedRange {
 pub struct CalendarYearCenturyStandardRange {
     /// What stands before a number of one digit.
     pub padding: Padding,
-    /// Whether a sign is also written where it is a plus.
+    /// Whether a plus is written before a number that is not negative.
     pub sign_is_mandatory: bool,
 }
 
@@ -179,7 +179,7 @@ pub struct CalendarYearLastTwo {
 pub struct IsoYearFullExtendedRange {
     /// What stands before a number of fewer than four digits.
     pub padding: Padding,
-    /// Whether a sign is also written where it is a plus.
+    /// Whether a plus is written before a number that is not negative.
     pub sign_is_mandatory: bool,
 }
 
@@ -188,7 +188,7 @@ pub struct IsoYearFullExtendedRange {
 pub struct IsoYearFullStandardRange {
     /// What stands before a number of fewer than four digits.
     pub padding: Padding,
-    /// Whether a sign is also written where it is a plus.
+    /// Whether a plus is written before a number that is not negative.
     pub sign_is_mandatory: bool,
 }
 
@@ -198,7 +198,7 @@ pub struct IsoYearFullStandardRange {
 pub struct IsoYearCenturyExtendedRange {
     /// What stands before a number of one digit.
     pub padding: Padding,
-    /// Whether a sign is also written where it is a plus.
+    /// Whether a plus is written before a number that is not negative.
     pub sign_is_mandatory: bool,
 }
 
@@ -208,7 +208,7 @@ pub struct IsoYearCenturyExtendedRange {
 pub struct IsoYearCenturyStandardRange {
     /// What stands before a number of one digit.
     pub padding: Padding,
-    /// Whether a sign is also written where it is a plus.
+    /// Whether a plus is written before a number that is not negative.
     pub sign_is_mandatory: bool,
 }
 
@@ -245,7 +245,7 @@ pub struct Minute {
 pub struct Period {
     /// Whether the letters are capitals.
     pub is_uppercase: bool,
-    /// For parsers alone.
+    /// Read by parsers alone.
     pub case_sensitive: bool,
 }
 
@@ -268,7 +268,7 @@ pub struct Subsecond {
 pub struct OffsetHour {
     /// What stands before a number of one digit.
     pub padding: Padding,
-    /// Whether a sign is also written where it is a plus.
+    /// Whether a plus is written before a number that is not negative.
     pub sign_is_mandatory: bool,
 }
 
@@ -289,14 +289,14 @@ pub struct OffsetSecond {
 /// The seconds since 1970-01-01T00:00:00 UTC, rounded down, at most 14 digits.
 #[derive(Clone, Copy)]
 pub struct UnixTimestampSecond {
-    /// Whether a sign is also written where it is a plus.
+    /// Whether a plus is written before a number that is not negative.
     pub sign_is_mandatory: bool,
 }
 
 /// The milliseconds since 1970-01-01T00:00:00 UTC, rounded toward zero, at most 17 digits.
 #[derive(Clone, Copy)]
 pub struct UnixTimestampMillisecond {
-    /// Whether a sign is also written where it is a plus.
+    /// Whether a plus is written before a number that is not negative.
     pub sign_is_mandatory: bool,
 }
 
@@ -317,24 +317,24 @@ pub struct End {
 /// How a month is written.
 #[derive(Clone, Copy)]
 pub enum MonthRepr {
-    /// By its number, 1 to 12.
+    /// The number, 1 to 12.
     Numerical,
-    /// By its name.
+    /// The whole name.
     Long,
-    /// By the first three letters of its name.
+    /// The first three letters of the name.
     Short,
 }
 
 /// How a weekday is written.
 #[derive(Clone, Copy)]
 pub enum WeekdayRepr {
-    /// By the first three letters of its name.
+    /// The first three letters of the name.
     Short,
-    /// By its name.
+    /// The whole name.
     Long,
-    /// By a digit, from Sunday on.
+    /// A digit, counted from Sunday.
     Sunday,
-    /// By a digit, from Monday on.
+    /// A digit, counted from Monday.
     Monday,
 }
 
@@ -363,7 +363,7 @@ pub enum YearRepr {
 /// How great a year may be.
 #[derive(Clone, Copy)]
 pub enum YearRange {
-    /// From -9999 to 9999.
+    /// The years -9999 to 9999.
     Standard,
     /// Whatever its size.
     Extended,
@@ -381,22 +381,22 @@ pub enum UnixTimestampPrecision {
 /// Deprecated: a month, by its number or its name.
 #[derive(Clone, Copy)]
 pub struct Month {
-    /// Of the number alone.
+    /// The padding of the number; names have none.
     pub padding: Padding,
-    /// By the number or the name.
+    /// The number or the name.
     pub repr: MonthRepr,
-    /// For parsers alone.
+    /// Read by parsers alone.
     pub case_sensitive: bool,
 }
 
 /// Deprecated: a weekday, by its name or a digit.
 #[derive(Clone, Copy)]
 pub struct Weekday {
-    /// By the name or a digit.
+    /// The name or a digit.
     pub repr: WeekdayRepr,
     /// Whether the first day is 1, and not 0.
     pub one_indexed: bool,
-    /// For parsers alone.
+    /// Read by parsers alone.
     pub case_sensitive: bool,
 }
 
@@ -423,7 +423,7 @@ pub struct Hour {
 pub struct UnixTimestamp {
     /// The unit that is counted.
     pub precision: UnixTimestampPrecision,
-    /// Whether a sign is also written where it is a plus.
+    /// Whether a plus is written before a number that is not negative.
     pub sign_is_mandatory: bool,
 }
 
@@ -434,10 +434,10 @@ pub struct Year {
     pub padding: Padding,
     /// The whole year or a part of it.
     pub repr: YearRepr,
-    /// Of no effect on the last two digits.
+    /// The range of the whole year or the century; the last two digits have none.
     pub range: YearRange,
     /// Whether the year is that of the week calendar.
     pub iso_week_based: bool,
-    /// Whether a sign is also written where it is a plus.
+    /// Whether a plus is written before a number that is not negative.
     pub sign_is_mandatory: bool,
 }

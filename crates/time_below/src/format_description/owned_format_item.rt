@@ -6,8 +6,8 @@ use crate::format_description::{Component, Layer, Node};
 
 /// A description that owns its parts.
 ///
-/// It is walked by recursion: 1,000 levels of items in items are formatted on a stack of 8 MiB, as a
-/// test shows, and more than 34,000 were when it was measured, at up to 241 bytes a level.
+/// It is walked by recursion, so the stack bounds its depth. A test formats 1,000 levels of items in
+/// items; a level took at most 305 bytes of the stack when it was measured.
 #[derive(Drop)]
 pub enum OwnedFormatItem {
     /// Bytes, which need not be UTF-8.

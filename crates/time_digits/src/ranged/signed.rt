@@ -69,7 +69,7 @@ impl<const MAX: u8> ri8<MAX> {
         self.number < 0
     }
 
-    /// The same number with a greatest magnitude of at least `MAX`; nothing is tested.
+    /// Widens the bounds to a greatest magnitude of at least `MAX`. Nothing is tested.
     #[inline]
     pub fn expand<const HIGH: u8>(self) -> ri8<HIGH>
         requires greatest { MAX ≤ HIGH }
@@ -80,7 +80,7 @@ impl<const MAX: u8> ri8<MAX> {
         }
     }
 
-    /// The same number, where it lies in `-HIGH` to `HIGH`, else `None`.
+    /// Narrows the bounds to `-HIGH` to `HIGH`, or answers `None` if the number is outside.
     #[inline]
     pub fn narrow<const HIGH: u8>(self) -> Option<ri8<HIGH>>
         ensures { SomeIff result (unsigned_abs self.entry ≤ HIGH) self.entry }
@@ -154,7 +154,7 @@ impl<const MAX: u16> ri16<MAX> {
         self.number < 0
     }
 
-    /// The same number with a greatest magnitude of at least `MAX`; nothing is tested.
+    /// Widens the bounds to a greatest magnitude of at least `MAX`. Nothing is tested.
     #[inline]
     pub fn expand<const HIGH: u16>(self) -> ri16<HIGH>
         requires greatest { MAX ≤ HIGH }
@@ -165,7 +165,7 @@ impl<const MAX: u16> ri16<MAX> {
         }
     }
 
-    /// The same number, where it lies in `-HIGH` to `HIGH`, else `None`.
+    /// Narrows the bounds to `-HIGH` to `HIGH`, or answers `None` if the number is outside.
     #[inline]
     pub fn narrow<const HIGH: u16>(self) -> Option<ri16<HIGH>>
         ensures { SomeIff result (unsigned_abs self.entry ≤ HIGH) self.entry }
@@ -239,7 +239,7 @@ impl<const MAX: u32> ri32<MAX> {
         self.number < 0
     }
 
-    /// The same number with a greatest magnitude of at least `MAX`; nothing is tested.
+    /// Widens the bounds to a greatest magnitude of at least `MAX`. Nothing is tested.
     #[inline]
     pub fn expand<const HIGH: u32>(self) -> ri32<HIGH>
         requires greatest { MAX ≤ HIGH }
@@ -250,7 +250,7 @@ impl<const MAX: u32> ri32<MAX> {
         }
     }
 
-    /// The same number, where it lies in `-HIGH` to `HIGH`, else `None`.
+    /// Narrows the bounds to `-HIGH` to `HIGH`, or answers `None` if the number is outside.
     #[inline]
     pub fn narrow<const HIGH: u32>(self) -> Option<ri32<HIGH>>
         ensures { SomeIff result (unsigned_abs self.entry ≤ HIGH) self.entry }

@@ -52,7 +52,7 @@ impl<const MIN: u8, const MAX: u8> ru8<MIN, MAX> {
         self.number
     }
 
-    /// The same number in bounds that contain `MIN` to `MAX`; nothing is tested.
+    /// Widens the bounds to some that contain `MIN` to `MAX`. Nothing is tested.
     #[inline]
     pub fn expand<const LOW: u8, const HIGH: u8>(self) -> ru8<LOW, HIGH>
         requires least { LOW ≤ MIN }
@@ -64,7 +64,7 @@ impl<const MIN: u8, const MAX: u8> ru8<MIN, MAX> {
         }
     }
 
-    /// The same number, where it lies in `LOW` to `HIGH`, else `None`.
+    /// Narrows the bounds to `LOW` to `HIGH`, or answers `None` if the number is outside.
     #[inline]
     pub fn narrow<const LOW: u8, const HIGH: u8>(self) -> Option<ru8<LOW, HIGH>>
         ensures { SomeIff result ((LOW ≤ self.entry) × (self.entry ≤ HIGH)) self.entry }
@@ -122,7 +122,7 @@ impl<const MIN: u16, const MAX: u16> ru16<MIN, MAX> {
         self.number
     }
 
-    /// The same number in bounds that contain `MIN` to `MAX`; nothing is tested.
+    /// Widens the bounds to some that contain `MIN` to `MAX`. Nothing is tested.
     #[inline]
     pub fn expand<const LOW: u16, const HIGH: u16>(self) -> ru16<LOW, HIGH>
         requires least { LOW ≤ MIN }
@@ -134,7 +134,7 @@ impl<const MIN: u16, const MAX: u16> ru16<MIN, MAX> {
         }
     }
 
-    /// The same number, where it lies in `LOW` to `HIGH`, else `None`.
+    /// Narrows the bounds to `LOW` to `HIGH`, or answers `None` if the number is outside.
     #[inline]
     pub fn narrow<const LOW: u16, const HIGH: u16>(self) -> Option<ru16<LOW, HIGH>>
         ensures { SomeIff result ((LOW ≤ self.entry) × (self.entry ≤ HIGH)) self.entry }
@@ -192,7 +192,7 @@ impl<const MIN: u32, const MAX: u32> ru32<MIN, MAX> {
         self.number
     }
 
-    /// The same number in bounds that contain `MIN` to `MAX`; nothing is tested.
+    /// Widens the bounds to some that contain `MIN` to `MAX`. Nothing is tested.
     #[inline]
     pub fn expand<const LOW: u32, const HIGH: u32>(self) -> ru32<LOW, HIGH>
         requires least { LOW ≤ MIN }
@@ -204,7 +204,7 @@ impl<const MIN: u32, const MAX: u32> ru32<MIN, MAX> {
         }
     }
 
-    /// The same number, where it lies in `LOW` to `HIGH`, else `None`.
+    /// Narrows the bounds to `LOW` to `HIGH`, or answers `None` if the number is outside.
     #[inline]
     pub fn narrow<const LOW: u32, const HIGH: u32>(self) -> Option<ru32<LOW, HIGH>>
         ensures { SomeIff result ((LOW ≤ self.entry) × (self.entry ≤ HIGH)) self.entry }

@@ -11,7 +11,7 @@ ghost use Rattle.time_fmt.specs.Room.{HasRoom, Writes};
 use crate::error::Format;
 use crate::formattable::{Formattable, make_room};
 use crate::metadata::ComputeMetadata;
-use crate::modifier::Modifier;
+use crate::modifier::{Modifier, supplies};
 use crate::writers::{put_back, take_out};
 use time_below::format_description::Metadata;
 use time_provide::ComponentProvider;
@@ -145,6 +145,10 @@ impl<M: Modifier> Formattable for M {
         value: &V,
         state: &mut V::State,
     ) -> Result<usize, Format> {
-        self.write(output, value, state)
+        // As `write` does, with no call between: else a pair that is used in four places is not inlined.
+        if !supplies::<V>(M::GROUP) {
+            return Err(Format::InsufficientTypeInformation);
+        }
+        self.write_supplied(output, value, state)
     }
 }

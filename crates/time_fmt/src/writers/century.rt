@@ -1,12 +1,11 @@
 //! Centuries and the last two digits of a year: their texts, widths and writers.
 //!
 //! The calendar year and the year of the week calendar have the same texts.
-ghost use Rattle.std.specs.Prelude.{◌≡◌, ◌↔◌, ◌/◌, ◌%◌, ◌≤◌, Bool, ◌||◌, nat_lt, IsOk, IfOk, IfErr, codes, length, unsigned_abs};
-ghost use Rattle.time_below.specs.ComponentRange.{conditional_range};
+ghost use Rattle.std.specs.Prelude.{◌≡◌, ◌%◌, int_lt, length, pos, refl, unsigned_abs};
 ghost use Rattle.time_below.specs.declared.format_description.component.Component.TheVariants as component;
-ghost use Rattle.time_fmt.specs.DateText.{extended_century_text, standard_century_text};
-ghost use Rattle.time_fmt.specs.Description.{century_of};
-ghost use Rattle.time_fmt.specs.Outcome.{Names, out_of_range};
+ghost use Rattle.time_below.specs.declared.format_description.component.Group.TheVariants as group;
+ghost use Rattle.time_fmt.specs.Kind.{kind_text, kind_outcome, extended_century, standard_century, century_of};
+ghost use Rattle.time_fmt.specs.Outcome.{AppendsWhole};
 ghost use Rattle.time_fmt.specs.Room.{HasRoom, Writes};
 ghost use Rattle.time_fmt.specs.Text.{padded_text};
 
@@ -15,10 +14,10 @@ use crate::modifier::Modifier;
 use crate::writers::digits::{fmt_sign, format_two_digits};
 use crate::writers::plain::write_many;
 use time_below::ComponentRange;
-use time_below::format_description::modifier;
 use time_below::format_description::modifier::Padding;
+use time_below::format_description::{Group, modifier};
 use time_digits::num_fmt::one_to_four_digits_no_padding;
-use time_digits::{ri8, ri16, ru8, ru16};
+use time_digits::{ru8, ru16};
 use time_provide::ComponentProvider;
 use time_provide::ranges::{ExtendedCentury, LastTwo, StandardCentury, Year};
 
@@ -31,11 +30,11 @@ pub fn fmt_calendar_year_century_extended_range(
     modifier: modifier::CalendarYearCenturyExtendedRange,
 ) -> usize
     requires room { HasRoom output.old
-        (length (extended_century_text modifier.padding modifier.sign_is_mandatory
-        is_negative (unsigned_abs century))) }
+        (length (kind_text (extended_century modifier.padding modifier.sign_is_mandatory
+        is_negative (unsigned_abs century)))) }
     ensures writes { Writes output.old output.new result
-        (extended_century_text modifier.padding modifier.sign_is_mandatory
-        is_negative (unsigned_abs century)) }
+        (kind_text (extended_century modifier.padding modifier.sign_is_mandatory
+        is_negative (unsigned_abs century))) }
 {
     let century = century.abs();
     write_extended_century(
@@ -50,30 +49,28 @@ pub fn fmt_calendar_year_century_extended_range(
 impl Modifier for modifier::CalendarYearCenturyExtendedRange {
     ghost component_of = { component.CalendarYearCenturyExtendedRange };
 
+    ghost GROUP = { group.Date };
+
+    const GROUP: Group = Group::Date;
+
     #[inline(always)]
     fn width(self) -> usize {
         5
     }
 
     #[inline(always)]
-    #[tactic(auto, using(crate::proofs::DateTextLemmas::century_lengths))]
-    fn write<V: ComponentProvider>(
+    #[tactic(auto, using(crate::proofs::TextLemmas::signed_lengths))]
+    fn write_supplied<V: ComponentProvider>(
         self,
         output: &mut Vec<u8>,
         value: &V,
         state: &mut V::State,
     ) -> Result<usize, Format> {
-        if !V::SUPPLIES_DATE {
-            return Err(Format::InsufficientTypeInformation);
-        }
         let year = value.calendar_year(state);
-        Ok(fmt_calendar_year_century_extended_range(
-            output,
-            extended_century(year),
-            year.is_negative(),
-            self,
-        ))
+        Ok(write_any_century(output, year, self.padding, self.sign_is_mandatory))
     }
+
+    ghost grouped = { λ _ _. refl };
 }
 
 /// Appends the year's sign and two places of its century.
@@ -85,11 +82,11 @@ pub fn fmt_calendar_year_century_standard_range(
     modifier: modifier::CalendarYearCenturyStandardRange,
 ) -> usize
     requires room { HasRoom output.old
-        (length (standard_century_text modifier.padding modifier.sign_is_mandatory
-        is_negative (unsigned_abs century))) }
+        (length (kind_text (standard_century modifier.padding modifier.sign_is_mandatory
+        is_negative (unsigned_abs century)))) }
     ensures writes { Writes output.old output.new result
-        (standard_century_text modifier.padding modifier.sign_is_mandatory
-        is_negative (unsigned_abs century)) }
+        (kind_text (standard_century modifier.padding modifier.sign_is_mandatory
+        is_negative (unsigned_abs century))) }
 {
     let century = century.abs();
     write_standard_century(
@@ -104,33 +101,28 @@ pub fn fmt_calendar_year_century_standard_range(
 impl Modifier for modifier::CalendarYearCenturyStandardRange {
     ghost component_of = { component.CalendarYearCenturyStandardRange };
 
+    ghost GROUP = { group.Date };
+
+    const GROUP: Group = Group::Date;
+
     #[inline(always)]
     fn width(self) -> usize {
         3
     }
 
     #[inline(always)]
-    #[tactic(auto, using(crate::proofs::DateTextLemmas::century_lengths))]
-    fn write<V: ComponentProvider>(
+    #[tactic(auto, using(crate::proofs::TextLemmas::signed_lengths))]
+    fn write_supplied<V: ComponentProvider>(
         self,
         output: &mut Vec<u8>,
         value: &V,
         state: &mut V::State,
     ) -> Result<usize, Format> {
-        if !V::SUPPLIES_DATE {
-            return Err(Format::InsufficientTypeInformation);
-        }
         let year = value.calendar_year(state);
-        match standard_century(year) {
-            Ok(century) => Ok(fmt_calendar_year_century_standard_range(
-                output,
-                century,
-                year.is_negative(),
-                self,
-            )),
-            Err(refusal) => Err(refusal),
-        }
+        write_accepted_century(output, year, self.padding, self.sign_is_mandatory)
     }
+
+    ghost grouped = { λ _ _. refl };
 }
 
 /// Appends the sign and two places of the century of the week calendar's year, or all its digits
@@ -143,11 +135,11 @@ pub fn fmt_iso_year_century_extended_range(
     modifier: modifier::IsoYearCenturyExtendedRange,
 ) -> usize
     requires room { HasRoom output.old
-        (length (extended_century_text modifier.padding modifier.sign_is_mandatory
-        is_negative (unsigned_abs century))) }
+        (length (kind_text (extended_century modifier.padding modifier.sign_is_mandatory
+        is_negative (unsigned_abs century)))) }
     ensures writes { Writes output.old output.new result
-        (extended_century_text modifier.padding modifier.sign_is_mandatory
-        is_negative (unsigned_abs century)) }
+        (kind_text (extended_century modifier.padding modifier.sign_is_mandatory
+        is_negative (unsigned_abs century))) }
 {
     let century = century.abs();
     write_extended_century(
@@ -162,30 +154,28 @@ pub fn fmt_iso_year_century_extended_range(
 impl Modifier for modifier::IsoYearCenturyExtendedRange {
     ghost component_of = { component.IsoYearCenturyExtendedRange };
 
+    ghost GROUP = { group.Date };
+
+    const GROUP: Group = Group::Date;
+
     #[inline(always)]
     fn width(self) -> usize {
         5
     }
 
     #[inline(always)]
-    #[tactic(auto, using(crate::proofs::DateTextLemmas::century_lengths))]
-    fn write<V: ComponentProvider>(
+    #[tactic(auto, using(crate::proofs::TextLemmas::signed_lengths))]
+    fn write_supplied<V: ComponentProvider>(
         self,
         output: &mut Vec<u8>,
         value: &V,
         state: &mut V::State,
     ) -> Result<usize, Format> {
-        if !V::SUPPLIES_DATE {
-            return Err(Format::InsufficientTypeInformation);
-        }
         let year = value.iso_year(state);
-        Ok(fmt_iso_year_century_extended_range(
-            output,
-            extended_century(year),
-            year.is_negative(),
-            self,
-        ))
+        Ok(write_any_century(output, year, self.padding, self.sign_is_mandatory))
     }
+
+    ghost grouped = { λ _ _. refl };
 }
 
 /// Appends the sign and two places of the century of the week calendar's year. The sign is that of
@@ -198,11 +188,11 @@ pub fn fmt_iso_year_century_standard_range(
     modifier: modifier::IsoYearCenturyStandardRange,
 ) -> usize
     requires room { HasRoom output.old
-        (length (standard_century_text modifier.padding modifier.sign_is_mandatory
-        is_negative (unsigned_abs century))) }
+        (length (kind_text (standard_century modifier.padding modifier.sign_is_mandatory
+        is_negative (unsigned_abs century)))) }
     ensures writes { Writes output.old output.new result
-        (standard_century_text modifier.padding modifier.sign_is_mandatory
-        is_negative (unsigned_abs century)) }
+        (kind_text (standard_century modifier.padding modifier.sign_is_mandatory
+        is_negative (unsigned_abs century))) }
 {
     let century = century.abs();
     write_standard_century(
@@ -217,33 +207,28 @@ pub fn fmt_iso_year_century_standard_range(
 impl Modifier for modifier::IsoYearCenturyStandardRange {
     ghost component_of = { component.IsoYearCenturyStandardRange };
 
+    ghost GROUP = { group.Date };
+
+    const GROUP: Group = Group::Date;
+
     #[inline(always)]
     fn width(self) -> usize {
         3
     }
 
     #[inline(always)]
-    #[tactic(auto, using(crate::proofs::DateTextLemmas::century_lengths))]
-    fn write<V: ComponentProvider>(
+    #[tactic(auto, using(crate::proofs::TextLemmas::signed_lengths))]
+    fn write_supplied<V: ComponentProvider>(
         self,
         output: &mut Vec<u8>,
         value: &V,
         state: &mut V::State,
     ) -> Result<usize, Format> {
-        if !V::SUPPLIES_DATE {
-            return Err(Format::InsufficientTypeInformation);
-        }
         let year = value.iso_year(state);
-        match standard_century(year) {
-            Ok(century) => Ok(fmt_iso_year_century_standard_range(
-                output,
-                century,
-                year.is_negative(),
-                self,
-            )),
-            Err(refusal) => Err(refusal),
-        }
+        write_accepted_century(output, year, self.padding, self.sign_is_mandatory)
     }
+
+    ghost grouped = { λ _ _. refl };
 }
 
 /// Appends the last two digits of the year, 0 to 99, in two places.
@@ -262,23 +247,27 @@ pub fn fmt_calendar_year_last_two(
 impl Modifier for modifier::CalendarYearLastTwo {
     ghost component_of = { component.CalendarYearLastTwo };
 
+    ghost GROUP = { group.Date };
+
+    const GROUP: Group = Group::Date;
+
     #[inline(always)]
     fn width(self) -> usize {
         2
     }
 
     #[inline(always)]
-    fn write<V: ComponentProvider>(
+    #[tactic(auto, using(crate::proofs::TextLemmas::text_lengths))]
+    fn write_supplied<V: ComponentProvider>(
         self,
         output: &mut Vec<u8>,
         value: &V,
         state: &mut V::State,
     ) -> Result<usize, Format> {
-        if !V::SUPPLIES_DATE {
-            return Err(Format::InsufficientTypeInformation);
-        }
         Ok(fmt_calendar_year_last_two(output, last_two(value.calendar_year(state)), self))
     }
+
+    ghost grouped = { λ _ _. refl };
 }
 
 /// Appends the last two digits of the week calendar's year, 0 to 99, in two places.
@@ -297,23 +286,27 @@ pub fn fmt_iso_year_last_two(
 impl Modifier for modifier::IsoYearLastTwo {
     ghost component_of = { component.IsoYearLastTwo };
 
+    ghost GROUP = { group.Date };
+
+    const GROUP: Group = Group::Date;
+
     #[inline(always)]
     fn width(self) -> usize {
         2
     }
 
     #[inline(always)]
-    fn write<V: ComponentProvider>(
+    #[tactic(auto, using(crate::proofs::TextLemmas::text_lengths))]
+    fn write_supplied<V: ComponentProvider>(
         self,
         output: &mut Vec<u8>,
         value: &V,
         state: &mut V::State,
     ) -> Result<usize, Format> {
-        if !V::SUPPLIES_DATE {
-            return Err(Format::InsufficientTypeInformation);
-        }
         Ok(fmt_iso_year_last_two(output, last_two(value.iso_year(state)), self))
     }
+
+    ghost grouped = { λ _ _. refl };
 }
 
 fn write_extended_century(
@@ -324,9 +317,9 @@ fn write_extended_century(
     sign_is_mandatory: bool,
 ) -> usize
     requires room { HasRoom output.old
-        (length (extended_century_text padding sign_is_mandatory is_negative century)) }
+        (length (kind_text (extended_century padding sign_is_mandatory is_negative century))) }
     ensures writes { Writes output.old output.new result
-        (extended_century_text padding sign_is_mandatory is_negative century) }
+        (kind_text (extended_century padding sign_is_mandatory is_negative century)) }
 {
     let sign = fmt_sign(output, is_negative, sign_is_mandatory || century.get() > 99);
     sign + write_century_digits(output, century, padding)
@@ -340,16 +333,16 @@ fn write_standard_century(
     sign_is_mandatory: bool,
 ) -> usize
     requires room { HasRoom output.old
-        (length (standard_century_text padding sign_is_mandatory is_negative century)) }
+        (length (kind_text (standard_century padding sign_is_mandatory is_negative century))) }
     ensures writes { Writes output.old output.new result
-        (standard_century_text padding sign_is_mandatory is_negative century) }
+        (kind_text (standard_century padding sign_is_mandatory is_negative century)) }
 {
     let sign = fmt_sign(output, is_negative, sign_is_mandatory);
     sign + format_two_digits(output, century, padding)
 }
 
 // Appends a century in two places, or all its digits.
-#[tactic(auto, using(crate::proofs::DateTextLemmas::whole_century))]
+#[tactic(auto, using(crate::proofs::TextLemmas::whole_century))]
 fn write_century_digits(output: &mut Vec<u8>, century: ru16<0, 9_999>, padding: Padding) -> usize
     requires room { HasRoom output.old (length (padded_text padding 2 century)) }
     ensures writes { Writes output.old output.new result (padded_text padding 2 century) }
@@ -362,26 +355,45 @@ fn write_century_digits(output: &mut Vec<u8>, century: ru16<0, 9_999>, padding: 
     }
 }
 
-// The year without its last two digits, toward zero.
-fn extended_century(year: Year) -> ExtendedCentury
-    ensures value { unsigned_abs result ≡ century_of year }
-    ensures range { unsigned_abs result ≤ 9_999 }
+// Appends the century of a year of either calendar.
+fn write_any_century(
+    output: &mut Vec<u8>,
+    year: Year,
+    padding: Padding,
+    sign_is_mandatory: bool,
+) -> usize
+    requires room { HasRoom output.old
+        (length (kind_text (extended_century padding sign_is_mandatory
+        (int_lt year (pos 0)) (century_of year)))) }
+    ensures writes { Writes output.old output.new result
+        (kind_text (extended_century padding sign_is_mandatory
+        (int_lt year (pos 0)) (century_of year))) }
 {
-    ri16::new((year.get() / 100) as i16).unwrap()
+    let number = year.get();
+    let century = ru16::new((number.unsigned_abs() / 100) as u16).unwrap();
+    write_extended_century(output, century, number < 0, padding, sign_is_mandatory)
 }
 
-// The century of the year, if it has at most two digits.
-fn standard_century(year: Year) -> Result<StandardCentury, Format>
-    ensures accepted { IsOk result ↔ (century_of year ≤ 99) }
-    ensures value { IfOk result (λ c. unsigned_abs c ≡ century_of year) }
-    ensures refusal { IfErr result
-        (λ e. Names e (out_of_range (conditional_range (codes "year")))) }
+// The same, if it has at most two digits.
+#[tactic(auto, using(crate::proofs::TextLemmas::signed_lengths))]
+fn write_accepted_century(
+    output: &mut Vec<u8>,
+    year: Year,
+    padding: Padding,
+    sign_is_mandatory: bool,
+) -> Result<usize, Format>
+    requires room { HasRoom output.old 3 }
+    ensures appends { AppendsWhole 3 output.old output.new result
+        (kind_outcome (standard_century padding sign_is_mandatory
+        (int_lt year (pos 0)) (century_of year))) }
 {
-    let century = year.get() / 100;
-    if century.unsigned_abs() > 99 {
+    let number = year.get();
+    let century = number.unsigned_abs() / 100;
+    if century > 99 {
         return Err(Format::ComponentRange(ComponentRange::conditional("year")));
     }
-    Ok(ri8::new(century as i8).unwrap())
+    let century = ru8::new(century as u8).unwrap();
+    Ok(write_standard_century(output, century, number < 0, padding, sign_is_mandatory))
 }
 
 // The last two digits of the year.

@@ -1,6 +1,7 @@
 //! The day, the month and the day of the year: their texts, widths and writers.
-ghost use Rattle.std.specs.Prelude.{◌≡◌, ◌≤◌, length};
+ghost use Rattle.std.specs.Prelude.{◌≡◌, ◌≤◌, length, refl};
 ghost use Rattle.time_below.specs.declared.format_description.component.Component.TheVariants as component;
+ghost use Rattle.time_below.specs.declared.format_description.component.Group.TheVariants as group;
 ghost use Rattle.time_below.specs.Month.{month_number};
 ghost use Rattle.time_fmt.specs.DateText.{month_name, short_name};
 ghost use Rattle.time_fmt.specs.Room.{HasRoom, Writes};
@@ -11,7 +12,7 @@ use crate::modifier::Modifier;
 use crate::writers::digits::{format_three_digits, format_two_digits};
 use crate::writers::plain::write_name;
 use time_below::Month;
-use time_below::format_description::modifier;
+use time_below::format_description::{Group, modifier};
 use time_digits::ru8;
 use time_provide::ComponentProvider;
 use time_provide::ranges::{Day, Ordinal};
@@ -28,23 +29,27 @@ pub fn fmt_day(output: &mut Vec<u8>, day: Day, modifier: modifier::Day) -> usize
 impl Modifier for modifier::Day {
     ghost component_of = { component.Day };
 
+    ghost GROUP = { group.Date };
+
+    const GROUP: Group = Group::Date;
+
     #[inline(always)]
     fn width(self) -> usize {
         2
     }
 
     #[inline(always)]
-    fn write<V: ComponentProvider>(
+    #[tactic(auto, using(crate::proofs::TextLemmas::text_lengths))]
+    fn write_supplied<V: ComponentProvider>(
         self,
         output: &mut Vec<u8>,
         value: &V,
         state: &mut V::State,
     ) -> Result<usize, Format> {
-        if !V::SUPPLIES_DATE {
-            return Err(Format::InsufficientTypeInformation);
-        }
         Ok(fmt_day(output, value.day(state), self))
     }
+
+    ghost grouped = { λ _ _. refl };
 }
 
 /// Appends the first three letters of the month's English name.
@@ -61,23 +66,27 @@ pub fn fmt_month_short(output: &mut Vec<u8>, month: Month, modifier: modifier::M
 impl Modifier for modifier::MonthShort {
     ghost component_of = { component.MonthShort };
 
+    ghost GROUP = { group.Date };
+
+    const GROUP: Group = Group::Date;
+
     #[inline(always)]
     fn width(self) -> usize {
         3
     }
 
     #[inline(always)]
-    fn write<V: ComponentProvider>(
+    #[tactic(auto, using(crate::proofs::TextLemmas::text_lengths))]
+    fn write_supplied<V: ComponentProvider>(
         self,
         output: &mut Vec<u8>,
         value: &V,
         state: &mut V::State,
     ) -> Result<usize, Format> {
-        if !V::SUPPLIES_DATE {
-            return Err(Format::InsufficientTypeInformation);
-        }
         Ok(fmt_month_short(output, value.month(state), self))
     }
+
+    ghost grouped = { λ _ _. refl };
 }
 
 /// Appends the month's English name.
@@ -93,23 +102,27 @@ pub fn fmt_month_long(output: &mut Vec<u8>, month: Month, modifier: modifier::Mo
 impl Modifier for modifier::MonthLong {
     ghost component_of = { component.MonthLong };
 
+    ghost GROUP = { group.Date };
+
+    const GROUP: Group = Group::Date;
+
     #[inline(always)]
     fn width(self) -> usize {
         9
     }
 
     #[inline(always)]
-    fn write<V: ComponentProvider>(
+    #[tactic(auto, using(crate::proofs::TextLemmas::text_lengths))]
+    fn write_supplied<V: ComponentProvider>(
         self,
         output: &mut Vec<u8>,
         value: &V,
         state: &mut V::State,
     ) -> Result<usize, Format> {
-        if !V::SUPPLIES_DATE {
-            return Err(Format::InsufficientTypeInformation);
-        }
         Ok(fmt_month_long(output, value.month(state), self))
     }
+
+    ghost grouped = { λ _ _. refl };
 }
 
 /// Appends the month, 1 to 12, in two places.
@@ -130,25 +143,29 @@ pub fn fmt_month_numerical(
 impl Modifier for modifier::MonthNumerical {
     ghost component_of = { component.MonthNumerical };
 
+    ghost GROUP = { group.Date };
+
+    const GROUP: Group = Group::Date;
+
     #[inline(always)]
     fn width(self) -> usize {
         2
     }
 
     #[inline(always)]
-    fn write<V: ComponentProvider>(
+    #[tactic(auto, using(crate::proofs::TextLemmas::text_lengths))]
+    fn write_supplied<V: ComponentProvider>(
         self,
         output: &mut Vec<u8>,
         value: &V,
         state: &mut V::State,
     ) -> Result<usize, Format> {
-        if !V::SUPPLIES_DATE {
-            return Err(Format::InsufficientTypeInformation);
-        }
         // A day is mostly beside it, and the computation of the day gives the month too.
         let _day = value.day(state);
         Ok(fmt_month_numerical(output, value.month(state), self))
     }
+
+    ghost grouped = { λ _ _. refl };
 }
 
 /// Appends the day of the year, 1 to 366, in three places.
@@ -163,23 +180,27 @@ pub fn fmt_ordinal(output: &mut Vec<u8>, ordinal: Ordinal, modifier: modifier::O
 impl Modifier for modifier::Ordinal {
     ghost component_of = { component.Ordinal };
 
+    ghost GROUP = { group.Date };
+
+    const GROUP: Group = Group::Date;
+
     #[inline(always)]
     fn width(self) -> usize {
         3
     }
 
     #[inline(always)]
-    fn write<V: ComponentProvider>(
+    #[tactic(auto, using(crate::proofs::TextLemmas::text_lengths))]
+    fn write_supplied<V: ComponentProvider>(
         self,
         output: &mut Vec<u8>,
         value: &V,
         state: &mut V::State,
     ) -> Result<usize, Format> {
-        if !V::SUPPLIES_DATE {
-            return Err(Format::InsufficientTypeInformation);
-        }
         Ok(fmt_ordinal(output, value.ordinal(state), self))
     }
+
+    ghost grouped = { λ _ _. refl };
 }
 
 // The English name of a month, of at least three letters.

@@ -1,13 +1,15 @@
 //! The components of an offset from UTC: their texts, widths and writers.
-ghost use Rattle.std.specs.Prelude.{length, unsigned_abs};
+ghost use Rattle.std.specs.Prelude.{length, unsigned_abs, refl};
 ghost use Rattle.time_below.specs.declared.format_description.component.Component.TheVariants as component;
+ghost use Rattle.time_below.specs.declared.format_description.component.Group.TheVariants as group;
+ghost use Rattle.time_fmt.specs.Kind.{kind_text, offset_hour};
 ghost use Rattle.time_fmt.specs.Room.{HasRoom, Writes};
-ghost use Rattle.time_fmt.specs.Text.{padded_text, offset_hour_text};
+ghost use Rattle.time_fmt.specs.Text.{padded_text};
 
 use crate::error::Format;
 use crate::modifier::Modifier;
 use crate::writers::digits::{fmt_sign, format_two_digits};
-use time_below::format_description::modifier;
+use time_below::format_description::{Group, modifier};
 use time_provide::ComponentProvider;
 use time_provide::ranges::{OffsetHours, OffsetMinutes, OffsetSeconds};
 
@@ -21,9 +23,10 @@ pub fn fmt_offset_hour(
     modifier: modifier::OffsetHour,
 ) -> usize
     requires room { HasRoom output.old
-        (length (offset_hour_text modifier.padding modifier.sign_is_mandatory is_negative hour)) }
+        (length (kind_text
+        (offset_hour modifier.padding modifier.sign_is_mandatory is_negative hour))) }
     ensures writes { Writes output.old output.new result
-        (offset_hour_text modifier.padding modifier.sign_is_mandatory is_negative hour) }
+        (kind_text (offset_hour modifier.padding modifier.sign_is_mandatory is_negative hour)) }
 {
     let sign = fmt_sign(output, is_negative, modifier.sign_is_mandatory);
     sign + format_two_digits(output, hour.abs().expand(), modifier.padding)
@@ -32,24 +35,28 @@ pub fn fmt_offset_hour(
 impl Modifier for modifier::OffsetHour {
     ghost component_of = { component.OffsetHour };
 
+    ghost GROUP = { group.Offset };
+
+    const GROUP: Group = Group::Offset;
+
     #[inline(always)]
     fn width(self) -> usize {
         3
     }
 
     #[inline(always)]
-    fn write<V: ComponentProvider>(
+    #[tactic(auto, using(crate::proofs::TextLemmas::signed_lengths))]
+    fn write_supplied<V: ComponentProvider>(
         self,
         output: &mut Vec<u8>,
         value: &V,
         state: &mut V::State,
     ) -> Result<usize, Format> {
-        if !V::SUPPLIES_OFFSET {
-            return Err(Format::InsufficientTypeInformation);
-        }
         let is_negative = value.offset_is_negative(state);
         Ok(fmt_offset_hour(output, is_negative, value.offset_hour(state), self))
     }
+
+    ghost grouped = { λ _ _. refl };
 }
 
 /// Appends the minute of the offset, 0 to 59, in two places, without a sign.
@@ -70,23 +77,27 @@ pub fn fmt_offset_minute(
 impl Modifier for modifier::OffsetMinute {
     ghost component_of = { component.OffsetMinute };
 
+    ghost GROUP = { group.Offset };
+
+    const GROUP: Group = Group::Offset;
+
     #[inline(always)]
     fn width(self) -> usize {
         2
     }
 
     #[inline(always)]
-    fn write<V: ComponentProvider>(
+    #[tactic(auto, using(crate::proofs::TextLemmas::text_lengths))]
+    fn write_supplied<V: ComponentProvider>(
         self,
         output: &mut Vec<u8>,
         value: &V,
         state: &mut V::State,
     ) -> Result<usize, Format> {
-        if !V::SUPPLIES_OFFSET {
-            return Err(Format::InsufficientTypeInformation);
-        }
         Ok(fmt_offset_minute(output, value.offset_minute(state), self))
     }
+
+    ghost grouped = { λ _ _. refl };
 }
 
 /// Appends the second of the offset, 0 to 59, in two places, without a sign.
@@ -107,21 +118,25 @@ pub fn fmt_offset_second(
 impl Modifier for modifier::OffsetSecond {
     ghost component_of = { component.OffsetSecond };
 
+    ghost GROUP = { group.Offset };
+
+    const GROUP: Group = Group::Offset;
+
     #[inline(always)]
     fn width(self) -> usize {
         2
     }
 
     #[inline(always)]
-    fn write<V: ComponentProvider>(
+    #[tactic(auto, using(crate::proofs::TextLemmas::text_lengths))]
+    fn write_supplied<V: ComponentProvider>(
         self,
         output: &mut Vec<u8>,
         value: &V,
         state: &mut V::State,
     ) -> Result<usize, Format> {
-        if !V::SUPPLIES_OFFSET {
-            return Err(Format::InsufficientTypeInformation);
-        }
         Ok(fmt_offset_second(output, value.offset_second(state), self))
     }
+
+    ghost grouped = { λ _ _. refl };
 }

@@ -1,6 +1,7 @@
 //! The decimals of the second: their texts, width and writer.
-ghost use Rattle.std.specs.Prelude.{◌≡◌, ◌<◌, length};
+ghost use Rattle.std.specs.Prelude.{◌≡◌, ◌<◌, length, refl};
 ghost use Rattle.time_below.specs.declared.format_description.component.Component.TheVariants as component;
+ghost use Rattle.time_below.specs.declared.format_description.component.Group.TheVariants as group;
 ghost use Rattle.time_below.specs.declared.format_description.modifier.SubsecondDigits.TheVariants as SubsecondDigits;
 ghost use Rattle.time_digits.specs.Digits.{fixed, zero_padded};
 ghost use Rattle.time_digits.specs.Fraction.{trimmed_fraction};
@@ -15,7 +16,7 @@ use crate::writers::digits::{
 };
 use crate::writers::plain::{put_back, take_out, write, write_pair};
 use time_below::format_description::modifier::{Padding, SubsecondDigits};
-use time_below::format_description::{modifier, subsecond_width};
+use time_below::format_description::{Group, modifier, subsecond_width};
 use time_digits::num_fmt::{three_digits_zero_padded, truncated_subsecond_from_nanos};
 use time_digits::{ru8, ru16, ru32};
 use time_provide::ComponentProvider;
@@ -60,6 +61,10 @@ pub fn fmt_subsecond(
 impl Modifier for modifier::Subsecond {
     ghost component_of = { component.Subsecond };
 
+    ghost GROUP = { group.Time };
+
+    const GROUP: Group = Group::Time;
+
     #[inline(always)]
     fn width(self) -> usize {
         subsecond_width(self.digits)
@@ -67,15 +72,12 @@ impl Modifier for modifier::Subsecond {
 
     #[inline(always)]
     #[tactic(auto, using(crate::proofs::TrimLemmas::subsecond_lengths))]
-    fn write<V: ComponentProvider>(
+    fn write_supplied<V: ComponentProvider>(
         self,
         output: &mut Vec<u8>,
         value: &V,
         state: &mut V::State,
     ) -> Result<usize, Format> {
-        if !V::SUPPLIES_TIME {
-            return Err(Format::InsufficientTypeInformation);
-        }
         let nanosecond = value.nanosecond(state);
         match self.digits {
             SubsecondDigits::Three => Ok(write_three_decimals(output, nanosecond)),
@@ -86,6 +88,8 @@ impl Modifier for modifier::Subsecond {
             rare => Ok(write_rare_decimals(output, nanosecond, rare)),
         }
     }
+
+    ghost grouped = { λ _ _. refl };
 }
 
 // Any number of decimals, apart, since few texts have another than three or as many as are needed.

@@ -1,6 +1,7 @@
 //! The hour, the minute, the second and the half of the day: their texts, widths and writers.
-ghost use Rattle.std.specs.Prelude.{length};
+ghost use Rattle.std.specs.Prelude.{length, refl};
 ghost use Rattle.time_below.specs.declared.format_description.component.Component.TheVariants as component;
+ghost use Rattle.time_below.specs.declared.format_description.component.Group.TheVariants as group;
 ghost use Rattle.time_fmt.specs.Room.{HasRoom, Writes};
 ghost use Rattle.time_fmt.specs.Text.{padded_text, hour_12, period_text};
 
@@ -9,7 +10,7 @@ use crate::modifier::Modifier;
 use crate::writers::digits::format_two_digits;
 use crate::writers::plain::write;
 use time_below::Period;
-use time_below::format_description::modifier;
+use time_below::format_description::{Group, modifier};
 use time_digits::ru8;
 use time_provide::ComponentProvider;
 use time_provide::ranges::{Hours, Minutes, Seconds};
@@ -28,23 +29,27 @@ pub fn fmt_hour_12(output: &mut Vec<u8>, hour: Hours, modifier: modifier::Hour12
 impl Modifier for modifier::Hour12 {
     ghost component_of = { component.Hour12 };
 
+    ghost GROUP = { group.Time };
+
+    const GROUP: Group = Group::Time;
+
     #[inline(always)]
     fn width(self) -> usize {
         2
     }
 
     #[inline(always)]
-    fn write<V: ComponentProvider>(
+    #[tactic(auto, using(crate::proofs::TextLemmas::text_lengths))]
+    fn write_supplied<V: ComponentProvider>(
         self,
         output: &mut Vec<u8>,
         value: &V,
         state: &mut V::State,
     ) -> Result<usize, Format> {
-        if !V::SUPPLIES_TIME {
-            return Err(Format::InsufficientTypeInformation);
-        }
         Ok(fmt_hour_12(output, value.hour(state), self))
     }
+
+    ghost grouped = { λ _ _. refl };
 }
 
 /// Appends the hour, 0 to 23, in two places.
@@ -59,23 +64,27 @@ pub fn fmt_hour_24(output: &mut Vec<u8>, hour: Hours, modifier: modifier::Hour24
 impl Modifier for modifier::Hour24 {
     ghost component_of = { component.Hour24 };
 
+    ghost GROUP = { group.Time };
+
+    const GROUP: Group = Group::Time;
+
     #[inline(always)]
     fn width(self) -> usize {
         2
     }
 
     #[inline(always)]
-    fn write<V: ComponentProvider>(
+    #[tactic(auto, using(crate::proofs::TextLemmas::text_lengths))]
+    fn write_supplied<V: ComponentProvider>(
         self,
         output: &mut Vec<u8>,
         value: &V,
         state: &mut V::State,
     ) -> Result<usize, Format> {
-        if !V::SUPPLIES_TIME {
-            return Err(Format::InsufficientTypeInformation);
-        }
         Ok(fmt_hour_24(output, value.hour(state), self))
     }
+
+    ghost grouped = { λ _ _. refl };
 }
 
 /// Appends the minute, 0 to 59, in two places.
@@ -90,23 +99,27 @@ pub fn fmt_minute(output: &mut Vec<u8>, minute: Minutes, modifier: modifier::Min
 impl Modifier for modifier::Minute {
     ghost component_of = { component.Minute };
 
+    ghost GROUP = { group.Time };
+
+    const GROUP: Group = Group::Time;
+
     #[inline(always)]
     fn width(self) -> usize {
         2
     }
 
     #[inline(always)]
-    fn write<V: ComponentProvider>(
+    #[tactic(auto, using(crate::proofs::TextLemmas::text_lengths))]
+    fn write_supplied<V: ComponentProvider>(
         self,
         output: &mut Vec<u8>,
         value: &V,
         state: &mut V::State,
     ) -> Result<usize, Format> {
-        if !V::SUPPLIES_TIME {
-            return Err(Format::InsufficientTypeInformation);
-        }
         Ok(fmt_minute(output, value.minute(state), self))
     }
+
+    ghost grouped = { λ _ _. refl };
 }
 
 /// Appends `am` or `pm`, in capitals if they are wanted.
@@ -128,6 +141,10 @@ pub fn fmt_period(output: &mut Vec<u8>, period: Period, modifier: modifier::Peri
 impl Modifier for modifier::Period {
     ghost component_of = { component.Period };
 
+    ghost GROUP = { group.Time };
+
+    const GROUP: Group = Group::Time;
+
     #[inline(always)]
     fn width(self) -> usize {
         2
@@ -135,17 +152,16 @@ impl Modifier for modifier::Period {
 
     #[inline(always)]
     #[tactic(auto)]
-    fn write<V: ComponentProvider>(
+    fn write_supplied<V: ComponentProvider>(
         self,
         output: &mut Vec<u8>,
         value: &V,
         state: &mut V::State,
     ) -> Result<usize, Format> {
-        if !V::SUPPLIES_TIME {
-            return Err(Format::InsufficientTypeInformation);
-        }
         Ok(fmt_period(output, value.period(state), self))
     }
+
+    ghost grouped = { λ _ _. refl };
 }
 
 /// Appends the second, 0 to 59, in two places.
@@ -160,21 +176,25 @@ pub fn fmt_second(output: &mut Vec<u8>, second: Seconds, modifier: modifier::Sec
 impl Modifier for modifier::Second {
     ghost component_of = { component.Second };
 
+    ghost GROUP = { group.Time };
+
+    const GROUP: Group = Group::Time;
+
     #[inline(always)]
     fn width(self) -> usize {
         2
     }
 
     #[inline(always)]
-    fn write<V: ComponentProvider>(
+    #[tactic(auto, using(crate::proofs::TextLemmas::text_lengths))]
+    fn write_supplied<V: ComponentProvider>(
         self,
         output: &mut Vec<u8>,
         value: &V,
         state: &mut V::State,
     ) -> Result<usize, Format> {
-        if !V::SUPPLIES_TIME {
-            return Err(Format::InsufficientTypeInformation);
-        }
         Ok(fmt_second(output, value.second(state), self))
     }
+
+    ghost grouped = { λ _ _. refl };
 }

@@ -1,13 +1,14 @@
 //! The seconds and milliseconds since 1970-01-01T00:00:00 UTC: their texts, widths and writers.
-ghost use Rattle.std.specs.Prelude.{length};
+ghost use Rattle.std.specs.Prelude.{length, refl};
 ghost use Rattle.time_below.specs.declared.format_description.component.Component.TheVariants as component;
+ghost use Rattle.time_below.specs.declared.format_description.component.Group.TheVariants as group;
+ghost use Rattle.time_fmt.specs.Kind.{kind_text, timestamp};
 ghost use Rattle.time_fmt.specs.Room.{HasRoom, Writes};
-ghost use Rattle.time_fmt.specs.Text.{timestamp_text};
 
 use crate::error::Format;
 use crate::modifier::Modifier;
 use crate::writers::digits::{fmt_sign, format_u64_pad_none};
-use time_below::format_description::modifier;
+use time_below::format_description::{Group, modifier};
 use time_provide::ComponentProvider;
 
 /// Appends the seconds since 1970-01-01T00:00:00 UTC, a sign and all their digits.
@@ -18,9 +19,9 @@ pub fn fmt_unix_timestamp_second(
     modifier: modifier::UnixTimestampSecond,
 ) -> usize
     requires room { HasRoom output.old
-        (length (timestamp_text modifier.sign_is_mandatory seconds)) }
+        (length (kind_text (timestamp modifier.sign_is_mandatory seconds))) }
     ensures writes { Writes output.old output.new result
-        (timestamp_text modifier.sign_is_mandatory seconds) }
+        (kind_text (timestamp modifier.sign_is_mandatory seconds)) }
 {
     format_signed(output, seconds, modifier.sign_is_mandatory)
 }
@@ -28,24 +29,27 @@ pub fn fmt_unix_timestamp_second(
 impl Modifier for modifier::UnixTimestampSecond {
     ghost component_of = { component.UnixTimestampSecond };
 
+    ghost GROUP = { group.Timestamp };
+
+    const GROUP: Group = Group::Timestamp;
+
     #[inline(always)]
     fn width(self) -> usize {
         15
     }
 
     #[inline(always)]
-    #[tactic(auto, using(crate::proofs::TextLemmas::text_lengths))]
-    fn write<V: ComponentProvider>(
+    #[tactic(auto, using(crate::proofs::TextLemmas::signed_lengths))]
+    fn write_supplied<V: ComponentProvider>(
         self,
         output: &mut Vec<u8>,
         value: &V,
         state: &mut V::State,
     ) -> Result<usize, Format> {
-        if !V::SUPPLIES_TIMESTAMP {
-            return Err(Format::InsufficientTypeInformation);
-        }
         Ok(fmt_unix_timestamp_second(output, value.unix_timestamp_seconds(state), self))
     }
+
+    ghost grouped = { λ _ _. refl };
 }
 
 /// Appends the milliseconds since 1970-01-01T00:00:00 UTC, a sign and all their digits.
@@ -56,9 +60,9 @@ pub fn fmt_unix_timestamp_millisecond(
     modifier: modifier::UnixTimestampMillisecond,
 ) -> usize
     requires room { HasRoom output.old
-        (length (timestamp_text modifier.sign_is_mandatory milliseconds)) }
+        (length (kind_text (timestamp modifier.sign_is_mandatory milliseconds))) }
     ensures writes { Writes output.old output.new result
-        (timestamp_text modifier.sign_is_mandatory milliseconds) }
+        (kind_text (timestamp modifier.sign_is_mandatory milliseconds)) }
 {
     format_signed(output, milliseconds, modifier.sign_is_mandatory)
 }
@@ -66,31 +70,35 @@ pub fn fmt_unix_timestamp_millisecond(
 impl Modifier for modifier::UnixTimestampMillisecond {
     ghost component_of = { component.UnixTimestampMillisecond };
 
+    ghost GROUP = { group.Timestamp };
+
+    const GROUP: Group = Group::Timestamp;
+
     #[inline(always)]
     fn width(self) -> usize {
         18
     }
 
     #[inline(always)]
-    #[tactic(auto, using(crate::proofs::TextLemmas::text_lengths))]
-    fn write<V: ComponentProvider>(
+    #[tactic(auto, using(crate::proofs::TextLemmas::signed_lengths))]
+    fn write_supplied<V: ComponentProvider>(
         self,
         output: &mut Vec<u8>,
         value: &V,
         state: &mut V::State,
     ) -> Result<usize, Format> {
-        if !V::SUPPLIES_TIMESTAMP {
-            return Err(Format::InsufficientTypeInformation);
-        }
         Ok(fmt_unix_timestamp_millisecond(output, value.unix_timestamp_milliseconds(state), self))
     }
+
+    ghost grouped = { λ _ _. refl };
 }
 
 // The sign, and all digits.
 #[tactic(auto, using(crate::proofs::TextLemmas::signed_parts))]
 fn format_signed(output: &mut Vec<u8>, number: i64, sign_is_mandatory: bool) -> usize
-    requires room { HasRoom output.old (length (timestamp_text sign_is_mandatory number)) }
-    ensures writes { Writes output.old output.new result (timestamp_text sign_is_mandatory number) }
+    requires room { HasRoom output.old (length (kind_text (timestamp sign_is_mandatory number))) }
+    ensures writes { Writes output.old output.new result
+        (kind_text (timestamp sign_is_mandatory number)) }
 {
     let sign = fmt_sign(output, number < 0, sign_is_mandatory);
     sign + format_u64_pad_none(output, number.unsigned_abs())

@@ -1,7 +1,8 @@
 //! The weekday and the weeks of the year: their texts, widths and writers.
-ghost use Rattle.std.specs.Prelude.{◌≡◌, ◌≤◌, length, decimal};
+ghost use Rattle.std.specs.Prelude.{◌≡◌, ◌≤◌, length, decimal, refl};
 ghost use Rattle.time_below.specs.Calendar.{from_sunday};
 ghost use Rattle.time_below.specs.declared.format_description.component.Component.TheVariants as component;
+ghost use Rattle.time_below.specs.declared.format_description.component.Group.TheVariants as group;
 ghost use Rattle.time_below.specs.Weekday.{days_from_monday};
 ghost use Rattle.time_fmt.specs.DateText.{weekday_name, short_name, indexed};
 ghost use Rattle.time_fmt.specs.Room.{HasRoom, Writes};
@@ -12,7 +13,7 @@ use crate::modifier::Modifier;
 use crate::writers::digits::{format_single_digit, format_two_digits};
 use crate::writers::plain::write_name;
 use time_below::Weekday;
-use time_below::format_description::modifier;
+use time_below::format_description::{Group, modifier};
 use time_digits::ru8;
 use time_provide::ComponentProvider;
 use time_provide::ranges::{IsoWeekNumber, MondayBasedWeek, SundayBasedWeek};
@@ -36,23 +37,27 @@ pub fn fmt_weekday_short(
 impl Modifier for modifier::WeekdayShort {
     ghost component_of = { component.WeekdayShort };
 
+    ghost GROUP = { group.Date };
+
+    const GROUP: Group = Group::Date;
+
     #[inline(always)]
     fn width(self) -> usize {
         3
     }
 
     #[inline(always)]
-    fn write<V: ComponentProvider>(
+    #[tactic(auto, using(crate::proofs::TextLemmas::text_lengths))]
+    fn write_supplied<V: ComponentProvider>(
         self,
         output: &mut Vec<u8>,
         value: &V,
         state: &mut V::State,
     ) -> Result<usize, Format> {
-        if !V::SUPPLIES_DATE {
-            return Err(Format::InsufficientTypeInformation);
-        }
         Ok(fmt_weekday_short(output, value.weekday(state), self))
     }
+
+    ghost grouped = { λ _ _. refl };
 }
 
 /// Appends the weekday's English name.
@@ -72,23 +77,27 @@ pub fn fmt_weekday_long(
 impl Modifier for modifier::WeekdayLong {
     ghost component_of = { component.WeekdayLong };
 
+    ghost GROUP = { group.Date };
+
+    const GROUP: Group = Group::Date;
+
     #[inline(always)]
     fn width(self) -> usize {
         9
     }
 
     #[inline(always)]
-    fn write<V: ComponentProvider>(
+    #[tactic(auto, using(crate::proofs::TextLemmas::text_lengths))]
+    fn write_supplied<V: ComponentProvider>(
         self,
         output: &mut Vec<u8>,
         value: &V,
         state: &mut V::State,
     ) -> Result<usize, Format> {
-        if !V::SUPPLIES_DATE {
-            return Err(Format::InsufficientTypeInformation);
-        }
         Ok(fmt_weekday_long(output, value.weekday(state), self))
     }
+
+    ghost grouped = { λ _ _. refl };
 }
 
 /// Appends the days from Sunday, 0 to 6, or 1 to 7 where Sunday is 1.
@@ -113,23 +122,27 @@ pub fn fmt_weekday_sunday(
 impl Modifier for modifier::WeekdaySunday {
     ghost component_of = { component.WeekdaySunday };
 
+    ghost GROUP = { group.Date };
+
+    const GROUP: Group = Group::Date;
+
     #[inline(always)]
     fn width(self) -> usize {
         1
     }
 
     #[inline(always)]
-    fn write<V: ComponentProvider>(
+    #[tactic(auto, using(crate::proofs::TextLemmas::text_lengths))]
+    fn write_supplied<V: ComponentProvider>(
         self,
         output: &mut Vec<u8>,
         value: &V,
         state: &mut V::State,
     ) -> Result<usize, Format> {
-        if !V::SUPPLIES_DATE {
-            return Err(Format::InsufficientTypeInformation);
-        }
         Ok(fmt_weekday_sunday(output, value.weekday(state), self))
     }
+
+    ghost grouped = { λ _ _. refl };
 }
 
 /// Appends the days from Monday, 0 to 6, or 1 to 7 where Monday is 1.
@@ -154,23 +167,27 @@ pub fn fmt_weekday_monday(
 impl Modifier for modifier::WeekdayMonday {
     ghost component_of = { component.WeekdayMonday };
 
+    ghost GROUP = { group.Date };
+
+    const GROUP: Group = Group::Date;
+
     #[inline(always)]
     fn width(self) -> usize {
         1
     }
 
     #[inline(always)]
-    fn write<V: ComponentProvider>(
+    #[tactic(auto, using(crate::proofs::TextLemmas::text_lengths))]
+    fn write_supplied<V: ComponentProvider>(
         self,
         output: &mut Vec<u8>,
         value: &V,
         state: &mut V::State,
     ) -> Result<usize, Format> {
-        if !V::SUPPLIES_DATE {
-            return Err(Format::InsufficientTypeInformation);
-        }
         Ok(fmt_weekday_monday(output, value.weekday(state), self))
     }
+
+    ghost grouped = { λ _ _. refl };
 }
 
 /// Appends the week of the week calendar, 1 to 53, in two places (ISO 8601-1:2019).
@@ -189,23 +206,27 @@ pub fn fmt_week_number_iso(
 impl Modifier for modifier::WeekNumberIso {
     ghost component_of = { component.WeekNumberIso };
 
+    ghost GROUP = { group.Date };
+
+    const GROUP: Group = Group::Date;
+
     #[inline(always)]
     fn width(self) -> usize {
         2
     }
 
     #[inline(always)]
-    fn write<V: ComponentProvider>(
+    #[tactic(auto, using(crate::proofs::TextLemmas::text_lengths))]
+    fn write_supplied<V: ComponentProvider>(
         self,
         output: &mut Vec<u8>,
         value: &V,
         state: &mut V::State,
     ) -> Result<usize, Format> {
-        if !V::SUPPLIES_DATE {
-            return Err(Format::InsufficientTypeInformation);
-        }
         Ok(fmt_week_number_iso(output, value.iso_week_number(state), self))
     }
+
+    ghost grouped = { λ _ _. refl };
 }
 
 /// Appends the week of the year by its Sundays, 0 to 53, in two places.
@@ -224,23 +245,27 @@ pub fn fmt_week_number_sunday(
 impl Modifier for modifier::WeekNumberSunday {
     ghost component_of = { component.WeekNumberSunday };
 
+    ghost GROUP = { group.Date };
+
+    const GROUP: Group = Group::Date;
+
     #[inline(always)]
     fn width(self) -> usize {
         2
     }
 
     #[inline(always)]
-    fn write<V: ComponentProvider>(
+    #[tactic(auto, using(crate::proofs::TextLemmas::text_lengths))]
+    fn write_supplied<V: ComponentProvider>(
         self,
         output: &mut Vec<u8>,
         value: &V,
         state: &mut V::State,
     ) -> Result<usize, Format> {
-        if !V::SUPPLIES_DATE {
-            return Err(Format::InsufficientTypeInformation);
-        }
         Ok(fmt_week_number_sunday(output, value.sunday_based_week(state), self))
     }
+
+    ghost grouped = { λ _ _. refl };
 }
 
 /// Appends the week of the year by its Mondays, 0 to 53, in two places.
@@ -259,23 +284,27 @@ pub fn fmt_week_number_monday(
 impl Modifier for modifier::WeekNumberMonday {
     ghost component_of = { component.WeekNumberMonday };
 
+    ghost GROUP = { group.Date };
+
+    const GROUP: Group = Group::Date;
+
     #[inline(always)]
     fn width(self) -> usize {
         2
     }
 
     #[inline(always)]
-    fn write<V: ComponentProvider>(
+    #[tactic(auto, using(crate::proofs::TextLemmas::text_lengths))]
+    fn write_supplied<V: ComponentProvider>(
         self,
         output: &mut Vec<u8>,
         value: &V,
         state: &mut V::State,
     ) -> Result<usize, Format> {
-        if !V::SUPPLIES_DATE {
-            return Err(Format::InsufficientTypeInformation);
-        }
         Ok(fmt_week_number_monday(output, value.monday_based_week(state), self))
     }
+
+    ghost grouped = { λ _ _. refl };
 }
 
 // The English name of a weekday, of at least three letters.

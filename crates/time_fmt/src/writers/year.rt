@@ -1,11 +1,11 @@
 //! Whole years: their texts, widths and writers.
 //!
 //! The calendar year and the year of the week calendar have the same texts.
-ghost use Rattle.std.specs.Prelude.{◌≡◌, ◌↔◌, ◌≤◌, IsOk, IfOk, IfErr, codes, length, unsigned_abs};
-ghost use Rattle.time_below.specs.ComponentRange.{conditional_range};
+ghost use Rattle.std.specs.Prelude.{length, refl};
 ghost use Rattle.time_below.specs.declared.format_description.component.Component.TheVariants as component;
-ghost use Rattle.time_fmt.specs.DateText.{extended_year_text, standard_year_text};
-ghost use Rattle.time_fmt.specs.Outcome.{Names, out_of_range};
+ghost use Rattle.time_below.specs.declared.format_description.component.Group.TheVariants as group;
+ghost use Rattle.time_fmt.specs.Kind.{kind_text, kind_outcome, extended_year, standard_year};
+ghost use Rattle.time_fmt.specs.Outcome.{AppendsWhole};
 ghost use Rattle.time_fmt.specs.Room.{HasRoom, Writes};
 ghost use Rattle.time_fmt.specs.Text.{padded_text};
 
@@ -14,8 +14,8 @@ use crate::modifier::Modifier;
 use crate::writers::digits::{fmt_sign, format_four_digits};
 use crate::writers::plain::{put_back, take_out, write_many};
 use time_below::ComponentRange;
-use time_below::format_description::modifier;
 use time_below::format_description::modifier::Padding;
+use time_below::format_description::{Group, modifier};
 use time_digits::num_fmt::four_to_six_digits;
 use time_digits::{ri16, ru16, ru32};
 use time_provide::ComponentProvider;
@@ -30,9 +30,9 @@ pub fn fmt_calendar_year_full_extended_range(
     modifier: modifier::CalendarYearFullExtendedRange,
 ) -> usize
     requires room { HasRoom output.old
-        (length (extended_year_text modifier.padding modifier.sign_is_mandatory year)) }
+        (length (kind_text (extended_year modifier.padding modifier.sign_is_mandatory year))) }
     ensures writes { Writes output.old output.new result
-        (extended_year_text modifier.padding modifier.sign_is_mandatory year) }
+        (kind_text (extended_year modifier.padding modifier.sign_is_mandatory year)) }
 {
     write_extended_year(output, year, modifier.padding, modifier.sign_is_mandatory)
 }
@@ -40,23 +40,27 @@ pub fn fmt_calendar_year_full_extended_range(
 impl Modifier for modifier::CalendarYearFullExtendedRange {
     ghost component_of = { component.CalendarYearFullExtendedRange };
 
+    ghost GROUP = { group.Date };
+
+    const GROUP: Group = Group::Date;
+
     #[inline(always)]
     fn width(self) -> usize {
         7
     }
 
     #[inline(always)]
-    fn write<V: ComponentProvider>(
+    #[tactic(auto, using(crate::proofs::TextLemmas::signed_lengths))]
+    fn write_supplied<V: ComponentProvider>(
         self,
         output: &mut Vec<u8>,
         value: &V,
         state: &mut V::State,
     ) -> Result<usize, Format> {
-        if !V::SUPPLIES_DATE {
-            return Err(Format::InsufficientTypeInformation);
-        }
         Ok(fmt_calendar_year_full_extended_range(output, value.calendar_year(state), self))
     }
+
+    ghost grouped = { λ _ _. refl };
 }
 
 /// Appends the sign and four places of the year, -9,999 to 9,999.
@@ -67,9 +71,9 @@ pub fn fmt_calendar_year_full_standard_range(
     modifier: modifier::CalendarYearFullStandardRange,
 ) -> usize
     requires room { HasRoom output.old
-        (length (standard_year_text modifier.padding modifier.sign_is_mandatory year)) }
+        (length (kind_text (standard_year modifier.padding modifier.sign_is_mandatory year))) }
     ensures writes { Writes output.old output.new result
-        (standard_year_text modifier.padding modifier.sign_is_mandatory year) }
+        (kind_text (standard_year modifier.padding modifier.sign_is_mandatory year)) }
 {
     write_standard_year(output, year, modifier.padding, modifier.sign_is_mandatory)
 }
@@ -77,27 +81,28 @@ pub fn fmt_calendar_year_full_standard_range(
 impl Modifier for modifier::CalendarYearFullStandardRange {
     ghost component_of = { component.CalendarYearFullStandardRange };
 
+    ghost GROUP = { group.Date };
+
+    const GROUP: Group = Group::Date;
+
     #[inline(always)]
     fn width(self) -> usize {
         5
     }
 
     #[inline(always)]
-    #[tactic(auto, using(crate::proofs::DateTextLemmas::year_lengths))]
-    fn write<V: ComponentProvider>(
+    #[tactic(auto, using(crate::proofs::TextLemmas::signed_lengths))]
+    fn write_supplied<V: ComponentProvider>(
         self,
         output: &mut Vec<u8>,
         value: &V,
         state: &mut V::State,
     ) -> Result<usize, Format> {
-        if !V::SUPPLIES_DATE {
-            return Err(Format::InsufficientTypeInformation);
-        }
-        match standard_year(value.calendar_year(state)) {
-            Ok(year) => Ok(fmt_calendar_year_full_standard_range(output, year, self)),
-            Err(refusal) => Err(refusal),
-        }
+        let year = value.calendar_year(state);
+        write_accepted_year(output, year, self.padding, self.sign_is_mandatory)
     }
+
+    ghost grouped = { λ _ _. refl };
 }
 
 /// Appends the sign and four places of the week calendar's year, -999,999 to 999,999
@@ -109,9 +114,9 @@ pub fn fmt_iso_year_full_extended_range(
     modifier: modifier::IsoYearFullExtendedRange,
 ) -> usize
     requires room { HasRoom output.old
-        (length (extended_year_text modifier.padding modifier.sign_is_mandatory year)) }
+        (length (kind_text (extended_year modifier.padding modifier.sign_is_mandatory year))) }
     ensures writes { Writes output.old output.new result
-        (extended_year_text modifier.padding modifier.sign_is_mandatory year) }
+        (kind_text (extended_year modifier.padding modifier.sign_is_mandatory year)) }
 {
     write_extended_year(output, year, modifier.padding, modifier.sign_is_mandatory)
 }
@@ -119,23 +124,27 @@ pub fn fmt_iso_year_full_extended_range(
 impl Modifier for modifier::IsoYearFullExtendedRange {
     ghost component_of = { component.IsoYearFullExtendedRange };
 
+    ghost GROUP = { group.Date };
+
+    const GROUP: Group = Group::Date;
+
     #[inline(always)]
     fn width(self) -> usize {
         7
     }
 
     #[inline(always)]
-    fn write<V: ComponentProvider>(
+    #[tactic(auto, using(crate::proofs::TextLemmas::signed_lengths))]
+    fn write_supplied<V: ComponentProvider>(
         self,
         output: &mut Vec<u8>,
         value: &V,
         state: &mut V::State,
     ) -> Result<usize, Format> {
-        if !V::SUPPLIES_DATE {
-            return Err(Format::InsufficientTypeInformation);
-        }
         Ok(fmt_iso_year_full_extended_range(output, value.iso_year(state), self))
     }
+
+    ghost grouped = { λ _ _. refl };
 }
 
 /// Appends the sign and four places of the week calendar's year, -9,999 to 9,999 (ISO 8601-1:2019).
@@ -146,9 +155,9 @@ pub fn fmt_iso_year_full_standard_range(
     modifier: modifier::IsoYearFullStandardRange,
 ) -> usize
     requires room { HasRoom output.old
-        (length (standard_year_text modifier.padding modifier.sign_is_mandatory year)) }
+        (length (kind_text (standard_year modifier.padding modifier.sign_is_mandatory year))) }
     ensures writes { Writes output.old output.new result
-        (standard_year_text modifier.padding modifier.sign_is_mandatory year) }
+        (kind_text (standard_year modifier.padding modifier.sign_is_mandatory year)) }
 {
     write_standard_year(output, year, modifier.padding, modifier.sign_is_mandatory)
 }
@@ -156,27 +165,28 @@ pub fn fmt_iso_year_full_standard_range(
 impl Modifier for modifier::IsoYearFullStandardRange {
     ghost component_of = { component.IsoYearFullStandardRange };
 
+    ghost GROUP = { group.Date };
+
+    const GROUP: Group = Group::Date;
+
     #[inline(always)]
     fn width(self) -> usize {
         5
     }
 
     #[inline(always)]
-    #[tactic(auto, using(crate::proofs::DateTextLemmas::year_lengths))]
-    fn write<V: ComponentProvider>(
+    #[tactic(auto, using(crate::proofs::TextLemmas::signed_lengths))]
+    fn write_supplied<V: ComponentProvider>(
         self,
         output: &mut Vec<u8>,
         value: &V,
         state: &mut V::State,
     ) -> Result<usize, Format> {
-        if !V::SUPPLIES_DATE {
-            return Err(Format::InsufficientTypeInformation);
-        }
-        match standard_year(value.iso_year(state)) {
-            Ok(year) => Ok(fmt_iso_year_full_standard_range(output, year, self)),
-            Err(refusal) => Err(refusal),
-        }
+        let year = value.iso_year(state);
+        write_accepted_year(output, year, self.padding, self.sign_is_mandatory)
     }
+
+    ghost grouped = { λ _ _. refl };
 }
 
 // Most years have four digits and no sign.
@@ -188,9 +198,9 @@ fn write_extended_year(
     sign_is_mandatory: bool,
 ) -> usize
     requires room { HasRoom output.old
-        (length (extended_year_text padding sign_is_mandatory year)) }
+        (length (kind_text (extended_year padding sign_is_mandatory year))) }
     ensures writes { Writes output.old output.new result
-        (extended_year_text padding sign_is_mandatory year) }
+        (kind_text (extended_year padding sign_is_mandatory year)) }
 {
     let number = year.get();
     if !sign_is_mandatory && 0 <= number && number <= 9_999 {
@@ -208,9 +218,9 @@ fn write_rare_year(
     sign_is_mandatory: bool,
 ) -> usize
     requires room { HasRoom output.old
-        (length (extended_year_text padding sign_is_mandatory year)) }
+        (length (kind_text (extended_year padding sign_is_mandatory year))) }
     ensures writes { Writes output.old output.new result
-        (extended_year_text padding sign_is_mandatory year) }
+        (kind_text (extended_year padding sign_is_mandatory year)) }
 {
     let mut taken = take_out(output);
     let count = write_signed_year(&mut taken, year, padding, sign_is_mandatory);
@@ -228,9 +238,9 @@ fn write_signed_year(
     sign_is_mandatory: bool,
 ) -> usize
     requires room { HasRoom output.old
-        (length (extended_year_text padding sign_is_mandatory year)) }
+        (length (kind_text (extended_year padding sign_is_mandatory year))) }
     ensures writes { Writes output.old output.new result
-        (extended_year_text padding sign_is_mandatory year) }
+        (kind_text (extended_year padding sign_is_mandatory year)) }
 {
     let number = year.get();
     let sign = fmt_sign(output, number < 0, sign_is_mandatory || number > 9_999);
@@ -244,16 +254,16 @@ fn write_standard_year(
     sign_is_mandatory: bool,
 ) -> usize
     requires room { HasRoom output.old
-        (length (standard_year_text padding sign_is_mandatory year)) }
+        (length (kind_text (standard_year padding sign_is_mandatory year))) }
     ensures writes { Writes output.old output.new result
-        (standard_year_text padding sign_is_mandatory year) }
+        (kind_text (standard_year padding sign_is_mandatory year)) }
 {
     let sign = fmt_sign(output, year.get() < 0, sign_is_mandatory);
     sign + format_four_digits(output, year.abs(), padding)
 }
 
 // Appends a year in four places, or all its digits.
-#[tactic(auto, using(crate::proofs::DateTextLemmas::whole_year))]
+#[tactic(auto, using(crate::proofs::TextLemmas::whole_year))]
 fn write_year_digits(output: &mut Vec<u8>, year: ru32<0, 999_999>, padding: Padding) -> usize
     requires room { HasRoom output.old (length (padded_text padding 4 year)) }
     ensures writes { Writes output.old output.new result (padded_text padding 4 year) }
@@ -266,16 +276,22 @@ fn write_year_digits(output: &mut Vec<u8>, year: ru32<0, 999_999>, padding: Padd
     }
 }
 
-// The year, if it has at most four digits.
-fn standard_year(year: Year) -> Result<StandardYear, Format>
-    ensures accepted { IsOk result ↔ (unsigned_abs year ≤ 9_999) }
-    ensures value { IfOk result (λ y. y ≡ year) }
-    ensures refusal { IfErr result
-        (λ e. Names e (out_of_range (conditional_range (codes "year")))) }
+// Appends a year of either calendar, if it has at most four digits.
+#[tactic(auto, using(crate::proofs::TextLemmas::signed_lengths))]
+fn write_accepted_year(
+    output: &mut Vec<u8>,
+    year: Year,
+    padding: Padding,
+    sign_is_mandatory: bool,
+) -> Result<usize, Format>
+    requires room { HasRoom output.old 5 }
+    ensures appends { AppendsWhole 5 output.old output.new result
+        (kind_outcome (standard_year padding sign_is_mandatory year)) }
 {
     let number = year.get();
     if number.unsigned_abs() > 9_999 {
         return Err(Format::ComponentRange(ComponentRange::conditional("year")));
     }
-    Ok(ri16::new(number as i16).unwrap())
+    let year = ri16::new(number as i16).unwrap();
+    Ok(write_standard_year(output, year, padding, sign_is_mandatory))
 }

@@ -5,33 +5,33 @@ use std::process::Abort;
 use time_below::{ComponentRange, Date, Month, Weekday};
 
 #[test]
-fn parts_of_a_date(rt: HostRuntime) {
-    let date = date_at(&rt, 1997, Month::November, 12);
+fn a_date_has_its_parts(rt: HostRuntime) {
+    let date = date_at(&rt, (1997, 11, 12));
     assert_same(&rt, date.to_calendar_date(), (1997, Month::November, 12));
     assert_same(&rt, u8::from(date.month()), 11);
     assert_same(&rt, (date.year(), date.ordinal()), (1997, 316));
 }
 
 #[test]
-fn weeks_of_a_date(rt: HostRuntime) {
-    let date = date_at(&rt, 2010, Month::January, 3);
+fn a_year_may_begin_in_the_last_week_of_the_year_before(rt: HostRuntime) {
+    let date = date_at(&rt, (2010, 1, 3));
     assert_same(&rt, date.iso_year_week(), (2009, 53));
     assert_same(&rt, date.monday_based_week(), 0);
     assert_same(&rt, date.sunday_based_week(), 1);
 }
 
 #[test]
-fn weekdays_of_dates(rt: HostRuntime) {
-    let leap_day = date_at(&rt, 2000, Month::February, 29);
+fn the_calendar_begins_on_a_monday_and_ends_on_a_friday(rt: HostRuntime) {
+    let leap_day = date_at(&rt, (2000, 2, 29));
     assert_same(&rt, leap_day.weekday(), Weekday::Tuesday);
     assert_same(
         &rt,
-        date_at(&rt, -999_999, Month::January, 1).weekday(),
+        date_at(&rt, (-999_999, 1, 1)).weekday(),
         Weekday::Monday,
     );
     assert_same(
         &rt,
-        date_at(&rt, 999_999, Month::December, 31).weekday(),
+        date_at(&rt, (999_999, 12, 31)).weekday(),
         Weekday::Friday,
     );
 }
@@ -49,7 +49,7 @@ fn assert_refusal(rt: &impl Abort, refusal: ComponentRange, name: &str, is_condi
 }
 
 #[test]
-fn refused_calendar_dates(rt: HostRuntime) {
+fn refuses_a_date_by_its_year_or_its_day(rt: HostRuntime) {
     for &(year, month, day, name, is_conditional) in REFUSED_DATES {
         let Err(refusal) = Date::from_calendar_date(year, month, day) else {
             panic!(rt; "accepted day {day} of {year}");
@@ -64,7 +64,7 @@ const REFUSED_ORDINALS: &[(i32, u16, &str, bool)] = &[
 ];
 
 #[test]
-fn ordinal_dates(rt: HostRuntime) {
+fn refuses_day_366_of_a_common_year(rt: HostRuntime) {
     let Ok(date) = Date::from_ordinal_date(2024, 366) else {
         panic!(rt; "refused");
     };
@@ -80,7 +80,7 @@ fn ordinal_dates(rt: HostRuntime) {
 const NUMBERED: &[(Weekday, u8, u8)] = &[(Weekday::Monday, 0, 1), (Weekday::Sunday, 6, 0)];
 
 #[test]
-fn numbers_of_weekdays(rt: HostRuntime) {
+fn weekdays_are_numbered_from_monday_and_from_sunday(rt: HostRuntime) {
     for &(weekday, from_monday, from_sunday) in NUMBERED {
         assert_same(&rt, weekday.number_days_from_monday(), from_monday);
         assert_same(&rt, weekday.number_days_from_sunday(), from_sunday);

@@ -16,7 +16,7 @@ fn date_on(rt: &impl Abort, year: i32, ordinal: u16) -> Date {
 
 // The last second of a day.
 fn last_second(rt: &impl Abort) -> Time {
-    time_at(rt, 23, 59, 59, 5)
+    time_at(rt, (23, 59, 59, 5))
 }
 
 const OFFSETS: &[((i8, i8, i8), (i8, i8, i8))] = &[
@@ -27,14 +27,14 @@ const OFFSETS: &[((i8, i8, i8), (i8, i8, i8))] = &[
 ];
 
 #[test]
-fn signs_of_offsets(rt: HostRuntime) {
+fn the_largest_part_has_the_sign_of_an_offset(rt: HostRuntime) {
     for &(given, settled) in OFFSETS {
-        let offset = offset_at(&rt, given.0, given.1, given.2);
+        let offset = offset_at(&rt, given);
         assert_same(&rt, offset.as_hms(), settled);
     }
-    let half_hour = offset_at(&rt, 0, -30, 0);
+    let half_hour = offset_at(&rt, (0, -30, 0));
     assert_that(&rt, half_hour.is_negative() && !half_hour.is_utc());
-    let utc = offset_at(&rt, 0, 0, 0);
+    let utc = offset_at(&rt, (0, 0, 0));
     assert_that(&rt, utc.is_utc() && !utc.is_negative());
 }
 
@@ -46,7 +46,7 @@ const REFUSED_OFFSETS: &[(i8, i8, i8, &str)] = &[
 ];
 
 #[test]
-fn refused_offsets(rt: HostRuntime) {
+fn refuses_an_offset_by_its_first_part_out_of_range(rt: HostRuntime) {
     for &(hours, minutes, seconds, name) in REFUSED_OFFSETS {
         let Err(refusal) = UtcOffset::from_hms(hours, minutes, seconds) else {
             panic!(rt; "accepted {name}");
@@ -61,9 +61,9 @@ const TIMESTAMPS: &[(i64, u32, i64)] = &[
 ];
 
 #[test]
-fn parts_of_timestamps(rt: HostRuntime) {
+fn milliseconds_round_toward_zero(rt: HostRuntime) {
     for &(seconds, nanosecond, milliseconds) in TIMESTAMPS {
-        let stamp = timestamp_at(&rt, seconds, nanosecond);
+        let stamp = timestamp_at(&rt, (seconds, nanosecond));
         assert_same(&rt, stamp.as_seconds(), seconds);
         assert_same(&rt, stamp.as_parts(), (seconds, nanosecond));
         assert_same(&rt, stamp.as_milliseconds(), milliseconds);
@@ -71,8 +71,8 @@ fn parts_of_timestamps(rt: HostRuntime) {
 }
 
 #[test]
-fn dates_and_times_of_timestamps(rt: HostRuntime) {
-    let stamp = timestamp_at(&rt, -1, 5);
+fn a_timestamp_before_1970_is_on_the_day_before(rt: HostRuntime) {
+    let stamp = timestamp_at(&rt, (-1, 5));
     assert_same(
         &rt,
         (stamp.date().year(), stamp.date().ordinal()),
@@ -87,7 +87,7 @@ const REFUSED_TIMESTAMPS: &[(i64, u32, &str)] = &[
 ];
 
 #[test]
-fn refused_timestamps(rt: HostRuntime) {
+fn refuses_a_timestamp_past_the_last_year(rt: HostRuntime) {
     for &(seconds, nanosecond, name) in REFUSED_TIMESTAMPS {
         let Err(refusal) = Timestamp::new(seconds, nanosecond) else {
             panic!(rt; "accepted {seconds}");
@@ -97,7 +97,7 @@ fn refused_timestamps(rt: HostRuntime) {
 }
 
 #[test]
-fn utc_dates_and_times(rt: HostRuntime) {
+fn a_utc_date_and_time_has_its_parts(rt: HostRuntime) {
     let utc = UtcDateTime::new(date_on(&rt, 1969, 365), last_second(&rt));
     assert_same(&rt, utc.unix_timestamp(), -1);
     assert_same(&rt, utc.date().ordinal(), 365);
@@ -105,11 +105,11 @@ fn utc_dates_and_times(rt: HostRuntime) {
 }
 
 #[test]
-fn local_dates_and_times(rt: HostRuntime) {
+fn an_offset_moves_a_moment_past_the_last_timestamp(rt: HostRuntime) {
     let local = OffsetDateTime::new_in_offset(
         date_on(&rt, 999_999, 365),
         last_second(&rt),
-        offset_at(&rt, -25, -59, -59),
+        offset_at(&rt, (-25, -59, -59)),
     );
     assert_same(&rt, local.unix_timestamp(), 31_494_784_874_398);
     assert_same(&rt, local.date().year(), 999_999);
@@ -118,7 +118,7 @@ fn local_dates_and_times(rt: HostRuntime) {
 }
 
 #[test]
-fn plain_dates_and_times(rt: HostRuntime) {
+fn a_plain_date_and_time_has_its_parts(rt: HostRuntime) {
     let plain = PlainDateTime::new(date_on(&rt, 2010, 3), last_second(&rt));
     assert_same(&rt, plain.date().ordinal(), 3);
     assert_same(&rt, plain.time().as_hms_nano(), (23, 59, 59, 5));

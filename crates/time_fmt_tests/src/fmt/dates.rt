@@ -1,569 +1,184 @@
 //! Dates.
-use crate::texts::{
-    DAY, assert_component, assert_refused_after, assert_same, assert_text, assert_that,
-};
-use crate::values::{date_at, wednesday};
+use crate::texts::{DAY, assert_component, assert_refused_after, assert_same, assert_text};
+use crate::values::date_at;
+use std::alloc::Global;
+use std::process::Abort;
 use time_below::format_description::modifier::Padding;
-use time_below::format_description::{BorrowedFormatItem, Component, modifier};
-use time_below::{Date, Month};
-use time_fmt::{ComputeMetadata, Format, Formattable};
-use time_provide::DateState;
+use time_below::format_description::{
+    BorrowedFormatItem as Item, Component, component_width, modifier,
+};
+use time_fmt::ComputeMetadata;
+use time_fmt::parts::{HOUR, MONTH_LONG, YEAR_CENTURY_STANDARD, YEAR_STANDARD};
 
-const DATE_PARTS: &[(Component, &str, usize)] = &[
-    (
-        Component::Day(modifier::Day {
-            padding: Padding::Zero,
-        }),
-        "12",
-        2,
-    ),
-    (
-        Component::MonthShort(modifier::MonthShort {
-            case_sensitive: true,
-        }),
-        "Nov",
-        3,
-    ),
-    (
-        Component::MonthLong(modifier::MonthLong {
-            case_sensitive: false,
-        }),
-        "November",
-        9,
-    ),
-    (
-        Component::MonthNumerical(modifier::MonthNumerical {
-            padding: Padding::Zero,
-        }),
-        "11",
-        2,
-    ),
-    (
-        Component::Ordinal(modifier::Ordinal {
-            padding: Padding::Zero,
-        }),
-        "316",
-        3,
-    ),
-    (
-        Component::WeekdayShort(modifier::WeekdayShort {
-            case_sensitive: true,
-        }),
-        "Wed",
-        3,
-    ),
-    (
-        Component::WeekdayLong(modifier::WeekdayLong {
-            case_sensitive: true,
-        }),
-        "Wednesday",
-        9,
-    ),
-    (
-        Component::WeekdaySunday(modifier::WeekdaySunday { one_indexed: true }),
-        "4",
-        1,
-    ),
-    (
-        Component::WeekdayMonday(modifier::WeekdayMonday { one_indexed: false }),
-        "2",
-        1,
-    ),
-    (
-        Component::WeekNumberSunday(modifier::WeekNumberSunday {
-            padding: Padding::Zero,
-        }),
-        "45",
-        2,
-    ),
-    (
-        Component::WeekNumberMonday(modifier::WeekNumberMonday {
-            padding: Padding::Zero,
-        }),
-        "45",
-        2,
-    ),
-    (
-        Component::WeekNumberIso(modifier::WeekNumberIso {
-            padding: Padding::Zero,
-        }),
-        "46",
-        2,
-    ),
-];
+/// Rows of a date as a year, a month and a day, a component, and its text.
+type Rows = &'static [((i32, u8, u8), Component, &'static str)];
 
-#[test]
-fn parts_of_a_wednesday(rt: HostRuntime) {
-    let value = wednesday(&rt);
-    for &(component, text, width) in DATE_PARTS {
-        assert_component(&rt, rt.alloc(), component, &value, text, width);
+fn assert_dates(rt: &impl Abort, alloc: Global, rows: Rows) {
+    for &(date, component, text) in rows {
+        let value = date_at(rt, date);
+        assert_component(
+            rt,
+            alloc,
+            component,
+            &value,
+            text,
+            component_width(&component),
+        );
     }
 }
 
-const OTHER_PARTS: &[(Component, &str, usize)] = &[
-    (
-        Component::Hour24(modifier::Hour24 {
-            padding: Padding::Zero,
-        }),
-        "09",
-        2,
-    ),
-    (
-        Component::Minute(modifier::Minute {
-            padding: Padding::Zero,
-        }),
-        "55",
-        2,
-    ),
-    (
-        Component::Second(modifier::Second {
-            padding: Padding::Zero,
-        }),
-        "06",
-        2,
-    ),
-    (
-        Component::OffsetHour(modifier::OffsetHour {
-            padding: Padding::Zero,
-            sign_is_mandatory: false,
-        }),
-        "-06",
-        3,
-    ),
-    (
-        Component::OffsetMinute(modifier::OffsetMinute {
-            padding: Padding::Zero,
-        }),
-        "00",
-        2,
-    ),
-    (
-        Component::UnixTimestampSecond(modifier::UnixTimestampSecond {
-            sign_is_mandatory: false,
-        }),
-        "879350106",
-        15,
-    ),
-];
+const PADDED: Rows = padded! {
+    (2005, 2, 3) => Day "03" " 3" "3",
+    (2005, 2, 3) => MonthNumerical "02" " 2" "2",
+    (2005, 2, 3) => Ordinal "034" " 34" "34",
+    (2005, 2, 3) => WeekNumberIso "05" " 5" "5",
+    (2005, 2, 3) => WeekNumberSunday "05" " 5" "5",
+    (2005, 2, 3) => WeekNumberMonday "05" " 5" "5",
+    (2005, 2, 3) => CalendarYearLastTwo "05" " 5" "5",
+    (2005, 2, 3) => IsoYearLastTwo "05" " 5" "5",
+    (-50, 6, 15) => CalendarYearLastTwo "50" "50" "50",
+    (-50, 6, 15) => IsoYearLastTwo "50" "50" "50",
+};
 
 #[test]
-fn time_and_offset_of_a_wednesday(rt: HostRuntime) {
-    let value = wednesday(&rt);
-    for &(component, text, width) in OTHER_PARTS {
-        assert_component(&rt, rt.alloc(), component, &value, text, width);
-    }
+fn numbers_of_a_date_are_filled_as_asked_for(rt: HostRuntime) {
+    assert_dates(&rt, rt.alloc(), PADDED);
 }
 
-const YEARS: &[(i32, Padding, &str)] = &[
-    (-44, Padding::Space, "-  44"),
-    (12_345, Padding::Zero, "+12345"),
-    (5, Padding::Zero, "0005"),
-    (5, Padding::None, "5"),
-    (999_999, Padding::None, "+999999"),
-    (-999_999, Padding::Zero, "-999999"),
-];
-
-#[test]
-fn years_by_all_their_digits(rt: HostRuntime) {
-    for &(year, padding, text) in YEARS {
-        let value = date_at(&rt, year, Month::June, 15);
-        let sign_is_mandatory = false;
-        let full = Component::CalendarYearFullExtendedRange(
-            modifier::CalendarYearFullExtendedRange {
-                padding,
-                sign_is_mandatory,
-            },
-        );
-        assert_component(&rt, rt.alloc(), full, &value, text, 7);
-        let iso = Component::IsoYearFullExtendedRange(modifier::IsoYearFullExtendedRange {
-            padding,
-            sign_is_mandatory,
-        });
-        assert_component(&rt, rt.alloc(), iso, &value, text, 7);
-    }
+/// Rows of a year's June 15, the choices of its components, and the texts of the year and of its century,
+/// which are the same in both calendars and both ranges.
+macro_rules! years {
+    ($($year:literal $padding:ident $sign:literal $full:literal $century:literal,)+) => {
+        signed! {$(
+            ($year, 6, 15) => CalendarYearFullExtendedRange $padding $sign $full,
+            ($year, 6, 15) => CalendarYearFullStandardRange $padding $sign $full,
+            ($year, 6, 15) => CalendarYearCenturyExtendedRange $padding $sign $century,
+            ($year, 6, 15) => CalendarYearCenturyStandardRange $padding $sign $century,
+            ($year, 6, 15) => IsoYearFullExtendedRange $padding $sign $full,
+            ($year, 6, 15) => IsoYearFullStandardRange $padding $sign $full,
+            ($year, 6, 15) => IsoYearCenturyExtendedRange $padding $sign $century,
+            ($year, 6, 15) => IsoYearCenturyStandardRange $padding $sign $century,
+        )+}
+    };
 }
 
-const CENTURIES: &[(i32, bool, &str, &str)] = &[
-    (-50, false, "-00", "-00"),
-    (50, true, "+00", "+00"),
-    (1997, false, "19", "19"),
-    (9_999, true, "+99", "+99"),
-];
+const YEARS: Rows = years! {
+    505 Zero false "0505" "05",
+    505 Space false " 505" " 5",
+    505 None false "505" "5",
+    505 Zero true "+0505" "+05",
+    505 Space true "+ 505" "+ 5",
+    505 None true "+505" "+5",
+    -505 Zero false "-0505" "-05",
+    -505 Space true "- 505" "- 5",
+    -505 None false "-505" "-5",
+};
 
 #[test]
-fn centuries_and_last_digits(rt: HostRuntime) {
-    let padding = Padding::Zero;
-    for &(year, sign_is_mandatory, century, standard) in CENTURIES {
-        let value = date_at(&rt, year, Month::June, 15);
-        let extended = Component::CalendarYearCenturyExtendedRange(
-            modifier::CalendarYearCenturyExtendedRange {
-                padding,
-                sign_is_mandatory,
-            },
-        );
-        assert_component(&rt, rt.alloc(), extended, &value, century, 5);
-        let narrow = Component::IsoYearCenturyStandardRange(
-            modifier::IsoYearCenturyStandardRange {
-                padding,
-                sign_is_mandatory,
-            },
-        );
-        assert_component(&rt, rt.alloc(), narrow, &value, standard, 3);
-    }
-    let greatest = date_at(&rt, 999_999, Month::December, 31);
-    let extended = Component::CalendarYearCenturyExtendedRange(
-        modifier::CalendarYearCenturyExtendedRange {
-            padding,
-            sign_is_mandatory: false,
-        },
-    );
-    assert_component(&rt, rt.alloc(), extended, &greatest, "+9999", 5);
-    let ancient = date_at(&rt, -50, Month::June, 15);
-    let last_two = Component::CalendarYearLastTwo(modifier::CalendarYearLastTwo { padding });
-    assert_component(&rt, rt.alloc(), last_two, &ancient, "50", 2);
-    let iso = Component::IsoYearLastTwo(modifier::IsoYearLastTwo { padding });
-    assert_component(&rt, rt.alloc(), iso, &ancient, "50", 2);
+fn a_sign_stands_before_the_padding_of_a_year(rt: HostRuntime) {
+    assert_dates(&rt, rt.alloc(), YEARS);
+}
+
+const FAR_YEARS: Rows = signed! {
+    (-44, 6, 15) => CalendarYearFullExtendedRange Space false "-  44",
+    (-44, 6, 15) => IsoYearFullExtendedRange Space false "-  44",
+    (12_345, 6, 15) => CalendarYearFullExtendedRange Zero false "+12345",
+    (12_345, 6, 15) => IsoYearFullExtendedRange Zero false "+12345",
+    (5, 6, 15) => CalendarYearFullExtendedRange Zero false "0005",
+    (5, 6, 15) => IsoYearFullExtendedRange Zero false "0005",
+    (5, 6, 15) => CalendarYearFullExtendedRange None false "5",
+    (5, 6, 15) => IsoYearFullExtendedRange None false "5",
+    (999_999, 6, 15) => CalendarYearFullExtendedRange None false "+999999",
+    (999_999, 6, 15) => IsoYearFullExtendedRange None false "+999999",
+    (-999_999, 6, 15) => CalendarYearFullExtendedRange Zero false "-999999",
+    (-999_999, 6, 15) => IsoYearFullExtendedRange Zero false "-999999",
+    (-50, 6, 15) => CalendarYearCenturyExtendedRange Zero false "-00",
+    (-50, 6, 15) => IsoYearCenturyStandardRange Zero false "-00",
+    (50, 6, 15) => CalendarYearCenturyExtendedRange Zero true "+00",
+    (50, 6, 15) => IsoYearCenturyStandardRange Zero true "+00",
+    (1997, 6, 15) => CalendarYearCenturyExtendedRange Zero false "19",
+    (1997, 6, 15) => IsoYearCenturyStandardRange Zero false "19",
+    (9_999, 6, 15) => CalendarYearCenturyExtendedRange Zero true "+99",
+    (9_999, 6, 15) => IsoYearCenturyStandardRange Zero true "+99",
+    (999_999, 12, 31) => CalendarYearCenturyExtendedRange Zero false "+9999",
+};
+
+#[test]
+fn years_have_all_their_digits_and_centuries_the_sign_of_the_year(rt: HostRuntime) {
+    assert_dates(&rt, rt.alloc(), FAR_YEARS);
+}
+
+// The year 2001 begins on a Monday.
+const NAMES: Rows = rows! {
+    (2001, 1, 1) => MonthLong { case_sensitive: true } "January",
+    (2001, 2, 1) => MonthLong { case_sensitive: true } "February",
+    (2001, 3, 1) => MonthLong { case_sensitive: true } "March",
+    (2001, 4, 1) => MonthLong { case_sensitive: true } "April",
+    (2001, 5, 1) => MonthLong { case_sensitive: true } "May",
+    (2001, 6, 1) => MonthLong { case_sensitive: true } "June",
+    (2001, 7, 1) => MonthLong { case_sensitive: true } "July",
+    (2001, 8, 1) => MonthLong { case_sensitive: true } "August",
+    (2001, 9, 1) => MonthLong { case_sensitive: true } "September",
+    (2001, 10, 1) => MonthLong { case_sensitive: true } "October",
+    (2001, 11, 1) => MonthLong { case_sensitive: true } "November",
+    (2001, 12, 1) => MonthLong { case_sensitive: true } "December",
+    (2001, 1, 1) => WeekdayLong { case_sensitive: true } "Monday",
+    (2001, 1, 2) => WeekdayLong { case_sensitive: true } "Tuesday",
+    (2001, 1, 3) => WeekdayLong { case_sensitive: true } "Wednesday",
+    (2001, 1, 4) => WeekdayLong { case_sensitive: true } "Thursday",
+    (2001, 1, 5) => WeekdayLong { case_sensitive: true } "Friday",
+    (2001, 1, 6) => WeekdayLong { case_sensitive: true } "Saturday",
+    (2001, 1, 7) => WeekdayLong { case_sensitive: true } "Sunday",
+};
+
+#[test]
+fn all_months_and_weekdays_have_their_names(rt: HostRuntime) {
+    assert_dates(&rt, rt.alloc(), NAMES);
 }
 
 const STANDARD: &[Component] = &[
-    Component::CalendarYearFullStandardRange(modifier::CalendarYearFullStandardRange {
-        padding: Padding::Zero,
-        sign_is_mandatory: false,
-    }),
-    Component::CalendarYearCenturyStandardRange(modifier::CalendarYearCenturyStandardRange {
-        padding: Padding::Zero,
-        sign_is_mandatory: false,
-    }),
+    Component::CalendarYearFullStandardRange(YEAR_STANDARD),
+    Component::CalendarYearCenturyStandardRange(YEAR_CENTURY_STANDARD),
 ];
 
 #[test]
-fn standard_ranges_refuse_what_is_outside(rt: HostRuntime) {
-    let value = date_at(&rt, 10_000, Month::January, 1);
+fn standard_ranges_refuse_the_year_10000(rt: HostRuntime) {
+    let value = date_at(&rt, (10_000, 1, 1));
     for &component in STANDARD {
-        let item = BorrowedFormatItem::Component(component);
+        let item = Item::Component(component);
         assert_refused_after(&rt, rt.alloc(), &item, &value, ("x", "year", "x01"));
     }
 }
 
+const ON_AND_AT: &[Item<'static>] = &[
+    Item::StringLiteral("on "),
+    Item::Component(DAY),
+    Item::StringLiteral(" at "),
+    Item::Component(Component::Hour24(HOUR)),
+];
+
 #[test]
 fn bytes_before_a_refusal_stay(rt: HostRuntime) {
-    let value = date_at(&rt, 1997, Month::November, 12);
-    let items = [
-        BorrowedFormatItem::StringLiteral("on "),
-        BorrowedFormatItem::Component(DAY),
-        BorrowedFormatItem::StringLiteral(" at "),
-        BorrowedFormatItem::Component(Component::Hour24(modifier::Hour24 {
-            padding: Padding::Zero,
-        })),
-    ];
-    let item = BorrowedFormatItem::Compound(&items);
+    let (value, item) = (date_at(&rt, (1997, 11, 12)), Item::Compound(ON_AND_AT));
     assert_same(&rt, item.compute_metadata().max_bytes_needed, 11);
     let texts = ("xon 12 at ", "insufficient", "xon 12 at 12");
     assert_refused_after(&rt, rt.alloc(), &item, &value, texts);
 }
 
-#[test]
-fn trees_over_a_date(rt: HostRuntime) {
-    let value = date_at(&rt, 1997, Month::November, 12);
-    let day = BorrowedFormatItem::Component(DAY);
-    let month = BorrowedFormatItem::Component(Component::MonthLong(modifier::MonthLong {
-        case_sensitive: true,
-    }));
-    assert_text(
-        &rt,
-        rt.alloc(),
-        &BorrowedFormatItem::Optional(&day),
-        &value,
-        "12",
-        2,
-    );
-    assert_text(
-        &rt,
-        rt.alloc(),
-        &BorrowedFormatItem::First(&[day, month]),
-        &value,
-        "12",
-        2,
-    );
-}
+const DAY_AND_MONTH: &[Item<'static>] = &[
+    Item::Component(DAY),
+    Item::Component(Component::MonthLong(MONTH_LONG)),
+];
 
-const PADDED: &[(Padding, &str, &str, &str, &str)] = &[
-    (Padding::Zero, "03", "02", "034", "05"),
-    (Padding::Space, " 3", " 2", " 34", " 5"),
-    (Padding::None, "3", "2", "34", "5"),
+const TREES: &[(Item<'static>, &str, usize)] = &[
+    (Item::Optional(&Item::Component(DAY)), "12", 2),
+    (Item::First(DAY_AND_MONTH), "12", 2),
 ];
 
 #[test]
-fn paddings_of_two_and_three_places(rt: HostRuntime) {
-    let value = date_at(&rt, 2005, Month::February, 3);
-    for &(padding, day, month, ordinal, week) in PADDED {
-        assert_component(
-            &rt,
-            rt.alloc(),
-            Component::Day(modifier::Day { padding }),
-            &value,
-            day,
-            2,
-        );
-        assert_component(
-            &rt,
-            rt.alloc(),
-            Component::MonthNumerical(modifier::MonthNumerical { padding }),
-            &value,
-            month,
-            2,
-        );
-        assert_component(
-            &rt,
-            rt.alloc(),
-            Component::Ordinal(modifier::Ordinal { padding }),
-            &value,
-            ordinal,
-            3,
-        );
-        assert_component(
-            &rt,
-            rt.alloc(),
-            Component::WeekNumberIso(modifier::WeekNumberIso { padding }),
-            &value,
-            week,
-            2,
-        );
-        assert_component(
-            &rt,
-            rt.alloc(),
-            Component::WeekNumberSunday(modifier::WeekNumberSunday { padding }),
-            &value,
-            week,
-            2,
-        );
-        assert_component(
-            &rt,
-            rt.alloc(),
-            Component::WeekNumberMonday(modifier::WeekNumberMonday { padding }),
-            &value,
-            week,
-            2,
-        );
-        assert_component(
-            &rt,
-            rt.alloc(),
-            Component::CalendarYearLastTwo(modifier::CalendarYearLastTwo { padding }),
-            &value,
-            week,
-            2,
-        );
-        assert_component(
-            &rt,
-            rt.alloc(),
-            Component::IsoYearLastTwo(modifier::IsoYearLastTwo { padding }),
-            &value,
-            week,
-            2,
-        );
+fn an_optional_and_a_first_of_a_date_are_written(rt: HostRuntime) {
+    let value = date_at(&rt, (1997, 11, 12));
+    for (item, text, width) in TREES {
+        assert_text(&rt, rt.alloc(), item, &value, text, *width);
     }
-}
-
-/// A year, a padding, whether a sign is mandatory, and the texts of the year and of its century.
-const FORMS: &[(i32, Padding, bool, &str, &str)] = &[
-    (505, Padding::Zero, false, "0505", "05"),
-    (505, Padding::Space, false, " 505", " 5"),
-    (505, Padding::None, false, "505", "5"),
-    (505, Padding::Zero, true, "+0505", "+05"),
-    (505, Padding::Space, true, "+ 505", "+ 5"),
-    (505, Padding::None, true, "+505", "+5"),
-    (-505, Padding::Zero, false, "-0505", "-05"),
-    (-505, Padding::Space, true, "- 505", "- 5"),
-    (-505, Padding::None, false, "-505", "-5"),
-];
-
-#[test]
-fn forms_of_calendar_years(rt: HostRuntime) {
-    for &(year, padding, sign_is_mandatory, full, century) in FORMS {
-        let value = date_at(&rt, year, Month::June, 15);
-        assert_component(
-            &rt,
-            rt.alloc(),
-            Component::CalendarYearFullExtendedRange(modifier::CalendarYearFullExtendedRange {
-                padding,
-                sign_is_mandatory,
-            }),
-            &value,
-            full,
-            7,
-        );
-        assert_component(
-            &rt,
-            rt.alloc(),
-            Component::CalendarYearFullStandardRange(modifier::CalendarYearFullStandardRange {
-                padding,
-                sign_is_mandatory,
-            }),
-            &value,
-            full,
-            5,
-        );
-        assert_component(
-            &rt,
-            rt.alloc(),
-            Component::CalendarYearCenturyExtendedRange(
-                modifier::CalendarYearCenturyExtendedRange {
-                    padding,
-                    sign_is_mandatory,
-                },
-            ),
-            &value,
-            century,
-            5,
-        );
-        assert_component(
-            &rt,
-            rt.alloc(),
-            Component::CalendarYearCenturyStandardRange(
-                modifier::CalendarYearCenturyStandardRange {
-                    padding,
-                    sign_is_mandatory,
-                },
-            ),
-            &value,
-            century,
-            3,
-        );
-    }
-}
-
-#[test]
-fn forms_of_years_of_the_week_calendar(rt: HostRuntime) {
-    for &(year, padding, sign_is_mandatory, full, century) in FORMS {
-        let value = date_at(&rt, year, Month::June, 15);
-        assert_component(
-            &rt,
-            rt.alloc(),
-            Component::IsoYearFullExtendedRange(modifier::IsoYearFullExtendedRange {
-                padding,
-                sign_is_mandatory,
-            }),
-            &value,
-            full,
-            7,
-        );
-        assert_component(
-            &rt,
-            rt.alloc(),
-            Component::IsoYearFullStandardRange(modifier::IsoYearFullStandardRange {
-                padding,
-                sign_is_mandatory,
-            }),
-            &value,
-            full,
-            5,
-        );
-        assert_component(
-            &rt,
-            rt.alloc(),
-            Component::IsoYearCenturyExtendedRange(modifier::IsoYearCenturyExtendedRange {
-                padding,
-                sign_is_mandatory,
-            }),
-            &value,
-            century,
-            5,
-        );
-        assert_component(
-            &rt,
-            rt.alloc(),
-            Component::IsoYearCenturyStandardRange(modifier::IsoYearCenturyStandardRange {
-                padding,
-                sign_is_mandatory,
-            }),
-            &value,
-            century,
-            3,
-        );
-    }
-}
-
-const MONTHS: &[(Month, &str)] = &[
-    (Month::January, "January"),
-    (Month::February, "February"),
-    (Month::March, "March"),
-    (Month::April, "April"),
-    (Month::May, "May"),
-    (Month::June, "June"),
-    (Month::July, "July"),
-    (Month::August, "August"),
-    (Month::September, "September"),
-    (Month::October, "October"),
-    (Month::November, "November"),
-    (Month::December, "December"),
-];
-
-const WEEKDAYS: &[(u8, &str)] = &[
-    (1, "Monday"),
-    (2, "Tuesday"),
-    (3, "Wednesday"),
-    (4, "Thursday"),
-    (5, "Friday"),
-    (6, "Saturday"),
-    (7, "Sunday"),
-];
-
-#[test]
-fn all_months_and_weekdays_have_their_names(rt: HostRuntime) {
-    // the year 2001 begins on a Monday
-    for &(month, name) in MONTHS {
-        let long = Component::MonthLong(modifier::MonthLong {
-            case_sensitive: true,
-        });
-        assert_component(
-            &rt,
-            rt.alloc(),
-            long,
-            &date_at(&rt, 2001, month, 1),
-            name,
-            9,
-        );
-    }
-    for &(day, name) in WEEKDAYS {
-        let long = Component::WeekdayLong(modifier::WeekdayLong {
-            case_sensitive: true,
-        });
-        assert_component(
-            &rt,
-            rt.alloc(),
-            long,
-            &date_at(&rt, 2001, Month::January, day),
-            name,
-            9,
-        );
-    }
-}
-
-/// Appends a date such as `22 November 2026`, as the front page of the repository shows.
-fn append_date(line: &mut Vec<u8>, date: &Date) -> Result<usize, Format> {
-    let items = [
-        BorrowedFormatItem::Component(Component::Day(modifier::Day {
-            padding: Padding::None,
-        })),
-        BorrowedFormatItem::StringLiteral(" "),
-        BorrowedFormatItem::Component(Component::MonthLong(modifier::MonthLong {
-            case_sensitive: true,
-        })),
-        BorrowedFormatItem::StringLiteral(" "),
-        BorrowedFormatItem::Component(Component::CalendarYearFullStandardRange(
-            modifier::CalendarYearFullStandardRange {
-                padding: Padding::Zero,
-                sign_is_mandatory: false,
-            },
-        )),
-    ];
-    BorrowedFormatItem::Compound(&items).format_into(line, date, &mut DateState::default())
-}
-
-#[test]
-fn a_date_in_words(rt: HostRuntime) {
-    let mut line = Vec::new(rt.alloc());
-    let written = append_date(&mut line, &date_at(&rt, 2026, Month::November, 22));
-    assert_that(&rt, matches!(&written, Ok(16)));
-    assert_same(&rt, line.as_slice(), b"22 November 2026".as_slice());
 }

@@ -40,7 +40,7 @@ const INSUFFICIENT: &str =
     component.";
 
 #[test]
-fn printed_texts(rt: HostRuntime) -> Result<(), Fail> {
+fn an_error_is_printed_the_same_inside_the_outer_one(rt: HostRuntime) -> Result<(), Fail> {
     let alloc = rt.alloc();
     assert_both_printed(
         &rt,
@@ -63,7 +63,7 @@ fn printed_texts(rt: HostRuntime) -> Result<(), Fail> {
 }
 
 #[test]
-fn printed_texts_of_other_errors(rt: HostRuntime) -> Result<(), Fail> {
+fn other_errors_are_printed(rt: HostRuntime) -> Result<(), Fail> {
     let range = Error::ComponentRange(ComponentRange::conditional("day"));
     assert_printed(&rt, rt.alloc(), &range, CONDITIONAL)?;
     let text = "The error is of a different variant.";
@@ -96,7 +96,7 @@ fn debug_texts(rt: HostRuntime) -> Result<(), Fail> {
 }
 
 #[test]
-fn a_range_is_given_back(rt: HostRuntime) {
+fn a_range_is_given_back_and_no_other_error(rt: HostRuntime) {
     let range = ComponentRange::conditional("day");
     assert_that(
         &rt,
@@ -115,7 +115,7 @@ fn a_range_is_given_back(rt: HostRuntime) {
 }
 
 #[test]
-fn a_format_is_given_back(rt: HostRuntime) {
+fn a_format_is_given_back_and_no_other_error(rt: HostRuntime) {
     let format = Format::try_from(Error::from(Format::OutOfMemory));
     assert_that(&rt, matches!(&format, Ok(Format::OutOfMemory)));
     let range = Error::ComponentRange(ComponentRange::unconditional("hour"));

@@ -1,167 +1,129 @@
 //! Offsets, moments and timestamps.
 use crate::texts::assert_component;
 use crate::values::{date_at, moment, offset_at, time_at, timestamp_at};
+use std::alloc::Global;
+use std::process::Abort;
+use time_below::UtcDateTime;
 use time_below::format_description::modifier::Padding;
-use time_below::format_description::{Component, modifier};
-use time_below::{Month, UtcDateTime};
+use time_below::format_description::{Component, component_width, modifier};
+use time_fmt::ComponentProvider;
 
-/// The seconds and the milliseconds.
-fn stamps(sign_is_mandatory: bool) -> [Component; 2] {
-    [
-        Component::UnixTimestampSecond(modifier::UnixTimestampSecond { sign_is_mandatory }),
-        Component::UnixTimestampMillisecond(modifier::UnixTimestampMillisecond {
-            sign_is_mandatory,
-        }),
-    ]
+/// Rows of a value, a component, and its text.
+type Rows<T> = &'static [(T, Component, &'static str)];
+
+fn assert_row<V: ComponentProvider>(
+    rt: &impl Abort,
+    alloc: Global,
+    value: &V,
+    component: Component,
+    text: &str,
+)
+where
+    V::State: Drop,
+{
+    let width = component_width(&component);
+    assert_component(rt, alloc, component, value, text, width);
 }
 
-const TIMESTAMPS: &[(i64, u32, bool, &str, &str)] = &[
-    (
-        -31_619_087_596_800,
-        0,
-        false,
-        "-31619087596800",
-        "-31619087596800000",
-    ),
-    (
-        31_494_784_780_799,
-        999_999_999,
-        true,
-        "+31494784780799",
-        "+31494784780799999",
-    ),
-    (-1, 999_500_000, false, "-1", "0"),
-    (-1, 999_500_000, true, "-1", "+0"),
-    (0, 0, true, "+0", "+0"),
-];
+/// Seconds since 1970 and a nanosecond, of the ends, around zero and of either sign.
+const TIMESTAMPS: Rows<(i64, u32)> = rows! {
+    (-31_619_087_596_800, 0) => UnixTimestampSecond { sign_is_mandatory: false } "-31619087596800",
+    (31_494_784_780_799, 999_999_999) => UnixTimestampSecond { sign_is_mandatory: true } "+31494784780799",
+    (-1, 999_500_000) => UnixTimestampSecond { sign_is_mandatory: false } "-1",
+    (-1, 999_500_000) => UnixTimestampSecond { sign_is_mandatory: true } "-1",
+    (0, 0) => UnixTimestampSecond { sign_is_mandatory: true } "+0",
+    (90, 0) => UnixTimestampSecond { sign_is_mandatory: false } "90",
+    (90, 0) => UnixTimestampSecond { sign_is_mandatory: true } "+90",
+    (-90, 0) => UnixTimestampSecond { sign_is_mandatory: false } "-90",
+    (-90, 0) => UnixTimestampSecond { sign_is_mandatory: true } "-90",
+    (-31_619_087_596_800, 0) => UnixTimestampMillisecond { sign_is_mandatory: false } "-31619087596800000",
+    (31_494_784_780_799, 999_999_999) => UnixTimestampMillisecond { sign_is_mandatory: true } "+31494784780799999",
+    (-1, 999_500_000) => UnixTimestampMillisecond { sign_is_mandatory: false } "0",
+    (-1, 999_500_000) => UnixTimestampMillisecond { sign_is_mandatory: true } "+0",
+    (0, 0) => UnixTimestampMillisecond { sign_is_mandatory: true } "+0",
+    (90, 0) => UnixTimestampMillisecond { sign_is_mandatory: false } "90000",
+    (90, 0) => UnixTimestampMillisecond { sign_is_mandatory: true } "+90000",
+    (-90, 0) => UnixTimestampMillisecond { sign_is_mandatory: false } "-90000",
+    (-90, 0) => UnixTimestampMillisecond { sign_is_mandatory: true } "-90000",
+    (-31_619_087_596_800, 0) => Hour24 { padding: Padding::Zero } "00",
+    (31_494_784_780_799, 999_999_999) => Hour24 { padding: Padding::Zero } "23",
+    (-1, 999_500_000) => Hour24 { padding: Padding::Zero } "23",
+    (0, 0) => Hour24 { padding: Padding::Zero } "00",
+};
 
 #[test]
-fn timestamps_at_the_ends_and_around_zero(rt: HostRuntime) {
-    for &(seconds, nanosecond, sign_is_mandatory, second, millisecond) in TIMESTAMPS {
-        let value = timestamp_at(&rt, seconds, nanosecond);
-        let [whole, thousandths] = stamps(sign_is_mandatory);
-        assert_component(&rt, rt.alloc(), whole, &value, second, 15);
-        assert_component(&rt, rt.alloc(), thousandths, &value, millisecond, 18);
-        let hour = Component::Hour24(modifier::Hour24 {
-            padding: Padding::Zero,
-        });
-        let text = if seconds < -1 || seconds == 0 {
-            "00"
-        } else {
-            "23"
-        };
-        assert_component(&rt, rt.alloc(), hour, &value, text, 2);
+fn seconds_round_down_and_milliseconds_toward_zero(rt: HostRuntime) {
+    for &(parts, component, text) in TIMESTAMPS {
+        assert_row(&rt, rt.alloc(), &timestamp_at(&rt, parts), component, text);
     }
 }
 
-#[test]
-fn a_moment_just_before_1970(rt: HostRuntime) {
-    let date = date_at(&rt, 1969, Month::December, 31);
-    let value = UtcDateTime::new(date, time_at(&rt, 23, 59, 59, 999_500_000));
-    let [second, millisecond] = stamps(false);
-    assert_component(&rt, rt.alloc(), second, &value, "-1", 15);
-    assert_component(&rt, rt.alloc(), millisecond, &value, "0", 18);
-    let offset = Component::OffsetHour(modifier::OffsetHour {
-        padding: Padding::Zero,
-        sign_is_mandatory: true,
-    });
-    assert_component(&rt, rt.alloc(), offset, &value, "+00", 3);
-}
-
-const OFFSETS: &[((i8, i8, i8), &str, &str, &str)] = &[
-    ((0, -30, 0), "-00", "30", "00"),
-    ((-6, 0, 0), "-06", "00", "00"),
-    ((25, 59, 59), "25", "59", "59"),
-    ((0, 0, -1), "-00", "00", "01"),
-];
+const BEFORE_1970: Rows<()> = rows! {
+    () => UnixTimestampSecond { sign_is_mandatory: false } "-1",
+    () => UnixTimestampMillisecond { sign_is_mandatory: false } "0",
+    () => OffsetHour { padding: Padding::Zero, sign_is_mandatory: true } "+00",
+};
 
 #[test]
-fn offsets_keep_their_sign(rt: HostRuntime) {
-    let padding = Padding::Zero;
-    for &(parts, hour, minute, second) in OFFSETS {
-        let value = offset_at(&rt, parts.0, parts.1, parts.2);
-        let sign_is_mandatory = false;
-        let hours = Component::OffsetHour(modifier::OffsetHour {
-            padding,
-            sign_is_mandatory,
-        });
-        assert_component(&rt, rt.alloc(), hours, &value, hour, 3);
-        let minutes = Component::OffsetMinute(modifier::OffsetMinute { padding });
-        assert_component(&rt, rt.alloc(), minutes, &value, minute, 2);
-        let seconds = Component::OffsetSecond(modifier::OffsetSecond { padding });
-        assert_component(&rt, rt.alloc(), seconds, &value, second, 2);
+fn a_moment_just_before_1970_is_negative_in_seconds_alone(rt: HostRuntime) {
+    let date = date_at(&rt, (1969, 12, 31));
+    let value = UtcDateTime::new(date, time_at(&rt, (23, 59, 59, 999_500_000)));
+    for &(_, component, text) in BEFORE_1970 {
+        assert_row(&rt, rt.alloc(), &value, component, text);
     }
 }
 
-/// A sign, a padding, whether a sign is mandatory, and the texts of the parts.
-const FORMS: &[(i8, Padding, bool, &str, &str, &str)] = &[
-    (1, Padding::Zero, false, "05", "07", "09"),
-    (1, Padding::Space, false, " 5", " 7", " 9"),
-    (1, Padding::None, false, "5", "7", "9"),
-    (1, Padding::Zero, true, "+05", "07", "09"),
-    (1, Padding::Space, true, "+ 5", " 7", " 9"),
-    (1, Padding::None, true, "+5", "7", "9"),
-    (-1, Padding::Zero, false, "-05", "07", "09"),
-    (-1, Padding::Space, true, "- 5", " 7", " 9"),
-    (-1, Padding::None, false, "-5", "7", "9"),
-];
-
-#[test]
-fn forms_of_offsets(rt: HostRuntime) {
-    for &(sign, padding, sign_is_mandatory, hour, minute, second) in FORMS {
-        let parts = if sign < 0 { (-5, -7, -9) } else { (5, 7, 9) };
-        let value = offset_at(&rt, parts.0, parts.1, parts.2);
-        assert_component(
-            &rt,
-            rt.alloc(),
-            Component::OffsetHour(modifier::OffsetHour {
-                padding,
-                sign_is_mandatory,
-            }),
-            &value,
-            hour,
-            3,
-        );
-        assert_component(
-            &rt,
-            rt.alloc(),
-            Component::OffsetMinute(modifier::OffsetMinute { padding }),
-            &value,
-            minute,
-            2,
-        );
-        assert_component(
-            &rt,
-            rt.alloc(),
-            Component::OffsetSecond(modifier::OffsetSecond { padding }),
-            &value,
-            second,
-            2,
-        );
-    }
-}
-
-const SIGNS: &[(i64, bool, &str, &str)] = &[
-    (90, false, "90", "90000"),
-    (90, true, "+90", "+90000"),
-    (-90, false, "-90", "-90000"),
-    (-90, true, "-90", "-90000"),
-];
-
-#[test]
-fn signs_of_timestamps(rt: HostRuntime) {
-    for &(seconds, sign_is_mandatory, second, millisecond) in SIGNS {
-        let value = timestamp_at(&rt, seconds, 0);
-        let [whole, thousandths] = stamps(sign_is_mandatory);
-        assert_component(&rt, rt.alloc(), whole, &value, second, 15);
-        assert_component(&rt, rt.alloc(), thousandths, &value, millisecond, 18);
-    }
-}
+const AHEAD_OF_UTC: Rows<()> = rows! {
+    () => UnixTimestampSecond { sign_is_mandatory: false } "-3600",
+    () => UnixTimestampMillisecond { sign_is_mandatory: false } "-3600000",
+};
 
 #[test]
 fn an_offset_ahead_of_utc_is_an_earlier_moment(rt: HostRuntime) {
-    let value = moment(&rt, (1970, Month::January, 1), (0, 0, 0, 0), (1, 0, 0));
-    let [second, millisecond] = stamps(false);
-    assert_component(&rt, rt.alloc(), second, &value, "-3600", 15);
-    assert_component(&rt, rt.alloc(), millisecond, &value, "-3600000", 18);
+    let value = moment(&rt, (1970, 1, 1), (0, 0, 0, 0), (1, 0, 0));
+    for &(_, component, text) in AHEAD_OF_UTC {
+        assert_row(&rt, rt.alloc(), &value, component, text);
+    }
+}
+
+/// Hours, minutes and seconds of an offset.
+const OFFSET_HOURS: Rows<(i8, i8, i8)> = signed! {
+    (0, -30, 0) => OffsetHour Zero false "-00",
+    (-6, 0, 0) => OffsetHour Zero false "-06",
+    (25, 59, 59) => OffsetHour Zero false "25",
+    (0, 0, -1) => OffsetHour Zero false "-00",
+    (5, 7, 9) => OffsetHour Zero false "05",
+    (5, 7, 9) => OffsetHour Space false " 5",
+    (5, 7, 9) => OffsetHour None false "5",
+    (5, 7, 9) => OffsetHour Zero true "+05",
+    (5, 7, 9) => OffsetHour Space true "+ 5",
+    (5, 7, 9) => OffsetHour None true "+5",
+    (-5, -7, -9) => OffsetHour Zero false "-05",
+    (-5, -7, -9) => OffsetHour Space true "- 5",
+    (-5, -7, -9) => OffsetHour None false "-5",
+};
+
+const OFFSET_PARTS: Rows<(i8, i8, i8)> = padded! {
+    (0, -30, 0) => OffsetMinute "30" "30" "30",
+    (0, -30, 0) => OffsetSecond "00" " 0" "0",
+    (-6, 0, 0) => OffsetMinute "00" " 0" "0",
+    (-6, 0, 0) => OffsetSecond "00" " 0" "0",
+    (25, 59, 59) => OffsetMinute "59" "59" "59",
+    (25, 59, 59) => OffsetSecond "59" "59" "59",
+    (0, 0, -1) => OffsetMinute "00" " 0" "0",
+    (0, 0, -1) => OffsetSecond "01" " 1" "1",
+    (5, 7, 9) => OffsetMinute "07" " 7" "7",
+    (5, 7, 9) => OffsetSecond "09" " 9" "9",
+    (-5, -7, -9) => OffsetMinute "07" " 7" "7",
+    (-5, -7, -9) => OffsetSecond "09" " 9" "9",
+};
+
+#[test]
+fn the_hour_of_an_offset_has_the_sign_of_the_whole(rt: HostRuntime) {
+    for &(parts, component, text) in OFFSET_HOURS {
+        assert_row(&rt, rt.alloc(), &offset_at(&rt, parts), component, text);
+    }
+    for &(parts, component, text) in OFFSET_PARTS {
+        assert_row(&rt, rt.alloc(), &offset_at(&rt, parts), component, text);
+    }
 }

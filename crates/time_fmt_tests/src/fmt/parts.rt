@@ -10,9 +10,7 @@ use std::test::Fail;
 use time_below::format_description::{
     BorrowedFormatItem, Component, FormatDescriptionV3, FormatDescriptionV3Inner, OwnedFormatItem,
 };
-use time_below::{
-    Date, Month, OffsetDateTime, PlainDateTime, Time, Timestamp, UtcDateTime, UtcOffset,
-};
+use time_below::{Date, OffsetDateTime, PlainDateTime, Time, Timestamp, UtcDateTime, UtcOffset};
 use time_fmt::laws::parts::{
     ascii_is_text, choices_mean_their_component, item_means_its_list, literal_means_its_bytes,
     pair_means_both_lists, pair_means_one_after_the_other,
@@ -37,29 +35,24 @@ struct Values {
 impl Values {
     /// Of 1997-11-12 9:55:06.123456789 -06:30, and the moment 879,351,906 seconds after 1970.
     fn new(rt: &impl Abort) -> Values {
-        let date = date_at(rt, 1997, Month::November, 12);
-        let time = time_at(rt, 9, 55, 6, 123_456_789);
+        let date = date_at(rt, (1997, 11, 12));
+        let time = time_at(rt, (9, 55, 6, 123_456_789));
         Values {
             date,
-            late_date: date_at(rt, 12_345, Month::November, 12),
+            late_date: date_at(rt, (12_345, 11, 12)),
             time,
             local: PlainDateTime::new(date, time),
             utc: UtcDateTime::new(date, time),
             moment: example(rt),
-            offset: offset_at(rt, -6, -30, 0),
-            timestamp: timestamp_at(rt, 879_351_906, 123_456_789),
+            offset: offset_at(rt, (-6, -30, 0)),
+            timestamp: timestamp_at(rt, (879_351_906, 123_456_789)),
         }
     }
 }
 
 /// 1997-11-12 9:55:06.123456789 -06:30.
 fn example(rt: &impl Abort) -> OffsetDateTime {
-    moment(
-        rt,
-        (1997, Month::November, 12),
-        (9, 55, 6, 123_456_789),
-        (-6, -30, 0),
-    )
+    moment(rt, (1997, 11, 12), (9, 55, 6, 123_456_789), (-6, -30, 0))
 }
 
 /// Appends both to a vector of their own, behind a byte, and compares bytes and answers.
@@ -122,7 +115,7 @@ macro_rules! between_literals {
 }
 
 #[test]
-fn calendar_years(rt: HostRuntime) {
+fn calendar_years_are_parts(rt: HostRuntime) {
     between_literals!(rt;
         YEAR CalendarYearFullExtendedRange "<1997>",
         YEAR_STANDARD CalendarYearFullStandardRange "<1997>",
@@ -131,7 +124,7 @@ fn calendar_years(rt: HostRuntime) {
 }
 
 #[test]
-fn years_of_the_week_calendar(rt: HostRuntime) {
+fn years_of_the_week_calendar_are_parts(rt: HostRuntime) {
     between_literals!(rt;
         ISO_YEAR IsoYearFullExtendedRange "<1997>",
         ISO_YEAR_STANDARD IsoYearFullStandardRange "<1997>",
@@ -140,7 +133,7 @@ fn years_of_the_week_calendar(rt: HostRuntime) {
 }
 
 #[test]
-fn calendar_centuries(rt: HostRuntime) {
+fn calendar_centuries_are_parts(rt: HostRuntime) {
     between_literals!(rt;
         YEAR_CENTURY CalendarYearCenturyExtendedRange "<19>",
         YEAR_CENTURY_STANDARD CalendarYearCenturyStandardRange "<19>",
@@ -148,7 +141,7 @@ fn calendar_centuries(rt: HostRuntime) {
 }
 
 #[test]
-fn centuries_of_the_week_calendar(rt: HostRuntime) {
+fn centuries_of_the_week_calendar_are_parts(rt: HostRuntime) {
     between_literals!(rt;
         ISO_YEAR_CENTURY IsoYearCenturyExtendedRange "<19>",
         ISO_YEAR_CENTURY_STANDARD IsoYearCenturyStandardRange "<19>",
@@ -156,7 +149,7 @@ fn centuries_of_the_week_calendar(rt: HostRuntime) {
 }
 
 #[test]
-fn months_and_days(rt: HostRuntime) {
+fn months_and_days_are_parts(rt: HostRuntime) {
     between_literals!(rt;
         MONTH MonthNumerical "<11>",
         MONTH_LONG MonthLong "<November>",
@@ -166,7 +159,7 @@ fn months_and_days(rt: HostRuntime) {
 }
 
 #[test]
-fn weekdays(rt: HostRuntime) {
+fn weekdays_are_parts(rt: HostRuntime) {
     between_literals!(rt;
         WEEKDAY WeekdayLong "<Wednesday>",
         WEEKDAY_SHORT WeekdayShort "<Wed>",
@@ -176,7 +169,7 @@ fn weekdays(rt: HostRuntime) {
 }
 
 #[test]
-fn weeks_and_the_day_of_the_year(rt: HostRuntime) {
+fn weeks_and_the_day_of_the_year_are_parts(rt: HostRuntime) {
     between_literals!(rt;
         WEEK_NUMBER WeekNumberIso "<46>",
         WEEK_NUMBER_SUNDAY WeekNumberSunday "<45>",
@@ -186,7 +179,7 @@ fn weeks_and_the_day_of_the_year(rt: HostRuntime) {
 }
 
 #[test]
-fn hours(rt: HostRuntime) {
+fn hours_are_parts(rt: HostRuntime) {
     between_literals!(rt;
         HOUR Hour24 "<09>",
         HOUR_12 Hour12 "<09>",
@@ -195,7 +188,7 @@ fn hours(rt: HostRuntime) {
 }
 
 #[test]
-fn minutes_and_seconds(rt: HostRuntime) {
+fn minutes_and_seconds_are_parts(rt: HostRuntime) {
     between_literals!(rt;
         MINUTE Minute "<55>",
         SECOND Second "<06>",
@@ -203,7 +196,7 @@ fn minutes_and_seconds(rt: HostRuntime) {
 }
 
 #[test]
-fn decimals(rt: HostRuntime) {
+fn decimals_are_parts(rt: HostRuntime) {
     between_literals!(rt;
         SUBSECOND Subsecond "<123456789>",
         THREE_DECIMALS Subsecond "<123>",
@@ -213,7 +206,7 @@ fn decimals(rt: HostRuntime) {
 }
 
 #[test]
-fn offsets(rt: HostRuntime) {
+fn offsets_are_parts(rt: HostRuntime) {
     between_literals!(rt;
         OFFSET_HOUR OffsetHour "<-06>",
         SIGNED_OFFSET_HOUR OffsetHour "<-06>",
@@ -223,7 +216,7 @@ fn offsets(rt: HostRuntime) {
 }
 
 #[test]
-fn timestamps(rt: HostRuntime) {
+fn timestamps_are_parts(rt: HostRuntime) {
     between_literals!(rt;
         UNIX_TIMESTAMP UnixTimestampSecond "<879351906>",
         UNIX_TIMESTAMP_MILLISECOND UnixTimestampMillisecond "<879351906123>",
@@ -231,7 +224,7 @@ fn timestamps(rt: HostRuntime) {
 }
 
 #[test]
-fn trees_as_parts(rt: HostRuntime) -> Result<(), Fail> {
+fn trees_are_parts(rt: HostRuntime) -> Result<(), Fail> {
     let (alloc, value) = (rt.alloc(), example(&rt));
     let items = [
         BorrowedFormatItem::Component(Component::MonthShort(MONTH_SHORT)),
@@ -257,7 +250,7 @@ fn trees_as_parts(rt: HostRuntime) -> Result<(), Fail> {
 }
 
 #[test]
-fn one_part_and_many(rt: HostRuntime) {
+fn one_part_and_33_are_texts(rt: HostRuntime) {
     let (alloc, value) = (rt.alloc(), example(&rt));
     assert_text(&rt, alloc, &text!(DAY), &value, "12", 2);
     assert_text(&rt, alloc, &text!(b"day "), &value, "day ", 4);
@@ -274,7 +267,7 @@ fn one_part_and_many(rt: HostRuntime) {
 
 // What stands before the refusal stays, and nothing follows it.
 #[test]
-fn refused_parts_in_the_midst(rt: HostRuntime) {
+fn a_refusal_in_the_midst_ends_the_text(rt: HostRuntime) {
     let (alloc, values) = (rt.alloc(), Values::new(&rt));
     let refused = text!(YEAR_STANDARD, b"-", MONTH);
     assert_refused(&rt, alloc, &refused, &values.late_date, "year");
@@ -286,7 +279,7 @@ fn refused_parts_in_the_midst(rt: HostRuntime) {
 }
 
 #[test]
-fn a_date_and_a_time(rt: HostRuntime) {
+fn the_example_writes_a_date_and_a_time(rt: HostRuntime) {
     let mut line = Vec::new(rt.alloc());
     let written = append_date_time(&mut line, &example(&rt));
     assert_that(&rt, matches!(&written, Ok(19)));
@@ -294,7 +287,7 @@ fn a_date_and_a_time(rt: HostRuntime) {
 }
 
 #[test]
-fn laws_of_parts(_rt: HostRuntime) {
+fn each_law_of_parts_is_called(_rt: HostRuntime) {
     literal_means_its_bytes(Literal(*b"-"));
     choices_mean_their_component(DAY);
     pair_means_one_after_the_other((DAY, MONTH));

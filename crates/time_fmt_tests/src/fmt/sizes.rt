@@ -1,4 +1,4 @@
-//! Long texts, long outputs and deep trees. Memory is there, so the want of it is not answered.
+//! Long texts, long outputs, long lists and deep trees. Memory is there, so its absence is not answered.
 use crate::texts::{DAY, assert_same, assert_text, assert_that};
 use crate::values::wednesday;
 use std::alloc::{AllocError, Global};
@@ -7,7 +7,7 @@ use std::test::Fail;
 use time_below::format_description::{
     BorrowedFormatItem, FormatDescriptionV3, FormatDescriptionV3Inner, OwnedFormatItem,
 };
-use time_fmt::Formattable;
+use time_fmt::{BorrowedItems, ComputeMetadata, Formattable};
 use time_provide::DateState;
 
 /// How many bytes the longest literals have.
@@ -17,7 +17,7 @@ const LONG: usize = 100_000;
 const BEYOND: usize = 1_500_000;
 
 #[test]
-fn a_text_of_a_hundred_thousand_bytes(rt: HostRuntime) -> Result<(), Fail> {
+fn a_text_of_a_hundred_thousand_bytes_is_written(rt: HostRuntime) -> Result<(), Fail> {
     let text = String::from_utf8(vec![in rt.alloc(); b'x'; LONG]?)?;
     let item = BorrowedFormatItem::StringLiteral(text.as_str());
     assert_text(&rt, rt.alloc(), &item, &wednesday(&rt), text.as_str(), LONG);
@@ -25,7 +25,7 @@ fn a_text_of_a_hundred_thousand_bytes(rt: HostRuntime) -> Result<(), Fail> {
 }
 
 #[test]
-fn a_text_behind_a_megabyte(rt: HostRuntime) -> Result<(), Fail> {
+fn a_text_stands_behind_a_megabyte(rt: HostRuntime) -> Result<(), Fail> {
     let value = wednesday(&rt);
     let mut output = vec![in rt.alloc(); b'x'; BEYOND]?;
     let item = BorrowedFormatItem::Component(DAY);
@@ -36,45 +36,73 @@ fn a_text_behind_a_megabyte(rt: HostRuntime) -> Result<(), Fail> {
     Ok(())
 }
 
+/// Compares the bytes with so many of these letters.
+fn assert_repeated(rt: &impl Abort, bytes: &[u8], letter: &[u8], count: usize) {
+    let mut found = 0usize;
+    for piece in bytes.chunks(letter.len().max(1)) {
+        assert_same(rt, piece, letter);
+        found = found.saturating_add(1);
+    }
+    assert_same(rt, found, count);
+}
+
 /// Each byte becomes one U+FFFD, of three bytes.
 #[test]
-fn a_hundred_thousand_bytes_that_are_no_text(rt: HostRuntime) -> Result<(), Fail> {
+fn each_byte_that_is_no_text_is_read_as_no_letter(rt: HostRuntime) -> Result<(), Fail> {
     let bytes = vec![in rt.alloc(); 0xff; LONG]?;
     let item = BorrowedFormatItem::Literal(bytes.as_slice());
     let Ok(text) = item.format(rt.alloc(), &wednesday(&rt), &mut DateState::default()) else {
         panic!(rt; "no text");
     };
-    assert_same(&rt, text.len(), 3 * LONG);
-    assert_that(
-        &rt,
-        text.as_str()
-            .as_bytes()
-            .chunks(3)
-            .all(|letter| letter == b"\xef\xbf\xbd".as_slice()),
-    );
+    assert_repeated(&rt, text.as_str().as_bytes(), b"\xef\xbf\xbd", LONG);
     Ok(())
 }
 
-/// A depth that the documentation promises.
-const DEEP: usize = 1_000;
+#[test]
+fn a_list_of_ten_thousand_days_is_written(rt: HostRuntime) -> Result<(), Fail> {
+    let mut items = Vec::with_capacity(rt.alloc(), 10_000)?;
+    for _ in 0..10_000 {
+        items.push(BorrowedFormatItem::Component(DAY))?;
+    }
+    let list = BorrowedItems(items.as_slice());
+    assert_same(&rt, list.compute_metadata().max_bytes_needed, 20_000);
+    let mut output = Vec::new(rt.alloc());
+    let count = list.format_into(&mut output, &wednesday(&rt), &mut DateState::default());
+    assert_that(&rt, matches!(&count, Ok(20_000)));
+    assert_repeated(&rt, output.as_slice(), b"12", 10_000);
+    Ok(())
+}
 
 /// What each level of a tree is.
 #[derive(Clone, Copy)]
 enum Level {
+    /// An optional item.
+    Optional,
     /// A list of one item.
     List,
     /// The first of one item.
     First,
 }
 
-/// The levels of a tree, from the innermost to the outermost.
-const LEVELS: &[Level] = &[Level::List, Level::First];
+/// What trees are made of, and how deep they are. The documentation promises 1,000 levels.
+const TREES: &[(Level, usize)] = &[
+    (Level::Optional, 100),
+    (Level::Optional, 1_000),
+    (Level::List, 1_000),
+    (Level::First, 1_000),
+];
 
-fn deep_borrowed(alloc: Global, level: Level) -> Result<BorrowedFormatItem<'static>, AllocError> {
+// What is lent to a tree lives as long as its parts, so it is leaked here.
+fn borrowed(
+    alloc: Global,
+    level: Level,
+    depth: usize,
+) -> Result<BorrowedFormatItem<'static>, AllocError> {
     let mut item = BorrowedFormatItem::Component(DAY);
-    for _ in 0..DEEP {
+    for _ in 0..depth {
         let items: &'static [BorrowedFormatItem<'static>] = vec![in alloc; item]?.leak();
         item = match level {
+            Level::Optional => BorrowedFormatItem::Optional(&items[0]),
             Level::List => BorrowedFormatItem::Compound(items),
             Level::First => BorrowedFormatItem::First(items),
         };
@@ -82,40 +110,46 @@ fn deep_borrowed(alloc: Global, level: Level) -> Result<BorrowedFormatItem<'stat
     Ok(item)
 }
 
-fn deep_owned(alloc: Global, level: Level) -> Result<OwnedFormatItem, AllocError> {
+fn owned(alloc: Global, level: Level, depth: usize) -> Result<OwnedFormatItem, AllocError> {
     let mut item = OwnedFormatItem::Component(DAY);
-    for _ in 0..DEEP {
-        let items = vec![in alloc; item]?;
+    for _ in 0..depth {
         item = match level {
-            Level::List => OwnedFormatItem::Compound(items),
-            Level::First => OwnedFormatItem::First(items),
+            Level::Optional => OwnedFormatItem::Optional(Box::new(alloc, item)?),
+            Level::List => OwnedFormatItem::Compound(vec![in alloc; item]?),
+            Level::First => OwnedFormatItem::First(vec![in alloc; item]?),
         };
     }
     Ok(item)
 }
 
-fn deep_v3(alloc: Global, level: Level) -> Result<FormatDescriptionV3Inner<'static>, AllocError> {
-    let mut item = FormatDescriptionV3Inner::from(DAY);
-    for _ in 0..DEEP {
-        let items = vec![in alloc; item]?;
+type Inner = FormatDescriptionV3Inner<'static>;
+
+fn owned_v3(alloc: Global, level: Level, depth: usize) -> Result<Inner, AllocError> {
+    let mut item = Inner::from(DAY);
+    for _ in 0..depth {
         item = match level {
-            Level::List => FormatDescriptionV3Inner::OwnedCompound(items),
-            Level::First => FormatDescriptionV3Inner::OwnedFirst(items),
+            Level::Optional => Inner::OwnedOptional {
+                format: true,
+                item: Box::new(alloc, item)?,
+            },
+            Level::List => Inner::OwnedCompound(vec![in alloc; item]?),
+            Level::First => Inner::OwnedFirst(vec![in alloc; item]?),
         };
     }
     Ok(item)
 }
 
-fn deep_lent_v3(
-    alloc: Global,
-    level: Level,
-) -> Result<FormatDescriptionV3Inner<'static>, AllocError> {
-    let mut item = FormatDescriptionV3Inner::from(DAY);
-    for _ in 0..DEEP {
-        let items: &'static [FormatDescriptionV3Inner<'static>] = vec![in alloc; item]?.leak();
+fn borrowed_v3(alloc: Global, level: Level, depth: usize) -> Result<Inner, AllocError> {
+    let mut item = Inner::from(DAY);
+    for _ in 0..depth {
+        let items: &'static [Inner] = vec![in alloc; item]?.leak();
         item = match level {
-            Level::List => FormatDescriptionV3Inner::BorrowedCompound(items),
-            Level::First => FormatDescriptionV3Inner::BorrowedFirst(items),
+            Level::Optional => Inner::BorrowedOptional {
+                format: true,
+                item: &items[0],
+            },
+            Level::List => Inner::BorrowedCompound(items),
+            Level::First => Inner::BorrowedFirst(items),
         };
     }
     Ok(item)
@@ -127,29 +161,13 @@ fn assert_day<D: Formattable>(rt: &impl Abort, alloc: Global, item: &D) {
 }
 
 #[test]
-fn deep_borrowed_lists_and_firsts(rt: HostRuntime) -> Result<(), Fail> {
-    for &level in LEVELS {
-        let item = deep_borrowed(rt.alloc(), level)?;
+fn trees_of_a_thousand_levels_are_written(rt: HostRuntime) -> Result<(), Fail> {
+    for &(level, depth) in TREES {
+        assert_day(&rt, rt.alloc(), &borrowed(rt.alloc(), level, depth)?);
+        assert_day(&rt, rt.alloc(), &owned(rt.alloc(), level, depth)?);
+        let item = FormatDescriptionV3::new(owned_v3(rt.alloc(), level, depth)?);
         assert_day(&rt, rt.alloc(), &item);
-    }
-    Ok(())
-}
-
-#[test]
-fn deep_owned_lists_and_firsts(rt: HostRuntime) -> Result<(), Fail> {
-    for &level in LEVELS {
-        let item = deep_owned(rt.alloc(), level)?;
-        assert_day(&rt, rt.alloc(), &item);
-    }
-    Ok(())
-}
-
-#[test]
-fn deep_lists_and_firsts_of_the_third_version(rt: HostRuntime) -> Result<(), Fail> {
-    for &level in LEVELS {
-        let item = FormatDescriptionV3::new(deep_v3(rt.alloc(), level)?);
-        assert_day(&rt, rt.alloc(), &item);
-        let item = FormatDescriptionV3::new(deep_lent_v3(rt.alloc(), level)?);
+        let item = FormatDescriptionV3::new(borrowed_v3(rt.alloc(), level, depth)?);
         assert_day(&rt, rt.alloc(), &item);
     }
     Ok(())

@@ -1,67 +1,42 @@
 //! Times of day.
 use crate::texts::{assert_component, assert_same, assert_text, assert_that};
 use crate::values::time_at;
-use time_below::format_description::modifier::{Padding, SubsecondDigits};
-use time_below::format_description::{BorrowedFormatItem, Component, modifier};
-use time_fmt::Formattable;
+use time_below::format_description::modifier::{Padding, SubsecondDigits, TrailingInput};
+use time_below::format_description::{
+    BorrowedFormatItem as Item, Component, component_width, modifier,
+};
+use time_fmt::{Formattable, parts};
 
-const HOUR: BorrowedFormatItem<'static> = BorrowedFormatItem::Component(Component::Hour24(
-    modifier::Hour24 {
-        padding: Padding::Zero,
-    },
-));
+const HOUR: Item<'static> = Item::Component(Component::Hour24(parts::HOUR));
 
-const MINUTE: BorrowedFormatItem<'static> = BorrowedFormatItem::Component(Component::Minute(
-    modifier::Minute {
-        padding: Padding::Zero,
-    },
-));
+const MINUTE: Item<'static> = Item::Component(Component::Minute(parts::MINUTE));
 
-const SECOND: BorrowedFormatItem<'static> = BorrowedFormatItem::Component(Component::Second(
-    modifier::Second {
-        padding: Padding::Zero,
-    },
-));
+const SECOND: Item<'static> = Item::Component(Component::Second(parts::SECOND));
 
-const HOURS: &[(u8, &str)] = &[(0, "12"), (12, "12"), (13, "1")];
+/// Rows of an hour, a minute, a second and a nanosecond, a component, and its text.
+type Rows = &'static [((u8, u8, u8, u32), Component, &'static str)];
 
-#[test]
-fn hours_of_the_12_hour_clock(rt: HostRuntime) {
-    for &(hour, text) in HOURS {
-        assert_component(
-            &rt,
-            rt.alloc(),
-            Component::Hour12(modifier::Hour12 {
-                padding: Padding::None,
-            }),
-            &time_at(&rt, hour, 0, 0, 0),
-            text,
-            2,
-        );
-    }
-}
-
-const HALVES: &[(u8, bool, &str)] = &[
-    (12, true, "PM"),
-    (11, true, "AM"),
-    (23, false, "pm"),
-    (0, false, "am"),
-];
+const TIMES: Rows = rows! {
+    (0, 0, 0, 0) => Hour12 { padding: Padding::None } "12",
+    (12, 0, 0, 0) => Hour12 { padding: Padding::None } "12",
+    (13, 0, 0, 0) => Hour12 { padding: Padding::None } "1",
+    (12, 0, 0, 0) => Period { is_uppercase: true, case_sensitive: true } "PM",
+    (11, 0, 0, 0) => Period { is_uppercase: true, case_sensitive: true } "AM",
+    (23, 0, 0, 0) => Period { is_uppercase: false, case_sensitive: true } "pm",
+    (0, 0, 0, 0) => Period { is_uppercase: false, case_sensitive: true } "am",
+    (0, 0, 5, 0) => Second { padding: Padding::Zero } "05",
+    (0, 0, 5, 0) => Second { padding: Padding::Space } " 5",
+    (0, 0, 5, 0) => Second { padding: Padding::None } "5",
+    (0, 0, 0, 0) => Hour { padding: Padding::Zero, is_12_hour_clock: true } "12",
+    (9, 55, 6, 0) => Ignore { count: 3 } "",
+    (9, 55, 6, 0) => End { trailing_input: TrailingInput::Discard } "",
+};
 
 #[test]
-fn halves_of_the_day(rt: HostRuntime) {
-    for &(hour, is_uppercase, text) in HALVES {
-        assert_component(
-            &rt,
-            rt.alloc(),
-            Component::Period(modifier::Period {
-                is_uppercase,
-                case_sensitive: true,
-            }),
-            &time_at(&rt, hour, 0, 0, 0),
-            text,
-            2,
-        );
+fn the_12_hour_clock_begins_at_12_and_marks_for_parsers_write_nothing(rt: HostRuntime) {
+    for &(time, component, text) in TIMES {
+        let (value, width) = (time_at(&rt, time), component_width(&component));
+        assert_component(&rt, rt.alloc(), component, &value, text, width);
     }
 }
 
@@ -79,135 +54,44 @@ const DECIMALS: &[(SubsecondDigits, &str, usize)] = &[
 ];
 
 #[test]
-fn decimals_of_the_second(rt: HostRuntime) {
+fn as_many_decimals_are_written_as_asked_for(rt: HostRuntime) {
+    let value = time_at(&rt, (0, 0, 0, 120_000_000));
     for &(digits, text, width) in DECIMALS {
-        assert_component(
-            &rt,
-            rt.alloc(),
-            Component::Subsecond(modifier::Subsecond { digits }),
-            &time_at(&rt, 0, 0, 0, 120_000_000),
-            text,
-            width,
-        );
+        let component = Component::Subsecond(modifier::Subsecond { digits });
+        assert_component(&rt, rt.alloc(), component, &value, text, width);
     }
 }
 
-const PADDED: &[(Padding, &str)] = &[
-    (Padding::Zero, "05"),
-    (Padding::Space, " 5"),
-    (Padding::None, "5"),
+const CLOCK: &[Item<'static>] = &[
+    HOUR,
+    Item::StringLiteral(":"),
+    MINUTE,
+    Item::Literal(b":"),
+    SECOND,
+];
+
+const TREES: &[(Item<'static>, &str, usize)] = &[
+    (Item::Compound(CLOCK), "09:55:06", 8),
+    (Item::First(&[MINUTE, SECOND]), "55", 2),
+    (Item::Optional(&SECOND), "06", 2),
+    (Item::First(&[]), "", 0),
+    (Item::Compound(&[]), "", 0),
 ];
 
 #[test]
-fn paddings_of_two_places(rt: HostRuntime) {
-    for &(padding, text) in PADDED {
-        assert_component(
-            &rt,
-            rt.alloc(),
-            Component::Second(modifier::Second { padding }),
-            &time_at(&rt, 0, 0, 5, 0),
-            text,
-            2,
-        );
-    }
-}
-
-#[test]
-fn a_compound_is_its_items_in_order(rt: HostRuntime) {
-    let value = time_at(&rt, 9, 55, 6, 120_000_000);
-    let clock = [
-        HOUR,
-        BorrowedFormatItem::StringLiteral(":"),
-        MINUTE,
-        BorrowedFormatItem::Literal(b":"),
-        SECOND,
-    ];
-    assert_text(
-        &rt,
-        rt.alloc(),
-        &BorrowedFormatItem::Compound(&clock),
-        &value,
-        "09:55:06",
-        8,
-    );
-}
-
-#[test]
-fn a_first_is_its_first_item(rt: HostRuntime) {
-    let value = time_at(&rt, 9, 55, 6, 0);
-    let items = [MINUTE, SECOND];
-    assert_text(
-        &rt,
-        rt.alloc(),
-        &BorrowedFormatItem::First(&items),
-        &value,
-        "55",
-        2,
-    );
-}
-
-#[test]
-fn an_optional_item_is_written(rt: HostRuntime) {
-    let value = time_at(&rt, 9, 55, 6, 0);
-    let second = SECOND;
-    assert_text(
-        &rt,
-        rt.alloc(),
-        &BorrowedFormatItem::Optional(&second),
-        &value,
-        "06",
-        2,
-    );
-}
-
-#[test]
-fn an_empty_first_writes_nothing(rt: HostRuntime) {
-    let value = time_at(&rt, 9, 55, 6, 0);
-    assert_text(
-        &rt,
-        rt.alloc(),
-        &BorrowedFormatItem::First(&[]),
-        &value,
-        "",
-        0,
-    );
-}
-
-#[test]
-fn an_empty_compound_writes_nothing(rt: HostRuntime) {
-    let value = time_at(&rt, 9, 55, 6, 0);
-    assert_text(
-        &rt,
-        rt.alloc(),
-        &BorrowedFormatItem::Compound(&[]),
-        &value,
-        "",
-        0,
-    );
-}
-
-const MARKS: &[Component] = &[
-    Component::Ignore(modifier::Ignore { count: 3 }),
-    Component::End(modifier::End {
-        trailing_input: modifier::TrailingInput::Discard,
-    }),
-];
-
-#[test]
-fn marks_for_parsers_write_nothing(rt: HostRuntime) {
-    let value = time_at(&rt, 9, 55, 6, 0);
-    for &component in MARKS {
-        assert_component(&rt, rt.alloc(), component, &value, "", 0);
+fn a_tree_is_its_items_in_order_or_its_first(rt: HostRuntime) {
+    let value = time_at(&rt, (9, 55, 6, 120_000_000));
+    for (item, text, width) in TREES {
+        assert_text(&rt, rt.alloc(), item, &value, text, *width);
     }
 }
 
 #[test]
 fn a_second_text_stands_behind_the_first(rt: HostRuntime) {
-    let value = time_at(&rt, 9, 55, 6, 0);
+    let value = time_at(&rt, (9, 55, 6, 0));
     let mut output = Vec::new(rt.alloc());
     let first = HOUR.format_into(&mut output, &value, &mut ());
     let second = MINUTE.format_into(&mut output, &value, &mut ());
-    assert_that(&rt, matches!(&first, Ok(2)));
-    assert_that(&rt, matches!(&second, Ok(2)));
+    assert_that(&rt, matches!(&first, Ok(2)) && matches!(&second, Ok(2)));
     assert_same(&rt, output.as_slice(), b"0955".as_slice());
 }

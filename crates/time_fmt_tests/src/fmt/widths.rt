@@ -3,32 +3,96 @@ use crate::texts::{assert_same, assert_that};
 use crate::values::moment;
 use std::alloc::Global;
 use std::process::Abort;
+use time_below::OffsetDateTime;
 use time_below::format_description::modifier::{Padding, SubsecondDigits, TrailingInput};
 use time_below::format_description::{Component, component_width, modifier};
-use time_below::{Month, OffsetDateTime};
 use time_fmt::component_write_into;
 use time_provide::DateState;
 
-const PADDINGS: &[Padding] = &[Padding::Zero, Padding::Space, Padding::None];
-
-const DIGITS: &[SubsecondDigits] = &[
-    SubsecondDigits::One,
-    SubsecondDigits::Two,
-    SubsecondDigits::Three,
-    SubsecondDigits::Four,
-    SubsecondDigits::Five,
-    SubsecondDigits::Six,
-    SubsecondDigits::Seven,
-    SubsecondDigits::Eight,
-    SubsecondDigits::Nine,
-    SubsecondDigits::OneOrMore,
-];
-
-/// The day at 12:34:56.123456789 -23:45:30.
-fn day_at(rt: &impl Abort, year: i32, month: Month, day: u8) -> OffsetDateTime {
-    let time = (12, 34, 56, 123_456_789);
-    moment(rt, (year, month, day), time, (-23, -45, -30))
+/// Components that have a padding alone, by each padding.
+macro_rules! by_padding {
+    ($($name:ident,)+) => {
+        &[$(
+            Component::$name(modifier::$name { padding: Padding::Zero }),
+            Component::$name(modifier::$name { padding: Padding::Space }),
+            Component::$name(modifier::$name { padding: Padding::None }),
+        )+]
+    };
 }
+
+/// Components that have a padding and a sign, by each padding, with and without a mandatory sign.
+macro_rules! by_padding_and_sign {
+    ($($name:ident,)+) => {
+        &[$(
+            Component::$name(modifier::$name { padding: Padding::Zero, sign_is_mandatory: false }),
+            Component::$name(modifier::$name { padding: Padding::Space, sign_is_mandatory: false }),
+            Component::$name(modifier::$name { padding: Padding::None, sign_is_mandatory: false }),
+            Component::$name(modifier::$name { padding: Padding::Zero, sign_is_mandatory: true }),
+            Component::$name(modifier::$name { padding: Padding::Space, sign_is_mandatory: true }),
+            Component::$name(modifier::$name { padding: Padding::None, sign_is_mandatory: true }),
+        )+]
+    };
+}
+
+/// Components of one choice, where it is taken and where it is not.
+macro_rules! by_choice {
+    ($($name:ident $choice:ident,)+) => {
+        &[$(
+            Component::$name(modifier::$name { $choice: false }),
+            Component::$name(modifier::$name { $choice: true }),
+        )+]
+    };
+}
+
+const PADDED: &[Component] = by_padding! {
+    Day, MonthNumerical, Ordinal, WeekNumberIso, WeekNumberSunday, WeekNumberMonday,
+    CalendarYearLastTwo, IsoYearLastTwo, Hour12, Hour24, Minute, Second, OffsetMinute, OffsetSecond,
+};
+
+const SIGNED: &[Component] = by_padding_and_sign! {
+    CalendarYearFullExtendedRange, CalendarYearFullStandardRange,
+    CalendarYearCenturyExtendedRange, CalendarYearCenturyStandardRange,
+    IsoYearFullExtendedRange, IsoYearFullStandardRange,
+    IsoYearCenturyExtendedRange, IsoYearCenturyStandardRange,
+    OffsetHour,
+};
+
+const CHOSEN: &[Component] = by_choice! {
+    MonthShort case_sensitive,
+    MonthLong case_sensitive,
+    WeekdayShort case_sensitive,
+    WeekdayLong case_sensitive,
+    WeekdaySunday one_indexed,
+    WeekdayMonday one_indexed,
+    UnixTimestampSecond sign_is_mandatory,
+    UnixTimestampMillisecond sign_is_mandatory,
+};
+
+/// Components by their choices.
+macro_rules! components {
+    ($($name:ident { $($choice:ident: $chosen:expr),* },)+) => {
+        &[$(Component::$name(modifier::$name { $($choice: $chosen),* })),+]
+    };
+}
+
+const OTHERS: &[Component] = components! {
+    Period { is_uppercase: false, case_sensitive: false },
+    Period { is_uppercase: false, case_sensitive: true },
+    Period { is_uppercase: true, case_sensitive: false },
+    Period { is_uppercase: true, case_sensitive: true },
+    Subsecond { digits: SubsecondDigits::One },
+    Subsecond { digits: SubsecondDigits::Two },
+    Subsecond { digits: SubsecondDigits::Three },
+    Subsecond { digits: SubsecondDigits::Four },
+    Subsecond { digits: SubsecondDigits::Five },
+    Subsecond { digits: SubsecondDigits::Six },
+    Subsecond { digits: SubsecondDigits::Seven },
+    Subsecond { digits: SubsecondDigits::Eight },
+    Subsecond { digits: SubsecondDigits::Nine },
+    Subsecond { digits: SubsecondDigits::OneOrMore },
+    Ignore { count: 7 },
+    End { trailing_input: TrailingInput::Prohibit },
+};
 
 /// Writes the component of the value where there is exactly the room of its width, and answers the
 /// number of its bytes; a refusal has none.
@@ -46,134 +110,22 @@ fn written(rt: &impl Abort, alloc: Global, component: &Component, value: &Offset
     output.len()
 }
 
-/// The longest of the two texts fills the width.
-fn assert_filled(
-    rt: &impl Abort,
-    alloc: Global,
-    component: Component,
-    (extended, standard): (&OffsetDateTime, &OffsetDateTime),
-) {
-    let first = written(rt, alloc, &component, extended);
-    let second = written(rt, alloc, &component, standard);
-    assert_same(rt, first.max(second), component_width(&component));
+/// -999999-09-12, a Wednesday, and -9999-10-10 have the longest texts between them, at 12:34:56.123456789
+/// -23:45:30.
+fn assert_filled(rt: &impl Abort, alloc: Global, components: &[Component]) {
+    let (time, offset) = ((12, 34, 56, 123_456_789), (-23, -45, -30));
+    let extended = moment(rt, (-999_999, 9, 12), time, offset);
+    let standard = moment(rt, (-9_999, 10, 10), time, offset);
+    for component in components {
+        let first = written(rt, alloc, component, &extended);
+        let second = written(rt, alloc, component, &standard);
+        assert_same(rt, first.max(second), component_width(component));
+    }
 }
 
-fn padded(padding: Padding) -> [Component; 14] {
-    [
-        Component::Day(modifier::Day { padding }),
-        Component::MonthNumerical(modifier::MonthNumerical { padding }),
-        Component::Ordinal(modifier::Ordinal { padding }),
-        Component::WeekNumberIso(modifier::WeekNumberIso { padding }),
-        Component::WeekNumberSunday(modifier::WeekNumberSunday { padding }),
-        Component::WeekNumberMonday(modifier::WeekNumberMonday { padding }),
-        Component::CalendarYearLastTwo(modifier::CalendarYearLastTwo { padding }),
-        Component::IsoYearLastTwo(modifier::IsoYearLastTwo { padding }),
-        Component::Hour12(modifier::Hour12 { padding }),
-        Component::Hour24(modifier::Hour24 { padding }),
-        Component::Minute(modifier::Minute { padding }),
-        Component::Second(modifier::Second { padding }),
-        Component::OffsetMinute(modifier::OffsetMinute { padding }),
-        Component::OffsetSecond(modifier::OffsetSecond { padding }),
-    ]
-}
-
-fn padded_with_sign(padding: Padding, sign_is_mandatory: bool) -> [Component; 9] {
-    [
-        Component::CalendarYearFullExtendedRange(modifier::CalendarYearFullExtendedRange {
-            padding,
-            sign_is_mandatory,
-        }),
-        Component::CalendarYearFullStandardRange(modifier::CalendarYearFullStandardRange {
-            padding,
-            sign_is_mandatory,
-        }),
-        Component::CalendarYearCenturyExtendedRange(modifier::CalendarYearCenturyExtendedRange {
-            padding,
-            sign_is_mandatory,
-        }),
-        Component::CalendarYearCenturyStandardRange(modifier::CalendarYearCenturyStandardRange {
-            padding,
-            sign_is_mandatory,
-        }),
-        Component::IsoYearFullExtendedRange(modifier::IsoYearFullExtendedRange {
-            padding,
-            sign_is_mandatory,
-        }),
-        Component::IsoYearFullStandardRange(modifier::IsoYearFullStandardRange {
-            padding,
-            sign_is_mandatory,
-        }),
-        Component::IsoYearCenturyExtendedRange(modifier::IsoYearCenturyExtendedRange {
-            padding,
-            sign_is_mandatory,
-        }),
-        Component::IsoYearCenturyStandardRange(modifier::IsoYearCenturyStandardRange {
-            padding,
-            sign_is_mandatory,
-        }),
-        Component::OffsetHour(modifier::OffsetHour {
-            padding,
-            sign_is_mandatory,
-        }),
-    ]
-}
-
-fn with_choice(chosen: bool) -> [Component; 10] {
-    let case_sensitive = chosen;
-    let one_indexed = chosen;
-    let sign_is_mandatory = chosen;
-    [
-        Component::MonthShort(modifier::MonthShort { case_sensitive }),
-        Component::MonthLong(modifier::MonthLong { case_sensitive }),
-        Component::WeekdayShort(modifier::WeekdayShort { case_sensitive }),
-        Component::WeekdayLong(modifier::WeekdayLong { case_sensitive }),
-        Component::WeekdaySunday(modifier::WeekdaySunday { one_indexed }),
-        Component::WeekdayMonday(modifier::WeekdayMonday { one_indexed }),
-        Component::Period(modifier::Period {
-            is_uppercase: true,
-            case_sensitive,
-        }),
-        Component::Period(modifier::Period {
-            is_uppercase: false,
-            case_sensitive,
-        }),
-        Component::UnixTimestampSecond(modifier::UnixTimestampSecond { sign_is_mandatory }),
-        Component::UnixTimestampMillisecond(modifier::UnixTimestampMillisecond {
-            sign_is_mandatory,
-        }),
-    ]
-}
-
-/// -999999-09-12, a Wednesday, and -9999-10-10 have the longest texts between them.
 #[test]
 fn each_component_fills_its_width(rt: HostRuntime) {
-    let alloc = rt.alloc();
-    let extended = day_at(&rt, -999_999, Month::September, 12);
-    let standard = day_at(&rt, -9_999, Month::October, 10);
-    let values = (&extended, &standard);
-    for &padding in PADDINGS {
-        for component in padded(padding) {
-            assert_filled(&rt, alloc, component, values);
-        }
-        for sign_is_mandatory in [false, true] {
-            for component in padded_with_sign(padding, sign_is_mandatory) {
-                assert_filled(&rt, alloc, component, values);
-            }
-        }
+    for components in [PADDED, SIGNED, CHOSEN, OTHERS] {
+        assert_filled(&rt, rt.alloc(), components);
     }
-    for chosen in [false, true] {
-        for component in with_choice(chosen) {
-            assert_filled(&rt, alloc, component, values);
-        }
-    }
-    for &digits in DIGITS {
-        let subsecond = Component::Subsecond(modifier::Subsecond { digits });
-        assert_filled(&rt, alloc, subsecond, values);
-    }
-    let ignore = Component::Ignore(modifier::Ignore { count: 7 });
-    assert_filled(&rt, alloc, ignore, values);
-    let end = Component::End(modifier::End {
-        trailing_input: TrailingInput::Prohibit,
-    });
-    assert_filled(&rt, alloc, end, values);
 }

@@ -34,7 +34,7 @@ const TWO: &[(u8, Padding, &str)] = &[
 
 #[test]
 #[tactic(auto, using(time_fmt::proofs::TextLemmas::text_lengths))]
-fn two_digits(rt: HostRuntime) -> Result<(), Fail> {
+fn two_digits_are_filled_as_asked_for(rt: HostRuntime) -> Result<(), Fail> {
     for &(number, padding, text) in TWO {
         let mut output = empty(&rt)?;
         let number = ru8::new(number).expect(&rt, "two digits");
@@ -46,7 +46,7 @@ fn two_digits(rt: HostRuntime) -> Result<(), Fail> {
 
 #[test]
 #[tactic(auto, using(time_fmt::proofs::NumberLemmas::four_digits))]
-fn one_digit(rt: HostRuntime) -> Result<(), Fail> {
+fn one_digit_is_written(rt: HostRuntime) -> Result<(), Fail> {
     let mut output = empty(&rt)?;
     let digit = ru8::new(7).expect(&rt, "a digit");
     let count = format_single_digit(&mut output, digit);
@@ -64,8 +64,8 @@ const THREE: &[(u16, Padding, &str)] = &[
 ];
 
 #[test]
-#[tactic(auto, using(time_fmt::proofs::DateTextLemmas::three_places))]
-fn three_digits(rt: HostRuntime) -> Result<(), Fail> {
+#[tactic(auto, using(time_fmt::proofs::TextLemmas::three_places))]
+fn three_digits_are_filled_as_asked_for(rt: HostRuntime) -> Result<(), Fail> {
     for &(number, padding, text) in THREE {
         let mut output = empty(&rt)?;
         let number = ru16::new(number).expect(&rt, "three digits");
@@ -86,7 +86,7 @@ const FOUR: &[(u16, Padding, &str)] = &[
 
 #[test]
 #[tactic(auto, using(time_fmt::proofs::NumberLemmas::four_places))]
-fn four_digits(rt: HostRuntime) -> Result<(), Fail> {
+fn four_digits_are_filled_as_asked_for(rt: HostRuntime) -> Result<(), Fail> {
     for &(number, padding, text) in FOUR {
         let mut output = empty(&rt)?;
         let number = ru16::new(number).expect(&rt, "four digits");
@@ -104,7 +104,7 @@ const FILLED: &[(u16, &str, &str, &str)] = &[
 
 #[test]
 #[tactic(auto, using(time_fmt::proofs::NumberLemmas::number_lengths))]
-fn digits_filled_with_zeros(rt: HostRuntime) -> Result<(), Fail> {
+fn four_to_six_digits_are_filled_with_zeros(rt: HostRuntime) -> Result<(), Fail> {
     for &(number, four, five, six) in FILLED {
         let mut output = empty(&rt)?;
         let value = ru16::new(number).expect(&rt, "four digits");
@@ -130,7 +130,7 @@ const WHOLE: &[(u64, &str)] = &[
 
 #[test]
 #[tactic(auto, using(time_fmt::proofs::NumberLemmas::number_lengths))]
-fn whole_numbers(rt: HostRuntime) -> Result<(), Fail> {
+fn whole_numbers_have_no_more_than_their_digits(rt: HostRuntime) -> Result<(), Fail> {
     let mut output = empty(&rt)?;
     let count = format_int_padded(&mut output, 42, 4);
     assert_written(&rt, &output, count, "0042");
@@ -151,7 +151,7 @@ const SIGNS: &[(bool, bool, &str)] = &[
 
 #[test]
 #[tactic(auto, using(time_fmt::proofs::NumberLemmas::number_lengths))]
-fn signs(rt: HostRuntime) -> Result<(), Fail> {
+fn a_plus_is_written_where_it_is_asked_for(rt: HostRuntime) -> Result<(), Fail> {
     for &(is_negative, sign_is_mandatory, text) in SIGNS {
         let mut output = empty(&rt)?;
         let count = fmt_sign(&mut output, is_negative, sign_is_mandatory);
@@ -161,7 +161,7 @@ fn signs(rt: HostRuntime) -> Result<(), Fail> {
 }
 
 #[test]
-fn bytes_and_texts_as_they_are(rt: HostRuntime) -> Result<(), Fail> {
+fn bytes_and_texts_are_written_as_they_are(rt: HostRuntime) -> Result<(), Fail> {
     let mut output = empty(&rt)?;
     let count = write_bytes(&mut output, b"\xc3");
     assert_same(&rt, output.as_slice(), b"\xc3".as_slice());
@@ -178,7 +178,7 @@ fn bytes_and_texts_as_they_are(rt: HostRuntime) -> Result<(), Fail> {
 const WANTED: &[(bool, &str, &str)] = &[(true, "+", "AM"), (false, "", "PM")];
 
 #[test]
-fn texts_that_are_wanted(rt: HostRuntime) -> Result<(), Fail> {
+fn a_text_is_written_where_it_is_asked_for(rt: HostRuntime) -> Result<(), Fail> {
     for &(is_wanted, text, chosen) in WANTED {
         let mut output = empty(&rt)?;
         let count = write_if(&mut output, is_wanted, "+");
@@ -200,7 +200,7 @@ const DECIMALS: &[(u64, u64, u8, &str)] = &[
 ];
 
 #[test]
-fn decimals_of_units(rt: HostRuntime) -> Result<(), Fail> {
+fn decimals_of_a_unit_are_not_rounded(rt: HostRuntime) -> Result<(), Fail> {
     for &(rest, unit, digits, text) in DECIMALS {
         assert_that(&rt, rest < unit && unit <= 3_600_000_000_000);
         let digits = ru8::new(digits).expect(&rt, "at most 20 digits");
@@ -213,7 +213,7 @@ fn decimals_of_units(rt: HostRuntime) -> Result<(), Fail> {
 }
 
 #[test]
-fn most_decimals_of_an_hour(rt: HostRuntime) -> Result<(), Fail> {
+fn up_to_255_decimals_are_written(rt: HostRuntime) -> Result<(), Fail> {
     let mut output = Vec::with_capacity(rt.alloc(), 255)?;
     let digits = ru8::new(255).expect(&rt, "the most digits");
     let count = format_decimals(&mut output, 3_599_999_999_999, 3_600_000_000_000, digits);

@@ -1,21 +1,26 @@
 //! The texts of the configurations that most callers ask for, in pieces that are inlined.
-ghost use Rattle.std.specs.Prelude.{◌≡◌, ◌+◌, ◌*◌, ◌++◌, length, IsTrue, IfSome, OnSome, MatchOption, Ok, unsigned_abs};
-ghost use Rattle.time_below.specs.Facts.{the_date, the_time, the_offset};
+ghost use Rattle.std.specs.Prelude.{◌≡◌, ◌+◌, ◌*◌, ◌++◌, length, Some, OnSome, MatchOption, Ok};
 ghost use Rattle.time_fmt.specs.Decimals.{decimals};
 ghost use Rattle.time_fmt.specs.Outcome.{AppendsUpTo};
-ghost use Rattle.time_fmt.specs.Room.{HasRoom, Writes, WritesUpTo};
-ghost use Rattle.time_provide.specs.Real.{AgreesOnTime, AreReal};
-ghost use Rattle.time_known.specs.Groups.{Accepts, AreAllSupplied, at_groups};
+ghost use Rattle.time_fmt.specs.Room.{HasRoom};
+ghost use Rattle.time_provide.specs.Real.{AreReal};
+ghost use Rattle.time_known.specs.Config.{default_choices};
+ghost use Rattle.time_known.specs.Fields.{date_of_fields, offset_of_fields, time_of_day};
+ghost use Rattle.time_known.specs.Groups.{AreAllSupplied, at_groups};
 ghost use Rattle.time_known.specs.Iso8601.{decimal_part, iso_of_groups};
 ghost use Rattle.time_known.specs.Iso8601Width.{decimal_part_width, iso8601_width};
-ghost use Rattle.time_known.specs.UsualText.{usual_choices, usual_text, usual_date_text, usual_time_text, usual_offset_text};
+ghost use Rattle.time_known.specs.Sink.{Fits, Puts, PutsUpTo};
+ghost use Rattle.time_known.specs.UsualText.{usual_choices, usual_of_fields, usual_time_text};
 
-use crate::iso8601::config::{Config, Usual};
+use crate::accepted::accepted_year_of;
+use crate::fields::{Fields, TimeFields, fields_of};
+use crate::iso8601::config::{Config, DecimalSign, Usual};
 use crate::iso8601::time::NANOSECONDS_PER_SECOND;
-use crate::pieces::{four_digit_year, put_back, take_out, write_clock, write_nine_digits};
-use crate::rfc3339::{write_full_date, write_time_offset};
-use time_digits::{ru8, ru16};
-use time_fmt::writers::{format_decimals, write, write_six_decimals, write_three_decimals};
+use crate::put::{
+    put_clock, put_date, put_nine_digits, put_offset, put_six_decimals, put_three_decimals,
+};
+use crate::sink::{Sink, Text, append};
+use time_digits::ru8;
 use time_provide::ComponentProvider;
 use time_provide::ranges::Nanoseconds;
 
@@ -39,169 +44,133 @@ pub(super) fn write_usual<V: ComponentProvider>(
     ensures real { OnSome result (AreReal (V.facts value.now)) }
     ensures agrees { V.agrees state.new value.now }
 {
-    let Some(year) = accepted_year(config, usual, value, state) else {
-        return None;
-    };
-    let mut taken = take_out(output);
-    let count = append_usual(&mut taken, usual, year, value, state);
-    put_back(output, taken);
-    Some(count)
-}
-
-// The year of four digits, where nothing of the value is refused.
-#[inline(always)]
-fn accepted_year<V: ComponentProvider>(
-    config: &Config,
-    usual: &Usual,
-    value: &V,
-    state: &mut V::State,
-) -> Option<ru16<0, 9_999>>
-    requires usual { config.now
-        ≡ usual_choices usual.now.has_separators usual.now.decimal_digits usual.now.decimal_sign }
-    requires supplied { AreAllSupplied V.SUPPLIES_DATE V.SUPPLIES_TIME V.SUPPLIES_OFFSET }
-    requires agrees { V.agrees state.old value.now }
-    ensures accepted { IfSome result
-        (Accepts (iso_of_groups config.now) (usual_text config.now usual.now.decimal_digits)
-        (V.facts value.now)) }
-    ensures agrees { V.agrees state.new value.now }
-{
-    let Some(year) = four_digit_year(value.calendar_year(state), 0) else {
-        return None;
-    };
-    if value.offset_second(state).get() != 0 {
-        return None;
-    }
-    Some(year)
-}
-
-// Appends the date of this year, the time and the offset.
-#[inline(always)]
-#[tactic(auto, using(crate::proofs::LengthLemmas::joined_lengths))]
-fn append_usual<V: ComponentProvider>(
-    output: &mut Vec<u8>,
-    usual: &Usual,
-    year: ru16<0, 9_999>,
-    value: &V,
-    state: &mut V::State,
-) -> usize
-    requires supplied { AreAllSupplied V.SUPPLIES_DATE V.SUPPLIES_TIME V.SUPPLIES_OFFSET }
-    requires year { year ≡ unsigned_abs (the_date (V.facts value.now)).year }
-    requires room { HasRoom output.old (iso8601_width
-        (usual_choices usual.now.has_separators usual.now.decimal_digits usual.now.decimal_sign)) }
-    requires agrees { V.agrees state.old value.now }
-    ensures writes { WritesUpTo (iso8601_width
-        (usual_choices usual.now.has_separators usual.now.decimal_digits usual.now.decimal_sign))
-        output.old output.new result
-        (at_groups (usual_text
-        (usual_choices usual.now.has_separators usual.now.decimal_digits usual.now.decimal_sign)
-        usual.now.decimal_digits) (V.facts value.now)) }
-    ensures agrees { AgreesOnTime (V.agrees state.new value.now) (V.facts value.now) }
-{
-    if usual.has_separators {
-        append_parts(output, usual, year, value, state, "-", ":")
-    } else {
-        append_parts(output, usual, year, value, state, "", "")
+    match accepted_year_of(0, 25, value, state) {
+        Ok(year) => {
+            let fields = fields_of(year, value, state);
+            let usual = *usual;
+            Some(append(output, &UsualText { usual, fields }))
+        }
+        Err(_) => None,
     }
 }
 
-// The same with these separators, which the compiler knows, and so where each part stands.
+// The text by such choices, of fields of which nothing is refused.
+#[derive(Clone, Copy)]
+struct UsualText {
+    usual: Usual,
+    fields: Fields,
+}
+
+impl Text for UsualText {
+    ghost width = { λ t. iso8601_width
+        (usual_choices t.usual.has_separators t.usual.decimal_digits t.usual.decimal_sign) };
+
+    ghost text = { λ t. usual_of_fields
+        (usual_choices t.usual.has_separators t.usual.decimal_digits t.usual.decimal_sign)
+        t.usual.decimal_digits t.fields };
+
+    #[inline(always)]
+    #[tactic(auto, using(crate::proofs::LengthLemmas::joined_lengths))]
+    fn put_into<S: Sink>(&self, output: &mut S) {
+        if self.usual.has_separators {
+            put_usual(output, &self.usual, &self.fields, "-", ":");
+        } else {
+            put_usual(output, &self.usual, &self.fields, "", "");
+        }
+    }
+}
+
+/// The text by the default configuration, of fields of which nothing is refused.
+#[derive(Clone, Copy)]
+pub struct DefaultText {
+    /// The fields.
+    pub fields: Fields,
+}
+
+impl Text for DefaultText {
+    ghost width = { λ _. 35 };
+
+    ghost text = { λ t. usual_of_fields default_choices (Some 9) t.fields };
+
+    #[inline(always)]
+    fn put_into<S: Sink>(&self, output: &mut S) {
+        let usual = Usual {
+            has_separators: true,
+            decimal_digits: ru8::new(9),
+            decimal_sign: DecimalSign::Point,
+        };
+        put_usual(output, &usual, &self.fields, "-", ":");
+    }
+}
+
+// Puts the date, the time and the offset with these separators, which the compiler knows, and so where
+// each part stands.
 #[inline(always)]
 #[tactic(auto, using(crate::proofs::LengthLemmas::joined_lengths))]
-fn append_parts<V: ComponentProvider>(
-    output: &mut Vec<u8>,
-    usual: &Usual,
-    year: ru16<0, 9_999>,
-    value: &V,
-    state: &mut V::State,
-    dash: &str,
-    colon: &str,
-) -> usize
-    requires supplied { AreAllSupplied V.SUPPLIES_DATE V.SUPPLIES_TIME V.SUPPLIES_OFFSET }
-    requires year { year ≡ unsigned_abs (the_date (V.facts value.now)).year }
-    requires room { HasRoom output.old (20 + 2 * length dash.now + 3 * length colon.now
-        + decimal_part_width usual.now.decimal_digits) }
-    requires agrees { V.agrees state.old value.now }
-    ensures writes { WritesUpTo (20 + 2 * length dash.now + 3 * length colon.now
-        + decimal_part_width usual.now.decimal_digits) output.old output.new result
-        (usual_date_text dash.now (the_date (V.facts value.now))
+fn put_usual<S: Sink>(output: &mut S, usual: &Usual, fields: &Fields, dash: &str, colon: &str)
+    requires room { Fits (20 + 2 * length dash.now + 3 * length colon.now
+        + decimal_part_width usual.now.decimal_digits) (S.buffer output.old) }
+    ensures puts { PutsUpTo (20 + 2 * length dash.now + 3 * length colon.now
+        + decimal_part_width usual.now.decimal_digits) (S.buffer output.old) (S.buffer output.new)
+        (date_of_fields dash.now fields.now
         ++ usual_time_text colon.now usual.now.decimal_sign usual.now.decimal_digits
-        (the_time (V.facts value.now))
-        ++ usual_offset_text colon.now (the_offset (V.facts value.now))) }
-    ensures agrees { AgreesOnTime (V.agrees state.new value.now) (V.facts value.now) }
+        (time_of_day fields.now.time)
+        ++ offset_of_fields colon.now fields.now.offset) }
 {
-    let date = write_full_date(output, year, value, state, dash);
-    let time = write_usual_time(output, usual, value, state, colon);
-    date + time + write_time_offset(output, value, state, colon)
+    put_date(output, fields, dash);
+    put_usual_time(output, usual, &fields.time, colon);
+    put_offset(output, &fields.offset, colon);
 }
 
-// Appends the time, and decimals of its second.
+// Puts the time, and decimals of its second.
 #[inline(always)]
 #[tactic(auto, using(crate::proofs::LengthLemmas::joined_lengths))]
-fn write_usual_time<V: ComponentProvider>(
-    output: &mut Vec<u8>,
-    usual: &Usual,
-    value: &V,
-    state: &mut V::State,
-    separator: &str,
-) -> usize
-    requires supplied { IsTrue V.SUPPLIES_TIME }
-    requires room { HasRoom output.old
-        (7 + 2 * length separator.now + decimal_part_width usual.now.decimal_digits) }
-    requires agrees { V.agrees state.old value.now }
-    ensures writes { WritesUpTo
+fn put_usual_time<S: Sink>(output: &mut S, usual: &Usual, time: &TimeFields, separator: &str)
+    requires room { Fits
         (7 + 2 * length separator.now + decimal_part_width usual.now.decimal_digits)
-        output.old output.new result
+        (S.buffer output.old) }
+    ensures puts { PutsUpTo
+        (7 + 2 * length separator.now + decimal_part_width usual.now.decimal_digits)
+        (S.buffer output.old) (S.buffer output.new)
         (usual_time_text separator.now usual.now.decimal_sign usual.now.decimal_digits
-        (the_time (V.facts value.now))) }
-    ensures agrees { AgreesOnTime (V.agrees state.new value.now) (V.facts value.now) }
+        (time_of_day time.now)) }
 {
-    let letter = write(output, "T");
-    let clock = write_clock(output, value, state, separator);
-    letter + clock + write_fraction_by(output, usual, value.nanosecond(state))
+    output.put("T");
+    put_clock(output, time, separator);
+    put_fraction_by(output, usual, time.nanosecond);
 }
 
-// Appends the decimal sign and the decimals of the second, if any are wanted.
+// Puts the decimal sign and the decimals of the second, if any are wanted.
 #[inline(always)]
 #[tactic(auto, using(crate::proofs::iso8601::LengthLemmas::decimal_lengths))]
-fn write_fraction_by(output: &mut Vec<u8>, usual: &Usual, nanosecond: Nanoseconds) -> usize
-    requires room { HasRoom output.old (decimal_part_width usual.now.decimal_digits) }
-    ensures writes { WritesUpTo (decimal_part_width usual.now.decimal_digits) output.old output.new result
+fn put_fraction_by<S: Sink>(output: &mut S, usual: &Usual, nanosecond: Nanoseconds)
+    requires room { Fits (decimal_part_width usual.now.decimal_digits) (S.buffer output.old) }
+    ensures puts { PutsUpTo (decimal_part_width usual.now.decimal_digits)
+        (S.buffer output.old) (S.buffer output.new)
         (decimal_part usual.now.decimal_sign usual.now.decimal_digits nanosecond
         NANOSECONDS_PER_SECOND) }
 {
-    let Some(digits) = usual.decimal_digits else {
-        return 0;
-    };
-    let sign = write(output, usual.decimal_sign.text());
-    sign + write_decimals(output, nanosecond, digits)
-}
-
-// Appends so many decimals of the second.
-#[inline(always)]
-#[tactic(auto, using(crate::proofs::iso8601::LengthLemmas::decimals_of_second))]
-fn write_decimals(output: &mut Vec<u8>, nanosecond: Nanoseconds, digits: ru8<1, 255>) -> usize
-    requires room { HasRoom output.old digits }
-    ensures writes { Writes output.old output.new result
-        (decimals nanosecond NANOSECONDS_PER_SECOND digits) }
-{
-    match digits.get() {
-        9 => write_nine_digits(output, nanosecond),
-        6 => write_six_decimals(output, nanosecond),
-        3 => write_three_decimals(output, nanosecond),
-        _ => write_rare_decimals(output, nanosecond, digits),
+    if let Some(digits) = usual.decimal_digits {
+        output.put(usual.decimal_sign.text());
+        put_decimals(output, nanosecond, digits);
     }
 }
 
-// The same of any number, of a vector that is taken out once more.
-#[inline]
-fn write_rare_decimals(output: &mut Vec<u8>, nanosecond: Nanoseconds, digits: ru8<1, 255>) -> usize
-    requires room { HasRoom output.old digits }
-    ensures writes { Writes output.old output.new result
+// Puts so many decimals of the second.
+#[inline(always)]
+#[tactic(auto, using(crate::proofs::iso8601::LengthLemmas::decimals_of_second))]
+fn put_decimals<S: Sink>(output: &mut S, nanosecond: Nanoseconds, digits: ru8<1, 255>)
+    requires room { Fits digits (S.buffer output.old) }
+    ensures puts { Puts (S.buffer output.old) (S.buffer output.new)
         (decimals nanosecond NANOSECONDS_PER_SECOND digits) }
 {
-    let mut taken = take_out(output);
-    let nanosecond = u64::from(nanosecond.get());
-    let count = format_decimals(&mut taken, nanosecond, NANOSECONDS_PER_SECOND, digits);
-    put_back(output, taken);
-    count
+    match digits.get() {
+        9 => put_nine_digits(output, nanosecond),
+        6 => put_six_decimals(output, nanosecond),
+        3 => put_three_decimals(output, nanosecond),
+        _ => {
+            let rest = u64::from(nanosecond.get());
+            output.put_decimals(rest, NANOSECONDS_PER_SECOND, digits);
+        }
+    }
 }

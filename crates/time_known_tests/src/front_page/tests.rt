@@ -1,14 +1,15 @@
-//! The texts of the front page.
+//! The texts of the recipes.
 use super::{
-    append_date, append_entry, append_log_time, append_mail_date, append_milliseconds,
-    append_stamp, append_unix_time, reason, stamp_text, write_kept,
+    append_clock, append_date, append_entry, append_log_time, append_mail_date,
+    append_milliseconds, append_stamp, append_unix_time, append_week_date, at_offset, reason,
+    stamp_text, write_kept,
 };
 use crate::texts::{assert_same, assert_that};
 use crate::values::moment;
 use std::default::Default;
 use std::process::Abort;
 use std::test::Fail;
-use time_below::{Month, OffsetDateTime, UtcDateTime};
+use time_below::{Month, OffsetDateTime, UtcDateTime, UtcOffset};
 use time_fmt::{DateState, Format};
 use time_known::Rfc3339;
 
@@ -29,42 +30,56 @@ fn assert_line(rt: &impl Abort, written: Result<usize, Format>, line: &Vec<u8>, 
 }
 
 #[test]
-fn a_fixed_text(rt: HostRuntime) {
+fn writes_a_fixed_text(rt: HostRuntime) {
     let mut line = Vec::new(rt.alloc());
     let written = append_log_time(&mut line, &sunday(&rt));
     assert_line(&rt, written, &line, "09:55:06.120");
 }
 
 #[test]
-fn a_text_by_a_list(rt: HostRuntime) {
+fn writes_the_12_hour_clock(rt: HostRuntime) {
+    let mut line = Vec::new(rt.alloc());
+    let written = append_clock(&mut line, &sunday(&rt).time());
+    assert_line(&rt, written, &line, "9:55 AM");
+}
+
+#[test]
+fn writes_a_text_by_a_list(rt: HostRuntime) {
     let mut line = Vec::new(rt.alloc());
     let written = append_date(&mut line, &sunday(&rt).date());
     assert_line(&rt, written, &line, "22 November 2026");
 }
 
 #[test]
-fn a_stamp(rt: HostRuntime) {
+fn writes_a_stamp(rt: HostRuntime) {
     let mut line = Vec::new(rt.alloc());
     let written = append_stamp(&mut line, &sunday(&rt));
     assert_line(&rt, written, &line, "2026-11-22T09:55:06.12Z");
 }
 
 #[test]
-fn a_date_of_a_mail(rt: HostRuntime) {
+fn writes_the_date_of_a_mail(rt: HostRuntime) {
     let mut line = Vec::new(rt.alloc());
     let written = append_mail_date(&mut line, &sunday(&rt));
     assert_line(&rt, written, &line, "Sun, 22 Nov 2026 09:55:06 +0000");
 }
 
 #[test]
-fn milliseconds_behind_a_comma(rt: HostRuntime) {
+fn writes_milliseconds_after_a_comma(rt: HostRuntime) {
     let mut line = Vec::new(rt.alloc());
     let written = append_milliseconds(&mut line, &sunday(&rt));
     assert_line(&rt, written, &line, "2026-11-22T09:55:06,120Z");
 }
 
 #[test]
-fn a_moment_of_unix_time(rt: HostRuntime) {
+fn writes_a_week_date(rt: HostRuntime) {
+    let mut line = Vec::new(rt.alloc());
+    let written = append_week_date(&mut line, &sunday(&rt).date());
+    assert_line(&rt, written, &line, "2026-W47-7");
+}
+
+#[test]
+fn writes_unix_seconds_in_range_alone(rt: HostRuntime) {
     let mut line = Vec::new(rt.alloc());
     match append_unix_time(&mut line, 0) {
         Some(written) => assert_line(&rt, written, &line, "1970-01-01T00:00:00Z"),
@@ -74,10 +89,27 @@ fn a_moment_of_unix_time(rt: HostRuntime) {
 }
 
 #[test]
-fn a_vector_that_is_kept(rt: HostRuntime) -> Result<(), Fail> {
+fn gives_unix_seconds_an_offset(rt: HostRuntime) {
+    let Ok(offset) = UtcOffset::from_hms(-6, 0, 0) else {
+        panic!(rt; "no offset");
+    };
+    let Some(moment) = at_offset(0, offset) else {
+        panic!(rt; "no moment");
+    };
+    let mut line = Vec::new(rt.alloc());
+    let written = append_stamp(&mut line, &moment);
+    assert_line(&rt, written, &line, "1969-12-31T18:00:00-06:00");
+    assert_that(&rt, at_offset(i64::MAX, offset).is_none());
+}
+
+#[test]
+fn writes_into_a_kept_vector_of_the_width(rt: HostRuntime) -> Result<(), Fail> {
     let mut kept = Vec::with_capacity(rt.alloc(), 35)?;
     for _ in 0..2 {
-        let written = write_kept(&mut kept, &Rfc3339, &sunday(&rt), &mut DateState::default());
+        let Some(written) = write_kept(&mut kept, &Rfc3339, &sunday(&rt), &mut DateState::default())
+        else {
+            panic!(rt; "35 bytes are the width");
+        };
         assert_line(&rt, written, &kept, "2026-11-22T09:55:06.12Z");
     }
     let mut short = Vec::with_capacity(rt.alloc(), 34)?;
@@ -87,12 +119,12 @@ fn a_vector_that_is_kept(rt: HostRuntime) -> Result<(), Fail> {
         &sunday(&rt),
         &mut DateState::default(),
     );
-    assert_that(&rt, matches!(&refused, Err(Format::OutOfMemory)));
+    assert_that(&rt, refused.is_none());
     Ok(())
 }
 
 #[test]
-fn an_entry_of_a_log(rt: HostRuntime) {
+fn writes_an_entry_of_a_log(rt: HostRuntime) {
     let value = sunday(&rt);
     let utc = UtcDateTime::new(value.date(), value.time());
     let mut line = Vec::new(rt.alloc());
@@ -101,7 +133,7 @@ fn an_entry_of_a_log(rt: HostRuntime) {
 }
 
 #[test]
-fn a_text_of_its_own(rt: HostRuntime) {
+fn gives_a_string(rt: HostRuntime) {
     let Ok(text) = stamp_text(rt.alloc(), &sunday(&rt)) else {
         panic!(rt; "refused");
     };
@@ -109,6 +141,6 @@ fn a_text_of_its_own(rt: HostRuntime) {
 }
 
 #[test]
-fn a_refusal_by_its_variant(rt: HostRuntime) {
+fn names_the_refused_component(rt: HostRuntime) {
     assert_same(&rt, reason(&Format::InvalidComponent("year")), "year");
 }

@@ -171,7 +171,7 @@ fn either(a: [bool; 4], b: [bool; 4]) -> [bool; 4] {
     [a[0] || b[0], a[1] || b[1], a[2] || b[2], a[3] || b[3]]
 }
 
-// After two methods in turn the state holds the entries of both: what is held is kept.
+// The state holds the entries of both methods after they were called in turn.
 fn check_entries<V: ComponentProvider<State = DateState>>(rt: &impl Abort, value: &V) {
     for &(first, of_first, _) in ENTRIES {
         for &(second, of_second, _) in ENTRIES {

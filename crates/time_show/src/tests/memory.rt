@@ -1,4 +1,4 @@
-//! The run where memory is refused.
+//! The run when allocations fail.
 ghost use Rattle.std.specs.Prelude.{◌≤◌};
 
 use super::assert_same;
@@ -74,7 +74,7 @@ fn assert_answer(rt: &impl Abort, alloc: Global, answer: &[u8]) {
     assert_same(&rt, &page.bytes[..page.len], answer);
 }
 
-/// Where no memory is left the value is refused. One of the smallest vectors given back is enough
+/// The value is refused when no memory is left. One of the smallest vectors given back is enough
 /// for its text, so an answer that asked for much more would be refused once more.
 ///
 /// An allocator that keeps addresses of its own for small requests cannot be emptied so, and there

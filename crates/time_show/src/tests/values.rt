@@ -180,7 +180,7 @@ fn ten_numbers_give_a_date_and_time(rt: HostRuntime) {
     }
 }
 
-/// Where the signs of an offset differ, the largest part that is not zero decides.
+/// The largest part of an offset that is not zero decides its sign.
 #[test]
 fn mixed_signs_are_settled(rt: HostRuntime) {
     for (line, parts) in [

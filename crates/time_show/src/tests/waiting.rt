@@ -37,7 +37,7 @@ fn reply(text: &[u8], len: usize) -> Reply<'_> {
     }
 }
 
-/// So many bytes wait, and go out: all at once, and before a longer answer that has no room beside them.
+/// Waiting bytes go out: all at once, and before a longer answer that does not fit beside them.
 fn assert_goes_out(rt: &impl Abort, answers: &mut OutputBuffer, text: &[u8], len: usize) {
     let mut output = Counter { bytes: 0 };
     let waits = answers.append_reply(&mut output, reply(text, len)).is_ok();

@@ -1,12 +1,14 @@
 use Rattle.std.proofs.Common.{ap, ◌∙◌}
 use Rattle.time_fmt.specs.Outcome.{Outcome}
-use Rattle.time_fmt.proofs.WriteLemmas.{appends_up_to}
-use Rattle.time_known.specs.Rfc3339.{rfc3339_of_groups}
+use Rattle.time_fmt.proofs.WriteLemmas.{appends_nothing, appends_up_to}
+use Rattle.time_known.specs.Groups.{at_groups}
+use Rattle.time_known.specs.Rfc3339.{rfc3339_of_fields, rfc3339_of_groups, rfc3339_text}
 use Rattle.time_known.proofs.GroupLemmas.{has_all, outcome_of_all}
 use Rattle.time_known.proofs.GuaranteeLemmas.{rfc3339_utf8}
 use Rattle.time_known.proofs.LawLemmas.{completed_are_canonical}
 use Rattle.time_known.proofs.ReadBackLemmas.{reads_as}
 use Rattle.time_known.proofs.Rfc3339Lemmas.{rfc3339_is_written}
+use Rattle.time_known.proofs.SinkLemmas.{written_as}
 use Rattle.time_known.proofs.rfc3339.Rfc3339Formattable.write_into.Goals as goal
 
 pub returns-in-Ok-clause-appends : goal.returns-in-Ok-clause-appends
@@ -14,25 +16,29 @@ returns-in-Ok-clause-appends g c =
     let value = c.args.value.now in
     let f = g.V.ComponentProvider.facts value in
     let all = has_all f (c.are_supplied_by.ensures.there value ∙ c.if-not-are_supplied_by.false) in
-    rw (
-      outcome_of_all f all rfc3339_of_groups ∙ c.in-Ok.ensures.accepted.completed,
-      c.put_back.ensures,
-      ← c.take_out-taken.ensures,
-    )
-    (appends_up_to c.append_date_time-count.ensures.writes)
+    rw (outcome_of_all f all rfc3339_of_groups ∙ c.in-Ok.ensures.accepted (at_groups rfc3339_text f))
+    (appends_up_to (written_as rfc3339_of_fields c.fields_of-fields.ensures.fields c.append.ensures.writes))
 
 pub returns-in-Ok-clause-spelled : goal.returns-in-Ok-clause-spelled
 returns-in-Ok-clause-spelled g c =
     let value = c.args.value.now in
     let f = g.V.ComponentProvider.facts value in
-    let accepted = c.in-Ok.ensures.accepted in
     let all = has_all f (c.are_supplied_by.ensures.there value ∙ c.if-not-are_supplied_by.false) in
-    reads_as rfc3339_of_groups (completed_are_canonical rfc3339_is_written) f all accepted.date
-    c.append_date_time-count.ensures.agrees.real accepted.offset
-    (ap (λ (o : Outcome). o.refusal) (outcome_of_all f all rfc3339_of_groups ∙ accepted.completed))
+    let completed = outcome_of_all f all rfc3339_of_groups ∙ c.in-Ok.ensures.accepted (at_groups rfc3339_text f) in
+    reads_as rfc3339_of_groups (completed_are_canonical rfc3339_is_written) f all c.accepted_year_of.ensures.date
+    c.fields_of-fields.ensures.agrees.real c.accepted_year_of.ensures.offset
+    (ap (λ (o : Outcome). o.refusal) completed)
 
 pub returns-in-Ok-clause-text : goal.returns-in-Ok-clause-text
 returns-in-Ok-clause-text g c = λ _. rfc3339_utf8 (g.V.ComponentProvider.facts c.args.value.now)
+
+pub returns-in-Err-clause-appends : goal.returns-in-Err-clause-appends
+returns-in-Err-clause-appends g c =
+    let value = c.args.value.now in
+    let f = g.V.ComponentProvider.facts value in
+    let all = has_all f (c.are_supplied_by.ensures.there value ∙ c.if-not-are_supplied_by.false) in
+    rw (outcome_of_all f all rfc3339_of_groups ∙ c.in-Err.ensures.refused (at_groups rfc3339_text f))
+    (appends_nothing _ _ _ c.name.ensures)
 
 pub returns-in-Err-clause-text : goal.returns-in-Err-clause-text
 returns-in-Err-clause-text g c = λ _. rfc3339_utf8 (g.V.ComponentProvider.facts c.args.value.now)

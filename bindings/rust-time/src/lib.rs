@@ -1,0 +1,47 @@
+//! Values of the crates `time` and `chrono` as values of `movaliren`, and a timer for
+//! `tracing-subscriber`.
+//!
+//! Each of the three is a feature, and all are on by default. The conversions are traits, since neither
+//! side's types belong to this crate.
+//!
+//! ```
+//! use movaliren::{Format, Rfc3339};
+//! use movaliren_time::ToMoment;
+//! use time::macros::datetime;
+//!
+//! let moment = datetime!(2026-11-22 09:55:06.12 -06:00).to_moment();
+//! assert_eq!(Rfc3339.text(&moment)?, "2026-11-22T09:55:06.12-06:00");
+//! # Ok::<(), movaliren::Error>(())
+//! ```
+#![forbid(unsafe_code)]
+#![warn(missing_docs)]
+
+use movaliren::{Date, Moment, UtcMoment};
+
+#[cfg(feature = "chrono")]
+mod of_chrono;
+#[cfg(feature = "time")]
+mod of_time;
+#[cfg(feature = "tracing")]
+mod timer;
+
+#[cfg(feature = "tracing")]
+pub use timer::Timer;
+
+/// A value with a local date, a local time and an offset from UTC.
+pub trait ToMoment {
+    /// Returns the local date and time, and the offset.
+    fn to_moment(&self) -> Moment;
+}
+
+/// A value that is a moment, by whatever clock.
+pub trait ToUtcMoment {
+    /// Returns the moment in UTC.
+    fn to_utc_moment(&self) -> UtcMoment;
+}
+
+/// A value that is a date.
+pub trait ToDate {
+    /// Returns the date.
+    fn to_date(&self) -> Date;
+}

@@ -1,0 +1,46 @@
+//! The lines that `tracing-subscriber` writes with a timer.
+use movaliren::{Description, Kind, Text};
+use movaliren_time::Timer;
+use std::io;
+use std::sync::{Arc, Mutex};
+
+#[derive(Clone, Default)]
+struct Lines(Arc<Mutex<Vec<u8>>>);
+
+impl io::Write for Lines {
+    fn write(&mut self, bytes: &[u8]) -> io::Result<usize> {
+        self.0.lock().unwrap().extend_from_slice(bytes);
+        Ok(bytes.len())
+    }
+
+    fn flush(&mut self) -> io::Result<()> {
+        Ok(())
+    }
+}
+
+/// What an event is written as, by this description of its time.
+fn logged(description: Description) -> String {
+    let lines = Lines::default();
+    let writer = lines.clone();
+    let subscriber = tracing_subscriber::fmt()
+        .with_timer(Timer::new(description))
+        .with_writer(move || writer.clone())
+        .finish();
+    tracing::subscriber::with_default(subscriber, || tracing::info!("opened"));
+    let bytes = lines.0.lock().unwrap().clone();
+    String::from_utf8(bytes).unwrap()
+}
+
+#[test]
+fn a_time_stands_before_the_level() {
+    let line = logged(Description::new().literal("at noon"));
+    assert_eq!(line, "at noon  INFO timer: opened\n");
+}
+
+#[test]
+fn a_time_may_be_longer_than_a_text_in_place() {
+    let long = "-".repeat(Text::CAPACITY);
+    let line = logged(Description::new().literal(&long).component(Kind::Period));
+    assert!(line.starts_with(&long));
+    assert!(line[long.len()..].ends_with("m  INFO timer: opened\n"));
+}

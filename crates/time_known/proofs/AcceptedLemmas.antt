@@ -1,0 +1,80 @@
+-- Formats that have a place for each hour of an offset, and what the usual texts of ISO 8601 have a place for.
+use Rattle.std.proofs.Common.{◌≡◌, ℕ, ◌≤◌, Bool, true, false, ◌&&◌, ◌==◌, List, ◌++◌, refl, ap, ◌∙◌, arith, ℤ, unsigned_abs}
+use Rattle.std.proofs.Common.{nat_lt, Option, Some, None}
+use Rattle.std.proofs.lemmas.Bool.Decides.{nat_tests}
+use Rattle.std.proofs.lemmas.Grind.{common_steps}
+use Rattle.std.specs.Prelude.{codes, if◌then◌else◌}
+use Rattle.time_below.specs.Facts.{DateFacts}
+use Rattle.time_below.specs.Offset.{Offset, is_utc}
+use Rattle.time_below.specs.TimeOfDay.{TimeOfDay}
+use Rattle.time_digits.specs.Digits.{zero_padded}
+use Rattle.time_fmt.specs.Outcome.{Outcome, done, refused, join, invalid_component}
+use Rattle.time_known.specs.Accepted.{checked_text, component_name, refused_for}
+use Rattle.time_known.specs.Config.{Choices, separator}
+use Rattle.time_known.specs.Iso8601.{iso_of_groups, iso_time_text, text_after_year}
+use Rattle.time_known.specs.UsualText.{usual_choices, usual_text}
+use Rattle.time_known.specs.WellKnown.{refused_if, is_outside, offset_hours_text, offset_minutes_text}
+use Rattle.time_known.specs.declared.accepted.OutOfRange.{OutOfRange}
+use Rattle.time_known.specs.declared.iso8601.config.DateKind.TheVariants as kind
+use Rattle.time_known.specs.declared.iso8601.config.DecimalSign.{DecimalSign}
+use Rattle.time_known.proofs.OutcomeLemmas.{above_not, passed}
+
+-- no offset has more than 25 hours
+pub any_hour : (first : ℕ) (year : ℤ) (hour second : ℕ) (text : List ℕ) → hour ≤ 25
+    → checked_text first 25 year hour second text
+    ≡ refused_if (is_outside first 9_999 year) (codes "year")
+    (refused_if (nat_lt 0 second) (codes "offset_second") (done text))
+any_hour first year hour second text h = rw (above_not 25 hour h) refl
+
+-- the text of these choices, where both tests pass
+usual_passes : (c : Choices) (has_separators : Bool) (digits : Option ℕ) (sign : DecimalSign) (d : DateFacts)
+    (t : TimeOfDay) (o : Offset) → c ≡ usual_choices has_separators digits sign
+    → is_outside 0 9_999 d.year ≡ false → nat_lt 0 (unsigned_abs o.seconds) ≡ false
+    → iso_of_groups c d t o ≡ done (usual_text c digits d t o)
+usual_passes c has_separators digits sign d t o e year seconds = grind (arith, common_steps)
+
+-- where the year and the offset are accepted, the text of these choices is completed
+pub usual_accepted : (c : Choices) (has_separators : Bool) (digits : Option ℕ) (sign : DecimalSign) (d : DateFacts)
+    (t : TimeOfDay) (o : Offset) (text : List ℕ) → c ≡ usual_choices has_separators digits sign
+    → checked_text 0 25 d.year (unsigned_abs o.hours) (unsigned_abs o.seconds) text ≡ done text
+    → iso_of_groups c d t o ≡ done (usual_text c digits d t o)
+usual_accepted c has_separators digits sign d t o text e accepted =
+    let year = passed _ _ _ text accepted in
+    let hours = passed _ _ _ text year.done in
+    let seconds = passed _ _ _ text hours.done in
+    usual_passes c has_separators digits sign d t o e year.right seconds.right
+
+-- UTC has no seconds
+no_seconds : (o : Offset) → is_utc o ≡ true → nat_lt 0 (unsigned_abs o.seconds) ≡ false
+no_seconds o h = grind (arith, nat_tests, common_steps)
+
+-- the refusals of a text by these choices are those of its year and of the seconds of its offset
+refusal_is : (outside zed seconds : Bool) (year after time zero hours minutes text name : List ℕ)
+    → (zed ≡ true → seconds ≡ false)
+    → refused_if outside (codes "year") (refused_if seconds (codes "offset_second") (done text))
+    ≡ refused (invalid_component name)
+    → (join (join (refused_if outside (codes "year") (done year)) (done after)) (join (done time)
+    (if zed then done zero
+    else refused_if seconds (codes "offset_second") (join (done hours) (done minutes))))).refusal
+    ≡ Some (invalid_component name)
+refusal_is true zed seconds year after time zero hours minutes text name h e = ap (λ (o : Outcome). o.refusal) e
+refusal_is false true true year after time zero hours minutes text name h e =
+    absurd (let none : true ≡ false = h refl in cc)
+refusal_is false true false year after time zero hours minutes text name h e =
+    absurd (let none : None ≡ Some (invalid_component name) = ap (λ (o : Outcome). o.refusal) e in cc)
+refusal_is false false true year after time zero hours minutes text name h e = ap (λ (o : Outcome). o.refusal) e
+refusal_is false false false year after time zero hours minutes text name h e =
+    absurd (let none : None ≡ Some (invalid_component name) = ap (λ (o : Outcome). o.refusal) e in cc)
+
+-- what is refused of the year and the offset is refused by the text with separators
+pub usual_refused : (digits : Option ℕ) (sign : DecimalSign) (d : DateFacts) (t : TimeOfDay) (o : Offset)
+    (text : List ℕ) (component : OutOfRange) → unsigned_abs o.hours ≤ 25
+    → checked_text 0 25 d.year (unsigned_abs o.hours) (unsigned_abs o.seconds) text ≡ refused_for component
+    → (iso_of_groups (usual_choices true digits sign) d t o).refusal
+    ≡ Some (invalid_component (component_name component))
+usual_refused digits sign d t o text component hour e =
+    let c = usual_choices true digits sign in
+    refusal_is (is_outside 0 9_999 d.year) (is_utc o) (nat_lt 0 (unsigned_abs o.seconds))
+    (zero_padded 4 (unsigned_abs d.year)) (text_after_year kind.Calendar c d) (iso_time_text c t) (codes "Z")
+    (offset_hours_text o) (separator c (codes ":") ++ offset_minutes_text o) text (component_name component)
+    (no_seconds o) (rw (any_hour 0 d.year (unsigned_abs o.hours) (unsigned_abs o.seconds) text hour) at e)

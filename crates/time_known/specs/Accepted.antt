@@ -1,0 +1,24 @@
+-- What of a value a format has no place for.
+use Rattle.std.specs.Prelude.{ℕ, ℤ, List, codes, nat_lt}
+use Rattle.time_fmt.specs.Outcome.{Outcome, done, refused, invalid_component}
+use Rattle.time_known.specs.WellKnown.{refused_if, is_outside}
+use Rattle.time_known.specs.declared.accepted.OutOfRange.{OutOfRange}
+use Rattle.time_known.specs.declared.accepted.OutOfRange.TheVariants as out
+
+-- the name of the component
+abbrev pub component_name : OutOfRange → List ℕ
+component_name out.Year = codes "year"
+component_name out.OffsetHour = codes "offset_hour"
+component_name out.OffsetMinute = codes "offset_minute"
+component_name out.OffsetSecond = codes "offset_second"
+
+-- its refusal, before any byte
+abbrev pub refused_for : OutOfRange → Outcome
+refused_for component = refused (invalid_component (component_name component))
+
+-- the text, if the year is from the first to 9,999, and the offset has at most so many hours and no seconds
+abbrev pub checked_text : ℕ → ℕ → ℤ → ℕ → ℕ → List ℕ → Outcome
+checked_text first greatest_hour year hour second text =
+    refused_if (is_outside first 9_999 year) (codes "year")
+    (refused_if (nat_lt greatest_hour hour) (codes "offset_hour")
+    (refused_if (nat_lt 0 second) (codes "offset_second") (done text)))

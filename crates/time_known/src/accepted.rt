@@ -1,0 +1,96 @@
+//! What of a value a format has no place for.
+ghost use Rattle.std.specs.Prelude.{◌≡◌, ℕ, List, IfOk, IfErr, unsigned_abs};
+ghost use Rattle.time_below.specs.Facts.{the_date, the_offset};
+ghost use Rattle.time_below.specs.Offset.{IsOffset};
+ghost use Rattle.time_fmt.specs.Outcome.{done};
+ghost use Rattle.time_provide.specs.Real.{AreFactsOfDate};
+ghost use Rattle.time_known.specs.Accepted.{checked_text, component_name, refused_for};
+ghost use Rattle.time_known.specs.Groups.{AreAllSupplied};
+
+use time_digits::ru16;
+use time_provide::ComponentProvider;
+
+/// A component of a value for which a format has no place.
+#[derive(Debug, Clone, Copy)]
+pub enum OutOfRange {
+    /// A year before the first of the format, or past 9,999 where it has four digits.
+    Year,
+    /// Too many hours of the offset.
+    OffsetHour,
+    /// Minutes of the offset, where the format has its hours alone.
+    OffsetMinute,
+    /// Seconds of the offset.
+    OffsetSecond,
+}
+
+impl OutOfRange {
+    /// The name of the component.
+    pub fn name(self) -> &'static str
+        ensures { result.now ≡ component_name self }
+    {
+        match self {
+            OutOfRange::Year => "year",
+            OutOfRange::OffsetHour => "offset_hour",
+            OutOfRange::OffsetMinute => "offset_minute",
+            OutOfRange::OffsetSecond => "offset_second",
+        }
+    }
+}
+
+/// The year as a number of four digits, if it is from the first to 9,999, and the offset has at most
+/// so many hours and no seconds. Else the first of them that has no place.
+#[inline(always)]
+pub fn accepted_year(
+    first: u16,
+    greatest_hour: u8,
+    year: i32,
+    offset_hour: u8,
+    offset_second: u8,
+) -> Result<ru16<0, 9_999>, OutOfRange>
+    ensures accepted { IfOk result (λ _. (text : List ℕ)
+        → checked_text first greatest_hour year offset_hour offset_second text ≡ done text) }
+    ensures year { IfOk result (λ y. y ≡ unsigned_abs year) }
+    ensures refused { IfErr result (λ out. (text : List ℕ)
+        → checked_text first greatest_hour year offset_hour offset_second text
+        ≡ refused_for out) }
+{
+    if year < first as i32 || year > 9_999 {
+        return Err(OutOfRange::Year);
+    }
+    if offset_hour > greatest_hour {
+        return Err(OutOfRange::OffsetHour);
+    }
+    if offset_second != 0 {
+        return Err(OutOfRange::OffsetSecond);
+    }
+    Ok(ru16::within(year.unsigned_abs() as u16))
+}
+
+// The same of the date and the offset of a value.
+#[inline]
+pub(crate) fn accepted_year_of<V: ComponentProvider>(
+    first: u16,
+    greatest_hour: u8,
+    value: &V,
+    state: &mut V::State,
+) -> Result<ru16<0, 9_999>, OutOfRange>
+    requires supplied { AreAllSupplied V.SUPPLIES_DATE V.SUPPLIES_TIME V.SUPPLIES_OFFSET }
+    requires agrees { V.agrees state.old value.now }
+    ensures accepted { IfOk result (λ _. (text : List ℕ)
+        → checked_text first greatest_hour (the_date (V.facts value.now)).year
+        (unsigned_abs (the_offset (V.facts value.now)).hours)
+        (unsigned_abs (the_offset (V.facts value.now)).seconds) text ≡ done text) }
+    ensures year { IfOk result (λ y. y ≡ unsigned_abs (the_date (V.facts value.now)).year) }
+    ensures refused { IfErr result (λ out. (text : List ℕ)
+        → checked_text first greatest_hour (the_date (V.facts value.now)).year
+        (unsigned_abs (the_offset (V.facts value.now)).hours)
+        (unsigned_abs (the_offset (V.facts value.now)).seconds) text ≡ refused_for out) }
+    ensures date { AreFactsOfDate (the_date (V.facts value.now)) }
+    ensures offset { IsOffset (the_offset (V.facts value.now)) }
+    ensures agrees { V.agrees state.new value.now }
+{
+    let year = value.calendar_year(state).get();
+    let hour = value.offset_hour(state).abs().get();
+    let second = value.offset_second(state).abs().get();
+    accepted_year(first, greatest_hour, year, hour, second)
+}

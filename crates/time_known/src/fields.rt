@@ -1,0 +1,113 @@
+//! The fields of a date, a time of day and an offset, from which the texts of moments are written.
+ghost use Rattle.std.specs.Prelude.{◌≡◌, IsTrue, unsigned_abs};
+ghost use Rattle.time_below.specs.Facts.{the_date, the_time, the_offset};
+ghost use Rattle.time_provide.specs.Real.{AgreesOnOffset, AgreesOnTime};
+ghost use Rattle.time_known.specs.Fields.{fields, offset_fields, time_fields};
+ghost use Rattle.time_known.specs.Groups.{AreAllSupplied, at_groups};
+
+use time_digits::{ru8, ru16};
+use time_provide::ComponentProvider;
+use time_provide::ranges::{Day, Hours, Minutes, Nanoseconds, Seconds};
+
+/// The fields of a time of day.
+#[derive(Clone, Copy)]
+pub struct TimeFields {
+    /// The hour of the day.
+    pub hour: Hours,
+    /// The minute of the hour.
+    pub minute: Minutes,
+    /// The second of the minute.
+    pub second: Seconds,
+    /// The nanosecond of the second.
+    pub nanosecond: Nanoseconds,
+}
+
+/// The fields of an offset: one sign, and the sizes of its parts.
+#[derive(Clone, Copy)]
+pub struct OffsetFields {
+    /// Whether all parts are zero.
+    pub is_utc: bool,
+    /// Whether some part is below zero.
+    pub is_negative: bool,
+    /// The size of the hours.
+    pub hours: ru8<0, 25>,
+    /// The size of the minutes.
+    pub minutes: ru8<0, 59>,
+    /// The size of the seconds.
+    pub seconds: ru8<0, 59>,
+}
+
+/// The fields of a date of the years 0 to 9,999, of a time of day and of an offset.
+#[derive(Clone, Copy)]
+pub struct Fields {
+    /// The year.
+    pub year: ru16<0, 9_999>,
+    /// The month, 1 to 12.
+    pub month: ru8<1, 12>,
+    /// The day of the month.
+    pub day: Day,
+    /// The time of day.
+    pub time: TimeFields,
+    /// The offset.
+    pub offset: OffsetFields,
+}
+
+// The fields of the value's date, which is of this year, its time and its offset. The day is read
+// first, since its computation gives the month too.
+#[inline(always)]
+pub(crate) fn fields_of<V: ComponentProvider>(
+    year: ru16<0, 9_999>,
+    value: &V,
+    state: &mut V::State,
+) -> Fields
+    requires supplied { AreAllSupplied V.SUPPLIES_DATE V.SUPPLIES_TIME V.SUPPLIES_OFFSET }
+    requires year { year ≡ unsigned_abs (the_date (V.facts value.now)).year }
+    requires agrees { V.agrees state.old value.now }
+    ensures fields { result ≡ at_groups fields (V.facts value.now) }
+    ensures agrees { AgreesOnTime (V.agrees state.new value.now) (V.facts value.now) }
+{
+    let day = value.day(state);
+    let month = ru8::within(u8::from(value.month(state)));
+    let offset = offset_of(value, state);
+    let time = time_of(value, state);
+    Fields {
+        year,
+        month,
+        day,
+        time,
+        offset,
+    }
+}
+
+// The fields of the value's time of day.
+#[inline(always)]
+pub(crate) fn time_of<V: ComponentProvider>(value: &V, state: &mut V::State) -> TimeFields
+    requires supplied { IsTrue V.SUPPLIES_TIME }
+    requires agrees { V.agrees state.old value.now }
+    ensures fields { result ≡ time_fields (the_time (V.facts value.now)) }
+    ensures agrees { AgreesOnTime (V.agrees state.new value.now) (V.facts value.now) }
+{
+    TimeFields {
+        hour: value.hour(state),
+        minute: value.minute(state),
+        second: value.second(state),
+        nanosecond: value.nanosecond(state),
+    }
+}
+
+// The fields of the value's offset.
+#[inline(always)]
+pub(crate) fn offset_of<V: ComponentProvider>(value: &V, state: &mut V::State) -> OffsetFields
+    requires supplied { IsTrue V.SUPPLIES_OFFSET }
+    requires agrees { V.agrees state.old value.now }
+    ensures fields { result ≡ offset_fields (the_offset (V.facts value.now)) }
+    ensures agrees { AgreesOnOffset (V.agrees state.new value.now) (V.facts value.now) }
+{
+    OffsetFields {
+        is_utc: value.offset_is_utc(state),
+        is_negative: value.offset_is_negative(state),
+        hours: value.offset_hour(state).abs(),
+        minutes: value.offset_minute(state).abs(),
+        seconds: value.offset_second(state).abs(),
+    }
+}

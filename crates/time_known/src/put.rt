@@ -1,0 +1,283 @@
+//! The pieces of texts, put into a sink. Each is inlined, so that it becomes a few stores.
+ghost use Rattle.std.specs.Prelude.{◌≡◌, ◌+◌, ◌*◌, ◌<◌, ◌≤◌, ◌++◌, length, take};
+ghost use Rattle.time_below.specs.Weekday.{days_from_monday};
+ghost use Rattle.time_digits.specs.Digits.{fixed, zero_padded};
+ghost use Rattle.time_digits.specs.Fraction.{trimmed_fraction};
+ghost use Rattle.time_fmt.specs.Decimals.{decimals};
+ghost use Rattle.time_fmt.specs.DateText.{month_name, weekday_name, short_name};
+ghost use Rattle.time_known.specs.Fields.{date_of_fields, hours_of_fields, offset_of_fields, signed_offset_of_fields, time_of_day};
+ghost use Rattle.time_known.specs.Sink.{Fits, Puts, PutsJust, PutsUpTo};
+ghost use Rattle.time_known.specs.WellKnown.{clock_text};
+
+use crate::fields::{Fields, OffsetFields, TimeFields};
+use crate::sink::Sink;
+use time_below::Weekday;
+use time_digits::num_fmt::{three_digits_zero_padded, truncated_subsecond_from_nanos};
+use time_digits::{
+    four_digits_zero_padded, ru8, ru16, single_digit, subsecond_from_nanos, two_digits_zero_padded,
+};
+use time_provide::ranges::Nanoseconds;
+
+/// Puts a number of two digits.
+#[inline(always)]
+pub fn put_pair<S: Sink>(output: &mut S, number: ru8<0, 99>)
+    requires room { Fits 2 (S.buffer output.old) }
+    ensures puts { PutsJust 2 (S.buffer output.old) (S.buffer output.new) (zero_padded 2 number) }
+{
+    output.put(two_digits_zero_padded(number));
+}
+
+/// Puts a number of three digits.
+#[inline(always)]
+#[tactic(auto, using(crate::proofs::LengthLemmas::joined_lengths))]
+pub fn put_three_digits<S: Sink>(output: &mut S, number: ru16<0, 999>)
+    requires room { Fits 3 (S.buffer output.old) }
+    ensures puts { PutsJust 3 (S.buffer output.old) (S.buffer output.new) (zero_padded 3 number) }
+{
+    let [first, last] = three_digits_zero_padded(number);
+    output.put(first);
+    output.put(last);
+}
+
+/// Puts the first three of the nine digits of a fraction.
+#[inline(always)]
+#[tactic(auto, using(time_fmt::proofs::DecimalLemmas::first_decimals))]
+pub fn put_three_decimals<S: Sink>(output: &mut S, nanosecond: Nanoseconds)
+    requires room { Fits 3 (S.buffer output.old) }
+    ensures puts { PutsJust 3 (S.buffer output.old) (S.buffer output.new)
+        (take 3 (fixed 9 nanosecond)) }
+{
+    put_three_digits(output, ru16::within((nanosecond.get() / 1_000_000) as u16));
+}
+
+/// Puts a number of four digits.
+#[inline(always)]
+#[tactic(auto, using(crate::proofs::LengthLemmas::joined_lengths))]
+pub fn put_four_digits<S: Sink>(output: &mut S, number: ru16<0, 9_999>)
+    requires room { Fits 4 (S.buffer output.old) }
+    ensures puts { PutsJust 4 (S.buffer output.old) (S.buffer output.new) (zero_padded 4 number) }
+{
+    let [high, low] = four_digits_zero_padded(number);
+    output.put(high);
+    output.put(low);
+}
+
+// Puts a piece, and then another.
+#[inline(always)]
+#[tactic(auto, using(crate::proofs::LengthLemmas::joined_lengths))]
+fn put_both<S: Sink>(output: &mut S, first: &str, second: &str)
+    requires room { Fits (length first.now + length second.now) (S.buffer output.old) }
+    ensures puts { Puts (S.buffer output.old) (S.buffer output.new) (first.now ++ second.now) }
+    ensures length { length (first.now ++ second.now) ≡ length first.now + length second.now }
+{
+    output.put(first);
+    output.put(second);
+}
+
+/// Puts the nine digits of a fraction of a second.
+#[inline(always)]
+#[tactic(auto, using(crate::proofs::LengthLemmas::joined_lengths))]
+pub fn put_nine_digits<S: Sink>(output: &mut S, nanosecond: Nanoseconds)
+    requires room { Fits 9 (S.buffer output.old) }
+    ensures puts { PutsJust 9 (S.buffer output.old) (S.buffer output.new) (fixed 9 nanosecond) }
+{
+    let [first, second, third, fourth, fifth] = subsecond_from_nanos(nanosecond);
+    output.put(first);
+    put_both(output, second, third);
+    put_both(output, fourth, fifth);
+}
+
+/// Puts the first six of the nine digits.
+#[inline(always)]
+#[tactic(auto, using(time_fmt::proofs::DecimalLemmas::six_digits, crate::proofs::LengthLemmas::joined_lengths))]
+pub fn put_six_decimals<S: Sink>(output: &mut S, nanosecond: Nanoseconds)
+    requires room { Fits 6 (S.buffer output.old) }
+    ensures puts { PutsJust 6 (S.buffer output.old) (S.buffer output.new)
+        (take 6 (fixed 9 nanosecond)) }
+{
+    let number = nanosecond.get() / 1_000;
+    put_pair(output, ru8::within((number / 10_000) as u8));
+    put_four_digits(output, ru16::within((number % 10_000) as u16));
+}
+
+/// Puts the nine digits of a fraction without the zeros at their end, at least one digit. What most users
+/// write, nine digits, milliseconds and microseconds, is stored at once.
+#[inline(always)]
+#[tactic(auto, using(time_fmt::proofs::TrimLemmas::whole_fractions))]
+pub fn put_fraction<S: Sink>(output: &mut S, nanosecond: Nanoseconds)
+    requires room { Fits 9 (S.buffer output.old) }
+    ensures puts { PutsUpTo 9 (S.buffer output.old) (S.buffer output.new)
+        (trimmed_fraction nanosecond) }
+{
+    let number = nanosecond.get();
+    if number % 10 != 0 {
+        return put_nine_digits(output, nanosecond);
+    }
+    if number % 1_000_000 == 0 && number / 1_000_000 % 10 != 0 {
+        return put_three_decimals(output, nanosecond);
+    }
+    if number % 1_000 == 0 && number / 1_000 % 10 != 0 {
+        return put_six_decimals(output, nanosecond);
+    }
+    let digits = truncated_subsecond_from_nanos(nanosecond);
+    output.put(digits.as_str());
+}
+
+/// Puts the first decimals of `rest / unit`, not rounded, by long division: for sinks that have no
+/// faster way.
+pub fn put_by_digits<S: Sink>(output: &mut S, rest: u64, unit: u64, digits: ru8<1, 255>)
+    requires part { rest < unit }
+    requires unit { unit ≤ 3_600_000_000_000 }
+    requires room { Fits digits (S.buffer output.old) }
+    ensures puts { Puts (S.buffer output.old) (S.buffer output.new) (decimals rest unit digits) }
+{
+    let count = digits.get();
+    let mut left = rest;
+    for _ in 0..count {
+        let scaled = left * 10;
+        output.put(single_digit(ru8::within((scaled / unit) as u8)));
+        left = scaled % unit;
+    }
+}
+
+/// Puts the year, the month and the day, and the separator between them.
+#[inline(always)]
+#[tactic(auto, using(crate::proofs::LengthLemmas::joined_lengths))]
+pub fn put_date<S: Sink>(output: &mut S, fields: &Fields, separator: &str)
+    requires room { Fits (8 + 2 * length separator.now) (S.buffer output.old) }
+    ensures puts { PutsUpTo (8 + 2 * length separator.now)
+        (S.buffer output.old) (S.buffer output.new)
+        (date_of_fields separator.now fields.now) }
+{
+    put_four_digits(output, fields.year);
+    output.put(separator);
+    put_pair(output, fields.month.expand());
+    output.put(separator);
+    put_pair(output, fields.day.expand());
+}
+
+/// Puts the first three letters of the month's English name.
+#[inline(always)]
+#[tactic(auto, using(crate::proofs::LengthLemmas::joined_lengths))]
+pub fn put_month_name<S: Sink>(output: &mut S, month: ru8<1, 12>)
+    requires room { Fits 3 (S.buffer output.old) }
+    ensures puts { PutsJust 3 (S.buffer output.old) (S.buffer output.new)
+        (short_name (month_name month)) }
+{
+    let (first, rest) = month_letters(month);
+    output.put(first);
+    output.put(rest);
+}
+
+// The first letter of the month's English name, and the next two.
+#[inline(always)]
+fn month_letters(month: ru8<1, 12>) -> (&'static str, &'static str)
+    ensures text { result.0.now ++ result.1.now ≡ short_name (month_name month) }
+    ensures first { length result.0.now ≡ 1 }
+    ensures rest { length result.1.now ≡ 2 }
+{
+    match month.get() {
+        1 => ("J", "an"),
+        2 => ("F", "eb"),
+        3 => ("M", "ar"),
+        4 => ("A", "pr"),
+        5 => ("M", "ay"),
+        6 => ("J", "un"),
+        7 => ("J", "ul"),
+        8 => ("A", "ug"),
+        9 => ("S", "ep"),
+        10 => ("O", "ct"),
+        11 => ("N", "ov"),
+        _ => ("D", "ec"),
+    }
+}
+
+/// Puts the first three letters of the weekday's English name.
+#[inline(always)]
+#[tactic(auto, using(crate::proofs::LengthLemmas::joined_lengths))]
+pub fn put_weekday_name<S: Sink>(output: &mut S, weekday: Weekday)
+    requires room { Fits 3 (S.buffer output.old) }
+    ensures puts { PutsJust 3 (S.buffer output.old) (S.buffer output.new)
+        (short_name (weekday_name (days_from_monday weekday))) }
+{
+    let (first, rest) = weekday_letters(weekday);
+    output.put(first);
+    output.put(rest);
+}
+
+// The first letter of the weekday's English name, and the next two.
+#[inline(always)]
+fn weekday_letters(weekday: Weekday) -> (&'static str, &'static str)
+    ensures text { result.0.now ++ result.1.now
+        ≡ short_name (weekday_name (days_from_monday weekday)) }
+    ensures first { length result.0.now ≡ 1 }
+    ensures rest { length result.1.now ≡ 2 }
+{
+    match weekday {
+        Weekday::Monday => ("M", "on"),
+        Weekday::Tuesday => ("T", "ue"),
+        Weekday::Wednesday => ("W", "ed"),
+        Weekday::Thursday => ("T", "hu"),
+        Weekday::Friday => ("F", "ri"),
+        Weekday::Saturday => ("S", "at"),
+        Weekday::Sunday => ("S", "un"),
+    }
+}
+
+/// Puts the hour, the minute and the second, and the separator between them.
+#[inline(always)]
+#[tactic(auto, using(crate::proofs::LengthLemmas::joined_lengths))]
+pub fn put_clock<S: Sink>(output: &mut S, time: &TimeFields, separator: &str)
+    requires room { Fits (6 + 2 * length separator.now) (S.buffer output.old) }
+    ensures puts { PutsUpTo (6 + 2 * length separator.now)
+        (S.buffer output.old) (S.buffer output.new)
+        (clock_text separator.now (time_of_day time.now)) }
+{
+    put_pair(output, time.hour.expand());
+    output.put(separator);
+    put_pair(output, time.minute.expand());
+    output.put(separator);
+    put_pair(output, time.second.expand());
+}
+
+/// Puts the sign of the whole offset, and its hours.
+#[inline(always)]
+#[tactic(auto, using(crate::proofs::LengthLemmas::joined_lengths))]
+pub fn put_offset_hours<S: Sink>(output: &mut S, offset: &OffsetFields)
+    requires room { Fits 3 (S.buffer output.old) }
+    ensures puts { PutsJust 3 (S.buffer output.old) (S.buffer output.new)
+        (hours_of_fields offset.now) }
+{
+    output.put(if offset.is_negative { "-" } else { "+" });
+    put_pair(output, offset.hours.expand());
+}
+
+/// Puts the sign of the whole offset, and its hours and its minutes, and the separator between them.
+#[inline(always)]
+#[tactic(auto, using(crate::proofs::LengthLemmas::joined_lengths))]
+pub fn put_signed_offset<S: Sink>(output: &mut S, offset: &OffsetFields, separator: &str)
+    requires room { Fits (5 + length separator.now) (S.buffer output.old) }
+    ensures puts { PutsUpTo (5 + length separator.now)
+        (S.buffer output.old) (S.buffer output.new)
+        (signed_offset_of_fields separator.now offset.now) }
+{
+    put_offset_hours(output, offset);
+    output.put(separator);
+    put_pair(output, offset.minutes.expand());
+}
+
+/// Puts the offset, or `Z` for UTC.
+#[inline(always)]
+#[tactic(auto, using(crate::proofs::LengthLemmas::joined_lengths))]
+pub fn put_offset<S: Sink>(output: &mut S, offset: &OffsetFields, separator: &str)
+    requires room { Fits (5 + length separator.now) (S.buffer output.old) }
+    ensures puts { PutsUpTo (5 + length separator.now)
+        (S.buffer output.old) (S.buffer output.new)
+        (offset_of_fields separator.now offset.now) }
+{
+    if offset.is_utc {
+        output.put("Z");
+    } else {
+        put_signed_offset(output, offset, separator);
+    }
+}

@@ -1,0 +1,73 @@
+#!/usr/bin/env python3
+"""Tests wrong_bodies.py over a small crate, with edits that it must pass and edits that it must fail."""
+import os
+import pathlib
+import subprocess
+import sys
+import tempfile
+
+CRATE = """\
+//! Functions that answer numbers.
+#![tactic(auto)]
+
+ghost use Rattle.std.specs.Prelude.{◌≡◌, ◌≤◌};
+
+pub fn one() -> u8
+    ensures { result ≡ 1 }
+{
+    1
+}
+
+pub fn two() -> u8
+    ensures value { result ≡ 2 }
+{
+    2
+}
+
+pub fn two_by_a_call() -> u8
+    ensures { result ≡ 2 }
+{
+    two()
+}
+
+pub fn three() -> u8
+    ensures { result ≡ 3 }
+{
+    3
+}
+"""
+# The function that an edit names, what it changes, and what is told of it.
+EDITS = {
+    "wrong": ("one", "    1", "    4", "refused in tiny::one"),
+    "wrong_in_another_way": ("one", "    1", "    5", "refused in tiny::one"),
+    "right": ("two", "    2", "    1 + 1", "NOT REFUSED in tiny::two"),
+    "refused_in_the_caller": ("two", "ensures value { result ≡ 2 }", "ensures value { result ≤ 2 }", "NOT REFUSED in tiny::two"),
+    "unread": ("three", "    3", "    three(", "BAD EDIT"),
+    "unnamed": ("", "    3", "    4", "BAD EDIT"),
+}
+
+
+def main():
+    script = pathlib.Path(__file__).resolve().parent / "wrong_bodies.py"
+    with tempfile.TemporaryDirectory() as room:
+        folder = pathlib.Path(room, "crates/tiny")
+        (folder / "src").mkdir(parents=True)
+        (folder / "must-fail").mkdir()
+        pathlib.Path(room, "crates.txt").write_text("tiny:\n")
+        (folder / "src/lib.rt").write_text(CRATE)
+        for name, (function, old, new, _) in EDITS.items():
+            text = f"refused: {function}\n" * bool(function) + f"file: src/lib.rt\nold: {old}\nnew: {new}\n"
+            (folder / f"must-fail/{name}.edit").write_text(text)
+        words = [script, "--lanes", str(len(os.sched_getaffinity(0)))]
+        ran = subprocess.run(words, cwd=room, capture_output=True, text=True)
+    lines = ran.stdout.rstrip("\n").split("\n")
+    differ = [name for name, it in EDITS.items() if not any(f"/{name}.edit: {it[3]}" in line for line in lines)]
+    if differ or lines[-1] != "2 passed, 4 failed" or ran.returncode != 1:
+        print(ran.stdout + ran.stderr, f"not as it must be: {differ}", sep="\n")
+        return 1
+    print(f"{len(EDITS)} edits of a small crate: told as they are")
+    return 0
+
+
+if __name__ == "__main__":
+    sys.exit(main())

@@ -1,0 +1,150 @@
+#!/usr/bin/env python3
+"""Tries the wrong bodies of must-fail/ many at once. The prover must refuse each in the function that it names.
+
+An edit has a line `refused: FUNCTION`, its path in the crate, or several; `rt` ignores them. The prover holds a body to
+the contracts of what it calls, so edits within the bodies of different functions are made in one copy of the crate, and
+the check's line of each function tells a reason of its own from a call of a refused function. An edit elsewhere, as of a
+constant or a clause, is tried alone. So is each edit of a joined check that does not tell, before it fails.
+
+A check of the unedited crate adds what a copy of crates/NAME/out/incremental lacks, and each other check starts from a
+copy of that. The last line is `N passed, M failed`.
+"""
+import argparse
+import concurrent.futures
+import importlib.machinery
+import importlib.util
+import os
+import re
+import shutil
+import sys
+import tempfile
+import threading
+import time
+
+LINE = re.compile(r"^(?:fn|impl) (\S+): (.*)$", re.M)
+ITSELF = re.compile(r"not proved\b|no proof: (?!it calls|it passes|a call of)")
+# The most memory that a check of these crates was seen to take, in bytes.
+LARGEST = 4_500_000_000
+sys.dont_write_bytecode = True
+loader = importlib.machinery.SourceFileLoader("rt", os.path.realpath(shutil.which("rt")))
+rt = importlib.util.module_from_spec(importlib.util.spec_from_loader("rt", loader))
+loader.exec_module(rt)
+
+
+class Edit:
+    def __init__(self, crate, path):
+        self.label = f"must-fail {crate.name}/{os.path.basename(path)}"
+        self.text = rt.rtlib.text_of(path)
+        self.functions = {f"{crate.name}::{it}" for it in re.findall(r"^refused: (\S+)$", self.text, re.M)}
+        self.why = rt.edited(self.text, crate.folder)[1] or ("" if self.functions else "it has no line 'refused: FUNCTION'")
+        self.is_alone = not self.why and not self.is_in_body(crate.folder)
+
+    def is_in_body(self, folder):
+        """Returns whether each old text stands in the body of a function that is named, as `rt fmt` lays it out."""
+        names, source, is_in = "|".join(it.rpartition("::")[2] for it in self.functions), "", True
+        body = rf"^( *)(?:\w\S* )*fn (?:{names})\b(?:[^\n]*|.*?^\1(?:\S[^\n]*)?)\{{$(.*?)^\1\}}$"
+        for path, old in re.findall(r"^file: (.+)|^old: (.+)", self.text, re.M):
+            source = rt.rtlib.text_of(f"{folder}/{path}") if path else source
+            is_in = is_in and (path or any(old in it[2] for it in re.finditer(body, source, re.M | re.S)))
+        return is_in
+
+
+def joined(crate, group):
+    """Returns the texts that all edits of a group make, if they can be made in one copy."""
+    return rt.edited("\n".join(it.text for it in group), crate.folder)[0]
+
+
+def groups_of(crate, edits):
+    """Returns the edits in lists that one check can tell apart."""
+    groups = []
+    for edit in edits:
+        for group in groups:
+            is_other = not any(it.is_alone or it.functions & edit.functions for it in group)
+            if not edit.is_alone and is_other and joined(crate, [*group, edit]):
+                group.append(edit)
+                break
+        else:
+            groups.append([edit])
+    return groups
+
+
+def refused(crate, functions, texts, kept, given):
+    """Checks these functions, and returns those that are refused for a reason of their own, or why nothing is told."""
+    with given.lanes, tempfile.TemporaryDirectory(prefix="wrong-") as room:
+        while rt.free() < LARGEST and not said_by(given.log)[1]:
+            time.sleep(2)
+        if texts:
+            # The prover replaces a file as a whole.
+            kept = shutil.copytree(kept, f"{room}/kept", copy_function=os.link)
+        only = [word for it in sorted(functions) for word in ("--only", it)]
+        ran = rt.checked(crate, texts, ["--jobs", "1", *only], kept)
+    lines = ran.stdout.rstrip("\n").split("\n")
+    unread = [it for it in lines if rt.unread(it, texts) or rt.rtlib.STALE.search(it)]
+    if unread or ran.returncode not in (0, 1) or not lines[-1].startswith("only="):
+        return set(), f"BAD EDIT: the prover cannot read it (status {ran.returncode}): {'; '.join((unread or lines)[:3])[:600]}"
+    return {name for name, words in LINE.findall(ran.stdout) if ITSELF.match(words)}, ""
+
+
+def tried(crate, group, kept, given):
+    """Returns for each edit of a group whether it is refused in the functions that it names, and what to say."""
+    functions = set().union(*(it.functions for it in group))
+    found, why = refused(crate, functions, joined(crate, group), kept, given)
+    # A method that a trait writes is checked once more for each impl that takes it.
+    names = {it.rpartition("::")[2] for it in functions}
+    others = [it for it in found if it.rpartition("::")[2] not in names]
+    if len(group) > 1 and (why or others or not functions <= found):
+        print(f"{crate.name}: {why or f'{len(group)} joined edits, more {others}, less {functions - found}'}: each alone", flush=True)
+        return [it for edit in group for it in tried(crate, [edit], kept, given)]
+    where = f"refused in {', '.join(sorted(found))}, and not in" if found else "NOT REFUSED in"
+    is_well = not why and functions <= found
+    said = why or f"{'refused in' if is_well else where} {', '.join(sorted(functions))}"
+    return [(is_well, f"{it.label}: {said if len(group) == 1 else 'refused in ' + ', '.join(sorted(it.functions))}") for it in group]
+
+
+def said_by(log):
+    """Returns the libraries that `rt ci` has proved by its log, and whether it has ended."""
+    said = rt.rtlib.text_of(log) or "" if log else "0 passed, 0 failed\n"
+    return {*re.findall(r"^rt: (\w+) proved$", said, re.M)}, bool(re.search(r"^\d+ passed, \d+ failed$", said, re.M))
+
+
+def tried_all(crate, given):
+    """Returns for each edit of a crate whether it is refused in the functions that it names, and what to say."""
+    good, bad = rt.edits_of(argparse.Namespace(folder=f"{given.edits}/crates/{crate.name}"))
+    edits = [Edit(crate, it) for it in good]
+    told = [(False, f"must-fail {crate.name}/{os.path.basename(it)}: BAD EDIT: its name, or where it stands") for it in bad]
+    told += [(False, f"{it.label}: BAD EDIT: {it.why}") for it in edits if it.why]
+    edits = [it for it in edits if not it.why]
+    while edits and not said_by(given.log)[1] and not {it.name for it in crate.below()} <= said_by(given.log)[0]:
+        time.sleep(1)
+    with tempfile.TemporaryDirectory(prefix="kept-") as kept, concurrent.futures.ThreadPoolExecutor() as pool:
+        if os.path.isdir(f"{crate.folder}/out/incremental"):
+            shutil.copytree(f"{crate.folder}/out/incremental", kept, dirs_exist_ok=True)
+        found, why = refused(crate, set().union(*(it.functions for it in edits)), {}, kept, given) if edits else ((), "")
+        if found or why:
+            return told + [(False, f"{it.label}: the unedited crate is not proved: {why or sorted(found)}") for it in edits]
+        return sum(pool.map(lambda it: tried(crate, it, kept, given), groups_of(crate, edits)), told)
+
+
+def main():
+    words = argparse.ArgumentParser(description="At the top of a repository whose libraries stand in crates/*/out:")
+    words.add_argument("--edits", default=".", help="the top of the repository that has must-fail/, where it is another")
+    words.add_argument("--log", help="the log of the `rt ci` that proves the libraries now")
+    words.add_argument("--lanes", type=int, default=1, help="how many checks run side by side")
+    words.add_argument("crates", nargs="*")
+    given = words.parse_args()
+    given.lanes = threading.BoundedSemaphore(given.lanes)
+    rt.rtlib.guarded()
+    crates, passed, failed = rt.rtlib.crates_below(os.getcwd()), 0, 0
+    with concurrent.futures.ThreadPoolExecutor(len(crates)) as pool:
+        wanted = [it for it in crates if it.name in (given.crates or [it.name])]
+        for done, told in enumerate(concurrent.futures.as_completed([pool.submit(tried_all, it, given) for it in wanted]), 1):
+            for is_well, text in told.result():
+                print(text, flush=True)
+                passed, failed = passed + is_well, failed + (not is_well)
+            print(f"wrong bodies: {len(wanted) - done} crates to come", flush=True)
+    print(f"{passed} passed, {failed} failed")
+    return 1 if failed else 0
+
+
+if __name__ == "__main__":
+    sys.exit(main())
