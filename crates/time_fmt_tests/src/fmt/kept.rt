@@ -33,21 +33,21 @@ macro_rules! kept {
 }
 
 /// Rows of what is kept and a component that has a padding alone.
-macro_rules! padded {
+macro_rules! kept_padded {
     ($($kept:ident: $name:ident,)+) => {
         kept! {$($kept: $name { padding: Padding::Zero },)+}
     };
 }
 
 /// Rows of what is kept and a component that has a padding and a sign.
-macro_rules! signed {
+macro_rules! kept_signed {
     ($($kept:ident: $name:ident,)+) => {
         kept! {$($kept: $name { padding: Padding::Zero, sign_is_mandatory: true },)+}
     };
 }
 
 // The number of a month is computed with the day, and both are kept.
-const PADDED: &[(Kept, Component)] = padded! {
+const PADDED: &[(Kept, Component)] = kept_padded! {
     Day: Day,
     Day: MonthNumerical,
     Nothing: Ordinal,
@@ -64,7 +64,7 @@ const PADDED: &[(Kept, Component)] = padded! {
     Nothing: OffsetSecond,
 };
 
-const SIGNED: &[(Kept, Component)] = signed! {
+const SIGNED: &[(Kept, Component)] = kept_signed! {
     Nothing: CalendarYearFullExtendedRange,
     Nothing: CalendarYearFullStandardRange,
     Nothing: CalendarYearCenturyExtendedRange,
