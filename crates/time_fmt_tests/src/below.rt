@@ -2,6 +2,8 @@
 //! calendar, of moments and of the tables of components are proved of the definitions.
 mod dates;
 mod descriptions;
+mod equality;
+mod measures;
 mod moments;
 
 use crate::texts::{assert_same, assert_that};

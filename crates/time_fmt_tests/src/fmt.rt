@@ -31,7 +31,9 @@ macro_rules! signed {
 mod components_table;
 mod dates;
 mod errors;
+mod held;
 mod hostile;
+mod kept;
 mod memory;
 mod moments;
 mod parts;

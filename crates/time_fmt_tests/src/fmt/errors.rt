@@ -2,7 +2,7 @@
 use crate::texts::{assert_same, assert_that};
 use std::alloc::Global;
 use std::convert::TryFrom;
-use std::fmt::Display;
+use std::fmt::{Debug, Display};
 use std::process::Abort;
 use std::test::Fail;
 use time_below::{ComponentRange, DifferentVariant};
@@ -68,6 +68,31 @@ fn other_errors_are_printed(rt: HostRuntime) -> Result<(), Fail> {
     assert_printed(&rt, rt.alloc(), &range, CONDITIONAL)?;
     let text = "The error is of a different variant.";
     assert_printed(&rt, rt.alloc(), &DifferentVariant, text)
+}
+
+/// Compares a text for debugging.
+fn assert_debug<T: Debug>(
+    rt: &impl Abort,
+    alloc: Global,
+    value: &T,
+    text: &str,
+) -> Result<(), Fail> {
+    let printed = format!(in alloc; "{value:?}")?;
+    assert_same(rt, printed.as_str(), text);
+    Ok(())
+}
+
+#[test]
+fn debug_texts(rt: HostRuntime) -> Result<(), Fail> {
+    let alloc = rt.alloc();
+    let insufficient = Format::InsufficientTypeInformation;
+    assert_debug(&rt, alloc, &insufficient, "InsufficientTypeInformation")?;
+    let invalid = Format::InvalidComponent("year");
+    assert_debug(&rt, alloc, &invalid, r#"InvalidComponent("year")"#)?;
+    let range = Format::ComponentRange(ComponentRange::conditional("day"));
+    let text = r#"ComponentRange(ComponentRange { name: "day", is_conditional: true })"#;
+    assert_debug(&rt, alloc, &range, text)?;
+    assert_debug(&rt, alloc, &Format::OutOfMemory, "OutOfMemory")
 }
 
 #[test]

@@ -14,14 +14,13 @@ type Lent = &'static [BorrowedFormatItem<'static>];
 
 type LentV3 = &'static [FormatDescriptionV3Inner<'static>];
 
-// Four levels of 32 items over one literal of 64 MiB have 2^46 bytes, of which no machine here has
-// that many. All are leaked, since what is lent to a tree lives as long as its parts.
-const LITERAL: usize = 67_108_864;
+// Two levels of 32 items over one literal of 8 KiB have 8 MiB, and are measured quickly. All are leaked,
+// since what is lent to a tree lives as long as its parts.
+const LITERAL: usize = 8_192;
 
-// Of what owns its parts nothing is shared: its width is what it holds.
-const OWNED_LITERAL: usize = 8_388_608;
-
-const WIDTH: usize = 70_368_744_177_664;
+// Twice the smallest piece that is taken, so that nothing of that width is left. Of what owns its parts
+// nothing is shared: it holds its width.
+const WIDTH: usize = 8_388_608;
 
 fn thirty_two(alloc: Global, lent: Lent) -> Result<Lent, AllocError> {
     let mut items = Vec::new(alloc);
@@ -36,9 +35,7 @@ fn too_wide(alloc: Global) -> Result<Lent, AllocError> {
     let literal = BorrowedFormatItem::Literal(bytes.leak());
     let first: Lent = vec![in alloc; literal]?.leak();
     let second = thirty_two(alloc, first)?;
-    let third = thirty_two(alloc, second)?;
-    let fourth = thirty_two(alloc, third)?;
-    thirty_two(alloc, fourth)
+    thirty_two(alloc, second)
 }
 
 fn thirty_two_v3(alloc: Global, lent: LentV3) -> Result<LentV3, AllocError> {
@@ -54,13 +51,11 @@ fn too_wide_v3(alloc: Global) -> Result<LentV3, Fail> {
     let literal = FormatDescriptionV3Inner::OwnedLiteral(text);
     let first: LentV3 = vec![in alloc; literal]?.leak();
     let second = thirty_two_v3(alloc, first)?;
-    let third = thirty_two_v3(alloc, second)?;
-    let fourth = thirty_two_v3(alloc, third)?;
-    Ok(thirty_two_v3(alloc, fourth)?)
+    Ok(thirty_two_v3(alloc, second)?)
 }
 
 /// All addresses that are left, in pieces of 16 GiB down to 4 MiB, of which no byte is written.
-fn all_that_is_left(alloc: Global) -> Result<Vec<Vec<u8>>, AllocError> {
+pub(super) fn all_that_is_left(alloc: Global) -> Result<Vec<Vec<u8>>, AllocError> {
     let mut taken = Vec::with_capacity(alloc, 65_536)?;
     for bits in [34, 32, 30, 28, 26, 24, 22] {
         for _ in 0..65_536 {
@@ -73,30 +68,20 @@ fn all_that_is_left(alloc: Global) -> Result<Vec<Vec<u8>>, AllocError> {
     Ok(taken)
 }
 
-/// All that is left, where a machine could hold the width, and else nothing.
-fn taken_beside(alloc: Global, width: usize) -> Result<Vec<Vec<u8>>, AllocError> {
-    if width < WIDTH {
-        all_that_is_left(alloc)
-    } else {
-        Ok(Vec::new(alloc))
-    }
-}
-
-/// A failed allocation changes nothing, and the next call writes what it is asked for. For a width
-/// that a machine could hold, nothing is left meanwhile.
+/// A failed allocation changes nothing, and the next call writes what it is asked for. Nothing of the
+/// width is left meanwhile.
 fn assert_refused<D: Formattable>(
     rt: &impl Abort,
     alloc: Global,
     item: &D,
-    width: usize,
 ) -> Result<(), AllocError> {
-    assert_same(rt, item.compute_metadata().max_bytes_needed, width);
+    assert_same(rt, item.compute_metadata().max_bytes_needed, WIDTH);
     let value = wednesday(rt).date();
     let mut state = DateState::default();
     let mut output = Vec::new(alloc);
     output.extend_from_slice(b"before")?;
     let capacity = output.capacity();
-    let taken = taken_beside(alloc, width)?;
+    let taken = all_that_is_left(alloc)?;
     let refused = item.format_into(&mut output, &value, &mut state);
     let text = item.format(alloc, &value, &mut state);
     drop(taken);
@@ -115,8 +100,8 @@ fn assert_refused<D: Formattable>(
 #[test]
 fn a_refused_reservation_of_a_borrowed_tree_changes_nothing(rt: HostRuntime) -> Result<(), Fail> {
     let items = too_wide(rt.alloc())?;
-    assert_refused(&rt, rt.alloc(), &BorrowedFormatItem::Compound(items), WIDTH)?;
-    assert_refused(&rt, rt.alloc(), &BorrowedItems(items), WIDTH)?;
+    assert_refused(&rt, rt.alloc(), &BorrowedFormatItem::Compound(items))?;
+    assert_refused(&rt, rt.alloc(), &BorrowedItems(items))?;
     Ok(())
 }
 
@@ -124,27 +109,16 @@ fn a_refused_reservation_of_a_borrowed_tree_changes_nothing(rt: HostRuntime) -> 
 fn a_refused_reservation_of_the_third_version_changes_nothing(rt: HostRuntime) -> Result<(), Fail> {
     let items = too_wide_v3(rt.alloc())?;
     let tree = FormatDescriptionV3::new(FormatDescriptionV3Inner::BorrowedCompound(items));
-    assert_refused(&rt, rt.alloc(), &tree, WIDTH)?;
+    assert_refused(&rt, rt.alloc(), &tree)?;
     Ok(())
 }
 
-// An owned tree shares nothing, so it cannot be as wide.
 #[test]
 fn a_refused_reservation_of_an_owned_tree_changes_nothing(rt: HostRuntime) -> Result<(), Fail> {
-    let bytes = vec![in rt.alloc(); b'x'; OWNED_LITERAL]?;
+    let bytes = vec![in rt.alloc(); b'x'; WIDTH]?;
     let items = vec![in rt.alloc(); OwnedFormatItem::Literal(bytes)]?;
-    assert_refused(
-        &rt,
-        rt.alloc(),
-        &OwnedItems(items.as_slice()),
-        OWNED_LITERAL,
-    )?;
-    assert_refused(
-        &rt,
-        rt.alloc(),
-        &OwnedFormatItem::Compound(items),
-        OWNED_LITERAL,
-    )?;
+    assert_refused(&rt, rt.alloc(), &OwnedItems(items.as_slice()))?;
+    assert_refused(&rt, rt.alloc(), &OwnedFormatItem::Compound(items))?;
     Ok(())
 }
 
