@@ -3,29 +3,24 @@
 ghost use Rattle.std.specs.Prelude.{◌≡◌, ◌≤◌, IfOk, vec_capacity};
 
 use crate::texts::{assert_same, assert_that};
-use crate::values::moment;
+use crate::values::Unit::{Hour, Minute, Second};
+use crate::values::{Unit, precision, wednesday};
 use std::alloc::{AllocError, Global};
 use std::default::Default;
 use std::process::Abort;
 use std::test::Fail;
-use time_below::{Month, OffsetDateTime, UtcDateTime};
-use time_digits::ru8;
+use time_below::{OffsetDateTime, UtcDateTime};
 use time_fmt::{ComputeMetadata, Format, Formattable};
 use time_known::iso8601::{
-    Config, DateKind, DecimalSign, FormattedComponents, OffsetPrecision, TimePrecision,
-    format_date, format_offset, format_time,
+    Config, DateKind, DecimalSign, FormattedComponents, OffsetPrecision, format_date,
+    format_offset, format_time,
 };
 use time_known::{Iso8601, Rfc2822, Rfc3339, stamp_into};
 use time_provide::DateState;
 
-/// 1997-11-12 9:55:06.123456789 -6:00, whose texts are as long as the widths.
+/// A Wednesday's nanosecond by which texts are as long as their widths.
 fn longest(rt: &impl Abort) -> OffsetDateTime {
-    moment(
-        rt,
-        (1997, Month::November, 12),
-        (9, 55, 6, 123_456_789),
-        (-6, 0, 0),
-    )
+    wednesday(rt, 123_456_789)
 }
 
 /// Writes the longest example into a vector of exactly the width, which the text fills.
@@ -95,7 +90,7 @@ const PARTS: &[FormattedComponents] = &[
 ];
 
 #[test]
-fn each_choice_of_parts(rt: HostRuntime) -> Result<(), Fail> {
+fn each_choice_of_parts_fills_its_width(rt: HostRuntime) -> Result<(), Fail> {
     for parts in PARTS {
         let config = Config::default().set_formatted_components(*parts);
         assert_config_fills(&rt, rt.alloc(), config)?;
@@ -106,7 +101,7 @@ fn each_choice_of_parts(rt: HostRuntime) -> Result<(), Fail> {
 const KINDS: &[DateKind] = &[DateKind::Calendar, DateKind::Week, DateKind::Ordinal];
 
 #[test]
-fn each_choice_of_a_date(rt: HostRuntime) -> Result<(), Fail> {
+fn each_choice_of_a_date_fills_its_width(rt: HostRuntime) -> Result<(), Fail> {
     for kind in KINDS {
         let config = Config::default().set_date_kind(*kind);
         assert_config_fills(&rt, rt.alloc(), config)?;
@@ -115,52 +110,28 @@ fn each_choice_of_a_date(rt: HostRuntime) -> Result<(), Fail> {
     Ok(())
 }
 
-/// The number of decimals, where it is not 0.
-fn hours(decimals: u8) -> TimePrecision {
-    TimePrecision::Hour {
-        decimal_digits: ru8::new(decimals),
-    }
-}
-
-fn minutes(decimals: u8) -> TimePrecision {
-    TimePrecision::Minute {
-        decimal_digits: ru8::new(decimals),
-    }
-}
-
-fn seconds(decimals: u8) -> TimePrecision {
-    TimePrecision::Second {
-        decimal_digits: ru8::new(decimals),
-    }
-}
+const UNITS: &[Unit] = &[Hour, Minute, Second];
 
 const DECIMALS: &[u8] = &[0, 1, 9, 10, 255];
 
 #[test]
-fn each_choice_of_a_time(rt: HostRuntime) -> Result<(), Fail> {
+fn each_choice_of_a_time_fills_its_width(rt: HostRuntime) -> Result<(), Fail> {
     let config = Config::default().set_decimal_sign(DecimalSign::Comma);
-    for &decimals in DECIMALS {
-        assert_config_fills(&rt, rt.alloc(), config.set_time_precision(hours(decimals)))?;
-        assert_config_fills(
-            &rt,
-            rt.alloc(),
-            config.set_time_precision(minutes(decimals)),
-        )?;
-        assert_config_fills(
-            &rt,
-            rt.alloc(),
-            config.set_time_precision(seconds(decimals)),
-        )?;
+    for &unit in UNITS {
+        for &decimals in DECIMALS {
+            let config = config.set_time_precision(precision(unit, decimals));
+            assert_config_fills(&rt, rt.alloc(), config)?;
+        }
     }
     Ok(())
 }
 
 #[test]
-fn each_choice_of_an_offset(rt: HostRuntime) -> Result<(), Fail> {
-    let hours = Config::default().set_offset_precision(OffsetPrecision::Hour);
-    assert_config_fills(&rt, rt.alloc(), hours)?;
-    let minutes = Config::default().set_offset_precision(OffsetPrecision::Minute);
-    assert_config_fills(&rt, rt.alloc(), minutes)?;
+fn each_choice_of_an_offset_fills_its_width(rt: HostRuntime) -> Result<(), Fail> {
+    for precision in [OffsetPrecision::Hour, OffsetPrecision::Minute] {
+        let config = Config::default().set_offset_precision(precision);
+        assert_config_fills(&rt, rt.alloc(), config)?;
+    }
     Ok(())
 }
 
@@ -177,7 +148,7 @@ fn two_stamps(output: &mut Vec<u8>, value: &UtcDateTime) -> Result<usize, Format
 
 /// The second stamp makes room where the first left too little.
 #[test]
-fn stamps_behind_others(rt: HostRuntime) -> Result<(), Fail> {
+fn a_stamp_makes_room_behind_another(rt: HostRuntime) -> Result<(), Fail> {
     let value = longest(&rt);
     let value = UtcDateTime::new(value.date(), value.time());
     let mut output = Vec::with_capacity(rt.alloc(), 35)?;

@@ -1,70 +1,59 @@
 //! ISO 8601 by a configuration. Each row is tried with both decimal signs.
 use crate::texts::{self, assert_same, assert_that, refusal_name};
-use crate::values::{date_at, moment, offset_at, time_at, timestamp_at};
+use crate::values::Unit::{Hour, Minute, Second};
+use crate::values::{
+    Unit, date_at, moment, offset_at, precision, time_at, timestamp_at, wednesday,
+};
 use std::alloc::Global;
 use std::default::Default;
 use std::process::Abort;
 use std::test::Fail;
-use time_below::{Date, Month, OffsetDateTime, Time, UtcDateTime};
-use time_digits::ru8;
+use time_below::UtcDateTime;
 use time_fmt::{ComponentProvider, ComputeMetadata, Formattable};
 use time_known::Iso8601;
+use time_known::iso8601::DateKind::{Calendar, Ordinal, Week};
 use time_known::iso8601::{
-    Config, DateKind, DecimalSign, FormattedComponents, OffsetPrecision, TimePrecision,
-    format_date, format_offset, format_time,
+    Config, DateKind, DecimalSign, FormattedComponents as Parts, OffsetPrecision, format_date,
+    format_offset, format_time,
 };
 use time_provide::DateState;
 
-fn hours(decimals: u8) -> TimePrecision {
-    TimePrecision::Hour {
-        decimal_digits: ru8::new(decimals),
-    }
+/// What a row chooses.
+#[derive(Clone, Copy)]
+struct Choices {
+    parts: Parts,
+    separators: bool,
+    six_digits: bool,
+    kind: DateKind,
+    precision: (Unit, u8),
+    offset: OffsetPrecision,
 }
 
-fn minutes(decimals: u8) -> TimePrecision {
-    TimePrecision::Minute {
-        decimal_digits: ru8::new(decimals),
-    }
-}
+/// What a configuration has by default.
+const DEFAULT: Choices = Choices {
+    parts: Parts::DateTimeOffset,
+    separators: true,
+    six_digits: false,
+    kind: Calendar,
+    precision: (Second, 9),
+    offset: OffsetPrecision::Minute,
+};
 
-fn seconds(decimals: u8) -> TimePrecision {
-    TimePrecision::Second {
-        decimal_digits: ru8::new(decimals),
-    }
+/// The format by the setters of `Config`.
+fn format_by(choices: &Choices) -> Iso8601 {
+    let (unit, decimals) = choices.precision;
+    let config = with_parts(choices.parts)
+        .set_use_separators(choices.separators)
+        .set_year_is_six_digits(choices.six_digits)
+        .set_date_kind(choices.kind)
+        .set_time_precision(precision(unit, decimals))
+        .set_offset_precision(choices.offset);
+    Iso8601::new(config)
 }
 
 /// The default with these parts alone.
-fn with_parts(parts: FormattedComponents) -> Config {
+fn with_parts(parts: Parts) -> Config {
     Config::default().set_formatted_components(parts)
-}
-
-/// The date alone.
-fn date_format(kind: DateKind, separators: bool, six_digits: bool) -> Iso8601 {
-    Iso8601::new(
-        with_parts(FormattedComponents::Date)
-            .set_date_kind(kind)
-            .set_use_separators(separators)
-            .set_year_is_six_digits(six_digits),
-    )
-}
-
-/// The time alone.
-fn time_format(precision: TimePrecision, separators: bool) -> Iso8601 {
-    Iso8601::new(
-        with_parts(FormattedComponents::Time)
-            .set_time_precision(precision)
-            .set_use_separators(separators),
-    )
-}
-
-/// 1997-11-12 9:55:06 -6:00, with this nanosecond.
-fn example(rt: &impl Abort, nanosecond: u32) -> OffsetDateTime {
-    moment(
-        rt,
-        (1997, Month::November, 12),
-        (9, 55, 6, nanosecond),
-        (-6, 0, 0),
-    )
 }
 
 /// The format with a point and with a comma, and the text with either sign.
@@ -100,6 +89,20 @@ where
     }
 }
 
+/// The same by the choices of a row. The text fills the width.
+fn assert_row<V: ComponentProvider>(
+    rt: &impl Abort,
+    alloc: Global,
+    choices: &Choices,
+    value: &V,
+    text: &str,
+)
+where
+    V::State: Drop,
+{
+    assert_text(rt, alloc, &format_by(choices), value, text, text.len());
+}
+
 /// Compares the refusal by either decimal sign. No byte is appended.
 fn assert_refused<V: ComponentProvider>(
     rt: &impl Abort,
@@ -123,8 +126,7 @@ fn assert_refused_after<V: ComponentProvider>(
     alloc: Global,
     format: &Iso8601,
     value: &V,
-    text: &str,
-    name: &str,
+    (text, name): (&str, &str),
 )
 where
     V::State: Drop,
@@ -138,303 +140,161 @@ where
     }
 }
 
-#[test]
-fn whole_texts(rt: HostRuntime) {
-    let value = example(&rt, 0);
-    let text = "1997-11-12T09:55:06.000000000-06:00";
-    assert_text(&rt, rt.alloc(), &Iso8601::default(), &value, text, 35);
-    let week = Config::default()
-        .set_date_kind(DateKind::Week)
-        .set_year_is_six_digits(true)
-        .set_use_separators(false);
-    let text = "+001997W463T095506.000000000-0600";
-    assert_text(&rt, rt.alloc(), &Iso8601::new(week), &value, text, 33);
-}
-
-const DATES: &[(DateKind, bool, bool, (i32, Month, u8), &str)] = &[
-    (
-        DateKind::Week,
-        true,
-        false,
-        (1997, Month::November, 12),
-        "1997-W46-3",
-    ),
-    (
-        DateKind::Week,
-        true,
-        false,
-        (2010, Month::January, 1),
-        "2009-W53-5",
-    ),
-    (
-        DateKind::Week,
-        true,
-        false,
-        (2010, Month::January, 3),
-        "2009-W53-7",
-    ),
-    (
-        DateKind::Ordinal,
-        false,
-        false,
-        (1997, Month::November, 12),
-        "1997316",
-    ),
-    (
-        DateKind::Calendar,
-        true,
-        true,
-        (1997, Month::November, 12),
-        "+001997-11-12",
-    ),
-    (
-        DateKind::Calendar,
-        false,
-        true,
-        (-44, Month::March, 15),
-        "-0000440315",
-    ),
-    (
-        DateKind::Calendar,
-        true,
-        true,
-        (0, Month::January, 1),
-        "+000000-01-01",
-    ),
-    (
-        DateKind::Week,
-        true,
-        true,
-        (0, Month::January, 1),
-        "-000001-W52-6",
-    ),
-    (
-        DateKind::Ordinal,
-        true,
-        true,
-        (-999_999, Month::December, 31),
-        "-999999-365",
-    ),
-    (
-        DateKind::Calendar,
-        true,
-        true,
-        (999_999, Month::December, 31),
-        "+999999-12-31",
-    ),
-    (
-        DateKind::Calendar,
-        true,
-        false,
-        (9_999, Month::December, 31),
-        "9999-12-31",
-    ),
-    (
-        DateKind::Calendar,
-        true,
-        false,
-        (0, Month::January, 1),
-        "0000-01-01",
-    ),
-];
-
-#[test]
-fn texts_of_dates(rt: HostRuntime) {
-    for &(kind, separators, six_digits, date, text) in DATES {
-        let (year, month, day) = date;
-        let value = date_at(&rt, year, month, day);
-        let format = date_format(kind, separators, six_digits);
-        assert_text(&rt, rt.alloc(), &format, &value, text, text.len());
-    }
-}
-
-const FAR_YEARS: &[(DateKind, (i32, Month, u8))] = &[
-    (DateKind::Week, (0, Month::January, 1)),
-    (DateKind::Calendar, (70_000, Month::January, 1)),
-    (DateKind::Calendar, (-60_000, Month::January, 1)),
-    (DateKind::Calendar, (65_536, Month::January, 1)),
-    (DateKind::Ordinal, (10_000, Month::January, 1)),
-    (DateKind::Ordinal, (-1, Month::December, 31)),
-];
-
-#[test]
-fn years_that_four_digits_do_not_hold(rt: HostRuntime) {
-    for &(kind, (year, month, day)) in FAR_YEARS {
-        let value = date_at(&rt, year, month, day);
-        let format = date_format(kind, true, false);
-        assert_refused(&rt, rt.alloc(), &format, &value, "year");
-    }
-}
-
-/// Compares the text of the time alone, and its width.
-fn assert_time(
-    rt: &impl Abort,
-    alloc: Global,
-    (precision, separators): (TimePrecision, bool),
-    (hour, minute, second, nanosecond): (u8, u8, u8, u32),
-    text: &str,
-) {
-    let value = time_at(rt, hour, minute, second, nanosecond);
-    let format = time_format(precision, separators);
-    assert_text(rt, alloc, &format, &value, text, text.len());
-}
-
-#[test]
-fn texts_of_times(rt: HostRuntime) {
-    let alloc = rt.alloc();
-    let nine = (9, 55, 6, 0);
-    assert_time(&rt, alloc, (seconds(0), false), nine, "T095506");
-    assert_time(&rt, alloc, (hours(3), true), nine, "09.918");
-    assert_time(&rt, alloc, (minutes(2), false), nine, "T0955.10");
-    assert_time(&rt, alloc, (hours(9), true), (0, 0, 10, 0), "00.002777777");
-    let last = (23, 59, 59, 999_999_999);
-    assert_time(&rt, alloc, (minutes(9), true), last, "23:59.999999999");
-    assert_time(&rt, alloc, (hours(0), false), nine, "T09");
-    assert_time(&rt, alloc, (minutes(0), true), nine, "09:55");
-    assert_time(
-        &rt,
-        alloc,
-        (seconds(3), true),
-        (9, 55, 6, 120_000_000),
-        "09:55:06.120",
-    );
-}
-
-/// Formats the time, with separators and by either decimal sign, and compares its decimals: the first
-/// ones, and one digit that all others are.
-fn assert_decimals(
-    rt: &impl Abort,
-    alloc: Global,
-    precision: TimePrecision,
-    value: &Time,
-    (whole, first, others): (&str, &str, u8),
-    count: u8,
-) {
-    let format = time_format(precision, true);
-    for (format, whole) in by_each_sign(rt, alloc, &format, whole) {
-        assert_long_decimals(
-            rt,
-            alloc,
-            &format,
-            value,
-            (whole.as_str(), first, others),
-            count,
-        );
-    }
-}
-
-/// The same by one format.
-fn assert_long_decimals(
-    rt: &impl Abort,
-    alloc: Global,
-    format: &Iso8601,
-    value: &Time,
-    (whole, first, others): (&str, &str, u8),
-    count: u8,
-) {
-    let mut output = Vec::new(alloc);
-    let answer = format.format_into(&mut output, value, &mut ());
-    assert_that(rt, matches!(&answer, Ok(length) if *length == output.len()));
-    assert_same(rt, format.compute_metadata().max_bytes_needed, output.len());
-    let Some((text, decimals)) = output.as_slice().split_at_checked(whole.len()) else {
-        panic!(rt; "short: {whole}");
+/// Rows of a value, what it is formatted by in these parts, and its text or the name that is refused.
+macro_rules! rows {
+    ($parts:ident: $($value:expr => { $($choice:ident: $chosen:expr),* } $text:literal,)+) => {
+        &[$(($value, Choices { $($choice: $chosen,)* parts: Parts::$parts, ..DEFAULT }, $text)),+]
     };
-    assert_same(rt, text, whole.as_bytes());
-    assert_same(rt, decimals.len(), count as usize);
-    for (place, digit) in decimals.iter().enumerate() {
-        let known = first.as_bytes().get(place).copied();
-        assert_same(rt, *digit, known.unwrap_or(others));
-    }
 }
+
+/// Rows of a year, a month and a day.
+type DateRows = &'static [((i32, u8, u8), Choices, &'static str)];
+
+const DATES: DateRows = rows! { Date:
+    (1997, 11, 12) => { kind: Week } "1997-W46-3",
+    (2010, 1, 1) => { kind: Week } "2009-W53-5",
+    (2010, 1, 3) => { kind: Week } "2009-W53-7",
+    (1997, 11, 12) => { kind: Ordinal, separators: false } "1997316",
+    (1997, 11, 12) => { kind: Calendar, six_digits: true } "+001997-11-12",
+    (-44, 3, 15) => { kind: Calendar, separators: false, six_digits: true } "-0000440315",
+    (0, 1, 1) => { kind: Calendar, six_digits: true } "+000000-01-01",
+    (0, 1, 1) => { kind: Week, six_digits: true } "-000001-W52-6",
+    (-999_999, 12, 31) => { kind: Ordinal, six_digits: true } "-999999-365",
+    (999_999, 12, 31) => { kind: Calendar, six_digits: true } "+999999-12-31",
+    (9_999, 12, 31) => { kind: Calendar } "9999-12-31",
+    (0, 1, 1) => { kind: Calendar } "0000-01-01",
+};
 
 #[test]
-fn decimals_at_both_ends_of_the_day(rt: HostRuntime) {
-    let alloc = rt.alloc();
-    let begin = time_at(&rt, 0, 0, 0, 0);
-    let end = time_at(&rt, 23, 59, 59, 999_999_999);
-    for count in [1, 2, 9, 10, 255] {
-        assert_decimals(&rt, alloc, hours(count), &begin, ("00.", "", b'0'), count);
-        assert_decimals(
-            &rt,
-            alloc,
-            minutes(count),
-            &begin,
-            ("00:00.", "", b'0'),
-            count,
-        );
-        assert_decimals(
-            &rt,
-            alloc,
-            seconds(count),
-            &begin,
-            ("00:00:00.", "", b'0'),
-            count,
-        );
-        let of_hour = ("23.", "9999999999997", b'2');
-        assert_decimals(&rt, alloc, hours(count), &end, of_hour, count);
-        let of_minute = ("23:59.", "99999999998", b'3');
-        assert_decimals(&rt, alloc, minutes(count), &end, of_minute, count);
-        let of_second = ("23:59:59.", "999999999", b'0');
-        assert_decimals(&rt, alloc, seconds(count), &end, of_second, count);
+fn a_date_has_the_kind_and_the_digits_that_are_chosen(rt: HostRuntime) {
+    for &(date, choices, text) in DATES {
+        assert_row(&rt, rt.alloc(), &choices, &date_at(&rt, date), text);
     }
-    let ten_seconds = time_at(&rt, 0, 0, 10, 0);
-    assert_decimals(
-        &rt,
-        alloc,
-        minutes(255),
-        &ten_seconds,
-        ("00:00.", "1", b'6'),
-        255,
-    );
-    let first = time_at(&rt, 0, 0, 0, 1);
-    assert_decimals(
-        &rt,
-        alloc,
-        seconds(255),
-        &first,
-        ("00:00:00.", "000000001", b'0'),
-        255,
-    );
 }
 
-/// Compares the text of the time alone, with separators and a comma.
-fn assert_comma(
-    rt: &impl Abort,
-    alloc: Global,
-    precision: TimePrecision,
-    (hour, minute, second): (u8, u8, u8),
-    text: &str,
-) {
-    let value = time_at(rt, hour, minute, second, 0);
-    let format = with_comma(time_format(precision, true));
-    texts::assert_text(rt, alloc, &format, &value, text, text.len());
+const FAR_YEARS: DateRows = rows! { Date:
+    (0, 1, 1) => { kind: Week } "year",
+    (70_000, 1, 1) => { kind: Calendar } "year",
+    (-60_000, 1, 1) => { kind: Calendar } "year",
+    (65_536, 1, 1) => { kind: Calendar } "year",
+    (10_000, 1, 1) => { kind: Ordinal } "year",
+    (-1, 12, 31) => { kind: Ordinal } "year",
+};
+
+#[test]
+fn refuses_a_year_that_four_digits_do_not_hold(rt: HostRuntime) {
+    for &(date, choices, name) in FAR_YEARS {
+        let format = format_by(&choices);
+        assert_refused(&rt, rt.alloc(), &format, &date_at(&rt, date), name);
+    }
 }
+
+const TIMES: &[((u8, u8, u8, u32), Choices, &str)] = rows! { Time:
+    (9, 55, 6, 0) => { precision: (Second, 0), separators: false } "T095506",
+    (9, 55, 6, 0) => { precision: (Hour, 3) } "09.918",
+    (9, 55, 6, 0) => { precision: (Minute, 2), separators: false } "T0955.10",
+    (0, 0, 10, 0) => { precision: (Hour, 9) } "00.002777777",
+    (23, 59, 59, 999_999_999) => { precision: (Minute, 9) } "23:59.999999999",
+    (9, 55, 6, 0) => { precision: (Hour, 0), separators: false } "T09",
+    (9, 55, 6, 0) => { precision: (Minute, 0) } "09:55",
+    (9, 55, 6, 120_000_000) => { precision: (Second, 3) } "09:55:06.120",
+};
+
+#[test]
+fn a_time_has_the_unit_and_the_decimals_that_are_chosen(rt: HostRuntime) {
+    for &(time, choices, text) in TIMES {
+        assert_row(&rt, rt.alloc(), &choices, &time_at(&rt, time), text);
+    }
+}
+
+const COMMAS: &[((u8, u8, u8, u32), Choices, &str)] = rows! { Time:
+    (0, 0, 10, 0) => { precision: (Hour, 9) } "00,002777777",
+    (9, 55, 6, 0) => { precision: (Minute, 1) } "09:55,1",
+    (9, 55, 6, 0) => { precision: (Second, 3) } "09:55:06,000",
+    (9, 55, 6, 0) => { precision: (Second, 0) } "09:55:06",
+};
 
 fn with_comma(format: Iso8601) -> Iso8601 {
     Iso8601::new(format.config().set_decimal_sign(DecimalSign::Comma))
 }
 
 #[test]
-fn texts_with_a_comma(rt: HostRuntime) {
-    let alloc = rt.alloc();
-    assert_comma(&rt, alloc, hours(9), (0, 0, 10), "00,002777777");
-    assert_comma(&rt, alloc, minutes(1), (9, 55, 6), "09:55,1");
-    assert_comma(&rt, alloc, seconds(3), (9, 55, 6), "09:55:06,000");
-    assert_comma(&rt, alloc, seconds(0), (9, 55, 6), "09:55:06");
-    let value = example(&rt, 0);
+fn a_comma_stands_where_it_is_chosen(rt: HostRuntime) {
+    for &(time, choices, text) in COMMAS {
+        let format = with_comma(format_by(&choices));
+        texts::assert_text(
+            &rt,
+            rt.alloc(),
+            &format,
+            &time_at(&rt, time),
+            text,
+            text.len(),
+        );
+    }
     let text = "1997-11-12T09:55:06,000000000-06:00";
-    texts::assert_text(
-        &rt,
-        alloc,
-        &with_comma(Iso8601::default()),
-        &value,
-        text,
-        35,
-    );
+    let format = with_comma(Iso8601::default());
+    texts::assert_text(&rt, rt.alloc(), &format, &wednesday(&rt, 0), text, 35);
+}
+
+/// The last nanosecond of the day.
+const END: (u8, u8, u8, u32) = (23, 59, 59, 999_999_999);
+
+/// A time, its smallest whole unit, the text of the whole units, the first decimals, and one digit that all
+/// others are.
+type Decimals = ((u8, u8, u8, u32), Unit, (&'static str, &'static str, u8));
+
+const DECIMALS: &[Decimals] = &[
+    ((0, 0, 0, 0), Hour, ("00.", "", b'0')),
+    ((0, 0, 0, 0), Minute, ("00:00.", "", b'0')),
+    ((0, 0, 0, 0), Second, ("00:00:00.", "", b'0')),
+    (END, Hour, ("23.", "9999999999997", b'2')),
+    (END, Minute, ("23:59.", "99999999998", b'3')),
+    (END, Second, ("23:59:59.", "999999999", b'0')),
+    ((0, 0, 10, 0), Minute, ("00:00.", "1", b'6')),
+    ((0, 0, 0, 1), Second, ("00:00:00.", "000000001", b'0')),
+];
+
+/// Formats the time, with separators and by either decimal sign, and compares so many decimals.
+fn assert_decimals(
+    rt: &impl Abort,
+    alloc: Global,
+    (time, unit, (whole, first, others)): Decimals,
+    count: u8,
+) {
+    let format = Iso8601::new(with_parts(Parts::Time).set_time_precision(precision(unit, count)));
+    for (format, whole) in by_each_sign(rt, alloc, &format, whole) {
+        let mut output = Vec::new(alloc);
+        let answer = format.format_into(&mut output, &time_at(rt, time), &mut ());
+        assert_that(rt, matches!(&answer, Ok(length) if *length == output.len()));
+        assert_same(rt, format.compute_metadata().max_bytes_needed, output.len());
+        let Some((text, decimals)) = output.as_slice().split_at_checked(whole.len()) else {
+            panic!(rt; "short: {whole}");
+        };
+        assert_same(rt, text, whole.as_str().as_bytes());
+        assert_digits(rt, decimals, (first, others), count);
+    }
+}
+
+/// Compares the number of digits, the first of them, and all others.
+fn assert_digits(rt: &impl Abort, digits: &[u8], (first, others): (&str, u8), count: u8) {
+    assert_same(rt, digits.len(), count as usize);
+    for (place, digit) in digits.iter().enumerate() {
+        let known = first.as_bytes().get(place).copied();
+        assert_same(rt, *digit, known.unwrap_or(others));
+    }
 }
 
 #[test]
-fn a_point_by_default(rt: HostRuntime) {
+fn up_to_255_decimals_are_written_and_none_is_rounded(rt: HostRuntime) {
+    for &row in DECIMALS {
+        for count in [1, 2, 9, 10, 255] {
+            assert_decimals(&rt, rt.alloc(), row, count);
+        }
+    }
+}
+
+#[test]
+fn the_default_has_a_point(rt: HostRuntime) {
     let default = Config::default();
     let point = default.set_decimal_sign(DecimalSign::Point);
     let comma = default.set_decimal_sign(DecimalSign::Comma);
@@ -445,199 +305,139 @@ fn a_point_by_default(rt: HostRuntime) {
     assert_same(&rt, parsing, parsing.set_decimal_sign(DecimalSign::Point));
 }
 
-const OFFSETS: &[(OffsetPrecision, bool, (i8, i8), &str, usize)] = &[
-    (OffsetPrecision::Minute, true, (0, 0), "+00:00", 6),
-    (OffsetPrecision::Minute, false, (-6, -30), "-0630", 5),
-    (OffsetPrecision::Minute, true, (0, -30), "-00:30", 6),
-    (OffsetPrecision::Hour, true, (25, 0), "+25", 3),
-    (OffsetPrecision::Hour, false, (-6, 0), "-06", 3),
-];
+const OFFSETS: &[((i8, i8, i8), Choices, &str)] = rows! { Offset:
+    (0, 0, 0) => { offset: OffsetPrecision::Minute } "+00:00",
+    (-6, -30, 0) => { offset: OffsetPrecision::Minute, separators: false } "-0630",
+    (0, -30, 0) => { offset: OffsetPrecision::Minute } "-00:30",
+    (25, 0, 0) => { offset: OffsetPrecision::Hour } "+25",
+    (-6, 0, 0) => { offset: OffsetPrecision::Hour, separators: false } "-06",
+};
 
 #[test]
-fn texts_of_offsets(rt: HostRuntime) {
-    for &(precision, separators, (hours, minutes), text, width) in OFFSETS {
-        let config = with_parts(FormattedComponents::Offset)
-            .set_offset_precision(precision)
-            .set_use_separators(separators);
-        let value = offset_at(&rt, hours, minutes, 0);
-        assert_text(&rt, rt.alloc(), &Iso8601::new(config), &value, text, width);
+fn an_offset_has_its_sign_and_the_unit_that_is_chosen(rt: HostRuntime) {
+    for &(offset, choices, text) in OFFSETS {
+        assert_row(&rt, rt.alloc(), &choices, &offset_at(&rt, offset), text);
     }
 }
 
 #[test]
 fn a_later_refusal_keeps_earlier_bytes(rt: HostRuntime) {
-    let alloc = rt.alloc();
-    let hour = with_parts(FormattedComponents::Offset).set_offset_precision(OffsetPrecision::Hour);
-    let offset = offset_at(&rt, 5, 30, 0);
-    let format = Iso8601::new(hour);
-    assert_refused_after(&rt, alloc, &format, &offset, "+05", "offset_minute");
-    let value = moment(&rt, (2000, Month::January, 1), (0, 0, 0, 0), (1, 0, 1));
-    let text = "2000-01-01T00:00:00.000000000";
-    assert_refused_after(
-        &rt,
-        alloc,
-        &Iso8601::default(),
-        &value,
-        text,
-        "offset_second",
-    );
-    let far = moment(&rt, (65_536, Month::January, 1), (0, 0, 0, 0), (0, 0, 1));
-    assert_refused_after(&rt, alloc, &Iso8601::default(), &far, "", "year");
+    let (alloc, whole) = (rt.alloc(), Iso8601::default());
+    let hour = with_parts(Parts::Offset).set_offset_precision(OffsetPrecision::Hour);
+    let (offset, texts) = (offset_at(&rt, (5, 30, 0)), ("+05", "offset_minute"));
+    assert_refused_after(&rt, alloc, &Iso8601::new(hour), &offset, texts);
+    let value = moment(&rt, (2000, 1, 1), (0, 0, 0, 0), (1, 0, 1));
+    let texts = ("2000-01-01T00:00:00.000000000", "offset_second");
+    assert_refused_after(&rt, alloc, &whole, &value, texts);
+    let far = moment(&rt, (65_536, 1, 1), (0, 0, 0, 0), (0, 0, 1));
+    assert_refused_after(&rt, alloc, &whole, &far, ("", "year"));
 }
 
-#[test]
-fn a_missing_group_comes_first(rt: HostRuntime) {
-    let alloc = rt.alloc();
-    let value = moment(&rt, (70_000, Month::January, 1), (9, 55, 6, 0), (5, 30, 1));
-    assert_refused(
-        &rt,
-        alloc,
-        &Iso8601::date_time(),
-        &value.date(),
-        "insufficient",
-    );
-    assert_refused(&rt, alloc, &Iso8601::parsing(), &value, "insufficient");
-    assert_refused(
-        &rt,
-        alloc,
-        &Iso8601::default(),
-        &value.date(),
-        "insufficient",
-    );
-    assert_refused(
-        &rt,
-        alloc,
-        &Iso8601::time_offset(),
-        &value.offset(),
-        "insufficient",
-    );
-    assert_refused(&rt, alloc, &Iso8601::time(), &value.date(), "insufficient");
-    assert_refused(
-        &rt,
-        alloc,
-        &Iso8601::offset(),
-        &value.time(),
-        "insufficient",
-    );
-    let nothing = Iso8601::new(with_parts(FormattedComponents::None));
-    assert_refused(&rt, alloc, &nothing, &value, "insufficient");
-}
-
-/// Compares the parts of a named format, and its text of the example.
-fn assert_named(
+/// A missing group is refused before what is out of range.
+fn assert_insufficient<V: ComponentProvider>(
     rt: &impl Abort,
     alloc: Global,
-    format: Iso8601,
-    parts: FormattedComponents,
-    text: &str,
-) {
-    assert_same(rt, format.config(), with_parts(parts));
-    assert_text(rt, alloc, &format, &example(rt, 0), text, text.len());
+    value: &V,
+    formats: &[Iso8601],
+)
+where
+    V::State: Drop,
+{
+    for format in formats {
+        assert_refused(rt, alloc, format, value, "insufficient");
+    }
 }
 
 #[test]
-fn each_named_format(rt: HostRuntime) {
+fn refuses_a_missing_group_first(rt: HostRuntime) {
+    let value = moment(&rt, (70_000, 1, 1), (9, 55, 6, 0), (5, 30, 1));
+    let formats = [Iso8601::date_time(), Iso8601::default(), Iso8601::time()];
+    assert_insufficient(&rt, rt.alloc(), &value.date(), &formats);
+    let formats = [Iso8601::parsing(), Iso8601::new(with_parts(Parts::None))];
+    assert_insufficient(&rt, rt.alloc(), &value, &formats);
+    assert_insufficient(&rt, rt.alloc(), &value.offset(), &[Iso8601::time_offset()]);
+    assert_insufficient(&rt, rt.alloc(), &value.time(), &[Iso8601::offset()]);
+}
+
+/// Compares the parts of a named format, and its text of the Wednesday.
+fn assert_named(rt: &impl Abort, alloc: Global, format: Iso8601, parts: Parts, text: &str) {
+    assert_same(rt, format.config(), with_parts(parts));
+    assert_text(rt, alloc, &format, &wednesday(rt, 0), text, text.len());
+}
+
+#[test]
+fn each_named_format_has_its_parts(rt: HostRuntime) {
     let alloc = rt.alloc();
-    let date = Iso8601::date();
-    assert_named(&rt, alloc, date, FormattedComponents::Date, "1997-11-12");
-    let time = Iso8601::time();
+    assert_named(&rt, alloc, Iso8601::date(), Parts::Date, "1997-11-12");
     assert_named(
         &rt,
         alloc,
-        time,
-        FormattedComponents::Time,
+        Iso8601::time(),
+        Parts::Time,
         "09:55:06.000000000",
     );
-    let offset = Iso8601::offset();
-    assert_named(&rt, alloc, offset, FormattedComponents::Offset, "-06:00");
+    assert_named(&rt, alloc, Iso8601::offset(), Parts::Offset, "-06:00");
     let text = "1997-11-12T09:55:06.000000000";
-    assert_named(
-        &rt,
-        alloc,
-        Iso8601::date_time(),
-        FormattedComponents::DateTime,
-        text,
-    );
+    assert_named(&rt, alloc, Iso8601::date_time(), Parts::DateTime, text);
+    let text = "09:55:06.000000000-06:00";
+    assert_named(&rt, alloc, Iso8601::time_offset(), Parts::TimeOffset, text);
     let text = "1997-11-12T09:55:06.000000000-06:00";
     let whole = Iso8601::date_time_offset();
-    assert_named(&rt, alloc, whole, FormattedComponents::DateTimeOffset, text);
-    let text = "09:55:06.000000000-06:00";
-    let late = Iso8601::time_offset();
-    assert_named(&rt, alloc, late, FormattedComponents::TimeOffset, text);
+    assert_named(&rt, alloc, whole, Parts::DateTimeOffset, text);
+    assert_named(&rt, alloc, Iso8601::default(), Parts::DateTimeOffset, text);
 }
 
 #[test]
-fn configurations_of_named_formats(rt: HostRuntime) {
+fn named_formats_have_their_configurations(rt: HostRuntime) {
     assert_same(&rt, Iso8601::default(), Iso8601::date_time_offset());
     assert_same(&rt, Iso8601::default().config(), Config::default());
-    let parsing = with_parts(FormattedComponents::None)
+    let parsing = with_parts(Parts::None)
         .set_use_separators(false)
-        .set_time_precision(hours(0))
+        .set_time_precision(precision(Hour, 0))
         .set_offset_precision(OffsetPrecision::Hour);
     assert_same(&rt, Iso8601::parsing().config(), parsing);
 }
 
-/// Compares the text of 9:55:06.123456789 by the configuration: it fills the width.
-fn assert_filled(rt: &impl Abort, alloc: Global, config: Config, text: &str) {
-    let value = example(rt, 123_456_789);
-    assert_text(rt, alloc, &Iso8601::new(config), &value, text, text.len());
-}
+/// Rows of a nanosecond of 1997-11-12 9:55:06 -06:00.
+const WHOLE_TEXTS: &[(u32, Choices, &str)] = rows! { DateTimeOffset:
+    0 => { kind: Week, six_digits: true, separators: false } "+001997W463T095506.000000000-0600",
+    123_456_789 => {} "1997-11-12T09:55:06.123456789-06:00",
+    123_456_789 => { separators: false } "19971112T095506.123456789-0600",
+    123_456_789 => { six_digits: true } "+001997-11-12T09:55:06.123456789-06:00",
+    123_456_789 => { kind: Week } "1997-W46-3T09:55:06.123456789-06:00",
+    123_456_789 => { kind: Ordinal } "1997-316T09:55:06.123456789-06:00",
+    123_456_789 => { offset: OffsetPrecision::Hour } "1997-11-12T09:55:06.123456789-06",
+    123_456_789 => { precision: (Hour, 0) } "1997-11-12T09-06:00",
+    123_456_789 => { precision: (Minute, 1) } "1997-11-12T09:55.1-06:00",
+    123_456_789 => { precision: (Second, 10) } "1997-11-12T09:55:06.1234567890-06:00",
+};
 
 #[test]
 fn each_choice_fills_its_width(rt: HostRuntime) {
-    let alloc = rt.alloc();
-    let default = Config::default();
-    let text = "1997-11-12T09:55:06.123456789-06:00";
-    assert_filled(&rt, alloc, default.set_use_separators(true), text);
-    assert_filled(&rt, alloc, default.set_year_is_six_digits(false), text);
-    assert_filled(&rt, alloc, default.set_date_kind(DateKind::Calendar), text);
-    let minute = default.set_offset_precision(OffsetPrecision::Minute);
-    assert_filled(&rt, alloc, minute, text);
-    let text = "19971112T095506.123456789-0600";
-    assert_filled(&rt, alloc, default.set_use_separators(false), text);
-    let text = "+001997-11-12T09:55:06.123456789-06:00";
-    assert_filled(&rt, alloc, default.set_year_is_six_digits(true), text);
-    let text = "1997-W46-3T09:55:06.123456789-06:00";
-    assert_filled(&rt, alloc, default.set_date_kind(DateKind::Week), text);
-    let text = "1997-316T09:55:06.123456789-06:00";
-    assert_filled(&rt, alloc, default.set_date_kind(DateKind::Ordinal), text);
-    let text = "1997-11-12T09:55:06.123456789-06";
-    let hour = default.set_offset_precision(OffsetPrecision::Hour);
-    assert_filled(&rt, alloc, hour, text);
+    for &(nanosecond, choices, text) in WHOLE_TEXTS {
+        let value = wednesday(&rt, nanosecond);
+        assert_row(&rt, rt.alloc(), &choices, &value, text);
+    }
 }
 
 #[test]
-fn each_precision_fills_its_width(rt: HostRuntime) {
-    let alloc = rt.alloc();
-    let default = Config::default();
-    let hour = default.set_time_precision(hours(0));
-    assert_filled(&rt, alloc, hour, "1997-11-12T09-06:00");
-    let minute = default.set_time_precision(minutes(1));
-    assert_filled(&rt, alloc, minute, "1997-11-12T09:55.1-06:00");
-    let second = default.set_time_precision(seconds(10));
-    let text = "1997-11-12T09:55:06.1234567890-06:00";
-    assert_filled(&rt, alloc, second, text);
-}
-
-#[test]
-fn each_type_of_value(rt: HostRuntime) {
-    let alloc = rt.alloc();
-    let whole = moment(&rt, (1970, Month::January, 1), (0, 0, 0, 0), (0, 0, 0));
+fn each_type_of_value_with_all_groups_is_formatted(rt: HostRuntime) {
+    let (alloc, format) = (rt.alloc(), Iso8601::default());
+    let whole = moment(&rt, (1970, 1, 1), (0, 0, 0, 0), (0, 0, 0));
     let text = "1970-01-01T00:00:00.000000000Z";
-    assert_text(&rt, alloc, &Iso8601::default(), &whole, text, 35);
+    assert_text(&rt, alloc, &format, &whole, text, 35);
     let utc = UtcDateTime::new(whole.date(), whole.time());
-    assert_text(&rt, alloc, &Iso8601::default(), &utc, text, 35);
-    let timestamp = timestamp_at(&rt, 0, 0);
-    assert_text(&rt, alloc, &Iso8601::default(), &timestamp, text, 35);
+    assert_text(&rt, alloc, &format, &utc, text, 35);
+    assert_text(&rt, alloc, &format, &timestamp_at(&rt, (0, 0)), text, 35);
     let midnight = "00:00:00.000000000Z";
     assert_text(&rt, alloc, &Iso8601::time_offset(), &utc, midnight, 24);
 }
 
 /// Compares the three parts of the example, one after another, by a configuration that formats none.
 fn assert_parts(rt: &impl Abort, alloc: Global, sign: DecimalSign, text: &str) -> Result<(), Fail> {
-    let value = example(rt, 0);
+    let value = wednesday(rt, 0);
     let nothing = Config::default()
-        .set_formatted_components(FormattedComponents::None)
+        .set_formatted_components(Parts::None)
         .set_decimal_sign(sign);
     let mut state = DateState::default();
     let mut output = Vec::with_capacity(alloc, 34)?;
@@ -652,18 +452,17 @@ fn assert_parts(rt: &impl Abort, alloc: Global, sign: DecimalSign, text: &str) -
 }
 
 #[test]
-fn each_part_by_itself(rt: HostRuntime) -> Result<(), Fail> {
+fn each_part_is_written_by_itself(rt: HostRuntime) -> Result<(), Fail> {
     let by_point = "1997-11-1209:55:06.000000000-06:00";
     assert_parts(&rt, rt.alloc(), DecimalSign::Point, by_point)?;
     let by_comma = "1997-11-1209:55:06,000000000-06:00";
-    assert_parts(&rt, rt.alloc(), DecimalSign::Comma, by_comma)?;
-    Ok(())
+    assert_parts(&rt, rt.alloc(), DecimalSign::Comma, by_comma)
 }
 
 #[test]
-fn refusals_of_each_part(rt: HostRuntime) -> Result<(), Fail> {
-    let value = moment(&rt, (10_000, Month::January, 1), (0, 0, 0, 0), (0, 0, 1));
-    let time_alone = Config::default().set_formatted_components(FormattedComponents::Time);
+fn refuses_each_part_by_itself(rt: HostRuntime) -> Result<(), Fail> {
+    let value = moment(&rt, (10_000, 1, 1), (0, 0, 0, 0), (0, 0, 1));
+    let time_alone = Config::default().set_formatted_components(Parts::Time);
     let mut state = DateState::default();
     let mut output = Vec::with_capacity(rt.alloc(), 16)?;
     let date = format_date(&time_alone, &mut output, &value, &mut state);

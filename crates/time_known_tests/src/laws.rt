@@ -10,7 +10,7 @@ use time_known::laws::{
 };
 
 #[test]
-fn laws_of_rfc_3339_and_rfc_2822(_rt: HostRuntime) {
+fn each_law_of_rfc_3339_and_rfc_2822_is_called(_rt: HostRuntime) {
     rfc3339_one_value();
     rfc3339_canonical();
     rfc3339_equal_texts();
@@ -21,7 +21,7 @@ fn laws_of_rfc_3339_and_rfc_2822(_rt: HostRuntime) {
 }
 
 #[test]
-fn laws_of_iso_8601(_rt: HostRuntime) {
+fn each_law_of_iso_8601_and_of_stamps_is_called(_rt: HostRuntime) {
     let config = Config::default();
     config_changes();
     config_equality(config, config);

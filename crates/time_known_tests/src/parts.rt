@@ -2,14 +2,13 @@
 use crate::texts::{assert_refused, assert_text};
 use crate::values::{moment, time_at};
 use std::default::Default;
-use time_below::Month;
 use time_fmt::parts::*;
 use time_known::{Iso8601, Rfc2822, Rfc3339};
 
 #[test]
-fn well_known_formats_as_parts(rt: HostRuntime) {
+fn a_well_known_format_is_a_part(rt: HostRuntime) {
     let alloc = rt.alloc();
-    let date = (1997, Month::November, 12);
+    let date = (1997, 11, 12);
     let value = moment(&rt, date, (9, 55, 6, 123_456_789), (-6, -30, 0));
     let text = "[1997-11-12T09:55:06.123456789-06:30] 12";
     let parts = text!(b"[", Rfc3339, b"] ", DAY);
@@ -22,8 +21,8 @@ fn well_known_formats_as_parts(rt: HostRuntime) {
 }
 
 #[test]
-fn a_format_that_is_refused_as_a_part(rt: HostRuntime) {
-    let time = time_at(&rt, 9, 55, 6, 0);
+fn a_part_may_be_refused(rt: HostRuntime) {
+    let time = time_at(&rt, (9, 55, 6, 0));
     let parts = text!(Rfc3339, b" ", DAY);
     assert_refused(&rt, rt.alloc(), &parts, &time, "insufficient");
 }

@@ -7,36 +7,36 @@ use crate::values::moment;
 use std::alloc::Global;
 use std::process::Abort;
 use std::test::Fail;
-use time_below::{Month, UtcDateTime};
+use time_below::UtcDateTime;
 use time_fmt::Format;
 use time_known::laws::stamp_order;
 use time_known::stamp_into;
 
 /// A year, a month and a day, and an hour, a minute, a second and a nanosecond.
-type Parts = ((i32, Month, u8), (u8, u8, u8, u32));
+type Parts = ((i32, u8, u8), (u8, u8, u8, u32));
 
 /// Twenty moments, from the first to the last.
 const MOMENTS: &[Parts] = &[
-    ((0, Month::January, 1), (0, 0, 0, 0)),
-    ((0, Month::January, 1), (0, 0, 0, 1)),
-    ((0, Month::December, 31), (23, 59, 59, 999_999_999)),
-    ((1, Month::January, 1), (0, 0, 0, 0)),
-    ((99, Month::December, 31), (23, 59, 59, 0)),
-    ((999, Month::December, 31), (23, 59, 59, 999_999_999)),
-    ((1000, Month::January, 1), (0, 0, 0, 0)),
-    ((1900, Month::February, 28), (23, 59, 59, 0)),
-    ((1900, Month::March, 1), (0, 0, 0, 0)),
-    ((1969, Month::December, 31), (23, 59, 59, 999_999_999)),
-    ((1970, Month::January, 1), (0, 0, 0, 0)),
-    ((1970, Month::January, 1), (0, 0, 0, 1)),
-    ((1997, Month::November, 12), (9, 55, 6, 0)),
-    ((1997, Month::November, 12), (15, 55, 6, 0)),
-    ((1997, Month::November, 12), (15, 55, 6, 100_000_000)),
-    ((1997, Month::December, 1), (0, 0, 0, 0)),
-    ((2000, Month::February, 29), (12, 0, 0, 0)),
-    ((2000, Month::March, 1), (0, 0, 0, 0)),
-    ((9999, Month::December, 31), (23, 59, 59, 0)),
-    ((9999, Month::December, 31), (23, 59, 59, 999_999_999)),
+    ((0, 1, 1), (0, 0, 0, 0)),
+    ((0, 1, 1), (0, 0, 0, 1)),
+    ((0, 12, 31), (23, 59, 59, 999_999_999)),
+    ((1, 1, 1), (0, 0, 0, 0)),
+    ((99, 12, 31), (23, 59, 59, 0)),
+    ((999, 12, 31), (23, 59, 59, 999_999_999)),
+    ((1000, 1, 1), (0, 0, 0, 0)),
+    ((1900, 2, 28), (23, 59, 59, 0)),
+    ((1900, 3, 1), (0, 0, 0, 0)),
+    ((1969, 12, 31), (23, 59, 59, 999_999_999)),
+    ((1970, 1, 1), (0, 0, 0, 0)),
+    ((1970, 1, 1), (0, 0, 0, 1)),
+    ((1997, 11, 12), (9, 55, 6, 0)),
+    ((1997, 11, 12), (15, 55, 6, 0)),
+    ((1997, 11, 12), (15, 55, 6, 100_000_000)),
+    ((1997, 12, 1), (0, 0, 0, 0)),
+    ((2000, 2, 29), (12, 0, 0, 0)),
+    ((2000, 3, 1), (0, 0, 0, 0)),
+    ((9999, 12, 31), (23, 59, 59, 0)),
+    ((9999, 12, 31), (23, 59, 59, 999_999_999)),
 ];
 
 fn utc(rt: &impl Abort, (date, time): Parts) -> UtcDateTime {
@@ -70,36 +70,31 @@ fn two_stamps(
 }
 
 #[test]
-fn a_moment_and_the_next_one(rt: HostRuntime) {
-    let midnight = utc(&rt, ((1970, Month::January, 1), (0, 0, 0, 0)));
-    let next = utc(&rt, ((1970, Month::January, 1), (0, 0, 0, 1)));
+fn the_next_moment_has_a_later_stamp(rt: HostRuntime) {
+    let midnight = utc(&rt, ((1970, 1, 1), (0, 0, 0, 0)));
+    let next = utc(&rt, ((1970, 1, 1), (0, 0, 0, 1)));
     let Ok((earlier, later)) = two_stamps(rt.alloc(), &midnight, &next) else {
         panic!(rt; "no stamps");
     };
     assert_that(&rt, earlier < later);
 }
 
-const TEXTS: &[(Parts, &str)] = &[
-    (
-        ((1997, Month::November, 12), (15, 55, 6, 0)),
-        "1997-11-12T15:55:06.000000000Z",
-    ),
-    (
-        ((1969, Month::December, 31), (23, 59, 59, 999_999_999)),
-        "1969-12-31T23:59:59.999999999Z",
-    ),
-    (
-        ((1970, Month::January, 1), (0, 0, 0, 0)),
-        "1970-01-01T00:00:00.000000000Z",
-    ),
-    (
-        ((0, Month::January, 1), (0, 0, 0, 0)),
-        "0000-01-01T00:00:00.000000000Z",
-    ),
-];
+/// Rows of a moment and its stamp.
+macro_rules! stamps {
+    ($($date:tt $time:tt $text:literal,)+) => {
+        &[$((($date, $time), $text)),+]
+    };
+}
+
+const TEXTS: &[(Parts, &str)] = stamps! {
+    (1997, 11, 12) (15, 55, 6, 0) "1997-11-12T15:55:06.000000000Z",
+    (1969, 12, 31) (23, 59, 59, 999_999_999) "1969-12-31T23:59:59.999999999Z",
+    (1970, 1, 1) (0, 0, 0, 0) "1970-01-01T00:00:00.000000000Z",
+    (0, 1, 1) (0, 0, 0, 0) "0000-01-01T00:00:00.000000000Z",
+};
 
 #[test]
-fn texts_of_stamps(rt: HostRuntime) {
+fn a_stamp_has_nine_decimals(rt: HostRuntime) {
     for &(parts, text) in TEXTS {
         assert_same(
             &rt,
@@ -109,15 +104,15 @@ fn texts_of_stamps(rt: HostRuntime) {
     }
 }
 
-const FAR_DATES: &[(i32, Month, u8)] = &[
-    (10_000, Month::January, 1),
-    (-1, Month::December, 31),
-    (999_999, Month::January, 1),
-    (65_536, Month::January, 1),
+const FAR_DATES: &[(i32, u8, u8)] = &[
+    (10_000, 1, 1),
+    (-1, 12, 31),
+    (999_999, 1, 1),
+    (65_536, 1, 1),
 ];
 
 #[test]
-fn a_year_of_more_digits_is_refused(rt: HostRuntime) -> Result<(), Fail> {
+fn refuses_a_year_past_9999_or_below_0(rt: HostRuntime) -> Result<(), Fail> {
     let mut output = Vec::with_capacity(rt.alloc(), 36)?;
     output.push(b'x')?;
     for &date in FAR_DATES {
@@ -125,7 +120,7 @@ fn a_year_of_more_digits_is_refused(rt: HostRuntime) -> Result<(), Fail> {
         assert_same(&rt, refusal_name(&answer), "year");
         assert_same(&rt, output.as_slice(), b"x".as_slice());
     }
-    let good = utc(&rt, ((1970, Month::January, 1), (0, 0, 0, 0)));
+    let good = utc(&rt, ((1970, 1, 1), (0, 0, 0, 0)));
     assert_that(&rt, matches!(stamp_into(&mut output, &good), Ok(30)));
     assert_same(
         &rt,
@@ -137,8 +132,8 @@ fn a_year_of_more_digits_is_refused(rt: HostRuntime) -> Result<(), Fail> {
 
 /// Room for 35 bytes is kept, and where it is missing the output grows once.
 #[test]
-fn room_of_stamps(rt: HostRuntime) -> Result<(), Fail> {
-    let good = utc(&rt, ((1970, Month::January, 1), (0, 0, 0, 0)));
+fn a_stamp_keeps_room_for_35_bytes(rt: HostRuntime) -> Result<(), Fail> {
+    let good = utc(&rt, ((1970, 1, 1), (0, 0, 0, 0)));
     let mut output = Vec::with_capacity(rt.alloc(), 35)?;
     let capacity = output.capacity();
     assert_that(&rt, matches!(stamp_into(&mut output, &good), Ok(30)));

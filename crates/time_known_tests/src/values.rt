@@ -1,29 +1,42 @@
-//! Values that the rows of well-known formats take.
+//! Values that the rows of well-known formats take, by numbers as rows have them.
+use std::convert::TryFrom;
 use std::process::Abort;
 use time_below::{Date, Month, OffsetDateTime, Time, Timestamp, UtcOffset};
+use time_digits::ru8;
+use time_known::iso8601::TimePrecision;
 
-pub(crate) fn date_at(rt: &impl Abort, year: i32, month: Month, day: u8) -> Date {
+/// The date of a year, a month by its number, and a day.
+pub(crate) fn date_at(rt: &impl Abort, (year, number, day): (i32, u8, u8)) -> Date {
+    let Ok(month) = Month::try_from(number) else {
+        panic!(rt; "no month {number}");
+    };
     let Ok(date) = Date::from_calendar_date(year, month, day) else {
-        panic!(rt; "no day {day} of that month in {year}");
+        panic!(rt; "no day {day} of month {number} in {year}");
     };
     date
 }
 
-pub(crate) fn time_at(rt: &impl Abort, hour: u8, minute: u8, second: u8, nanosecond: u32) -> Time {
+/// The time of an hour, a minute, a second and a nanosecond.
+pub(crate) fn time_at(
+    rt: &impl Abort,
+    (hour, minute, second, nanosecond): (u8, u8, u8, u32),
+) -> Time {
     let Ok(time) = Time::from_hms_nano(hour, minute, second, nanosecond) else {
         panic!(rt; "no time {hour}:{minute}:{second}");
     };
     time
 }
 
-pub(crate) fn offset_at(rt: &impl Abort, hours: i8, minutes: i8, seconds: i8) -> UtcOffset {
+/// The offset of hours, minutes and seconds.
+pub(crate) fn offset_at(rt: &impl Abort, (hours, minutes, seconds): (i8, i8, i8)) -> UtcOffset {
     let Ok(offset) = UtcOffset::from_hms(hours, minutes, seconds) else {
         panic!(rt; "no offset of {hours} hours");
     };
     offset
 }
 
-pub(crate) fn timestamp_at(rt: &impl Abort, seconds: i64, nanosecond: u32) -> Timestamp {
+/// The moment of seconds since 1970 and a nanosecond.
+pub(crate) fn timestamp_at(rt: &impl Abort, (seconds, nanosecond): (i64, u32)) -> Timestamp {
     let Ok(timestamp) = Timestamp::new(seconds, nanosecond) else {
         panic!(rt; "no timestamp of {seconds} seconds");
     };
@@ -33,13 +46,32 @@ pub(crate) fn timestamp_at(rt: &impl Abort, seconds: i64, nanosecond: u32) -> Ti
 /// The local date and time, and the offset.
 pub(crate) fn moment(
     rt: &impl Abort,
-    (year, month, day): (i32, Month, u8),
-    (hour, minute, second, nanosecond): (u8, u8, u8, u32),
-    (hours, minutes, seconds): (i8, i8, i8),
+    date: (i32, u8, u8),
+    time: (u8, u8, u8, u32),
+    offset: (i8, i8, i8),
 ) -> OffsetDateTime {
-    OffsetDateTime::new_in_offset(
-        date_at(rt, year, month, day),
-        time_at(rt, hour, minute, second, nanosecond),
-        offset_at(rt, hours, minutes, seconds),
-    )
+    OffsetDateTime::new_in_offset(date_at(rt, date), time_at(rt, time), offset_at(rt, offset))
+}
+
+/// 1997-11-12 9:55:06 -6:00, with this nanosecond: a Wednesday.
+pub(crate) fn wednesday(rt: &impl Abort, nanosecond: u32) -> OffsetDateTime {
+    moment(rt, (1997, 11, 12), (9, 55, 6, nanosecond), (-6, 0, 0))
+}
+
+/// The smallest whole unit of a time.
+#[derive(Clone, Copy)]
+pub(crate) enum Unit {
+    Hour,
+    Minute,
+    Second,
+}
+
+/// This unit and its decimals.
+pub(crate) fn precision(unit: Unit, decimals: u8) -> TimePrecision {
+    let decimal_digits = ru8::new(decimals);
+    match unit {
+        Unit::Hour => TimePrecision::Hour { decimal_digits },
+        Unit::Minute => TimePrecision::Minute { decimal_digits },
+        Unit::Second => TimePrecision::Second { decimal_digits },
+    }
 }

@@ -9,18 +9,13 @@ use crate::values::moment;
 use std::default::Default;
 use std::process::Abort;
 use std::test::Fail;
-use time_below::{Month, OffsetDateTime, UtcDateTime, UtcOffset};
+use time_below::{OffsetDateTime, UtcDateTime, UtcOffset};
 use time_fmt::{DateState, Format};
 use time_known::Rfc3339;
 
 /// 2026-11-22 9:55:06.12 UTC, a Sunday.
 fn sunday(rt: &impl Abort) -> OffsetDateTime {
-    moment(
-        rt,
-        (2026, Month::November, 22),
-        (9, 55, 6, 120_000_000),
-        (0, 0, 0),
-    )
+    moment(rt, (2026, 11, 22), (9, 55, 6, 120_000_000), (0, 0, 0))
 }
 
 /// Compares the text and its count.
