@@ -2,8 +2,8 @@
 """Compares what crosses the border in its three interfaces: the Rattle crate, the C header, the Rust crate.
 
 Numbers of reasons, of kinds and of choices; the texts of reasons; fields of structs, in order, with their types;
-functions, with their parameters in order and the types of these and of the answer; the version. Prints each
-difference, and ends with status 1 if there is one. `names.py --drifts` instead makes one change in each place where
+functions, with their parameters in order and the types of these and of the answer; the version; and whether
+`bindings/counts` counts each function. Prints each difference, and ends with status 1 if there is one. `names.py --drifts` instead makes one change in each place where
 one may drift, and ends with status 1 if a change is not told. `names.py --functions` prints the names of the header's
 functions."""
 
@@ -16,6 +16,7 @@ CRATE = HERE.parent / "crates/movaliren_c"
 HEADER = HERE / "c/movaliren.h"
 RUST = HERE / "rust/src"
 CARGO = HERE / "rust/Cargo.toml"
+COUNTED = HERE / "c/clock.cpp"
 
 TYPES = {
     "int8_t": "i8", "uint8_t": "u8", "int32_t": "i32", "uint32_t": "u32", "int64_t": "i64",
@@ -39,7 +40,7 @@ CHOICES = [
 
 def read():
     """The texts of the three interfaces, by their paths."""
-    paths = [*CRATE.glob("src/**/*.rt"), *CRATE.glob("specs/*.antt"), HEADER, CARGO, *RUST.glob("*.rs")]
+    paths = [*CRATE.glob("src/**/*.rt"), *CRATE.glob("specs/*.antt"), HEADER, CARGO, COUNTED, *RUST.glob("*.rs")]
     return {path: path.read_text() for path in sorted(paths)}
 
 
@@ -67,6 +68,7 @@ class Tellings:
         self.c = joined(texts, ".h", r"/\*.*?\*/")
         self.rust = joined(texts, ".rs", r"//[^\n]*")
         self.cargo = joined(texts, ".toml", r"#[^\n]*")
+        self.counted = joined(texts, ".cpp", r"//[^\n]*")
         self.differences = []
 
     def same(self, what, *interfaces):
@@ -204,6 +206,10 @@ class Tellings:
             self.same(name, *(interface.get(name) for interface in interfaces))
         return len(interfaces[0])
 
+    def counts(self):
+        calls = set(re.findall(r"movaliren_\w+(?=\()", self.counted))
+        self.same("what bindings/counts counts", [], sorted(set(self.c_functions()) - calls))
+
     def compared(self):
         self.reasons()
         self.texts()
@@ -212,6 +218,7 @@ class Tellings:
         self.choices()
         self.structs()
         self.functions()
+        self.counts()
         return self.differences
 
 
@@ -236,6 +243,7 @@ DRIFTS = [
     (HEADER, "const void *texts", "void *texts"),
     (HEADER, "the hour is outside 0 to 23", "the hour is outside 1 to 24"),
     (HEADER, '#define MOVALIREN_VERSION "0.', '#define MOVALIREN_VERSION "1.'),
+    (COUNTED, "movaliren_format_date(", "movaliren_format_utc("),
     (RUST / "error.rs", '"out of memory"', '"memory was refused"'),
     (RUST / "error.rs", "-8 => Error::OffsetHours", "-9 => Error::OffsetHours"),
     (RUST / "description.rs", "Period = 26", "Period = 28"),

@@ -11,6 +11,7 @@
 enum { VALUES = 1000, LINE = 64 };
 
 static movaliren_utc_moment moments[VALUES];
+static movaliren_moment values[VALUES];
 static char room[VALUES * LINE];
 
 static const movaliren_iso_config milliseconds = MOVALIREN_ISO_DECIMALS(3);
@@ -65,12 +66,21 @@ static movaliren_moment value_of(const movaliren_utc_moment &moment)
     return value;
 }
 
+// All values, as a batch of them needs.
+static const movaliren_moment *all_values()
+{
+    for (int i = 0; i < VALUES; i++)
+        values[i] = value_of(moments[i]);
+    return values;
+}
+
 typedef long one(const movaliren_utc_moment &moment);
 typedef movaliren_progress many();
 
 #define NOW moment.seconds, moment.nanosecond
 #define ONE(call) [](const movaliren_utc_moment &moment) -> long { return long(call); }
 #define MANY(call) []() -> movaliren_progress { return call; }
+#define ALL(values) values, VALUES, '\n', room, sizeof room
 
 // The text of the time, and so many decimals behind it.
 static long strftime_decimals(const movaliren_utc_moment &moment, const char *format, const char *decimals, int divisor)
@@ -100,7 +110,9 @@ static const struct {
     { "none", ONE(moment.nanosecond), 0 },
     { "rfc3339", ONE(movaliren_rfc3339_utc(NOW, room, LINE)), 0 },
     { "rfc3339_local", ONE(movaliren_rfc3339_local(NOW, 3600, room, LINE)), 0 },
-    { "rfc3339_batch", 0, MANY(movaliren_rfc3339_utc_batch(moments, VALUES, '\n', room, sizeof room)) },
+    { "rfc3339_batch", 0, MANY(movaliren_rfc3339_utc_batch(ALL(moments))) },
+    { "rfc3339_local batch", 0, MANY(movaliren_rfc3339_local_batch(moments, VALUES, 3600, '\n', room, sizeof room)) },
+    { "rfc3339_gmtime batch", 0, MANY(movaliren_rfc3339_batch(ALL(all_values()))) },
     { "rfc3339_gmtime", [](const movaliren_utc_moment &moment) -> long {
         const movaliren_moment value = value_of(moment);
         return movaliren_rfc3339(&value, room, LINE); }, 0 },
@@ -109,7 +121,9 @@ static const struct {
     { "rfc3339_fmt", ONE(FMT_SIZE(FMT_COMPILE("{:" CLOCK "}.{:09}Z"), fmt::gmtime(moment.seconds), moment.nanosecond)), 0 },
     { "rfc2822", ONE(movaliren_rfc2822_utc(NOW, room, LINE)), 0 },
     { "rfc2822_local", ONE(movaliren_rfc2822_local(NOW, 3600, room, LINE)), 0 },
-    { "rfc2822_batch", 0, MANY(movaliren_rfc2822_utc_batch(moments, VALUES, '\n', room, sizeof room)) },
+    { "rfc2822_batch", 0, MANY(movaliren_rfc2822_utc_batch(ALL(moments))) },
+    { "rfc2822_local batch", 0, MANY(movaliren_rfc2822_local_batch(moments, VALUES, 3600, '\n', room, sizeof room)) },
+    { "rfc2822_gmtime batch", 0, MANY(movaliren_rfc2822_batch(ALL(all_values()))) },
     { "rfc2822_gmtime", [](const movaliren_utc_moment &moment) -> long {
         const movaliren_moment value = value_of(moment);
         return movaliren_rfc2822(&value, room, LINE); }, 0 },
@@ -118,15 +132,17 @@ static const struct {
         return long(strftime(room, LINE, MAIL, &parts)); }, 0 },
     { "rfc2822_fmt", ONE(FMT_SIZE(FMT_COMPILE("{:" MAIL "}"), fmt::gmtime(moment.seconds))), 0 },
     { "iso8601", ONE(movaliren_iso8601_utc(NOW, room, LINE)), 0 },
-    { "iso8601_batch", 0, MANY(movaliren_iso8601_utc_batch(moments, VALUES, '\n', room, sizeof room)) },
+    { "iso8601_batch", 0, MANY(movaliren_iso8601_utc_batch(ALL(moments))) },
+    { "iso8601_gmtime batch", 0, MANY(movaliren_iso8601_batch(ALL(all_values()))) },
     { "iso8601_gmtime", [](const movaliren_utc_moment &moment) -> long {
         const movaliren_moment value = value_of(moment);
         return movaliren_iso8601(&value, room, LINE); }, 0 },
     { "stamp", ONE(movaliren_stamp(NOW, room, LINE)), 0 },
-    { "stamp_batch", 0, MANY(movaliren_stamp_batch(moments, VALUES, '\n', room, sizeof room)) },
+    { "stamp_batch", 0, MANY(movaliren_stamp_batch(ALL(moments))) },
     { "milliseconds", ONE(movaliren_iso8601_by_utc(&milliseconds, NOW, room, LINE)), 0 },
     { "milliseconds_batch", 0,
-        MANY(movaliren_iso8601_by_utc_batch(&milliseconds, moments, VALUES, '\n', room, sizeof room)) },
+        MANY(movaliren_iso8601_by_utc_batch(&milliseconds, ALL(moments))) },
+    { "milliseconds_gmtime batch", 0, MANY(movaliren_iso8601_by_batch(&milliseconds, ALL(all_values()))) },
     { "milliseconds_gmtime", [](const movaliren_utc_moment &moment) -> long {
         const movaliren_moment value = value_of(moment);
         return movaliren_iso8601_by(&milliseconds, &value, room, LINE); }, 0 },
@@ -143,6 +159,16 @@ static const struct {
         return long(strftime(room, LINE, SPACED, &parts)); }, 0 },
     { "description_snprintf", ONE(snprintf_parts(moment, "%d-%02d-%02d %02d:%02d:%02d", 1)), 0 },
     { "description_fmt", ONE(FMT_SIZE(FMT_COMPILE("{:" SPACED "}"), fmt::gmtime(moment.seconds))), 0 },
+    { "date_gmtime", [](const movaliren_utc_moment &moment) -> long {
+        const tm p = parts_of(moment);
+        return movaliren_format_date(
+            items, 5, texts, 5, p.tm_year + 1900, uint8_t(p.tm_mon + 1), uint8_t(p.tm_mday), room, LINE); }, 0 },
+    { "date_strftime", [](const movaliren_utc_moment &moment) -> long {
+        const tm parts = parts_of(moment);
+        return long(strftime(room, LINE, "%Y-%m-%d", &parts)); }, 0 },
+    { "date_snprintf", ONE(snprintf_parts(moment, "%d-%02d-%02d", 1)), 0 },
+    { "date_fmt", ONE(FMT_SIZE(FMT_COMPILE("{:%Y-%m-%d}"), fmt::gmtime(moment.seconds))), 0 },
+    { "width", ONE(movaliren_width(items, 11, texts, 5)), 0 },
 };
 
 int main(int argc, char **argv)
