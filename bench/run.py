@@ -1,16 +1,19 @@
 #!/usr/bin/env python3
-"""Counts and times what texts and lines cost, and prints three tables.
+"""Counts and times what texts and lines cost, and prints tables; each names the commit and the load.
 
-    python3 bench/run.py [FOLDER]
+    bench/run.py [FOLDER]
 
-Works on a copy of the repository, in FOLDER or a temporary one, to which `bench/texts.rt.in` and the two
-files beside it are added as a program, and once more with `LENT`. All are proved before they are built, and
-so are the crates below them, in a new folder from nothing. Instructions are counted by callgrind, where it is
-installed, as the difference of 1,000 and 3,000 turns; of what grows, of 10 and 30. Times are the least of 15
-rounds in turns.
+Works on a copy of the repository, in FOLDER or a temporary one, to which the files `*.rt.in` beside this one are
+added as a program, and once more with `LENT`. Both are proved before they are built, over libraries that earlier
+checks left in `crates/*/out`, and over new ones where there are none. Beside them stand `strftime` and {fmt} by
+`beside.cpp`, where g++ and Debian's libfmt-dev are installed, whose texts are compared with ours, and the counts of
+the Rust crate in `time-0.3.55.tsv`. Instructions are counted by callgrind, where it is installed, as the difference
+of two runs. Times are the least of some rounds, in each of which every way has a turn.
 """
 
+import concurrent.futures
 import os
+import pathlib
 import random
 import re
 import shutil
@@ -18,59 +21,87 @@ import subprocess
 import sys
 import tempfile
 import time
+from typing import NamedTuple
 
+HERE = pathlib.Path(__file__).resolve().parent
+TOP = HERE.parent
+COUNTED = 640, 1_920
+TIMED = 100_000, 500_000
+GROWN = 10, 30
+ROUNDS = 9
+
+
+class Text(NamedTuple):
+    """A text by its name, and by the kind and the row that the program knows it by."""
+
+    name: str
+    kind: str
+    row: int
+
+
+def texts(kind, names, first=0):
+    return [Text(name, kind, first + row) for row, name in enumerate(names)]
+
+
+LISTS = [
+    "a borrowed list of 11 items",
+    "an owned list of 11",
+    "a version 3 compound of 11",
+    "borrowed, the date nested",
+    "owned, the date nested",
+    "a list of 8, two of them deprecated",
+    "a log line, a borrowed list of 15",
+    "like RFC 3339, a borrowed list of 16",
+    "`Sat, 19 Aug 6169 21:36:48 +0000`",
+    "`6169-08-19 21:36:48.321 +00:00`",
+    "`Aug 19, 6169 09:36 PM`",
+    "`6169-W33-6`",
+    "`132527655408.321`",
+]
 TEXTS = [
-    ("c", "a copy of 35 bytes"),
-    ("t", "11 parts"),
-    ("b", "a borrowed list of 11 items"),
-    ("o", "an owned list of 11 items"),
-    ("v", "a version 3 compound of 11 items"),
-    ("n", "borrowed, the date nested"),
-    ("p", "owned, the date nested"),
-    ("d", "a borrowed list of 8, two of them deprecated"),
-    ("l", "a log line of 15 parts"),
-    ("k", "a log line, a borrowed list of 15 items"),
-    ("f", "like RFC 3339, 16 parts, used in one place"),
-    ("g", "like RFC 3339, 16 parts, used in four places"),
-    ("q", "like RFC 3339, a borrowed list of 16 items"),
-    ("r", "RFC 3339, nine digits, -06:00"),
-    ("u", "RFC 3339, nine digits, UTC"),
-    ("h", "RFC 3339, three digits, -06:00"),
-    ("e", "RFC 3339, six digits, -06:00"),
-    ("s", "RFC 3339, no fraction, -06:00"),
-    ("m", "RFC 2822"),
-    ("i", "ISO 8601 by default"),
-    ("a", "ISO 8601, three decimals"),
-    ("j", "ISO 8601, six decimals"),
-    ("w", "ISO 8601, no decimals"),
-    ("z", "ISO 8601 without separators"),
-    ("y", "ISO 8601 with a comma"),
+    Text("a copy of 35 bytes", "c", 0),
+    *texts("w", ["RFC 3339, nine digits", "RFC 3339, three", "RFC 3339, six", "RFC 3339, none"]),
+    *texts("w", ["RFC 3339, nine digits, UTC", "RFC 2822", "ISO 8601 by default"], 4),
+    *texts("p", ["11 parts", "a log line of 15 parts", "like RFC 3339, 16 parts"]),
+    Text("like RFC 3339, 16 parts in four places", "p", 3),
+    *texts("l", LISTS),
 ]
-# Texts of a type that is used in one place by another text of the first program.
-BEHIND_ALONE = "ajwzy"
-# What grows, by letters of which each stands for a size.
+ISO = texts("i", [
+    "default", "three decimals", "six", "one", "none", "ten", "no separators", "a comma", "date", "time",
+    "date and time", "week date", "week date, time and offset", "day of the year",
+])
+TYPES = texts("t", [
+    "`Date`", "`Time`", "`UtcOffset`", "`PlainDateTime`", "`OffsetDateTime`", "`UtcDateTime`", "`Timestamp`",
+])
+# Each constant with its component, in the code's order.
+COMPONENTS = re.findall(
+    r"^pub const (\w+): modifier::(\w+) =", (TOP / "crates/time_fmt/src/parts.rt").read_text(), re.M)
+ALONE = len(COMPONENTS)
+ARMS = [f"        {row} {component} {constant},\n" for row, (constant, component) in enumerate(COMPONENTS)]
+# What grows, by the rows from the first on, of which each stands for a size.
 GROWING = [
-    ("items of a list", {"0": 11, "1": 110, "2": 1_100, "3": 11_000}),
-    ("levels of lists of two", {"4": 10, "5": 100, "6": 1_000}),
-    ("bytes of a literal", {"7": 10, "8": 1_000, "9": 1_000_000}),
-    ("decimals of ISO 8601", {"A": 1, "B": 10, "C": 255}),
+    ("items of a list", 0, [11, 110, 1_100, 11_000]),
+    ("levels of lists of two", 4, [10, 100, 1_000]),
+    ("bytes of a literal", 7, [10, 1_000, 1_000_000]),
+    ("decimals of ISO 8601", 10, [1, 10, 255]),
 ]
-COMMANDS = ["time", "rfc3339", "rfc2822", "iso", "iso-comma", "stamp"]
-ROUNDS = 15
-TURNS = 1_000_000
+LINES = {
+    "`time h m s n`": "time", "`rfc3339 ..`": "rfc3339", "`rfc2822 ..`": "rfc2822", "`iso ..`": "iso",
+    "`iso-comma ..`": "iso-comma", "`stamp ..`": "stamp",
+}
 
 
-def line(command, index, random):
+def line(command, index, source):
     """A line of the command: a third has no decimals, a third milliseconds."""
-    nanosecond = [0, random.randrange(1000) * 1_000_000, random.randrange(10**9)][index % 3]
-    clock = f"{random.randrange(24)} {random.randrange(60)} {random.randrange(60)} {nanosecond}"
+    nanosecond = [0, source.randrange(1000) * 1_000_000, source.randrange(10**9)][index % 3]
+    clock = f"{source.randrange(24)} {source.randrange(60)} {source.randrange(60)} {nanosecond}"
     if command == "time":
         return f"time {clock}"
-    date = f"{random.randrange(1900, 10_000)} {random.randrange(1, 13)} {random.randrange(1, 29)}"
+    date = f"{source.randrange(1900, 10_000)} {source.randrange(1, 13)} {source.randrange(1, 29)}"
     if command == "stamp":
         return f"stamp {date} {clock}"
-    sign = random.choice([1, -1])
-    offset = f"{sign * random.randrange(24)} {sign * random.choice([0, 0, 30, 45])} 0"
+    sign = source.choice([1, -1])
+    offset = f"{sign * source.randrange(24)} {sign * source.choice([0, 0, 30, 45])} 0"
     return f"{command} {date} {clock} {offset}"
 
 
@@ -79,108 +110,226 @@ def lines(command, count):
     return "".join(line(command, index, source) + "\n" for index in range(count)).encode()
 
 
+def copied(folder):
+    """A copy of the repository, with the libraries that earlier checks left."""
+    shutil.copytree(TOP, folder, dirs_exist_ok=True, ignore=shutil.ignore_patterns(".git", "out", "target"))
+    for library in TOP.glob("crates/*/out/rlib"):
+        kept = folder / library.relative_to(TOP)
+        if not kept.exists():
+            shutil.copytree(library, kept)
+
+
 def built(folder):
     """Proves and builds the three programs in a copy of the repository."""
-    top = os.path.dirname(os.path.dirname(os.path.abspath(__file__)))
-    shutil.copytree(top, folder, dirs_exist_ok=True, ignore=shutil.ignore_patterns(".git", "out"))
-    known, lent = "const LENT: bool = false;", "const LENT: bool = true;"
-    for name, constant in [("time_bench", known), ("time_bench_lent", lent)]:
-        sources = os.path.join(folder, "crates", name, "src")
-        os.makedirs(sources, exist_ok=True)
-        for part, file in [("texts", "main"), ("data", "data"), ("parted", "parted")]:
-            with open(os.path.join(folder, "bench", f"{part}.rt.in"), encoding="utf-8") as source:
-                text = source.read().replace(known, constant)
-            with open(os.path.join(sources, f"{file}.rt"), "w", encoding="utf-8") as target:
-                target.write(text)
-        with open(os.path.join(folder, "crates.txt"), "a", encoding="utf-8") as crates:
+    copied(folder)
+    for name, is_lent in [("time_bench", "false"), ("time_bench_lent", "true")]:
+        sources = folder / "crates" / name / "src"
+        sources.mkdir(parents=True, exist_ok=True)
+        for part in HERE.glob("*.rt.in"):
+            code = part.read_text().replace("const LENT: bool = false;", f"const LENT: bool = {is_lent};")
+            code = code.replace("        // COMPONENTS\n", "".join(ARMS))
+            file = part.name.removesuffix(".in").replace("texts", "main")
+            (sources / file).write_text(code)
+        with open(folder / "crates.txt", "a", encoding="utf-8") as crates:
             crates.write(f"{name}: time_below time_digits time_provide time_fmt time_known\n")
     programs = []
     for name in ["time_bench", "time_bench_lent", "time_show"]:
-        place = os.path.join(folder, "crates", name)
+        place = folder / "crates" / name
         print(f"proving and building {name}", file=sys.stderr)
-        subprocess.run(["rt", "run"], cwd=place, input=b"", check=True, capture_output=True)
-        programs.append(os.path.join(place, "out", name))
+        subprocess.run(["rt", "run"], cwd=place, input=b"", check=True, stdout=subprocess.DEVNULL)
+        programs.append(place / "out" / name)
     return programs
 
 
-def instructions(program, data):
-    command = ["valgrind", "--tool=callgrind", "--callgrind-out-file=/dev/null", program]
-    run = subprocess.run(command, input=data, capture_output=True, check=True)
-    return int(re.search(rb"Collected : (\d+)", run.stderr).group(1))
+class Way(NamedTuple):
+    """A way to a text: a command, and what it reads, of so many turns."""
+
+    command: object
+    data: object
 
 
-def counted(program, few, many, more=2000):
-    """The instructions of a turn, of which `many` has so many more than `few`."""
-    if shutil.which("valgrind") is None:
-        return "-"
-    return f"{(instructions(program, many) - instructions(program, few)) / more:,.0f}"
+def ours(program, text):
+    head = (text.kind + chr(ord("0") + text.row) + "1").encode()
+    return Way(lambda turns: [program], lambda turns: head + b"." * (turns - len(head)))
 
 
-def least_seconds(commands, file):
-    """The least time of each command over the file, in turns, with its output into another file."""
-    best = [float("inf")] * len(commands)
+def theirs(program, way, name):
+    return Way(lambda turns: [program, way, name, str(turns)], lambda turns: b"")
+
+
+def answer(way, turns, *before):
+    run = subprocess.run([*before, *way.command(turns)], input=way.data(turns), capture_output=True, check=True)
+    return run.stdout, run.stderr
+
+
+def instructions(way, turns):
+    told = answer(way, turns, "valgrind", "--tool=callgrind", "--callgrind-out-file=/dev/null")[1]
+    return int(re.search(rb"Collected : (\d+)", told)[1])
+
+
+def counted(way, sizes=COUNTED):
+    """The instructions of a turn, of which the second size has more than the first."""
+    if way is None or shutil.which("valgrind") is None:
+        return None
+    few, many = sizes
+    return (instructions(way, many) - instructions(way, few)) / (many - few)
+
+
+def timed(ways, sizes=TIMED):
+    """The nanoseconds of a turn by each way, the least of all rounds, in turns."""
+    best = {}
     for _ in range(ROUNDS):
-        for index, command in enumerate(commands):
-            with open(file, "rb") as source, open(file + ".out", "wb") as target:
+        for index, way in enumerate(ways):
+            for size in sizes if way else ():
+                data, command = way.data(size), way.command(size)
                 start = time.perf_counter()
-                subprocess.run(command, stdin=source, stdout=target, check=True)
-                best[index] = min(best[index], time.perf_counter() - start)
-    return best
+                subprocess.run(command, input=data, stdout=subprocess.DEVNULL, check=True)
+                passed = time.perf_counter() - start
+                best[index, size] = min(passed, best.get((index, size), passed))
+    few, many = sizes
+    return [(best[index, many] - best[index, few]) / (many - few) * 1e9 if way else None for index, way in enumerate(ways)]
 
 
-def texts(programs, folder):
-    """Each text by a description where it is used, and by one that is lent to a function of its own."""
-    print("| Text | Known | Behind | Nanoseconds known | Behind |\n|---|---|---|---|---|")
-    for letter, name in TEXTS:
-        counts, times = [], []
-        for program in programs:
-            if program == programs[0] and letter in BEHIND_ALONE:
-                counts.append("")
-                times.append("")
-                continue
-            counts.append(counted(program, letter.encode() * 1000, letter.encode() * 3000))
-            times.append(nanoseconds(program, letter.encode(), folder))
-        print(f"| {name} | {' | '.join(counts + times)} |", flush=True)
+def shown(number):
+    return "" if number is None else f"{number:.0f}"
 
 
-def nanoseconds(program, letter, folder):
-    """The time of a turn, as the difference of one and two million."""
-    file = os.path.join(folder, "turns")
-    with open(file, "wb") as target:
-        target.write(letter * (2 * TURNS))
-    with open(file + ".half", "wb") as target:
-        target.write(letter * TURNS)
-    long, short = least_seconds([[program]], file)[0], least_seconds([[program]], file + ".half")[0]
-    return f"{(long - short) / TURNS * 1e9:.0f}"
+def counts_of(ways):
+    """The counts of all ways, as many at once as there are processors for us."""
+    with concurrent.futures.ThreadPoolExecutor(int(os.environ.get("RT_JOBS", os.cpu_count()))) as pool:
+        return list(pool.map(counted, ways))
 
 
-def growth(program):
-    """What a description costs that is lent and made larger."""
-    print("\n| What grows | Instructions |\n|---|---|")
-    for name, sizes in GROWING:
-        counts = [f"{size:,}: {counted(program, letter.encode() * 10, letter.encode() * 30, 20)}"
-                  for letter, size in sizes.items()]
-        print(f"| {name} | {'; '.join(counts)} |", flush=True)
+class Bench:
+    def __init__(self, folder):
+        self.folder = folder
+        self.known, self.lent, self.show = built(folder)
+        self.beside = self.built_beside()
+        rows = [row.split("\t") for row in (HERE / "time-0.3.55.tsv").read_text().splitlines()]
+        self.crate = {name: float(count) for name, count in rows}
 
+    def built_beside(self):
+        """The program of strftime and {fmt}, and its ways."""
+        program = self.folder / "beside"
+        words = ["g++", "-std=c++17", "-O2", HERE / "beside.cpp", "-o", program]
+        for ways, more in [(["strftime", "fmt"], ["-DWITH_FMT", "-lfmt"]), (["strftime"], [])]:
+            if shutil.which("g++") and subprocess.run([*words, *more], capture_output=True).returncode == 0:
+                self.ways = ways
+                break
+            print(f"bench: SKIPPED: {ways[-1]}, which g++ cannot build here", file=sys.stderr)
+        else:
+            self.ways = []
+        return program
 
-def answers(program, folder):
-    print("\n| Line | Instructions | Seconds for 1,000,000 | Times `cat` |\n|---|---|---|---|")
-    for command in COMMANDS:
-        count = counted(program, lines(command, 1000), lines(command, 3000))
-        file = os.path.join(folder, "lines")
-        with open(file, "wb") as target:
-            target.write(lines(command, 1_000_000))
-        shown, cat = least_seconds([[program], ["cat"]], file)
-        print(f"| `{command}` | {count} | {shown:.3f} | {shown / cat:.1f} |", flush=True)
+    def others(self, name, text):
+        """The ways of other libraries to the text, each checked to write the same last text."""
+        found = []
+        for way in ["strftime", "fmt"]:
+            other = theirs(self.beside, way, name) if way in self.ways else None
+            told = answer(other, 64)[0] if other else b""
+            if told and told != answer(ours(self.lent, text), 64)[0]:
+                raise SystemExit(f"{name}: {way} writes {told}")
+            found.append(other if told else None)
+        return found
+
+    def table(self, head, rows):
+        before = os.getloadavg()[0]
+        print(f"|{'|'.join(head)}|\n|{'---|' * len(head)}")
+        for row in rows:
+            print(f"|{'|'.join(row)}|", flush=True)
+        print(f"\n{self.commit()}, load {before:.1f} to {os.getloadavg()[0]:.1f}.\n", flush=True)
+
+    @staticmethod
+    def commit():
+        git = ["git", "-C", str(TOP)]
+        head = subprocess.run([*git, "rev-parse", "--short", "HEAD"], capture_output=True, text=True).stdout.strip()
+        is_changed = subprocess.run([*git, "status", "--porcelain", "crates"], capture_output=True, text=True).stdout
+        return f"Commit {head or 'unknown'}" + (" with changes" if is_changed else "")
+
+    def row(self, text, is_known):
+        ways = [ours(self.known, text)] if is_known else []
+        ways += [ours(self.lent, text), *self.others(text.name, text)]
+        counts, times = counts_of(ways), timed(ways)
+        crate = self.crate.get(text.name)
+        if is_known:
+            return [text.name, *map(shown, [*counts[:2], crate, *counts[2:], *times])]
+        return [text.name, *map(shown, [counts[0], crate, *counts[1:], *times])]
+
+    def all_texts(self):
+        head = ["Text", "Known", "Behind", "0.3.55", "`strftime`", "{fmt}", "ns known", "behind", "`strftime`", "{fmt}"]
+        self.table(head, (self.row(text, True) for text in TEXTS))
+
+    def behind(self, head, rows):
+        """Texts that are lent alone."""
+        self.table([head, "Behind", "0.3.55", "`strftime`", "{fmt}", "ns", "`strftime`", "{fmt}"],
+                   (self.row(text, False) for text in rows))
+
+    def component(self, name, row, alone):
+        """What the component costs over the two texts alone."""
+        borrowed, third = Text(name, "b", row), Text(name, "v", row)
+        others = self.others(name, borrowed)
+        ways = [ours(self.lent, borrowed), ours(self.lent, third), *others]
+        counts, times = counts_of(ways), timed(ways)
+        over = [None if one is None else one - two for one, two in zip([*counts, *times], alone)]
+        return [*over[:2], self.crate.get(name), *over[2:]]
+
+    def components(self):
+        alone = self.component("the texts alone", ALONE, [0] * 8)
+        head = ["Component", "Borrowed", "Version 3", "0.3.55", "`strftime`", "{fmt}", "ns borrowed", "version 3",
+                "`strftime`", "{fmt}"]
+
+        def all_rows():
+            yield ["the texts alone", *map(shown, alone)]
+            for row, (constant, _) in enumerate(COMPONENTS):
+                name = f"`{constant}`"
+                yield [name, *map(shown, self.component(name, row, [*alone[:2], *alone[3:]]))]
+
+        self.table(head, all_rows())
+
+    def growth(self):
+        """What a description costs that is lent and made larger."""
+        rows = []
+        for name, first, sizes in GROWING:
+            counts = [counted(ours(self.lent, Text(name, "g", first + step)), GROWN) for step in range(len(sizes))]
+            pairs = [f"{size:,}: {shown(count) and f'{count:,.0f}'}" for size, count in zip(sizes, counts)]
+            rows.append([name, "; ".join(pairs)])
+        self.table(["What grows", "Instructions"], rows)
+
+    def answers(self):
+        """What a line of the program costs, and a million of them beside `cat`."""
+        def row(name, command):
+            way = Way(lambda turns: [self.show], lambda turns: lines(command, turns))
+            count = counted(way, (1_000, 3_000))
+            (self.folder / "lines").write_bytes(lines(command, 1_000_000))
+            shown_in, cat_in = self.least_seconds([[self.show], ["cat"]])
+            return [name, shown(count), shown(self.crate.get(name)), f"{shown_in:.3f}", f"{shown_in / cat_in:.1f}"]
+
+        self.table(["Line", "Instructions", "0.3.55", "s for 1,000,000", "Times `cat`"],
+                   (row(name, command) for name, command in LINES.items()))
+
+    def least_seconds(self, commands):
+        best = [float("inf")] * len(commands)
+        for _ in range(ROUNDS):
+            for index, command in enumerate(commands):
+                with open(self.folder / "lines", "rb") as source, open(self.folder / "answers", "wb") as target:
+                    start = time.perf_counter()
+                    subprocess.run(command, stdin=source, stdout=target, check=True)
+                    best[index] = min(best[index], time.perf_counter() - start)
+        return best
+
+    def all(self):
+        self.all_texts()
+        self.behind("ISO 8601", ISO)
+        self.behind("List of a type", TYPES)
+        self.components()
+        self.growth()
+        self.answers()
 
 
 def main():
     with tempfile.TemporaryDirectory() as temporary:
-        folder = sys.argv[1] if len(sys.argv) > 1 else temporary
-        known, lent, show = built(folder)
-        texts([known, lent], folder)
-        growth(lent)
-        answers(show, folder)
+        Bench(pathlib.Path(sys.argv[1] if len(sys.argv) > 1 else temporary)).all()
 
 
-main()
+if __name__ == "__main__":
+    main()

@@ -3,7 +3,7 @@
 
 A row of a component has its name, perhaps a constant, its choices, its width and its example, and a test formats it.
 A choice without a value has the usual one, which a table names. A constant has the usual choices, but for its row's
-own of a choice that has none.
+own of a choice that has none. The heading over a row is that of the component's group.
 """
 
 import pathlib
@@ -16,8 +16,12 @@ ROW = re.compile(r"^\| `(\w+)` \|(?: (`[A-Z_0-9]+`|-) \|)? (`[a-z_]+.*?) \| .* \
 CONSTANT = re.compile(r"^\| `([A-Z_0-9]+)` \| `(\w+)` \| (.*) \|$", re.M)
 DEFINED = re.compile(r"^pub const (\w+): modifier::(\w+) =\s*modifier::\w+ \{(.*?)\};", re.S | re.M)
 TESTED = re.compile(r"Component::(\w+)\(\s*modifier::\w+ \{(.*?)\}\s*\),\s*\"(.*?)\",\s*(\d+),?\s*\)", re.S)
-TABLE = re.compile(r"^const COMPONENTS: .*?^};$", re.S | re.M)
+TABLE = re.compile(r"^(?:pub\(super\) )?const (?:COMPONENTS|DEPRECATED): .*?^};$", re.S | re.M)
 LINE_TESTED = re.compile(r"^    (\w+) \{([^{}]*)\}\s+\"(.*?)\" (\d+),$", re.M)
+ARM = re.compile(r"((?:\s*\|?\s*Component::\w+\(_\))+) => \{?\s*Group::(\w+)")
+HEADINGS = {
+    "Date": "Date", "Time": "Time", "Offset from UTC": "Offset", "Moment": "Timestamp", "No group": "None",
+}
 
 page = (TOP / "docs/COMPONENTS.md").read_text()
 usual = dict(USUAL.findall(page))
@@ -51,6 +55,19 @@ def defined():
     return sorted((name, kind, choices(fields)) for name, kind, fields in DEFINED.findall(code))
 
 
+def headed():
+    """Each component that is not deprecated, with the group of the heading over its rows."""
+    parts = re.findall(r"^## (.*?)\n(.*?)(?=^## |\Z)", page, re.M | re.S)
+    return sorted({(row[0], HEADINGS[head]) for head, rows in parts if head in HEADINGS for row in ROW.findall(rows)})
+
+
+def grouped():
+    code = (TOP / "crates/time_below/src/format_description/component.rt").read_text()
+    current = {name for name, _ in headed()}
+    groups = [(name, group) for names, group in ARM.findall(code) for name in re.findall(r"Component::(\w+)", names)]
+    return sorted((name, group) for name, group in groups if name in current)
+
+
 def compared(what, ours, theirs):
     for row in ours:
         if row not in theirs:
@@ -64,7 +81,10 @@ def compared(what, ours, theirs):
 
 
 def main():
-    same = [compared("rows", documented(), tested()), compared("constants", shown(), defined())]
+    same = [
+        compared("rows", documented(), tested()), compared("constants", shown(), defined()),
+        compared("groups", headed(), grouped()),
+    ]
     return 0 if all(same) else 1
 
 

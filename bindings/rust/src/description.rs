@@ -19,71 +19,75 @@ pub enum Padding {
 /// A component. One with a range refuses a value outside it.
 #[derive(Clone, Copy, Debug, PartialEq, Eq, Hash)]
 pub enum Kind {
-    /// The day of the month.
+    /// The day of the month, 1 to 31, in two places.
     Day = 1,
-    /// The first three letters of the month's name.
+    /// The first three letters of the month's English name.
     MonthShort = 2,
-    /// The month's name.
+    /// The month's English name, at most nine letters.
     MonthLong = 3,
-    /// The number of the month.
+    /// The month, 1 to 12, in two places.
     Month = 4,
-    /// The day of the year.
+    /// The day of the year, 1 to 366, in three places (ISO 8601-1:2019, ordinal date).
     Ordinal = 5,
-    /// The first three letters of the weekday's name.
+    /// The first three letters of the weekday's English name.
     WeekdayShort = 6,
-    /// The weekday's name.
+    /// The weekday's English name, at most nine letters.
     WeekdayLong = 7,
-    /// The days from Sunday.
+    /// The weekday by one digit from Sunday on, 0 to 6 or 1 to 7.
     WeekdayFromSunday = 8,
-    /// The days from Monday.
+    /// The weekday by one digit from Monday on, 0 to 6 or 1 to 7.
     WeekdayFromMonday = 9,
-    /// The week of the week calendar.
+    /// The week of the week calendar, 1 to 53, in two places (ISO 8601-1:2019, week date).
     WeekIso = 10,
-    /// The week of the year, where weeks begin on Sunday.
+    /// The week of the year, 0 to 53, in two places, where week 1 begins on the first Sunday.
     WeekSunday = 11,
-    /// The week of the year, where weeks begin on Monday.
+    /// The week of the year, 0 to 53, in two places, where week 1 begins on the first Monday.
     WeekMonday = 12,
-    /// The year.
+    /// The year, -999,999 to 999,999, in four places, or a sign and all its digits.
     YearExtended = 13,
-    /// The year, -9999 to 9999.
+    /// The year, -9,999 to 9,999, in four places. Every other year is refused.
     Year = 14,
-    /// The century.
+    /// The year without its last two digits, -9,999 to 9,999, in two places, or a sign and all
+    /// its digits.
     CenturyExtended = 15,
-    /// The century, -99 to 99.
+    /// The year without its last two digits, -99 to 99, in two places. Every other one is refused.
     Century = 16,
-    /// The last two digits of the year.
+    /// The last two digits of the year, 0 to 99, in two places, unsigned.
     YearLastTwo = 17,
-    /// The year of the week calendar.
+    /// The year of the week calendar, -999,999 to 999,999, in four places, or a sign and
+    /// all its digits (ISO 8601-1:2019, week date).
     IsoYearExtended = 18,
-    /// The year of the week calendar, -9999 to 9999.
+    /// The year of the week calendar, -9,999 to 9,999, in four places. Every other year is refused.
     IsoYear = 19,
-    /// The century of the week calendar.
+    /// The year of the week calendar without its last two digits, -9,999 to 9,999, in two places,
+    /// or a sign and all its digits.
     IsoCenturyExtended = 20,
-    /// The century of the week calendar, -99 to 99.
+    /// The year of the week calendar without its last two digits, -99 to 99, in two places. Every
+    /// other one is refused.
     IsoCentury = 21,
-    /// The last two digits of the year of the week calendar.
+    /// The last two digits of the year of the week calendar, 0 to 99, in two places, unsigned.
     IsoYearLastTwo = 22,
-    /// The hour of the 12-hour clock.
+    /// The hour of the 12-hour clock, 1 to 12, in two places.
     Hour12 = 23,
-    /// The hour.
+    /// The hour of the day, 0 to 23, in two places.
     Hour = 24,
-    /// The minute.
+    /// The minute of the hour, 0 to 59, in two places.
     Minute = 25,
-    /// `am` or `pm`.
+    /// The half of the day by two letters: before noon, or from noon on.
     Period = 26,
-    /// The second.
+    /// The second of the minute, 0 to 59, in two places.
     Second = 27,
-    /// The decimals of the second: see [`Description::subsecond`].
+    /// The decimals of the second, one to nine digits, not rounded.
     Subsecond = 28,
-    /// The sign and the hours of the offset.
+    /// The hour of the offset from UTC, 0 to 25, in two places, after the sign of the whole offset.
     OffsetHour = 29,
-    /// The minutes of the offset.
+    /// The minute of the offset from UTC, 0 to 59, in two places, without a sign.
     OffsetMinute = 30,
-    /// The seconds of the offset.
+    /// The second of the offset from UTC, 0 to 59, in two places, without a sign.
     OffsetSecond = 31,
-    /// The seconds since 1970-01-01T00:00:00 UTC.
+    /// The seconds since 1970-01-01T00:00:00 UTC, rounded down, at most 14 digits.
     UnixSecond = 32,
-    /// The milliseconds since then.
+    /// The milliseconds since 1970-01-01T00:00:00 UTC, rounded toward zero, at most 17 digits.
     UnixMillisecond = 33,
 }
 

@@ -1,4 +1,6 @@
-//! The rows of `docs/COMPONENTS.md`: each component by the choices of its row, with its example and width.
+//! The rows of `docs/COMPONENTS.md`: each component by the choices of its row, with its example and width. Tests
+//! of other modules go through the same rows. Behind them stands each constant of `time_fmt::parts` as a part.
+use crate::fmt::parts::{Values, assert_part};
 use crate::texts::assert_component;
 use crate::values::{moment, wednesday};
 use std::alloc::Global;
@@ -10,6 +12,7 @@ use time_below::format_description::modifier::{
     WeekdayRepr, YearRange, YearRepr,
 };
 use time_below::format_description::{Component, modifier};
+use time_fmt::parts::*;
 
 /// Rows of a component by its choices, its text and its width.
 macro_rules! components {
@@ -30,8 +33,8 @@ fn assert_components(
     }
 }
 
-/// What the table shows, of 1997-11-12 9:55:06.12 -06:00.
-const COMPONENTS: &[(Component, &str, usize)] = components! {
+/// What the tables show of components that are not deprecated, of 1997-11-12 9:55:06.12 -06:00.
+pub(super) const COMPONENTS: &[(Component, &str, usize)] = components! {
     Day { padding: Zero } "12" 2,
     MonthShort { case_sensitive: true } "Nov" 3,
     MonthLong { case_sensitive: true } "November" 9,
@@ -68,6 +71,10 @@ const COMPONENTS: &[(Component, &str, usize)] = components! {
     UnixTimestampMillisecond { sign_is_mandatory: true } "+879350106120" 18,
     Ignore { count: 3 } "" 0,
     End { trailing_input: TrailingInput::Prohibit } "" 0,
+};
+
+/// What the table shows of those that are.
+pub(super) const DEPRECATED: &[(Component, &str, usize)] = components! {
     Month { padding: Zero, repr: MonthRepr::Numerical, case_sensitive: true } "11" 2,
     Month { padding: Zero, repr: MonthRepr::Long, case_sensitive: true } "November" 9,
     Month { padding: Zero, repr: MonthRepr::Short, case_sensitive: true } "Nov" 3,
@@ -101,9 +108,130 @@ const OTHER_CHOICES: &[(Component, &str, usize)] = components! {
 fn each_component_has_the_text_and_the_width_of_the_table(rt: HostRuntime) {
     let value = moment(&rt, (1997, 11, 12), (9, 55, 6, 120_000_000), (-6, 0, 0));
     assert_components(&rt, rt.alloc(), &value, COMPONENTS);
+    assert_components(&rt, rt.alloc(), &value, DEPRECATED);
 }
 
 #[test]
 fn other_choices_have_the_same_width(rt: HostRuntime) {
     assert_components(&rt, rt.alloc(), &wednesday(&rt), OTHER_CHOICES);
+}
+
+/// Each of these components, by its name and its choices, with its text between the literals.
+macro_rules! between_literals {
+    ($rt:expr; $($part:ident $variant:ident $text:literal,)+) => {{
+        let values = Values::new(&$rt);
+        $(
+            let part = ($part, Component::$variant($part));
+            assert_part(&$rt, $rt.alloc(), &values, part, $text);
+        )+
+    }};
+}
+
+#[test]
+fn calendar_years_are_parts(rt: HostRuntime) {
+    between_literals!(rt;
+        YEAR CalendarYearFullExtendedRange "<1997>",
+        YEAR_STANDARD CalendarYearFullStandardRange "<1997>",
+        YEAR_LAST_TWO CalendarYearLastTwo "<97>",
+    );
+}
+
+#[test]
+fn years_of_the_week_calendar_are_parts(rt: HostRuntime) {
+    between_literals!(rt;
+        ISO_YEAR IsoYearFullExtendedRange "<1997>",
+        ISO_YEAR_STANDARD IsoYearFullStandardRange "<1997>",
+        ISO_YEAR_LAST_TWO IsoYearLastTwo "<97>",
+    );
+}
+
+#[test]
+fn calendar_centuries_are_parts(rt: HostRuntime) {
+    between_literals!(rt;
+        YEAR_CENTURY CalendarYearCenturyExtendedRange "<19>",
+        YEAR_CENTURY_STANDARD CalendarYearCenturyStandardRange "<19>",
+    );
+}
+
+#[test]
+fn centuries_of_the_week_calendar_are_parts(rt: HostRuntime) {
+    between_literals!(rt;
+        ISO_YEAR_CENTURY IsoYearCenturyExtendedRange "<19>",
+        ISO_YEAR_CENTURY_STANDARD IsoYearCenturyStandardRange "<19>",
+    );
+}
+
+#[test]
+fn months_and_days_are_parts(rt: HostRuntime) {
+    between_literals!(rt;
+        MONTH MonthNumerical "<11>",
+        MONTH_LONG MonthLong "<November>",
+        MONTH_SHORT MonthShort "<Nov>",
+        DAY Day "<12>",
+    );
+}
+
+#[test]
+fn weekdays_are_parts(rt: HostRuntime) {
+    between_literals!(rt;
+        WEEKDAY WeekdayLong "<Wednesday>",
+        WEEKDAY_SHORT WeekdayShort "<Wed>",
+        WEEKDAY_SUNDAY WeekdaySunday "<4>",
+        WEEKDAY_MONDAY WeekdayMonday "<3>",
+    );
+}
+
+#[test]
+fn weeks_and_the_day_of_the_year_are_parts(rt: HostRuntime) {
+    between_literals!(rt;
+        WEEK_NUMBER WeekNumberIso "<46>",
+        WEEK_NUMBER_SUNDAY WeekNumberSunday "<45>",
+        WEEK_NUMBER_MONDAY WeekNumberMonday "<45>",
+        ORDINAL Ordinal "<316>",
+    );
+}
+
+#[test]
+fn hours_are_parts(rt: HostRuntime) {
+    between_literals!(rt;
+        HOUR Hour24 "<09>",
+        HOUR_12 Hour12 "<09>",
+        PERIOD Period "<AM>",
+    );
+}
+
+#[test]
+fn minutes_and_seconds_are_parts(rt: HostRuntime) {
+    between_literals!(rt;
+        MINUTE Minute "<55>",
+        SECOND Second "<06>",
+    );
+}
+
+#[test]
+fn decimals_are_parts(rt: HostRuntime) {
+    between_literals!(rt;
+        SUBSECOND Subsecond "<123456789>",
+        THREE_DECIMALS Subsecond "<123>",
+        SIX_DECIMALS Subsecond "<123456>",
+        NINE_DECIMALS Subsecond "<123456789>",
+    );
+}
+
+#[test]
+fn offsets_are_parts(rt: HostRuntime) {
+    between_literals!(rt;
+        OFFSET_HOUR OffsetHour "<-06>",
+        SIGNED_OFFSET_HOUR OffsetHour "<-06>",
+        OFFSET_MINUTE OffsetMinute "<30>",
+        OFFSET_SECOND OffsetSecond "<00>",
+    );
+}
+
+#[test]
+fn timestamps_are_parts(rt: HostRuntime) {
+    between_literals!(rt;
+        UNIX_TIMESTAMP UnixTimestampSecond "<879351906>",
+        UNIX_TIMESTAMP_MILLISECOND UnixTimestampMillisecond "<879351906123>",
+    );
 }

@@ -1,15 +1,12 @@
 //! What each component keeps in the state of a value, and its text by the third version.
+use crate::fmt::components_table::{COMPONENTS, DEPRECATED};
 use crate::texts::{assert_same, assert_that};
 use crate::values::wednesday;
 use std::alloc::Global;
 use std::process::Abort;
 use time_below::OffsetDateTime;
-use time_below::format_description::modifier::{
-    MonthRepr, Padding, SubsecondDigits, TrailingInput, UnixTimestampPrecision, WeekNumberRepr,
-    WeekdayRepr, YearRange, YearRepr,
-};
 use time_below::format_description::{
-    BorrowedFormatItem, Component, FormatDescriptionV3, FormatDescriptionV3Inner, modifier,
+    BorrowedFormatItem, Component, FormatDescriptionV3, FormatDescriptionV3Inner,
 };
 use time_fmt::{ComponentProvider, Formattable};
 use time_provide::DateState;
@@ -25,86 +22,21 @@ enum Kept {
     Week,
 }
 
-/// Rows of what is kept and a component by its choices.
-macro_rules! kept {
-    ($($kept:ident: $name:ident { $($choice:ident: $chosen:expr),* },)+) => {
-        &[$((Kept::$kept, Component::$name(modifier::$name { $($choice: $chosen),* }))),+]
-    };
+/// What a component keeps that is not deprecated. The number of a month is computed with the day, and both
+/// are kept.
+fn what_is_kept(component: Component) -> Kept {
+    match component {
+        Component::Day(_) | Component::MonthNumerical(_) => Kept::Day,
+        Component::MonthShort(_) | Component::MonthLong(_) => Kept::Month,
+        Component::WeekNumberIso(_)
+        | Component::IsoYearFullExtendedRange(_)
+        | Component::IsoYearFullStandardRange(_)
+        | Component::IsoYearCenturyExtendedRange(_)
+        | Component::IsoYearCenturyStandardRange(_)
+        | Component::IsoYearLastTwo(_) => Kept::Week,
+        _ => Kept::Nothing,
+    }
 }
-
-/// Rows of what is kept and a component that has a padding alone.
-macro_rules! kept_padded {
-    ($($kept:ident: $name:ident,)+) => {
-        kept! {$($kept: $name { padding: Padding::Zero },)+}
-    };
-}
-
-/// Rows of what is kept and a component that has a padding and a sign.
-macro_rules! kept_signed {
-    ($($kept:ident: $name:ident,)+) => {
-        kept! {$($kept: $name { padding: Padding::Zero, sign_is_mandatory: true },)+}
-    };
-}
-
-// The number of a month is computed with the day, and both are kept.
-const PADDED: &[(Kept, Component)] = kept_padded! {
-    Day: Day,
-    Day: MonthNumerical,
-    Nothing: Ordinal,
-    Week: WeekNumberIso,
-    Nothing: WeekNumberSunday,
-    Nothing: WeekNumberMonday,
-    Nothing: CalendarYearLastTwo,
-    Week: IsoYearLastTwo,
-    Nothing: Hour12,
-    Nothing: Hour24,
-    Nothing: Minute,
-    Nothing: Second,
-    Nothing: OffsetMinute,
-    Nothing: OffsetSecond,
-};
-
-const SIGNED: &[(Kept, Component)] = kept_signed! {
-    Nothing: CalendarYearFullExtendedRange,
-    Nothing: CalendarYearFullStandardRange,
-    Nothing: CalendarYearCenturyExtendedRange,
-    Nothing: CalendarYearCenturyStandardRange,
-    Week: IsoYearFullExtendedRange,
-    Week: IsoYearFullStandardRange,
-    Week: IsoYearCenturyExtendedRange,
-    Week: IsoYearCenturyStandardRange,
-    Nothing: OffsetHour,
-};
-
-const OTHERS: &[(Kept, Component)] = kept! {
-    Month: MonthShort { case_sensitive: true },
-    Month: MonthLong { case_sensitive: true },
-    Nothing: WeekdayShort { case_sensitive: true },
-    Nothing: WeekdayLong { case_sensitive: true },
-    Nothing: WeekdaySunday { one_indexed: true },
-    Nothing: WeekdayMonday { one_indexed: true },
-    Nothing: Period { is_uppercase: true, case_sensitive: true },
-    Nothing: Subsecond { digits: SubsecondDigits::OneOrMore },
-    Nothing: UnixTimestampSecond { sign_is_mandatory: true },
-    Nothing: UnixTimestampMillisecond { sign_is_mandatory: true },
-    Nothing: Ignore { count: 1 },
-    Nothing: End { trailing_input: TrailingInput::Prohibit },
-};
-
-const DEPRECATED: &[(Kept, Component)] = kept! {
-    Month: Month { padding: Padding::Zero, repr: MonthRepr::Long, case_sensitive: true },
-    Nothing: Weekday { repr: WeekdayRepr::Long, one_indexed: true, case_sensitive: true },
-    Week: WeekNumber { padding: Padding::Zero, repr: WeekNumberRepr::Iso },
-    Nothing: Hour { padding: Padding::Zero, is_12_hour_clock: true },
-    Nothing: UnixTimestamp { precision: UnixTimestampPrecision::Second, sign_is_mandatory: true },
-    Week: Year {
-        padding: Padding::Zero,
-        repr: YearRepr::Full,
-        range: YearRange::Extended,
-        iso_week_based: true,
-        sign_is_mandatory: true
-    },
-};
 
 /// A state of the value in which this is kept.
 fn state_with(value: &OffsetDateTime, kept: Kept) -> DateState {
@@ -140,11 +72,18 @@ fn assert_kept(rt: &impl Abort, alloc: Global, component: Component, kept: Kept)
     assert_same(rt, third.as_slice(), written.as_slice());
 }
 
+fn assert_all_kept(rt: &impl Abort, alloc: Global, rows: &[(Component, &str, usize)]) {
+    for &(component, _, _) in rows {
+        assert_kept(rt, alloc, component, what_is_kept(component.current()));
+    }
+}
+
 #[test]
 fn a_component_keeps_what_it_asked_for(rt: HostRuntime) {
-    for rows in [PADDED, SIGNED, OTHERS, DEPRECATED] {
-        for &(kept, component) in rows {
-            assert_kept(&rt, rt.alloc(), component, kept);
-        }
-    }
+    assert_all_kept(&rt, rt.alloc(), COMPONENTS);
+}
+
+#[test]
+fn a_deprecated_component_keeps_what_its_current_one_keeps(rt: HostRuntime) {
+    assert_all_kept(&rt, rt.alloc(), DEPRECATED);
 }

@@ -1,5 +1,5 @@
-//! Texts by their parts, beside the lists of the same items: each component between two literals, of every
-//! type of value, and each kind of description as a part.
+//! Texts by their parts, beside the lists of the same items, of every type of value: each kind of description
+//! as a part. The components are in `components_table`.
 use crate::examples::append_date_time;
 use crate::texts::{assert_refused, assert_same, assert_text, assert_that, refusal_name};
 use crate::values::{date_at, moment, offset_at, time_at, timestamp_at};
@@ -21,7 +21,7 @@ use time_fmt::{BorrowedItems, ComponentProvider, ComputeMetadata, Modifier};
 /// A value of each of the seven types, and a date whose year and century have no text in the ranges of
 /// four and two digits.
 #[derive(Drop)]
-struct Values {
+pub(super) struct Values {
     date: Date,
     late_date: Date,
     time: Time,
@@ -34,7 +34,7 @@ struct Values {
 
 impl Values {
     /// Of 1997-11-12 9:55:06.123456789 -06:30, and the moment 879,351,906 seconds after 1970.
-    fn new(rt: &impl Abort) -> Values {
+    pub(super) fn new(rt: &impl Abort) -> Values {
         let date = date_at(rt, (1997, 11, 12));
         let time = time_at(rt, (9, 55, 6, 123_456_789));
         Values {
@@ -78,7 +78,7 @@ where
 
 /// Compares the component between two literals with the list of the three items, of every value; and its
 /// text and width, of the example.
-fn assert_part<M: Modifier>(
+pub(super) fn assert_part<M: Modifier>(
     rt: &impl Abort,
     alloc: Global,
     values: &Values,
@@ -101,126 +101,6 @@ fn assert_part<M: Modifier>(
     assert_as_list(rt, alloc, &parts, &items, &values.timestamp);
     let width = BorrowedItems(&items).compute_metadata().max_bytes_needed;
     assert_text(rt, alloc, &parts, &values.moment, text, width);
-}
-
-/// Each of these components, by its name and its choices, with its text between the literals.
-macro_rules! between_literals {
-    ($rt:expr; $($part:ident $variant:ident $text:literal,)+) => {{
-        let values = Values::new(&$rt);
-        $(
-            let part = ($part, Component::$variant($part));
-            assert_part(&$rt, $rt.alloc(), &values, part, $text);
-        )+
-    }};
-}
-
-#[test]
-fn calendar_years_are_parts(rt: HostRuntime) {
-    between_literals!(rt;
-        YEAR CalendarYearFullExtendedRange "<1997>",
-        YEAR_STANDARD CalendarYearFullStandardRange "<1997>",
-        YEAR_LAST_TWO CalendarYearLastTwo "<97>",
-    );
-}
-
-#[test]
-fn years_of_the_week_calendar_are_parts(rt: HostRuntime) {
-    between_literals!(rt;
-        ISO_YEAR IsoYearFullExtendedRange "<1997>",
-        ISO_YEAR_STANDARD IsoYearFullStandardRange "<1997>",
-        ISO_YEAR_LAST_TWO IsoYearLastTwo "<97>",
-    );
-}
-
-#[test]
-fn calendar_centuries_are_parts(rt: HostRuntime) {
-    between_literals!(rt;
-        YEAR_CENTURY CalendarYearCenturyExtendedRange "<19>",
-        YEAR_CENTURY_STANDARD CalendarYearCenturyStandardRange "<19>",
-    );
-}
-
-#[test]
-fn centuries_of_the_week_calendar_are_parts(rt: HostRuntime) {
-    between_literals!(rt;
-        ISO_YEAR_CENTURY IsoYearCenturyExtendedRange "<19>",
-        ISO_YEAR_CENTURY_STANDARD IsoYearCenturyStandardRange "<19>",
-    );
-}
-
-#[test]
-fn months_and_days_are_parts(rt: HostRuntime) {
-    between_literals!(rt;
-        MONTH MonthNumerical "<11>",
-        MONTH_LONG MonthLong "<November>",
-        MONTH_SHORT MonthShort "<Nov>",
-        DAY Day "<12>",
-    );
-}
-
-#[test]
-fn weekdays_are_parts(rt: HostRuntime) {
-    between_literals!(rt;
-        WEEKDAY WeekdayLong "<Wednesday>",
-        WEEKDAY_SHORT WeekdayShort "<Wed>",
-        WEEKDAY_SUNDAY WeekdaySunday "<4>",
-        WEEKDAY_MONDAY WeekdayMonday "<3>",
-    );
-}
-
-#[test]
-fn weeks_and_the_day_of_the_year_are_parts(rt: HostRuntime) {
-    between_literals!(rt;
-        WEEK_NUMBER WeekNumberIso "<46>",
-        WEEK_NUMBER_SUNDAY WeekNumberSunday "<45>",
-        WEEK_NUMBER_MONDAY WeekNumberMonday "<45>",
-        ORDINAL Ordinal "<316>",
-    );
-}
-
-#[test]
-fn hours_are_parts(rt: HostRuntime) {
-    between_literals!(rt;
-        HOUR Hour24 "<09>",
-        HOUR_12 Hour12 "<09>",
-        PERIOD Period "<AM>",
-    );
-}
-
-#[test]
-fn minutes_and_seconds_are_parts(rt: HostRuntime) {
-    between_literals!(rt;
-        MINUTE Minute "<55>",
-        SECOND Second "<06>",
-    );
-}
-
-#[test]
-fn decimals_are_parts(rt: HostRuntime) {
-    between_literals!(rt;
-        SUBSECOND Subsecond "<123456789>",
-        THREE_DECIMALS Subsecond "<123>",
-        SIX_DECIMALS Subsecond "<123456>",
-        NINE_DECIMALS Subsecond "<123456789>",
-    );
-}
-
-#[test]
-fn offsets_are_parts(rt: HostRuntime) {
-    between_literals!(rt;
-        OFFSET_HOUR OffsetHour "<-06>",
-        SIGNED_OFFSET_HOUR OffsetHour "<-06>",
-        OFFSET_MINUTE OffsetMinute "<30>",
-        OFFSET_SECOND OffsetSecond "<00>",
-    );
-}
-
-#[test]
-fn timestamps_are_parts(rt: HostRuntime) {
-    between_literals!(rt;
-        UNIX_TIMESTAMP UnixTimestampSecond "<879351906>",
-        UNIX_TIMESTAMP_MILLISECOND UnixTimestampMillisecond "<879351906123>",
-    );
 }
 
 #[test]

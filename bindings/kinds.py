@@ -1,0 +1,87 @@
+#!/usr/bin/env python3
+"""Writes the kinds of items into the header and into the Rust crate, from the code: `item.rt` of movaliren_c has their
+numbers and what each reads of an item, and `component.rt` of time_below says what each is.
+
+    bindings/kinds.py           writes both
+    bindings/kinds.py --check   ends with status 1 where one is not what would be written
+"""
+
+import pathlib
+import re
+import sys
+
+HERE = pathlib.Path(__file__).resolve().parent
+CRATES = HERE.parent / "crates"
+ITEM = CRATES / "movaliren_c/src/item.rt"
+COMPONENT = CRATES / "time_below/src/format_description/component.rt"
+HEADER = HERE / "c/movaliren.h"
+RUST = HERE / "rust/src/description.rs"
+# The words of a component's name that a kind has not, or has otherwise.
+SHORTER = [
+    ("CalendarYearCentury", "Century"), ("IsoYearCentury", "IsoCentury"), ("CalendarYear", "Year"), ("YearFull", "Year"),
+    ("ExtendedRange", "Extended"), ("StandardRange", ""), ("WeekdaySunday", "WeekdayFromSunday"),
+    ("WeekdayMonday", "WeekdayFromMonday"), ("WeekNumber", "Week"), ("Numerical", ""), ("Hour24", "Hour"),
+    ("UnixTimestamp", "Unix"),
+]
+# What the header says of a choice that an item has.
+CHOICES = {
+    "padding": "padding", "sign_is_mandatory: flag": "flag: a plus too", "one_indexed: flag": "flag: from 1 on",
+    "is_uppercase: flag": "flag: upper case", "digits": "digits",
+}
+
+
+def kinds():
+    """Each component with its number and its choices, by the number."""
+    arm = r"(\d+) => Ok\(Component::(\w+)\(\s*modifier::\w+ \{(.*?)\}"
+    found = re.findall(arm, ITEM.read_text(), re.S)
+    read = lambda told: [CHOICES[choice] for choice in re.split(r",\s*", told.strip(" \n,")) if choice in CHOICES]
+    return sorted((int(number), name, read(told)) for number, name, told in found)
+
+
+def short(name):
+    for long, word in SHORTER:
+        name = name.replace(long, word)
+    return name
+
+
+def in_header():
+    """The enum, where comments in a run of lines stand below one another."""
+    rows = [("TEXT", 0, "len bytes of the texts, from start on")]
+    rows += [(re.sub(r"(?<=[a-z])(?=[A-Z0-9])", "_", short(name)).upper(), number, ", ".join(choices))
+             for number, name, choices in kinds()]
+    codes = [f"    MOVALIREN_{name} = {number}{',' if number < rows[-1][1] else ''}" for name, number, _ in rows]
+    lines, run = [], []
+    for code, (_, _, comment) in [*zip(codes, rows), ("", ("", 0, ""))]:
+        if comment:
+            run.append((code, comment))
+            continue
+        width = max((len(before) for before, _ in run), default=0)
+        lines += [f"{before:{width}} /* {told} */" for before, told in run] + [code]
+        run = []
+    return "enum movaliren_kind {\n" + "\n".join(lines) + "};"
+
+
+def in_rust():
+    """The enum with what is said of each component."""
+    said = {name: told for told, name in re.findall(r"((?:    ///[^\n]*\n)+)    (\w+)\(", COMPONENT.read_text())}
+    rows = [f"{said[name]}    {short(name)} = {number},\n" for number, name, _ in kinds()]
+    return "pub enum Kind {\n" + "".join(rows) + "}"
+
+
+def main():
+    status = 0
+    for path, head, code in [(HEADER, "enum movaliren_kind", in_header()), (RUST, "pub enum Kind", in_rust())]:
+        text = path.read_text()
+        wanted = re.sub(rf"{head} \{{.*?\n?\}};?", lambda _: code, text, count=1, flags=re.S)
+        if wanted == text:
+            continue
+        if sys.argv[1:] == ["--check"]:
+            print(f"{path.name}: the kinds are not those of the code: run bindings/kinds.py")
+            status = 1
+        else:
+            path.write_text(wanted)
+    return status
+
+
+if __name__ == "__main__":
+    sys.exit(main())
