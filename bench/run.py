@@ -25,6 +25,7 @@ from typing import NamedTuple
 
 HERE = pathlib.Path(__file__).resolve().parent
 TOP = HERE.parent
+LIBRARIES = "time_below time_digits time_provide time_fmt time_known"
 COUNTED = 640, 1_920
 TIMED = 100_000, 500_000
 GROWN = 10, 30
@@ -111,17 +112,17 @@ def lines(command, count):
 
 
 def copied(folder):
-    """A copy of the repository, with the libraries that earlier checks left."""
+    """A copy of the repository, with what earlier checks left of the crates that are built."""
     shutil.copytree(TOP, folder, dirs_exist_ok=True, ignore=shutil.ignore_patterns(".git", "out", "target"))
-    for library in TOP.glob("crates/*/out/rlib"):
-        kept = folder / library.relative_to(TOP)
-        if not kept.exists():
-            shutil.copytree(library, kept)
+    for crate in [*LIBRARIES.split(), "time_show"]:
+        kept = [TOP / "crates" / crate / "out" / work for work in ("rlib", "incremental")]
+        for work in [work for work in kept if work.exists()][:1]:
+            if not (folder / work.relative_to(TOP)).exists():
+                shutil.copytree(work, folder / work.relative_to(TOP))
 
 
-def built(folder):
-    """Proves and builds the three programs in a copy of the repository."""
-    copied(folder)
+def added(folder):
+    """The two programs of the measure, which the copy does not have."""
     for name, is_lent in [("time_bench", "false"), ("time_bench_lent", "true")]:
         sources = folder / "crates" / name / "src"
         sources.mkdir(parents=True, exist_ok=True)
@@ -131,14 +132,15 @@ def built(folder):
             file = part.name.removesuffix(".in").replace("texts", "main")
             (sources / file).write_text(code)
         with open(folder / "crates.txt", "a", encoding="utf-8") as crates:
-            crates.write(f"{name}: time_below time_digits time_provide time_fmt time_known\n")
-    programs = []
-    for name in ["time_bench", "time_bench_lent", "time_show"]:
-        place = folder / "crates" / name
-        print(f"proving and building {name}", file=sys.stderr)
-        subprocess.run(["rt", "run"], cwd=place, input=b"", check=True, stdout=subprocess.DEVNULL)
-        programs.append(place / "out" / name)
-    return programs
+            crates.write(f"{name}: {LIBRARIES}\n")
+
+
+def built(folder, name):
+    """Proves and builds a program of the copy."""
+    place = folder / "crates" / name
+    print(f"proving and building {name}", file=sys.stderr)
+    subprocess.run(["rt", "run"], cwd=place, input=b"", check=True, stdout=subprocess.DEVNULL)
+    return place / "out" / name
 
 
 class Way(NamedTuple):
@@ -203,7 +205,9 @@ def counts_of(ways):
 class Bench:
     def __init__(self, folder):
         self.folder = folder
-        self.known, self.lent, self.show = built(folder)
+        copied(folder)
+        added(folder)
+        self.lent = built(folder, "time_bench_lent")
         self.beside = self.built_beside()
         rows = [row.split("\t") for row in (HERE / "time-0.3.55.tsv").read_text().splitlines()]
         self.crate = {name: float(count) for name, count in rows}
@@ -246,23 +250,22 @@ class Bench:
         is_changed = subprocess.run([*git, "status", "--porcelain", "crates"], capture_output=True, text=True).stdout
         return f"Commit {head or 'unknown'}" + (" with changes" if is_changed else "")
 
-    def row(self, text, is_known):
-        ways = [ours(self.known, text)] if is_known else []
-        ways += [ours(self.lent, text), *self.others(text.name, text)]
+    def row(self, text, programs):
+        """What the text costs by each of our programs, in the Rust crate and by the other ways."""
+        ways = [*(ours(program, text) for program in programs), *self.others(text.name, text)]
         counts, times = counts_of(ways), timed(ways)
-        crate = self.crate.get(text.name)
-        if is_known:
-            return [text.name, *map(shown, [*counts[:2], crate, *counts[2:], *times])]
-        return [text.name, *map(shown, [counts[0], crate, *counts[1:], *times])]
+        own = len(programs)
+        return [text.name, *map(shown, [*counts[:own], self.crate.get(text.name), *counts[own:], *times])]
 
     def all_texts(self):
+        programs = [built(self.folder, "time_bench"), self.lent]
         head = ["Text", "Known", "Behind", "0.3.55", "`strftime`", "{fmt}", "ns known", "behind", "`strftime`", "{fmt}"]
-        self.table(head, (self.row(text, True) for text in TEXTS))
+        self.table(head, (self.row(text, programs) for text in TEXTS))
 
     def behind(self, head, rows):
         """Texts that are lent alone."""
         self.table([head, "Behind", "0.3.55", "`strftime`", "{fmt}", "ns", "`strftime`", "{fmt}"],
-                   (self.row(text, False) for text in rows))
+                   (self.row(text, [self.lent]) for text in rows))
 
     def component(self, name, row, alone):
         """What the component costs over the two texts alone."""
@@ -297,11 +300,13 @@ class Bench:
 
     def answers(self):
         """What a line of the program costs, and a million of them beside `cat`."""
+        show = built(self.folder, "time_show")
+
         def row(name, command):
-            way = Way(lambda turns: [self.show], lambda turns: lines(command, turns))
+            way = Way(lambda turns: [show], lambda turns: lines(command, turns))
             count = counted(way, (1_000, 3_000))
             (self.folder / "lines").write_bytes(lines(command, 1_000_000))
-            shown_in, cat_in = self.least_seconds([[self.show], ["cat"]])
+            shown_in, cat_in = self.least_seconds([[show], ["cat"]])
             return [name, shown(count), shown(self.crate.get(name)), f"{shown_in:.3f}", f"{shown_in / cat_in:.1f}"]
 
         self.table(["Line", "Instructions", "0.3.55", "s for 1,000,000", "Times `cat`"],
