@@ -5,10 +5,9 @@ use Rattle.time_below.specs.Offset.{Offset, is_utc}
 use Rattle.time_below.specs.TimeOfDay.{TimeOfDay}
 use Rattle.time_digits.specs.Digits.{zero_padded}
 use Rattle.time_known.specs.Config.{Choices, separator}
-use Rattle.time_known.specs.Fields.{date_of_fields, offset_of_fields, time_of_day}
+use Rattle.time_known.specs.Fields.{Shown, date_of_fields, offset_of_fields, time_of_day}
 use Rattle.time_known.specs.Iso8601.{decimal_part}
 use Rattle.time_known.specs.WellKnown.{month_and_day_text, clock_text, offset_text}
-use Rattle.time_known.specs.declared.fields.Fields.{Fields}
 use Rattle.time_known.specs.declared.iso8601.config.DateKind.TheVariants as kind
 use Rattle.time_known.specs.declared.iso8601.config.DecimalSign.{DecimalSign}
 use Rattle.time_known.specs.declared.iso8601.config.FormattedComponents.TheVariants as components
@@ -46,7 +45,7 @@ usual_text c digits d t o =
     ++ usual_offset_text (separator c (codes ":")) o
 
 -- the same text by the fields of the value
-abbrev pub usual_of_fields : Choices → Option ℕ → Fields → List ℕ
+abbrev pub usual_of_fields : Choices → Option ℕ → Shown → List ℕ
 usual_of_fields c digits f =
     date_of_fields (separator c (codes "-")) f
     ++ usual_time_text (separator c (codes ":")) c.decimal_sign digits (time_of_day f.time)
