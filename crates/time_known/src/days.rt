@@ -87,7 +87,7 @@ impl CalendarDay {
     }
 
     // Two digits of the month, and two of the day.
-    #[inline(always)]
+    #[inline]
     #[tactic(auto, using(crate::proofs::DayLemmas::digits_of_days))]
     pub(crate) fn digits(self) -> (&'static str, &'static str)
         ensures month { result.0.now ≡ zero_padded 2 (month_and_day self).month }
@@ -108,7 +108,7 @@ impl CalendarDay {
     }
 
     // The first letter of the month's English name, and the next two.
-    #[inline(always)]
+    #[inline]
     #[tactic(auto, using(crate::proofs::DayLemmas::names_of_days))]
     pub(crate) fn month_letters(self) -> (&'static str, &'static str)
         ensures text { result.0.now ++ result.1.now
@@ -153,7 +153,7 @@ fn day_of_leap_year(is_leap: bool, ordinal: Ordinal) -> Ordinal
 }
 
 // So many bytes of the row of a day, from one on.
-#[inline(always)]
+#[inline]
 #[tactic(auto, using(crate::proofs::DayLemmas::boundary))]
 fn piece_of_row(table: &'static str, day: Ordinal, from: usize, len: usize) -> &'static str
     requires ascii { IsTrue (is_ascii table.now) }
@@ -167,7 +167,7 @@ fn piece_of_row(table: &'static str, day: Ordinal, from: usize, len: usize) -> &
 }
 
 // The first letter of the month's English name, and the next two.
-#[inline(always)]
+#[inline]
 fn month_letters(month: ru8<1, 12>) -> (&'static str, &'static str)
     ensures text { result.0.now ++ result.1.now ≡ short_name (month_name month) }
     ensures first { length result.0.now ≡ 1 }
