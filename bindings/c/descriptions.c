@@ -1,5 +1,5 @@
-/* The worked rows of descriptions: each text by a wide room, by one of exactly its length and by each of fewer
- * bytes; and each refusal. Prints what is wrong, and ends with status 1 then. */
+/* Rows of descriptions: each text with a large buffer, with one of exactly its length and with each shorter
+ * one; and each error. Prints what is wrong, and then ends with status 1. */
 #include "expect.h"
 
 struct description {

@@ -1,5 +1,5 @@
-/* The worked rows of moments: each text by a wide room, by one of exactly its length and by each of fewer
- * bytes, alone and in a batch; and each refusal. Prints what is wrong, and ends with status 1 then. */
+/* Rows of moments: each text with a large buffer, with one of exactly its length and with each shorter one,
+ * alone and in a batch; and each error. Prints what is wrong, and then ends with status 1. */
 #include "expect.h"
 
 /* ---- the calls, alone and as a batch of one that is ended by a zero */

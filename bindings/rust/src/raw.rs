@@ -1,8 +1,8 @@
 //! The functions of the library, and the calls of them.
 //!
-//! A call lends the library slices, whose pointers are never null and whose lengths are below
-//! `isize::MAX`. The buffer is borrowed mutably, so it overlaps nothing else. Each struct that crosses
-//! is `#[repr(C)]`, with the fields of the header in its order. The library keeps no pointer.
+//! A call passes slices, whose pointers are never null and whose lengths are below `isize::MAX`.
+//! The buffer is borrowed mutably, so it overlaps nothing else. Each struct that crosses is
+//! `#[repr(C)]`, with the fields of the header in its order. The library keeps no pointer.
 use crate::known::{Iso8601, Rfc2822, Rfc2822Local, Rfc3339, Rfc3339Local, Stamp};
 use crate::{Date, Description, Error, Iso8601By, Moment, Progress, UtcMoment};
 use alloc::string::String;
@@ -596,8 +596,8 @@ pub(crate) fn append<V>(
 ) -> Result<usize, Error> {
     output.try_reserve(width).map_err(|_| Error::OutOfMemory)?;
     let count = format.call(value, output.spare_capacity_mut())?;
-    // SAFETY: the first `count` bytes behind the vector's own are within its capacity and
-    // initialized, as `Call` promises of the buffer that it was lent.
+    // SAFETY: the first `count` bytes after the vector's own are within its capacity and
+    // initialized, as `Call` promises of its buffer.
     unsafe { output.set_len(output.len() + count) };
     Ok(count)
 }
@@ -618,8 +618,8 @@ pub(crate) fn append_all<V>(
         };
     }
     let progress = format.call_all(values, end, output.spare_capacity_mut());
-    // SAFETY: so many bytes behind the vector's own are within its capacity and initialized, as
-    // `CallAll` promises of the buffer that it was lent.
+    // SAFETY: this many bytes after the vector's own are within its capacity and initialized, as
+    // `CallAll` promises of its buffer.
     unsafe { output.set_len(output.len() + progress.bytes) };
     progress
 }

@@ -1,4 +1,4 @@
--- A piece that is written into the middle of a room.
+-- A piece that is written into the middle of a buffer.
 use Rattle.std.proofs.lemmas.List.{drop-drop}
 use Rattle.std.proofs.lemmas.Slice.{take-put_mid, drop-put_mid}
 

@@ -75,17 +75,15 @@ IsReasonFor r (error.ComponentRange range) = r ≡ reason.OutOfRange
 IsReasonFor r error.OutOfMemory = r ≡ reason.OutOfMemory
 IsReasonFor r (error.InvalidComponent name) = Refuses r (invalid_component name.now)
 
--- why there is no text of an outcome: it is complete and longer than the room, or the definition
--- refuses it
+-- the reason for no text of an outcome: the text is complete and longer than the buffer, or the definition refuses it
 abbrev pub Explains : Reason → Outcome → ℕ → Type 0
 Explains r o room = ((r ≡ reason.NoRoom) × (o.refusal ≡ None) × (room < length o.bytes)) ⊎
     IsRefusedFor r o
 
 -- ---- texts
 
--- A count is the length of the whole text, which stands at the start of the room, and what is
--- behind it is as
--- it was. After a reason all of the room is.
+-- A count is the length of the whole text, which is at the start of the buffer; the bytes after it are unchanged. A
+-- reason leaves the whole buffer unchanged.
 abbrev pub IsWritten : Result ℕ Reason → Outcome → List ℕ → List ℕ → Type 0
 IsWritten (Ok n) o before after = (o.refusal ≡ None) × (n ≡ length o.bytes) × (after ≡ o.bytes ++
     drop n before)
@@ -95,13 +93,13 @@ IsWritten (Err r) o before after = (after ≡ before) × Explains r o (length be
 abbrev pub gives : {V : Type 0} → Result V Reason → (V → Outcome) → Result Outcome Reason
 gives value outcome = with_value value (λ v. Ok (outcome v))
 
--- the text of an outcome is written, or the reason why there is none is answered, and the room is
--- as it was
+-- the text of an outcome is written; or the reason for no text is returned, and the buffer is unchanged
 abbrev pub IsText : Result Outcome Reason → Result ℕ Reason → List ℕ → List ℕ → Type 0
 IsText (Ok o) answer before after = IsWritten answer o before after
 IsText (Err r) answer before after = (answer ≡ Err r) × (after ≡ before)
 
--- the same, or there is an outcome, memory was refused for it, and the room is as it was
+-- the text of an outcome is written; or the reason for no text, or out of memory, is returned, and the buffer is
+-- unchanged
 abbrev pub IsTextInMemory : Result Outcome Reason → Result ℕ Reason → List ℕ → List ℕ → Type 0
 IsTextInMemory (Ok o) answer before after =
     ((answer ≡ Err reason.OutOfMemory) × (after ≡ before)) ⊎ IsWritten answer o before after

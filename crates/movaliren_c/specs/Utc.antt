@@ -40,7 +40,7 @@ offset_of_seconds east =
       seconds = signed sign (size % 60);
     }
 
--- if it is at most 25:59:59 either way
+-- an offset of at most 25:59:59 either way, by its seconds east of UTC
 abbrev pub east_value : ℤ → Result Offset Reason
 east_value east =
     checked (nat_lt (unsigned_abs east) 93_600) reason.OffsetHours (Ok (offset_of_seconds east))

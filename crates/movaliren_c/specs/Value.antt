@@ -43,7 +43,7 @@ time_value m =
 abbrev pub offset_part : Reason → ℕ → ℤ → Result ℤ Reason
 offset_part r greatest number = checked (nat_le (unsigned_abs number) greatest) r (Ok number)
 
--- where the signs of the parts differ, the largest that is not zero decides
+-- the largest part that is not zero decides the sign, if the signs of the parts differ
 abbrev pub offset_value : Moment → Result Offset Reason
 offset_value m =
     with_value (offset_part reason.OffsetHours 25 m.offset_hours) (λ hours.

@@ -56,7 +56,8 @@ pub extern "C" fn movaliren_iso8601_utc_batch(
     lines_written(&Iso8601Utc, moments, end, room)
 }
 
-/// The same by a configuration.
+/// The texts of ISO 8601 of the moments in UTC by a configuration, one after another, each ended by
+/// this byte.
 #[unsafe(no_mangle)]
 pub extern "C" fn movaliren_iso8601_by_utc_batch(
     config: &IsoConfig,

@@ -1,4 +1,4 @@
-//! Offsets that keep the parts by which they were told.
+//! Offsets that keep the parts of their arguments.
 ghost use Rattle.std.specs.Prelude.{◌≡◌, ◌<◌, ◌≤◌, IfOk, unsigned_abs};
 ghost use Rattle.time_below.specs.Offset.{is_negative, is_utc, signed, utc};
 ghost use Rattle.movaliren_c.specs.Utc.{east_value};
@@ -140,7 +140,7 @@ impl KeptOffset {
         self.seconds < 0
     }
 
-    /// The same offset, of one sign.
+    /// Returns the offset with parts of one sign.
     pub fn offset(&self) -> UtcOffset
         ensures { result ≡ self.now }
     {

@@ -1,4 +1,4 @@
-//! Texts of moments by the local date and time, from the offset that the C library tells.
+//! Texts of moments by the local date and time, with the offset that the C library gives.
 ghost use Rattle.std.specs.Prelude.{◌≡◌, ◌<◌, ◌+ℤ◌, unsigned_abs};
 ghost use Rattle.movaliren_c.specs.Answer.{Answers, IsText, gives};
 ghost use Rattle.movaliren_c.specs.Utc.{local_value, moved_east, value_at};

@@ -34,8 +34,7 @@ pub struct UtcMoment {
     pub nanosecond: u32,
 }
 
-/// The value of a moment: a local date, of which the month and the day are at hand, a time, and an
-/// offset by the parts that were told.
+/// The value of a moment: a local date with its month and day, a time, and an offset by its parts.
 #[derive(Drop)]
 pub struct LocalMoment {
     date: CalendarDate,
@@ -63,7 +62,7 @@ impl LocalMoment {
         }
     }
 
-    /// The same date and time, with this offset.
+    /// Returns the date and time with this offset.
     pub fn with_offset(value: UtcDateTime, offset: KeptOffset) -> LocalMoment
         ensures { result ≡ with_offset offset value }
     {
@@ -130,7 +129,7 @@ pub fn moment_value(moment: &Moment) -> Result<LocalMoment, Reason>
     Ok(LocalMoment { date, time, offset })
 }
 
-/// The same value, as descriptions take it.
+/// Returns the value of the moment for descriptions.
 pub fn provided_value(moment: &Moment) -> Result<OffsetDateTime, Reason>
     ensures { result ≡ moment_value moment.now }
 {

@@ -48,7 +48,7 @@ pub enum Reason {
     BadConfig,
     /// Invalid item.
     BadItem,
-    /// The text does not fit the room.
+    /// The text does not fit the buffer.
     NoRoom,
     /// Memory was refused, or the width has reached the greatest `usize`.
     OutOfMemory,

@@ -27,7 +27,7 @@ impl Writer for Stamp {
     }
 }
 
-/// Writes the stamp of a value to the start of the room.
+/// Writes the stamp of a value to the start of the buffer.
 fn stamp_written(value: UtcDateTime, room: &mut [u8]) -> Result<usize, Reason>
     ensures { IsWritten result (stamp_of value) room.old room.new }
 {

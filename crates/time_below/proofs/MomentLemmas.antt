@@ -22,7 +22,7 @@ seconds_from_start : (s : ℤ) → IsTimestampSecond s
 seconds_from_start (pos a) h = refl
 seconds_from_start (negsuc a) h = omega (arith, ints)
 
--- nor after the end
+-- no second of the range is after its end
 seconds_before_end : (s : ℤ) (n : ℕ) → IsTimestampSecond s → s +ℤ pos seconds_before ≡ pos n
     → n < seconds_in_all
 seconds_before_end s n h e = omega (arith, ints)

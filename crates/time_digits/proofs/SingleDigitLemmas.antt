@@ -14,5 +14,5 @@ digits_are = refl
 pub digit_at : (n : ℕ) → n < 10 → take 1 (drop n SINGLE_DIGITS.now) ≡ decimal n
 digit_at n h = same_below (λ k. take 1 (drop k SINGLE_DIGITS.now)) decimal 10 digits_are n h
 
--- for the calls that borrow from the table
+-- lemmas for the calls that borrow from the table
 pub ruleset digit_facts = (digit_at, length-digit)

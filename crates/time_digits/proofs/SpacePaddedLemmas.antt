@@ -16,5 +16,5 @@ spaced_are = refl
 pub spaced_at : (n : ℕ) → n < 100 → take 2 (drop (2 * n) SPACE_PADDED_PAIRS.now) ≡ space_padded 2 n
 spaced_at n h = same_below (λ k. take 2 (drop (2 * k) SPACE_PADDED_PAIRS.now)) (space_padded 2) 100 spaced_are n h
 
--- for the calls that borrow from the table
+-- lemmas for the calls that borrow from the table
 pub ruleset space_facts = (spaced_at, length-decimal_two, length-padded)

@@ -22,7 +22,7 @@ length-put a k bs xs room width =
       length-drop (a + k) bs,
     )
 
--- from the place of a write on stands what is written, and then what stood behind it
+-- the bytes from the place of a write on are what is written, and then what followed it
 pub drop-put : (a k : ℕ) (bs xs : List ℕ) → a ≤ length bs → drop a (put a k bs xs) ≡ xs ++ drop (a + k) bs
 drop-put a k bs xs room =
     rw append_assoc (drop_at (take a bs) (xs ++ drop (a + k) bs) a (length-take-le a bs room))
@@ -74,7 +74,7 @@ two_put a bs (x ∷ y ∷ z ∷ more) zs room two same = absurd (omega arith)
 pub two_fixed : (n : ℕ) → n < 100 → zero_padded 2 n ≡ fixed 2 n
 two_fixed n h = zero_padded_is 1 n h (omega arith)
 
--- for the calls that write one digit, and two
+-- lemmas for the calls that write one digit, and two
 pub ruleset written = (two_fixed, decimal_one, one_put, two_put, length-fixed)
 
 -- ---- groups of digits
@@ -96,7 +96,7 @@ one_and_two_fours : (n : ℕ) → fixed 1 (n / 10_000 / 10_000) ++ fixed 4 (n / 
 one_and_two_fours n =
     rw (fixed-mod 4 (n / 10_000), fixed-mod 4 n) (rw (sym (fixed-append 1 4 (n / 10_000))) (sym (fixed-append 5 4 n)))
 
--- so they are, written into nine bytes one behind the other
+-- nine digits are three groups, written into nine bytes one after the other
 pub nine_written : (n : ℕ) (b₀ b₁ b₂ b₃ : List ℕ) → length b₀ ≡ 9 → b₁ ≡ put 0 1 b₀ (fixed 1 (n / 10_000 / 10_000)) → b₂
     ≡ put 1 4 b₁ (fixed 4 (n / 10_000 % 10_000))
     → b₃ ≡ put 5 4 b₂ (fixed 4 (n % 10_000)) → b₃ ≡ fixed 9 n

@@ -33,7 +33,7 @@ pub two_places : (p : Padding) (n : ℕ) → n < 100 → length (padded_text p 2
 two_places p n h =
     length-padded_text p 2 2 n (omega arith) (length-decimal-le 2 n (omega arith) (omega arith) (omega arith))
 
--- and one below 1,000 three
+-- a number below 1,000 fits three places
 pub three_places : (p : Padding) (n : ℕ) → n < 1000 → length (padded_text p 3 n) ≤ 3
 three_places p n h =
     length-padded_text p 3 3 n (omega arith) (length-decimal-le 3 n (omega arith) (omega arith) (omega arith))
@@ -48,7 +48,7 @@ pub zero_padded_is_zeros : (places n : ℕ)
 unfolding padded
 zero_padded_is_zeros places n = refl
 
--- of which there are as many as are wanted
+-- zeros are as many as were chosen
 pub length-zeros : (n : ℕ) → length (replicate {A = ℕ} n 48) ≡ n
 length-zeros n = length-replicate {A = ℕ} n 48
 
@@ -163,7 +163,7 @@ pub length-monday_digit : (one_indexed : Bool) (w : Weekday)
     → length (decimal (indexed one_indexed (days_from_monday w))) ≤ 1
 length-monday_digit one_indexed w = length-indexed one_indexed (days_from_monday w) (days_in_week w)
 
--- or from Sunday
+-- a weekday that is counted from Sunday has one digit
 pub length-sunday_digit : (one_indexed : Bool) (w : Weekday)
     → length (decimal (indexed one_indexed (from_sunday (days_from_monday w)))) ≤ 1
 length-sunday_digit one_indexed w = length-indexed one_indexed (from_sunday (days_from_monday w))

@@ -69,7 +69,8 @@ pub const YEAR_CENTURY: modifier::CalendarYearCenturyExtendedRange =
         sign_is_mandatory: false,
     };
 
-/// The same, -99 to 99, as `19`. Every other century is refused.
+/// The calendar year without its last two digits, -99 to 99, as `19`. Every other century is
+/// refused.
 pub const YEAR_CENTURY_STANDARD: modifier::CalendarYearCenturyStandardRange =
     modifier::CalendarYearCenturyStandardRange {
         padding: Padding::Zero,
@@ -143,7 +144,7 @@ pub const ISO_YEAR: modifier::IsoYearFullExtendedRange = modifier::IsoYearFullEx
     sign_is_mandatory: false,
 };
 
-/// The same, -9,999 to 9,999, as `1997`. Every other year is refused.
+/// The year of the week calendar, -9,999 to 9,999, as `1997`. Every other year is refused.
 pub const ISO_YEAR_STANDARD: modifier::IsoYearFullStandardRange =
     modifier::IsoYearFullStandardRange {
         padding: Padding::Zero,
@@ -157,7 +158,8 @@ pub const ISO_YEAR_CENTURY: modifier::IsoYearCenturyExtendedRange =
         sign_is_mandatory: false,
     };
 
-/// The same, -99 to 99, as `19`. Every other century is refused.
+/// The year of the week calendar without its last two digits, -99 to 99, as `19`. Every other
+/// century is refused.
 pub const ISO_YEAR_CENTURY_STANDARD: modifier::IsoYearCenturyStandardRange =
     modifier::IsoYearCenturyStandardRange {
         padding: Padding::Zero,

@@ -50,7 +50,7 @@ where
     assert_same(rt, formatted.as_str(), text);
 }
 
-/// The same of one component.
+/// Compares the text of one component, and its width.
 pub(crate) fn assert_component<V: ComponentProvider>(
     rt: &impl Abort,
     alloc: Global,

@@ -10,7 +10,7 @@ pub record Buffer : Type 0 where
   pub rest : List ℕ
   pub lender : Option GName
 
--- so many more bytes fit
+-- this many more bytes fit
 abbrev pub Fits : ℕ → Buffer → Type 0
 Fits width buffer = buffer.len + width ≤ buffer.capacity
 
@@ -23,7 +23,7 @@ pub record Puts (old new : Buffer) (text : List ℕ) : Type 0 where
   pub rest : new.rest ≡ drop (length text) old.rest
   pub lender : new.lender ≡ old.lender
 
--- the same, of a text of at most so many bytes
+-- a text of at most this many bytes was put
 pub record PutsUpTo (width : ℕ) (old new : Buffer) (text : List ℕ) : Type 0 where
   pub put : new.bytes ≡ old.bytes ++ text
   pub grown : new.len ≡ old.len + length text
@@ -32,7 +32,7 @@ pub record PutsUpTo (width : ℕ) (old new : Buffer) (text : List ℕ) : Type 0 
   pub lender : new.lender ≡ old.lender
   pub within : length text ≤ width
 
--- the same, of a text of just so many bytes
+-- a text of exactly this many bytes was put
 pub record PutsJust (width : ℕ) (old new : Buffer) (text : List ℕ) : Type 0 where
   pub put : new.bytes ≡ old.bytes ++ text
   pub grown : new.len ≡ old.len + width

@@ -1,4 +1,4 @@
--- The text of ISO 8601 by the configurations that most callers ask for, of a value of which nothing is refused.
+-- The text of ISO 8601 by the usual configurations, of a value of which nothing is refused.
 use Rattle.std.specs.Prelude.{ℕ, ◌++◌, Bool, false, List, codes, Option, unsigned_abs, if◌then◌else◌}
 use Rattle.time_below.specs.Facts.{DateFacts}
 use Rattle.time_below.specs.Offset.{Offset, is_utc}
@@ -45,7 +45,7 @@ usual_text c digits d t o =
     ++ usual_time_text (separator c (codes ":")) c.decimal_sign digits t
     ++ usual_offset_text (separator c (codes ":")) o
 
--- the same text by the fields of the value
+-- the text by the fields of the value
 abbrev pub usual_of_fields : Choices → Option ℕ → Fields → List ℕ
 usual_of_fields c digits f =
     date_of_fields (separator c (codes "-")) f

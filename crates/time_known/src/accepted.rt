@@ -66,7 +66,7 @@ pub fn accepted_year(
     Ok(ru16::within(year.unsigned_abs() as u16))
 }
 
-// The same of the date and the offset of a value.
+// Returns the accepted year of a value, by its date and its offset, or what is refused first.
 #[inline]
 pub(crate) fn accepted_year_of<V: ComponentProvider>(
     first: u16,

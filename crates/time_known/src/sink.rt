@@ -1,4 +1,4 @@
-//! Where texts are put, piece by piece, and the texts that are put there.
+//! Sinks of texts, and the texts that are put into them, piece by piece.
 ghost use Rattle.std.specs.Prelude.{◌≡◌, ◌<◌, ◌≤◌, ℕ, List, length};
 ghost use Rattle.time_fmt.specs.Decimals.{decimals};
 ghost use Rattle.time_fmt.specs.Room.{HasRoom, Writes, WritesUpTo};
@@ -8,7 +8,7 @@ use crate::pieces::{put_back, take_out};
 use time_digits::ru8;
 use time_fmt::writers::{format_decimals, write};
 
-/// Where a text is put, piece by piece.
+/// A sink of a text, piece by piece.
 pub trait Sink {
     /// What it holds, and how much it can.
     ghost buffer: { Self → Buffer };
@@ -28,7 +28,7 @@ pub trait Sink {
 
 /// A text that is not written yet.
 pub trait Text {
-    /// The most bytes of the text, for which a sink needs room.
+    /// The most bytes of the text, which must fit the sink.
     ghost width: { Self → ℕ };
 
     /// Its bytes.

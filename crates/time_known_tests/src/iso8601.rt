@@ -89,7 +89,7 @@ where
     }
 }
 
-/// The same by the choices of a row. The text fills the width.
+/// Compares the text by the choices of a row. The text fills the width.
 fn assert_row<V: ComponentProvider>(
     rt: &impl Abort,
     alloc: Global,

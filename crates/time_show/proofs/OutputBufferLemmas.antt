@@ -20,7 +20,7 @@ Appends-then (Some a) None c xs ys p q = absurd p
 Appends-then (Some a) (Some b) None xs ys p q = absurd q
 Appends-then (Some a) (Some b) (Some c) xs ys p q = rw (q, p, append_assoc)
 
--- after a text nothing more is written
+-- an appended text stays if nothing more is written
 pub Appends-kept : (a b c : Option (List ℕ)) (xs : List ℕ) → Appends a b xs → Keeps b c → Appends a c xs
 Appends-kept None b c xs p q = search rules
 Appends-kept (Some a) None c xs p q = absurd p

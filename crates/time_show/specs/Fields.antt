@@ -41,7 +41,7 @@ abbrev pub numbers_of : List (List ℕ) → Option (List ℤ)
 numbers_of [] = Some []
 numbers_of (field ∷ fields) = onto_numbers (number_of field) (numbers_of fields)
 
--- as many numbers as are asked for
+-- the numbers, if they are exactly this many
 abbrev pub exactly : ℕ → Option (List ℤ) → Option (List ℤ)
 exactly count None = None
 exactly count (Some numbers) = if length numbers == count then Some numbers else None

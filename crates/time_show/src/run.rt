@@ -137,7 +137,7 @@ fn answer_last<W: Write>(
 /// that the whole lines so far were answered. A failed write means that some first lines were, with a
 /// beginning of the answer to the next, which has its line feed unless the input has ended.
 ///
-/// No clause says that reads go on as long as they succeed, nor how much memory is asked for; tests
+/// No clause says that reads go on as long as they succeed, nor how much memory is allocated; tests
 /// do. The body allocates the text of one answer at a time, and answers a failed allocation by
 /// `refused 0 out-of-memory`.
 pub fn run<R: Read, W: Write>(alloc: Global, input: &mut R, output: &mut W) -> Result<(), ShowError>

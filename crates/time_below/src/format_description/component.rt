@@ -186,7 +186,7 @@ impl Component {
     }
 }
 
-/// The most bytes that the text of the component has, whatever the value.
+/// The most bytes of the component's text, over all values.
 #[inline(always)]
 pub fn component_width(component: &Component) -> usize
     ensures { result ≡ component_width component.now }

@@ -1,4 +1,4 @@
-//! One layer of a description, whichever type it is written in.
+//! One layer of a description of any type.
 ghost use Rattle.std.specs.Prelude.{ℕ, ◌≡◌, ◌<◌, ⊤};
 ghost use Rattle.time_below.specs.Size.{size_below};
 ghost use Rattle.time_below.specs.Tree.{Tree, layer_tree};

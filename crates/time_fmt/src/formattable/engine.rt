@@ -78,9 +78,9 @@ fn write_leaf<T: Node, V: ComponentProvider>(
     }
 }
 
-/// Appends the text of the node where there is room for its width. Takes no memory.
+/// Appends the text of the node. The output needs spare capacity for its width. Allocates nothing.
 ///
-/// Answers the number of bytes appended, or the refusal that ends the text.
+/// Returns the number of bytes appended, or the refusal that ends the text.
 #[cycle(engine)]
 #[inline(never)]
 pub(super) fn write_node<T: Node, V: ComponentProvider>(

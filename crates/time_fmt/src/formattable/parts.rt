@@ -100,8 +100,8 @@ impl<A: Formattable, B: Formattable> Formattable for (A, B) {
         }
     }
 
-    // As of any description, but part of the caller, where the choices are known. The vector is taken
-    // out meanwhile, so that the compiler sees that its block does not move.
+    // This becomes part of the caller, where the choices are known. The vector is taken out
+    // meanwhile, so that the compiler sees that its block does not move.
     #[inline(always)]
     fn format_into<V: ComponentProvider>(
         &self,
@@ -145,7 +145,8 @@ impl<M: Modifier> Formattable for M {
         value: &V,
         state: &mut V::State,
     ) -> Result<usize, Format> {
-        // As `write` does, with no call between: else a pair that is used in four places is not inlined.
+        // This is `write` without a call between: else a pair that is used in four places is not
+        // inlined.
         if !supplies::<V>(M::GROUP) {
             return Err(Format::InsufficientTypeInformation);
         }

@@ -5,9 +5,9 @@ ghost use Rattle.time_fmt.specs.Room.{HasRoom, Writes};
 
 use std::mem::{forget, replace};
 
-/// Takes the vector out of its borrow, in which an empty one stays. A call that is not inlined, and to
-/// which a vector is lent, keeps that vector in memory for the whole of the caller. So the rare ways of
-/// writers lend one that they have taken out, and put it back.
+/// Takes the vector out of its borrow, which keeps an empty one. A call that is not inlined, and
+/// that borrows a vector, keeps that vector in memory for the whole of the caller. So the slow
+/// paths of writers borrow one that they have taken out, and put it back.
 #[inline(always)]
 pub(crate) fn take_out(output: &mut Vec<u8>) -> Vec<u8>
     ensures taken { result ≡ output.old }
@@ -17,7 +17,7 @@ pub(crate) fn take_out(output: &mut Vec<u8>) -> Vec<u8>
     replace(output, Vec::new(alloc))
 }
 
-/// Puts the vector in the place of the empty one, whose memory is not asked for.
+/// Puts the vector back in place of the empty one, which has no memory to free.
 #[inline(always)]
 pub(crate) fn put_back(output: &mut Vec<u8>, taken: Vec<u8>)
     ensures put { output.new ≡ taken }

@@ -28,7 +28,7 @@ fn nested(alloc: Global) -> Result<BorrowedFormatItem<'static>, AllocError> {
     Ok(item)
 }
 
-/// The same of the third version.
+/// Lists of four items of version 3, of which the last is the next list.
 fn nested_v3(alloc: Global) -> Result<FormatDescriptionV3Inner<'static>, AllocError> {
     let mut item = FormatDescriptionV3Inner::from(DAY);
     for _ in 0..LEVELS {

@@ -33,7 +33,8 @@ struct Values {
 }
 
 impl Values {
-    /// Of 1997-11-12 9:55:06.123456789 -06:30, and the moment 879,351,906 seconds after 1970.
+    /// Returns the values of 1997-11-12 9:55:06.123456789 -06:30, and the moment 879,351,906
+    /// seconds after 1970.
     fn new(rt: &impl Abort) -> Values {
         let date = date_at(rt, (1997, 11, 12));
         let time = time_at(rt, (9, 55, 6, 123_456_789));

@@ -92,7 +92,7 @@ const TREES: &[(Level, usize)] = &[
     (Level::First, 1_000),
 ];
 
-// What is lent to a tree lives as long as its parts, so it is leaked here.
+// A tree borrows its parts for their whole life, so they are leaked here.
 fn borrowed(
     alloc: Global,
     level: Level,

@@ -1,4 +1,4 @@
-//! The texts of the configurations that most callers ask for, in pieces that are inlined.
+//! The texts of the usual configurations, in pieces that are inlined.
 ghost use Rattle.std.specs.Prelude.{◌≡◌, ◌+◌, ◌*◌, ◌++◌, length, Some, OnSome, MatchOption, Ok};
 ghost use Rattle.time_fmt.specs.Decimals.{decimals};
 ghost use Rattle.time_fmt.specs.Outcome.{AppendsUpTo};
