@@ -53,7 +53,7 @@ def has(path, text):
     return lambda: text in read(path) or None
 
 
-# Each command of README.md, and what its check gives: an output that is shown behind it, or True where none is.
+# Each command of README.md, and what its check gives: an output that is shown after it, or True where none is.
 LINE = "time 9 55 6 120000000"
 COMMANDS = {
     f"printf '{LINE}\\n' | (cd crates/time_show && rt run)": lambda: answer_of(LINE),

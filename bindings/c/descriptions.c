@@ -130,7 +130,7 @@ static void try_widths(void)
     }
 }
 
-/* A description that is built over so many items and bytes of texts: of a day, a text of two bytes and a
+/* A description that is built over this many items and bytes of texts: of a day, a text of two bytes and a
  * month. */
 static ptrdiff_t built(size_t items_room, size_t texts_room)
 {

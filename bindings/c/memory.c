@@ -6,7 +6,7 @@
 #include <stdlib.h>
 #include <string.h>
 
-/* The requests for memory so far, the one that is refused, and the allocations that are not freed yet. */
+/* The allocations requested so far, the one that is refused, and the allocations that are not freed yet. */
 static long asked, refused, live;
 
 /* The bytes of all requests so far. */

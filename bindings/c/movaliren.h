@@ -9,7 +9,7 @@
  *         line[n] = 0, puts(line);
  *
  * Each call returns the number of bytes that it wrote to the start of the buffer `room`. These are the
- * whole text, without a zero at the end; the bytes behind them are unchanged. Or it returns a negative
+ * whole text, without a zero at the end; the bytes after them are unchanged. Or it returns a negative
  * movaliren_error, and the buffer is unchanged. A call reads its arguments, keeps nothing and prints
  * nothing. Calls of different threads need no lock.
  *

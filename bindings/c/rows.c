@@ -194,7 +194,7 @@ static void try_configurations(void)
     }
 }
 
-/* A first part, one byte in the middle, and so many of another byte. */
+/* A first part, one byte in the middle, and this many of another byte. */
 static const char *long_text(char *text, const char *first, const char *middle, char last, size_t n)
 {
     size_t len = (size_t)sprintf(text, "%s%s", first, middle);

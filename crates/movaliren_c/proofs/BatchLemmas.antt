@@ -39,7 +39,7 @@ same_room : (room later : List ℕ) (b : ℕ) → take b later ≡ take b room �
 same_room room later b et ed = sym (take-append-drop b later) ∙ ap (λ x. x ++ drop b later) et ∙ ap
     (λ x. take b room ++ x) ed ∙ take-append-drop b room
 
--- what is behind the lines is as it was
+-- the bytes after the lines are unchanged
 behind : (front init room : List ℕ) (b : ℕ) → b ≡ length front → room ≡ front ++ drop b init
     → drop b room ≡ drop b init
 behind front init room b eb er = grind (arith, common_steps)
@@ -111,7 +111,7 @@ in_front text room mid n most en inside et ed =
     let old = sym (take-append-drop most room) in
     grind (arith, common_steps)
 
--- the byte behind a text
+-- the byte after a text
 placed_end : (text room mid : List ℕ) (n e : ℕ) → n ≡ length text → n < length mid
     → mid ≡ text ++ drop n room → set mid n e ≡ (text ++ e ∷ []) ++ drop (n + 1) room
 placed_end text room mid n e en inside em =

@@ -2,5 +2,5 @@
 use Rattle.std.proofs.lemmas.List.{drop-drop}
 use Rattle.std.proofs.lemmas.Slice.{take-put_mid, drop-put_mid}
 
--- what stands before its end, and what behind it
+-- what precedes its end, and what follows it
 pub ruleset written_pieces = (take-put_mid, drop-put_mid, drop-drop)

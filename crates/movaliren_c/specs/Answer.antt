@@ -1,4 +1,4 @@
--- What a call across the border answers.
+-- The result of a call across the border.
 use Rattle.std.specs.Prelude.{◌≡◌, ◌≢◌, ◌<◌, ◌++◌, ◌⊎◌, ℕ, ℤ, pos, neg_ℤ, List, length, drop, codes, None, Result, Ok}
 use Rattle.std.specs.Prelude.{Err, IsSomeAnd}
 use Rattle.arrayvec.specs.ArrayString.{ArrayString}

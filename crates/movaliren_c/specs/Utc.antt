@@ -29,7 +29,7 @@ unfoldable pub iso8601_by_utc : IsoConfig → ℤ → ℕ → Result Outcome Rea
 iso8601_by_utc config seconds nanosecond =
     with_value (choices_at config) (λ c. gives (utc_value seconds nanosecond) (iso8601_of c))
 
--- the offset of so many seconds east of UTC
+-- the offset of this many seconds east of UTC
 abbrev pub offset_of_seconds : ℤ → Offset
 offset_of_seconds east =
     let size = unsigned_abs east in
@@ -45,7 +45,7 @@ abbrev pub east_value : ℤ → Result Offset Reason
 east_value east =
     checked (nat_lt (unsigned_abs east) 93_600) reason.OffsetHours (Ok (offset_of_seconds east))
 
--- a moment by the local date and time where clocks are so many seconds ahead of UTC
+-- a moment by the local date and time where clocks are this many seconds ahead of UTC
 abbrev pub moved_east : Moment → ℤ → Result OffsetDateAndTime Reason
 moved_east m east =
     with_value (east_value east) (λ o. value_at (m.seconds +ℤ east) m.nanosecond o)

@@ -59,7 +59,7 @@ moment_value m =
     with_value (offset_value m) (λ offset.
     Ok (record { date = date; time = time; offset = offset }))))
 
--- the moment of so many seconds since 1970 and a nanosecond
+-- the moment of this many seconds since 1970 and a nanosecond
 abbrev pub timestamp_value : ℤ → ℕ → Result moments.Moment Reason
 timestamp_value seconds nanosecond =
     checked (int_le (neg_ℤ (pos seconds_before)) seconds && int_le seconds (pos 31_494_784_780_799))

@@ -44,7 +44,7 @@ impl KeptOffset {
         })
     }
 
-    /// The offset of so many seconds east of UTC, if it is at most 25:59:59 either way.
+    /// The offset of this many seconds east of UTC, if it is at most 25:59:59 either way.
     pub fn of_seconds(east: i64) -> Result<KeptOffset, Reason>
         ensures value { result ≡ east_value east }
         ensures range { IfOk result (λ _. unsigned_abs east < 93_600) }

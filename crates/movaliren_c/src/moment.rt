@@ -153,7 +153,7 @@ pub fn date_value(year: i32, month: u8, day: u8) -> Result<Date, Reason>
     }
 }
 
-/// The moment of so many seconds since 1970-01-01T00:00:00 UTC, and a nanosecond.
+/// The moment of this many seconds since 1970-01-01T00:00:00 UTC, and a nanosecond.
 pub fn timestamp_value(seconds: i64, nanosecond: u32) -> Result<Timestamp, Reason>
     ensures { result ≡ timestamp_value seconds nanosecond }
 {

@@ -1,4 +1,4 @@
-//! The texts of moments with an offset, which take no memory.
+//! The texts of moments with an offset, which allocate nothing.
 ghost use Rattle.std.specs.Prelude.{◌≡◌, ◌≤◌, ◌++◌, IfOk, IfErr, drop, length};
 ghost use Rattle.movaliren_c.specs.Answer.{IsRefusedFor, IsText, IsWritten, gives};
 ghost use Rattle.movaliren_c.specs.Value.{moment_value};

@@ -86,7 +86,7 @@ fn reason_number(reason: Reason) -> isize
     }
 }
 
-/// The number that a call answers.
+/// The number that a call returns.
 pub fn answer_number(answer: Result<usize, Reason>) -> isize
     requires { IfOk answer (λ n. n < 0x8000_0000_0000_0000) }
     ensures { result ≡ answer_number answer }

@@ -1,4 +1,4 @@
-//! Stamps: texts of moments in UTC whose bytes stand in the order of the moments.
+//! Stamps: texts of moments in UTC whose bytes are in the order of the moments.
 ghost use Rattle.std.specs.Prelude.{◌≡◌};
 ghost use Rattle.movaliren_c.specs.Answer.{Answers, IsText, IsWritten, gives};
 ghost use Rattle.movaliren_c.specs.Value.{stamp_value};

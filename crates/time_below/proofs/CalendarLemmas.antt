@@ -78,7 +78,7 @@ date_at_shifted z n e =
     omega arith in
     same_date _ _ _ _ (rw day (omega (arith, ints))) (rw day refl)
 
--- the date of so many days from the start
+-- the date of this many days from the start
 pub date_at_from_start : (n : ℕ)
     → date_at (pos n -ℤ pos days_before) ≡ record {
       year = pos (years_at n) -ℤ pos greatest_year;

@@ -62,7 +62,7 @@ summed_more all left rest t sum item added new along next smaller of_item of_sum
           ∙ along.text;
     }
 
--- one more that is a text of so many bytes
+-- one more that is a text of this many bytes
 pub summed_text : {all_size left_size rest_size : ℕ} (all left rest : Trees) (t : Tree) (sum added new : Metadata)
     (width : ℕ)
     → Summed sum all left all_size left_size → left ≡ more t rest → rest_size ≤ left_size

@@ -75,7 +75,7 @@ joined_cmp a b p q m n rest j = by (compared a b) (compared p q) where
   by (equal h) (equal k) = rw (cmp_equal a b h, cmp_equal p q k, cmp_equal m n (j.equal h k)) refl
   by (equal h) (greater k) = rw (cmp_equal a b h, cmp_greater p q k, cmp_greater m n (j.greater h k)) refl
 
--- what stands behind a pair matters where the pair is equal
+-- what follows a pair matters where the pair is equal
 pub then_where_equal : (a b : ℕ) (x y : Ordering) → (a ≡ b → x ≡ y)
     → ordering_then (nat_cmp a b) x ≡ ordering_then (nat_cmp a b) y
 then_where_equal a b x y h = by (compared a b) where

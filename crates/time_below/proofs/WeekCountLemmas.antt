@@ -7,7 +7,7 @@ use Rattle.time_below.specs.Calendar.{monday_based_week_of, sunday_based_week_of
 use Rattle.time_below.proofs.CalendarLemmas.{days_of_years, day_number_from_start, weekday_from_start}
 use Rattle.time_below.proofs.YearLemmas.{years_from_start}
 
--- how many of the n days behind a place are at a place that seven divides
+-- how many of the n days after a place are at a place that seven divides
 abbrev sevenths : ℕ → ℕ → ℕ
 sevenths place n = (n + 6 - (place + n + 6) % 7) / 7
 

@@ -63,7 +63,7 @@ abbrev pub local_unix_seconds : OffsetDateAndTime → ℤ
 local_unix_seconds t =
     unix_seconds (record { date = t.date; time = t.time }) -ℤ offset_seconds t.offset
 
--- the UTC date of so many seconds since 1970-01-01
+-- the UTC date of this many seconds since 1970-01-01
 abbrev pub utc_date : ℤ → OrdinalDate
 utc_date seconds = date_at (int_div_euclid seconds (pos day_seconds) +ℤ pos unix_day)
 

@@ -21,7 +21,7 @@ period_of t = if nat_lt t.hour 12 then Am else Pm
 abbrev pub seconds_from_midnight : TimeOfDay → ℕ
 seconds_from_midnight t = 3600 * t.hour + 60 * t.minute + t.second
 
--- the time so many whole seconds after midnight
+-- the time this many whole seconds after midnight
 abbrev pub time_at : ℕ → ℕ → TimeOfDay
 time_at passed nanosecond =
     record {

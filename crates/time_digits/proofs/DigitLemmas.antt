@@ -18,7 +18,7 @@ pub use Rattle.time_digits.proofs.LengthLemmas.{length-fixed, decimal_longer}
 
 -- ---- fixed digits
 
--- one digit more: the last one stands behind the others
+-- one digit more: the last one follows the others
 pub fixed_step : (k n : ℕ) → fixed (suc k) n ≡ fixed k (n / 10) ++ (48 + n % 10) ∷ []
 unfolding fixed
 fixed_step k n = refl
@@ -50,7 +50,7 @@ fixed-append j (suc k) n =
     let e : j + suc k ≡ suc (j + k) = omega arith in
     rw (e, fixed-append j k (n / 10), div-ten-pow n k, append_assoc) refl
 
--- the last k digits do not look at what stands before them
+-- the last k digits do not look at what precedes them
 pub fixed-mod : (k n : ℕ) → fixed k (n % 10 ^ k) ≡ fixed k n
 unfolding fixed
 fixed-mod zero n = refl

@@ -18,7 +18,7 @@ pub use Rattle.time_digits.proofs.LengthLemmas.{length-trimmed_fraction}
 
 -- ---- zeros
 
--- zeros are zeros, and behind a text they change nothing about it
+-- zeros are zeros, and after a text they change nothing about it
 are_zeros-replicate : (k : ℕ) → are_zeros (replicate k 48) ≡ true
 are_zeros-replicate zero = refl
 are_zeros-replicate (suc k) = are_zeros-replicate k
@@ -141,7 +141,7 @@ without_last_zeros-take ds =
     let count : length ds - (length ds - length kept) ≡ length kept = omega (arith, length-without_last_zeros ds) in
     rw count (sym (rw filled at (take_at kept (replicate (length ds - length kept) 48) (length kept) refl)))
 
--- a trimmed text, by the zeros that end it behind its first byte
+-- a trimmed text, by the zeros that end it after its first byte
 trimmed-take : (d : ℕ) (ds : List ℕ) → trimmed (d ∷ ds) ≡ take (suc (length ds) - last_zeros ds) (d ∷ ds)
 trimmed-take d ds =
     let count : suc (length ds) - last_zeros ds ≡ suc (length ds - last_zeros ds) = omega (arith, last_zeros-le ds) in

@@ -1,4 +1,4 @@
--- Texts in pieces: what stands before the last digits, and then these.
+-- Texts in pieces: what precedes the last digits, and then these.
 use Rattle.std.proofs.Common.{◌≡◌, ℕ, suc, ◌+◌, ◌-◌, ◌/◌, ◌%◌, ◌^◌, ◌<◌, ◌≤◌, List, [], ◌∷◌, ◌++◌, length, refl, sym}
 use Rattle.std.proofs.Common.{ap, ap₂, ◌∙◌, arith, append_assoc, get_or, decimal}
 use Rattle.std.proofs.Math.Nat.{one-le-pow, div-le_self}

@@ -27,7 +27,7 @@ pub drop-put : (a k : ℕ) (bs xs : List ℕ) → a ≤ length bs → drop a (pu
 drop-put a k bs xs room =
     rw append_assoc (drop_at (take a bs) (xs ++ drop (a + k) bs) a (length-take-le a bs room))
 
--- a write right behind another is one write of both
+-- a write right after another is one write of both
 put_behind : (a j k : ℕ) (bs xs ys : List ℕ) → a + j + k ≤ length bs → length xs ≡ j → put (a + j) k (put a j bs xs) ys
     ≡ put a (j + k) bs (xs ++ ys)
 put_behind a j k bs xs ys room width =
@@ -58,7 +58,7 @@ one_put a bs [] zs room one same = cc
 one_put a bs (x ∷ []) zs room one same = rw (← same) (set_is a x bs (omega arith))
 one_put a bs (x ∷ y ∷ more) zs room one same = absurd (omega arith)
 
--- the bytes of a text of two, set at a and behind it
+-- the bytes of a text of two, set at a and after it
 pub two_put : (a : ℕ) (bs ds zs : List ℕ) → a + 2 ≤ length bs → length ds ≡ 2 → ds ≡ zs
     → set (set bs a (get_or ds 0 0)) (a + 1) (get_or ds 1 0) ≡ put a 2 bs zs
 two_put a bs [] zs room two same = cc
@@ -83,7 +83,7 @@ pub ruleset written = (two_fixed, decimal_one, one_put, two_put, length-fixed)
 two_pairs : (n : ℕ) → fixed 2 (n / 100) ++ fixed 2 (n % 100) ≡ fixed 4 n
 two_pairs n = ap (λ bs. fixed 2 (n / 100) ++ bs) (fixed-mod 2 n) ∙ sym (fixed-append 2 2 n)
 
--- two pairs written one behind the other are four digits written
+-- two pairs written one after the other are four digits written
 pub four_written : (a n : ℕ) (bs : List ℕ) → a + 4 ≤ length bs
     → put (a + 2) 2 (put a 2 bs (fixed 2 (n / 100))) (fixed 2 (n % 100)) ≡ put a 4 bs (fixed 4 n)
 four_written a n bs room =

@@ -8,7 +8,7 @@ use Rattle.time_digits.proofs.LengthLemmas.{some_digit, decimal_longer, length-d
 use Rattle.time_digits.proofs.TableLemmas.{same_below}
 use Rattle.time_digits.specs.declared.tables.TheConstants.{ZERO_PADDED_PAIRS}
 
--- each pair with zeros stands at twice its number
+-- each pair with zeros is at twice its number
 pairs_are : map (λ n. take 2 (drop (2 * n) ZERO_PADDED_PAIRS.now)) (range_with_len 0 100)
     ≡ map (zero_padded 2) (range_with_len 0 100)
 unfolding digits padded

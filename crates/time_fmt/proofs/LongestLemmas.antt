@@ -68,7 +68,7 @@ half_day_fills Am false = refl
 half_day_fills Pm true = refl
 half_day_fills Pm false = refl
 
--- it has then so many bytes
+-- it has then this many bytes
 text_fills : (k : Kind) (width : ℕ) → IsTrue (fills k width) → length (kind_text k) ≡ width
 text_fills (kind.number p places n) width h =
     let both = and_parts (nat_le places (length (decimal n))) (length (decimal n) == width) h in

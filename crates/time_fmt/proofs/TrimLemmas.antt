@@ -81,7 +81,7 @@ length-three n zeros some = ap length (sym (three_are n zeros some)) ∙ length-
 pub length-six : (n : ℕ) → n % 1_000 ≡ 0 → n / 1_000 % 10 ≢ 0 → length (trimmed_fraction n) ≡ 6
 length-six n zeros some = ap length (sym (six_are n zeros some)) ∙ length-first 6 3 n
 
--- a fraction that ends behind the ninth, the third or the sixth digit
+-- a fraction that ends after the ninth, the third or the sixth digit
 pub ruleset whole_fractions = (nine_are, three_are, six_are, length-nine, length-three, length-six)
 
 -- what the decimals of a component are, and how many

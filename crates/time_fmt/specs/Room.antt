@@ -2,7 +2,7 @@
 use Rattle.std.specs.Prelude.{ℕ, ◌≡◌, ◌+◌, ◌≤◌, ◌++◌, List, length, vec_len, vec_capacity, Vec}
 use Rattle.std.specs.Global.{Global}
 
--- the capacity leaves so many bytes behind what is there
+-- the capacity leaves this many bytes after what is there
 abbrev pub HasRoom : Vec ℕ Global → ℕ → Type 0
 HasRoom output width = vec_len output + width ≤ vec_capacity output
 

@@ -12,8 +12,8 @@ use crate::writers::{put_back, take_out};
 use time_below::format_description::Component;
 use time_provide::ComponentProvider;
 
-/// Appends the text of a component that is met often, and answers the number of bytes. Of any other
-/// component, and of one that is refused, it writes nothing, and answers nothing.
+/// Appends the text of a component that is met often, and returns the number of bytes. Of any other
+/// component, and of one that is refused, it writes nothing, and returns `None`.
 #[inline(always)]
 pub(crate) fn write_common<V: ComponentProvider>(
     component: Component,

@@ -168,7 +168,7 @@ fn make_room(output: &mut Vec<u8>, width: usize) -> Result<(), AllocError>
     output.reserve_exact(width.max(capacity.saturating_add(capacity - len)))
 }
 
-/// The bytes as a text, with U+FFFD for what is no character; a text takes no memory.
+/// The bytes as a text, with U+FFFD for what is no character; valid bytes are not copied.
 fn into_text(bytes: Vec<u8>) -> Result<String, Format>
     ensures text { IfOk result (λ text. string_bytes text ≡ lossy_text bytes.items) }
     ensures exact { IfOk result (λ text. IsUtf8 bytes.items → string_bytes text ≡ bytes.items) }

@@ -15,7 +15,7 @@ use time_provide::ComponentProvider;
 /// The choices of one component, whose type says which component it is.
 ///
 /// Each type of choices in `time_below::format_description::modifier` is one, but for those of
-/// deprecated components and of the two that have no text. The impls stand beside the writers of
+/// deprecated components and of the two that have no text. The impls are beside the writers of
 /// their group.
 pub trait Modifier: Copy {
     /// The component with these choices.

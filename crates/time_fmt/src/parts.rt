@@ -1,6 +1,6 @@
 //! Descriptions that are known when they are compiled, by their parts in order.
 //!
-//! A description that stands in the program's text needs no list of items: `text!` makes one of its parts,
+//! A description that is in the program's text needs no list of items: `text!` makes one of its parts,
 //! and the compiler one function of that, with the outcome of the list of the same items. One import has
 //! all that it takes:
 //!
@@ -25,7 +25,7 @@ pub use time_provide::DateState;
 ///
 /// A text in bytes, as `b"-"`, is a [`Literal`]. Any other part is a description: the choices of a
 /// component, a well-known format, a tree, or another `text!`. The parts are put together in pairs, four by
-/// four, so that pairs stand few deep: at a call of a method there may be 32 parts. (With more, the
+/// four, so that pairs are few deep: at a call of a method there may be 32 parts. (With more, the
 /// compiler's search for the impl ends: write a longer text by two calls.)
 #[macro_export]
 macro_rules! text {

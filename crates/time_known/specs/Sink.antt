@@ -2,7 +2,7 @@
 use base.Fml.{GName}
 use Rattle.std.specs.Prelude.{ℕ, ◌≡◌, ◌+◌, ◌≤◌, ◌++◌, List, length, drop, Option}
 
--- the bytes, their number, how many there may be, what stands behind them, and what all that is borrowed from
+-- the bytes, their number, how many there may be, what follows them, and what all that is borrowed from
 pub record Buffer : Type 0 where
   pub bytes : List ℕ
   pub len : ℕ
@@ -14,7 +14,7 @@ pub record Buffer : Type 0 where
 abbrev pub Fits : ℕ → Buffer → Type 0
 Fits width buffer = buffer.len + width ≤ buffer.capacity
 
--- The text was put behind the bytes. The capacity stays, so that what fits afterwards is less by the length of
+-- The text was put after the bytes. The capacity stays, so that what fits afterwards is less by the length of
 -- the text.
 pub record Puts (old new : Buffer) (text : List ℕ) : Type 0 where
   pub put : new.bytes ≡ old.bytes ++ text

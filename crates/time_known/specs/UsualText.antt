@@ -15,7 +15,7 @@ use Rattle.time_known.specs.declared.iso8601.config.FormattedComponents.TheVaria
 use Rattle.time_known.specs.declared.iso8601.config.OffsetPrecision.TheVariants as offset_precision
 use Rattle.time_known.specs.declared.iso8601.config.TimePrecision.TheVariants as precision
 
--- the month and the day behind four digits of the year, the time to the second or to decimals of it, and the offset to
+-- the month and the day after four digits of the year, the time to the second or to decimals of it, and the offset to
 -- the minute
 abbrev pub usual_choices : Bool → Option ℕ → DecimalSign → Choices
 usual_choices has_separators decimal_digits decimal_sign = record {

@@ -38,7 +38,7 @@ impl OutOfRange {
 }
 
 /// The year as a number of four digits, if it is from the first to 9,999, and the offset has at most
-/// so many hours and no seconds. Else the first of them that has no place.
+/// this many hours and no seconds. Else the first of them that has no place.
 #[inline(always)]
 pub fn accepted_year(
     first: u16,

@@ -13,7 +13,7 @@ pub trait Sink {
     /// What it holds, and how much it can.
     ghost buffer: { Self → Buffer };
 
-    /// Puts a piece behind what the sink holds.
+    /// Puts a piece after what the sink holds.
     fn put(&mut self, piece: &str)
         requires room { Fits (length piece.now) (buffer self.old) }
         ensures puts { Puts (buffer self.old) (buffer self.new) piece.now };
@@ -81,7 +81,7 @@ fn put_long(output: &mut Vec<u8>, piece: &str)
     put_back(output, taken);
 }
 
-// Appends the text, in pieces that are inlined, and answers the number of its bytes.
+// Appends the text, in pieces that are inlined, and returns the number of its bytes.
 #[inline(always)]
 pub(crate) fn append<T: Text>(output: &mut Vec<u8>, text: &T) -> usize
     requires room { HasRoom output.old (T.width text.now) }

@@ -254,7 +254,7 @@ const DECIMALS: &[Decimals] = &[
     ((0, 0, 0, 1), Second, ("00:00:00.", "000000001", b'0')),
 ];
 
-/// Formats the time, with separators and by either decimal sign, and compares so many decimals.
+/// Formats the time, with separators and by either decimal sign, and compares this many decimals.
 fn assert_decimals(
     rt: &impl Abort,
     alloc: Global,

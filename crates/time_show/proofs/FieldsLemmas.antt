@@ -49,7 +49,7 @@ pub record DigitMore (ds : List ℕ) (i : ℕ) : Type 0 where
 digit-range : (b : ℕ) → is_ascii_digit b ≡ true → IsInRange 48 57 b
 digit-range b h = grind arith
 
--- each place where a digit stands behind digits has one more
+-- each place where a digit follows digits has one more
 pub digit_more : (ds : List ℕ) (i : ℕ) → i < 9 → list_all is_ascii_digit (take i ds) ≡ true → i < length ds →
     is_ascii_digit (get_or ds i 0) ≡ true → DigitMore ds i
 digit_more ds i short before lt here =
@@ -157,7 +157,7 @@ no_natural_before text value count read lt =
     omega (arith, length-take k text, prefix_len-le-length (λ x. not (is_space x)) text) in
     no_natural (take k text) count inside (rw (get_or-take k text count 0 lt) read.ended)
 
--- a space stands at the first one
+-- a space is at the first one
 at_space : (text : List ℕ) → position_or_len is_space text < length text
     → is_space (get_or text (position_or_len is_space text) 0) ≡ false → ⊥
 at_space text lt other = absurd (cc (passes_at_first is_space text 0 lt, other))
@@ -172,7 +172,7 @@ no_space_before text value count read inside other le =
     rw same other))
     (cases_lt (position_or_len is_space text) count)
 
--- no digit, or another byte behind them than a space, is no number
+-- no digit, or another byte after them than a space, is no number
 missed : (text : List ℕ) (value count : ℕ) → LeadingDigits text value count →
     (count ≡ 0) ⊎ ((count < length text) × (is_space (get_or text count 0) ≡ false))
     → position_or_len is_space text ≤ count →

@@ -75,7 +75,7 @@ BreaksOff-later line answer text start lines h b e = record {
   unfinished = b.unfinished;
 }
 
--- what stands behind something in an empty text is empty
+-- what follows something in an empty text is empty
 no_text : (start missing : List ℕ) → start ++ missing ≡ [] → missing ≡ []
 no_text [] missing e = e
 no_text (b ∷ start) missing e = cc
@@ -204,7 +204,7 @@ CutsAnswersOff-after xs ys a b held p q before text upto =
       CutsOff-after (output_of a) (output_of b) held so_far.0 cut.2 so_far.1 cut.5,
     )
 
--- what waits behind answered bytes goes out
+-- the bytes that wait after answered ones go out
 pub AnswersOn-flushed : (bytes : List ℕ) (a b : RunState) (held : Option (List ℕ)) →
     AnswersOn bytes a b → Appends b.held held b.waiting → AnswersOn bytes a (state b.kept held [])
 AnswersOn-flushed bytes a b held p q before text upto =
@@ -216,7 +216,7 @@ AnswersOn-flushed bytes a b held p q before text upto =
       on.2,
     )
 
--- what waits behind answered bytes is cut off
+-- the bytes that wait after answered ones are cut off
 pub CutsAnswersOff-flushed : (bytes : List ℕ) (a b : RunState) (held : Option (List ℕ)) →
     AnswersOn bytes a b → AppendsStart b.held held b.waiting → CutsAnswersOff bytes a held
 CutsAnswersOff-flushed bytes a b held p q before text upto =

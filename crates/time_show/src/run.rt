@@ -36,7 +36,7 @@ impl From<WriteFailed> for ShowError {
     }
 }
 
-/// The reply to the line in the buffer, whose text stands in the vector.
+/// The reply to the line in the buffer, whose text is in the vector.
 fn reply_for<'a>(text: &'a mut Vec<u8>, line: &LineBuffer) -> Reply<'a>
     ensures { (whole : List ℕ) → line.now ≡ kept_of whole → IsAnswer whole (reply_text result) }
 {

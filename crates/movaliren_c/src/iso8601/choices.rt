@@ -140,7 +140,7 @@ impl Choices {
         )
     }
 
-    /// Whether the letter T stands before the time.
+    /// Whether the letter T precedes the time.
     pub fn has_time_letter(self) -> bool
         ensures { result ≡ has_time_letter self }
     {

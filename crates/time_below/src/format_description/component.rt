@@ -232,7 +232,7 @@ pub fn component_width(component: &Component) -> usize
     }
 }
 
-/// The most bytes that so many decimals of a second have.
+/// The most bytes that this many decimals of a second have.
 pub fn subsecond_width(digits: SubsecondDigits) -> usize
     ensures { result ≡ subsecond_width digits }
 {

@@ -7,7 +7,7 @@ use crate::format_description::Component;
 use std::alloc::AllocError;
 use std::clone::Clone;
 
-/// What stands at the head of a description, with the descriptions below it.
+/// What is at the head of a description, with the descriptions below it.
 #[derive_where(Copy)]
 pub enum Layer<'a, T> {
     /// Bytes, which need not be UTF-8.

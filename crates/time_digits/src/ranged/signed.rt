@@ -80,7 +80,7 @@ impl<const MAX: u8> ri8<MAX> {
         }
     }
 
-    /// Narrows the bounds to `-HIGH` to `HIGH`, or answers `None` if the number is outside.
+    /// Narrows the bounds to `-HIGH` to `HIGH`, or returns `None` if the number is outside.
     #[inline]
     pub fn narrow<const HIGH: u8>(self) -> Option<ri8<HIGH>>
         ensures { SomeIff result (unsigned_abs self.entry ≤ HIGH) self.entry }
@@ -165,7 +165,7 @@ impl<const MAX: u16> ri16<MAX> {
         }
     }
 
-    /// Narrows the bounds to `-HIGH` to `HIGH`, or answers `None` if the number is outside.
+    /// Narrows the bounds to `-HIGH` to `HIGH`, or returns `None` if the number is outside.
     #[inline]
     pub fn narrow<const HIGH: u16>(self) -> Option<ri16<HIGH>>
         ensures { SomeIff result (unsigned_abs self.entry ≤ HIGH) self.entry }
@@ -250,7 +250,7 @@ impl<const MAX: u32> ri32<MAX> {
         }
     }
 
-    /// Narrows the bounds to `-HIGH` to `HIGH`, or answers `None` if the number is outside.
+    /// Narrows the bounds to `-HIGH` to `HIGH`, or returns `None` if the number is outside.
     #[inline]
     pub fn narrow<const HIGH: u32>(self) -> Option<ri32<HIGH>>
         ensures { SomeIff result (unsigned_abs self.entry ≤ HIGH) self.entry }

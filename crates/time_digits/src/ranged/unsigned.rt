@@ -64,7 +64,7 @@ impl<const MIN: u8, const MAX: u8> ru8<MIN, MAX> {
         }
     }
 
-    /// Narrows the bounds to `LOW` to `HIGH`, or answers `None` if the number is outside.
+    /// Narrows the bounds to `LOW` to `HIGH`, or returns `None` if the number is outside.
     #[inline]
     pub fn narrow<const LOW: u8, const HIGH: u8>(self) -> Option<ru8<LOW, HIGH>>
         ensures { SomeIff result ((LOW ≤ self.entry) × (self.entry ≤ HIGH)) self.entry }
@@ -134,7 +134,7 @@ impl<const MIN: u16, const MAX: u16> ru16<MIN, MAX> {
         }
     }
 
-    /// Narrows the bounds to `LOW` to `HIGH`, or answers `None` if the number is outside.
+    /// Narrows the bounds to `LOW` to `HIGH`, or returns `None` if the number is outside.
     #[inline]
     pub fn narrow<const LOW: u16, const HIGH: u16>(self) -> Option<ru16<LOW, HIGH>>
         ensures { SomeIff result ((LOW ≤ self.entry) × (self.entry ≤ HIGH)) self.entry }
@@ -204,7 +204,7 @@ impl<const MIN: u32, const MAX: u32> ru32<MIN, MAX> {
         }
     }
 
-    /// Narrows the bounds to `LOW` to `HIGH`, or answers `None` if the number is outside.
+    /// Narrows the bounds to `LOW` to `HIGH`, or returns `None` if the number is outside.
     #[inline]
     pub fn narrow<const LOW: u32, const HIGH: u32>(self) -> Option<ru32<LOW, HIGH>>
         ensures { SomeIff result ((LOW ≤ self.entry) × (self.entry ≤ HIGH)) self.entry }

@@ -182,7 +182,7 @@ pub fn format_int_padded(output: &mut Vec<u8>, value: u64, width: u8) -> usize
     zeros + write(output, digits.as_str())
 }
 
-// Appends so many zeros.
+// Appends this many zeros.
 fn write_zeros(output: &mut Vec<u8>, count: usize) -> usize
     requires room { HasRoom output.old count }
     ensures writes { Writes output.old output.new result (replicate count 48) }

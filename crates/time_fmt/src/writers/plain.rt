@@ -25,7 +25,7 @@ pub(crate) fn put_back(output: &mut Vec<u8>, taken: Vec<u8>)
     forget(replace(output, taken))
 }
 
-/// Appends the bytes, and answers their number.
+/// Appends the bytes, and returns their number.
 #[inline(always)]
 pub fn write_bytes(output: &mut Vec<u8>, bytes: &[u8]) -> usize
     requires room { HasRoom output.old (length bytes.now) }
@@ -135,7 +135,7 @@ fn push_rest(output: &mut Vec<u8>, bytes: &[u8])
     }
 }
 
-/// Appends the text, and answers the number of its bytes.
+/// Appends the text, and returns the number of its bytes.
 #[inline(always)]
 pub fn write(output: &mut Vec<u8>, text: &str) -> usize
     requires room { HasRoom output.old (length text.now) }
@@ -159,7 +159,7 @@ pub(super) fn write_pair(output: &mut Vec<u8>, text: &str) -> usize
     2
 }
 
-/// Appends the texts one after another, and answers the number of their bytes.
+/// Appends the texts one after another, and returns the number of their bytes.
 #[inline]
 pub fn write_many(output: &mut Vec<u8>, texts: &[&str]) -> usize
     requires room { HasRoom output.old (length (joined texts.now)) }
@@ -172,7 +172,7 @@ pub fn write_many(output: &mut Vec<u8>, texts: &[&str]) -> usize
     sum
 }
 
-/// Appends the text if it is wanted, and answers the number of bytes appended.
+/// Appends the text if it is wanted, and returns the number of bytes appended.
 #[inline(always)]
 pub fn write_if(output: &mut Vec<u8>, is_wanted: bool, text: &str) -> usize
     requires room { HasRoom output.old (length (if is_wanted then text.now else [])) }
@@ -181,7 +181,7 @@ pub fn write_if(output: &mut Vec<u8>, is_wanted: bool, text: &str) -> usize
     if is_wanted { write(output, text) } else { 0 }
 }
 
-/// Appends the first text if it is wanted, else the other, and answers the number of bytes appended.
+/// Appends the first text if it is wanted, else the other, and returns the number of bytes appended.
 #[inline]
 pub fn write_if_else(output: &mut Vec<u8>, is_wanted: bool, text: &str, other: &str) -> usize
     requires room { HasRoom output.old (length (if is_wanted then text.now else other.now)) }

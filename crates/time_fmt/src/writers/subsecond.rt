@@ -118,9 +118,9 @@ fn write_decimals(output: &mut Vec<u8>, nanosecond: Nanoseconds, digits: Subseco
     fmt_subsecond(output, nanosecond, modifier::Subsecond { digits })
 }
 
-/// Appends the first three of the nine digits. Takes no memory and refuses nothing.
+/// Appends the first three of the nine digits. Allocates nothing and refuses nothing.
 ///
-/// Answers the number of bytes appended.
+/// Returns the number of bytes appended.
 #[inline(always)]
 #[tactic(auto, using(crate::proofs::DecimalLemmas::first_decimals))]
 pub fn write_three_decimals(output: &mut Vec<u8>, nanosecond: Nanoseconds) -> usize
@@ -182,9 +182,9 @@ fn write_rare_fraction(output: &mut Vec<u8>, nanosecond: Nanoseconds) -> usize
     count
 }
 
-/// Appends the first six of the nine digits. Takes no memory and refuses nothing.
+/// Appends the first six of the nine digits. Allocates nothing and refuses nothing.
 ///
-/// Answers the number of bytes appended.
+/// Returns the number of bytes appended.
 #[inline(always)]
 #[tactic(auto, using(crate::proofs::DecimalLemmas::six_digits))]
 pub fn write_six_decimals(output: &mut Vec<u8>, nanosecond: Nanoseconds) -> usize

@@ -6,7 +6,7 @@ use time_below::format_description::{
     BorrowedFormatItem, FormatDescriptionV3Inner, metadata_of_node,
 };
 
-/// How many lists stand in one another. Were each list measured twice, the innermost one would be
+/// How many lists are in one another. Were each list measured twice, the innermost one would be
 /// measured 2^64 times.
 const LEVELS: usize = 64;
 

@@ -36,7 +36,7 @@ fn a_text_stands_behind_a_megabyte(rt: HostRuntime) -> Result<(), Fail> {
     Ok(())
 }
 
-/// Compares the bytes with so many of these letters.
+/// Compares the bytes with this many of these letters.
 fn assert_repeated(rt: &impl Abort, bytes: &[u8], letter: &[u8], count: usize) {
     let mut found = 0usize;
     for piece in bytes.chunks(letter.len().max(1)) {

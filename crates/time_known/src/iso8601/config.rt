@@ -68,7 +68,7 @@ pub struct Config {
     decimal_sign: DecimalSign,
 }
 
-// What is left to choose for a text of the date by month and day behind four digits of the year, the time to
+// What is left to choose for a text of the date by month and day after four digits of the year, the time to
 // the second or to decimals of it, and the offset to the minute.
 #[derive(Clone, Copy)]
 pub(super) struct Usual {
@@ -235,7 +235,7 @@ impl Config {
         if self.use_separators { text } else { "" }
     }
 
-    // Whether the letter T stands before the time.
+    // Whether the letter T precedes the time.
     pub(super) fn has_time_letter(&self) -> bool
         ensures { result ≡ has_time_letter self.now }
     {

@@ -156,7 +156,7 @@ fn put_fraction_by<S: Sink>(output: &mut S, usual: &Usual, nanosecond: Nanosecon
     }
 }
 
-// Puts so many decimals of the second.
+// Puts this many decimals of the second.
 #[inline(always)]
 #[tactic(auto, using(crate::proofs::iso8601::LengthLemmas::decimals_of_second))]
 fn put_decimals<S: Sink>(output: &mut S, nanosecond: Nanoseconds, digits: ru8<1, 255>)

@@ -30,7 +30,7 @@ impl Write for Page {
     }
 }
 
-/// Asks for no memory but in `run`, so that it also passes where any one request is refused.
+/// Allocates nothing but in `run`, so that it also passes where any one allocation fails.
 #[test]
 fn goes_on_after_a_refusal(rt: HostRuntime) {
     let mut source: &[u8] = b"time 1 0 0 0\nno\ntime 2 0 0 0\ntime 3 0 0 0\n";

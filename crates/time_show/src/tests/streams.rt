@@ -166,7 +166,7 @@ fn makes_as_many_reads_as_there_are_bytes(rt: HostRuntime) -> Result<(), Fail> {
 const WRITES: &[((usize, usize, usize), &[usize])] = &[
     // They fill the buffer to its last byte.
     ((1776, 20, 0), &[16_384]),
-    // One more goes out behind a full buffer.
+    // One more goes out after a full buffer.
     ((1776, 21, 0), &[16_384, 20]),
     // One of 21 bytes does not fit into the 10 that are left, and is not torn.
     ((1786, 15, 1), &[16_374, 21]),
