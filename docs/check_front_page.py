@@ -19,7 +19,7 @@ def read(path):
 
 
 def without_marks(text):
-    """An example in a doc comment stands there behind these marks."""
+    """An example in a doc comment follows these marks."""
     return re.sub(r"^\s*//[/!] ?", "", text, flags=re.M)
 
 
@@ -40,7 +40,7 @@ def blocks(page):
 
 
 def answer_of(line):
-    """What the stored run of `time_show` answers to a line of its input."""
+    """The answer of `time_show` to a line of its stored run."""
     asked, answers = (read(f"crates/time_show/{name}").splitlines() for name in ("stdin", "stdout"))
     return answers[asked.index(line)] + "\n" if line in asked else None
 

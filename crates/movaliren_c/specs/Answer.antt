@@ -41,17 +41,17 @@ abbrev pub answer_number : Result ℕ Reason → ℤ
 answer_number (Ok n) = pos n
 answer_number (Err r) = reason_number r
 
--- the number of an answer of which so much is said
+-- the number of a result of which this holds
 abbrev pub Answers : ℤ → (Result ℕ Reason → Type 0) → Type 0
 Answers number P = (answer : Result ℕ Reason) × (number ≡ answer_number answer) × P answer
 
--- each number is that of one answer: a count, or one reason
+-- each number is that of one result: a count, or one reason
 abbrev pub NumbersAreToldApart : Type 0
 NumbersAreToldApart = (a b : Result ℕ Reason) → answer_number a ≡ answer_number b → a ≡ b
 
 -- ---- reasons
 
--- the reason for a refusal of a definition, by the name of the component that has no place
+-- the reason for a refusal of a definition, by the name of the component that is refused
 abbrev pub Refuses : Reason → Refusal → Type 0
 Refuses reason.NoPlaceForYear (invalid_component name) = name ≡ codes "year"
 Refuses reason.NoPlaceForOffsetHour (invalid_component name) = name ≡ codes "offset_hour"

@@ -143,7 +143,7 @@ pub fn provided_value(moment: &Moment) -> Result<OffsetDateTime, Reason>
     }
 }
 
-/// The date of a year, a month and a day, as descriptions take it.
+/// The date of a year, a month and a day, for descriptions.
 pub fn date_value(year: i32, month: u8, day: u8) -> Result<Date, Reason>
     ensures { result ≡ date_value year month day }
 {
@@ -174,7 +174,7 @@ pub fn stamp_value(seconds: i64, nanosecond: u32) -> Result<UtcDateTime, Reason>
     Ok(UtcDateTime::new(moment.date(), moment.time()))
 }
 
-/// The date and time so long after 1970, with this offset.
+/// The date and time this long after 1970, with this offset.
 #[inline(always)]
 #[tactic(auto, unfolding(crate::specs::Utc::value_at))]
 pub fn value_at(seconds: i64, nanosecond: u32, offset: KeptOffset) -> Result<LocalMoment, Reason>

@@ -97,7 +97,7 @@ pub fn answer_number(answer: Result<usize, Reason>) -> isize
     }
 }
 
-/// The reason that an error of the formatter is.
+/// The reason of an error of the formatter.
 pub fn reason_of(error: Format) -> Reason
     ensures { IsReasonFor result error }
 {
@@ -115,7 +115,7 @@ pub fn reason_of(error: Format) -> Reason
     }
 }
 
-/// The reason that a format has no place for a component.
+/// The reason of a component that a format refuses.
 pub fn reason_for(component: OutOfRange) -> Reason
     ensures { Refuses result (invalid_component (component_name component)) }
 {

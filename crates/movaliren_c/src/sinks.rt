@@ -14,7 +14,7 @@ pub struct ArraySink<const N: usize> {
 }
 
 impl<const N: usize> ArraySink<N> {
-    /// No text yet.
+    /// An empty text.
     #[inline(always)]
     pub fn new() -> Self
         ensures { result.text.bytes ≡ [] }
@@ -80,7 +80,7 @@ pub struct RoomSink<'a> {
 }
 
 impl<'a> RoomSink<'a> {
-    /// No text yet.
+    /// An empty text.
     #[inline(always)]
     pub fn new(room: &'a mut [u8]) -> RoomSink<'a>
         ensures len { result.len ≡ 0 }

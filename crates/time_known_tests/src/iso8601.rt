@@ -51,7 +51,7 @@ fn format_by(choices: &Choices) -> Iso8601 {
     Iso8601::new(config)
 }
 
-/// The default with these parts alone.
+/// The default configuration with these parts alone.
 fn with_parts(parts: Parts) -> Config {
     Config::default().set_formatted_components(parts)
 }

@@ -1,4 +1,4 @@
-//! Long texts, long outputs, long lists and deep trees. Memory is there, so its absence is not answered.
+//! Long texts, long outputs, long lists and deep trees. Memory is available, so no call is out of memory.
 use crate::texts::{DAY, assert_same, assert_text, assert_that};
 use crate::values::wednesday;
 use std::alloc::{AllocError, Global};

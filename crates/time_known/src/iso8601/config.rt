@@ -8,7 +8,7 @@ use std::default::Default;
 use std::marker::Model;
 use time_digits::ru8;
 
-/// Which parts are written.
+/// The parts of a text.
 #[derive(Debug, Clone, Copy, PartialEq, Eq)]
 pub enum FormattedComponents {
     /// No part, which formats nothing.
@@ -21,7 +21,7 @@ pub enum FormattedComponents {
     TimeOffset,
 }
 
-/// Which date is written.
+/// The kind of the date in a text.
 #[derive(Debug, Clone, Copy, PartialEq, Eq)]
 pub enum DateKind {
     /// The year, the month and the day (section 5.2.2).
@@ -56,7 +56,7 @@ pub enum OffsetPrecision {
     Minute,
 }
 
-/// How a text is written.
+/// The configuration of a text.
 #[derive(Debug, Clone, Copy, PartialEq, Eq)]
 pub struct Config {
     formatted_components: FormattedComponents,
