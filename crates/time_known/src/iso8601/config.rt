@@ -1,7 +1,7 @@
 //! The choices of ISO 8601-1:2019 that a text is written by.
-ghost use Rattle.std.specs.Prelude.{◌≡◌, IfSome};
+ghost use Rattle.std.specs.Prelude.{◌≡◌};
 ghost use Rattle.time_known.specs.Config.{default_choices, separator, decimal_sign_text, has_time_letter, has_date, has_time, has_offset, groups_of};
-ghost use Rattle.time_known.specs.UsualText.{usual_choices};
+ghost use Rattle.time_known.specs.UsualText.{IsUsual, usual_of};
 
 use crate::groups::Groups;
 use std::default::Default;
@@ -245,8 +245,8 @@ impl Config {
     // What is left to choose, where the rest is chosen as by most callers.
     #[inline(always)]
     pub(super) fn usual(&self) -> Option<Usual>
-        ensures { IfSome result (λ u. self.now
-            ≡ usual_choices u.has_separators u.decimal_digits u.decimal_sign) }
+        ensures left { result ≡ usual_of self.now }
+        ensures usual { IsUsual self.now result }
     {
         let parts = (self.formatted_components, self.date_kind);
         match (parts, self.time_precision, self.offset_precision) {

@@ -9,7 +9,8 @@ use time_digits::ru8;
 
 // Returns the width of the parts that are formatted. The usual configurations are tested first.
 pub(super) fn width(config: &Config) -> usize
-    ensures { result ≡ iso8601_width config.now }
+    ensures width { result ≡ iso8601_width config.now }
+    ensures most { result ≤ 284 }
 {
     if let Some(usual) = config.usual() {
         let signs = if usual.has_separators { 25 } else { 20 };
