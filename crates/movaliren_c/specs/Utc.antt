@@ -1,13 +1,15 @@
 -- The value that seconds since 1970 and a nanosecond give, in UTC or at an offset.
-use Rattle.std.specs.Prelude.{ℕ, ◌/◌, ◌%◌, ℤ, ◌+ℤ◌, pos, unsigned_abs, nat_lt, int_lt, Result, Ok}
+use Rattle.std.specs.Prelude.{◌≡◌, ℕ, ◌/◌, ◌%◌, ℤ, ◌+ℤ◌, pos, unsigned_abs, nat_lt, int_lt, Result, Ok}
 use Rattle.movaliren_c.specs.Answer.{gives}
 use Rattle.movaliren_c.specs.Chosen.{choices_at}
 use Rattle.movaliren_c.specs.Value.{checked, with_value, timestamp_value, stamp_value}
 use Rattle.movaliren_c.specs.declared.iso8601.choices.IsoConfig.{IsoConfig}
 use Rattle.movaliren_c.specs.declared.reason.Reason.{Reason}
 use Rattle.movaliren_c.specs.declared.reason.Reason.TheVariants as reason
-use Rattle.time_below.specs.Moment.{Moment, DateAndTime, OffsetDateAndTime}
-use Rattle.time_below.specs.Offset.{Offset, signed, utc}
+use Rattle.time_below.specs.Calendar.{IsDate}
+use Rattle.time_below.specs.Moment.{Moment, DateAndTime, OffsetDateAndTime, local_unix_seconds}
+use Rattle.time_below.specs.Offset.{Offset, IsOffset, offset_seconds, signed, utc}
+use Rattle.time_below.specs.TimeOfDay.{IsTimeOfDay}
 use Rattle.time_fmt.specs.Outcome.{Outcome}
 use Rattle.time_known.specs.Iso8601.{iso8601_of}
 
@@ -54,3 +56,13 @@ moved_east m east =
 abbrev pub local_value : ℤ → ℕ → ℤ → Result OffsetDateAndTime Reason
 local_value seconds nanosecond east =
     with_value (timestamp_value seconds nanosecond) (λ m. moved_east m east)
+
+-- a local date and time that there is, by its offset the moment of so many seconds since 1970 and a
+-- nanosecond, where clocks are so many seconds ahead of UTC
+pub record Means (seconds : ℤ) (nanosecond : ℕ) (east : ℤ) (t : OffsetDateAndTime) : Type 0 where
+  pub date : IsDate t.date
+  pub time : IsTimeOfDay t.time
+  pub offset : IsOffset t.offset
+  pub moment : local_unix_seconds t ≡ seconds
+  pub forward : t.time.nanosecond ≡ nanosecond
+  pub ahead : offset_seconds t.offset ≡ east
