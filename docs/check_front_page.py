@@ -62,7 +62,9 @@ COMMANDS = {
     "(cd crates/time_example && rt try <stdin)": example_output,
     "(cd crates/movaliren_c && rt lib) && make -C bindings/c install PREFIX=$HOME/.local":
         has("bindings/c/Makefile", "install: "),
-    "cc log.c -pthread $(pkg-config --cflags --libs movaliren)":
+    "export PKG_CONFIG_PATH=$HOME/.local/lib/pkgconfig LD_RUN_PATH=$HOME/.local/lib":
+        has("bindings/c/Makefile", "$(LIBDIR)/pkgconfig"),
+    "cc bindings/c/log.c -pthread $(pkg-config --cflags --libs movaliren)":
         has("bindings/c/log.c", "cc log.c -pthread $(pkg-config --cflags --libs movaliren)"),
     "(cd crates/movaliren_c && rt lib) && (cd bindings/rust && cargo run --offline --example show)":
         has("bindings/check", "--example show"),

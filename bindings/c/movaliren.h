@@ -61,7 +61,7 @@ enum movaliren_error {
     MOVALIREN_ERROR_BAD_ITEM = -19,
     MOVALIREN_ERROR_NO_ROOM = -20,
     MOVALIREN_ERROR_OUT_OF_MEMORY = -21,
-    MOVALIREN_ERROR_OTHER = -22 /* never answered */
+    MOVALIREN_ERROR_OTHER = -22 /* never returned */
 };
 
 /* The reason in words. */

@@ -149,7 +149,7 @@ list_of [] = Ok []
 list_of (Err r ∷ rest) = Err r
 list_of (Ok a ∷ rest) = with_value (list_of rest) (λ others. Ok (a ∷ others))
 
--- the trees of the items, in order, or the reason why the first that is none is none
+-- the trees of the items, in order, or the reason why the first invalid one is invalid
 abbrev pub trees_of : List ℕ → List Item → Result (List Tree) Reason
 trees_of texts items = list_of (map (item_tree texts) items)
 

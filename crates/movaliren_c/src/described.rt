@@ -150,8 +150,7 @@ where
     }
 }
 
-/// The width of the items, up to the greatest `isize`, or the reason why the first that is none is
-/// none.
+/// The width of the items, up to the greatest `isize`, or the reason of the first invalid item.
 fn width(items: &[Item], texts: &[u8]) -> Result<usize, Reason>
     ensures { result ≡ width_answer (trees_of texts.now items.now) }
 {

@@ -16,7 +16,7 @@ pub trait MomentText: Text + Copy {
     /// What the format gives.
     ghost outcome: { OffsetDateAndTime → Outcome };
 
-    /// The text of the value, or why there is none.
+    /// The text of the value, or the reason why it has none.
     fn of_value(value: &LocalMoment) -> Result<Self, Reason>
         ensures text { IfOk result (λ t. outcome value.now ≡ done (Self.text t)) }
         ensures width { IfOk result (λ t. Self.width t ≤ 35) }

@@ -7,7 +7,7 @@ ghost use Rattle.time_known.specs.Accepted.{component_name};
 use time_fmt::Format;
 use time_known::accepted::OutOfRange;
 
-/// Why there is no text.
+/// The reason why there is no text.
 #[derive(Clone, Copy)]
 pub enum Reason {
     /// The year is outside -999,999 to 999,999.

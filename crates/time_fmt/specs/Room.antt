@@ -1,4 +1,4 @@
--- Room at the end of a vector of bytes, and what is written into it.
+-- Spare capacity at the end of a vector of bytes, and what is written into it.
 use Rattle.std.specs.Prelude.{ℕ, ◌≡◌, ◌+◌, ◌≤◌, ◌++◌, List, length, vec_len, vec_capacity, Vec}
 use Rattle.std.specs.Global.{Global}
 

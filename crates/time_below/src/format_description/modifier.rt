@@ -365,7 +365,7 @@ pub enum YearRepr {
 pub enum YearRange {
     /// The years -9999 to 9999.
     Standard,
-    /// Whatever its size.
+    /// A year of any size.
     Extended,
 }
 

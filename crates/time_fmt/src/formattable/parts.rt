@@ -16,7 +16,7 @@ use crate::writers::{put_back, take_out};
 use time_below::format_description::Metadata;
 use time_provide::ComponentProvider;
 
-/// A text as it is, of this many bytes. It is sure to be UTF-8 where it is ASCII.
+/// A text as it is, of this many bytes. It is guaranteed to be UTF-8 if it is ASCII.
 #[derive(Clone, Copy)]
 pub struct Literal<const N: usize>(pub [u8; N]);
 
