@@ -46,7 +46,7 @@ is_moment s n m h =
     let real : IsMoment (record { seconds = s; nanosecond = n }) = ((omega (arith, ints), omega (arith, ints)), grind (arith, nat_tests)) in
     (subst IsMoment same real, sym (ap (λ (x : Moment). x.seconds) same), sym (ap (λ (x : Moment). x.nanosecond) same))
 
--- a date and time of a real moment, and the offset at which it is told
+-- a date and time of a real moment, and its offset
 at_offset : (s : ℤ) (n : ℕ) (o : Offset) (t : OffsetDateAndTime) → value_at s n o ≡ Ok t
     → (m : Moment) × IsMoment m × (m.seconds ≡ s) × (m.nanosecond ≡ n) × (t ≡ with_offset o (utc_date_and_time m))
 unfolding value_at

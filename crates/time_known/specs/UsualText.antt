@@ -44,7 +44,7 @@ usual_of c =
     left_of c.formatted_components c.date_kind c.time_precision c.offset_precision c.year_is_six_digits c.use_separators
     c.decimal_sign
 
--- where something is left to choose, it is all that is
+-- what is left to choose, if anything is, decides all choices
 abbrev pub IsUsual : Choices → Option Usual → Type 0
 IsUsual c usual = IfSome usual (λ u. c ≡ usual_choices u.has_separators u.decimal_digits u.decimal_sign)
 
