@@ -13,7 +13,7 @@ use time_known::accepted::{OutOfRange, accepted_year};
 use time_known::days::CalendarDay;
 use time_known::fields::{Fields, OffsetFields, TimeFields};
 
-/// The year of four digits, or the first component of the value that has no place.
+/// The year of four digits, or the first component of the value that is refused.
 #[inline(always)]
 pub fn accepted_year_of(
     first: u16,

@@ -61,7 +61,7 @@ table_length = refl
 pub table_ascii : is_ascii DAYS.now ≡ true
 table_ascii = refl
 
--- for the calls that borrow parts of a row
+-- lemmas for the calls that borrow parts of a row
 pub ruleset digits_of_days = (month_digits, day_digits, table_length, table_ascii)
 
 pub ruleset names_of_days = (name_letters, table_length, table_ascii)
@@ -76,7 +76,7 @@ common_days : map (λ n. month_and_day_in true (day_of_leap_year false (n + 1)))
 unfolding days_of_months last_begun
 common_days = refl
 
--- so is each day of a year
+-- each day of a year has the month and day of its day in a leap year
 pub same_month_and_day : (is_leap : Bool) (ordinal : ℕ) → IsInRange 1 (if is_leap then 366 else 365) ordinal
     → month_and_day_in true (day_of_leap_year is_leap ordinal) ≡ month_and_day_in is_leap ordinal
 same_month_and_day true ordinal h = refl

@@ -1,4 +1,4 @@
--- The text of ISO 8601 by the configurations that most callers ask for, of a value of which nothing is refused.
+-- The text of ISO 8601 by the usual configurations, of a value of which nothing is refused.
 use Rattle.std.specs.Prelude.{ℕ, ◌≡◌, ◌++◌, Bool, false, List, codes, Option, Some, None, IfSome, unsigned_abs, if◌then◌else◌}
 use Rattle.time_below.specs.Facts.{DateFacts}
 use Rattle.time_below.specs.Offset.{Offset, is_utc}
@@ -19,7 +19,7 @@ use Rattle.time_known.specs.declared.iso8601.config.TimePrecision.{TimePrecision
 use Rattle.time_known.specs.declared.iso8601.config.TimePrecision.TheVariants as precision
 use Rattle.time_known.specs.declared.iso8601.config.Usual.{Usual}
 
--- the month and the day behind four digits of the year, the time to the second or to decimals of it, and the offset to
+-- the month and the day after four digits of the year, the time to the second or to decimals of it, and the offset to
 -- the minute
 abbrev pub usual_choices : Bool → Option ℕ → DecimalSign → Choices
 usual_choices has_separators decimal_digits decimal_sign = record {
@@ -44,7 +44,7 @@ usual_of c =
     left_of c.formatted_components c.date_kind c.time_precision c.offset_precision c.year_is_six_digits c.use_separators
     c.decimal_sign
 
--- where something is left to choose, it is all that is
+-- what is left to choose, if anything is, decides all choices
 abbrev pub IsUsual : Choices → Option Usual → Type 0
 IsUsual c usual = IfSome usual (λ u. c ≡ usual_choices u.has_separators u.decimal_digits u.decimal_sign)
 
@@ -65,7 +65,7 @@ usual_text c digits d t o =
     ++ usual_time_text (separator c (codes ":")) c.decimal_sign digits t
     ++ usual_offset_text (separator c (codes ":")) o
 
--- the same text by the fields of the value
+-- the text by the fields of the value
 abbrev pub usual_of_fields : Choices → Option ℕ → Shown → List ℕ
 usual_of_fields c digits f =
     date_of_fields (separator c (codes "-")) f

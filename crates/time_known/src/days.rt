@@ -152,7 +152,7 @@ fn day_of_leap_year(is_leap: bool, ordinal: Ordinal) -> Ordinal
     }
 }
 
-// So many bytes of the row of a day, from one on.
+// This many bytes of the row of a day, from one on.
 #[inline]
 #[tactic(auto, using(crate::proofs::DayLemmas::boundary))]
 fn piece_of_row(table: &'static str, day: Ordinal, from: usize, len: usize) -> &'static str

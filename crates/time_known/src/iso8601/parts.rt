@@ -20,9 +20,9 @@ use crate::iso8601::usual_text::write_usual;
 use time_fmt::Format;
 use time_provide::ComponentProvider;
 
-// Appends the parts that are formatted, of a value that supplies their groups. Nothing to format is
-// refused. What most callers ask for has a way of its own, but for values of which something is
-// refused.
+// Appends the parts that are formatted, of a value that supplies their groups. A configuration that
+// formats nothing is refused. The usual configurations have a fast path, unless something of the
+// value is refused.
 #[inline(always)]
 pub(super) fn write_parts<V: ComponentProvider>(
     config: &Config,

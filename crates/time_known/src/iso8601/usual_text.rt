@@ -1,4 +1,4 @@
-//! The texts of the configurations that most callers ask for, in pieces that are inlined.
+//! The texts of the usual configurations, in pieces that are inlined.
 ghost use Rattle.std.specs.Prelude.{◌≡◌, ◌+◌, ◌*◌, ◌++◌, length, Some, OnSome, MatchOption, Ok};
 ghost use Rattle.time_fmt.specs.Decimals.{decimals};
 ghost use Rattle.time_fmt.specs.Outcome.{AppendsUpTo};
@@ -156,7 +156,7 @@ fn put_fraction_by<S: Sink>(output: &mut S, usual: &Usual, nanosecond: Nanosecon
     }
 }
 
-// Puts so many decimals of the second.
+// Puts this many decimals of the second.
 #[inline(always)]
 #[tactic(auto, using(crate::proofs::iso8601::LengthLemmas::decimals_of_second))]
 fn put_decimals<S: Sink>(output: &mut S, nanosecond: Nanoseconds, digits: ru8<1, 255>)
