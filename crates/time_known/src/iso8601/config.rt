@@ -68,13 +68,16 @@ pub struct Config {
     decimal_sign: DecimalSign,
 }
 
-// What is left to choose for a text of the date by month and day behind four digits of the year, the time to
-// the second or to decimals of it, and the offset to the minute.
+/// What is left to choose for a text of the date by month and day behind four digits of the year, the time to
+/// the second or to decimals of it, and the offset to the minute.
 #[derive(Clone, Copy)]
-pub(super) struct Usual {
-    pub(super) has_separators: bool,
-    pub(super) decimal_digits: Option<ru8<1, 255>>,
-    pub(super) decimal_sign: DecimalSign,
+pub struct Usual {
+    /// Whether there are separators.
+    pub has_separators: bool,
+    /// How many decimals of the second are written, if any.
+    pub decimal_digits: Option<ru8<1, 255>>,
+    /// The sign before them.
+    pub decimal_sign: DecimalSign,
 }
 
 impl Model for Config {
@@ -192,37 +195,50 @@ impl Config {
         }
     }
 
-    pub(super) fn formatted_components(&self) -> FormattedComponents
+    /// The parts that are written.
+    pub fn formatted_components(&self) -> FormattedComponents
         ensures { result ≡ self.now.formatted_components }
     {
         self.formatted_components
     }
 
-    pub(super) fn year_is_six_digits(&self) -> bool
+    /// Whether there are separators.
+    pub fn use_separators(&self) -> bool
+        ensures { result ≡ self.now.use_separators }
+    {
+        self.use_separators
+    }
+
+    /// Whether the year has six digits and its sign, and not four digits.
+    pub fn year_is_six_digits(&self) -> bool
         ensures { result ≡ self.now.year_is_six_digits }
     {
         self.year_is_six_digits
     }
 
-    pub(super) fn date_kind(&self) -> DateKind
+    /// The kind of date.
+    pub fn date_kind(&self) -> DateKind
         ensures { result ≡ self.now.date_kind }
     {
         self.date_kind
     }
 
-    pub(super) fn time_precision(&self) -> TimePrecision
+    /// The precision of the time.
+    pub fn time_precision(&self) -> TimePrecision
         ensures { result ≡ self.now.time_precision }
     {
         self.time_precision
     }
 
-    pub(super) fn offset_precision(&self) -> OffsetPrecision
+    /// The precision of the offset.
+    pub fn offset_precision(&self) -> OffsetPrecision
         ensures { result ≡ self.now.offset_precision }
     {
         self.offset_precision
     }
 
-    pub(super) fn decimal_sign(&self) -> DecimalSign
+    /// The sign before the decimals of the time.
+    pub fn decimal_sign(&self) -> DecimalSign
         ensures { result ≡ self.now.decimal_sign }
     {
         self.decimal_sign
@@ -235,16 +251,16 @@ impl Config {
         if self.use_separators { text } else { "" }
     }
 
-    // Whether the letter T stands before the time.
-    pub(super) fn has_time_letter(&self) -> bool
+    /// Whether the letter T stands before the time.
+    pub fn has_time_letter(&self) -> bool
         ensures { result ≡ has_time_letter self.now }
     {
         !self.use_separators || self.formatted_components.has_date()
     }
 
-    // What is left to choose, where the rest is chosen as by most callers.
+    /// What is left to choose, where the rest is chosen as by most callers.
     #[inline(always)]
-    pub(super) fn usual(&self) -> Option<Usual>
+    pub fn usual(&self) -> Option<Usual>
         ensures { IfSome result (λ u. self.now
             ≡ usual_choices u.has_separators u.decimal_digits u.decimal_sign) }
     {
@@ -275,8 +291,8 @@ impl Config {
         }
     }
 
-    // Whether the time is formatted.
-    pub(super) fn has_time(&self) -> bool
+    /// Whether the time is formatted.
+    pub fn has_time(&self) -> bool
         ensures { result ≡ has_time self.now.formatted_components }
     {
         self.formatted_components.has_time()

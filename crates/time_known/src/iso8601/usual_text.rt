@@ -54,11 +54,13 @@ pub(super) fn write_usual<V: ComponentProvider>(
     }
 }
 
-// The text by such choices, of fields of which nothing is refused.
+/// The text by such choices, of fields of which nothing is refused.
 #[derive(Clone, Copy)]
-struct UsualText {
-    usual: Usual,
-    fields: Fields,
+pub struct UsualText {
+    /// The choices.
+    pub usual: Usual,
+    /// The fields.
+    pub fields: Fields,
 }
 
 impl Text for UsualText {
