@@ -1,5 +1,5 @@
 //! The choices of ISO 8601-1:2019 that a text is written by.
-ghost use Rattle.std.specs.Prelude.{◌≡◌, IfSome};
+ghost use Rattle.std.specs.Prelude.{◌≡◌, ◌↔◌, IfSome, IsTrue};
 ghost use Rattle.time_known.specs.Config.{default_choices, separator, decimal_sign_text, has_time_letter, has_date, has_time, has_offset, groups_of};
 ghost use Rattle.time_known.specs.UsualText.{usual_choices};
 
@@ -251,8 +251,8 @@ impl Config {
         if self.use_separators { text } else { "" }
     }
 
-    /// Whether the letter T stands before the time.
-    pub fn has_time_letter(&self) -> bool
+    // Whether the letter T stands before the time.
+    pub(super) fn has_time_letter(&self) -> bool
         ensures { result ≡ has_time_letter self.now }
     {
         !self.use_separators || self.formatted_components.has_date()
@@ -279,6 +279,13 @@ impl Config {
         }
     }
 
+    /// Whether the configuration has no part.
+    pub fn formats_nothing(&self) -> bool
+        ensures { IsTrue result ↔ self.now.formatted_components ≡ FormattedComponents.None }
+    {
+        matches!(self.formatted_components, FormattedComponents::None)
+    }
+
     // The groups of a value that are formatted.
     pub(super) fn groups(&self) -> Groups
         ensures { result ≡ groups_of self.now.formatted_components }
@@ -289,6 +296,20 @@ impl Config {
             time: components.has_time(),
             offset: components.has_offset(),
         }
+    }
+
+    /// Whether the date is formatted.
+    pub fn has_date(&self) -> bool
+        ensures { result ≡ has_date self.now.formatted_components }
+    {
+        self.formatted_components.has_date()
+    }
+
+    /// Whether the offset is formatted.
+    pub fn has_offset(&self) -> bool
+        ensures { result ≡ has_offset self.now.formatted_components }
+    {
+        self.formatted_components.has_offset()
     }
 
     /// Whether the time is formatted.

@@ -10,7 +10,8 @@ use time_digits::ru8;
 
 // The width of the parts that are formatted. What most callers ask for is told first.
 pub(super) fn width(config: &Config) -> usize
-    ensures { result ≡ iso8601_width config.now }
+    ensures width { result ≡ iso8601_width config.now }
+    ensures most { result ≤ 284 }
 {
     if let Some(usual) = config.usual() {
         return usual.width();
@@ -30,6 +31,14 @@ pub(super) fn width(config: &Config) -> usize
 }
 
 impl Config {
+    /// The most bytes of a text by this configuration: at most 284.
+    pub fn width(&self) -> usize
+        ensures width { result ≡ iso8601_width self.now }
+        ensures most { result ≤ 284 }
+    {
+        width(self)
+    }
+
     /// The most bytes of the date by this configuration, which `format_date` needs room for: 7 to 13.
     /// It is told whether or not the configuration formats dates.
     pub fn date_width(&self) -> usize
