@@ -17,7 +17,7 @@ use crate::room::copied;
 use crate::sinks::ArraySink;
 use crate::writer::Writer;
 pub use config::{IsoConfig, config_at};
-use time_known::iso8601::{Config, DefaultText, Parts, UsualText, put_parts};
+use time_known::iso8601::{Config, DefaultText, Parts, SeparatedText, put_parts};
 
 /// The format of ISO 8601 by its default configuration, over moments with an offset.
 pub struct Iso8601;
@@ -82,7 +82,7 @@ impl Writer for IsoConfig {
     fn write(&self, moment: &Moment, room: &mut [u8]) -> Result<usize, Reason> {
         match config_at(self) {
             Ok(config) => match moment_value(moment) {
-                Ok(value) => written_by(&config, &value, room),
+                Ok(value) => written_by(config, value, room),
                 Err(reason) => Err(reason),
             },
             Err(reason) => Err(reason),
@@ -93,10 +93,10 @@ impl Writer for IsoConfig {
 /// Writes the text of the value by a configuration to the start of the room. What most callers ask for
 /// has a way of its own, but for values of which something is refused, and for small rooms.
 #[inline(always)]
-pub fn written_by(config: &Config, value: &LocalMoment, room: &mut [u8]) -> Result<usize, Reason>
-    ensures { IsWritten result (iso8601_of config.now value.now) room.old room.new }
+pub fn written_by(config: Config, value: LocalMoment, room: &mut [u8]) -> Result<usize, Reason>
+    ensures { IsWritten result (iso8601_of config value) room.old room.new }
 {
-    match usual_written(config, value, room) {
+    match usual_written(&config, &value, room) {
         Some(count) => Ok(count),
         None => copied_by(config, value, room),
     }
@@ -109,7 +109,7 @@ fn usual_written(config: &Config, value: &LocalMoment, room: &mut [u8]) -> Optio
     ensures { MatchOption result (room.new ≡ room.old)
         (λ n. IsWritten (Ok n) (iso8601_of config.now value.now) room.old room.new) }
 {
-    let Some(usual) = config.usual() else {
+    let Some(usual) = config.separated() else {
         return None;
     };
     if room.len() < usual.width() {
@@ -118,7 +118,7 @@ fn usual_written(config: &Config, value: &LocalMoment, room: &mut [u8]) -> Optio
     match accepted_year_of(0, 25, value) {
         Ok(year) => {
             let fields = fields_of(year, value);
-            Some(put_at_start(&UsualText { usual, fields }, room))
+            Some(put_at_start(&SeparatedText { usual, fields }, room))
         }
         Err(_) => None,
     }
@@ -126,15 +126,15 @@ fn usual_written(config: &Config, value: &LocalMoment, room: &mut [u8]) -> Optio
 
 /// Writes the text by way of an array, since a part may be refused behind others.
 #[inline(never)]
-fn copied_by(config: &Config, value: &LocalMoment, room: &mut [u8]) -> Result<usize, Reason>
-    ensures { IsWritten result (iso8601_of config.now value.now) room.old room.new }
+fn copied_by(config: Config, value: LocalMoment, room: &mut [u8]) -> Result<usize, Reason>
+    ensures { IsWritten result (iso8601_of config value) room.old room.new }
 {
     if config.formats_nothing() {
         return Err(Reason::Insufficient);
     }
-    let parts = parts_of(config, value);
+    let parts = parts_of(&config, &value);
     let _width = config.width();
-    copied_parts(config, &parts, room)
+    copied_parts(&config, &parts, room)
 }
 
 /// Writes the text of the parts by way of an array. No text has more bytes: 13 of the date, 265 of the

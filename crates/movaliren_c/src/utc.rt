@@ -148,7 +148,7 @@ fn written_in_utc(
 {
     match config_at(config) {
         Ok(config) => match utc_value(seconds, nanosecond) {
-            Ok(value) => written_by(&config, &value, room),
+            Ok(value) => written_by(config, value, room),
             Err(reason) => Err(reason),
         },
         Err(reason) => Err(reason),

@@ -1,5 +1,5 @@
 //! The choices of ISO 8601-1:2019 that a text is written by.
-ghost use Rattle.std.specs.Prelude.{◌≡◌, ◌↔◌, IfSome, IsTrue};
+ghost use Rattle.std.specs.Prelude.{◌≡◌, ◌↔◌, IfSome, IsTrue, true};
 ghost use Rattle.time_known.specs.Config.{default_choices, separator, decimal_sign_text, has_time_letter, has_date, has_time, has_offset, groups_of};
 ghost use Rattle.time_known.specs.UsualText.{usual_choices};
 
@@ -276,6 +276,25 @@ impl Config {
                 decimal_sign: self.decimal_sign,
             }),
             _ => None,
+        }
+    }
+
+    /// What is left to choose, where it is usual and has separators.
+    #[inline(always)]
+    pub fn separated(&self) -> Option<Usual>
+        ensures choices { IfSome result (λ u. self.now
+            ≡ usual_choices true u.decimal_digits u.decimal_sign) }
+        ensures separators { IfSome result (λ u. IsTrue u.has_separators) }
+    {
+        match self.usual() {
+            Some(usual) => {
+                if usual.has_separators {
+                    Some(usual)
+                } else {
+                    None
+                }
+            }
+            None => None,
         }
     }
 

@@ -1,5 +1,5 @@
 //! The texts of the configurations that most callers ask for, in pieces that are inlined.
-ghost use Rattle.std.specs.Prelude.{◌≡◌, ◌+◌, ◌*◌, ◌++◌, length, Some, OnSome, MatchOption, Ok};
+ghost use Rattle.std.specs.Prelude.{◌≡◌, ◌+◌, ◌*◌, ◌++◌, length, Some, OnSome, MatchOption, Ok, true};
 ghost use Rattle.time_fmt.specs.Decimals.{decimals};
 ghost use Rattle.time_fmt.specs.Outcome.{AppendsUpTo};
 ghost use Rattle.time_fmt.specs.Room.{HasRoom};
@@ -52,13 +52,11 @@ pub(super) fn write_usual<V: ComponentProvider>(
     }
 }
 
-/// The text by such choices, of fields of which nothing is refused.
+// The text by such choices, of fields of which nothing is refused.
 #[derive(Clone, Copy)]
-pub struct UsualText {
-    /// The choices.
-    pub usual: Usual,
-    /// The fields.
-    pub fields: Fields,
+struct UsualText {
+    usual: Usual,
+    fields: Fields,
 }
 
 impl Text for UsualText {
@@ -77,6 +75,29 @@ impl Text for UsualText {
         } else {
             put_usual(output, &self.usual, &self.fields, "", "");
         }
+    }
+}
+
+/// The text by such choices with separators, of fields of which nothing is refused.
+#[derive(Clone, Copy)]
+pub struct SeparatedText {
+    /// The decimals and their sign.
+    pub usual: Usual,
+    /// The fields.
+    pub fields: Fields,
+}
+
+impl Text for SeparatedText {
+    ghost width = { λ t. iso8601_width
+        (usual_choices true t.usual.decimal_digits t.usual.decimal_sign) };
+
+    ghost text = { λ t. usual_of_fields
+        (usual_choices true t.usual.decimal_digits t.usual.decimal_sign)
+        t.usual.decimal_digits t.fields };
+
+    #[inline(always)]
+    fn put_into<S: Sink>(&self, output: &mut S) {
+        put_usual(output, &self.usual, &self.fields, "-", ":");
     }
 }
 

@@ -1,4 +1,4 @@
-use Rattle.std.proofs.Common.{◌≡◌, ◌++◌, ℕ, Ok, drop, refl, sym, ap, ◌∙◌, subst}
+use Rattle.std.proofs.Common.{◌≡◌, true, ◌++◌, ℕ, Ok, drop, refl, sym, ap, ◌∙◌, subst}
 use Rattle.time_below.specs.Facts.{date_facts}
 use Rattle.time_fmt.specs.Outcome.{Outcome, done}
 use Rattle.time_known.specs.Config.{Choices}
@@ -12,12 +12,12 @@ pub returns-in-Ok : goal.returns-in-Ok
 returns-in-Ok c =
     let v = c.args.value.now in
     let u = c.in-Some.usual in
-    let choices = usual_choices u.has_separators u.decimal_digits u.decimal_sign in
+    let choices = usual_choices true u.decimal_digits u.decimal_sign in
     let text = usual_text choices u.decimal_digits (date_facts v.date) v.time v.offset in
     let written = usual_of_fields choices u.decimal_digits c.fields_of-fields.result in
     let whole : iso8601_of c.args.config.now v ≡ done written =
-    ap (λ (chosen : Choices). iso8601_of chosen v) c.in-Some.ensures
-    ∙ usual_accepted choices u.has_separators u.decimal_digits u.decimal_sign (date_facts v.date) v.time
+    ap (λ (chosen : Choices). iso8601_of chosen v) c.in-Some.ensures.choices
+    ∙ usual_accepted choices true u.decimal_digits u.decimal_sign (date_facts v.date) v.time
     v.offset text refl (c.in-Ok.ensures.accepted text)
     ∙ ap (λ f. done (usual_of_fields choices u.decimal_digits f)) (sym c.fields_of-fields.ensures) in
     let room = c.put_at_start.ensures.text
