@@ -90,8 +90,8 @@ impl Writer for IsoConfig {
     }
 }
 
-/// Writes the text of the value by a configuration to the start of the room. What most callers ask for
-/// has a way of its own, but for values of which something is refused, and for small rooms.
+/// Writes the text of the value by a configuration to the start of the buffer. The usual
+/// configurations have a fast path, unless something of the value is refused or the buffer is small.
 #[inline(always)]
 pub fn written_by(config: Config, value: LocalMoment, room: &mut [u8]) -> Result<usize, Reason>
     ensures { IsWritten result (iso8601_of config value) room.old room.new }

@@ -11,10 +11,11 @@ ghost use Rattle.time_known.specs.Iso8601Parts.{chosen_parts, date_parts, parts_
 ghost use Rattle.time_known.specs.Iso8601Width.{iso8601_width};
 ghost use Rattle.time_known.specs.Sink.{Fits};
 ghost use Rattle.time_known.specs.Accepted.{PutsOutcome};
+ghost use Rattle.time_known.specs.UsualText.{IsUsual};
 
 use crate::accepted::OutOfRange;
 use crate::fields::{OffsetFields, TimeFields, offset_of, time_of};
-use crate::iso8601::config::{Config, DateKind, FormattedComponents};
+use crate::iso8601::config::{Config, DateKind, FormattedComponents, Usual};
 use crate::iso8601::date::put_date_part;
 use crate::iso8601::offset::put_offset_part;
 use crate::iso8601::time::put_time_part;
@@ -168,16 +169,18 @@ fn parts_of<V: ComponentProvider>(config: &Config, value: &V, state: &mut V::Sta
     Parts { date, time, offset }
 }
 
-// Appends the parts that are formatted, of a value that supplies their groups. Nothing to format is
-// refused. What most callers ask for has a way of its own, but for values of which something is
-// refused.
+// Appends the parts that are formatted, of a value that supplies their groups. A configuration that
+// formats nothing is refused. The usual configurations have a fast path, unless something of the
+// value is refused.
 #[inline(always)]
 pub(super) fn write_parts<V: ComponentProvider>(
     config: &Config,
+    usual: &Option<Usual>,
     output: &mut Vec<u8>,
     value: &V,
     state: &mut V::State,
 ) -> Result<usize, Format>
+    requires usual { IsUsual config.now usual.now }
     requires supplied { IsTrue (are_supplied (groups_of config.now.formatted_components)
         V.SUPPLIES_DATE V.SUPPLIES_TIME V.SUPPLIES_OFFSET) }
     requires room { HasRoom output.old (iso8601_width config.now) }
@@ -189,8 +192,8 @@ pub(super) fn write_parts<V: ComponentProvider>(
         → AreReal (V.facts value.now)) }
     ensures agrees { V.agrees state.new value.now }
 {
-    if let Some(usual) = config.usual() {
-        if let Some(count) = write_usual(config, &usual, output, value, state) {
+    if let Some(usual) = usual {
+        if let Some(count) = write_usual(config, usual, output, value, state) {
             return Ok(count);
         }
     }

@@ -1,7 +1,8 @@
-use Rattle.std.proofs.Common.{◌≡◌, true, ◌++◌, ℕ, Ok, drop, refl, sym, ap, ◌∙◌, subst}
+use Rattle.std.proofs.Common.{◌≡◌, true, true, ◌++◌, ℕ, Ok, drop, refl, sym, ap, ◌∙◌, subst}
 use Rattle.time_below.specs.Facts.{date_facts}
 use Rattle.time_fmt.specs.Outcome.{Outcome, done}
 use Rattle.time_known.specs.Config.{Choices}
+use Rattle.time_known.specs.Fields.{shown}
 use Rattle.time_known.specs.Iso8601.{iso8601_of}
 use Rattle.time_known.specs.UsualText.{usual_choices, usual_of_fields, usual_text}
 use Rattle.time_known.proofs.AcceptedLemmas.{usual_accepted}
@@ -14,7 +15,7 @@ returns-in-Ok c =
     let u = c.in-Some.usual in
     let choices = usual_choices true u.decimal_digits u.decimal_sign in
     let text = usual_text choices u.decimal_digits (date_facts v.date) v.time v.offset in
-    let written = usual_of_fields choices u.decimal_digits c.fields_of-fields.result in
+    let written = usual_of_fields choices u.decimal_digits (shown c.fields_of-fields.result) in
     let whole : iso8601_of c.args.config.now v ≡ done written =
     ap (λ (chosen : Choices). iso8601_of chosen v) c.in-Some.ensures.choices
     ∙ usual_accepted choices true u.decimal_digits u.decimal_sign (date_facts v.date) v.time
