@@ -1,8 +1,6 @@
--- Texts appended to a line one after another.
-use Rattle.std.proofs.Common.{◌≡◌, ℕ, List, [], ◌++◌, Option, Some, None, Result, Ok, Err, IsSomeAnd, refl, ap, ◌∙◌}
-use Rattle.std.proofs.Common.{append_assoc}
-use Rattle.arrayvec.specs.ArrayString.{ArrayString}
-use Rattle.movaliren_c.specs.Answer.{IsPushed, IsRefusedFor, IsWritten}
+-- Outcomes one after another.
+use Rattle.std.proofs.Common.{◌≡◌, ℕ, List, ◌++◌, Option, Some, None, Result, IsSomeAnd, refl}
+use Rattle.movaliren_c.specs.Answer.{IsRefusedFor, IsWritten}
 use Rattle.movaliren_c.specs.declared.reason.Reason.{Reason}
 use Rattle.time_fmt.specs.Outcome.{Outcome, Refusal, join, done}
 
@@ -23,23 +21,8 @@ refused_first a b r h =
     let some = some_of _ a.refusal h in
     rw (join_refused a b some.0 some.1) h
 
--- what is pushed first, and then the rest
-pub pushed_then : (old mid new : ArrayString) (result : Result Unit Reason) (a b : Outcome)
-    → IsPushed old mid (Ok tt) a → IsPushed mid new result b → IsPushed old new result (join a b)
-pushed_then old mid new (Ok u) a b first then =
-    rw (join_done a b first.0) (
-      then.0,
-      then.1 ∙ ap (λ bytes. bytes ++ b.bytes) first.1 ∙
-          append_assoc old.bytes a.bytes b.bytes,
-    )
-pushed_then old mid new (Err r) a b first then = rw (join_done a b first.0) then
-
--- the line that was pushed is the text of the outcome
-pub written_line : (answer : Result ℕ Reason) (o : Outcome) (old new : ArrayString) (before after :
-    List ℕ)
-    → old.bytes ≡ [] → IsPushed old new (Ok tt) o → IsWritten answer (done new.bytes) before after
-    → IsWritten answer o before after
-written_line answer o old new before after empty pushed written =
-    let bytes : new.bytes ≡ o.bytes = rw empty at pushed.1 in
-    let same : done new.bytes ≡ o = rw (bytes, ← pushed.0) refl in
-    rw (← same) written
+-- the bytes of a completed outcome, copied, are its text
+pub copied_whole : (answer : Result ℕ Reason) (o : Outcome) (bytes before after : List ℕ) → bytes ≡ o.bytes
+    → o.refusal ≡ None → IsWritten answer (done bytes) before after → IsWritten answer o before after
+copied_whole answer o bytes before after same completed written =
+    let is : done bytes ≡ o = rw (same, ← completed) refl in rw (← is) written

@@ -1,7 +1,6 @@
 -- The result of a call across the border.
 use Rattle.std.specs.Prelude.{◌≡◌, ◌≢◌, ◌<◌, ◌++◌, ◌⊎◌, ℕ, ℤ, pos, neg_ℤ, List, length, drop, codes, None, Result, Ok}
 use Rattle.std.specs.Prelude.{Err, IsSomeAnd}
-use Rattle.arrayvec.specs.ArrayString.{ArrayString}
 use Rattle.movaliren_c.specs.Value.{with_value}
 use Rattle.movaliren_c.specs.declared.reason.Reason.{Reason}
 use Rattle.movaliren_c.specs.declared.reason.Reason.TheVariants as reason
@@ -104,10 +103,3 @@ abbrev pub IsTextInMemory : Result Outcome Reason → Result ℕ Reason → List
 IsTextInMemory (Ok o) answer before after =
     ((answer ≡ Err reason.OutOfMemory) × (after ≡ before)) ⊎ IsWritten answer o before after
 IsTextInMemory (Err r) answer before after = (answer ≡ Err r) × (after ≡ before)
-
--- ---- lines
-
--- the bytes of a whole outcome were appended to a line, or the reason is that of its refusal
-abbrev pub IsPushed : ArrayString → ArrayString → Result Unit Reason → Outcome → Type 0
-IsPushed old new (Ok u) o = (o.refusal ≡ None) × (new.bytes ≡ old.bytes ++ o.bytes)
-IsPushed old new (Err r) o = IsRefusedFor r o

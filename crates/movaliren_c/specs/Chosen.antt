@@ -1,7 +1,7 @@
 -- The configuration of ISO 8601 that numbers choose.
 use Rattle.std.specs.Prelude.{ℕ, Bool, true, false, ◌==◌, Option, Some, None, Result, Ok, Err, if◌then◌else◌}
 use Rattle.movaliren_c.specs.Value.{with_value}
-use Rattle.movaliren_c.specs.declared.iso8601.choices.IsoConfig.{IsoConfig}
+use Rattle.movaliren_c.specs.declared.iso8601.config.IsoConfig.{IsoConfig}
 use Rattle.movaliren_c.specs.declared.reason.Reason.{Reason}
 use Rattle.movaliren_c.specs.declared.reason.Reason.TheVariants as reason
 use Rattle.time_known.specs.Config.{Choices}

@@ -3,7 +3,7 @@ use Rattle.std.specs.Prelude.{◌≡◌, ℕ, ◌/◌, ◌%◌, ℤ, ◌+ℤ◌,
 use Rattle.movaliren_c.specs.Answer.{gives}
 use Rattle.movaliren_c.specs.Chosen.{choices_at}
 use Rattle.movaliren_c.specs.Value.{checked, with_value, timestamp_value, stamp_value}
-use Rattle.movaliren_c.specs.declared.iso8601.choices.IsoConfig.{IsoConfig}
+use Rattle.movaliren_c.specs.declared.iso8601.config.IsoConfig.{IsoConfig}
 use Rattle.movaliren_c.specs.declared.reason.Reason.{Reason}
 use Rattle.movaliren_c.specs.declared.reason.Reason.TheVariants as reason
 use Rattle.time_below.specs.Calendar.{IsDate}

@@ -1,17 +1,20 @@
 //! The fields of values, from which the texts of moments are written.
 ghost use Rattle.std.specs.Prelude.{◌≡◌, ◌≤◌, ℕ, List, IfOk, IfErr, unsigned_abs};
-ghost use Rattle.time_below.specs.Facts.{date_facts};
+ghost use Rattle.time_below.specs.Facts.{date_facts, facts_of_offset_date_time};
 ghost use Rattle.time_fmt.specs.Outcome.{done};
 ghost use Rattle.time_known.specs.Accepted.{checked_text, refused_for};
 ghost use Rattle.time_known.specs.Fields.{fields, offset_fields, shown, time_fields};
+ghost use Rattle.time_known.specs.Iso8601Parts.{chosen_parts, date_parts};
 
+use crate::calendar_date::CalendarDate;
 use crate::kept_offset::KeptOffset;
 use crate::moment::LocalMoment;
 use time_below::Time;
-use time_digits::{ru8, ru16, ru32};
+use time_digits::{ri32, ru8, ru16, ru32};
 use time_known::accepted::{OutOfRange, accepted_year};
 use time_known::days::CalendarDay;
 use time_known::fields::{Fields, OffsetFields, TimeFields};
+use time_known::iso8601::{Config, DateKind, DateParts, Parts, RestOfDate};
 
 /// The year of four digits, or the first component of the value that is refused.
 #[inline(always)]
@@ -84,4 +87,58 @@ pub fn offset_of(offset: &KeptOffset) -> OffsetFields
         minutes: ru8::within(offset.minutes_size()),
         seconds: ru8::within(offset.seconds_size()),
     }
+}
+
+/// The fields of a date by this kind.
+fn date_of(kind: DateKind, date: CalendarDate) -> DateParts
+    ensures { result ≡ date_parts kind (date_facts date) }
+{
+    match kind {
+        DateKind::Calendar => DateParts {
+            year: ri32::within(date.year()),
+            rest: RestOfDate::MonthAndDay {
+                month: ru8::within(date.month()),
+                day: ru8::within(date.day()),
+            },
+        },
+        DateKind::Week => {
+            let date = date.date();
+            let (year, week) = date.iso_year_week();
+            DateParts {
+                year: ri32::within(year),
+                rest: RestOfDate::WeekAndWeekday {
+                    week: ru8::within(week),
+                    weekday: ru8::within(date.weekday().number_from_monday()),
+                },
+            }
+        }
+        DateKind::Ordinal => DateParts {
+            year: ri32::within(date.year()),
+            rest: RestOfDate::DayOfYear {
+                day: ru16::within(date.date().ordinal()),
+            },
+        },
+    }
+}
+
+/// The fields of the parts of a value that a configuration writes.
+pub fn parts_of(config: &Config, value: &LocalMoment) -> Parts
+    ensures { result ≡ chosen_parts config.now (facts_of_offset_date_time value.now) }
+{
+    let date = if config.has_date() {
+        Some(date_of(config.date_kind(), value.date()))
+    } else {
+        None
+    };
+    let time = if config.has_time() {
+        Some(time_of(value.time()))
+    } else {
+        None
+    };
+    let offset = if config.has_offset() {
+        Some(offset_of(value.offset()))
+    } else {
+        None
+    };
+    Parts { date, time, offset }
 }

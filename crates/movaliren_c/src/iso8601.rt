@@ -1,29 +1,23 @@
 //! ISO 8601-1:2019, by its default configuration and by any other.
-ghost use Rattle.std.specs.Prelude.{◌≡◌, [], Some, None};
-ghost use Rattle.movaliren_c.specs.Answer.{Answers, IsPushed, IsText, IsWritten, gives};
+ghost use Rattle.std.specs.Prelude.{◌≡◌, ◌≤◌, Ok, MatchOption};
+ghost use Rattle.movaliren_c.specs.Answer.{Answers, IsText, IsWritten, gives};
 ghost use Rattle.movaliren_c.specs.Chosen.{choices_at};
 ghost use Rattle.movaliren_c.specs.Value.{moment_value, with_value};
 ghost use Rattle.time_known.specs.Config.{default_choices};
 ghost use Rattle.time_known.specs.Iso8601.{iso8601_of};
+ghost use Rattle.time_known.specs.Iso8601Parts.{parts_text, parts_width};
 
-mod choices;
-mod date;
-mod offset;
-mod time;
+mod config;
 
-use crate::fields::{accepted_year_of, fields_of};
+use crate::fields::{accepted_year_of, fields_of, parts_of};
 use crate::moment::{LocalMoment, Moment, moment_value};
-use crate::moment_text::{MomentText, write_moment};
+use crate::moment_text::{MomentText, put_at_start, write_moment};
 use crate::reason::{Reason, answer_number, reason_for};
 use crate::room::copied;
+use crate::sinks::ArraySink;
 use crate::writer::Writer;
-use arrayvec::ArrayString;
-use choices::Choices;
-pub use choices::{IsoConfig, choices_at};
-use date::push_date;
-use offset::push_offset;
-use time::push_time;
-use time_known::iso8601::{DefaultText, FormattedComponents};
+pub use config::{IsoConfig, config_at};
+use time_known::iso8601::{Config, DefaultText, Parts, SeparatedText, put_parts};
 
 /// The format of ISO 8601 by its default configuration, over moments with an offset.
 pub struct Iso8601;
@@ -86,9 +80,9 @@ impl Writer for IsoConfig {
         with_value (choices_at config) (λ c. gives (moment_value moment) (iso8601_of c)) };
 
     fn write(&self, moment: &Moment, room: &mut [u8]) -> Result<usize, Reason> {
-        match choices_at(self) {
-            Ok(choices) => match moment_value(moment) {
-                Ok(value) => written_by(choices, &value, room),
+        match config_at(self) {
+            Ok(config) => match moment_value(moment) {
+                Ok(value) => written_by(config, value, room),
                 Err(reason) => Err(reason),
             },
             Err(reason) => Err(reason),
@@ -96,50 +90,64 @@ impl Writer for IsoConfig {
     }
 }
 
-/// Writes the text of the value to the start of the buffer. A text has at most 284 bytes: 13 of the
-/// date, 265 of the time and 6 of the offset.
+/// Writes the text of the value by a configuration to the start of the buffer. The usual
+/// configurations have a fast path, unless something of the value is refused or the buffer is small.
 #[inline(always)]
-pub fn written_by(choices: Choices, value: &LocalMoment, room: &mut [u8]) -> Result<usize, Reason>
-    ensures { IsWritten result (iso8601_of choices value.now) room.old room.new }
+pub fn written_by(config: Config, value: LocalMoment, room: &mut [u8]) -> Result<usize, Reason>
+    ensures { IsWritten result (iso8601_of config value) room.old room.new }
 {
-    let mut line = ArrayString::<284>::new();
-    match push_parts(&mut line, choices, value) {
-        Ok(()) => copied(line.as_str().as_bytes(), room),
-        Err(reason) => Err(reason),
+    match usual_written(&config, &value, room) {
+        Some(count) => Ok(count),
+        None => copied_by(config, value, room),
     }
 }
 
-/// Appends the parts that are chosen.
+/// Writes the text by a usual configuration, if nothing of the value is refused, and the room holds
+/// each of its texts; else it writes nothing.
 #[inline(always)]
-fn push_parts(
-    line: &mut ArrayString<284>,
-    choices: Choices,
-    value: &LocalMoment,
-) -> Result<(), Reason>
-    requires empty { line.old.bytes ≡ [] }
-    ensures { IsPushed line.old line.new result (iso8601_of choices value.now) }
+fn usual_written(config: &Config, value: &LocalMoment, room: &mut [u8]) -> Option<usize>
+    ensures { MatchOption result (room.new ≡ room.old)
+        (λ n. IsWritten (Ok n) (iso8601_of config.now value.now) room.old room.new) }
 {
-    match choices.formatted_components() {
-        FormattedComponents::None => Err(Reason::Insufficient),
-        FormattedComponents::Date => push_date(line, choices, value.date()),
-        FormattedComponents::Time => push_time(line, choices, value.time()),
-        FormattedComponents::Offset => push_offset(line, choices, value.offset()),
-        FormattedComponents::DateTime => {
-            if let Err(reason) = push_date(line, choices, value.date()) {
-                return Err(reason);
-            }
-            push_time(line, choices, value.time())
+    let Some(usual) = config.separated() else {
+        return None;
+    };
+    if room.len() < usual.width() {
+        return None;
+    }
+    match accepted_year_of(0, 25, value) {
+        Ok(year) => {
+            let fields = fields_of(year, value);
+            Some(put_at_start(&SeparatedText { usual, fields }, room))
         }
-        FormattedComponents::DateTimeOffset => {
-            if let Err(reason) = push_date(line, choices, value.date()) {
-                return Err(reason);
-            }
-            push_time(line, choices, value.time())?;
-            push_offset(line, choices, value.offset())
-        }
-        FormattedComponents::TimeOffset => {
-            push_time(line, choices, value.time())?;
-            push_offset(line, choices, value.offset())
-        }
+        Err(_) => None,
+    }
+}
+
+/// Writes the text by way of an array, since a part may be refused behind others.
+#[inline(never)]
+fn copied_by(config: Config, value: LocalMoment, room: &mut [u8]) -> Result<usize, Reason>
+    ensures { IsWritten result (iso8601_of config value) room.old room.new }
+{
+    if config.formats_nothing() {
+        return Err(Reason::Insufficient);
+    }
+    let parts = parts_of(&config, &value);
+    let _width = config.width();
+    copied_parts(&config, &parts, room)
+}
+
+/// Writes the text of the parts by way of an array. No text has more bytes: 13 of the date, 265 of the
+/// time and 6 of the offset.
+#[inline(always)]
+#[tactic(auto, using(crate::proofs::PushLemmas::copied_whole))]
+fn copied_parts(config: &Config, parts: &Parts, room: &mut [u8]) -> Result<usize, Reason>
+    requires width { parts_width config.now parts.now ≤ 284 }
+    ensures { IsWritten result (parts_text config.now parts.now) room.old room.new }
+{
+    let mut line = ArraySink::<284>::new();
+    match put_parts(&mut line, config, parts) {
+        Ok(()) => copied(line.as_bytes(), room),
+        Err(component) => Err(reason_for(component)),
     }
 }

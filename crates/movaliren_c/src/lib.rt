@@ -18,7 +18,6 @@ pub mod laws;
 mod local;
 mod moment;
 mod moment_text;
-mod pieces;
 mod reason;
 mod rfc2822;
 mod rfc3339;

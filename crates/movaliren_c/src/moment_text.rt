@@ -62,7 +62,7 @@ fn write_in_place<T: MomentText>(value: &LocalMoment, room: &mut [u8]) -> Result
 
 /// Puts the text at the start of the buffer, and returns the number of its bytes.
 #[inline(always)]
-fn put_at_start<T: Text>(text: &T, room: &mut [u8]) -> usize
+pub fn put_at_start<T: Text>(text: &T, room: &mut [u8]) -> usize
     requires room { T.width text.now ≤ length room.old }
     ensures count { result ≡ length (T.text text.now) }
     ensures text { room.new

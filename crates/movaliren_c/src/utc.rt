@@ -7,7 +7,7 @@ ghost use Rattle.time_known.specs.Iso8601.{iso8601_of};
 ghost use Rattle.time_known.specs.Rfc2822.{rfc2822_of};
 ghost use Rattle.time_known.specs.Rfc3339.{rfc3339_of};
 
-use crate::iso8601::{IsoConfig, choices_at, written_by};
+use crate::iso8601::{IsoConfig, config_at, written_by};
 use crate::kept_offset::KeptOffset;
 use crate::moment::{LocalMoment, UtcMoment, value_at};
 use crate::moment_text::write_value;
@@ -146,9 +146,9 @@ fn written_in_utc(
 ) -> Result<usize, Reason>
     ensures { IsText (iso8601_by_utc config.now seconds nanosecond) result room.old room.new }
 {
-    match choices_at(config) {
-        Ok(choices) => match utc_value(seconds, nanosecond) {
-            Ok(value) => written_by(choices, &value, room),
+    match config_at(config) {
+        Ok(config) => match utc_value(seconds, nanosecond) {
+            Ok(value) => written_by(config, value, room),
             Err(reason) => Err(reason),
         },
         Err(reason) => Err(reason),

@@ -38,7 +38,7 @@ pub of_the_time : (f : Facts) (outcome : TimeOfDay → Outcome) → is_some f.ti
 of_the_time f outcome h = of_supplied f.time _ outcome h
 
 -- the outcome by the offset of a value that has one, under the name of the clauses
-of_the_offset : (f : Facts) (outcome : Offset → Outcome) → is_some f.offset ≡ true
+pub of_the_offset : (f : Facts) (outcome : Offset → Outcome) → is_some f.offset ≡ true
     → of_group f.offset outcome ≡ outcome (the_offset f)
 of_the_offset f outcome h = of_supplied f.offset _ outcome h
 

@@ -6,7 +6,7 @@ use Rattle.std.specs.Global.{Global}
 use Rattle.time_fmt.specs.Outcome.{AppendsUpTo, done}
 use Rattle.time_fmt.specs.Room.{WritesUpTo}
 use Rattle.time_fmt.proofs.WriteLemmas.{appends_up_to}
-use Rattle.time_known.specs.Sink.{Buffer, Puts, PutsUpTo}
+use Rattle.time_known.specs.Sink.{Buffer, Puts, PutsJust, PutsUpTo}
 
 -- a piece is put up to its own length
 pub whole : {old new : Buffer} {text : List ℕ} → Puts old new text → PutsUpTo (length text) old new text
@@ -17,6 +17,17 @@ whole p = record {
   rest = p.rest;
   lender = p.lender;
   within = omega arith;
+}
+
+-- so is one of just so many bytes
+pub just : {a : ℕ} {old new : Buffer} {text : List ℕ} → PutsJust a old new text → PutsUpTo a old new text
+just p = record {
+  put = p.put;
+  grown = omega (arith, p.grown, p.long);
+  capacity = p.capacity;
+  rest = p.rest;
+  lender = p.lender;
+  within = omega (arith, p.long);
 }
 
 -- one after the other

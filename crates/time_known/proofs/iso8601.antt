@@ -3,6 +3,7 @@ pub mod DateLemmas
 pub mod GroupLemmas
 pub mod LengthLemmas
 pub mod OffsetLemmas
+pub mod PartsLemmas
 pub mod ReadBackLemmas
 pub mod TimeLemmas
 pub mod WholeLemmas

@@ -1,6 +1,7 @@
 -- What of a value a format has no place for.
-use Rattle.std.specs.Prelude.{ℕ, ℤ, List, codes, nat_lt}
-use Rattle.time_fmt.specs.Outcome.{Outcome, done, refused, invalid_component}
+use Rattle.std.specs.Prelude.{ℕ, ℤ, ◌≡◌, List, codes, nat_lt, Option, Some, None, Result, Ok, Err}
+use Rattle.time_fmt.specs.Outcome.{Outcome, Refusal, done, refused, invalid_component}
+use Rattle.time_known.specs.Sink.{Buffer, PutsUpTo}
 use Rattle.time_known.specs.WellKnown.{refused_if, is_outside}
 use Rattle.time_known.specs.declared.accepted.OutOfRange.{OutOfRange}
 use Rattle.time_known.specs.declared.accepted.OutOfRange.TheVariants as out
@@ -22,3 +23,13 @@ checked_text first greatest_hour year hour second text =
     refused_if (is_outside first 9_999 year) (codes "year")
     (refused_if (nat_lt greatest_hour hour) (codes "offset_hour")
     (refused_if (nat_lt 0 second) (codes "offset_second") (done text)))
+
+-- the refusal of the component that has no place, if there is one
+abbrev pub refusal_of : Result Unit OutOfRange → Option Refusal
+refusal_of (Ok u) = None
+refusal_of (Err component) = Some (invalid_component (component_name component))
+
+-- the bytes of the outcome were put into a sink, and the answer is its refusal
+pub record PutsOutcome (width : ℕ) (old new : Buffer) (answer : Result Unit OutOfRange) (o : Outcome) : Type 0 where
+  pub puts : PutsUpTo width old new o.bytes
+  pub refusal : o.refusal ≡ refusal_of answer

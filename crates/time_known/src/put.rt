@@ -1,9 +1,8 @@
 //! The pieces of texts, put into a sink. Each is inlined, so that it becomes a few stores.
-ghost use Rattle.std.specs.Prelude.{◌≡◌, ◌+◌, ◌*◌, ◌<◌, ◌≤◌, ◌++◌, length, take};
+ghost use Rattle.std.specs.Prelude.{◌≡◌, ◌+◌, ◌*◌, ◌++◌, length, take};
 ghost use Rattle.time_below.specs.Weekday.{days_from_monday};
 ghost use Rattle.time_digits.specs.Digits.{fixed, zero_padded};
 ghost use Rattle.time_digits.specs.Fraction.{trimmed_fraction};
-ghost use Rattle.time_fmt.specs.Decimals.{decimals};
 ghost use Rattle.time_fmt.specs.DateText.{month_name, weekday_name, short_name};
 ghost use Rattle.time_known.specs.Days.{month_and_day};
 ghost use Rattle.time_known.specs.Fields.{date_of_fields, hours_of_fields, offset_of_fields, shown, signed_offset_of_fields, time_of_day};
@@ -16,7 +15,7 @@ use crate::sink::Sink;
 use time_below::Weekday;
 use time_digits::num_fmt::{three_digits_zero_padded, truncated_subsecond_from_nanos};
 use time_digits::{
-    four_digits_zero_padded, ru8, ru16, single_digit, subsecond_from_nanos, two_digits_zero_padded,
+    four_digits_zero_padded, ru8, ru16, subsecond_from_nanos, two_digits_zero_padded,
 };
 use time_provide::ranges::Nanoseconds;
 
@@ -123,23 +122,6 @@ pub fn put_fraction<S: Sink>(output: &mut S, nanosecond: Nanoseconds)
     }
     let digits = truncated_subsecond_from_nanos(nanosecond);
     output.put(digits.as_str());
-}
-
-/// Puts the first decimals of `rest / unit`, not rounded, by long division: for sinks that have no
-/// faster way.
-pub fn put_by_digits<S: Sink>(output: &mut S, rest: u64, unit: u64, digits: ru8<1, 255>)
-    requires part { rest < unit }
-    requires unit { unit ≤ 3_600_000_000_000 }
-    requires room { Fits digits (S.buffer output.old) }
-    ensures puts { Puts (S.buffer output.old) (S.buffer output.new) (decimals rest unit digits) }
-{
-    let count = digits.get();
-    let mut left = rest;
-    for _ in 0..count {
-        let scaled = left * 10;
-        output.put(single_digit(ru8::within((scaled / unit) as u8)));
-        left = scaled % unit;
-    }
 }
 
 /// Puts the year, the month and the day, and the separator between them.

@@ -2,17 +2,17 @@
 use Rattle.std.proofs.Common.{◌≡◌, ℕ, true, false, refl, sym, ap, subst, ◌∙◌, arith, Result, Vec}
 use Rattle.std.specs.Global.{Global}
 use Rattle.std.proofs.lemmas.Grind.{common_steps}
-use Rattle.time_below.specs.Facts.{Facts, the_date, the_time}
+use Rattle.time_below.specs.Facts.{Facts}
 use Rattle.time_fmt.specs.declared.error.Format.{Format}
-use Rattle.time_fmt.specs.Outcome.{AppendsUpTo, refused, join, insufficient}
+use Rattle.time_fmt.specs.Outcome.{AppendsUpTo, refused, insufficient}
 use Rattle.time_known.specs.Config.{Choices, groups_of}
 use Rattle.time_known.specs.declared.groups.Groups.{Groups}
 use Rattle.time_known.specs.declared.iso8601.config.FormattedComponents.{FormattedComponents}
 use Rattle.time_known.specs.declared.iso8601.config.FormattedComponents.TheVariants as components
 use Rattle.time_known.specs.Groups.{has_groups, at_groups}
-use Rattle.time_known.specs.Iso8601.{iso_date, iso_time, iso_of_groups, iso8601_outcome, iso8601_outcome_of}
+use Rattle.time_known.specs.Iso8601.{iso_of_groups, iso8601_outcome, iso8601_outcome_of}
 use Rattle.time_known.specs.Iso8601Width.{iso8601_width, iso8601_width_of}
-use Rattle.time_known.proofs.GroupLemmas.{unsupplied, of_the_date, of_the_time, has_needed, has_all, outcome_of_all}
+use Rattle.time_known.proofs.GroupLemmas.{unsupplied, has_all, outcome_of_all}
 
 -- facts that lack a group which is formatted are refused
 lacking_of : (parts : FormattedComponents) (c : Choices) (f : Facts) → has_groups (groups_of parts) f ≡ false
@@ -32,15 +32,6 @@ pub lacking : (c read : Choices) (f : Facts) (needed : Groups) → read ≡ c
 lacking c read f needed e groups h =
     ap (λ (choices : Choices). iso8601_outcome choices f) (sym e)
     ∙ lacking_of read.formatted_components read f (ap (λ (g : Groups). has_groups g f) (sym groups) ∙ h)
-
--- the date and the time of facts that have both
-pub date_and_time : (c : Choices) (f : Facts) → c.formatted_components ≡ components.DateTime
-    → has_groups (groups_of c.formatted_components) f ≡ true
-    → iso8601_outcome_of components.DateTime c f ≡ join (iso_date c (the_date f)) (iso_time c (the_time f))
-date_and_time c f e h =
-    let needed = has_needed (groups_of components.DateTime) f (ap (λ parts. has_groups (groups_of parts) f) (sym e)
-    ∙ h) in
-    of_the_date f _ (needed.date refl) ∙ of_the_time f _ (needed.time refl)
 
 -- the date, the time and the offset of facts that have all three
 pub all_parts : (c : Choices) (f : Facts) → c.formatted_components ≡ components.DateTimeOffset

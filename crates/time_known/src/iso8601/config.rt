@@ -1,7 +1,7 @@
 //! The choices of ISO 8601-1:2019 that a text is written by.
-ghost use Rattle.std.specs.Prelude.{◌≡◌};
+ghost use Rattle.std.specs.Prelude.{◌≡◌, ◌↔◌, IfSome, IsTrue, true};
 ghost use Rattle.time_known.specs.Config.{default_choices, separator, decimal_sign_text, has_time_letter, has_date, has_time, has_offset, groups_of};
-ghost use Rattle.time_known.specs.UsualText.{IsUsual, usual_of};
+ghost use Rattle.time_known.specs.UsualText.{IsUsual, usual_choices, usual_of};
 
 use crate::groups::Groups;
 use std::default::Default;
@@ -68,13 +68,16 @@ pub struct Config {
     decimal_sign: DecimalSign,
 }
 
-// What is left to choose for a text of the date by month and day after four digits of the year, the time to
-// the second or to decimals of it, and the offset to the minute.
+/// What is left to choose for a text of the date by month and day after four digits of the year, the time to
+/// the second or to decimals of it, and the offset to the minute.
 #[derive(Clone, Copy)]
-pub(super) struct Usual {
-    pub(super) has_separators: bool,
-    pub(super) decimal_digits: Option<ru8<1, 255>>,
-    pub(super) decimal_sign: DecimalSign,
+pub struct Usual {
+    /// Whether there are separators.
+    pub has_separators: bool,
+    /// How many decimals of the second are written, if any.
+    pub decimal_digits: Option<ru8<1, 255>>,
+    /// The sign before them.
+    pub decimal_sign: DecimalSign,
 }
 
 impl Model for Config {
@@ -192,37 +195,50 @@ impl Config {
         }
     }
 
-    pub(super) fn formatted_components(&self) -> FormattedComponents
+    /// The parts that are written.
+    pub fn formatted_components(&self) -> FormattedComponents
         ensures { result ≡ self.now.formatted_components }
     {
         self.formatted_components
     }
 
-    pub(super) fn year_is_six_digits(&self) -> bool
+    /// Whether there are separators.
+    pub fn use_separators(&self) -> bool
+        ensures { result ≡ self.now.use_separators }
+    {
+        self.use_separators
+    }
+
+    /// Whether the year has six digits and its sign, and not four digits.
+    pub fn year_is_six_digits(&self) -> bool
         ensures { result ≡ self.now.year_is_six_digits }
     {
         self.year_is_six_digits
     }
 
-    pub(super) fn date_kind(&self) -> DateKind
+    /// The kind of date.
+    pub fn date_kind(&self) -> DateKind
         ensures { result ≡ self.now.date_kind }
     {
         self.date_kind
     }
 
-    pub(super) fn time_precision(&self) -> TimePrecision
+    /// The precision of the time.
+    pub fn time_precision(&self) -> TimePrecision
         ensures { result ≡ self.now.time_precision }
     {
         self.time_precision
     }
 
-    pub(super) fn offset_precision(&self) -> OffsetPrecision
+    /// The precision of the offset.
+    pub fn offset_precision(&self) -> OffsetPrecision
         ensures { result ≡ self.now.offset_precision }
     {
         self.offset_precision
     }
 
-    pub(super) fn decimal_sign(&self) -> DecimalSign
+    /// The sign before the decimals of the time.
+    pub fn decimal_sign(&self) -> DecimalSign
         ensures { result ≡ self.now.decimal_sign }
     {
         self.decimal_sign
@@ -242,9 +258,9 @@ impl Config {
         !self.use_separators || self.formatted_components.has_date()
     }
 
-    // What is left to choose, where the rest is chosen as by most callers.
+    /// What is left to choose, where the rest is chosen as by most callers.
     #[inline(always)]
-    pub(super) fn usual(&self) -> Option<Usual>
+    pub fn usual(&self) -> Option<Usual>
         ensures left { result ≡ usual_of self.now }
         ensures usual { IsUsual self.now result }
     {
@@ -263,6 +279,32 @@ impl Config {
         }
     }
 
+    /// What is left to choose, where it is usual and has separators.
+    #[inline(always)]
+    pub fn separated(&self) -> Option<Usual>
+        ensures choices { IfSome result (λ u. self.now
+            ≡ usual_choices true u.decimal_digits u.decimal_sign) }
+        ensures separators { IfSome result (λ u. IsTrue u.has_separators) }
+    {
+        match self.usual() {
+            Some(usual) => {
+                if usual.has_separators {
+                    Some(usual)
+                } else {
+                    None
+                }
+            }
+            None => None,
+        }
+    }
+
+    /// Whether the configuration has no part.
+    pub fn formats_nothing(&self) -> bool
+        ensures { IsTrue result ↔ self.now.formatted_components ≡ FormattedComponents.None }
+    {
+        matches!(self.formatted_components, FormattedComponents::None)
+    }
+
     // The groups of a value that are formatted.
     pub(super) fn groups(&self) -> Groups
         ensures { result ≡ groups_of self.now.formatted_components }
@@ -275,8 +317,22 @@ impl Config {
         }
     }
 
-    // Whether the time is formatted.
-    pub(super) fn has_time(&self) -> bool
+    /// Whether the date is formatted.
+    pub fn has_date(&self) -> bool
+        ensures { result ≡ has_date self.now.formatted_components }
+    {
+        self.formatted_components.has_date()
+    }
+
+    /// Whether the offset is formatted.
+    pub fn has_offset(&self) -> bool
+        ensures { result ≡ has_offset self.now.formatted_components }
+    {
+        self.formatted_components.has_offset()
+    }
+
+    /// Whether the time is formatted.
+    pub fn has_time(&self) -> bool
         ensures { result ≡ has_time self.now.formatted_components }
     {
         self.formatted_components.has_time()

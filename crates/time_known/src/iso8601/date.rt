@@ -1,26 +1,26 @@
 //! The date of a text of ISO 8601-1:2019, section 5.2.
-ghost use Rattle.std.specs.Prelude.{◌≡◌, ◌+◌, ◌*◌, ◌≤◌, ◌++◌, length, unsigned_abs, IsTrue, vec_len};
+ghost use Rattle.std.specs.Prelude.{◌+◌, ◌*◌, ◌++◌, length, pos, int_lt, unsigned_abs, true, IsTrue, codes};
 ghost use Rattle.time_below.specs.Facts.{the_date};
-ghost use Rattle.time_below.specs.Weekday.{days_from_monday};
 ghost use Rattle.time_digits.specs.Digits.{zero_padded};
-ghost use Rattle.time_fmt.specs.Outcome.{Appends, AppendsUpTo};
-ghost use Rattle.time_fmt.specs.Room.{HasRoom, WritesJust, WritesUpTo};
+ghost use Rattle.time_fmt.specs.Outcome.{AppendsUpTo};
+ghost use Rattle.time_fmt.specs.Room.{HasRoom};
+ghost use Rattle.time_fmt.specs.Text.{sign_text};
 ghost use Rattle.time_provide.specs.Real.{AgreesOnDate};
-ghost use Rattle.time_known.specs.Iso8601.{iso_date, iso_year, year_of_kind, text_after_year, week_and_weekday_text};
-ghost use Rattle.time_known.specs.WellKnown.{month_and_day_text};
-ghost use Rattle.time_known.specs.Iso8601Width.{iso_date_width, year_width, width_after_year};
+ghost use Rattle.time_known.specs.Accepted.{PutsOutcome};
+ghost use Rattle.time_known.specs.Config.{separator};
+ghost use Rattle.time_known.specs.Iso8601.{iso_date, iso_year};
+ghost use Rattle.time_known.specs.Iso8601Parts.{date_of_parts, date_parts_width, part_text, part_width, rest_text, rest_width};
+ghost use Rattle.time_known.specs.Iso8601Width.{iso_date_width, year_width};
+ghost use Rattle.time_known.specs.Sink.{Fits, PutsJust, PutsUpTo};
 
-use crate::iso8601::config::{Config, DateKind};
-use crate::pieces::{four_digit_year, write_pair};
-use time_below::Weekday;
-use time_below::format_description::modifier;
-use time_below::format_description::modifier::Padding;
-use time_digits::{ru8, ru16};
+use crate::accepted::OutOfRange;
+use crate::iso8601::config::Config;
+use crate::iso8601::parts::{DateParts, Parts, RestOfDate, append_parts, date_of};
+use crate::put::{put_four_digits, put_pair, put_three_digits};
+use crate::sink::Sink;
+use time_digits::num_fmt::six_digits_zero_padded;
+use time_digits::{ru8, ru16, single_digit};
 use time_fmt::Format;
-use time_fmt::writers::{
-    fmt_sign, fmt_weekday_monday, format_four_digits_pad_zero, format_six_digits_pad_zero,
-    format_three_digits, write,
-};
 use time_provide::ComponentProvider;
 use time_provide::ranges::Year;
 
@@ -42,152 +42,151 @@ pub fn format_date<V: ComponentProvider>(
         (iso_date config.now (the_date (V.facts value.now))) }
     ensures agrees { AgreesOnDate (V.agrees state.new value.now) (V.facts value.now) }
 {
-    let year = year_of_kind(config.date_kind(), value, state);
-    let count = write_year(output, year, config.year_is_six_digits())?;
-    Ok(count + write_after_year(config, output, value, state))
+    let parts = Parts {
+        date: Some(date_of(config.date_kind(), value, state)),
+        time: None,
+        offset: None,
+    };
+    append_parts(config, output, &parts)
 }
 
-// The year of the week calendar for a week date, else the calendar year.
-fn year_of_kind<V: ComponentProvider>(kind: DateKind, value: &V, state: &mut V::State) -> Year
-    requires supplied { IsTrue V.SUPPLIES_DATE }
-    requires agrees { V.agrees state.old value.now }
-    ensures value { result ≡ year_of_kind kind (the_date (V.facts value.now)) }
-    ensures range { unsigned_abs result ≤ 999_999 }
-    ensures agrees { AgreesOnDate (V.agrees state.new value.now) (V.facts value.now) }
+// Puts the date, if there is one.
+#[inline(always)]
+pub(super) fn put_date_part<S: Sink>(
+    output: &mut S,
+    config: &Config,
+    date: &Option<DateParts>,
+) -> Result<(), OutOfRange>
+    requires room { Fits (part_width (date_parts_width config.now) date.now) (S.buffer output.old) }
+    ensures puts { PutsOutcome (part_width (date_parts_width config.now) date.now)
+        (S.buffer output.old) (S.buffer output.new) result
+        (part_text (date_of_parts config.now) date.now) }
 {
-    match kind {
-        DateKind::Calendar | DateKind::Ordinal => value.calendar_year(state),
-        DateKind::Week => value.iso_year(state),
+    match date {
+        Some(date) => put_date(output, config, date),
+        None => Ok(()),
     }
 }
 
-// Appends the sign and six digits of the year, or four digits of one that has no more.
-#[tactic(auto, using(crate::proofs::iso8601::LengthLemmas::year_lengths))]
-fn write_year(output: &mut Vec<u8>, year: Year, is_six_digits: bool) -> Result<usize, Format>
-    requires range { unsigned_abs year ≤ 999_999 }
-    requires room { HasRoom output.old (year_width is_six_digits) }
-    ensures appends { Appends output.old output.new result (iso_year is_six_digits year) }
-    ensures within { vec_len output.new ≤ vec_len output.old + year_width is_six_digits }
+// Puts the year, and what follows it.
+#[inline(always)]
+fn put_date<S: Sink>(output: &mut S, config: &Config, date: &DateParts) -> Result<(), OutOfRange>
+    requires room { Fits (date_parts_width config.now date.now) (S.buffer output.old) }
+    ensures puts { PutsOutcome (date_parts_width config.now date.now)
+        (S.buffer output.old) (S.buffer output.new) result (date_of_parts config.now date.now) }
+{
+    put_year(output, date.year, config.year_is_six_digits())?;
+    put_rest(output, config, &date.rest);
+    Ok(())
+}
+
+// Puts the sign and six digits of the year, or four digits of one that has no more.
+#[inline(always)]
+fn put_year<S: Sink>(output: &mut S, year: Year, is_six_digits: bool) -> Result<(), OutOfRange>
+    requires room { Fits (year_width is_six_digits) (S.buffer output.old) }
+    ensures puts { PutsOutcome (year_width is_six_digits) (S.buffer output.old)
+        (S.buffer output.new) result (iso_year is_six_digits year) }
 {
     if is_six_digits {
-        let sign = fmt_sign(output, year.get() < 0, true);
-        return Ok(sign + format_six_digits_pad_zero(output, year.abs()));
+        put_six_digits(output, year);
+        return Ok(());
     }
-    match four_digit_year(year, 0) {
-        Some(year) => Ok(format_four_digits_pad_zero(output, year)),
-        None => Err(Format::InvalidComponent("year")),
+    let number = year.get();
+    if number < 0 || number > 9_999 {
+        return Err(OutOfRange::Year);
     }
+    put_four_digits(output, ru16::within(number.unsigned_abs() as u16));
+    Ok(())
 }
 
-// Appends what follows the year in a date of the configuration's kind.
-fn write_after_year<V: ComponentProvider>(
-    config: &Config,
-    output: &mut Vec<u8>,
-    value: &V,
-    state: &mut V::State,
-) -> usize
-    requires supplied { IsTrue V.SUPPLIES_DATE }
-    requires room { HasRoom output.old (width_after_year config.now.date_kind config.now) }
-    requires agrees { V.agrees state.old value.now }
-    ensures writes { WritesUpTo (width_after_year config.now.date_kind config.now)
-        output.old output.new result
-        (text_after_year config.now.date_kind config.now (the_date (V.facts value.now))) }
-    ensures agrees { V.agrees state.new value.now }
+// Puts the sign and six digits of the year.
+#[inline(always)]
+#[tactic(auto, using(crate::proofs::LengthLemmas::joined_lengths))]
+fn put_six_digits<S: Sink>(output: &mut S, year: Year)
+    requires room { Fits 7 (S.buffer output.old) }
+    ensures puts { PutsJust 7 (S.buffer output.old) (S.buffer output.new)
+        (sign_text (int_lt year (pos 0)) true ++ zero_padded 6 (unsigned_abs year)) }
+{
+    output.put(if year.get() < 0 { "-" } else { "+" });
+    let [first, second, third] = six_digits_zero_padded(year.abs());
+    output.put(first);
+    output.put(second);
+    output.put(third);
+}
+
+// Puts what follows the year.
+#[inline(always)]
+fn put_rest<S: Sink>(output: &mut S, config: &Config, rest: &RestOfDate)
+    requires room { Fits (rest_width config.now rest.now) (S.buffer output.old) }
+    ensures puts { PutsUpTo (rest_width config.now rest.now)
+        (S.buffer output.old) (S.buffer output.new)
+        (rest_text (separator config.now (codes "-")) rest.now) }
 {
     let dash = config.separator("-");
-    match config.date_kind() {
-        DateKind::Calendar => write_month_and_day(output, value, state, dash),
-        DateKind::Week => write_week_and_weekday(output, value, state, dash),
-        DateKind::Ordinal => write_ordinal(output, value, state, dash),
+    match *rest {
+        RestOfDate::MonthAndDay { month, day } => {
+            put_pairs(output, dash, month.expand(), day.expand())
+        }
+        RestOfDate::WeekAndWeekday { week, weekday } => put_week(
+            output,
+            dash,
+            week.expand(),
+            weekday.expand(),
+        ),
+        RestOfDate::DayOfYear { day } => put_day_of_year(output, dash, day.expand()),
     }
 }
 
-// Appends the month and the day, of two digits each, and the separator before each of them.
-#[tactic(auto, using(crate::proofs::LengthLemmas::joined_lengths))]
-fn write_month_and_day<V: ComponentProvider>(
-    output: &mut Vec<u8>,
-    value: &V,
-    state: &mut V::State,
-    separator: &str,
-) -> usize
-    requires supplied { IsTrue V.SUPPLIES_DATE }
-    requires room { HasRoom output.old (4 + 2 * length separator.now) }
-    requires agrees { V.agrees state.old value.now }
-    ensures writes { WritesUpTo (4 + 2 * length separator.now) output.old output.new result
-        (month_and_day_text separator.now (the_date (V.facts value.now))) }
-    ensures agrees { V.agrees state.new value.now }
-{
-    let dash = write(output, separator);
-    let month = ru8::within(u8::from(value.month(state)));
-    let month = write_pair(output, month);
-    let second_dash = write(output, separator);
-    dash + month + second_dash + write_pair(output, value.day(state).expand())
-}
-
-// Appends the letter `W` with two digits of the week, and the weekday from 1, and the separator before
-// each of them.
-#[tactic(auto, using(crate::proofs::LengthLemmas::joined_lengths))]
-fn write_week_and_weekday<V: ComponentProvider>(
-    output: &mut Vec<u8>,
-    value: &V,
-    state: &mut V::State,
-    separator: &str,
-) -> usize
-    requires supplied { IsTrue V.SUPPLIES_DATE }
-    requires room { HasRoom output.old (4 + 2 * length separator.now) }
-    requires agrees { V.agrees state.old value.now }
-    ensures writes { WritesUpTo (4 + 2 * length separator.now) output.old output.new result
-        (week_and_weekday_text separator.now (the_date (V.facts value.now))) }
-    ensures agrees { V.agrees state.new value.now }
-{
-    let dash = write(output, separator);
-    let letter = write(output, "W");
-    let week = write_pair(output, value.iso_week_number(state).expand());
-    let second_dash = write(output, separator);
-    let weekday = write_weekday_from_one(output, value.weekday(state));
-    dash + letter + week + second_dash + weekday
-}
-
-// Appends the digit of the weekday, from 1 for Monday.
+// Puts two numbers of two digits, and the separator before each of them.
 #[inline(always)]
-#[tactic(auto, using(crate::proofs::iso8601::LengthLemmas::weekday_lengths))]
-fn write_weekday_from_one(output: &mut Vec<u8>, weekday: Weekday) -> usize
-    requires room { HasRoom output.old 1 }
-    ensures writes { WritesJust 1 output.old output.new result
-        (zero_padded 1 (days_from_monday weekday + 1)) }
-{
-    fmt_weekday_monday(
-        output,
-        weekday,
-        modifier::WeekdayMonday { one_indexed: true },
-    )
-}
-
-// Appends the separator and three digits of the day of the year.
 #[tactic(auto, using(crate::proofs::LengthLemmas::joined_lengths))]
-fn write_ordinal<V: ComponentProvider>(
-    output: &mut Vec<u8>,
-    value: &V,
-    state: &mut V::State,
-    separator: &str,
-) -> usize
-    requires supplied { IsTrue V.SUPPLIES_DATE }
-    requires room { HasRoom output.old (3 + length separator.now) }
-    requires agrees { V.agrees state.old value.now }
-    ensures writes { WritesUpTo (3 + length separator.now) output.old output.new result
-        (separator.now ++ zero_padded 3 (the_date (V.facts value.now)).ordinal) }
-    ensures agrees { V.agrees state.new value.now }
+fn put_pairs<S: Sink>(output: &mut S, separator: &str, first: ru8<0, 99>, second: ru8<0, 99>)
+    requires room { Fits (4 + 2 * length separator.now) (S.buffer output.old) }
+    ensures puts { PutsUpTo (4 + 2 * length separator.now)
+        (S.buffer output.old) (S.buffer output.new)
+        (separator.now ++ zero_padded 2 first ++ separator.now ++ zero_padded 2 second) }
 {
-    let dash = write(output, separator);
-    dash + write_three_digits(output, value.ordinal(state).expand())
+    output.put(separator);
+    put_pair(output, first);
+    output.put(separator);
+    put_pair(output, second);
 }
 
-// Appends a number of three digits, with zeros in front.
+// Puts the letter `W` with two digits of the week, and the weekday, and the separator before each of
+// them.
 #[inline(always)]
-#[tactic(auto, using(crate::proofs::iso8601::LengthLemmas::ordinal_lengths))]
-fn write_three_digits(output: &mut Vec<u8>, number: ru16<0, 999>) -> usize
-    requires room { HasRoom output.old 3 }
-    ensures writes { WritesJust 3 output.old output.new result (zero_padded 3 number) }
+#[tactic(auto, using(crate::proofs::LengthLemmas::joined_lengths))]
+fn put_week<S: Sink>(output: &mut S, separator: &str, week: ru8<0, 99>, weekday: ru8<0, 9>)
+    requires room { Fits (4 + 2 * length separator.now) (S.buffer output.old) }
+    ensures puts { PutsUpTo (4 + 2 * length separator.now)
+        (S.buffer output.old) (S.buffer output.new)
+        (separator.now ++ codes "W" ++ zero_padded 2 week ++ separator.now ++ zero_padded 1 weekday) }
 {
-    format_three_digits(output, number, Padding::Zero)
+    output.put(separator);
+    output.put("W");
+    put_pair(output, week);
+    output.put(separator);
+    put_digit(output, weekday);
+}
+
+// Puts a number of one digit.
+#[inline(always)]
+#[tactic(auto, using(crate::proofs::iso8601::LengthLemmas::one_digit))]
+fn put_digit<S: Sink>(output: &mut S, number: ru8<0, 9>)
+    requires room { Fits 1 (S.buffer output.old) }
+    ensures puts { PutsJust 1 (S.buffer output.old) (S.buffer output.new) (zero_padded 1 number) }
+{
+    output.put(single_digit(number));
+}
+
+// Puts the separator and three digits of the day of the year.
+#[inline(always)]
+#[tactic(auto, using(crate::proofs::LengthLemmas::joined_lengths))]
+fn put_day_of_year<S: Sink>(output: &mut S, separator: &str, day: ru16<0, 999>)
+    requires room { Fits (3 + length separator.now) (S.buffer output.old) }
+    ensures puts { PutsUpTo (3 + length separator.now)
+        (S.buffer output.old) (S.buffer output.new) (separator.now ++ zero_padded 3 day) }
+{
+    output.put(separator);
+    put_three_digits(output, day);
 }

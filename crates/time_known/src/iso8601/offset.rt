@@ -1,20 +1,22 @@
 //! The offset from UTC of a text of ISO 8601-1:2019, sections 5.3.3 and 5.3.4.
-ghost use Rattle.std.specs.Prelude.{◌≡◌, ◌&&◌, IsTrue};
+ghost use Rattle.std.specs.Prelude.{IsTrue};
 ghost use Rattle.time_below.specs.Facts.{the_offset};
-ghost use Rattle.time_below.specs.Offset.{is_utc};
 ghost use Rattle.time_fmt.specs.Outcome.{AppendsUpTo};
-ghost use Rattle.time_fmt.specs.Room.{HasRoom, WritesUpTo};
+ghost use Rattle.time_fmt.specs.Room.{HasRoom};
 ghost use Rattle.time_provide.specs.Real.{AgreesOnOffset};
-ghost use Rattle.time_known.specs.Config.{has_time};
-ghost use Rattle.time_known.specs.Iso8601.{iso_minutes, iso_offset};
+ghost use Rattle.time_known.specs.Accepted.{PutsOutcome};
+ghost use Rattle.time_known.specs.Iso8601.{iso_offset};
+ghost use Rattle.time_known.specs.Iso8601Parts.{minutes_of_fields, iso_offset_of_fields, part_text, part_width};
 ghost use Rattle.time_known.specs.Iso8601Width.{minutes_width, iso_offset_width};
-ghost use Rattle.time_known.specs.WellKnown.{offset_hours_text};
+ghost use Rattle.time_known.specs.Sink.{Fits};
 
+use crate::accepted::OutOfRange;
+use crate::fields::{OffsetFields, offset_of};
 use crate::iso8601::config::{Config, OffsetPrecision};
-use time_below::format_description::modifier;
-use time_below::format_description::modifier::Padding;
+use crate::iso8601::parts::{Parts, append_parts};
+use crate::put::{put_offset_hours, put_pair};
+use crate::sink::Sink;
 use time_fmt::Format;
-use time_fmt::writers::{fmt_offset_hour, fmt_offset_minute, write};
 use time_provide::ComponentProvider;
 
 /// Appends the offset, whether or not the configuration formats offsets: `Z` for UTC if it formats
@@ -36,81 +38,80 @@ pub fn format_offset<V: ComponentProvider>(
         (iso_offset config.now (the_offset (V.facts value.now))) }
     ensures agrees { AgreesOnOffset (V.agrees state.new value.now) (V.facts value.now) }
 {
-    if is_zed(config, value, state) {
-        return Ok(write(output, "Z"));
-    }
-    if value.offset_second(state).get() != 0 {
-        return Err(Format::InvalidComponent("offset_second"));
-    }
-    let hours = write_offset_hours(output, value, state);
-    let minutes = write_offset_minutes(config, output, value, state)?;
-    Ok(hours + minutes)
-}
-
-// Whether a `Z` is written: for UTC, where the configuration formats a time.
-#[inline(always)]
-fn is_zed<V: ComponentProvider>(config: &Config, value: &V, state: &mut V::State) -> bool
-    requires supplied { IsTrue V.SUPPLIES_OFFSET }
-    requires agrees { V.agrees state.old value.now }
-    ensures value { result ≡ has_time config.now.formatted_components
-        && is_utc (the_offset (V.facts value.now)) }
-    ensures agrees { V.agrees state.new value.now }
-{
-    config.has_time() && value.offset_is_utc(state)
-}
-
-// Appends the sign of the whole offset, and the two digits of its hours.
-#[tactic(auto, using(crate::proofs::LengthLemmas::part_lengths))]
-fn write_offset_hours<V: ComponentProvider>(
-    output: &mut Vec<u8>,
-    value: &V,
-    state: &mut V::State,
-) -> usize
-    requires supplied { IsTrue V.SUPPLIES_OFFSET }
-    requires room { HasRoom output.old 3 }
-    requires agrees { V.agrees state.old value.now }
-    ensures writes { WritesUpTo 3 output.old output.new result
-        (offset_hours_text (the_offset (V.facts value.now))) }
-    ensures agrees { V.agrees state.new value.now }
-{
-    let is_negative = value.offset_is_negative(state);
-    let modifier = modifier::OffsetHour {
-        padding: Padding::Zero,
-        sign_is_mandatory: true,
+    let parts = Parts {
+        date: None,
+        time: None,
+        offset: Some(offset_of(value, state)),
     };
-    fmt_offset_hour(output, is_negative, value.offset_hour(state), modifier)
+    append_parts(config, output, &parts)
 }
 
-// Appends the minutes, where the configuration has them; else they are refused unless zero.
-#[tactic(auto, using(crate::proofs::LengthLemmas::part_lengths))]
-fn write_offset_minutes<V: ComponentProvider>(
+// Puts the offset, if there is one.
+#[inline(always)]
+pub(super) fn put_offset_part<S: Sink>(
+    output: &mut S,
     config: &Config,
-    output: &mut Vec<u8>,
-    value: &V,
-    state: &mut V::State,
-) -> Result<usize, Format>
-    requires supplied { IsTrue V.SUPPLIES_OFFSET }
-    requires room { HasRoom output.old (minutes_width config.now.offset_precision config.now) }
-    requires agrees { V.agrees state.old value.now }
-    ensures appends { AppendsUpTo (minutes_width config.now.offset_precision config.now)
-        output.old output.new result
-        (iso_minutes config.now.offset_precision config.now (the_offset (V.facts value.now))) }
-    ensures agrees { V.agrees state.new value.now }
+    offset: &Option<OffsetFields>,
+) -> Result<(), OutOfRange>
+    requires room { Fits (part_width (λ _. iso_offset_width config.now) offset.now)
+        (S.buffer output.old) }
+    ensures puts { PutsOutcome (part_width (λ _. iso_offset_width config.now) offset.now)
+        (S.buffer output.old) (S.buffer output.new) result
+        (part_text (iso_offset_of_fields config.now) offset.now) }
 {
-    let minute = value.offset_minute(state);
+    match offset {
+        Some(offset) => put_offset_by(output, config, offset),
+        None => Ok(()),
+    }
+}
+
+// Puts `Z` for UTC where there is a time, else the sign, the hours and the minutes.
+#[inline(always)]
+fn put_offset_by<S: Sink>(
+    output: &mut S,
+    config: &Config,
+    offset: &OffsetFields,
+) -> Result<(), OutOfRange>
+    requires room { Fits (iso_offset_width config.now) (S.buffer output.old) }
+    ensures puts { PutsOutcome (iso_offset_width config.now) (S.buffer output.old)
+        (S.buffer output.new) result (iso_offset_of_fields config.now offset.now) }
+{
+    if config.has_time() && offset.is_utc {
+        output.put("Z");
+        return Ok(());
+    }
+    if offset.seconds.get() != 0 {
+        return Err(OutOfRange::OffsetSecond);
+    }
+    put_offset_hours(output, offset);
+    put_minutes(output, config, offset)
+}
+
+// Puts the minutes, where the configuration has them; else they are refused unless zero.
+#[inline(always)]
+#[tactic(auto, using(crate::proofs::LengthLemmas::joined_lengths))]
+fn put_minutes<S: Sink>(
+    output: &mut S,
+    config: &Config,
+    offset: &OffsetFields,
+) -> Result<(), OutOfRange>
+    requires room { Fits (minutes_width config.now.offset_precision config.now)
+        (S.buffer output.old) }
+    ensures puts { PutsOutcome (minutes_width config.now.offset_precision config.now)
+        (S.buffer output.old) (S.buffer output.new) result
+        (minutes_of_fields config.now.offset_precision config.now offset.now) }
+{
     match config.offset_precision() {
         OffsetPrecision::Minute => {
-            let colon = write(output, config.separator(":"));
-            let modifier = modifier::OffsetMinute {
-                padding: Padding::Zero,
-            };
-            Ok(colon + fmt_offset_minute(output, minute, modifier))
+            output.put(config.separator(":"));
+            put_pair(output, offset.minutes.expand());
+            Ok(())
         }
         OffsetPrecision::Hour => {
-            if minute.get() != 0 {
-                return Err(Format::InvalidComponent("offset_minute"));
+            if offset.minutes.get() != 0 {
+                return Err(OutOfRange::OffsetMinute);
             }
-            Ok(0)
+            Ok(())
         }
     }
 }

@@ -1,24 +1,173 @@
-//! The parts of a text, one after another.
-ghost use Rattle.std.specs.Prelude.{◌≡◌, ◌+◌, IsTrue, OnOk};
-ghost use Rattle.time_below.specs.Facts.{the_date, the_time, the_offset};
-ghost use Rattle.time_below.specs.Offset.{IsOffset};
-ghost use Rattle.time_below.specs.TimeOfDay.{IsTimeOfDay};
-ghost use Rattle.time_fmt.specs.Outcome.{AppendsUpTo, join};
+//! The parts of a value that a text is made of, one after another.
+ghost use Rattle.std.specs.Prelude.{◌≡◌, IsTrue, OnOk};
+ghost use Rattle.time_below.specs.Facts.{the_date};
+ghost use Rattle.time_fmt.specs.Outcome.{AppendsUpTo};
 ghost use Rattle.time_fmt.specs.Room.{HasRoom};
-ghost use Rattle.time_provide.specs.Real.{AreReal};
+ghost use Rattle.time_provide.specs.Real.{AgreesOnDate, AreReal};
 ghost use Rattle.time_known.specs.Config.{groups_of};
-ghost use Rattle.time_known.specs.Groups.{AreAllSupplied, are_supplied, at_groups};
-ghost use Rattle.time_known.specs.Iso8601.{iso8601_outcome, iso_date, iso_time, iso_offset, iso_of_groups};
-ghost use Rattle.time_known.specs.Iso8601Width.{iso8601_width, iso_date_width, iso_time_width, iso_offset_width};
+ghost use Rattle.time_known.specs.Groups.{are_supplied};
+ghost use Rattle.time_known.specs.Iso8601.{iso8601_outcome};
+ghost use Rattle.time_known.specs.Iso8601Parts.{chosen_parts, date_parts, parts_text, parts_width};
+ghost use Rattle.time_known.specs.Iso8601Width.{iso8601_width};
+ghost use Rattle.time_known.specs.Sink.{Fits};
+ghost use Rattle.time_known.specs.Accepted.{PutsOutcome};
 ghost use Rattle.time_known.specs.UsualText.{IsUsual};
 
-use crate::iso8601::config::{Config, FormattedComponents, Usual};
-use crate::iso8601::date::format_date;
-use crate::iso8601::offset::format_offset;
-use crate::iso8601::time::format_time;
+use crate::accepted::OutOfRange;
+use crate::fields::{OffsetFields, TimeFields, offset_of, time_of};
+use crate::iso8601::config::{Config, DateKind, FormattedComponents, Usual};
+use crate::iso8601::date::put_date_part;
+use crate::iso8601::offset::put_offset_part;
+use crate::iso8601::time::put_time_part;
 use crate::iso8601::usual_text::write_usual;
+use crate::pieces::{put_back, take_out};
+use crate::sink::Sink;
+use time_digits::ru8;
 use time_fmt::Format;
 use time_provide::ComponentProvider;
+use time_provide::ranges::{Day, IsoWeekNumber, Ordinal, Year};
+
+/// The fields of a date by one kind.
+#[derive(Clone, Copy)]
+pub struct DateParts {
+    /// The year of the calendar, or of the week calendar.
+    pub year: Year,
+    /// What follows it.
+    pub rest: RestOfDate,
+}
+
+/// What follows the year in a date.
+#[derive(Clone, Copy)]
+pub enum RestOfDate {
+    /// The month and the day.
+    MonthAndDay {
+        month: ru8<1, 12>,
+        day: Day,
+    },
+    /// The week, and the weekday from 1 for Monday.
+    WeekAndWeekday {
+        week: IsoWeekNumber,
+        weekday: ru8<1, 7>,
+    },
+    /// The day of the year.
+    DayOfYear {
+        day: Ordinal,
+    },
+}
+
+/// The fields of the parts of a text, each where it is written.
+#[derive(Clone, Copy)]
+pub struct Parts {
+    /// The date.
+    pub date: Option<DateParts>,
+    /// The time of day.
+    pub time: Option<TimeFields>,
+    /// The offset.
+    pub offset: Option<OffsetFields>,
+}
+
+/// Puts the parts, one after another, up to what has no place.
+#[inline(always)]
+pub fn put_parts<S: Sink>(output: &mut S, config: &Config, parts: &Parts) -> Result<(), OutOfRange>
+    requires room { Fits (parts_width config.now parts.now) (S.buffer output.old) }
+    ensures puts { PutsOutcome (parts_width config.now parts.now)
+        (S.buffer output.old) (S.buffer output.new) result (parts_text config.now parts.now) }
+{
+    put_date_part(output, config, &parts.date)?;
+    put_time_part(output, config, &parts.time);
+    put_offset_part(output, config, &parts.offset)
+}
+
+// Appends the parts, or the bytes before a refusal. Takes no memory.
+#[inline(never)]
+pub(super) fn append_parts(
+    config: &Config,
+    output: &mut Vec<u8>,
+    parts: &Parts,
+) -> Result<usize, Format>
+    requires room { HasRoom output.old (parts_width config.now parts.now) }
+    ensures appends { AppendsUpTo (parts_width config.now parts.now) output.old output.new result
+        (parts_text config.now parts.now) }
+{
+    let mut taken = take_out(output);
+    let begin = taken.len();
+    let answer = put_parts(&mut taken, config, parts);
+    let count = taken.len() - begin;
+    put_back(output, taken);
+    match answer {
+        Ok(()) => Ok(count),
+        Err(component) => Err(Format::InvalidComponent(component.name())),
+    }
+}
+
+// The fields of the value's date by this kind.
+pub(super) fn date_of<V: ComponentProvider>(
+    kind: DateKind,
+    value: &V,
+    state: &mut V::State,
+) -> DateParts
+    requires supplied { IsTrue V.SUPPLIES_DATE }
+    requires agrees { V.agrees state.old value.now }
+    ensures parts { result ≡ date_parts kind (the_date (V.facts value.now)) }
+    ensures agrees { AgreesOnDate (V.agrees state.new value.now) (V.facts value.now) }
+{
+    match kind {
+        DateKind::Calendar => {
+            let year = value.calendar_year(state);
+            let day = value.day(state);
+            let month = ru8::within(u8::from(value.month(state)));
+            DateParts {
+                year,
+                rest: RestOfDate::MonthAndDay { month, day },
+            }
+        }
+        DateKind::Week => {
+            let year = value.iso_year(state);
+            let week = value.iso_week_number(state);
+            let weekday = ru8::within(value.weekday(state).number_from_monday());
+            DateParts {
+                year,
+                rest: RestOfDate::WeekAndWeekday { week, weekday },
+            }
+        }
+        DateKind::Ordinal => {
+            let year = value.calendar_year(state);
+            let day = value.ordinal(state);
+            DateParts {
+                year,
+                rest: RestOfDate::DayOfYear { day },
+            }
+        }
+    }
+}
+
+// The fields of the parts that are formatted.
+fn parts_of<V: ComponentProvider>(config: &Config, value: &V, state: &mut V::State) -> Parts
+    requires supplied { IsTrue (are_supplied (groups_of config.now.formatted_components)
+        V.SUPPLIES_DATE V.SUPPLIES_TIME V.SUPPLIES_OFFSET) }
+    requires agrees { V.agrees state.old value.now }
+    ensures parts { result ≡ chosen_parts config.now (V.facts value.now) }
+    ensures real { config.now.formatted_components ≡ FormattedComponents.DateTimeOffset
+        → AreReal (V.facts value.now) }
+    ensures agrees { V.agrees state.new value.now }
+{
+    let date = if config.has_date() {
+        Some(date_of(config.date_kind(), value, state))
+    } else {
+        None
+    };
+    let time = if config.has_time() {
+        Some(time_of(value, state))
+    } else {
+        None
+    };
+    let offset = if config.has_offset() {
+        Some(offset_of(value, state))
+    } else {
+        None
+    };
+    Parts { date, time, offset }
+}
 
 // Appends the parts that are formatted, of a value that supplies their groups. A configuration that
 // formats nothing is refused. The usual configurations have a fast path, unless something of the
@@ -70,77 +219,9 @@ fn write_each<V: ComponentProvider>(
         → AreReal (V.facts value.now)) }
     ensures agrees { V.agrees state.new value.now }
 {
-    match config.formatted_components() {
-        FormattedComponents::None => Err(Format::InsufficientTypeInformation),
-        FormattedComponents::Date => format_date(config, output, value, state),
-        FormattedComponents::Time => format_time(config, output, value, state),
-        FormattedComponents::Offset => format_offset(config, output, value, state),
-        FormattedComponents::DateTime => format_date_and_time(config, output, value, state),
-        FormattedComponents::DateTimeOffset => format_all(config, output, value, state),
-        FormattedComponents::TimeOffset => format_time_and_offset(config, output, value, state),
+    if config.formats_nothing() {
+        return Err(Format::InsufficientTypeInformation);
     }
-}
-
-// Appends the date and the time.
-fn format_date_and_time<V: ComponentProvider>(
-    config: &Config,
-    output: &mut Vec<u8>,
-    value: &V,
-    state: &mut V::State,
-) -> Result<usize, Format>
-    requires supplied { IsTrue V.SUPPLIES_DATE × IsTrue V.SUPPLIES_TIME }
-    requires room { HasRoom output.old (iso_date_width config.now + iso_time_width config.now) }
-    requires agrees { V.agrees state.old value.now }
-    ensures appends { AppendsUpTo (iso_date_width config.now + iso_time_width config.now)
-        output.old output.new result
-        (join (iso_date config.now (the_date (V.facts value.now)))
-        (iso_time config.now (the_time (V.facts value.now)))) }
-    ensures agrees { V.agrees state.new value.now }
-{
-    let date = format_date(config, output, value, state)?;
-    Ok(date + format_time(config, output, value, state)?)
-}
-
-// Appends the date, the time and the offset.
-fn format_all<V: ComponentProvider>(
-    config: &Config,
-    output: &mut Vec<u8>,
-    value: &V,
-    state: &mut V::State,
-) -> Result<usize, Format>
-    requires supplied { AreAllSupplied V.SUPPLIES_DATE V.SUPPLIES_TIME V.SUPPLIES_OFFSET }
-    requires room { HasRoom output.old
-        (iso_date_width config.now + iso_time_width config.now + iso_offset_width config.now) }
-    requires agrees { V.agrees state.old value.now }
-    ensures appends { AppendsUpTo
-        (iso_date_width config.now + iso_time_width config.now + iso_offset_width config.now)
-        output.old output.new result
-        (at_groups (iso_of_groups config.now) (V.facts value.now)) }
-    ensures real { OnOk result (AreReal (V.facts value.now)) }
-    ensures agrees { V.agrees state.new value.now }
-{
-    let date = format_date(config, output, value, state)?;
-    Ok(date + format_time_and_offset(config, output, value, state)?)
-}
-
-// Appends the time and the offset.
-fn format_time_and_offset<V: ComponentProvider>(
-    config: &Config,
-    output: &mut Vec<u8>,
-    value: &V,
-    state: &mut V::State,
-) -> Result<usize, Format>
-    requires supplied { IsTrue V.SUPPLIES_TIME × IsTrue V.SUPPLIES_OFFSET }
-    requires room { HasRoom output.old (iso_time_width config.now + iso_offset_width config.now) }
-    requires agrees { V.agrees state.old value.now }
-    ensures appends { AppendsUpTo (iso_time_width config.now + iso_offset_width config.now)
-        output.old output.new result
-        (join (iso_time config.now (the_time (V.facts value.now)))
-        (iso_offset config.now (the_offset (V.facts value.now)))) }
-    ensures real { OnOk result (IsTimeOfDay (the_time (V.facts value.now))
-        × IsOffset (the_offset (V.facts value.now))) }
-    ensures agrees { V.agrees state.new value.now }
-{
-    let time = format_time(config, output, value, state)?;
-    Ok(time + format_offset(config, output, value, state)?)
+    let parts = parts_of(config, value, state);
+    append_parts(config, output, &parts)
 }

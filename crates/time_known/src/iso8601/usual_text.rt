@@ -1,5 +1,5 @@
 //! The texts of the usual configurations, in pieces that are inlined.
-ghost use Rattle.std.specs.Prelude.{◌≡◌, ◌+◌, ◌*◌, ◌++◌, length, Some, OnSome, MatchOption, Ok};
+ghost use Rattle.std.specs.Prelude.{◌≡◌, ◌+◌, ◌*◌, ◌++◌, length, Some, OnSome, MatchOption, Ok, true};
 ghost use Rattle.time_fmt.specs.Decimals.{decimals};
 ghost use Rattle.time_fmt.specs.Outcome.{AppendsUpTo};
 ghost use Rattle.time_fmt.specs.Room.{HasRoom};
@@ -15,10 +15,8 @@ ghost use Rattle.time_known.specs.UsualText.{usual_choices, usual_of_fields, usu
 use crate::accepted::accepted_year_of;
 use crate::fields::{Fields, TimeFields, fields_of};
 use crate::iso8601::config::{Config, DecimalSign, Usual};
-use crate::iso8601::time::NANOSECONDS_PER_SECOND;
-use crate::put::{
-    put_clock, put_date, put_nine_digits, put_offset, put_six_decimals, put_three_decimals,
-};
+use crate::iso8601::time::{NANOSECONDS_PER_SECOND, put_to_second};
+use crate::put::{put_date, put_nine_digits, put_offset, put_six_decimals, put_three_decimals};
 use crate::sink::{Sink, Text, append};
 use time_digits::ru8;
 use time_provide::ComponentProvider;
@@ -80,6 +78,29 @@ impl Text for UsualText {
     }
 }
 
+/// The text by such choices with separators, of fields of which nothing is refused.
+#[derive(Clone, Copy)]
+pub struct SeparatedText {
+    /// The decimals and their sign.
+    pub usual: Usual,
+    /// The fields.
+    pub fields: Fields,
+}
+
+impl Text for SeparatedText {
+    ghost width = { λ t. iso8601_width
+        (usual_choices true t.usual.decimal_digits t.usual.decimal_sign) };
+
+    ghost text = { λ t. usual_of_fields
+        (usual_choices true t.usual.decimal_digits t.usual.decimal_sign)
+        t.usual.decimal_digits (shown t.fields) };
+
+    #[inline(always)]
+    fn put_into<S: Sink>(&self, output: &mut S) {
+        put_usual(output, &self.usual, &self.fields, "-", ":");
+    }
+}
+
 /// The text by the default configuration, of fields of which nothing is refused.
 #[derive(Clone, Copy)]
 pub struct DefaultText {
@@ -136,22 +157,31 @@ fn put_usual_time<S: Sink>(output: &mut S, usual: &Usual, time: &TimeFields, sep
         (time_of_day time.now)) }
 {
     output.put("T");
-    put_clock(output, time, separator);
-    put_fraction_by(output, usual, time.nanosecond);
+    put_to_second(
+        output,
+        time,
+        separator,
+        usual.decimal_sign,
+        usual.decimal_digits,
+    );
 }
 
 // Puts the decimal sign and the decimals of the second, if any are wanted.
 #[inline(always)]
 #[tactic(auto, using(crate::proofs::iso8601::LengthLemmas::decimal_lengths))]
-fn put_fraction_by<S: Sink>(output: &mut S, usual: &Usual, nanosecond: Nanoseconds)
-    requires room { Fits (decimal_part_width usual.now.decimal_digits) (S.buffer output.old) }
-    ensures puts { PutsUpTo (decimal_part_width usual.now.decimal_digits)
+pub(super) fn put_fraction_by<S: Sink>(
+    output: &mut S,
+    sign: DecimalSign,
+    digits: Option<ru8<1, 255>>,
+    nanosecond: Nanoseconds,
+)
+    requires room { Fits (decimal_part_width digits) (S.buffer output.old) }
+    ensures puts { PutsUpTo (decimal_part_width digits)
         (S.buffer output.old) (S.buffer output.new)
-        (decimal_part usual.now.decimal_sign usual.now.decimal_digits nanosecond
-        NANOSECONDS_PER_SECOND) }
+        (decimal_part sign digits nanosecond NANOSECONDS_PER_SECOND) }
 {
-    if let Some(digits) = usual.decimal_digits {
-        output.put(usual.decimal_sign.text());
+    if let Some(digits) = digits {
+        output.put(sign.text());
         put_decimals(output, nanosecond, digits);
     }
 }

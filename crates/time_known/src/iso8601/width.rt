@@ -1,9 +1,10 @@
 //! The most bytes of a text, which its configuration decides.
 ghost use Rattle.std.specs.Prelude.{◌≡◌, ◌≤◌};
 ghost use Rattle.time_known.specs.Iso8601Width.{iso8601_width, iso_date_width, iso_time_width, iso_offset_width, year_width, width_after_year, units_width, decimal_part_width};
+ghost use Rattle.time_known.specs.UsualText.{usual_choices};
 
 use crate::iso8601::config::{
-    Config, DateKind, FormattedComponents, OffsetPrecision, TimePrecision,
+    Config, DateKind, FormattedComponents, OffsetPrecision, TimePrecision, Usual,
 };
 use time_digits::ru8;
 
@@ -13,8 +14,7 @@ pub(super) fn width(config: &Config) -> usize
     ensures most { result ≤ 284 }
 {
     if let Some(usual) = config.usual() {
-        let signs = if usual.has_separators { 25 } else { 20 };
-        return signs + decimals_width(usual.decimal_digits);
+        return usual.width();
     }
     let date = config.date_width();
     let time = config.time_width();
@@ -31,6 +31,14 @@ pub(super) fn width(config: &Config) -> usize
 }
 
 impl Config {
+    /// Returns the most bytes of a text by this configuration: at most 284.
+    pub fn width(&self) -> usize
+        ensures width { result ≡ iso8601_width self.now }
+        ensures most { result ≤ 284 }
+    {
+        width(self)
+    }
+
     /// Returns the most bytes of the date by this configuration, 7 to 13: the spare capacity that
     /// `format_date` needs. It does not depend on whether the configuration formats dates.
     pub fn date_width(&self) -> usize
@@ -74,6 +82,19 @@ impl Config {
             OffsetPrecision::Hour => 3,
             OffsetPrecision::Minute => 5 + self.separator(":").len(),
         }
+    }
+}
+
+impl Usual {
+    /// The most bytes of a text by these choices: 20 to 281.
+    #[inline(always)]
+    pub fn width(&self) -> usize
+        ensures width { result ≡ iso8601_width
+            (usual_choices self.now.has_separators self.now.decimal_digits self.now.decimal_sign) }
+        ensures most { result ≤ 281 }
+    {
+        let signs = if self.has_separators { 25 } else { 20 };
+        signs + decimals_width(self.decimal_digits)
     }
 }
 

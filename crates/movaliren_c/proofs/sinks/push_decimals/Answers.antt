@@ -1,7 +1,7 @@
 use Rattle.std.proofs.Common.{◌≡◌, ◌-◌, ◌+◌, ◌*◌, ◌/◌, ◌%◌, ◌++◌, [], ◌∷◌, decimal, arith, ap, ◌∙◌}
 use Rattle.time_fmt.specs.Decimals.{decimals}
 use Rattle.time_fmt.proofs.LongDivisionLemmas.{decimals_left, decimals_end}
-use Rattle.movaliren_c.proofs.FractionLemmas.{one_digit, decimal_below}
+use Rattle.time_known.proofs.DigitLemmas.{one_digit, decimal_below}
 use Rattle.movaliren_c.proofs.sinks.push_decimals.Goals as goal
 
 pub loop-preserved : goal.loop-preserved

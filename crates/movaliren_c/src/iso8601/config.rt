@@ -1,0 +1,109 @@
+//! Configurations of ISO 8601 as they cross the border.
+ghost use Rattle.std.specs.Prelude.{◌≡◌};
+ghost use Rattle.movaliren_c.specs.Chosen.{components_at, date_kind_at, decimals_at, precision_at, offset_precision_at, flag_at, sign_at, choices_at};
+
+use crate::reason::Reason;
+use std::default::Default;
+use time_digits::ru8;
+use time_known::iso8601::{
+    Config, DateKind, DecimalSign, FormattedComponents, OffsetPrecision, TimePrecision,
+};
+
+/// The seven choices, and the number of decimals.
+#[repr(C)]
+#[derive(Clone, Copy)]
+pub struct IsoConfig {
+    pub components: u8,
+    pub date_kind: u8,
+    pub time_precision: u8,
+    pub decimals: u8,
+    pub offset_precision: u8,
+    pub use_separators: u8,
+    pub year_is_six_digits: u8,
+    pub comma: u8,
+}
+
+fn components_at(number: u8) -> Result<FormattedComponents, Reason>
+    ensures { result ≡ components_at number }
+{
+    match number {
+        0 => Ok(FormattedComponents::None),
+        1 => Ok(FormattedComponents::Date),
+        2 => Ok(FormattedComponents::Time),
+        3 => Ok(FormattedComponents::Offset),
+        4 => Ok(FormattedComponents::DateTime),
+        5 => Ok(FormattedComponents::DateTimeOffset),
+        6 => Ok(FormattedComponents::TimeOffset),
+        _ => Err(Reason::BadConfig),
+    }
+}
+
+fn date_kind_at(number: u8) -> Result<DateKind, Reason>
+    ensures { result ≡ date_kind_at number }
+{
+    match number {
+        0 => Ok(DateKind::Calendar),
+        1 => Ok(DateKind::Week),
+        2 => Ok(DateKind::Ordinal),
+        _ => Err(Reason::BadConfig),
+    }
+}
+
+fn precision_at(number: u8, decimals: u8) -> Result<TimePrecision, Reason>
+    ensures { result ≡ precision_at number (decimals_at decimals) }
+{
+    let decimal_digits = ru8::new(decimals);
+    match number {
+        0 => Ok(TimePrecision::Hour { decimal_digits }),
+        1 => Ok(TimePrecision::Minute { decimal_digits }),
+        2 => Ok(TimePrecision::Second { decimal_digits }),
+        _ => Err(Reason::BadConfig),
+    }
+}
+
+fn offset_precision_at(number: u8) -> Result<OffsetPrecision, Reason>
+    ensures { result ≡ offset_precision_at number }
+{
+    match number {
+        0 => Ok(OffsetPrecision::Hour),
+        1 => Ok(OffsetPrecision::Minute),
+        _ => Err(Reason::BadConfig),
+    }
+}
+
+fn flag_at(number: u8) -> Result<bool, Reason>
+    ensures { result ≡ flag_at number }
+{
+    match number {
+        0 => Ok(false),
+        1 => Ok(true),
+        _ => Err(Reason::BadConfig),
+    }
+}
+
+fn sign_at(number: u8) -> Result<DecimalSign, Reason>
+    ensures { result ≡ sign_at number }
+{
+    match number {
+        0 => Ok(DecimalSign::Point),
+        1 => Ok(DecimalSign::Comma),
+        _ => Err(Reason::BadConfig),
+    }
+}
+
+/// The configuration that these numbers choose, if each of them is one that there is.
+#[inline(always)]
+pub fn config_at(numbers: &IsoConfig) -> Result<Config, Reason>
+    ensures { result ≡ choices_at numbers.now }
+{
+    Ok(
+        Config::default()
+            .set_formatted_components(components_at(numbers.components)?)
+            .set_date_kind(date_kind_at(numbers.date_kind)?)
+            .set_time_precision(precision_at(numbers.time_precision, numbers.decimals)?)
+            .set_offset_precision(offset_precision_at(numbers.offset_precision)?)
+            .set_use_separators(flag_at(numbers.use_separators)?)
+            .set_year_is_six_digits(flag_at(numbers.year_is_six_digits)?)
+            .set_decimal_sign(sign_at(numbers.comma)?),
+    )
+}

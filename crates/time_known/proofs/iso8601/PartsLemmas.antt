@@ -1,0 +1,133 @@
+-- The text and the width of the parts that are written are those of the choices.
+use Rattle.std.proofs.Common.{◌≡◌, ◌≢◌, ℕ, ◌+◌, ◌++◌, true, List, [], refl, sym, ap, subst, ◌∙◌, arith, Option, Some, None}
+use Rattle.std.proofs.Common.{Result, Vec, unsigned_abs, nat_lt}
+use Rattle.std.specs.Global.{Global}
+use Rattle.std.specs.Prelude.{◌&&◌, codes, if◌then◌else◌}
+use Rattle.std.proofs.lemmas.List.{append-nil}
+use Rattle.time_below.specs.Facts.{Facts, DateFacts, the_date, the_time, the_offset}
+use Rattle.time_below.specs.Offset.{Offset, is_utc}
+use Rattle.time_fmt.specs.declared.error.Format.{Format}
+use Rattle.time_fmt.specs.Outcome.{AppendsUpTo, Outcome, Refusal, done, join}
+use Rattle.time_known.specs.Config.{Choices, groups_of, has_time, separator}
+use Rattle.time_known.specs.Fields.{offset_fields}
+use Rattle.time_known.specs.Groups.{has_groups}
+use Rattle.time_known.specs.Iso8601.{iso8601_outcome, iso8601_outcome_of, iso_date, iso_minutes, iso_offset, iso_time}
+use Rattle.time_known.specs.Iso8601.{iso_time_text, iso_year, text_after_year, year_of_kind}
+use Rattle.time_known.specs.Iso8601Parts.{chosen_parts, date_of_parts, date_parts, date_parts_width}
+use Rattle.time_known.specs.Iso8601Parts.{iso_offset_of_fields, minutes_of_fields, parts_by, parts_text, parts_width}
+use Rattle.time_known.specs.Iso8601Parts.{rest_of_kind, rest_text, rest_width}
+use Rattle.time_known.specs.Iso8601Width.{iso8601_width, iso8601_width_of, iso_date_width, width_after_year, year_width}
+use Rattle.time_known.specs.WellKnown.{offset_hours_text, refused_if}
+use Rattle.time_known.specs.declared.iso8601.config.DateKind.{DateKind}
+use Rattle.time_known.specs.declared.iso8601.config.DateKind.TheVariants as kind
+use Rattle.time_known.specs.declared.iso8601.config.FormattedComponents.{FormattedComponents}
+use Rattle.time_known.specs.declared.iso8601.config.FormattedComponents.TheVariants as components
+use Rattle.time_known.specs.declared.iso8601.config.OffsetPrecision.{OffsetPrecision}
+use Rattle.time_known.specs.declared.iso8601.config.OffsetPrecision.TheVariants as offset_precision
+use Rattle.time_known.specs.declared.iso8601.parts.Parts.{Parts}
+use Rattle.time_known.proofs.GroupLemmas.{has_needed, of_the_date, of_the_time, of_the_offset}
+
+-- ---- the parts
+
+rest_is : (k : DateKind) (c : Choices) (d : DateFacts)
+    → rest_text (separator c (codes "-")) (rest_of_kind k d) ≡ text_after_year k c d
+rest_is kind.Calendar c d = refl
+rest_is kind.Week c d = refl
+rest_is kind.Ordinal c d = refl
+
+date_is : (c : Choices) (d : DateFacts) → date_of_parts c (date_parts c.date_kind d) ≡ iso_date c d
+date_is c d =
+    ap (λ (rest : List ℕ). join (iso_year c.year_is_six_digits (year_of_kind c.date_kind d)) (done rest))
+    (rest_is c.date_kind c d)
+
+minutes_are : (p : OffsetPrecision) (c : Choices) (o : Offset)
+    → minutes_of_fields p c (offset_fields o) ≡ iso_minutes p c o
+minutes_are offset_precision.Hour c o = refl
+minutes_are offset_precision.Minute c o = refl
+
+offset_is : (c : Choices) (o : Offset) → iso_offset_of_fields c (offset_fields o) ≡ iso_offset c o
+offset_is c o =
+    ap (λ (minutes : Outcome). if has_time c.formatted_components && is_utc o then done (codes "Z")
+    else refused_if (nat_lt 0 (unsigned_abs o.seconds)) (codes "offset_second")
+    (join (done (offset_hours_text o)) minutes))
+    (minutes_are c.offset_precision c o)
+
+rest_width_is : (k : DateKind) (c : Choices) (d : DateFacts) → rest_width c (rest_of_kind k d) ≡ width_after_year k c
+rest_width_is kind.Calendar c d = refl
+rest_width_is kind.Week c d = refl
+rest_width_is kind.Ordinal c d = refl
+
+date_width_is : (c : Choices) (d : DateFacts) → date_parts_width c (date_parts c.date_kind d) ≡ iso_date_width c
+date_width_is c d = ap (λ (n : ℕ). year_width c.year_is_six_digits + n) (rest_width_is c.date_kind c d)
+
+-- ---- all of them
+
+-- nothing behind an outcome leaves it as it is
+alone : (o : Outcome) → join o (done []) ≡ o
+alone o = at o.bytes o.refusal where
+  at : (bytes : List ℕ) (refusal : Option Refusal)
+      → join (record { bytes = bytes; refusal = refusal }) (done []) ≡ record { bytes = bytes; refusal = refusal }
+  at bytes None = ap done (append-nil bytes)
+  at bytes (Some r) = refl
+
+text_by : (parts : FormattedComponents) (c : Choices) (f : Facts) → has_groups (groups_of parts) f ≡ true
+    → parts ≢ components.None → iso8601_outcome_of parts c f ≡ parts_text c (parts_by parts c.date_kind f)
+text_by components.None c f h some = absurd (some refl)
+text_by components.Date c f h some =
+    let needed = has_needed (groups_of components.Date) f h in
+    of_the_date f _ (needed.date refl) ∙ sym (date_is c (the_date f)) ∙ sym (alone _)
+text_by components.Time c f h some =
+    let needed = has_needed (groups_of components.Time) f h in
+    of_the_time f _ (needed.time refl) ∙ ap done (sym (append-nil (iso_time_text c (the_time f))))
+text_by components.Offset c f h some =
+    let needed = has_needed (groups_of components.Offset) f h in
+    of_the_offset f _ (needed.offset refl) ∙ sym (offset_is c (the_offset f))
+text_by components.DateTime c f h some =
+    let needed = has_needed (groups_of components.DateTime) f h in
+    of_the_date f _ (needed.date refl) ∙ of_the_time f _ (needed.time refl)
+    ∙ ap (λ (text : List ℕ). join (iso_date c (the_date f)) (done text))
+    (sym (append-nil (iso_time_text c (the_time f))))
+    ∙ ap (λ (date : Outcome). join date (done (iso_time_text c (the_time f) ++ []))) (sym (date_is c (the_date f)))
+text_by components.DateTimeOffset c f h some =
+    let needed = has_needed (groups_of components.DateTimeOffset) f h in
+    of_the_date f _ (needed.date refl) ∙ of_the_time f _ (needed.time refl) ∙ of_the_offset f _ (needed.offset refl)
+    ∙ ap (λ (date : Outcome). join date (join (iso_time c (the_time f)) (iso_offset c (the_offset f))))
+    (sym (date_is c (the_date f)))
+    ∙ ap (λ (offset : Outcome). join (date_of_parts c (date_parts c.date_kind (the_date f)))
+    (join (iso_time c (the_time f)) offset)) (sym (offset_is c (the_offset f)))
+text_by components.TimeOffset c f h some =
+    let needed = has_needed (groups_of components.TimeOffset) f h in
+    of_the_time f _ (needed.time refl) ∙ of_the_offset f _ (needed.offset refl)
+    ∙ ap (λ (offset : Outcome). join (iso_time c (the_time f)) offset) (sym (offset_is c (the_offset f)))
+
+width_by : (parts : FormattedComponents) (c : Choices) (f : Facts) → parts ≢ components.None
+    → parts_width c (parts_by parts c.date_kind f) ≡ iso8601_width_of parts c
+width_by components.None c f some = absurd (some refl)
+width_by components.Date c f some = omega (arith, date_width_is c (the_date f))
+width_by components.Time c f some = omega arith
+width_by components.Offset c f some = omega arith
+width_by components.DateTime c f some = omega (arith, date_width_is c (the_date f))
+width_by components.DateTimeOffset c f some = omega (arith, date_width_is c (the_date f))
+width_by components.TimeOffset c f some = omega arith
+
+-- the parts of a value that has the groups of its configuration give the outcome
+pub chosen_text : (c : Choices) (f : Facts) → has_groups (groups_of c.formatted_components) f ≡ true
+    → c.formatted_components ≢ components.None → iso8601_outcome c f ≡ parts_text c (chosen_parts c f)
+chosen_text c f h some = text_by c.formatted_components c f h some
+
+-- and have its width
+pub chosen_width : (c : Choices) (f : Facts) → c.formatted_components ≢ components.None
+    → parts_width c (chosen_parts c f) ≡ iso8601_width c
+chosen_width c f some = width_by c.formatted_components c f some
+
+-- what is appended by the parts is appended by the choices
+pub by_parts : {old new : Vec ℕ Global} {answer : Result ℕ Format} (c : Choices) (f : Facts) (p : Parts)
+    → has_groups (groups_of c.formatted_components) f ≡ true → c.formatted_components ≢ components.None
+    → p ≡ chosen_parts c f → AppendsUpTo (parts_width c p) old new answer (parts_text c p)
+    → AppendsUpTo (iso8601_width c) old new answer (iso8601_outcome c f)
+by_parts {old} {new} {answer} c f p there some e h =
+    let chosen : AppendsUpTo (parts_width c (chosen_parts c f)) old new answer (parts_text c (chosen_parts c f)) =
+    subst (λ (q : Parts). AppendsUpTo (parts_width c q) old new answer (parts_text c q)) e h in
+    let wide = subst (λ (n : ℕ). AppendsUpTo n old new answer (parts_text c (chosen_parts c f)))
+    (chosen_width c f some) chosen in
+    subst (λ (o : Outcome). AppendsUpTo (iso8601_width c) old new answer o) (sym (chosen_text c f there some)) wide

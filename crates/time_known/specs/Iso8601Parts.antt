@@ -1,0 +1,102 @@
+-- The text of ISO 8601 by the fields of the parts that are written.
+use Rattle.std.specs.Prelude.{ℕ, ◌+◌, ◌++◌, ◌&&◌, List, [], codes, nat_lt, Option, Some, None, if◌then◌else◌}
+use Rattle.time_below.specs.Facts.{Facts, DateFacts, the_date, the_time, the_offset}
+use Rattle.time_digits.specs.Digits.{zero_padded}
+use Rattle.time_fmt.specs.Outcome.{Outcome, done, join}
+use Rattle.time_known.specs.Config.{Choices, has_date, has_time, has_offset, separator}
+use Rattle.time_known.specs.Fields.{hours_of_fields, offset_fields, time_fields, time_of_day}
+use Rattle.time_known.specs.Iso8601.{iso_time_text, iso_year, year_of_kind}
+use Rattle.time_known.specs.Iso8601Width.{iso_offset_width, iso_time_width, year_width}
+use Rattle.time_known.specs.WellKnown.{refused_if}
+use Rattle.time_known.specs.declared.fields.OffsetFields.{OffsetFields}
+use Rattle.time_known.specs.declared.fields.TimeFields.{TimeFields}
+use Rattle.time_known.specs.declared.iso8601.config.DateKind.{DateKind}
+use Rattle.time_known.specs.declared.iso8601.config.DateKind.TheVariants as kind
+use Rattle.time_known.specs.declared.iso8601.config.FormattedComponents.{FormattedComponents}
+use Rattle.time_known.specs.declared.iso8601.config.OffsetPrecision.{OffsetPrecision}
+use Rattle.time_known.specs.declared.iso8601.config.OffsetPrecision.TheVariants as offset_precision
+use Rattle.time_known.specs.declared.iso8601.parts.DateParts.{DateParts}
+use Rattle.time_known.specs.declared.iso8601.parts.Parts.{Parts}
+use Rattle.time_known.specs.declared.iso8601.parts.RestOfDate.{RestOfDate}
+use Rattle.time_known.specs.declared.iso8601.parts.RestOfDate.TheVariants as rest
+
+-- ---- the parts of values
+
+-- what follows the year in a date of the kind
+abbrev pub rest_of_kind : DateKind → DateFacts → RestOfDate
+rest_of_kind kind.Calendar d = rest.MonthAndDay d.month d.day
+rest_of_kind kind.Week d = rest.WeekAndWeekday d.iso_week (d.weekday + 1)
+rest_of_kind kind.Ordinal d = rest.DayOfYear d.ordinal
+
+abbrev pub date_parts : DateKind → DateFacts → DateParts
+date_parts k d = record { year = year_of_kind k d; rest = rest_of_kind k d }
+
+-- the parts that are written
+abbrev pub parts_by : FormattedComponents → DateKind → Facts → Parts
+parts_by components kind f = record {
+  date = if has_date components then Some (date_parts kind (the_date f)) else None;
+  time = if has_time components then Some (time_fields (the_time f)) else None;
+  offset = if has_offset components then Some (offset_fields (the_offset f)) else None;
+}
+
+abbrev pub chosen_parts : Choices → Facts → Parts
+chosen_parts c f = parts_by c.formatted_components c.date_kind f
+
+-- ---- their texts
+
+-- what follows the year, each after the separator
+abbrev pub rest_text : List ℕ → RestOfDate → List ℕ
+rest_text separator (rest.MonthAndDay month day) =
+    separator ++ zero_padded 2 month ++ separator ++ zero_padded 2 day
+rest_text separator (rest.WeekAndWeekday week weekday) =
+    separator ++ codes "W" ++ zero_padded 2 week ++ separator ++ zero_padded 1 weekday
+rest_text separator (rest.DayOfYear day) = separator ++ zero_padded 3 day
+
+abbrev pub date_of_parts : Choices → DateParts → Outcome
+date_of_parts c d = join (iso_year c.year_is_six_digits d.year) (done (rest_text (separator c (codes "-")) d.rest))
+
+-- the minutes, where the configuration has them; else they are refused unless zero
+abbrev pub minutes_of_fields : OffsetPrecision → Choices → OffsetFields → Outcome
+minutes_of_fields offset_precision.Minute c o = done (separator c (codes ":") ++ zero_padded 2 o.minutes)
+minutes_of_fields offset_precision.Hour c o = refused_if (nat_lt 0 o.minutes) (codes "offset_minute") (done [])
+
+abbrev pub iso_offset_of_fields : Choices → OffsetFields → Outcome
+iso_offset_of_fields c o =
+    if has_time c.formatted_components && o.is_utc then done (codes "Z")
+    else refused_if (nat_lt 0 o.seconds) (codes "offset_second")
+    (join (done (hours_of_fields o)) (minutes_of_fields c.offset_precision c o))
+
+-- the text of a part, if it is there
+abbrev pub part_text : {A : Type 0} → (A → Outcome) → Option A → Outcome
+part_text text None = done []
+part_text text (Some part) = text part
+
+-- the same of a time, of which nothing is refused
+abbrev pub time_part_text : Choices → Option TimeFields → List ℕ
+time_part_text c None = []
+time_part_text c (Some t) = iso_time_text c (time_of_day t)
+
+-- the parts, one after another
+abbrev pub parts_text : Choices → Parts → Outcome
+parts_text c p =
+    join (part_text (date_of_parts c) p.date)
+    (join (done (time_part_text c p.time)) (part_text (iso_offset_of_fields c) p.offset))
+
+-- ---- their widths
+
+abbrev pub rest_width : Choices → RestOfDate → ℕ
+rest_width c (rest.MonthAndDay month day) = if c.use_separators then 6 else 4
+rest_width c (rest.WeekAndWeekday week weekday) = if c.use_separators then 6 else 4
+rest_width c (rest.DayOfYear day) = if c.use_separators then 4 else 3
+
+abbrev pub date_parts_width : Choices → DateParts → ℕ
+date_parts_width c d = year_width c.year_is_six_digits + rest_width c d.rest
+
+abbrev pub part_width : {A : Type 0} → (A → ℕ) → Option A → ℕ
+part_width width None = 0
+part_width width (Some part) = width part
+
+abbrev pub parts_width : Choices → Parts → ℕ
+parts_width c p =
+    part_width (date_parts_width c) p.date + part_width (λ _. iso_time_width c) p.time
+    + part_width (λ _. iso_offset_width c) p.offset
