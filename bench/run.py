@@ -129,7 +129,7 @@ def least_seconds(commands, file):
 
 
 def texts(programs, folder):
-    """Each text by a description where it is used, and by one that is lent to a function of its own."""
+    """Each text by a description in place, and by one that a separate function borrows."""
     print("| Text | Known | Behind | Nanoseconds known | Behind |\n|---|---|---|---|---|")
     for letter, name in TEXTS:
         counts, times = [], []
@@ -155,7 +155,7 @@ def nanoseconds(program, letter, folder):
 
 
 def growth(program):
-    """What a description costs that is lent and made larger."""
+    """What a borrowed description costs that grows."""
     print("\n| What grows | Instructions |\n|---|---|")
     for name, sizes in GROWING:
         counts = [f"{size:,}: {counted(program, letter.encode() * 10, letter.encode() * 30, 20)}"

@@ -19,7 +19,7 @@ def read(path):
 
 
 def without_marks(text):
-    """An example in a doc comment stands there behind these marks."""
+    """An example in a doc comment follows these marks."""
     return re.sub(r"^\s*//[/!] ?", "", text, flags=re.M)
 
 
@@ -40,7 +40,7 @@ def blocks(page):
 
 
 def answer_of(line):
-    """What the stored run of `time_show` answers to a line of its input."""
+    """The answer of `time_show` to a line of its stored run."""
     asked, answers = (read(f"crates/time_show/{name}").splitlines() for name in ("stdin", "stdout"))
     return answers[asked.index(line)] + "\n" if line in asked else None
 
@@ -53,7 +53,7 @@ def has(path, text):
     return lambda: text in read(path) or None
 
 
-# Each command of README.md, and what its check gives: an output that is shown behind it, or True where none is.
+# Each command of README.md, and what its check gives: an output that is shown after it, or True where none is.
 LINE = "time 9 55 6 120000000"
 COMMANDS = {
     f"printf '{LINE}\\n' | (cd crates/time_show && rt run)": lambda: answer_of(LINE),
@@ -62,7 +62,9 @@ COMMANDS = {
     "(cd crates/time_example && rt try <stdin)": example_output,
     "(cd crates/movaliren_c && rt lib) && make -C bindings/c install PREFIX=$HOME/.local":
         has("bindings/c/Makefile", "install: "),
-    "cc log.c -pthread $(pkg-config --cflags --libs movaliren)":
+    "export PKG_CONFIG_PATH=$HOME/.local/lib/pkgconfig LD_RUN_PATH=$HOME/.local/lib":
+        has("bindings/c/Makefile", "$(LIBDIR)/pkgconfig"),
+    "cc bindings/c/log.c -pthread $(pkg-config --cflags --libs movaliren)":
         has("bindings/c/log.c", "cc log.c -pthread $(pkg-config --cflags --libs movaliren)"),
     "(cd crates/movaliren_c && rt lib) && (cd bindings/rust && cargo run --offline --example show)":
         has("bindings/check", "--example show"),

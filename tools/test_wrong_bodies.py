@@ -36,7 +36,7 @@ pub fn three() -> u8
     3
 }
 """
-# The function that an edit names, what it changes, and what is told of it.
+# The function that an edit names, what it changes, and the expected result.
 EDITS = {
     "wrong": ("one", "    1", "    4", "refused in tiny::one"),
     "wrong_in_another_way": ("one", "    1", "    5", "refused in tiny::one"),

@@ -69,7 +69,7 @@ def groups_of(crate, edits):
 
 
 def refused(crate, functions, texts, kept, given):
-    """Checks these functions, and returns those that are refused for a reason of their own, or why nothing is told."""
+    """Checks these functions, and returns those that are refused for a reason of their own, or why the check decides nothing."""
     with given.lanes, tempfile.TemporaryDirectory(prefix="wrong-") as room:
         while rt.free() < LARGEST and not said_by(given.log)[1]:
             time.sleep(2)

@@ -1,4 +1,4 @@
-// clock NAME COUNT: so many texts by the call of that name, each from seconds since 1970 and a nanosecond,
+// clock NAME COUNT: this many texts by the call of that name, each from seconds since 1970 and a nanosecond,
 // over 1,000 random moments of the years 1970 to 9999. clock --names names the calls. For bindings/counts.
 #include <cstdio>
 #include <cstdlib>
@@ -72,7 +72,7 @@ typedef movaliren_progress many();
 #define ONE(call) [](const movaliren_utc_moment &moment) -> long { return long(call); }
 #define MANY(call) []() -> movaliren_progress { return call; }
 
-// The text of the time, and so many decimals behind it.
+// The text of the time, and this many decimals after it.
 static long strftime_decimals(const movaliren_utc_moment &moment, const char *format, const char *decimals, int divisor)
 {
     const tm parts = parts_of(moment);

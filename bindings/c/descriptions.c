@@ -1,5 +1,5 @@
-/* The worked rows of descriptions: each text by a wide room, by one of exactly its length and by each of fewer
- * bytes; and each refusal. Prints what is wrong, and ends with status 1 then. */
+/* Rows of descriptions: each text with a large buffer, with one of exactly its length and with each shorter
+ * one; and each error. Prints what is wrong, and then ends with status 1. */
 #include "expect.h"
 
 struct description {
@@ -130,7 +130,7 @@ static void try_widths(void)
     }
 }
 
-/* A description that is built over so many items and bytes of texts: of a day, a text of two bytes and a
+/* A description that is built over this many items and bytes of texts: of a day, a text of two bytes and a
  * month. */
 static ptrdiff_t built(size_t items_room, size_t texts_room)
 {

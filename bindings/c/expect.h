@@ -1,4 +1,4 @@
-/* What the programs of rows share: a call by rooms of several lengths, and what it is to answer. */
+/* Shared parts of the programs of rows: a call with buffers of several lengths, and its expected result. */
 #ifndef EXPECT_H
 #define EXPECT_H
 
@@ -21,7 +21,7 @@ static int is_filled(const uint8_t *from, const uint8_t *to)
     return 1;
 }
 
-/* The call with so much room of a buffer that is filled, which stays so behind the text. */
+/* Makes the call with this many bytes of a filled buffer; the bytes after the text must be unchanged. */
 static ptrdiff_t called(writer *write, const void *format, const void *value, uint8_t *buffer,
     size_t room_len)
 {

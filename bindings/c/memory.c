@@ -1,12 +1,12 @@
-/* Each request for memory is refused in turn: the answer is out of memory, the buffer is unchanged,
- * and the next call is right. What allocates nothing asks for no memory, and what is allocated is freed. */
+/* Refuses each allocation in turn: the call returns out of memory, the buffer is unchanged, and the
+ * next call is right. No other call allocates, and each allocation is freed. */
 #include "movaliren.h"
 
 #include <stdio.h>
 #include <stdlib.h>
 #include <string.h>
 
-/* The requests for memory so far, the one that is refused, and the allocations that are not freed yet. */
+/* The allocations requested so far, the one that is refused, and the allocations that are not freed yet. */
 static long asked, refused, live;
 
 /* The bytes of all requests so far. */
@@ -97,7 +97,7 @@ static ptrdiff_t call(int which, uint8_t *room)
     }
 }
 
-/* Whether each request of the call is refused well, no more is asked for than its width, and all of it is freed. */
+/* Whether the call handles each refused allocation, allocates no more than its width, and frees all of it. */
 static int is_refused_well(int which, long most, size_t width)
 {
     static uint8_t right[ROOM], room[ROOM], as_it_was[ROOM];
@@ -120,7 +120,7 @@ static int is_refused_well(int which, long most, size_t width)
     return is_well;
 }
 
-/* Whether all is freed where the text has no room, and where a component is refused behind some bytes. */
+/* Whether all is freed after a buffer that is too short, and after a component that is refused after some bytes. */
 static int is_freed_after_errors(void)
 {
     static const struct movaliren_item day_and_hour[]
@@ -135,7 +135,7 @@ static int is_freed_after_errors(void)
 
 enum { LONG = 100000, MAY = 3, MONTH_WIDTH = 9 };
 
-/* Whether a long text is written where there is room for it, and not for its width. */
+/* Whether a long text is written to a buffer that holds it, but not its width. */
 static int is_long_text_written(void)
 {
     static const struct movaliren_item long_items[] = { { .len = LONG }, { .kind = MOVALIREN_MONTH_LONG } };

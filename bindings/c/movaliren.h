@@ -8,8 +8,8 @@
  *     else
  *         line[n] = 0, puts(line);
  *
- * Each call answers the number of bytes that it wrote to the start of the buffer `room`. These are the
- * whole text, without a zero at the end; the bytes behind them are unchanged. Or it answers a negative
+ * Each call returns the number of bytes that it wrote to the start of the buffer `room`. These are the
+ * whole text, without a zero at the end; the bytes after them are unchanged. Or it returns a negative
  * movaliren_error, and the buffer is unchanged. A call reads its arguments, keeps nothing and prints
  * nothing. Calls of different threads need no lock.
  *
@@ -61,7 +61,7 @@ enum movaliren_error {
     MOVALIREN_ERROR_BAD_ITEM = -19,
     MOVALIREN_ERROR_NO_ROOM = -20,
     MOVALIREN_ERROR_OUT_OF_MEMORY = -21,
-    MOVALIREN_ERROR_OTHER = -22 /* never answered */
+    MOVALIREN_ERROR_OTHER = -22 /* never returned */
 };
 
 /* The reason in words. */
@@ -117,8 +117,8 @@ static inline const char *movaliren_error_text(ptrdiff_t reason)
     }
 }
 
-/* A buffer of this many bytes is never too small, by any configuration. One byte more has room for a
- * zero behind the text. */
+/* A buffer of this many bytes is large enough for any configuration. One byte more has space for a
+ * zero after the text. */
 enum {
     MOVALIREN_RFC3339_ROOM = 35,
     MOVALIREN_RFC2822_ROOM = 31,
@@ -216,7 +216,7 @@ ptrdiff_t movaliren_iso8601_by(const struct movaliren_iso_config *config,
 
 /* ---- moments by the clock: seconds and a nanosecond, as in movaliren_utc_moment */
 
-/* In UTC, with Z or +0000 for the offset. */
+/* A moment in UTC, with Z or +0000 for the offset. */
 ptrdiff_t movaliren_rfc3339_utc(int64_t seconds, uint32_t nanosecond, void *room, size_t room_len);
 ptrdiff_t movaliren_rfc2822_utc(int64_t seconds, uint32_t nanosecond, void *room, size_t room_len);
 ptrdiff_t movaliren_iso8601_utc(int64_t seconds, uint32_t nanosecond, void *room, size_t room_len);
@@ -228,9 +228,9 @@ ptrdiff_t movaliren_iso8601_utc(int64_t seconds, uint32_t nanosecond, void *room
 ptrdiff_t movaliren_iso8601_by_utc(const struct movaliren_iso_config *config, int64_t seconds,
     uint32_t nanosecond, void *room, size_t room_len);
 
-/* By the local date and time, where clocks are so many seconds ahead of UTC, as tm_gmtoff says. At
- * most 25:59:59 either way, or it is MOVALIREN_ERROR_OFFSET_HOURS; the formats take no seconds of an
- * offset. The moment is tested before the offset. */
+/* A moment by its local date and time. The offset is the seconds that clocks are ahead of UTC, as
+ * tm_gmtoff: at most 25:59:59 either way, or else MOVALIREN_ERROR_OFFSET_HOURS. The formats refuse
+ * seconds of an offset. The moment is tested before the offset. */
 ptrdiff_t movaliren_rfc3339_local(
     int64_t seconds, uint32_t nanosecond, int64_t offset, void *room, size_t room_len);
 ptrdiff_t movaliren_rfc2822_local(
@@ -238,10 +238,10 @@ ptrdiff_t movaliren_rfc2822_local(
 
 /* ---- many moments in one call */
 
-/* How far a batch came: so many moments stand in the room, in so many bytes. reason is 0 where these
- * are all, or else the movaliren_error of the next one, which is MOVALIREN_ERROR_NO_ROOM where its
- * text with its end does not fit what is left: empty the room, and go on there. What is behind those
- * bytes is as it was. */
+/* The progress of a batch: the buffer holds this many moments, in this many bytes. reason is 0 if
+ * these are all, or else the movaliren_error of the next one. After MOVALIREN_ERROR_NO_ROOM its text
+ * with its end does not fit what is left: empty the buffer, and continue there. The bytes after the
+ * texts are unchanged. */
 struct movaliren_progress {
     size_t moments;
     size_t bytes;
@@ -327,7 +327,7 @@ struct movaliren_item {
     size_t len;
 };
 
-/* By the items in order, of which the texts are cut from one array of bytes. The items are tested
+/* A text by the items in order, whose literals are cut from one array of bytes. The items are tested
  * before the value. */
 ptrdiff_t movaliren_format(const struct movaliren_item *items, size_t items_len,
     const void *texts, size_t texts_len, const struct movaliren_moment *moment, void *room,
@@ -340,7 +340,7 @@ ptrdiff_t movaliren_format_date(const struct movaliren_item *items, size_t items
     size_t room_len);
 
 /* The most bytes that a text of these items has, up to PTRDIFF_MAX, or MOVALIREN_ERROR_BAD_ITEM:
- * room of this many is never too little. */
+ * a buffer of this many is large enough. */
 ptrdiff_t movaliren_width(const struct movaliren_item *items, size_t items_len,
     const void *texts, size_t texts_len);
 

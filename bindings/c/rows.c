@@ -1,5 +1,5 @@
-/* The worked rows of moments: each text by a wide room, by one of exactly its length and by each of fewer
- * bytes, alone and in a batch; and each refusal. Prints what is wrong, and ends with status 1 then. */
+/* Rows of moments: each text with a large buffer, with one of exactly its length and with each shorter one,
+ * alone and in a batch; and each error. Prints what is wrong, and then ends with status 1. */
 #include "expect.h"
 
 /* ---- the calls, alone and as a batch of one that is ended by a zero */
@@ -194,7 +194,7 @@ static void try_configurations(void)
     }
 }
 
-/* A first part, one byte in the middle, and so many of another byte. */
+/* A first part, one byte in the middle, and this many of another byte. */
 static const char *long_text(char *text, const char *first, const char *middle, char last, size_t n)
 {
     size_t len = (size_t)sprintf(text, "%s%s", first, middle);

@@ -1,4 +1,4 @@
-/* speed NAME COUNT: so many texts by the call of that name, over 1,000 random moments of the years 1900
+/* speed NAME COUNT: this many texts by the call of that name, over 1,000 random moments of the years 1900
  * to 9999, a quarter of them in UTC; `whole` before the name leaves out the fractions of the second. For
  * callgrind and for a clock. Values of strftime are made before, and have no fraction. */
 #include "movaliren.h"

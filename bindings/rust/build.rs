@@ -2,7 +2,7 @@
 //! else where it is installed, by pkg-config.
 //!
 //! An installed library is one archive, `libmovaliren.a`. The one that `rt lib` builds is
-//! `libmovaliren_c.a`, and needs the archive `liblibc_c.a` of the toolchain's kit behind it: in the
+//! `libmovaliren_c.a`, and needs the archive `liblibc_c.a` of the toolchain's kit after it: in the
 //! folder `RATTLE_C`, else in the folder `c` of the kit of `rt`.
 use std::env;
 use std::path::{Path, PathBuf};
@@ -36,7 +36,7 @@ fn printed(command: &mut Command) -> Option<String> {
     (output.status.success() && !text.is_empty()).then_some(text)
 }
 
-/// The folders that pkg-config names: behind `-L`, and the folder of libraries, for which it prints no
+/// The folders that pkg-config names: after `-L`, and the folder of libraries, for which it prints no
 /// `-L` where the linker looks there by itself.
 fn folders_installed() -> Vec<PathBuf> {
     println!("cargo:rerun-if-env-changed=PKG_CONFIG_PATH");
@@ -73,7 +73,7 @@ fn is_linked(folder: &Path, file: &str, kind: &str, library: &str) -> bool {
 /// Links the library if the folder has it.
 fn is_in(folder: &Path) -> bool {
     if is_linked(folder, "libmovaliren_c.a", "static", "movaliren_c") {
-        // It calls what the kit's archive has, so that one stands behind it.
+        // It calls what the kit's archive has, so that archive follows it.
         let has_kit = |kit: PathBuf| is_linked(&kit, "liblibc_c.a", "static", "libc_c");
         if !folder_of_kit().map_or(false, has_kit) {
             fail(NO_KIT);

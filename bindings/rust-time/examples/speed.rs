@@ -1,4 +1,4 @@
-//! `speed NAME COUNT`: so many texts by the call of that name. `speed --names` prints the names.
+//! `speed NAME COUNT`: this many texts by the call of that name. `speed --names` prints the names.
 //!
 //! Each text is made from seconds since 1970 and a nanosecond, of 1,000 random moments of the years 1970
 //! to 9999. Each call clears a vector and appends the text, the fastest way that its crate has for these

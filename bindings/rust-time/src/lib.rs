@@ -34,7 +34,7 @@ pub trait ToMoment {
     fn to_moment(&self) -> Moment;
 }
 
-/// A value that is a moment, by whatever clock.
+/// A value that has a moment in UTC.
 pub trait ToUtcMoment {
     /// Returns the moment in UTC.
     fn to_utc_moment(&self) -> UtcMoment;

@@ -19,7 +19,7 @@ pub struct Progress {
 pub trait Batch<V>: Format<V> + raw::CallAll<V> {
     /// Writes the texts of the values to the start of the buffer, each followed by the byte `end`.
     ///
-    /// The bytes behind the texts are unchanged. After [`Error::NoRoom`] empty the buffer and go on
+    /// The bytes after the texts are unchanged. After [`Error::NoRoom`] empty the buffer and go on
     /// at the first value that was not written.
     ///
     /// ```

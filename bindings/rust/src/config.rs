@@ -4,7 +4,7 @@ use crate::format::Format;
 use crate::raw::IsoConfig;
 use crate::{Moment, UtcMoment};
 
-/// Which parts are written.
+/// The parts of a text.
 #[derive(Clone, Copy, Debug, PartialEq, Eq, Hash)]
 pub enum Parts {
     /// The date alone.
@@ -21,7 +21,7 @@ pub enum Parts {
     TimeOffset = 6,
 }
 
-/// Which date is written.
+/// The kind of the date in a text.
 #[derive(Clone, Copy, Debug, PartialEq, Eq, Hash)]
 pub enum DateKind {
     /// The year, the month and the day.

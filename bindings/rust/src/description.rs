@@ -173,7 +173,7 @@ impl Description {
 
     /// Adds a component with this padding.
     ///
-    /// The flag asks for a plus before a year, a century, the hours of an offset or the time since
+    /// The flag puts a plus before a year, a century, the hours of an offset or the time since
     /// 1970. A weekday is then counted from 1, and the half of the day is in upper case.
     #[must_use]
     pub fn component_with(self, kind: Kind, padding: Padding, flag: bool) -> Self {

@@ -1,7 +1,7 @@
 //! Why there is no text.
 use core::fmt;
 
-/// Why there is no text.
+/// The reason why there is no text.
 #[derive(Clone, Copy, Debug, PartialEq, Eq, Hash)]
 #[non_exhaustive]
 pub enum Error {

@@ -13,7 +13,7 @@ pub trait Format<V>: raw::Call<V> {
 
     /// Writes the text of the value to the start of the buffer, and returns the number of its bytes.
     ///
-    /// The bytes behind the text are unchanged. After an error the whole buffer is.
+    /// The bytes after the text are unchanged. After an error the whole buffer is.
     fn write(&self, buffer: &mut [u8], value: &V) -> Result<usize, Error> {
         raw::write(self, value, buffer)
     }

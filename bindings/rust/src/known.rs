@@ -29,7 +29,7 @@ pub struct Iso8601;
 #[derive(Clone, Copy, Debug, Default, PartialEq, Eq, Hash)]
 pub struct Stamp;
 
-/// RFC 3339 of moments, by the local time that is so many seconds ahead of UTC.
+/// RFC 3339 of moments, by the local time that is this many seconds ahead of UTC.
 ///
 /// ```
 /// use movaliren::{Format, Rfc3339Local, UtcMoment};
@@ -41,7 +41,7 @@ pub struct Stamp;
 #[derive(Clone, Copy, Debug, Default, PartialEq, Eq, Hash)]
 pub struct Rfc3339Local(pub i64);
 
-/// RFC 2822 of moments, by the local time that is so many seconds ahead of UTC.
+/// RFC 2822 of moments, by the local time that is this many seconds ahead of UTC.
 #[derive(Clone, Copy, Debug, Default, PartialEq, Eq, Hash)]
 pub struct Rfc2822Local(pub i64);
 

@@ -16,9 +16,9 @@
 //! ```
 //!
 //! The library behind this crate is proved: each text is the one of its definition, and each error is
-//! the definition's. This crate lends it slices and names its errors, and is tested.
+//! the definition's. This crate passes it slices and names its errors, and is tested.
 //!
-//! The crate has no dependencies. `unsafe` stands in two modules, the calls and the text in place. The
+//! The crate has no dependencies. `unsafe` is in two modules, the calls and the text in place. The
 //! library is built for Linux on `x86-64-v2`.
 #![no_std]
 #![deny(unsafe_code, unsafe_op_in_unsafe_fn)]

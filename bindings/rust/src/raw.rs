@@ -1,8 +1,8 @@
 //! The functions of the library, and the calls of them.
 //!
-//! A call lends the library slices, whose pointers are never null and whose lengths are below
-//! `isize::MAX`. The buffer is borrowed mutably, so it overlaps nothing else. Each struct that crosses
-//! is `#[repr(C)]`, with the fields of the header in its order. The library keeps no pointer.
+//! A call passes slices, whose pointers are never null and whose lengths are below `isize::MAX`.
+//! The buffer is borrowed mutably, so it overlaps nothing else. Each struct that crosses is
+//! `#[repr(C)]`, with the fields of the header in its order. The library keeps no pointer.
 use crate::known::{Iso8601, Rfc2822, Rfc2822Local, Rfc3339, Rfc3339Local, Stamp};
 use crate::{Date, Description, Error, Iso8601By, Moment, Progress, UtcMoment};
 use alloc::string::String;
@@ -259,8 +259,8 @@ type Buffer = [MaybeUninit<u8>];
 ///
 /// # Safety
 ///
-/// After `Ok(count)` the buffer has so many bytes, and the first `count` of them are initialized and
-/// are UTF-8. No byte of the buffer is made uninitialized.
+/// After `Ok(count)` the buffer has this many bytes, and the first `count` of them are initialized
+/// and are UTF-8. No byte of the buffer is made uninitialized.
 pub unsafe trait Call<V> {
     fn call(&self, value: &V, buffer: &mut Buffer) -> Result<usize, Error>;
 }
@@ -313,7 +313,7 @@ macro_rules! calls {
         unsafe impl CallAll<Moment> for $format {
             #[inline]
             fn call_all(&self, values: &[Moment], end: u8, buffer: &mut Buffer) -> Progress {
-                // SAFETY: `Moment` has the header's layout, and both pointers stand beside the
+                // SAFETY: `Moment` has the header's layout, and both pointers come with the
                 // lengths of their slices.
                 progress_of(unsafe {
                     let (moments, moments_len) = (values.as_ptr(), values.len());
@@ -346,7 +346,7 @@ unsafe impl Call<Moment> for Iso8601By {
 unsafe impl CallAll<Moment> for Iso8601By {
     #[inline]
     fn call_all(&self, values: &[Moment], end: u8, buffer: &mut Buffer) -> Progress {
-        // SAFETY: both structs have the header's layout, and both pointers stand beside the lengths
+        // SAFETY: both structs have the header's layout, and both pointers come with the lengths
         // of their slices.
         progress_of(unsafe {
             library::movaliren_iso8601_by_batch(
@@ -380,7 +380,7 @@ macro_rules! utc_calls {
         unsafe impl CallAll<UtcMoment> for $format {
             #[inline]
             fn call_all(&self, values: &[UtcMoment], end: u8, buffer: &mut Buffer) -> Progress {
-                // SAFETY: `UtcMoment` has the header's layout, and both pointers stand beside the
+                // SAFETY: `UtcMoment` has the header's layout, and both pointers come with the
                 // lengths of their slices.
                 progress_of(unsafe {
                     let (moments, moments_len) = (values.as_ptr(), values.len());
@@ -420,7 +420,7 @@ unsafe impl Call<UtcMoment> for Iso8601By {
 unsafe impl CallAll<UtcMoment> for Iso8601By {
     #[inline]
     fn call_all(&self, values: &[UtcMoment], end: u8, buffer: &mut Buffer) -> Progress {
-        // SAFETY: both structs have the header's layout, and both pointers stand beside the lengths
+        // SAFETY: both structs have the header's layout, and both pointers come with the lengths
         // of their slices.
         progress_of(unsafe {
             library::movaliren_iso8601_by_utc_batch(
@@ -454,7 +454,7 @@ macro_rules! local_calls {
         unsafe impl CallAll<UtcMoment> for $format {
             #[inline]
             fn call_all(&self, values: &[UtcMoment], end: u8, buffer: &mut Buffer) -> Progress {
-                // SAFETY: `UtcMoment` has the header's layout, and both pointers stand beside the
+                // SAFETY: `UtcMoment` has the header's layout, and both pointers come with the
                 // lengths of their slices.
                 progress_of(unsafe {
                     let (moments, moments_len) = (values.as_ptr(), values.len());
@@ -477,7 +477,7 @@ unsafe impl Call<Moment> for Description {
     #[inline]
     fn call(&self, value: &Moment, buffer: &mut Buffer) -> Result<usize, Error> {
         let (items, texts) = self.parts();
-        // SAFETY: both structs have the header's layout, and each pointer stands beside the length
+        // SAFETY: both structs have the header's layout, and each pointer comes with the length
         // of its slice.
         count_of(unsafe {
             library::movaliren_format(
@@ -499,7 +499,7 @@ unsafe impl Call<UtcMoment> for Description {
     #[inline]
     fn call(&self, value: &UtcMoment, buffer: &mut Buffer) -> Result<usize, Error> {
         let (items, texts) = self.parts();
-        // SAFETY: `Item` has the header's layout, and each pointer stands beside the length of its
+        // SAFETY: `Item` has the header's layout, and each pointer comes with the length of its
         // slice.
         count_of(unsafe {
             library::movaliren_format_utc(
@@ -522,7 +522,7 @@ unsafe impl Call<Date> for Description {
     #[inline]
     fn call(&self, value: &Date, buffer: &mut Buffer) -> Result<usize, Error> {
         let (items, texts) = self.parts();
-        // SAFETY: `Item` has the header's layout, and each pointer stands beside the length of its
+        // SAFETY: `Item` has the header's layout, and each pointer comes with the length of its
         // slice.
         count_of(unsafe {
             library::movaliren_format_date(
@@ -542,7 +542,7 @@ unsafe impl Call<Date> for Description {
 
 /// The greatest number of bytes that a text of the items has.
 pub(crate) fn width(items: &[Item], texts: &[u8]) -> Result<usize, Error> {
-    // SAFETY: `Item` has the header's layout, and each pointer stands beside the length of its slice.
+    // SAFETY: `Item` has the header's layout, and each pointer comes with the length of its slice.
     count_of(unsafe {
         library::movaliren_width(items.as_ptr(), items.len(), texts.as_ptr(), texts.len())
     })
@@ -587,7 +587,7 @@ pub(crate) fn write_all<V>(
     format.call_all(values, end, lent(room))
 }
 
-/// Appends the text of the value, which has at most so many bytes.
+/// Appends the text of the value, which has at most this many bytes.
 pub(crate) fn append<V>(
     format: &(impl Call<V> + ?Sized),
     value: &V,
@@ -596,13 +596,13 @@ pub(crate) fn append<V>(
 ) -> Result<usize, Error> {
     output.try_reserve(width).map_err(|_| Error::OutOfMemory)?;
     let count = format.call(value, output.spare_capacity_mut())?;
-    // SAFETY: the first `count` bytes behind the vector's own are within its capacity and
-    // initialized, as `Call` promises of the buffer that it was lent.
+    // SAFETY: the first `count` bytes after the vector's own are within its capacity and
+    // initialized, as `Call` promises of its buffer.
     unsafe { output.set_len(output.len() + count) };
     Ok(count)
 }
 
-/// Appends the texts of the values, which have at most so many bytes.
+/// Appends the texts of the values, which have at most this many bytes.
 pub(crate) fn append_all<V>(
     format: &(impl CallAll<V> + ?Sized),
     values: &[V],
@@ -618,13 +618,13 @@ pub(crate) fn append_all<V>(
         };
     }
     let progress = format.call_all(values, end, output.spare_capacity_mut());
-    // SAFETY: so many bytes behind the vector's own are within its capacity and initialized, as
-    // `CallAll` promises of the buffer that it was lent.
+    // SAFETY: this many bytes after the vector's own are within its capacity and initialized, as
+    // `CallAll` promises of its buffer.
     unsafe { output.set_len(output.len() + progress.bytes) };
     progress
 }
 
-/// Appends the text of the value, which has at most so many bytes.
+/// Appends the text of the value, which has at most this many bytes.
 pub(crate) fn append_str<V>(
     format: &(impl Call<V> + ?Sized),
     value: &V,

@@ -35,7 +35,7 @@ impl Text {
     /// The text of the value by the format.
     pub(crate) fn written<V>(format: &(impl Call<V> + ?Sized), value: &V) -> Result<Text, Error> {
         let mut bytes = [0; Text::CAPACITY];
-        // At most 64.
+        // The length is at most 64.
         let len = raw::write_str(format, value, &mut bytes)?.len() as u8;
         Ok(Text { bytes, len })
     }

@@ -25,7 +25,7 @@ stopped_line : (v : Result Outcome Reason) (r : Reason) (before after : List ℕ
 stopped_line (Ok o) r before after h = (h.1, h.0)
 stopped_line (Err e) r before after h = (let same = h.0 in cc, h.1)
 
--- a text at a place of the room
+-- a text that is written after the front of a buffer extends that front
 placed : (front init room later t : List ℕ) (b n : ℕ) → b ≡ length front
     → room ≡ front ++ drop b init → n ≡ length t → take b later ≡ take b room
     → drop b later ≡ t ++ drop n (drop b room) → later ≡ (front ++ t) ++ drop (b + n) init
@@ -33,13 +33,13 @@ placed front init room later t b n eb er en et ed =
     let whole = sym (take-append-drop b later) in
     grind (arith, common_steps)
 
--- the front of the room stays, and so does what is behind it
+-- a buffer is unchanged if its front and the rest are
 same_room : (room later : List ℕ) (b : ℕ) → take b later ≡ take b room → drop b later ≡ drop b room
     → later ≡ room
 same_room room later b et ed = sym (take-append-drop b later) ∙ ap (λ x. x ++ drop b later) et ∙ ap
     (λ x. take b room ++ x) ed ∙ take-append-drop b room
 
--- what is behind the lines is as it was
+-- the bytes after the lines are unchanged
 behind : (front init room : List ℕ) (b : ℕ) → b ≡ length front → room ≡ front ++ drop b init
     → drop b room ≡ drop b init
 behind front init room b eb er = grind (arith, common_steps)
@@ -89,7 +89,7 @@ stops_at n items line bytes before room later d r inside s h same =
           d)) (length rest)) b k.0),
     )
 
--- the same of an item that is known by its place
+-- the batch stops at an item that is known by its place
 pub stops_at_item : {A : Type 0} (n : ℕ) (items : List A) (line : A → Result Outcome Reason) (bytes
     : ℕ) (before room later : List ℕ) (item : A) (r : Reason)
     → n < length items → item ≡ get_or items n item → Stand n items line bytes before room
@@ -102,7 +102,7 @@ stops_at_item n items line bytes before room later item r inside is s h same =
 
 -- ---- the byte that ends a text
 
--- a text in the front of the room stands in the room
+-- a text in the front of a buffer is in the buffer
 in_front : (text room mid : List ℕ) (n most : ℕ) → n ≡ length text → n ≤ most
     → take most mid ≡ text ++ drop n (take most room) → drop most mid ≡ drop most room
     → mid ≡ text ++ drop n room
@@ -111,7 +111,7 @@ in_front text room mid n most en inside et ed =
     let old = sym (take-append-drop most room) in
     grind (arith, common_steps)
 
--- the byte behind a text
+-- the byte after a text
 placed_end : (text room mid : List ℕ) (n e : ℕ) → n ≡ length text → n < length mid
     → mid ≡ text ++ drop n room → set mid n e ≡ (text ++ e ∷ []) ++ drop (n + 1) room
 placed_end text room mid n e en inside em =
@@ -131,7 +131,7 @@ ended_text (Ok o) n e most room mid fits inside h behind_it =
     )
 ended_text (Err r) n e most room mid fits inside h behind_it = absurd (let same = h.0 in cc)
 
--- why there is no text is why there is no text with an end, in a room of one byte more
+-- the reason for no text is the reason for no text with an end, in a buffer of one byte more
 explains_ended : (r : Reason) (o : Outcome) (e room : ℕ) → Explains r o (room - 1)
     → Explains r (join o (done (e ∷ []))) room
 explains_ended r o e room h =
@@ -153,7 +153,7 @@ ended_stops (Ok o) r e most room mid is h behind_it =
     )
 ended_stops (Err q) r e most room mid is h behind_it = (h.0, same_room room mid most h.1 behind_it)
 
--- a text of no bytes in a room of none
+-- an empty buffer has no byte for the end of an empty text
 pub ended_nowhere : (asked : Result Outcome Reason) (n e most : ℕ) (room mid : List ℕ) → n ≤ most
     → most ≡ length room - 1 → n ≡ length room
     → IsText asked (Ok n) (take most room) (take most mid) → drop most mid ≡ drop most room

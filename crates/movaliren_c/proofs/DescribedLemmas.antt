@@ -18,7 +18,7 @@ use Rattle.time_fmt.proofs.Engine.{Along, written_along, refused_along}
 
 -- ---- lists of which each member is there, or not
 
--- where a list is there, its first member and the rest are
+-- the first member and the rest of a list without an error
 parts_of : {A : Type 0} (a : A) (rest : Result (List A) Reason) (all : List A)
     → with_value rest (λ others. Ok (a ∷ others)) ≡ Ok all
     → (others : List A) × (rest ≡ Ok others) × (all ≡ a ∷ others)
@@ -105,7 +105,7 @@ summed_all f items i greatest sum all past summed =
     sym (summed.same ∙ ap (λ left. with_value left (λ ts. Ok (min (sum + trees_width (trees ts))
     greatest))) none ∙ ap Ok e)
 
--- room for a width below the greatest is room for the texts
+-- a vector with capacity for a width below the greatest holds the texts
 pub room_for : (greatest width : ℕ) (all : Result (List Tree) Reason) (output : Vec ℕ Global)
     → with_value all (λ ts. Ok (min (trees_width (trees ts)) greatest)) ≡ Ok width
     → width < greatest → vec_len output ≡ 0 → width ≤ vec_capacity output → HasRoomFor output all
@@ -116,7 +116,7 @@ room_for greatest width (Err r) output is less none room = absurd (let h = is in
 
 -- ---- texts
 
--- so far the items were written without a refusal
+-- the items before these were written without a refusal
 pub record AlongItems (agrees : Type 0) (old now : Vec ℕ Global) (sum : ℕ) (f : Facts) (all left :
     Result (List Tree) Reason) : Type 0 where
   pub every : List Tree
@@ -161,7 +161,7 @@ next_item g items i d t old now sum f all inside there along =
     let step = sym (next_there g items i d t inside there) ∙ along.is_rest in
     parts_of t (list_of (map g (drop (i + 1) items))) along.rest step
 
--- and none is not
+-- no item that was written is invalid
 pub no_item_missing : {agrees : Type 0} {I : Type 0} (g : I → Result Tree Reason) (items : List I)
     (i : ℕ) (d : I) (r : Reason) (old now : Vec ℕ Global) (sum : ℕ) (f : Facts) (all : Result (List
     Tree) Reason)
@@ -171,7 +171,7 @@ no_item_missing g items i d r old now sum f all inside none along =
     let e = sym (next_not_there g items i d r inside none) ∙ along.is_rest in
     absurd (let h = e in cc)
 
--- there is room for it
+-- the next item fits the capacity
 pub room_for_item : {agrees : Type 0} {I : Type 0} (g : I → Result Tree Reason) (items : List I) (i
     : ℕ) (d : I) (t : Tree) (old now : Vec ℕ Global) (sum : ℕ) (f : Facts) (all : Result (List Tree)
     Reason)
@@ -218,7 +218,7 @@ along_refused g items i d t old now new sum e f all inside there along step with
     (ap trees next.2) (record { appends = step; within = within }) in
     rw along.is_every refused.appends
 
--- at the end of a list nothing is left
+-- the end of a list leaves nothing to write
 ended_along : {agrees : Type 0} (old now : Vec ℕ Global) (sum : ℕ) (f : Facts) (all : Trees)
     → Along agrees old now sum f all end 0 0 → Appends old now (Ok sum) (trees_outcome all f)
 ended_along old now sum f all along = search (rules, arith)

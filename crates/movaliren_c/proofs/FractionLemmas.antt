@@ -20,7 +20,7 @@ not_all : (ds : List ℕ) (d : ℕ) → (d == 48) ≡ false → are_zeros (ds ++
 not_all [] d e = rw e refl
 not_all (x ∷ ds) d e = rw (not_all ds d e) (and_false (x == 48))
 
--- so nothing of it is dropped
+-- a text that does not end in zero keeps all its digits
 kept_all : (ds : List ℕ) (d : ℕ) → (d == 48) ≡ false
     → without_last_zeros (ds ++ d ∷ []) ≡ ds ++ d ∷ []
 kept_all [] d e = not_zeros d [] (not_all [] d e)

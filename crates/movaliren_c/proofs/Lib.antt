@@ -2,6 +2,7 @@ pub mod BatchLemmas
 pub mod DateLemmas
 pub mod DescribedLemmas
 pub mod FractionLemmas
+pub mod MeaningLemmas
 pub mod NumberLemmas
 pub mod OffsetLemmas
 pub mod PushLemmas

@@ -1,4 +1,4 @@
--- What a call across the border answers.
+-- The result of a call across the border.
 use Rattle.std.specs.Prelude.{◌≡◌, ◌≢◌, ◌<◌, ◌++◌, ◌⊎◌, ℕ, ℤ, pos, neg_ℤ, List, length, drop, codes, None, Result, Ok}
 use Rattle.std.specs.Prelude.{Err, IsSomeAnd}
 use Rattle.arrayvec.specs.ArrayString.{ArrayString}
@@ -41,17 +41,17 @@ abbrev pub answer_number : Result ℕ Reason → ℤ
 answer_number (Ok n) = pos n
 answer_number (Err r) = reason_number r
 
--- the number of an answer of which so much is said
+-- the number of a result of which this holds
 abbrev pub Answers : ℤ → (Result ℕ Reason → Type 0) → Type 0
 Answers number P = (answer : Result ℕ Reason) × (number ≡ answer_number answer) × P answer
 
--- each number is that of one answer: a count, or one reason
+-- each number is that of one result: a count, or one reason
 abbrev pub NumbersAreToldApart : Type 0
 NumbersAreToldApart = (a b : Result ℕ Reason) → answer_number a ≡ answer_number b → a ≡ b
 
 -- ---- reasons
 
--- the reason for a refusal of a definition, by the name of the component that has no place
+-- the reason for a refusal of a definition, by the name of the component that is refused
 abbrev pub Refuses : Reason → Refusal → Type 0
 Refuses reason.NoPlaceForYear (invalid_component name) = name ≡ codes "year"
 Refuses reason.NoPlaceForOffsetHour (invalid_component name) = name ≡ codes "offset_hour"
@@ -75,17 +75,15 @@ IsReasonFor r (error.ComponentRange range) = r ≡ reason.OutOfRange
 IsReasonFor r error.OutOfMemory = r ≡ reason.OutOfMemory
 IsReasonFor r (error.InvalidComponent name) = Refuses r (invalid_component name.now)
 
--- why there is no text of an outcome: it is complete and longer than the room, or the definition
--- refuses it
+-- the reason for no text of an outcome: the text is complete and longer than the buffer, or the definition refuses it
 abbrev pub Explains : Reason → Outcome → ℕ → Type 0
 Explains r o room = ((r ≡ reason.NoRoom) × (o.refusal ≡ None) × (room < length o.bytes)) ⊎
     IsRefusedFor r o
 
 -- ---- texts
 
--- A count is the length of the whole text, which stands at the start of the room, and what is
--- behind it is as
--- it was. After a reason all of the room is.
+-- A count is the length of the whole text, which is at the start of the buffer; the bytes after it are unchanged. A
+-- reason leaves the whole buffer unchanged.
 abbrev pub IsWritten : Result ℕ Reason → Outcome → List ℕ → List ℕ → Type 0
 IsWritten (Ok n) o before after = (o.refusal ≡ None) × (n ≡ length o.bytes) × (after ≡ o.bytes ++
     drop n before)
@@ -95,13 +93,13 @@ IsWritten (Err r) o before after = (after ≡ before) × Explains r o (length be
 abbrev pub gives : {V : Type 0} → Result V Reason → (V → Outcome) → Result Outcome Reason
 gives value outcome = with_value value (λ v. Ok (outcome v))
 
--- the text of an outcome is written, or the reason why there is none is answered, and the room is
--- as it was
+-- the text of an outcome is written; or the reason for no text is returned, and the buffer is unchanged
 abbrev pub IsText : Result Outcome Reason → Result ℕ Reason → List ℕ → List ℕ → Type 0
 IsText (Ok o) answer before after = IsWritten answer o before after
 IsText (Err r) answer before after = (answer ≡ Err r) × (after ≡ before)
 
--- the same, or there is an outcome, memory was refused for it, and the room is as it was
+-- the text of an outcome is written; or the reason for no text, or out of memory, is returned, and the buffer is
+-- unchanged
 abbrev pub IsTextInMemory : Result Outcome Reason → Result ℕ Reason → List ℕ → List ℕ → Type 0
 IsTextInMemory (Ok o) answer before after =
     ((answer ≡ Err reason.OutOfMemory) × (after ≡ before)) ⊎ IsWritten answer o before after

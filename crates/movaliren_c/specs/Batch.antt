@@ -22,7 +22,7 @@ abbrev pub IsWhole : Result Outcome Reason → Type 0
 IsWhole (Ok o) = o.refusal ≡ None
 IsWhole (Err r) = ⊥
 
--- why a line is not written to a room of so many bytes
+-- the reason why a line is not written to a buffer of this many bytes
 abbrev pub Stops : Reason → Result Outcome Reason → ℕ → Type 0
 Stops r (Ok o) room = Explains r o room
 Stops r (Err e) room = r ≡ e
@@ -31,20 +31,19 @@ Stops r (Err e) room = r ≡ e
 abbrev pub lines : {A : Type 0} → (A → Result Outcome Reason) → List A → List ℕ
 lines line items = flat_map (λ item. bytes_of (line item)) items
 
--- The first n items have whole lines, which stand at the start of the room and have so many bytes.
--- What is behind
--- them is as it was.
+-- The first n items have whole lines, which are at the start of the buffer and have this many bytes. The bytes after
+-- them are unchanged.
 pub record Stand {A : Type 0} (n : ℕ) (items : List A) (line : A → Result Outcome Reason) (bytes :
     ℕ) (before after : List ℕ) : Type 0 where
   pub whole : All (λ item. IsWhole (line item)) (take n items)
   pub counted : bytes ≡ length (lines line (take n items))
   pub written : after ≡ lines line (take n items) ++ drop bytes before
 
--- the next item has no line, or one that does not fit what is left of the room
+-- the next item has no line, or one that does not fit the rest of the buffer
 abbrev pub StopsAt : {A : Type 0} → Reason → ℕ → List A → (A → Result Outcome Reason) → ℕ → Type 0
 StopsAt r n items line room = IfSome (slice_get items n) (λ item. Stops r (line item) room)
 
--- Those that stand are all items, or the next one does not for the reason that is told.
+-- The lines written are those of all items, or the next one has none for the reason that is returned.
 pub record IsBatch {A : Type 0} (items : List A) (line : A → Result Outcome Reason) (p : Progress)
     (before after : List ℕ) : Type 0 where
   pub stand : Stand p.moments items line p.bytes before after

@@ -34,7 +34,7 @@ date_kind_at n =
     else (if n == 2 then Ok kind.Ordinal
     else Err reason.BadConfig))
 
--- none, or so many
+-- none, or this many
 abbrev pub decimals_at : ℕ → Option ℕ
 decimals_at n = if n == 0 then None else Some n
 

@@ -121,7 +121,7 @@ time_component k p f d =
     else (if k == 33 then Ok (component.UnixTimestampMillisecond (record { sign_is_mandatory = f }))
     else Err reason.BadItem))))))))))
 
--- by its number, padding, flag and decimals
+-- the component of a number, with its padding, flag and decimals
 abbrev pub component_at : ℕ → Padding → Bool → SubsecondDigits → Result Component Reason
 component_at k p f d =
     if nat_lt k 13 then date_component k p f d
@@ -149,7 +149,7 @@ list_of [] = Ok []
 list_of (Err r ∷ rest) = Err r
 list_of (Ok a ∷ rest) = with_value (list_of rest) (λ others. Ok (a ∷ others))
 
--- the trees of the items, in order, or the reason why the first that is none is none
+-- the trees of the items, in order, or the reason why the first invalid one is invalid
 abbrev pub trees_of : List ℕ → List Item → Result (List Tree) Reason
 trees_of texts items = list_of (map (item_tree texts) items)
 
@@ -173,7 +173,7 @@ abbrev pub width_answer : Result (List Tree) Reason → Result ℕ Reason
 width_answer description = with_value description (λ ts. Ok (min (trees_width (trees ts))
     0x7fff_ffff_ffff_ffff))
 
--- there is room for the texts of a description, which there is
+-- the description is valid, and the vector has capacity for its texts
 abbrev pub HasRoomFor : Vec ℕ Global → Result (List Tree) Reason → Type 0
 HasRoomFor output (Ok ts) = HasRoom output (trees_width (trees ts))
 HasRoomFor output (Err r) = ⊥

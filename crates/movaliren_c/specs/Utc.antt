@@ -1,13 +1,15 @@
 -- The value that seconds since 1970 and a nanosecond give, in UTC or at an offset.
-use Rattle.std.specs.Prelude.{ℕ, ◌/◌, ◌%◌, ℤ, ◌+ℤ◌, pos, unsigned_abs, nat_lt, int_lt, Result, Ok}
+use Rattle.std.specs.Prelude.{◌≡◌, ℕ, ◌/◌, ◌%◌, ℤ, ◌+ℤ◌, pos, unsigned_abs, nat_lt, int_lt, Result, Ok}
 use Rattle.movaliren_c.specs.Answer.{gives}
 use Rattle.movaliren_c.specs.Chosen.{choices_at}
 use Rattle.movaliren_c.specs.Value.{checked, with_value, timestamp_value, stamp_value}
 use Rattle.movaliren_c.specs.declared.iso8601.choices.IsoConfig.{IsoConfig}
 use Rattle.movaliren_c.specs.declared.reason.Reason.{Reason}
 use Rattle.movaliren_c.specs.declared.reason.Reason.TheVariants as reason
-use Rattle.time_below.specs.Moment.{Moment, DateAndTime, OffsetDateAndTime}
-use Rattle.time_below.specs.Offset.{Offset, signed, utc}
+use Rattle.time_below.specs.Calendar.{IsDate}
+use Rattle.time_below.specs.Moment.{Moment, DateAndTime, OffsetDateAndTime, local_unix_seconds}
+use Rattle.time_below.specs.Offset.{Offset, IsOffset, offset_seconds, signed, utc}
+use Rattle.time_below.specs.TimeOfDay.{IsTimeOfDay}
 use Rattle.time_fmt.specs.Outcome.{Outcome}
 use Rattle.time_known.specs.Iso8601.{iso8601_of}
 
@@ -29,7 +31,7 @@ unfoldable pub iso8601_by_utc : IsoConfig → ℤ → ℕ → Result Outcome Rea
 iso8601_by_utc config seconds nanosecond =
     with_value (choices_at config) (λ c. gives (utc_value seconds nanosecond) (iso8601_of c))
 
--- the offset of so many seconds east of UTC
+-- the offset of this many seconds east of UTC
 abbrev pub offset_of_seconds : ℤ → Offset
 offset_of_seconds east =
     let size = unsigned_abs east in
@@ -40,12 +42,12 @@ offset_of_seconds east =
       seconds = signed sign (size % 60);
     }
 
--- if it is at most 25:59:59 either way
+-- an offset of at most 25:59:59 either way, by its seconds east of UTC
 abbrev pub east_value : ℤ → Result Offset Reason
 east_value east =
     checked (nat_lt (unsigned_abs east) 93_600) reason.OffsetHours (Ok (offset_of_seconds east))
 
--- a moment by the local date and time where clocks are so many seconds ahead of UTC
+-- a moment by the local date and time where clocks are this many seconds ahead of UTC
 abbrev pub moved_east : Moment → ℤ → Result OffsetDateAndTime Reason
 moved_east m east =
     with_value (east_value east) (λ o. value_at (m.seconds +ℤ east) m.nanosecond o)
@@ -54,3 +56,13 @@ moved_east m east =
 abbrev pub local_value : ℤ → ℕ → ℤ → Result OffsetDateAndTime Reason
 local_value seconds nanosecond east =
     with_value (timestamp_value seconds nanosecond) (λ m. moved_east m east)
+
+-- a local date and time that there is, by its offset the moment of so many seconds since 1970 and a
+-- nanosecond, where clocks are so many seconds ahead of UTC
+pub record Means (seconds : ℤ) (nanosecond : ℕ) (east : ℤ) (t : OffsetDateAndTime) : Type 0 where
+  pub date : IsDate t.date
+  pub time : IsTimeOfDay t.time
+  pub offset : IsOffset t.offset
+  pub moment : local_unix_seconds t ≡ seconds
+  pub forward : t.time.nanosecond ≡ nanosecond
+  pub ahead : offset_seconds t.offset ≡ east

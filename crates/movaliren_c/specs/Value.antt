@@ -43,7 +43,7 @@ time_value m =
 abbrev pub offset_part : Reason → ℕ → ℤ → Result ℤ Reason
 offset_part r greatest number = checked (nat_le (unsigned_abs number) greatest) r (Ok number)
 
--- where the signs of the parts differ, the largest that is not zero decides
+-- the largest part that is not zero decides the sign, if the signs of the parts differ
 abbrev pub offset_value : Moment → Result Offset Reason
 offset_value m =
     with_value (offset_part reason.OffsetHours 25 m.offset_hours) (λ hours.
@@ -59,7 +59,7 @@ moment_value m =
     with_value (offset_value m) (λ offset.
     Ok (record { date = date; time = time; offset = offset }))))
 
--- the moment of so many seconds since 1970 and a nanosecond
+-- the moment of this many seconds since 1970 and a nanosecond
 abbrev pub timestamp_value : ℤ → ℕ → Result moments.Moment Reason
 timestamp_value seconds nanosecond =
     checked (int_le (neg_ℤ (pos seconds_before)) seconds && int_le seconds (pos 31_494_784_780_799))

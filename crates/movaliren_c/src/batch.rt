@@ -21,7 +21,7 @@ use crate::writer::Writer;
 /// How far a batch came.
 #[repr(C)]
 pub struct Progress {
-    /// How many moments stand in the room.
+    /// The number of moments in the buffer.
     pub moments: usize,
     /// How many bytes they have.
     pub bytes: usize,
@@ -58,7 +58,8 @@ pub extern "C" fn movaliren_iso8601_batch(moments: &[Moment], end: u8, room: &mu
     lines_written(&Iso8601, moments, end, room)
 }
 
-/// The same by a configuration.
+/// The texts of ISO 8601 of the moments by a configuration, one after another, each ended by this
+/// byte.
 #[unsafe(no_mangle)]
 pub extern "C" fn movaliren_iso8601_by_batch(
     config: &IsoConfig,
@@ -113,7 +114,7 @@ pub fn lines_written<W: Writer>(writer: &W, items: &[W::Item], end: u8, room: &m
     }
 }
 
-/// Writes the line of the item behind so many bytes of the room.
+/// Writes the line of the item after this many bytes of the buffer.
 fn line_behind<W: Writer>(
     writer: &W,
     item: &W::Item,
@@ -130,9 +131,8 @@ fn line_behind<W: Writer>(
     line_written(writer, item, end, &mut room[bytes..])
 }
 
-/// Writes the text of the item, and the byte that ends it, to the start of the room. The text has
-/// all of the room but its last byte; in a room of none, a text of no bytes is the one that has
-/// come so far.
+/// Writes the text of the item and its end byte to the start of the buffer. The text may use all
+/// but the last byte. An empty buffer has no such byte, so an empty text does not fit it either.
 fn line_written<W: Writer>(
     writer: &W,
     item: &W::Item,
@@ -155,7 +155,7 @@ fn line_written<W: Writer>(
     }
 }
 
-/// Writes the text of the item to the first bytes of the room.
+/// Writes the text of the item to the first bytes of the buffer.
 fn text_within<W: Writer>(
     writer: &W,
     item: &W::Item,

@@ -1,4 +1,4 @@
-//! Dates that keep the month and the day by which they were told.
+//! Dates that keep the month and the day of their arguments.
 ghost use Rattle.std.specs.Prelude.{◌≡◌, ◌↔◌, IsTrue};
 ghost use Rattle.std.specs.Int.{IsInRange};
 ghost use Rattle.time_below.specs.Calendar.{IsYear, IsDayOfMonth, month_of, day_of};
@@ -93,7 +93,7 @@ impl CalendarDate {
         }
     }
 
-    /// The same date.
+    /// Returns the date with its month and day.
     #[tactic(auto, using(crate::proofs::DateLemmas::same_day))]
     pub fn of_date(date: Date) -> CalendarDate
         ensures { result ≡ date }
@@ -130,7 +130,7 @@ impl CalendarDate {
         self.day
     }
 
-    /// The same date by its day of the year.
+    /// Returns the date by its day of the year.
     pub fn date(self) -> Date
         ensures { result ≡ self }
     {

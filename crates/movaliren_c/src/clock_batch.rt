@@ -56,7 +56,8 @@ pub extern "C" fn movaliren_iso8601_utc_batch(
     lines_written(&Iso8601Utc, moments, end, room)
 }
 
-/// The same by a configuration.
+/// The texts of ISO 8601 of the moments in UTC by a configuration, one after another, each ended by
+/// this byte.
 #[unsafe(no_mangle)]
 pub extern "C" fn movaliren_iso8601_by_utc_batch(
     config: &IsoConfig,
@@ -71,7 +72,7 @@ pub extern "C" fn movaliren_iso8601_by_utc_batch(
     lines_written(&Iso8601ByUtc { config: *config }, moments, end, room)
 }
 
-/// The texts of RFC 3339 of the moments, at an offset of so many seconds east of UTC, one after
+/// The texts of RFC 3339 of the moments, at an offset of this many seconds east of UTC, one after
 /// another, each ended by this byte.
 #[unsafe(no_mangle)]
 pub extern "C" fn movaliren_rfc3339_local_batch(
@@ -87,7 +88,7 @@ pub extern "C" fn movaliren_rfc3339_local_batch(
     lines_written(&Rfc3339Local { offset }, moments, end, room)
 }
 
-/// The texts of RFC 2822 of the moments, at an offset of so many seconds east of UTC, one after
+/// The texts of RFC 2822 of the moments, at an offset of this many seconds east of UTC, one after
 /// another, each ended by this byte.
 #[unsafe(no_mangle)]
 pub extern "C" fn movaliren_rfc2822_local_batch(

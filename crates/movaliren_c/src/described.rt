@@ -21,7 +21,7 @@ use time_fmt::writers::write_bytes;
 use time_fmt::{Format, component_write_into};
 use time_provide::ComponentProvider;
 
-// The greatest width that is told, which no memory has.
+// The greatest width that is returned. No buffer is so long.
 const GREATEST_WIDTH: usize = 0x7fff_ffff_ffff_ffff;
 
 /// The text of a local date and time with its offset.
@@ -150,8 +150,7 @@ where
     }
 }
 
-/// The width of the items, up to the greatest `isize`, or the reason why the first that is none is
-/// none.
+/// The width of the items, up to the greatest `isize`, or the reason of the first invalid item.
 fn width(items: &[Item], texts: &[u8]) -> Result<usize, Reason>
     ensures { result ≡ width_answer (trees_of texts.now items.now) }
 {

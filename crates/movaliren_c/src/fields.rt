@@ -3,16 +3,17 @@ ghost use Rattle.std.specs.Prelude.{◌≡◌, ◌≤◌, ℕ, List, IfOk, IfErr
 ghost use Rattle.time_below.specs.Facts.{date_facts};
 ghost use Rattle.time_fmt.specs.Outcome.{done};
 ghost use Rattle.time_known.specs.Accepted.{checked_text, refused_for};
-ghost use Rattle.time_known.specs.Fields.{fields, offset_fields, time_fields};
+ghost use Rattle.time_known.specs.Fields.{fields, offset_fields, shown, time_fields};
 
 use crate::kept_offset::KeptOffset;
 use crate::moment::LocalMoment;
 use time_below::Time;
 use time_digits::{ru8, ru16, ru32};
 use time_known::accepted::{OutOfRange, accepted_year};
+use time_known::days::CalendarDay;
 use time_known::fields::{Fields, OffsetFields, TimeFields};
 
-/// The year of four digits, or the first component of the value that has no place.
+/// The year of four digits, or the first component of the value that is refused.
 #[inline(always)]
 pub fn accepted_year_of(
     first: u16,
@@ -44,12 +45,14 @@ pub fn accepted_year_of(
 #[inline(always)]
 pub fn fields_of(year: ru16<0, 9_999>, value: &LocalMoment) -> Fields
     requires year { year ≡ unsigned_abs value.now.date.year }
-    ensures { result ≡ fields (date_facts value.now.date) value.now.time value.now.offset }
+    ensures { shown result ≡ fields (date_facts value.now.date) value.now.time value.now.offset }
 {
     Fields {
         year,
-        month: ru8::within(value.date().month()),
-        day: ru8::within(value.date().day()),
+        date: CalendarDay::OfMonth {
+            month: ru8::within(value.date().month()),
+            day: ru8::within(value.date().day()),
+        },
         time: time_of(value.time()),
         offset: offset_of(value.offset()),
     }

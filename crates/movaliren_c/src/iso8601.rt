@@ -96,8 +96,8 @@ impl Writer for IsoConfig {
     }
 }
 
-/// Writes the text of the value to the start of the room: 284 bytes are the most that there are, 13
-/// of the date, 265 of the time and 6 of the offset.
+/// Writes the text of the value to the start of the buffer. A text has at most 284 bytes: 13 of the
+/// date, 265 of the time and 6 of the offset.
 #[inline(always)]
 pub fn written_by(choices: Choices, value: &LocalMoment, room: &mut [u8]) -> Result<usize, Reason>
     ensures { IsWritten result (iso8601_of choices value.now) room.old room.new }

@@ -1,4 +1,4 @@
-//! Offsets that keep the parts by which they were told.
+//! Offsets that keep the parts of their arguments.
 ghost use Rattle.std.specs.Prelude.{◌≡◌, ◌<◌, ◌≤◌, IfOk, unsigned_abs};
 ghost use Rattle.time_below.specs.Offset.{is_negative, is_utc, signed, utc};
 ghost use Rattle.movaliren_c.specs.Utc.{east_value};
@@ -44,7 +44,7 @@ impl KeptOffset {
         })
     }
 
-    /// The offset of so many seconds east of UTC, if it is at most 25:59:59 either way.
+    /// The offset of this many seconds east of UTC, if it is at most 25:59:59 either way.
     pub fn of_seconds(east: i64) -> Result<KeptOffset, Reason>
         ensures value { result ≡ east_value east }
         ensures range { IfOk result (λ _. unsigned_abs east < 93_600) }
@@ -140,7 +140,7 @@ impl KeptOffset {
         self.seconds < 0
     }
 
-    /// The same offset, of one sign.
+    /// Returns the offset with parts of one sign.
     pub fn offset(&self) -> UtcOffset
         ensures { result ≡ self.now }
     {

@@ -1,9 +1,9 @@
 //! Moments as text, for C: RFC 3339, RFC 2822, ISO 8601, stamps, and descriptions that cross as
 //! data.
 //!
-//! Each export answers the number of bytes at the start of the room, which are the whole text, or a
-//! negative number that names the reason why there is none; then the room is as it was. No export
-//! has a condition, and only descriptions take memory.
+//! Each export returns the number of bytes at the start of the buffer, which are the whole text, or
+//! a negative number that names the error; the buffer is then unchanged. No export has a condition,
+//! and only descriptions allocate.
 #![tactic(auto)]
 
 mod batch;

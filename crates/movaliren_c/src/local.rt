@@ -1,4 +1,4 @@
-//! Texts of moments by the local date and time, from the offset that the C library tells.
+//! Texts of moments by the local date and time, with the offset that the C library gives.
 ghost use Rattle.std.specs.Prelude.{◌≡◌, ◌<◌, ◌+ℤ◌, unsigned_abs};
 ghost use Rattle.movaliren_c.specs.Answer.{Answers, IsText, gives};
 ghost use Rattle.movaliren_c.specs.Utc.{local_value, moved_east, value_at};
@@ -14,7 +14,7 @@ use time_below::Timestamp;
 use time_known::rfc2822::Rfc2822Text;
 use time_known::rfc3339::Rfc3339Text;
 
-/// The moment by the local date and time where clocks are so many seconds ahead of UTC.
+/// The moment by the local date and time where clocks are this many seconds ahead of UTC.
 fn local_value(seconds: i64, nanosecond: u32, offset: i64) -> Result<LocalMoment, Reason>
     ensures { result ≡ local_value seconds nanosecond offset }
 {
@@ -48,7 +48,7 @@ fn seconds_moved(moment: Timestamp, east: i64) -> i64
     moment.as_seconds() + east
 }
 
-/// The format of RFC 3339 over moments, at an offset of so many seconds east of UTC.
+/// The format of RFC 3339 over moments, at an offset of this many seconds east of UTC.
 #[derive(Drop)]
 pub struct Rfc3339Local {
     pub offset: i64,
@@ -67,7 +67,7 @@ impl Writer for Rfc3339Local {
     }
 }
 
-/// The text of RFC 3339 of a moment, at an offset of so many seconds east of UTC.
+/// The text of RFC 3339 of a moment, at an offset of this many seconds east of UTC.
 #[unsafe(no_mangle)]
 pub extern "C" fn movaliren_rfc3339_local(
     seconds: i64,
@@ -88,7 +88,7 @@ pub extern "C" fn movaliren_rfc3339_local(
     ))
 }
 
-/// The format of RFC 2822 over moments, at an offset of so many seconds east of UTC.
+/// The format of RFC 2822 over moments, at an offset of this many seconds east of UTC.
 #[derive(Drop)]
 pub struct Rfc2822Local {
     pub offset: i64,
@@ -107,7 +107,7 @@ impl Writer for Rfc2822Local {
     }
 }
 
-/// The text of RFC 2822 of a moment, at an offset of so many seconds east of UTC.
+/// The text of RFC 2822 of a moment, at an offset of this many seconds east of UTC.
 #[unsafe(no_mangle)]
 pub extern "C" fn movaliren_rfc2822_local(
     seconds: i64,

@@ -34,8 +34,7 @@ pub struct UtcMoment {
     pub nanosecond: u32,
 }
 
-/// The value of a moment: a local date, of which the month and the day are at hand, a time, and an
-/// offset by the parts that were told.
+/// The value of a moment: a local date with its month and day, a time, and an offset by its parts.
 #[derive(Drop)]
 pub struct LocalMoment {
     date: CalendarDate,
@@ -63,7 +62,7 @@ impl LocalMoment {
         }
     }
 
-    /// The same date and time, with this offset.
+    /// Returns the date and time with this offset.
     pub fn with_offset(value: UtcDateTime, offset: KeptOffset) -> LocalMoment
         ensures { result ≡ with_offset offset value }
     {
@@ -130,7 +129,7 @@ pub fn moment_value(moment: &Moment) -> Result<LocalMoment, Reason>
     Ok(LocalMoment { date, time, offset })
 }
 
-/// The same value, as descriptions take it.
+/// Returns the value of the moment for descriptions.
 pub fn provided_value(moment: &Moment) -> Result<OffsetDateTime, Reason>
     ensures { result ≡ moment_value moment.now }
 {
@@ -144,7 +143,7 @@ pub fn provided_value(moment: &Moment) -> Result<OffsetDateTime, Reason>
     }
 }
 
-/// The date of a year, a month and a day, as descriptions take it.
+/// The date of a year, a month and a day, for descriptions.
 pub fn date_value(year: i32, month: u8, day: u8) -> Result<Date, Reason>
     ensures { result ≡ date_value year month day }
 {
@@ -154,7 +153,7 @@ pub fn date_value(year: i32, month: u8, day: u8) -> Result<Date, Reason>
     }
 }
 
-/// The moment of so many seconds since 1970-01-01T00:00:00 UTC, and a nanosecond.
+/// The moment of this many seconds since 1970-01-01T00:00:00 UTC, and a nanosecond.
 pub fn timestamp_value(seconds: i64, nanosecond: u32) -> Result<Timestamp, Reason>
     ensures { result ≡ timestamp_value seconds nanosecond }
 {
@@ -175,7 +174,7 @@ pub fn stamp_value(seconds: i64, nanosecond: u32) -> Result<UtcDateTime, Reason>
     Ok(UtcDateTime::new(moment.date(), moment.time()))
 }
 
-/// The date and time so long after 1970, with this offset.
+/// The date and time this long after 1970, with this offset.
 #[inline(always)]
 #[tactic(auto, unfolding(crate::specs::Utc::value_at))]
 pub fn value_at(seconds: i64, nanosecond: u32, offset: KeptOffset) -> Result<LocalMoment, Reason>

@@ -1,4 +1,4 @@
-//! The texts of moments with an offset, which take no memory.
+//! The texts of moments with an offset, which allocate nothing.
 ghost use Rattle.std.specs.Prelude.{◌≡◌, ◌≤◌, ◌++◌, IfOk, IfErr, drop, length};
 ghost use Rattle.movaliren_c.specs.Answer.{IsRefusedFor, IsText, IsWritten, gives};
 ghost use Rattle.movaliren_c.specs.Value.{moment_value};
@@ -16,14 +16,14 @@ pub trait MomentText: Text + Copy {
     /// What the format gives.
     ghost outcome: { OffsetDateAndTime → Outcome };
 
-    /// The text of the value, or why there is none.
+    /// The text of the value, or the reason why it has none.
     fn of_value(value: &LocalMoment) -> Result<Self, Reason>
         ensures text { IfOk result (λ t. outcome value.now ≡ done (Self.text t)) }
         ensures width { IfOk result (λ t. Self.width t ≤ 35) }
         ensures refused { IfErr result (λ r. IsRefusedFor r (outcome value.now)) };
 }
 
-/// Writes the text of the moment to the start of the room.
+/// Writes the text of the moment to the start of the buffer.
 #[inline(always)]
 pub fn write_moment<T: MomentText>(moment: &Moment, room: &mut [u8]) -> Result<usize, Reason>
     ensures { IsText (gives (moment_value moment.now) T.outcome) result room.old room.new }
@@ -37,7 +37,7 @@ pub fn write_moment<T: MomentText>(moment: &Moment, room: &mut [u8]) -> Result<u
     }
 }
 
-/// Writes the text of the value to the start of the room.
+/// Writes the text of the value to the start of the buffer.
 #[inline(always)]
 pub fn write_value<T: MomentText>(value: &LocalMoment, room: &mut [u8]) -> Result<usize, Reason>
     ensures { IsWritten result (T.outcome value.now) room.old room.new }
@@ -48,7 +48,7 @@ pub fn write_value<T: MomentText>(value: &LocalMoment, room: &mut [u8]) -> Resul
     write_in_place::<T>(value, room)
 }
 
-/// Writes the text of the value to the start of a room that holds every text.
+/// Writes the text of the value to the start of a buffer that holds every text.
 #[inline(always)]
 fn write_in_place<T: MomentText>(value: &LocalMoment, room: &mut [u8]) -> Result<usize, Reason>
     requires room { 35 ≤ length room.old }
@@ -60,7 +60,7 @@ fn write_in_place<T: MomentText>(value: &LocalMoment, room: &mut [u8]) -> Result
     }
 }
 
-/// Puts the text to the start of the room, and answers the number of its bytes.
+/// Puts the text at the start of the buffer, and returns the number of its bytes.
 #[inline(always)]
 fn put_at_start<T: Text>(text: &T, room: &mut [u8]) -> usize
     requires room { T.width text.now ≤ length room.old }
@@ -86,8 +86,8 @@ fn put_into_empty<T: Text>(sink: &mut RoomSink<'_>, text: &T)
     text.put_into(sink);
 }
 
-/// Writes the text of the moment to the start of a room that may be too small for it. Nothing but the
-/// moment is lent to this, so that what the caller reads of it stays in registers.
+/// Writes the text of the moment to the start of a buffer that may be too small. This borrows
+/// nothing but the moment, so that the caller keeps in registers what it reads of it.
 #[cold]
 #[inline(never)]
 fn copy_moment<T: MomentText>(moment: &Moment, room: &mut [u8]) -> Result<usize, Reason>
@@ -99,7 +99,7 @@ fn copy_moment<T: MomentText>(moment: &Moment, room: &mut [u8]) -> Result<usize,
     }
 }
 
-/// The same of a value.
+/// Writes the text of the value to the start of a buffer that may be too small.
 #[cold]
 #[inline(never)]
 fn copy_value<T: MomentText>(value: &LocalMoment, room: &mut [u8]) -> Result<usize, Reason>

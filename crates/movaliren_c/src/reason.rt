@@ -7,7 +7,7 @@ ghost use Rattle.time_known.specs.Accepted.{component_name};
 use time_fmt::Format;
 use time_known::accepted::OutOfRange;
 
-/// Why there is no text.
+/// The reason why there is no text.
 #[derive(Clone, Copy)]
 pub enum Reason {
     /// The year is outside -999,999 to 999,999.
@@ -48,7 +48,7 @@ pub enum Reason {
     BadConfig,
     /// Invalid item.
     BadItem,
-    /// The text does not fit the room.
+    /// The text does not fit the buffer.
     NoRoom,
     /// Memory was refused, or the width has reached the greatest `usize`.
     OutOfMemory,
@@ -86,7 +86,7 @@ fn reason_number(reason: Reason) -> isize
     }
 }
 
-/// The number that a call answers.
+/// The number that a call returns.
 pub fn answer_number(answer: Result<usize, Reason>) -> isize
     requires { IfOk answer (λ n. n < 0x8000_0000_0000_0000) }
     ensures { result ≡ answer_number answer }
@@ -97,7 +97,7 @@ pub fn answer_number(answer: Result<usize, Reason>) -> isize
     }
 }
 
-/// The reason that an error of the formatter is.
+/// The reason of an error of the formatter.
 pub fn reason_of(error: Format) -> Reason
     ensures { IsReasonFor result error }
 {
@@ -115,7 +115,7 @@ pub fn reason_of(error: Format) -> Reason
     }
 }
 
-/// The reason that a format has no place for a component.
+/// The reason of a component that a format refuses.
 pub fn reason_for(component: OutOfRange) -> Reason
     ensures { Refuses result (invalid_component (component_name component)) }
 {

@@ -1,11 +1,11 @@
-//! Texts at the start of the room.
+//! Texts at the start of the buffer.
 ghost use Rattle.std.specs.Prelude.{◌≡◌, ◌≤◌, IfOk, length};
 ghost use Rattle.movaliren_c.specs.Answer.{IsWritten};
 ghost use Rattle.time_fmt.specs.Outcome.{done};
 
 use crate::reason::Reason;
 
-/// Copies the text to the start of the room, if it fits.
+/// Copies the text to the start of the buffer, if it fits.
 #[inline(always)]
 pub fn copied(text: &[u8], room: &mut [u8]) -> Result<usize, Reason>
     ensures written { IsWritten result (done text.now) room.old room.new }

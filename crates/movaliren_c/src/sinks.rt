@@ -1,4 +1,4 @@
-//! Where texts are put: into an array, or to the start of a room.
+//! Sinks of texts: an array, or the start of a buffer.
 ghost use Rattle.std.specs.Prelude.{◌≡◌, ◌<◌, ◌≤◌, ◌+◌, ◌++◌, [], length, take, drop};
 ghost use Rattle.arrayvec.specs.ArrayString.{array_string_len};
 ghost use Rattle.time_fmt.specs.Decimals.{decimals};
@@ -14,7 +14,7 @@ pub struct ArraySink<const N: usize> {
 }
 
 impl<const N: usize> ArraySink<N> {
-    /// No text yet.
+    /// An empty text.
     #[inline(always)]
     pub fn new() -> Self
         ensures { result.text.bytes ≡ [] }
@@ -71,7 +71,7 @@ pub fn push_decimals<const N: usize>(line: &mut ArrayString<N>, rest: u64, unit:
     }
 }
 
-/// A text at the start of a room.
+/// A text at the start of a buffer.
 #[derive(Drop)]
 pub struct RoomSink<'a> {
     room: &'a mut [u8],
@@ -80,7 +80,7 @@ pub struct RoomSink<'a> {
 }
 
 impl<'a> RoomSink<'a> {
-    /// No text yet.
+    /// An empty text.
     #[inline(always)]
     pub fn new(room: &'a mut [u8]) -> RoomSink<'a>
         ensures len { result.len ≡ 0 }
@@ -141,7 +141,7 @@ impl Sink for RoomSink<'_> {
     }
 }
 
-/// Writes the bytes over those of the room from a place on. This is no part of `put`, whose size counts
+/// Overwrites the bytes of the buffer from a place on. This is no part of `put`, whose size counts
 /// before the compiler knows the lengths of pieces.
 #[inline]
 #[tactic(auto, using(crate::proofs::SinkLemmas::written_pieces))]

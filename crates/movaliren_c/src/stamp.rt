@@ -1,4 +1,4 @@
-//! Stamps: texts of moments in UTC whose bytes stand in the order of the moments.
+//! Stamps: texts of moments in UTC whose bytes are in the order of the moments.
 ghost use Rattle.std.specs.Prelude.{◌≡◌};
 ghost use Rattle.movaliren_c.specs.Answer.{Answers, IsText, IsWritten, gives};
 ghost use Rattle.movaliren_c.specs.Value.{stamp_value};
@@ -27,7 +27,7 @@ impl Writer for Stamp {
     }
 }
 
-/// Writes the stamp of a value to the start of the room.
+/// Writes the stamp of a value to the start of the buffer.
 fn stamp_written(value: UtcDateTime, room: &mut [u8]) -> Result<usize, Reason>
     ensures { IsWritten result (stamp_of value) room.old room.new }
 {

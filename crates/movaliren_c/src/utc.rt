@@ -136,7 +136,7 @@ impl Writer for Iso8601ByUtc {
     }
 }
 
-/// Writes the text of a moment in UTC by a configuration to the start of the room.
+/// Writes the text of a moment in UTC by a configuration to the start of the buffer.
 #[tactic(auto, unfolding(crate::specs::Utc::iso8601_by_utc))]
 fn written_in_utc(
     config: &IsoConfig,

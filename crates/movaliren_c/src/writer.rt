@@ -1,4 +1,4 @@
-//! Formats that write into the room and take no memory.
+//! Formats that write into the buffer and allocate nothing.
 ghost use Rattle.std.specs.Prelude.{Result};
 ghost use Rattle.movaliren_c.specs.Answer.{IsText};
 ghost use Rattle.movaliren_c.specs.declared.reason.Reason.{Reason};
@@ -14,7 +14,7 @@ pub trait Writer {
     /// What the item gives: the outcome of its value, or the reason why there is none.
     ghost asked: { Self → Self.Item → Result Outcome Reason };
 
-    /// Writes the text of the item to the start of the room.
+    /// Writes the text of the item to the start of the buffer.
     fn write(&self, item: &Self::Item, room: &mut [u8]) -> Result<usize, Reason>
         ensures { IsText (asked self.now item.now) result room.old room.new };
 }

@@ -43,7 +43,7 @@ weekday_from_start (negsuc a) n e =
     let h : n + suc a ≡ days_before = omega (arith, ints) in
     omega arith
 
--- and whole cycles of 400 years
+-- whole cycles of 400 years and the days after them, counted from 10,000 cycles earlier
 cycle-parts : (q : ℤ) (n : ℕ) → q +ℤ pos 1_460_970_000 ≡ pos n
     → (int_div_euclid q (pos 146_097) +ℤ pos 10_000 ≡ pos (n / 146_097))
     × (unsigned_abs (int_rem_euclid q (pos 146_097)) ≡ n % 146_097)
@@ -78,7 +78,7 @@ date_at_shifted z n e =
     omega arith in
     same_date _ _ _ _ (rw day (omega (arith, ints))) (rw day refl)
 
--- the date of so many days from the start
+-- the date of this many days from the start
 pub date_at_from_start : (n : ℕ)
     → date_at (pos n -ℤ pos days_before) ≡ record {
       year = pos (years_at n) -ℤ pos greatest_year;
@@ -107,7 +107,7 @@ utc_day (negsuc a) n e =
     let h : n + suc a ≡ seconds_before = omega (arith, ints) in
     omega (arith, ints)
 
--- and so is its date
+-- the date of a second in UTC, counted from the first second of the range
 pub utc_date_from_start : (s : ℤ) (n : ℕ) → s +ℤ pos seconds_before ≡ pos n
     → date_at (pos (n / day_seconds) -ℤ pos days_before) ≡ utc_date s
 utc_date_from_start s n e = ap date_at (utc_day s n e)

@@ -17,9 +17,9 @@ use Rattle.time_below.specs.declared.format_description.modifier.YearRepr.TheVar
 use Rattle.time_below.specs.declared.format_description.modifier.YearRange.{YearRange}
 use Rattle.time_below.specs.declared.format_description.modifier.YearRange.TheVariants as range
 
--- whatever the padding, the sign and the case are, the width is that of the table
+-- the width of each component is that of the table, for any padding, sign and case
 
--- of the date
+-- components of the date
 date_widths : (p : Padding) (b : Bool)
     → map component_width
     (component.Day (record { padding = p }) ∷
@@ -37,7 +37,7 @@ date_widths : (p : Padding) (b : Bool)
     ≡ 2 ∷ 3 ∷ 9 ∷ 2 ∷ 3 ∷ 3 ∷ 9 ∷ 1 ∷ 1 ∷ 2 ∷ 2 ∷ 2 ∷ []
 date_widths p b = refl
 
--- of the year
+-- components of the year
 year_widths : (p : Padding) (b : Bool)
     → map component_width
     (component.CalendarYearFullExtendedRange (record { padding = p; sign_is_mandatory = b }) ∷
@@ -53,7 +53,7 @@ year_widths : (p : Padding) (b : Bool)
     ≡ 7 ∷ 5 ∷ 5 ∷ 3 ∷ 2 ∷ 7 ∷ 5 ∷ 5 ∷ 3 ∷ 2 ∷ []
 year_widths p b = refl
 
--- of the time
+-- components of the time
 time_widths : (p : Padding) (b : Bool)
     → map component_width
     (component.Hour12 (record { padding = p }) ∷
@@ -67,7 +67,7 @@ time_widths : (p : Padding) (b : Bool)
     ≡ 2 ∷ 2 ∷ 2 ∷ 2 ∷ 2 ∷ 1 ∷ 4 ∷ 9 ∷ []
 time_widths p b = refl
 
--- of the offset and the moment, and those without a text
+-- components of the offset and the moment, and those without a text
 other_widths : (p : Padding) (b : Bool)
     → map component_width
     (component.OffsetHour (record { padding = p; sign_is_mandatory = b }) ∷

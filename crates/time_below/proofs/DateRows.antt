@@ -29,7 +29,7 @@ on_1900_03_01 : HasComponents (pos 1900) 60 3 1 3 (pos 1900) 9 9 8
 unfolding days_of_months last_begun date_at
 on_1900_03_01 = refl
 
--- where moments begin
+-- the first day of Unix time
 on_1970_01_01 : HasComponents (pos 1970) 1 1 1 3 (pos 1970) 1 0 0
 unfolding days_of_months last_begun date_at
 on_1970_01_01 = refl

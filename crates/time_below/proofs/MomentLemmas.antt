@@ -22,7 +22,7 @@ seconds_from_start : (s : ℤ) → IsTimestampSecond s
 seconds_from_start (pos a) h = refl
 seconds_from_start (negsuc a) h = omega (arith, ints)
 
--- nor after the end
+-- no second of the range is after its end
 seconds_before_end : (s : ℤ) (n : ℕ) → IsTimestampSecond s → s +ℤ pos seconds_before ≡ pos n
     → n < seconds_in_all
 seconds_before_end s n h e = omega (arith, ints)
@@ -63,7 +63,7 @@ pub IsTimeOfDay-utc_time : (m : Moment) → IsMoment m → IsTimeOfDay (utc_time
 IsTimeOfDay-utc_time m h =
     time_within (second_of_day m.seconds) m.nanosecond (second_within m.seconds h.0) h.1
 
--- the seconds from midnight to the time so many seconds after it
+-- the seconds from midnight to the time this many seconds after it
 seconds_of_time_at : (passed nanosecond : ℕ)
     → seconds_from_midnight (time_at passed nanosecond) ≡ passed
 seconds_of_time_at passed nanosecond = omega arith
@@ -99,7 +99,7 @@ same_time : (h a m b s c n : ℕ) → h ≡ a → m ≡ b → s ≡ c
     (record { hour = a; minute = b; second = c; nanosecond = n })
 same_time h a m b s c n hours minutes seconds = rw (hours, minutes, seconds) refl
 
--- a time is the one so many seconds after midnight
+-- a time is the one this many seconds after midnight
 time_at-seconds_from_midnight : (t : TimeOfDay) → IsTimeOfDay t
     → time_at (seconds_from_midnight t) t.nanosecond ≡ t
 time_at-seconds_from_midnight t h =

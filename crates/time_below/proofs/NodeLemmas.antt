@@ -16,7 +16,7 @@ pub next_of : {A : Type 0} (tree : A → Tree) (nodes : List A) (i : ℕ) (x : A
 next_of tree nodes i x h is = at_drop_more (λ xs. trees (map tree xs)) nodes i x h
     ∙ ap (λ y. more (tree y) (trees (map tree (drop (i + 1) nodes)))) (sym is)
 
--- and what is left is larger by that node
+-- each node makes the size of the nodes left smaller by its own and one
 pub larger_by : {A : Type 0} (size : A → ℕ) (nodes : List A) (i : ℕ) (x : A) → i < length nodes → x
     ≡ slice_index_or nodes i x
     → sizes (map size (drop i nodes)) ≡ size x + sizes (map size (drop (i + 1) nodes)) + 1
@@ -35,7 +35,7 @@ pub record Summed (sum : Metadata) (all left : Trees) (all_size left_size : ℕ)
   pub width : min (sum.max_bytes_needed + trees_width left) greatest_usize ≡ min (trees_width all) greatest_usize
   pub text : (sum.guaranteed_utf8 && are_guaranteed_text left) ≡ are_guaranteed_text all
 
--- of three tests the order does not matter in which they are joined
+-- the order of joins does not matter for three tests
 pub and_assoc : (a b c : Bool) → ((a && b) && c) ≡ (a && (b && c))
 and_assoc true b c = refl
 and_assoc false b c = refl
@@ -62,7 +62,7 @@ summed_more all left rest t sum item added new along next smaller of_item of_sum
           ∙ along.text;
     }
 
--- one more that is a text of so many bytes
+-- one more that is a text of this many bytes
 pub summed_text : {all_size left_size rest_size : ℕ} (all left rest : Trees) (t : Tree) (sum added new : Metadata)
     (width : ℕ)
     → Summed sum all left all_size left_size → left ≡ more t rest → rest_size ≤ left_size

@@ -9,15 +9,15 @@ use Rattle.std.proofs.lemmas.Int.{ints, by_lt_z}
 use Rattle.time_below.specs.Offset.{Offset, AreOffsetParts, HasNoOtherSign, IsOffset, Settles, signed_like, settled}
 use Rattle.time_below.specs.Offset.{is_negative, is_utc, signed, signed_offset, utc}
 
--- after a part above zero the size itself stands
+-- a part takes the sign of a first part above zero
 like_positive : (lead x : ℤ) → pos 0 <ℤ lead → signed_like lead x ≡ pos (unsigned_abs x)
 like_positive lead x h = grind (arith, ints)
 
--- after a part below zero the size stands below zero
+-- a part takes the sign of a first part below zero
 like_negative : (lead x : ℤ) → lead <ℤ pos 0 → signed_like lead x ≡ neg_ℤ (pos (unsigned_abs x))
 like_negative lead x h = grind (arith, ints)
 
--- after a part that is zero nothing changes
+-- a first part of zero leaves a part unchanged
 like_zero : (lead x : ℤ) → lead ≡ pos 0 → signed_like lead x ≡ x
 like_zero lead x e = rw e refl
 
@@ -54,7 +54,7 @@ no_other_sign lead x = (
   ),
 )
 
--- nor have two parts that take the sign of a third
+-- two parts that take the sign of a third have no opposite signs
 no_other_sign_among : (h m s : ℤ)
     → HasNoOtherSign (signed_like h m) (signed_like h (signed_like m s))
 no_other_sign_among h m s =
@@ -89,7 +89,7 @@ IsOffset-settled h m s parts =
       no_other_sign_among h m s,
     )
 
--- the same of parts that are known to be the settled ones
+-- parts that are known to be the settled ones make an offset
 pub IsOffset-parts : (h m s x y : ℤ) → x ≡ signed_like h m → y ≡ signed_like h (signed_like m s)
     → AreOffsetParts h m s → IsOffset (record { hours = h; minutes = x; seconds = y })
 IsOffset-parts h m s x y e f parts = rw (e, f) (IsOffset-settled h m s parts)
@@ -112,7 +112,7 @@ Settles-settled h m s = record {
 above_is : (y : ℤ) (n : ℕ) → pos 0 ≤ℤ y → unsigned_abs y ≡ n → y ≡ pos n
 above_is y n h size = omega (arith, ints)
 
--- and one that is not above zero is its size below zero
+-- a part that is not above zero is its size below zero
 below_is : (y : ℤ) (n : ℕ) → y ≤ℤ pos 0 → unsigned_abs y ≡ n → y ≡ neg_ℤ (pos n)
 below_is y zero h size = omega (arith, ints)
 below_is y (suc n) h size = omega (arith, ints)
@@ -177,7 +177,7 @@ negative_of : (o : Offset) → o.seconds ≡ pos 0
     → is_negative o ≡ int_lt o.hours (pos 0) || int_lt o.minutes (pos 0) || false
 negative_of o e = ap (λ s. int_lt o.hours (pos 0) || int_lt o.minutes (pos 0) || int_lt s (pos 0)) e
 
--- so it is its sign, its hours and its minutes
+-- an offset without seconds is its sign, its hours and its minutes
 pub offset_is : (o : Offset) → IsOffset o → unsigned_abs o.seconds ≡ 0
     → o ≡ signed_offset (is_negative o) (unsigned_abs o.hours) (unsigned_abs o.minutes)
 offset_is o h e =
@@ -199,12 +199,12 @@ one_sign : (b : Bool) (x y : ℕ) → HasNoOtherSign (signed b x) (signed b y)
 one_sign false x y = both_above _ _ x y refl refl
 one_sign true x y = both_below _ _ x y refl refl
 
--- and a part that is zero
+-- a part that is zero has no opposite sign
 zero_sign : (b : Bool) (x : ℕ) → HasNoOtherSign (signed b x) (pos 0)
 zero_sign false x = both_above _ _ x 0 refl refl
 zero_sign true x = both_below _ _ x 0 refl refl
 
--- so an offset made with a sign is in its ranges
+-- an offset made with a sign is in its ranges
 pub IsOffset-signed_offset : (b : Bool) (h m : ℕ) → h ≤ 25 → m < 60 → IsOffset (signed_offset b h m)
 IsOffset-signed_offset b h m p q =
     let hours = abs_signed b h in
@@ -228,7 +228,7 @@ not_utc o some e =
     ap (λ (p : Offset). unsigned_abs p.hours + unsigned_abs p.minutes) e in
     omega arith
 
--- nor does the test call it UTC
+-- an offset with hours or minutes is not UTC
 pub is_utc-not : (o : Offset) → 0 < unsigned_abs o.hours + unsigned_abs o.minutes → is_utc o ≡ false
 is_utc-not o some = grind (arith, nat_tests)
 
@@ -240,6 +240,6 @@ utc_from_test o e =
     same_parts _ _ _ o.hours o.minutes o.seconds (size_zero o.hours zeros.0) (size_zero o.minutes zeros.1)
     (size_zero o.seconds zeros.2)
 
--- and the other way round
+-- the offset zero is UTC
 pub is_utc-utc : (o : Offset) → o ≡ utc → is_utc o ≡ true
 is_utc-utc o e = ap is_utc e

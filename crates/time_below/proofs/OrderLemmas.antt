@@ -18,7 +18,7 @@ use Rattle.time_below.proofs.MonthLemmas.{months_grow, month_of_date, day_of_dat
 
 -- ---- two numbers
 
--- three comparisons, whichever two are taken first
+-- the order of joins does not matter for three comparisons
 pub then_assoc : (o p q : Ordering) → ordering_then (ordering_then o p) q ≡ ordering_then o (ordering_then p q)
 then_assoc Less p q = refl
 then_assoc Equal p q = refl
@@ -34,7 +34,7 @@ then_equal Greater = refl
 pub cmp_less : (a b : ℕ) → a < b → nat_cmp a b ≡ Less
 cmp_less a b h = grind (arith, nat_tests)
 
--- the same number as equal
+-- equal numbers compare as equal
 pub cmp_equal : (a b : ℕ) → a ≡ b → nat_cmp a b ≡ Equal
 cmp_equal a b h = grind (arith, nat_tests)
 
@@ -48,7 +48,7 @@ pub data Trichotomy (a b : ℕ) : Type 0 where
   equal : a ≡ b → Trichotomy a b
   greater : b < a → Trichotomy a b
 
--- so it is for any two
+-- any two numbers are less, equal or greater
 pub compared : (a b : ℕ) → Trichotomy a b
 compared a b =
     ⊎_elim (λ (h : a < b). less h)
@@ -63,7 +63,7 @@ pub record IsJoined (a b p q m n : ℕ) : Type 0 where
   pub greater : a ≡ b → q < p → n < m
   pub equal : a ≡ b → p ≡ q → m ≡ n
 
--- so the two pairs are compared as these numbers are
+-- two pairs compare as the numbers that they join to
 pub joined_cmp : (a b p q m n : ℕ) (rest : Ordering) → IsJoined a b p q m n
     → ordering_then (nat_cmp a b) (ordering_then (nat_cmp p q) rest) ≡ ordering_then (nat_cmp m n) rest
 joined_cmp a b p q m n rest j = by (compared a b) (compared p q) where
@@ -75,7 +75,7 @@ joined_cmp a b p q m n rest j = by (compared a b) (compared p q) where
   by (equal h) (equal k) = rw (cmp_equal a b h, cmp_equal p q k, cmp_equal m n (j.equal h k)) refl
   by (equal h) (greater k) = rw (cmp_equal a b h, cmp_greater p q k, cmp_greater m n (j.greater h k)) refl
 
--- what stands behind a pair matters where the pair is equal
+-- what follows a pair matters where the pair is equal
 pub then_where_equal : (a b : ℕ) (x y : Ordering) → (a ≡ b → x ≡ y)
     → ordering_then (nat_cmp a b) x ≡ ordering_then (nat_cmp a b) y
 then_where_equal a b x y h = by (compared a b) where
@@ -104,7 +104,7 @@ same_months : (is_leap : Bool) (m n d e : ℕ) → m ≡ n → d ≡ e
     → days_of_months is_leap (m - 1) + d ≡ days_of_months is_leap (n - 1) + e
 same_months is_leap m n d e p q = rw (p, q) refl
 
--- within a year the days are in the order of their months and days
+-- days of a year compare as their months and days
 ordinal_cmp : (b : Bool) (m n d e : ℕ) (rest : Ordering) → 1 ≤ m → 1 ≤ n → 1 ≤ d → 1 ≤ e
     → d ≤ days_in_month b m → e ≤ days_in_month b n
     → ordering_then (nat_cmp m n) (ordering_then (nat_cmp d e) rest)
@@ -221,11 +221,11 @@ ordinal_is : (v : DateAndTime) → IsFromYearZero v
     → v.date.ordinal ≡ days_of_months (is_leap_year v.date.year) (month_of v.date - 1) + day_of v.date
 ordinal_is v h = ap (λ (d : OrdinalDate). d.ordinal) (sym (date_of-month_and_day v.date h.date))
 
--- and its year has that day
+-- the year of the value has its day
 within_year : (v : DateAndTime) → IsFromYearZero v → v.date.ordinal ≤ days_in_year (pos (unsigned_abs v.date.year))
 within_year v h = let P : ℤ → Type 0 = λ y. v.date.ordinal ≤ days_in_year y in subst P h.year h.date.1.1
 
--- within one year, months and days are compared as days of the year are
+-- months and days of one year compare as days of the year
 ordinals_cmp : (v w : DateAndTime) → IsFromYearZero v → IsFromYearZero w → (rest : Ordering)
     → unsigned_abs v.date.year ≡ unsigned_abs w.date.year
     → ordering_then (nat_cmp (month_of v.date) (month_of w.date))
@@ -244,7 +244,7 @@ ordinals_cmp v w h k rest e =
     (day_of w.date) rest vm.0 wm.0 vd.0 wd.0 vd.1 (subst P leap wd.1)
     ∙ ap₂ (λ i j. ordering_then (nat_cmp i j) rest) (sym (ordinal_is v h)) (sym (subst Q leap (ordinal_is w k)))
 
--- so the parts are compared as the seconds are, and then the nanoseconds
+-- the parts compare as the seconds, and then the nanoseconds
 parts_total : (v w : DateAndTime) → IsFromYearZero v → IsFromYearZero w
     → parts_cmp v w ≡ ordering_then (nat_cmp (total v) (total w))
     (ordering_then (nat_cmp v.time.nanosecond w.time.nanosecond) Equal)
@@ -313,7 +313,7 @@ seconds_from_start v h =
     (omega (arith, ints, h.year)) h.date.1.0 in
     omega (arith, ints, start)
 
--- so counted, moments are in the same order
+-- moments keep their order when they are counted from another start
 moment_order : (m n : ℕ) (y z : ℤ) (a b c : ℕ) → y +ℤ pos c ≡ pos a → z +ℤ pos c ≡ pos b
     → IsPairLess a b m n ↔ ((y <ℤ z) ⊎ ((y ≡ z) × (m < n)))
 moment_order m n y z a b c e f = (

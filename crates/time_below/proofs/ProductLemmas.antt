@@ -11,7 +11,7 @@ month_by_product days = (days * 268 + 8031) / 8192
 abbrev pub days_by_product : ℕ → ℕ
 days_by_product month = (month * 3917 - 3866) / 128
 
--- from March on the product finds the month
+-- the product finds the month from March on
 late_month : (is_leap : Bool) (days : ℕ) → days < 307
     → last_begun is_leap 12 (days + (if is_leap then 60 else 59)) ≡ month_by_product days + 2
 unfolding last_begun days_of_months
@@ -20,14 +20,14 @@ late_month true days h =
 late_month false days h =
     same_below (λ d. last_begun false 12 (d + 59)) (λ d. month_by_product d + 2) 307 refl days h
 
--- so it does in January and February
+-- the product finds January and February
 pub early_month : (is_leap : Bool) (days : ℕ) → days < (if is_leap then 61 else 60)
     → last_begun is_leap 12 days ≡ month_by_product days
 unfolding last_begun days_of_months
 early_month true days h = same_below (last_begun true 12) month_by_product 61 refl days h
 early_month false days h = same_below (last_begun false 12) month_by_product 60 refl days h
 
--- and the days before a month, from March on
+-- the product finds the days before a month from March on
 late_days : (is_leap : Bool) (month : ℕ) → month < 10
     → days_of_months is_leap (month + 2) ≡ (if is_leap then 60 else 59) + days_by_product (month + 1)
 unfolding days_of_months
@@ -36,14 +36,14 @@ late_days true month h =
 late_days false month h =
     same_below (λ m. days_of_months false (m + 2)) (λ m. 59 + days_by_product (m + 1)) 10 refl month h
 
--- and before January and February
+-- the product finds the days before January and February
 pub early_days : (is_leap : Bool) (month : ℕ) → month < 2
     → days_of_months is_leap month ≡ days_by_product (month + 1)
 unfolding days_of_months
 early_days true month h = same_below (days_of_months true) (λ m. days_by_product (m + 1)) 2 refl month h
 early_days false month h = same_below (days_of_months false) (λ m. days_by_product (m + 1)) 2 refl month h
 
--- from March on
+-- the product finds the month of a day of the year from March on
 pub late_begun : (is_leap : Bool) (ordinal : ℕ) → (if is_leap then 60 else 59) < ordinal
     → ordinal ≤ (if is_leap then 366 else 365)
     → last_begun is_leap 12 ordinal ≡ month_by_product (ordinal - (if is_leap then 60 else 59)) + 2

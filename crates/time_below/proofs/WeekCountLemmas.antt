@@ -7,7 +7,7 @@ use Rattle.time_below.specs.Calendar.{monday_based_week_of, sunday_based_week_of
 use Rattle.time_below.proofs.CalendarLemmas.{days_of_years, day_number_from_start, weekday_from_start}
 use Rattle.time_below.proofs.YearLemmas.{years_from_start}
 
--- how many of the n days behind a place are at a place that seven divides
+-- how many of the n days after a place are at a place that seven divides
 abbrev sevenths : ℕ → ℕ → ℕ
 sevenths place n = (n + 6 - (place + n + 6) % 7) / 7
 
@@ -15,7 +15,7 @@ sevenths place n = (n + 6 - (place + n + 6) % 7) / 7
 sevenths-more : (place n : ℕ) → sevenths place n + (if (place + n) % 7 == 0 then 1 else 0) ≡ sevenths place (suc n)
 sevenths-more place n = grind (arith, nat_tests)
 
--- so many days of a name has a year whose first is at this place
+-- the number of days of one name in the first n days of a year
 counted : (weekday : ℕ) (y : ℤ) (place : ℕ)
     → ((n : ℕ) → (weekday_of (record { year = y; ordinal = suc n }) == weekday) ≡ ((place + n) % 7 == 0))
     → (n : ℕ) → days_of_name weekday y n ≡ sevenths place n
@@ -37,7 +37,7 @@ weekday_in_year d year one =
     in
     weekday_from_start (day_number d) (start_of d.year + d.ordinal - 1) (sym there)
 
--- the same, of the day after so many of the year
+-- the weekday of the day after the first n days of a year
 weekday_after : (y : ℤ) → IsYear y → (n : ℕ) → weekday_of (record { year = y; ordinal = suc n }) ≡ (start_of y + n) % 7
 weekday_after y year n = weekday_in_year (record { year = y; ordinal = suc n }) year (omega arith)
     ∙ ap (λ k. k % 7) (omega arith)

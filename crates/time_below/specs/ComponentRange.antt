@@ -11,7 +11,7 @@ pub record RangeRefusal : Type 0 where
 abbrev pub conditional_range : List ℕ → RangeRefusal
 conditional_range name = record { name = name; is_conditional = true }
 
--- outside its range whatever the others are
+-- a component outside its range, for any values of the others
 abbrev pub unconditional_range : List ℕ → RangeRefusal
 unconditional_range name = record { name = name; is_conditional = false }
 

@@ -19,7 +19,7 @@ of_both a b = record {
   guaranteed_utf8 = a.guaranteed_utf8 && b.guaranteed_utf8;
 }
 
--- of a tree, and of several one after another
+-- the metadata of a tree, and of several one after another
 abbrev pub tree_metadata : Tree → Metadata
 tree_metadata t = record {
   max_bytes_needed = min (tree_width t) greatest_usize;

@@ -37,7 +37,7 @@ pub record OffsetDateAndTime : Type 0 where
   pub time : TimeOfDay
   pub offset : Offset
 
--- from -999999-01-01T00:00:00 to 999999-12-31T23:59:59
+-- a second from -999999-01-01T00:00:00 to 999999-12-31T23:59:59
 abbrev pub IsTimestampSecond : ℤ → Type 0
 IsTimestampSecond s = (neg_ℤ (pos seconds_before) ≤ℤ s) × (s ≤ℤ pos 31_494_784_780_799)
 
@@ -58,12 +58,12 @@ abbrev pub unix_seconds : DateAndTime → ℤ
 unix_seconds t =
     (day_number t.date -ℤ pos unix_day) *ℤ pos day_seconds +ℤ pos (seconds_from_midnight t.time)
 
--- the same of a local date and time: a place with a positive offset is ahead of UTC
+-- the Unix seconds of a local date and time: a place with a positive offset is ahead of UTC
 abbrev pub local_unix_seconds : OffsetDateAndTime → ℤ
 local_unix_seconds t =
     unix_seconds (record { date = t.date; time = t.time }) -ℤ offset_seconds t.offset
 
--- the UTC date of so many seconds since 1970-01-01
+-- the UTC date of this many seconds since 1970-01-01
 abbrev pub utc_date : ℤ → OrdinalDate
 utc_date seconds = date_at (int_div_euclid seconds (pos day_seconds) +ℤ pos unix_day)
 

@@ -12,7 +12,7 @@ pub record Offset : Type 0 where
 abbrev pub AreOffsetParts : ℤ → ℤ → ℤ → Type 0
 AreOffsetParts h m s = (unsigned_abs h ≤ 25) × (unsigned_abs m ≤ 59) × (unsigned_abs s ≤ 59)
 
--- where the first part has a sign, the second does not have the other sign
+-- the second part does not have the opposite sign of the first
 abbrev pub HasNoOtherSign : ℤ → ℤ → Type 0
 HasNoOtherSign lead x = (pos 0 <ℤ lead → pos 0 ≤ℤ x) × (lead <ℤ pos 0 → x ≤ℤ pos 0)
 

@@ -6,12 +6,12 @@ use Rattle.time_below.specs.declared.format_description.borrowed_format_item.Bor
 use Rattle.time_below.specs.declared.format_description.owned_format_item.OwnedFormatItem as owned
 use Rattle.time_below.specs.declared.format_description.format_description_v3.FormatDescriptionV3Inner as v3
 
--- of descriptions in a list: more than each of them, and than those that follow one
+-- the size of descriptions in a list: more than each of them, and than those after one of them
 abbrev pub sizes : List ℕ → ℕ
 sizes [] = 0
 sizes (n ∷ ns) = n + sizes ns + 1
 
--- of what stands below a layer
+-- the size of the descriptions below a layer
 abbrev pub size_below : {A : Type 0} → (A → ℕ) → Layer A → ℕ
 size_below size (layer.All items) = sizes (map size items.now)
 size_below size (layer.First items) = sizes (map size items.now)

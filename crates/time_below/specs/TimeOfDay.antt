@@ -13,7 +13,7 @@ pub record TimeOfDay : Type 0 where
 abbrev pub IsTimeOfDay : TimeOfDay → Type 0
 IsTimeOfDay t = (t.hour < 24) × (t.minute < 60) × (t.second < 60) × (t.nanosecond < 1_000_000_000)
 
--- before noon, or from noon on
+-- the half of the day: before noon, or from noon on
 abbrev pub period_of : TimeOfDay → Period
 period_of t = if nat_lt t.hour 12 then Am else Pm
 
@@ -21,7 +21,7 @@ period_of t = if nat_lt t.hour 12 then Am else Pm
 abbrev pub seconds_from_midnight : TimeOfDay → ℕ
 seconds_from_midnight t = 3600 * t.hour + 60 * t.minute + t.second
 
--- the time so many whole seconds after midnight
+-- the time this many whole seconds after midnight
 abbrev pub time_at : ℕ → ℕ → TimeOfDay
 time_at passed nanosecond =
     record {

@@ -1,4 +1,4 @@
--- Descriptions, whichever type they are written in.
+-- Descriptions of every type, as trees.
 use Rattle.std.specs.Prelude.{ℕ, List, [], ◌∷◌, map, if◌then◌else◌, string_bytes}
 use Rattle.time_below.specs.Conversion.{current_component}
 use Rattle.time_below.specs.declared.format_description.component.Component.{Component}
@@ -49,7 +49,7 @@ borrowed_layer (borrowed.TheOpen.First ts) = first_of (trees ts.now)
 abbrev pub borrowed_tree : borrowed.BorrowedFormatItem → Tree
 borrowed_tree = borrowed.fold-BorrowedFormatItem Tree borrowed_layer
 
--- the same for an owned item
+-- one layer of an owned item, whose children are translated
 abbrev pub owned_layer : owned.OwnedFormatItem-F Tree → Tree
 owned_layer (owned.TheOpen.Literal bytes) = byte_literal bytes.items
 owned_layer (owned.TheOpen.StringLiteral text) = text_literal (string_bytes text)

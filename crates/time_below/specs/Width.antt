@@ -28,7 +28,7 @@ subsecond_width digits.Eight = 8
 subsecond_width digits.Nine = 9
 subsecond_width digits.OneOrMore = 9
 
--- of the deprecated components
+-- the width of a deprecated component
 
 abbrev pub month_width : MonthRepr → ℕ
 month_width month.Numerical = 2
@@ -45,14 +45,13 @@ abbrev pub unix_timestamp_width : UnixTimestampPrecision → ℕ
 unix_timestamp_width precision.Second = 15
 unix_timestamp_width precision.Millisecond = 18
 
--- whatever the range is, so that a year of the standard range does not reach it
+-- the width of a year for any range, so that a year of the standard range does not reach it
 abbrev pub year_width : YearRepr → ℕ
 year_width year.Full = 7
 year_width year.Century = 5
 year_width year.LastTwo = 2
 
--- the longest text of a component, which some value reaches whatever its choices are; the deprecated
--- ones stand last
+-- the longest text of a component, which some value reaches for any choices; deprecated components are last
 abbrev pub component_width : Component → ℕ
 component_width (component.Day m) = 2
 component_width (component.MonthShort m) = 3

@@ -24,7 +24,7 @@ impl ComponentRange {
         }
     }
 
-    /// A component that is outside its range whatever the others are.
+    /// A component that is outside its range for any values of the others.
     pub fn unconditional(name: &'static str) -> ComponentRange
         ensures { range_refusal result ≡ unconditional_range name.now }
     {

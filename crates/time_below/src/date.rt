@@ -96,7 +96,7 @@ impl Date {
         Ok(Date { year, ordinal })
     }
 
-    // The date so many days after -999999-01-01.
+    // The date this many days after -999999-01-01.
     #[tactic(auto, using(crate::proofs::CalendarLemmas::date_at_from_start))]
     pub(crate) fn from_days(days: u32) -> Date
         requires { days < ALL_DAYS }

@@ -1,4 +1,4 @@
-//! Calendar values and description trees, as far as a formatter needs them. No call takes memory.
+//! Calendar values and description trees, as far as a formatter needs them. No call allocates.
 #![tactic(auto)]
 
 mod calendar;

@@ -1,4 +1,4 @@
-//! Moments by their seconds since 1970 and a nanosecond, whichever type holds them.
+//! Moments by their seconds since 1970 and a nanosecond, for each type that holds them.
 ghost use Rattle.std.specs.Prelude.{◌≡◌, ◌<◌, unsigned_abs};
 ghost use Rattle.time_below.specs.Moment.{IsNearMoment, milliseconds};
 

@@ -58,8 +58,8 @@ impl Month {
     }
 }
 
-/// The month of a number from 1 to 12. Any other number is refused as the component `month`, whatever the
-/// others are.
+/// The month of a number from 1 to 12. Any other number is refused as the component `month`, for
+/// any values of the others.
 impl TryFrom<u8> for Month {
     type Error = ComponentRange;
 

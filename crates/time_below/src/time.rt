@@ -94,7 +94,7 @@ impl Time {
         (self.hour, self.minute, self.second, self.nanosecond)
     }
 
-    // The time so many seconds after midnight.
+    // The time this many seconds after midnight.
     pub(crate) fn from_seconds(passed: u32, nanosecond: u32) -> Time
         requires day { passed < DAY_SECONDS }
         requires second { nanosecond < 1_000_000_000 }

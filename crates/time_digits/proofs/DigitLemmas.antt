@@ -18,7 +18,7 @@ pub use Rattle.time_digits.proofs.LengthLemmas.{length-fixed, decimal_longer}
 
 -- ---- fixed digits
 
--- one digit more: the last one stands behind the others
+-- one digit more: the last one follows the others
 pub fixed_step : (k n : ℕ) → fixed (suc k) n ≡ fixed k (n / 10) ++ (48 + n % 10) ∷ []
 unfolding fixed
 fixed_step k n = refl
@@ -35,7 +35,7 @@ fixed_digits zero n = tt
 fixed_digits (suc k) n = digits_push 10 (fixed k (n / 10)) (48 + n % 10) (fixed_digits k (n / 10))
     (omega (arith, digit_value_digit (48 + n % 10) (omega arith, omega arith)))
 
--- so the text is ASCII
+-- fixed digits are ASCII
 pub IsAscii-fixed : (k n : ℕ) → IsAscii (fixed k n)
 IsAscii-fixed k n = IsAscii-from_digits (fixed k n) (fixed_digits k n)
 
@@ -50,7 +50,7 @@ fixed-append j (suc k) n =
     let e : j + suc k ≡ suc (j + k) = omega arith in
     rw (e, fixed-append j k (n / 10), div-ten-pow n k, append_assoc) refl
 
--- the last k digits do not look at what stands before them
+-- the last k digits do not look at what precedes them
 pub fixed-mod : (k n : ℕ) → fixed k (n % 10 ^ k) ≡ fixed k n
 unfolding fixed
 fixed-mod zero n = refl
@@ -64,7 +64,7 @@ fixed-mod (suc k) n =
 
 -- ---- decimal text
 
--- from 10 ^ k on, the last k digits stand behind the text of the rest
+-- decimal text is the text of the rest and the last k digits, from 10 ^ k on
 pub decimal-split : (k n : ℕ) → 10 ^ k ≤ n → n < 2 ^ 64 → decimal n ≡ decimal (n / 10 ^ k) ++ fixed k n
 unfolding fixed
 decimal-split zero n low high =
@@ -94,7 +94,7 @@ padded_short fill j k n h =
     ∙ ap (λ bs. bs ++ decimal n) (sym (replicate-append-replicate j (k - length (decimal n)) fill))
     ∙ append_assoc (replicate j fill) (replicate (k - length (decimal n)) fill) (decimal n)
 
--- from 10 ^ k on, only what stands before the last k digits is padded
+-- padding changes only the digits before the last k, from 10 ^ k on
 pub padded-split : (fill j k n : ℕ) → 10 ^ k ≤ n → n < 2 ^ 64 → padded fill (j + k) n ≡ padded fill j (n / 10 ^ k)
     ++ fixed k n
 unfolding padded

@@ -72,7 +72,7 @@ shorter front some f =
 lone_zero : (n : ℕ) → n < 10 ^ 9 → IsFraction (codes "0") n → n ≡ 0
 lone_zero n h f = sym (fixed_value 9 n h) ∙ sym (ap (digits_value 10) f.filled)
 
--- the shortest fraction of more than zero does not end in `0`, whatever is before it
+-- the shortest fraction of more than zero does not end in `0`, after any front
 not_ended : {n : ℕ} (text front : List ℕ) → text ≡ front ++ codes "0" → IsTrimmedFraction text n → 0 < n
     → n < 10 ^ 9 → ⊥
 not_ended {n} text [] e t some small =
@@ -84,7 +84,7 @@ not_ended {n} text (d ∷ ds) e t some small =
     let less = t.shortest front (shorter front (omega arith) (subst (λ ds. IsFraction ds n) e t.fraction)) in
     omega (arith, ap length e, less, long)
 
--- so the shortest fraction of more than zero does not end in `0`
+-- the trimmed fraction of more than zero does not end in `0`
 pub trimmed_unended : (n : ℕ) → 0 < n → n < 10 ^ 9 → ¬ EndsInZero (trimmed_fraction n)
 trimmed_unended n some small (front, e) = not_ended (trimmed_fraction n) front e (trimmed_fraction_is n) some small
 

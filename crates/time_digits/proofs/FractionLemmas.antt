@@ -18,7 +18,7 @@ pub use Rattle.time_digits.proofs.LengthLemmas.{length-trimmed_fraction}
 
 -- ---- zeros
 
--- zeros are zeros, and behind a text they change nothing about it
+-- zeros are zeros, and after a text they change nothing about it
 are_zeros-replicate : (k : ℕ) → are_zeros (replicate k 48) ≡ true
 are_zeros-replicate zero = refl
 are_zeros-replicate (suc k) = are_zeros-replicate k
@@ -45,7 +45,7 @@ pub not_zeros : (d : ℕ) (ds : List ℕ) → are_zeros (d ∷ ds) ≡ false →
     ≡ d ∷ without_last_zeros ds
 not_zeros d ds e = rw e refl
 
--- so nothing is left of zeros
+-- zeros without their last zeros are no digits
 without_last_zeros-replicate : (k : ℕ) → without_last_zeros (replicate k 48) ≡ []
 without_last_zeros-replicate zero = refl
 without_last_zeros-replicate (suc k) = zeros_none 48 (replicate k 48) (are_zeros-replicate k)
@@ -119,7 +119,7 @@ same_fraction n text other s t =
     let first : text ++ end ≡ fixed 9 n = rw one at s.fraction.filled in
     append_cancel_right text other end (first ∙ sym t.fraction.filled)
 
--- so the trimmed fraction is the shortest text, and no other is
+-- the trimmed fraction is the shortest text, and no other is
 pub only_trimmed_fraction : (n : ℕ) → IsOnlyTrimmedFraction n
 only_trimmed_fraction n = (
   trimmed_fraction_is n,
@@ -141,7 +141,7 @@ without_last_zeros-take ds =
     let count : length ds - (length ds - length kept) ≡ length kept = omega (arith, length-without_last_zeros ds) in
     rw count (sym (rw filled at (take_at kept (replicate (length ds - length kept) 48) (length kept) refl)))
 
--- a trimmed text, by the zeros that end it behind its first byte
+-- a trimmed text, by the zeros that end it after its first byte
 trimmed-take : (d : ℕ) (ds : List ℕ) → trimmed (d ∷ ds) ≡ take (suc (length ds) - last_zeros ds) (d ∷ ds)
 trimmed-take d ds =
     let count : suc (length ds) - last_zeros ds ≡ suc (length ds - last_zeros ds) = omega (arith, last_zeros-le ds) in
@@ -157,7 +157,7 @@ last_of_nine n bs digits =
     let one : length bs - 8 ≡ 1 = omega (arith, ap length digits, length-fixed 9 n) in
     rw one (ap (drop 1) (digits ∙ fixed-nine n))
 
--- of the nine digits of a number, the zeros that end the last eight are dropped
+-- the trimmed fraction is the nine digits without the zeros that end the last eight
 pub trimmed_fraction-take : (n : ℕ) → trimmed_fraction n ≡ take (9 - last_zeros (fixed 8 n)) (fixed 9 n)
 unfolding trimmed_fraction
 trimmed_fraction-take n =
@@ -173,7 +173,7 @@ multiple n p h =
     let d : n * p / p ≡ n = rw e at q in
     (d, grind (arith, d))
 
--- of a number over 10 ^ 9, the places beyond the ninth are zeros
+-- the places beyond the ninth are zeros, for a number over 10 ^ 9
 pub nine_places : (n d : ℕ) → 9 ≤ d → fixed d (n * 10 ^ d / 1_000_000_000) ≡ fixed 9 n ++ replicate (d - 9) 48
 nine_places n d h =
     let k = d - 9 in

@@ -43,7 +43,7 @@ length-decimal_quotient (suc k) n low fits =
     let front = rw div-ten-pow at (length-decimal_quotient k (n / 10) rest (omega arith)) in
     omega (arith, front, ap length (decimal_step n ten fits), length-append (decimal (n / 10)) ((48 + n % 10) ∷ []))
 
--- so it has more than k
+-- a number has more than k digits, from 10 ^ k on
 pub decimal_longer : (k n : ℕ) → 10 ^ k ≤ n → n < 2 ^ 64 → k < length (decimal n)
 decimal_longer k n low fits = omega (
   arith,
@@ -51,7 +51,7 @@ decimal_longer k n low fits = omega (
   decimal_nonempty (n / 10 ^ k) (omega (arith, div-le_self n (10 ^ k))),
 )
 
--- from 10 ^ k on, and below the next power, it has k + 1 of them
+-- a number has k + 1 digits, from 10 ^ k on and below the next power
 pub length-decimal : (k n : ℕ) → 10 ^ k ≤ n → n < 10 ^ suc k → n < 2 ^ 64 → length (decimal n) ≡ suc k
 length-decimal k n low high fits = omega (
   arith,
@@ -60,7 +60,7 @@ length-decimal k n low high fits = omega (
       high fits,
 )
 
--- below 10 it has one, below 100 at most two, and so on
+-- a number has one digit below 10, at most two below 100, and more from there on
 pub length-digit : (n : ℕ) → n < 10 → length (decimal n) ≡ 1
 length-digit n below = ap length (decimal_digit n below)
 
@@ -77,14 +77,14 @@ length-decimal_four n below = length-decimal-le 4 n (omega arith) below (omega a
 pub length-decimal_word : (n : ℕ) → n < 2 ^ 64 → length (decimal n) ≤ 20
 length-decimal_word n fits = length-decimal-le 20 n (omega arith) (omega arith) fits
 
--- from 100 on, and from 1,000 on, it has three and four
+-- a number has three digits from 100 on, and four from 1,000 on
 pub length-three_whole : (n : ℕ) → 100 ≤ n → n < 1000 → length (decimal n) ≡ 3
 length-three_whole n low high = length-decimal 2 n low high (omega arith)
 
 pub length-four_whole : (n : ℕ) → 1000 ≤ n → n < 10_000 → length (decimal n) ≡ 4
 length-four_whole n low high = length-decimal 3 n low high (omega arith)
 
--- before the last four digits stand those of the quotient by 10,000, below it none
+-- the digits before the last four are those of the quotient by 10,000; a number below it has none
 pub length-before_four : (n : ℕ) → 10_000 ≤ n → n < 2 ^ 64 → length (decimal n) - 4 ≡ length (decimal (n / 10_000))
 length-before_four n low fits = omega (arith, length-decimal_quotient 4 n low fits)
 
@@ -93,7 +93,7 @@ length-before_none n below = omega (arith, length-decimal_four n below)
 
 -- ---- counted digits
 
--- where 10 ^ k is the greatest power of ten within n, as the logarithm has it
+-- a number has k + 1 digits, if 10 ^ k is the greatest power of ten within it, as the logarithm has it
 pub length-decimal_at : (k n : ℕ) → 10 ^ k ≤ n → n < 10 * 10 ^ k → n < 2 ^ 64 → length (decimal n) ≡ k + 1
 length-decimal_at k n low high fits =
     let p : 10 ^ suc k ≡ 10 ^ k * 10 = pow-suc 10 k in
@@ -132,7 +132,7 @@ IsAscii-glyph : (d : ℕ) → d < 10 → IsAscii (digit_glyph false d ∷ [])
 IsAscii-glyph d small zero = let e : nat_lt d 10 ≡ true = grind (arith, nat_tests) in rw e (omega arith)
 IsAscii-glyph d small (suc i) = omega arith
 
--- and so are digits in front of what is ASCII, however many there are
+-- digits in front of an ASCII text are ASCII, for any number of digits
 IsAscii-onto : (k n : ℕ) (text : List ℕ) → IsAscii text → IsAscii (digits_onto k 10 false n text)
 IsAscii-onto zero n text h = h
 IsAscii-onto (suc k) n text h =
@@ -157,7 +157,7 @@ IsAscii-padded fill k n low =
 
 -- ---- trimmed fractions
 
--- without its last zeros a text is no longer
+-- a text without its last zeros is no longer
 pub length-without_last_zeros : (ds : List ℕ) → length (without_last_zeros ds) ≤ length ds
 length-without_last_zeros [] = omega arith
 length-without_last_zeros (d ∷ ds) =

@@ -1,4 +1,4 @@
--- Texts in pieces: what stands before the last digits, and then these.
+-- Texts in pieces: what precedes the last digits, and then these.
 use Rattle.std.proofs.Common.{◌≡◌, ℕ, suc, ◌+◌, ◌-◌, ◌/◌, ◌%◌, ◌^◌, ◌<◌, ◌≤◌, List, [], ◌∷◌, ◌++◌, length, refl, sym}
 use Rattle.std.proofs.Common.{ap, ap₂, ◌∙◌, arith, append_assoc, get_or, decimal}
 use Rattle.std.proofs.Math.Nat.{one-le-pow, div-le_self}
@@ -19,13 +19,13 @@ last_zero_padded k n h =
     let below : n % 10 ^ suc k < 10 ^ suc k = omega arith in
     zero_padded_is k (n % 10 ^ suc k) below (omega arith) ∙ fixed-mod (suc k) n
 
--- from 10 ^ (k + 1) on, n in j + k + 1 places is its quotient in j of them, and the last ones
+-- n in j + k + 1 places is its quotient in j places and the last ones, from 10 ^ (k + 1) on
 split_pieces : (fill j k n : ℕ) → 10 ^ suc k ≤ n → n < 2 ^ 64 → padded fill j (n / 10 ^ suc k)
     ++ zero_padded (suc k) (n % 10 ^ suc k) ≡ padded fill (j + suc k) n
 split_pieces fill j k n low h = ap (λ bs. padded fill j (n / 10 ^ suc k) ++ bs) (last_zero_padded k n h)
     ∙ sym (padded-split fill j (suc k) n low h)
 
--- with zeros that holds of each number that fits
+-- n with zeros is its quotient with zeros and the last places, for each n that fits
 zero_pieces : (j k n : ℕ) → n / 10 ^ suc k < 10 ^ suc j → n < 10 ^ suc (j + suc k) → n < 2 ^ 64
     → zero_padded (suc j) (n / 10 ^ suc k) ++ zero_padded (suc k) (n % 10 ^ suc k) ≡ zero_padded (suc (j + suc k)) n
 zero_pieces j k n below whole h =
@@ -50,23 +50,23 @@ pub three_zero_padded : (n : ℕ) → n < 1000 → decimal (n / 100) ++ (zero_pa
 three_zero_padded n h =
     ended _ _ _ (rw (one_place 48 (n / 100) (omega arith)) at (zero_pieces 0 1 n (omega arith) h (omega arith)))
 
--- with spaces it is the same from 100 on
+-- three places with spaces are the quotient and two places, from 100 on
 pub three_spaced : (n : ℕ) → 100 ≤ n → n < 1000 → decimal (n / 100) ++ (zero_padded 2 (n % 100) ++ [])
     ≡ space_padded 3 n
 three_spaced n low h =
     ended _ _ _ (rw (one_place 32 (n / 100) (omega arith)) at (split_pieces 32 1 1 n low (omega arith)))
 
--- and below 100 a space, and the last two places with spaces
+-- three places with spaces are a space and two places, below 100
 pub three_spaced_low : (n : ℕ) → n < 100 → 32 ∷ (space_padded 2 (n % 100) ++ []) ≡ space_padded 3 n
 three_spaced_low n h =
     let m : n % 100 ≡ n = omega arith in
     ended (32 ∷ []) _ _ (rw m (sym (padded_short 32 1 2 n (length-decimal_two n h))))
 
--- from 100 on no padding is needed
+-- three places need no padding from 100 on
 pub three_whole : (n : ℕ) → 100 ≤ n → n < 2 ^ 64 → zero_padded 3 n ≡ decimal n
 three_whole n low h = padded_whole 48 3 n (omega (arith, decimal_longer 2 n low h))
 
--- for the calls of three places
+-- lemmas for the calls of three places
 pub ruleset three_places = (
   three_zero_padded,
   three_spaced,
@@ -86,22 +86,22 @@ pub four_zero_padded : (n : ℕ) → n < 10_000 → zero_padded 2 (n / 100) ++ (
     ≡ zero_padded 4 n
 four_zero_padded n h = ended _ _ _ (zero_pieces 1 1 n (omega arith) h (omega arith))
 
--- with spaces in the first pair alone, from 100 on
+-- four places with spaces have them in the first pair alone, from 100 on
 pub four_spaced : (n : ℕ) → 100 ≤ n → n < 10_000 → space_padded 2 (n / 100) ++ (zero_padded 2 (n % 100) ++ [])
     ≡ space_padded 4 n
 four_spaced n low h = ended _ _ _ (split_pieces 32 2 1 n low (omega arith))
 
--- and below 100 two spaces, and the last two places with spaces
+-- four places with spaces are two spaces and two places, below 100
 pub four_spaced_low : (n : ℕ) → n < 100 → 32 ∷ 32 ∷ (space_padded 2 (n % 100) ++ []) ≡ space_padded 4 n
 four_spaced_low n h =
     let m : n % 100 ≡ n = omega arith in
     ended (32 ∷ 32 ∷ []) _ _ (rw m (sym (padded_short 32 2 2 n (length-decimal_two n h))))
 
--- from 1,000 on no padding is needed
+-- four places need no padding from 1,000 on
 pub four_whole : (n : ℕ) → 1000 ≤ n → n < 2 ^ 64 → zero_padded 4 n ≡ decimal n
 four_whole n low h = padded_whole 48 4 n (omega (arith, decimal_longer 3 n low h))
 
--- for the calls of four places
+-- lemmas for the calls of four places
 pub ruleset four_places = (
   four_zero_padded,
   four_spaced,
@@ -124,7 +124,7 @@ four_last n h = last_zero_padded 3 n h
 pub zero_four : (n : ℕ) → n < 10_000 → fixed 4 n ≡ zero_padded 4 n
 zero_four n h = sym (zero_padded_is 3 n h (omega arith))
 
--- from 10,000 on the text is that of the quotient, and they
+-- the text is that of the quotient and the last four digits, from 10,000 on
 pub five_or_six : (n : ℕ) → 10_000 ≤ n → n < 2 ^ 64 → decimal (n / 10_000) ++ fixed 4 n ≡ zero_padded 4 n
 five_or_six n low h = sym (decimal-split 4 n low h)
     ∙ sym (padded_whole 48 4 n (omega (arith, decimal_longer 4 n low h)))
@@ -175,7 +175,7 @@ lengths_before front n (x ∷ []) d e f = cc
 lengths_before front n (x ∷ y ∷ []) d e f = cc
 lengths_before front n (x ∷ y ∷ z ∷ more) d e f = cc
 
--- for the calls of more places
+-- lemmas for the calls of more places
 pub ruleset six_places = (
   two_of,
   five_of,

@@ -7,7 +7,7 @@ use Rattle.time_digits.proofs.LengthLemmas.{length-decimal_two, length-padded}
 use Rattle.time_digits.proofs.TableLemmas.{same_below}
 use Rattle.time_digits.specs.declared.tables.TheConstants.{SPACE_PADDED_PAIRS}
 
--- each pair with spaces stands at twice its number
+-- each pair with spaces is at twice its number
 spaced_are : map (λ n. take 2 (drop (2 * n) SPACE_PADDED_PAIRS.now)) (range_with_len 0 100)
     ≡ map (space_padded 2) (range_with_len 0 100)
 unfolding digits padded
@@ -16,5 +16,5 @@ spaced_are = refl
 pub spaced_at : (n : ℕ) → n < 100 → take 2 (drop (2 * n) SPACE_PADDED_PAIRS.now) ≡ space_padded 2 n
 spaced_at n h = same_below (λ k. take 2 (drop (2 * k) SPACE_PADDED_PAIRS.now)) (space_padded 2) 100 spaced_are n h
 
--- for the calls that borrow from the table
+-- lemmas for the calls that borrow from the table
 pub ruleset space_facts = (spaced_at, length-decimal_two, length-padded)

@@ -1,4 +1,4 @@
--- Constant tables, whichever they are.
+-- Constant tables.
 use Rattle.std.proofs.Common.{◌≡◌, ℕ, ◌<◌, ◌≤◌, List, [], map, nat_lt, true, get_or, sym, ap, ◌∙◌, arith, IsAscii}
 use Rattle.std.proofs.Common.{IsTrue, IsCharBoundary, length}
 use Rattle.std.proofs.lemmas.List.FromFn.{get_or-map-range_with_len}

@@ -23,7 +23,7 @@ significant_some : (n : ℕ) → 0 < n → significant n ≡ decimal n
 significant_some zero some = absurd (omega arith)
 significant_some (suc n) some = refl
 
--- from 10 ^ k on, the last k + 1 digits stand behind those of the quotient by 10 ^ (k + 1)
+-- significant digits are those of the quotient by 10 ^ (k + 1) and the last k + 1, from 10 ^ k on
 significant-split : (k n : ℕ) → 10 ^ k ≤ n → n < 2 ^ 64 → significant n ≡ significant (n / 10 ^ suc k)
     ++ fixed (suc k) n
 significant-split k n low fits =
@@ -39,7 +39,7 @@ significant-split k n low fits =
     rw (significant_some n some, significant_some (n / 10 ^ suc k) front) (decimal-split (suc k) n more fits))
     (cases_lt n (10 ^ suc k))
 
--- so there are k + 1 more of them
+-- a number has k + 1 more significant digits than its quotient by 10 ^ (k + 1)
 length-significant : (k n : ℕ) → 10 ^ k ≤ n → n < 2 ^ 64 → length (significant n)
     ≡ length (significant (n / 10 ^ suc k)) + suc k
 length-significant k n low fits =
@@ -53,7 +53,7 @@ length-significant_word (suc n) fits = length-decimal_word (suc n) fits
 
 -- ---- turns
 
--- the digits of the rest have room before the start, and stand before what is written
+-- the digits of the rest fit before the start, and belong before what is written
 pub record IsPending (value rest start : ℕ) (bytes : List ℕ) : Type 0 where
   pub size : length bytes ≡ 20
   pub within : start ≤ 20
@@ -61,7 +61,7 @@ pub record IsPending (value rest start : ℕ) (bytes : List ℕ) : Type 0 where
   pub room : length (significant rest) ≤ start
   pub text : significant rest ++ drop start bytes ≡ significant value
 
--- before the first turn all digits are left
+-- all digits are left before the first turn
 pub nothing_written : (value : ℕ) (bytes : List ℕ) → value < 2 ^ 64 → length bytes ≡ 20 → IsPending value value 20 bytes
 nothing_written value bytes fits size =
     let none : drop 20 bytes ≡ [] = drop_all 20 bytes (omega arith) in
@@ -74,12 +74,12 @@ nothing_written value bytes fits size =
           rw (none, append-nil) refl;
     }
 
--- a turn of k + 1 digits has room where there is more than k of them left
+-- a turn of k + 1 digits fits if more than k of them are left
 pub places_left : (k value rest start : ℕ) (bytes : List ℕ) → IsPending value rest start bytes → 10 ^ k ≤ rest
     → rest < 2 ^ 64 → suc k ≤ start
 places_left k value rest start bytes p low fits = omega (arith, p.room, length-significant k rest low fits)
 
--- and after it the quotient by 10 ^ (k + 1) is left
+-- a turn of k + 1 digits leaves the quotient by 10 ^ (k + 1)
 pub more_written : (k value rest start : ℕ) (bytes after : List ℕ) → IsPending value rest start bytes → 10 ^ k ≤ rest
     → rest < 2 ^ 64
     → after ≡ put (start - suc k) (suc k) bytes (fixed (suc k) (rest % 10 ^ suc k))
@@ -103,7 +103,7 @@ more_written k value rest start bytes after p low fits written =
 
 -- ---- the end
 
--- with nothing left all is written, but for zero
+-- a rest of zero means that all is written, but for the number zero
 pub none_left : (value start : ℕ) (bytes : List ℕ) → IsPending value 0 start bytes → 0 < value → drop start bytes
     ≡ decimal value
 none_left value start bytes p some = p.text ∙ significant_some value some
@@ -120,7 +120,7 @@ zero_left value rest start bytes p none =
 abbrev pub IsLast : ℕ → ℕ → Type 0
 IsLast value rest = (rest ≢ 0) ⊎ ((rest ≡ 0) × (value ≡ 0))
 
--- the last digit has room
+-- the last digit fits
 pub last_place : (value rest start : ℕ) (bytes : List ℕ) → IsPending value rest start bytes → rest ≤ 9
     → IsLast value rest → 1 ≤ start
 last_place value rest start bytes p one (inl some) = places_left 0 value rest start bytes p (omega arith) (omega arith)
@@ -128,7 +128,7 @@ last_place value rest start bytes p one (inr none) =
     let left = zero_left value rest start bytes p none.1 in
     omega (arith, left.0)
 
--- and with it all is written
+-- the last digit completes the text
 pub all_written : (value rest start : ℕ) (bytes after : List ℕ) → IsPending value rest start bytes → rest ≤ 9
     → IsLast value rest → after ≡ put (start - 1) 1 bytes (fixed 1 rest)
     → drop (start - 1) after ≡ decimal value

@@ -59,7 +59,7 @@ values_zero (d ∷ ds) e =
     let first : d ≡ 48 = eqb-true d 48 both.0 in
     omega (arith, first, values_zero ds both.1)
 
--- and other digits a greater one
+-- digits that are not all zeros make a word of at least one
 values_some : (ds : List ℕ) → AllDigits 10 ds → are_zeros ds ≡ false → 1 ≤ values_word ds
 values_some [] h e = cc
 values_some (d ∷ ds) h e =
@@ -82,7 +82,7 @@ values_below (d ∷ ds) h =
     rw (not_zeros d ds e) (omega (arith, here, values_below ds h.1, pow-byte (length (without_last_zeros ds)))))
     (cases_Bool (are_zeros (d ∷ ds)))
 
--- and no fewer
+-- a word has at least as many bytes as its digits without the last zeros
 values_above : (ds : List ℕ) (m : ℕ) → AllDigits 10 ds → length (without_last_zeros ds) ≡ suc m
     → 2 ^ (8 * m) ≤ values_word ds
 values_above [] m h e = cc
@@ -119,7 +119,7 @@ zero_bytes x m k leading bits count within long short below above =
         absurd (omega (arith, fewer, h j refl)))
         (cases_lt (8 * j) bits)
 
--- so many bytes of zero bits lead the exclusive or of eight digits with eight zeros
+-- the exclusive or of eight digits with eight zeros begins with a zero byte for each of the last zeros
 leading_zeros-values : (ds : List ℕ) → length ds ≡ 8 → AllDigits 10 ds → leading_zeros w64 (values_word ds) / 8
     ≡ last_zeros ds
 unfolding last_zeros
@@ -145,7 +145,7 @@ last_zeros_by_word word fits h =
     (xor_digits ds h) in
     rw x (leading_zeros-values ds refl h)
 
--- for the call that counts them
+-- lemmas for the call that counts the last zeros
 pub ruleset word_facts = (last_zeros_by_word, last_zeros-le)
 
 -- ---- a word that was read from eight digits of a number

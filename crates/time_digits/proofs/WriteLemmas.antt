@@ -22,12 +22,12 @@ length-put a k bs xs room width =
       length-drop (a + k) bs,
     )
 
--- from the place of a write on stands what is written, and then what stood behind it
+-- the bytes from the place of a write on are what is written, and then what followed it
 pub drop-put : (a k : ℕ) (bs xs : List ℕ) → a ≤ length bs → drop a (put a k bs xs) ≡ xs ++ drop (a + k) bs
 drop-put a k bs xs room =
     rw append_assoc (drop_at (take a bs) (xs ++ drop (a + k) bs) a (length-take-le a bs room))
 
--- a write right behind another is one write of both
+-- a write right after another is one write of both
 put_behind : (a j k : ℕ) (bs xs ys : List ℕ) → a + j + k ≤ length bs → length xs ≡ j → put (a + j) k (put a j bs xs) ys
     ≡ put a (j + k) bs (xs ++ ys)
 put_behind a j k bs xs ys room width =
@@ -58,7 +58,7 @@ one_put a bs [] zs room one same = cc
 one_put a bs (x ∷ []) zs room one same = rw (← same) (set_is a x bs (omega arith))
 one_put a bs (x ∷ y ∷ more) zs room one same = absurd (omega arith)
 
--- the bytes of a text of two, set at a and behind it
+-- the bytes of a text of two, set at a and after it
 pub two_put : (a : ℕ) (bs ds zs : List ℕ) → a + 2 ≤ length bs → length ds ≡ 2 → ds ≡ zs
     → set (set bs a (get_or ds 0 0)) (a + 1) (get_or ds 1 0) ≡ put a 2 bs zs
 two_put a bs [] zs room two same = cc
@@ -74,7 +74,7 @@ two_put a bs (x ∷ y ∷ z ∷ more) zs room two same = absurd (omega arith)
 pub two_fixed : (n : ℕ) → n < 100 → zero_padded 2 n ≡ fixed 2 n
 two_fixed n h = zero_padded_is 1 n h (omega arith)
 
--- for the calls that write one digit, and two
+-- lemmas for the calls that write one digit, and two
 pub ruleset written = (two_fixed, decimal_one, one_put, two_put, length-fixed)
 
 -- ---- groups of digits
@@ -83,7 +83,7 @@ pub ruleset written = (two_fixed, decimal_one, one_put, two_put, length-fixed)
 two_pairs : (n : ℕ) → fixed 2 (n / 100) ++ fixed 2 (n % 100) ≡ fixed 4 n
 two_pairs n = ap (λ bs. fixed 2 (n / 100) ++ bs) (fixed-mod 2 n) ∙ sym (fixed-append 2 2 n)
 
--- two pairs written one behind the other are four digits written
+-- two pairs written one after the other are four digits written
 pub four_written : (a n : ℕ) (bs : List ℕ) → a + 4 ≤ length bs
     → put (a + 2) 2 (put a 2 bs (fixed 2 (n / 100))) (fixed 2 (n % 100)) ≡ put a 4 bs (fixed 4 n)
 four_written a n bs room =
@@ -96,7 +96,7 @@ one_and_two_fours : (n : ℕ) → fixed 1 (n / 10_000 / 10_000) ++ fixed 4 (n / 
 one_and_two_fours n =
     rw (fixed-mod 4 (n / 10_000), fixed-mod 4 n) (rw (sym (fixed-append 1 4 (n / 10_000))) (sym (fixed-append 5 4 n)))
 
--- so they are, written into nine bytes one behind the other
+-- nine digits are three groups, written into nine bytes one after the other
 pub nine_written : (n : ℕ) (b₀ b₁ b₂ b₃ : List ℕ) → length b₀ ≡ 9 → b₁ ≡ put 0 1 b₀ (fixed 1 (n / 10_000 / 10_000)) → b₂
     ≡ put 1 4 b₁ (fixed 4 (n / 10_000 % 10_000))
     → b₃ ≡ put 5 4 b₂ (fixed 4 (n % 10_000)) → b₃ ≡ fixed 9 n

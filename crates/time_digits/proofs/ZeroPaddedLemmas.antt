@@ -8,7 +8,7 @@ use Rattle.time_digits.proofs.LengthLemmas.{some_digit, decimal_longer, length-d
 use Rattle.time_digits.proofs.TableLemmas.{same_below}
 use Rattle.time_digits.specs.declared.tables.TheConstants.{ZERO_PADDED_PAIRS}
 
--- each pair with zeros stands at twice its number
+-- each pair with zeros is at twice its number
 pairs_are : map (λ n. take 2 (drop (2 * n) ZERO_PADDED_PAIRS.now)) (range_with_len 0 100)
     ≡ map (zero_padded 2) (range_with_len 0 100)
 unfolding digits padded
@@ -17,7 +17,7 @@ pairs_are = refl
 pub pair_at : (n : ℕ) → n < 100 → take 2 (drop (2 * n) ZERO_PADDED_PAIRS.now) ≡ zero_padded 2 n
 pair_at n h = same_below (λ k. take 2 (drop (2 * k) ZERO_PADDED_PAIRS.now)) (zero_padded 2) 100 pairs_are n h
 
--- below 10 the last digit of its pair is the number's text
+-- the last digit of its pair is the text of a number below 10
 last_are : map (λ n. take 1 (drop (2 * n + 1) ZERO_PADDED_PAIRS.now)) (range_with_len 0 10)
     ≡ map decimal (range_with_len 0 10)
 unfolding digits
@@ -26,12 +26,12 @@ last_are = refl
 pub last_at : (n : ℕ) → n < 10 → take 1 (drop (2 * n + 1) ZERO_PADDED_PAIRS.now) ≡ decimal n
 last_at n h = same_below (λ k. take 1 (drop (2 * k + 1) ZERO_PADDED_PAIRS.now)) decimal 10 last_are n h
 
--- from 10 on both are
+-- both digits of its pair are the text of a number from 10 on
 pub both_at : (n : ℕ) → 10 ≤ n → n < 100 → take 2 (drop (2 * n) ZERO_PADDED_PAIRS.now) ≡ decimal n
 both_at n low high = pair_at n high ∙ padded_whole 48 2 n (omega (arith, decimal_longer 1 n low (omega arith)))
 
--- for the calls that borrow two places of the table
+-- lemmas for the calls that borrow two places of the table
 pub ruleset pair_facts = (pair_at, length-decimal_two, length-padded)
 
--- for the calls that borrow a number's digits of it
+-- lemmas for the calls that borrow a number's digits of the table
 pub ruleset number_facts = (last_at, both_at, length-digit, length-decimal_two, some_digit)

@@ -17,7 +17,7 @@ padded fill k n = replicate (k - length (decimal n)) fill ++ decimal n
 abbrev pub zero_padded : ℕ → ℕ → List ℕ
 zero_padded k n = padded 48 k n
 
--- and with spaces in front
+-- k places with spaces in front
 abbrev pub space_padded : ℕ → ℕ → List ℕ
 space_padded k n = padded 32 k n
 

@@ -17,7 +17,7 @@ without_last_zeros (d ∷ ds) = if are_zeros (d ∷ ds) then [] else d ∷ witho
 unfoldable pub last_zeros : List ℕ → ℕ
 last_zeros ds = length ds - length (without_last_zeros ds)
 
--- without its last zeros, but for the first byte, which stays
+-- digits without their last zeros; the first one stays
 abbrev pub trimmed : List ℕ → List ℕ
 trimmed [] = []
 trimmed (d ∷ ds) = d ∷ without_last_zeros ds

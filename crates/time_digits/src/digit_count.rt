@@ -1,7 +1,7 @@
 //! How many digits a number has.
 ghost use Rattle.std.specs.Prelude.{◌≡◌, ℕ, length, decimal};
 
-/// A number whose decimal digits are counted. A signed number is none: its sign is written apart.
+/// A number whose decimal digits are counted. Signed numbers are left out: their sign is written first.
 pub trait DigitCount {
     /// The number.
     ghost number: { Self → ℕ };

@@ -34,7 +34,7 @@ pub fn quotient_by_5243()
     ensures shift { DIV_100_SHIFT ≡ 19 }
 {}
 
-/// Each text of a table stands at its place: that of the digit `n` at the byte `n`, and those of the
+/// Each text of a table is at its place: that of the digit `n` at the byte `n`, and those of the
 /// number `n` in two places at the byte `2 * n`. Nothing else is in a table: the first has 10 bytes,
 /// the others 200.
 #[tactic(auto, using(crate::proofs::SingleDigitLemmas::digit_at, crate::proofs::ZeroPaddedLemmas::pair_at, crate::proofs::SpacePaddedLemmas::spaced_at))]

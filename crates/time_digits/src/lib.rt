@@ -1,7 +1,7 @@
 //! Numbers with bounds, and the decimal texts of numbers, for the formatting of dates and times.
 //!
-//! No function here takes memory, and none refuses. A small number's text is borrowed from a
-//! constant table, a larger one comes in pieces of such texts, and a long one stands in an array.
+//! No function here allocates, and none refuses. A small number's text is borrowed from a constant
+//! table, a larger one comes in pieces of such texts, and a long one is in an array.
 #![tactic(auto)]
 
 pub mod digit_count;

@@ -1,7 +1,7 @@
 //! The texts of numbers, borrowed from constant tables or written into arrays.
 //!
 //! A text in several pieces is read by joining them, the first piece first. The bounds of a number
-//! stand in its type; no call here tests them again.
+//! are in its type; no call here tests them again.
 ghost use Rattle.std.specs.Prelude.{◌≡◌, ◌+◌, ◌-◌, ◌/◌, ◌%◌, ◌≤◌, [], ◌∷◌, ◌++◌, length, take, drop, min, decimal};
 ghost use Rattle.std.specs.Int.{w64, to_le_bytes};
 ghost use Rattle.std.specs.Str.Parse.{AllDigits};
@@ -198,7 +198,7 @@ pub fn four_digits_space_padded(n: ru16<0, 9_999>) -> [&'static str; 2]
 }
 
 /// `n` in four places with zeros in front, or all its five or six digits; the first piece is what
-/// stands before the last four digits, empty below 10,000.
+/// precedes the last four digits, empty below 10,000.
 #[inline]
 #[tactic(auto, using(crate::proofs::PieceLemmas::six_places))]
 pub fn four_to_six_digits(n: ru32<0, 999_999>) -> [&'static str; 3]

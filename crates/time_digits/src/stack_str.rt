@@ -1,4 +1,4 @@
-//! Short ASCII texts that stand in arrays of their own.
+//! Short ASCII texts that are in arrays of their own.
 ghost use Rattle.std.specs.Prelude.{◌≡◌, ◌≤◌, ◌-◌, length, take, drop, IsAscii};
 
 /// An ASCII text of at most `N` bytes, at the start of its array.

@@ -2,11 +2,11 @@
 ghost use Rattle.std.specs.Prelude.{◌≡◌, ◌+◌, ◌≤◌, length, take, drop, IsTrue};
 ghost use Rattle.time_digits.specs.Digits.{is_ascii};
 
-/// The digits 0 to 9, in 10 bytes; the digit `n` stands at the place `n`.
+/// The digits 0 to 9, in 10 bytes; the digit `n` is at the place `n`.
 pub const SINGLE_DIGITS: &str = "0123456789";
 
 /// The numbers 0 to 99 in two places each, with a zero in front of those below 10, in 200 bytes;
-/// the number `n` stands at the place `2 * n`.
+/// the number `n` is at the place `2 * n`.
 pub const ZERO_PADDED_PAIRS: &str = "\
 0001020304050607080910111213141516171819\
 2021222324252627282930313233343536373839\
@@ -15,7 +15,7 @@ pub const ZERO_PADDED_PAIRS: &str = "\
 8081828384858687888990919293949596979899";
 
 /// The numbers 0 to 99 in two places each, with a space in front of those below 10, in 200 bytes;
-/// the number `n` stands at the place `2 * n`.
+/// the number `n` is at the place `2 * n`.
 pub const SPACE_PADDED_PAIRS: &str = " 0 1 2 3 4 5 6 7 8 9\
 10111213141516171819\
 2021222324252627282930313233343536373839\

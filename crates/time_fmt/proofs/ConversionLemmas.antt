@@ -28,7 +28,7 @@ use Rattle.time_below.specs.declared.format_description.modifier.YearRange.TheVa
 abbrev pub IsCurrentWithin : ℕ → Component → Type 0
 IsCurrentWithin width c = (current_component c ≡ c) × (component_width c ≤ width)
 
--- so is each component that a deprecated one becomes
+-- a current component that replaces a deprecated month is within its width
 of_month : (r : MonthRepr) (m : Month) → IsCurrentWithin (month_width r) (current_month r m)
 of_month month.Numerical m = (refl, omega arith)
 of_month month.Long m = (refl, omega arith)
@@ -67,7 +67,7 @@ of_year false year.Century range.Extended m = (refl, omega arith)
 of_year false year.Century range.Standard m = (refl, omega arith)
 of_year false year.LastTwo size m = (refl, omega arith)
 
--- so is that of any component
+-- a current component that replaces any other one is within its width
 of_component : (c : Component) → IsCurrentWithin (component_width c) (current_component c)
 of_component (component.Month m) = of_month m.repr m
 of_component (component.Weekday m) = of_weekday m.repr m

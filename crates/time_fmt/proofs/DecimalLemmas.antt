@@ -112,7 +112,7 @@ seven_parts n h =
     ap (λ xs. xs ++ zero_padded 6 (n % 1_000_000)) first ∙ ap (λ ys. fixed 1 (n / 1_000_000) ++ ys) last
     ∙ sym (fixed-append 1 6 n)
 
--- and by its first two digits and its last six
+-- eight digits are the first two and the last six
 pub eight_parts : (n : ℕ) → n < 100_000_000 → zero_padded 2 (n / 1_000_000) ++ zero_padded 6 (n % 1_000_000) ≡ fixed 8 n
 eight_parts n h =
     let first = zero_padded_is 1 (n / 1_000_000) (omega arith) (omega arith) in

@@ -15,7 +15,7 @@ use Rattle.time_fmt.specs.Room.{HasRoom}
 use Rattle.time_fmt.proofs.WriteLemmas.{some_of, join_refused, join_done}
 use Rattle.time_fmt.proofs.GuaranteeLemmas.{text_more, text_stops, empty_utf8}
 
--- so far a list was written without a refusal: its rest is the rest of the outcome, and has room
+-- a list was written so far without a refusal: its rest is the rest of the outcome, and fits the capacity
 pub record Along (agrees : Type 0) (old now : Vec ℕ Global) (sum : ℕ) (f : Facts) (all left : Trees)
     (all_size left_size : ℕ) : Type 0 where
   pub state : agrees
@@ -30,7 +30,7 @@ pub record Along (agrees : Type 0) (old now : Vec ℕ Global) (sum : ℕ) (f : F
   pub text : IsTextIf (are_guaranteed_text left) (trees_outcome left f)
       → IsTextIf (are_guaranteed_text all) (trees_outcome all f)
 
--- before the first node nothing is written
+-- nothing is written before the first node
 pub along_from_the_start : {agrees : Type 0} (output : Vec ℕ Global) (f : Facts) (all : Trees) (size : ℕ) → agrees
     → HasRoom output (trees_width all)
     → Along agrees output output (vec_len output - vec_len output) f all all size size
@@ -48,7 +48,7 @@ along_from_the_start output f all size agrees room =
       text = λ h. h;
     }
 
--- the next node has room
+-- the next node fits the capacity
 pub room_for_next : {agrees : Type 0} {sum all_size left_size : ℕ} (old now : Vec ℕ Global) (f : Facts)
     (all left others : Trees) (t : Tree) →
     Along agrees old now sum f all left all_size left_size → left ≡ more t others → HasRoom now (tree_width t)
@@ -136,7 +136,7 @@ by_lengths {agrees} {sum} {all_size} {left_size} old now f all left along =
     let same : sum ≡ vec_len now - vec_len old = omega (arith, along.grown) in
     subst P same along
 
--- at the end of a list nothing is left, so that all of it is written
+-- the end of a list leaves nothing, so that all of it is written
 pub all_along : {A agrees : Type 0} {sum all_size left_size : ℕ} (tree : A → Tree) (nodes : List A) (i : ℕ)
     (old now : Vec ℕ Global) (f : Facts) → length nodes ≤ i
     → Along agrees old now sum f (trees (map tree nodes)) (trees (map tree (drop i nodes))) all_size left_size
@@ -160,7 +160,7 @@ all_along {A} {agrees} {sum} tree nodes i old now f past along =
       within = omega (arith, along.within);
     }
 
--- nor is it of a text
+-- a list keeps its guarantee of text at its end
 pub text_at_end : {A : Type 0} (tree : A → Tree) (nodes : List A) (i : ℕ) (f : Facts) → length nodes ≤ i
     → (IsTextIf (are_guaranteed_text (trees (map tree (drop i nodes))))
     (trees_outcome (trees (map tree (drop i nodes))) f)
@@ -177,13 +177,13 @@ pub outcome_of_first : {A : Type 0} (tree : A → Tree) (nodes : List A) (x : A)
 outcome_of_first tree [] x f h = cc
 outcome_of_first tree (y ∷ ys) x f h = let e : y ≡ x = cc in ap (λ z. tree_outcome (tree z) f) e
 
--- and its width
+-- the first of a list that begins with x has the width of x
 pub width_of_first : {A : Type 0} (tree : A → Tree) (nodes : List A) (x : A) → slice_get nodes 0 ≡ Some x
     → tree_width (first_of (trees (map tree nodes))) ≡ tree_width (tree x)
 width_of_first tree [] x h = cc
 width_of_first tree (y ∷ ys) x h = let e : y ≡ x = cc in ap (λ z. tree_width (tree z)) e
 
--- and it is a text if x is one
+-- the first of a list that begins with x is a text if x is one
 pub text_of_first : {A : Type 0} (tree : A → Tree) (nodes : List A) (x : A) (f : Facts) → slice_get nodes 0 ≡ Some x
     → IsTextIf (is_guaranteed_text (tree x)) (tree_outcome (tree x) f)
     → IsTextIf (is_guaranteed_text (first_of (trees (map tree nodes))))

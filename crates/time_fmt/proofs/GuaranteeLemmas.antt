@@ -47,43 +47,43 @@ ascii_test bs h =
     IsAscii-from_all bs (All-weaker (λ b. IsTrue (nat_lt b 128)) (λ b. b < 128) (λ b. ltb-true b 128) bs
     (AllPass-from_list_all (λ b. nat_lt b 128) bs h))
 
--- so is a number in its places
+-- a number in its places is ASCII
 IsAscii-padded_text : (p : Padding) (places n : ℕ) → IsAscii (padded_text p places n)
 IsAscii-padded_text padding.Space places n = IsAscii-padded 32 places n (omega arith)
 IsAscii-padded_text padding.Zero places n = IsAscii-padded 48 places n (omega arith)
 IsAscii-padded_text padding.None places n = IsAscii-number n
 
--- so is a sign
+-- a sign is ASCII
 pub IsAscii-sign_text : (is_negative is_wanted : Bool) → IsAscii (sign_text is_negative is_wanted)
 IsAscii-sign_text true is_wanted = ascii_test (codes "-") refl
 IsAscii-sign_text false true = ascii_test (codes "+") refl
 IsAscii-sign_text false false = IsAscii-nil
 
--- so is the name of a month
+-- the name of a month is ASCII
 pub IsAscii-month_name : (m : ℕ) → IsAscii (month_name m)
 IsAscii-month_name m =
     ascii_test (month_name m) (passes_at (list_all (λ b. nat_lt b 128)) month_names (m - 1) refl refl)
 
--- so is the name of a weekday
+-- the name of a weekday is ASCII
 pub IsAscii-weekday_name : (w : ℕ) → IsAscii (weekday_name w)
 IsAscii-weekday_name w =
     ascii_test (weekday_name w) (passes_at (list_all (λ b. nat_lt b 128)) weekday_names w refl refl)
 
--- so is the half of a day
+-- the half of a day is ASCII
 IsAscii-period_text : (p : Period) (is_uppercase : Bool) → IsAscii (period_text p is_uppercase)
 IsAscii-period_text Am true = ascii_test (codes "AM") refl
 IsAscii-period_text Am false = ascii_test (codes "am") refl
 IsAscii-period_text Pm true = ascii_test (codes "PM") refl
 IsAscii-period_text Pm false = ascii_test (codes "pm") refl
 
--- so are decimals of the second
+-- decimals of the second are ASCII
 IsAscii-subsecond_text : (d : SubsecondDigits) (n : ℕ) → IsAscii (subsecond_text d n)
 IsAscii-subsecond_text digits.OneOrMore n = IsAscii-trimmed_fraction n
 IsAscii-subsecond_text d n = IsAscii-take (fixed 9 n) (subsecond_width d) (IsAscii-fixed 9 n)
 
 -- ---- components
 
--- so is each kind of text
+-- each kind of text is ASCII
 IsAscii-kind_text : (k : Kind) → IsAscii (kind_text k)
 IsAscii-kind_text (kind.number p places n) = IsAscii-padded_text p places n
 IsAscii-kind_text (kind.signed n w p places m) =
@@ -97,7 +97,7 @@ IsAscii-kind_text (kind.half_day p is_uppercase) = IsAscii-period_text p is_uppe
 IsAscii-kind_text (kind.decimals d n) = IsAscii-subsecond_text d n
 IsAscii-kind_text kind.empty = IsAscii-nil
 
--- so is what is left of it in its range
+-- a number that is limited to its range is ASCII
 IsAscii-kind_outcome : (k : Kind) → IsAscii (kind_outcome k).bytes
 IsAscii-kind_outcome (kind.limited greatest n k) =
     elim (nat_le n greatest) as
@@ -105,7 +105,7 @@ IsAscii-kind_outcome (kind.limited greatest n k) =
     [ true ↦ IsAscii-kind_text k | false ↦ IsAscii-nil ]
 IsAscii-kind_outcome k = IsAscii-kind_text k
 
--- so is the text of a component, whether or not the value supplies its group
+-- the text of a component is ASCII, with or without its group
 pub ascii_current : (c : Component) (f : Facts) → IsAscii (current_outcome c f).bytes
 ascii_current c f =
     elim (has_group (group_of c) f) as
@@ -127,7 +127,7 @@ empty_utf8 = IsUtf8-from_ascii [] IsAscii-nil
 pub text_of_component : (c : Component) (f : Facts) → IsUtf8 (component_outcome c f).bytes
 text_of_component c f = IsUtf8-from_ascii (component_outcome c f).bytes (ascii_current (current_component c) f)
 
--- so has one that was written
+-- a component that was written has a text
 pub text_of_written : (written : Option ℕ) (c : Component) (f : Facts)
     → IfSome written (λ _. IsTextIf (is_guaranteed_text (of_component c)) (tree_outcome (of_component c) f))
 text_of_written None c f = tt
@@ -141,7 +141,7 @@ text_more t ts f first others h =
     let both = and_parts (is_guaranteed_text t) (are_guaranteed_text ts) h in
     joined_utf8 (tree_outcome t f) (trees_outcome ts f) (first both.0) (others both.1)
 
--- of a list that stops at its first tree the others do not count
+-- a list that stops at its first tree is a text if that tree is one
 pub text_stops : (t : Tree) (ts : Trees) (f : Facts) → IsTextIf (is_guaranteed_text t) (tree_outcome t f)
     → join (tree_outcome t f) (trees_outcome ts f) ≡ tree_outcome t f
     → IsTextIf (are_guaranteed_text (more t ts)) (trees_outcome (more t ts) f)
@@ -156,7 +156,7 @@ no_bytes : (bytes : List ℕ) → length bytes ≤ 0 → IsUtf8 bytes
 no_bytes [] h = empty_utf8
 no_bytes (b ∷ bs) h = let never : ⊥ = omega (arith, h) in absurd never
 
--- so is what was added to nothing within no width
+-- an output from nothing within no width is a text
 pub text_of_nothing : {answer : Result ℕ Format} {o : Outcome} {width : ℕ} (old new : Vec ℕ Global) → width ≡ 0
     → old.items ≡ [] → Adds old new answer o → vec_len new ≤ vec_len old + width → IsUtf8 new.items
 text_of_nothing {o = o} old new none empty adds within =

@@ -40,7 +40,7 @@ subseconds chosen.Eight = refl
 subseconds chosen.Nine = refl
 subseconds chosen.OneOrMore = refl
 
--- whether a text fills a width, whatever is chosen for its padding, its case and its sign
+-- whether a text fills a width, for any padding, case and sign
 abbrev fills : Kind → ℕ → Bool
 fills (kind.number p places n) width = nat_le places (length (decimal n)) && (length (decimal n) == width)
 fills (kind.signed is_negative is_wanted p places n) width =
@@ -68,7 +68,7 @@ half_day_fills Am false = refl
 half_day_fills Pm true = refl
 half_day_fills Pm false = refl
 
--- it has then so many bytes
+-- it has then this many bytes
 text_fills : (k : Kind) (width : ℕ) → IsTrue (fills k width) → length (kind_text k) ≡ width
 text_fills (kind.number p places n) width h =
     let both = and_parts (nat_le places (length (decimal n))) (length (decimal n) == width) h in
@@ -90,7 +90,7 @@ text_fills (kind.half_day p is_uppercase) width h = half_day_fills p is_uppercas
 text_fills (kind.decimals d n) width h = cc
 text_fills k width h = eqb-true (length (kind_text k)) width h
 
--- of the one value or the other
+-- one of the two values fills the width
 reached : (c : Component) (value : OffsetDateAndTime)
     → IsTrue (fills (kind_of c (facts_of_offset_date_time value)) (component_width c))
     → length (kind_text (kind_of c (facts_of_offset_date_time value))) ≡ component_width c

@@ -11,7 +11,7 @@ use Rattle.time_fmt.proofs.TextLemmas.{places_of, length-padded_text, two_places
 pub four_digits : (n : ℕ) → n < 10_000 → length (decimal n) ≤ 4
 four_digits n h = length-decimal-le 4 n (omega arith) (omega arith) (omega arith)
 
--- and fits four places
+-- a number below 10,000 fits four places
 pub four_places : (p : Padding) (n : ℕ) → n < 10_000 → length (padded_text p 4 n) ≤ 4
 four_places p n h = length-padded_text p 4 4 n (omega arith) (four_digits n h)
 
@@ -19,15 +19,15 @@ four_places p n h = length-padded_text p 4 4 n (omega arith) (four_digits n h)
 pub two_zeros : (n : ℕ) → n < 100 → length (zero_padded 2 n) ≡ 2
 two_zeros n h = places_of 2 n (length-decimal-le 2 n (omega arith) (omega arith) (omega arith))
 
--- and four
+-- a number below 10,000 has four digits with zeros
 pub four_zeros : (n : ℕ) → n < 10_000 → length (zero_padded 4 n) ≡ 4
 four_zeros n h = places_of 4 n (four_digits n h)
 
--- and five
+-- a number below 100,000 has five digits with zeros
 pub five_zeros : (n : ℕ) → n < 100_000 → length (zero_padded 5 n) ≡ 5
 five_zeros n h = places_of 5 n (length-decimal-le 5 n (omega arith) (omega arith) (omega arith))
 
--- and six
+-- a number below 1,000,000 has six digits with zeros
 pub six_zeros : (n : ℕ) → n < 1_000_000 → length (zero_padded 6 n) ≡ 6
 six_zeros n h = places_of 6 n (length-decimal-le 6 n (omega arith) (omega arith) (omega arith))
 

@@ -33,22 +33,22 @@ pub two_places : (p : Padding) (n : ℕ) → n < 100 → length (padded_text p 2
 two_places p n h =
     length-padded_text p 2 2 n (omega arith) (length-decimal-le 2 n (omega arith) (omega arith) (omega arith))
 
--- and one below 1,000 three
+-- a number below 1,000 fits three places
 pub three_places : (p : Padding) (n : ℕ) → n < 1000 → length (padded_text p 3 n) ≤ 3
 three_places p n h =
     length-padded_text p 3 3 n (omega arith) (length-decimal-le 3 n (omega arith) (omega arith) (omega arith))
 
--- zeros and then the digits, in so many places
+-- zeros and then the digits, in this many places
 pub places_of : (places n : ℕ) → length (decimal n) ≤ places → length (zero_padded places n) ≡ places
 places_of places n h = length-padded 48 places n h
 
--- what stands before the digits are zeros
+-- what precedes the digits are zeros
 pub zero_padded_is_zeros : (places n : ℕ)
     → zero_padded places n ≡ replicate (places - length (decimal n)) 48 ++ decimal n
 unfolding padded
 zero_padded_is_zeros places n = refl
 
--- of which there are as many as are wanted
+-- zeros are as many as were chosen
 pub length-zeros : (n : ℕ) → length (replicate {A = ℕ} n 48) ≡ n
 length-zeros n = length-replicate {A = ℕ} n 48
 
@@ -69,7 +69,7 @@ whole_year p n low high =
 pub whole_century : (p : Padding) (n : ℕ) → 100 ≤ n → n < 2 ^ 64 → padded_text p 2 n ≡ decimal n
 whole_century p n low high = let long = decimal_longer 2 n low high in no_padding p 2 n (omega arith)
 
--- ---- numbers behind their signs
+-- ---- numbers after their signs
 
 -- a sign has one byte at most
 pub length-sign_text : (is_negative is_wanted : Bool) → length (sign_text is_negative is_wanted) ≤ 1
@@ -80,7 +80,7 @@ length-sign_text false false = omega arith
 -- one text after another
 pub ruleset signed_parts = (length-append, append_assoc)
 
--- a sign and then so many digits
+-- a sign and then this many digits
 signed_within : (is_negative is_wanted : Bool) (p : Padding) (places most n : ℕ) → places ≤ most → 0 < most
     → n < 10 ^ most → n < 2 ^ 64
     → length (sign_text is_negative is_wanted ++ padded_text p places n) ≤ most + 1
@@ -163,7 +163,7 @@ pub length-monday_digit : (one_indexed : Bool) (w : Weekday)
     → length (decimal (indexed one_indexed (days_from_monday w))) ≤ 1
 length-monday_digit one_indexed w = length-indexed one_indexed (days_from_monday w) (days_in_week w)
 
--- or from Sunday
+-- a weekday that is counted from Sunday has one digit
 pub length-sunday_digit : (one_indexed : Bool) (w : Weekday)
     → length (decimal (indexed one_indexed (from_sunday (days_from_monday w)))) ≤ 1
 length-sunday_digit one_indexed w = length-indexed one_indexed (from_sunday (days_from_monday w))

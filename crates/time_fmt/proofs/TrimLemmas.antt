@@ -34,7 +34,7 @@ zero_behind text i le lt =
     get_or-append_right text (replicate (9 - length text) 48) (length text) i 0 (λ _. length text) le
     ∙ get_or-replicate (9 - length text) (i - length text) 48 0 (omega arith)
 
--- up to the last digit that is no zero, the digits of a fraction are the trimmed one
+-- the trimmed fraction is its digits up to the last one that is no zero
 pub trimmed_at : (i k n : ℕ) → suc i + k ≡ 9 → n % 10 ^ k ≡ 0 → n / 10 ^ k % 10 ≢ 0
     → fixed (suc i) (n / 10 ^ k) ≡ trimmed_fraction n
 trimmed_at i k n nine zeros some =
@@ -71,7 +71,7 @@ three_are n zeros some = take-fixed 3 6 n ∙ trimmed_at 2 6 n (omega arith) zer
 pub six_are : (n : ℕ) → n % 1_000 ≡ 0 → n / 1_000 % 10 ≢ 0 → take 6 (fixed 9 n) ≡ trimmed_fraction n
 six_are n zeros some = take-fixed 6 3 n ∙ trimmed_at 5 3 n (omega arith) zeros some
 
--- so many bytes has the trimmed fraction
+-- the length of the trimmed fraction
 pub length-nine : (n : ℕ) → n % 10 ≢ 0 → length (trimmed_fraction n) ≡ 9
 length-nine n some = ap length (sym (nine_are n some)) ∙ length-fixed 9 n
 
@@ -81,7 +81,7 @@ length-three n zeros some = ap length (sym (three_are n zeros some)) ∙ length-
 pub length-six : (n : ℕ) → n % 1_000 ≡ 0 → n / 1_000 % 10 ≢ 0 → length (trimmed_fraction n) ≡ 6
 length-six n zeros some = ap length (sym (six_are n zeros some)) ∙ length-first 6 3 n
 
--- a fraction that ends behind the ninth, the third or the sixth digit
+-- a fraction that ends after the ninth, the third or the sixth digit
 pub ruleset whole_fractions = (nine_are, three_are, six_are, length-nine, length-three, length-six)
 
 -- what the decimals of a component are, and how many

@@ -28,7 +28,7 @@ pub appends_text : {old new : Vec ℕ Global} {n : ℕ} {text : List ℕ} → Wr
 appends_text w =
     record { appended = w.appended; counted = (refl, w.counted); named = tt; grown = w.grown; capacity = w.capacity }
 
--- and no more than that
+-- a text that is written is within its length
 pub text_up_to : {old new : Vec ℕ Global} {n : ℕ} {text : List ℕ} → Writes old new n text
     → AppendsUpTo (length text) old new (Ok n) (done text)
 text_up_to w = record { appends = appends_text w; within = omega (arith, w.grown) }
@@ -47,7 +47,7 @@ nothing_up_to output =
       within = omega arith;
     }
 
--- so is one of at most so many bytes
+-- a text that is written within a width is appended
 pub appends_up_to : {width : ℕ} {old new : Vec ℕ Global} {n : ℕ} {text : List ℕ} → WritesUpTo width old new n text
     → Appends old new (Ok n) (done text)
 appends_up_to w =
@@ -58,7 +58,7 @@ pub added_alone : {answer : Result ℕ Format} {o : Outcome} (old new : Vec ℕ 
     → Adds old new answer o → new.items ≡ o.bytes
 added_alone {o = o} old new empty adds = adds.appended ∙ ap (λ (items : List ℕ). items ++ o.bytes) empty
 
--- what is appended after room was made is added
+-- an outcome is added if it is appended after a reservation
 pub adds_after_room : {answer : Result ℕ Format} {o : Outcome} (old mid new : Vec ℕ Global) → mid.items ≡ old.items
     → vec_len mid ≡ vec_len old → Appends mid new answer o → Adds old new answer o
 adds_after_room {o = o} old mid new items len appends =
@@ -95,7 +95,7 @@ pub join_done : (a b : Outcome) → a.refusal ≡ None
     → join a b ≡ record { bytes = a.bytes ++ b.bytes; refusal = b.refusal }
 join_done a b h = rw h refl
 
--- of two outcomes the first is refused
+-- a refusal of the first of two outcomes is that of both
 pub appends_first : {old new : Vec ℕ Global} {e : Format} (a b : Outcome) → Appends old new (Err e) a
     → Appends old new (Err e) (join a b)
 appends_first {e = e} a b first =
@@ -134,7 +134,7 @@ pub whole_text : {width n : ℕ} {text : List ℕ} {old new : Vec ℕ Global} �
     → AppendsWhole width old new (Ok n) (done text)
 whole_text w h = record { appends = appends_text w; whole = tt; within = omega (arith, w.grown, h) }
 
--- of one that is refused there is nothing
+-- an outcome that is refused has no bytes
 nothing_of : {width : ℕ} (output : Vec ℕ Global) (e : Format) (r : Refusal) → Names e r
     → AppendsWhole width output output (Err e) (refused r)
 nothing_of output e r named =
@@ -146,7 +146,7 @@ pub in_range : {width count : ℕ} (greatest n : ℕ) (text : List ℕ) {old new
     → AppendsWhole width old new (Ok count) (in_standard_range greatest n text)
 in_range greatest n text below w h = let is : nat_le n greatest ≡ true = grind arith in rw is (whole_text w h)
 
--- and one beyond it is refused
+-- a number beyond its range is refused
 pub beyond_range : {width : ℕ} (greatest n : ℕ) (text : List ℕ) (output : Vec ℕ Global) (e : Format)
     → (n ≤ greatest → false ≡ true) → Names e (out_of_range (conditional_range (codes "year")))
     → AppendsWhole width output output (Err e) (in_standard_range greatest n text)

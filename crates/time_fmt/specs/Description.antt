@@ -83,7 +83,7 @@ kind_of c f = kind.empty
 abbrev pub supplied_outcome : Component → Facts → Outcome
 supplied_outcome c f = kind_outcome (kind_of c f)
 
--- of a value that does not it is refused
+-- the outcome of a component: a value without its group is refused
 abbrev pub current_outcome : Component → Facts → Outcome
 current_outcome c f = if has_group (group_of c) f then supplied_outcome c f else refused insufficient
 

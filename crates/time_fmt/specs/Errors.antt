@@ -1,4 +1,4 @@
--- What an error holds, if it is of the variant that is asked for.
+-- The contents of an error of the requested variant.
 use Rattle.std.specs.Prelude.{Result, Ok, Err}
 use Rattle.time_below.specs.declared.component_range.ComponentRange.{ComponentRange}
 use Rattle.time_below.specs.declared.different_variant.DifferentVariant.{DifferentVariant}

@@ -10,7 +10,7 @@ use Rattle.time_fmt.specs.DateText.{month_name, weekday_name, short_name, indexe
 use Rattle.time_fmt.specs.Outcome.{Outcome, done, refused, out_of_range}
 use Rattle.time_fmt.specs.Text.{padded_text, sign_text, period_text, subsecond_text}
 
--- A number in so many places; one behind its sign; one that is refused above a greatest number; the name of a
+-- A number in this many places; one after its sign; one that is refused above a greatest number; the name of a
 -- month or a weekday; the first letters of a name; a weekday by one digit; a half of the day; decimals of the
 -- second; no text.
 pub data Kind : Type 0 where

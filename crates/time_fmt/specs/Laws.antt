@@ -31,7 +31,7 @@ ListIsItsItemsInOrder =
     → (tree_outcome (all_of (more t ts)) f ≡ join (tree_outcome t f) (tree_outcome (all_of ts) f))
     × (tree_outcome (all_of end) f ≡ done [])
 
--- one outcome after another, whichever are put together first, and none changes nothing
+-- the order of joins does not matter for outcomes, and an empty outcome changes nothing
 abbrev pub OutcomesAreAMonoid : Type 0
 OutcomesAreAMonoid =
     (a b c : Outcome) → (join (join a b) c ≡ join a (join b c)) × (join (done []) a ≡ a) × (join a (done []) ≡ a)

@@ -1,4 +1,4 @@
--- Two values, of which one has a text as long as the width of each component, whatever its choices are.
+-- Two values, one of which fills the width of each component, for any choices.
 use Rattle.std.specs.Prelude.{◌≡◌, ◌⊎◌, true, pos, neg_ℤ, length}
 use Rattle.time_below.specs.Calendar.{date_of}
 use Rattle.time_below.specs.Conversion.{is_current}
@@ -32,7 +32,7 @@ longest_standard = record {
   offset = longest_offset;
 }
 
--- the text of the component on this value has as many bytes as the table tells
+-- the text of the component on this value has as many bytes as the table says
 abbrev pub Fills : Component → OffsetDateAndTime → Type 0
 Fills c value = length (component_outcome c (facts_of_offset_date_time value)).bytes ≡ component_width c
 

@@ -8,6 +8,6 @@ use Rattle.time_fmt.specs.Outcome.{Outcome}
 abbrev pub lossy_text : List ℕ → List ℕ
 lossy_text bytes = encode_utf8_all (lossy_chars bytes)
 
--- no memory is taken for the reading of its bytes
+-- nothing is allocated for the reading of its bytes
 abbrev pub IsRefusedOrText : Outcome → Type 0
 IsRefusedOrText o = IsSome o.refusal ⊎ IsUtf8 o.bytes

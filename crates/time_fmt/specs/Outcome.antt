@@ -36,8 +36,8 @@ join a b = elim a.refusal [
   | Some r ↦ a
 ]
 
--- The bytes of the outcome are appended, and the answer is their number, or names the refusal. The
--- capacity stays, so that the room afterwards is the room before less the bytes appended.
+-- The bytes of the outcome are appended. The answer is their number, or names the refusal. The capacity is unchanged,
+-- so that the spare capacity shrinks by the bytes appended.
 pub record Appends (old new : Vec ℕ Global) (answer : Result ℕ Format) (o : Outcome) : Type 0 where
   pub appended : new.items ≡ old.items ++ o.bytes
   pub counted : IfOk answer (λ n. (o.refusal ≡ None) × (n ≡ length o.bytes))
@@ -45,18 +45,18 @@ pub record Appends (old new : Vec ℕ Global) (answer : Result ℕ Format) (o : 
   pub grown : vec_len new ≡ vec_len old + length o.bytes
   pub capacity : vec_capacity new ≡ vec_capacity old
 
--- the same, within so many bytes
+-- the bytes of the outcome are appended, and are at most this many
 pub record AppendsUpTo (width : ℕ) (old new : Vec ℕ Global) (answer : Result ℕ Format) (o : Outcome) : Type 0 where
   pub appends : Appends old new answer o
   pub within : vec_len new ≤ vec_len old + width
 
--- the same, whole or not at all: a refusal leaves all as it was
+-- the bytes of the outcome are appended, or a refusal leaves all unchanged
 pub record AppendsWhole (width : ℕ) (old new : Vec ℕ Global) (answer : Result ℕ Format) (o : Outcome) : Type 0 where
   pub appends : Appends old new answer o
   pub whole : IfErr answer (λ _. new ≡ old)
   pub within : vec_len new ≤ vec_len old + width
 
--- the same as the first, where the capacity may change
+-- the bytes of the outcome are appended, and the capacity may change
 pub record Adds (old new : Vec ℕ Global) (answer : Result ℕ Format) (o : Outcome) : Type 0 where
   pub appended : new.items ≡ old.items ++ o.bytes
   pub counted : IfOk answer (λ n. (o.refusal ≡ None) × (n ≡ length o.bytes))

@@ -8,7 +8,7 @@ use Rattle.time_below.specs.Width.{tree_width, trees_width, is_guaranteed_text, 
 use Rattle.time_fmt.specs.Description.{tree_outcome, trees_outcome}
 use Rattle.time_fmt.specs.Outcome.{Outcome, join}
 
--- one list behind the other
+-- one list after the other
 abbrev pub both_lists : Trees → Trees → Trees
 both_lists end us = us
 both_lists (more t ts) us = more t (both_lists ts us)

@@ -1,20 +1,20 @@
--- Room at the end of a vector of bytes, and what is written into it.
+-- Spare capacity at the end of a vector of bytes, and what is written into it.
 use Rattle.std.specs.Prelude.{ℕ, ◌≡◌, ◌+◌, ◌≤◌, ◌++◌, List, length, vec_len, vec_capacity, Vec}
 use Rattle.std.specs.Global.{Global}
 
--- the capacity leaves so many bytes behind what is there
+-- the capacity leaves this many bytes after what is there
 abbrev pub HasRoom : Vec ℕ Global → ℕ → Type 0
 HasRoom output width = vec_len output + width ≤ vec_capacity output
 
--- The text was appended, and the count is its length. The capacity stays, so that the room afterwards
--- is the room before less the bytes appended.
+-- The text was appended, and the count is its length. The capacity is unchanged, so that the spare capacity shrinks by
+-- the bytes appended.
 pub record Writes (old new : Vec ℕ Global) (count : ℕ) (text : List ℕ) : Type 0 where
   pub appended : new.items ≡ old.items ++ text
   pub counted : count ≡ length text
   pub grown : vec_len new ≡ vec_len old + length text
   pub capacity : vec_capacity new ≡ vec_capacity old
 
--- the same, of a text of at most so many bytes
+-- a text of at most this many bytes was appended
 pub record WritesUpTo (width : ℕ) (old new : Vec ℕ Global) (count : ℕ) (text : List ℕ) : Type 0 where
   pub appended : new.items ≡ old.items ++ text
   pub counted : count ≡ length text
@@ -22,7 +22,7 @@ pub record WritesUpTo (width : ℕ) (old new : Vec ℕ Global) (count : ℕ) (te
   pub capacity : vec_capacity new ≡ vec_capacity old
   pub within : length text ≤ width
 
--- the same, of a text of just so many bytes
+-- a text of exactly this many bytes was appended
 pub record WritesJust (width : ℕ) (old new : Vec ℕ Global) (count : ℕ) (text : List ℕ) : Type 0 where
   pub appended : new.items ≡ old.items ++ text
   pub counted : count ≡ width

@@ -10,7 +10,7 @@ use Rattle.time_below.specs.declared.format_description.modifier.SubsecondDigits
 use Rattle.time_below.specs.declared.format_description.modifier.SubsecondDigits.TheVariants as digits
 use Rattle.time_below.specs.Width.{subsecond_width}
 
--- a number in so many places
+-- a number in this many places
 abbrev pub padded_text : Padding → ℕ → ℕ → List ℕ
 padded_text padding.Space places n = space_padded places n
 padded_text padding.Zero places n = zero_padded places n

@@ -12,8 +12,8 @@ use crate::writers::{put_back, take_out};
 use time_below::format_description::Component;
 use time_provide::ComponentProvider;
 
-/// Appends the text of a component that is met often, and answers the number of bytes. Of any other
-/// component, and of one that is refused, it writes nothing, and answers nothing.
+/// Appends the text of a component that is met often, and returns the number of bytes. Of any other
+/// component, and of one that is refused, it writes nothing, and returns `None`.
 #[inline(always)]
 pub(crate) fn write_common<V: ComponentProvider>(
     component: Component,
@@ -43,8 +43,8 @@ pub(crate) fn write_common<V: ComponentProvider>(
     }
 }
 
-/// Appends the text of a component that is met less often, and answers the number of bytes. Of one that
-/// is refused it writes nothing, and answers nothing. Each writer stands apart, so that this is a jump to
+/// Appends the text of a component that is met less often, and returns the number of bytes. Of one that
+/// is refused it writes nothing, and returns nothing. Each writer stands apart, so that this is a jump to
 /// the writer and has no frame.
 #[inline(always)]
 pub(crate) fn write_uncommon<V: ComponentProvider>(
@@ -118,7 +118,8 @@ fn write_converted<V: ComponentProvider>(
     }
 }
 
-// The same of a component whose writer is long, apart, by a vector that is taken out once more.
+// Writes a component whose writer is long. The writer is not inlined, and gets a vector that is
+// taken out.
 #[inline(always)]
 fn write_apart<M: Modifier, V: ComponentProvider>(
     part: M,
@@ -140,7 +141,7 @@ fn write_apart<M: Modifier, V: ComponentProvider>(
     count
 }
 
-// The same of a vector that was taken out.
+// Writes a component to a vector that was taken out. This is not inlined.
 #[inline(never)]
 fn write_lent<M: Modifier, V: ComponentProvider>(
     part: M,
@@ -159,7 +160,7 @@ fn write_lent<M: Modifier, V: ComponentProvider>(
     write_unless_refused(part, output, value, state)
 }
 
-// The same of any component that is not deprecated, by its own choices.
+// Writes any component that is not deprecated, by its own choices, and nothing if it is refused.
 #[inline(always)]
 fn write_unless_refused<M: Modifier, V: ComponentProvider>(
     part: M,
@@ -181,9 +182,10 @@ fn write_unless_refused<M: Modifier, V: ComponentProvider>(
     }
 }
 
-/// Appends the text of the component where there is room for its width. Takes no memory.
+/// Appends the text of the component. The output needs spare capacity for its width. Allocates
+/// nothing.
 ///
-/// A deprecated component has the text of the current one. Answers the number of bytes appended, or
+/// A deprecated component has the text of the current one. Returns the number of bytes appended, or
 /// the refusal of the component, which has no bytes.
 #[inline(always)]
 pub fn component_write_into<V: ComponentProvider>(
@@ -211,7 +213,8 @@ pub fn component_write_into<V: ComponentProvider>(
     }
 }
 
-/// The same of any component, met often or not, apart from the loop that asks for it.
+/// Appends the text of any component, common or not. This is not inlined into the loop that calls
+/// it.
 #[inline(never)]
 #[tactic(auto, using(crate::proofs::ConversionLemmas::width_of_current))]
 pub(crate) fn write_any<V: ComponentProvider>(
@@ -230,7 +233,7 @@ pub(crate) fn write_any<V: ComponentProvider>(
     current_write_into(component.current(), output, value, state)
 }
 
-/// The same of a component that is not deprecated.
+/// Appends the text of a component that is not deprecated.
 #[inline]
 fn current_write_into<V: ComponentProvider>(
     component: Component,

@@ -2,7 +2,7 @@
 use std::convert::TryFrom;
 use time_below::{ComponentRange, DifferentVariant};
 
-/// Why a value is not formatted.
+/// The reason why a value is not formatted.
 #[derive(Debug, Drop, thiserror::Error)]
 pub enum Format {
     /// A component is of a group that the value does not supply, or an ISO 8601 configuration
@@ -50,7 +50,7 @@ impl TryFrom<Format> for ComponentRange {
     }
 }
 
-/// Why a value is not made or not formatted.
+/// The reason why a value is not made or not formatted.
 #[derive(Debug, Drop, thiserror::Error)]
 pub enum Error {
     /// A value is not formatted.

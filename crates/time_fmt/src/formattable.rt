@@ -29,10 +29,11 @@ pub trait Formattable: ComputeMetadata {
     /// with a grammar; of others nothing is said.
     ghost reads_as: { Self → Facts → List ℕ → Type 0 } = { λ _ _ _. Unit {0} };
 
-    /// Appends the text of the value where there is room for the width. Takes no memory.
+    /// Appends the text of the value. The output needs spare capacity for the width. Allocates
+    /// nothing.
     ///
-    /// Answers the number of bytes appended, or the refusal that ends the text; what was appended
-    /// before it stays.
+    /// Returns the number of bytes appended, or the refusal that ends the text. The bytes appended
+    /// before a refusal stay.
     fn write_into<V: ComponentProvider>(
         &self,
         output: &mut Vec<u8>,
@@ -51,12 +52,12 @@ pub trait Formattable: ComputeMetadata {
             (outcome_of self.now (V.facts value.now)) }
         ensures agrees { V.agrees state.new value.now };
 
-    /// Appends the text of the value. Reserves once if there is too little room: the width, or twice
-    /// the capacity if that is more.
+    /// Appends the text of the value. Reserves once if the spare capacity is below the width: the
+    /// width, or twice the capacity if that is more.
     ///
-    /// Returns the number of bytes appended, or the refusal that ends the text; what was appended
-    /// before it stays. If the reservation fails, or the width has reached the greatest `usize`, the
-    /// result is `OutOfMemory`, and output and state are unchanged.
+    /// Returns the number of bytes appended, or the refusal that ends the text. The bytes appended
+    /// before a refusal stay. If the reservation fails, or the width has reached the greatest
+    /// `usize`, the result is `OutOfMemory`, and output and state are unchanged.
     fn format_into<V: ComponentProvider>(
         &self,
         output: &mut Vec<u8>,
@@ -73,8 +74,8 @@ pub trait Formattable: ComputeMetadata {
             → IsTextIf (Self.is_guaranteed self.now) (outcome_of self.now (V.facts value.now)) }
         ensures agrees { V.agrees state.new value.now }
 
-        // Where there is room the capacity stays, and else it becomes what is needed or twice what it
-        // was, whichever is more.
+        // The capacity is unchanged if the width fits. Else it is what is needed or twice what it
+        // was, the greater of the two.
         ensures in_place { HasRoom output.old (Self.width_of self.now)
             → vec_capacity output.new ≡ vec_capacity output.old }
         ensures grown { vec_capacity output.old ≤ vec_capacity output.new }
@@ -85,7 +86,7 @@ pub trait Formattable: ComputeMetadata {
             → max (2 * vec_capacity output.old) (vec_len output.old + Self.width_of self.now)
             ≤ vec_capacity output.new }
 
-        // `OutOfMemory` changes nothing, and is never returned where there is room.
+        // `OutOfMemory` changes nothing, and is never returned if the width fits.
         ensures unchanged { result ≡ Err Format.OutOfMemory → output.new.items ≡ output.old.items }
         ensures same_capacity { result ≡ Err Format.OutOfMemory
             → vec_capacity output.new ≡ vec_capacity output.old }
@@ -143,8 +144,8 @@ pub trait Formattable: ComputeMetadata {
     }
 }
 
-/// Makes room for so many bytes where it is missing, by one reservation, which at least doubles the
-/// capacity.
+/// Reserves spare capacity for this many bytes if it is missing. One reservation at least doubles
+/// the capacity.
 #[inline]
 fn make_room(output: &mut Vec<u8>, width: usize) -> Result<(), AllocError>
     ensures items { output.new.items ≡ output.old.items }
@@ -167,7 +168,7 @@ fn make_room(output: &mut Vec<u8>, width: usize) -> Result<(), AllocError>
     output.reserve_exact(width.max(capacity.saturating_add(capacity - len)))
 }
 
-/// The bytes as a text, with U+FFFD for what is no character; a text takes no memory.
+/// The bytes as a text, with U+FFFD for what is no character; valid bytes are not copied.
 fn into_text(bytes: Vec<u8>) -> Result<String, Format>
     ensures text { IfOk result (λ text. string_bytes text ≡ lossy_text bytes.items) }
     ensures exact { IfOk result (λ text. IsUtf8 bytes.items → string_bytes text ≡ bytes.items) }

@@ -68,7 +68,7 @@ pub fn owned_items_mean_their_list(items: OwnedItems<'_>)
         (all_of (trees (map owned_tree items.entry.0.now))) }
 {}
 
-/// Two descriptions, of whichever types, whose trees are equal once bytes are read as texts and
+/// Two descriptions, of any types, whose trees are equal once bytes are read as texts and
 /// deprecated components as current ones, append the same bytes and give the same refusal.
 pub fn equal_trees_have_equal_outcomes()
     ensures { EqualTreesHaveEqualOutcomes }
@@ -84,7 +84,7 @@ pub fn list_is_its_items_in_order()
     ensures { ListIsItsItemsInOrder }
 {}
 
-/// Outcomes one after another: whichever are put together first, and the empty text changes nothing.
+/// The order of joins does not matter for outcomes, and the empty text changes nothing.
 pub fn outcomes_are_a_monoid()
     ensures { OutcomesAreAMonoid }
 {}

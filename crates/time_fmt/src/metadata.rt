@@ -5,7 +5,7 @@ ghost use Rattle.time_fmt.specs.Longest.{ReachesWidth};
 
 use time_below::format_description::{Component, Metadata, component_width};
 
-/// Tells what is known of a text before it is written.
+/// A description whose width is known before its text is written.
 pub trait ComputeMetadata {
     /// The most bytes that the text may have, without a bound.
     ghost width_of: { Self → ℕ };

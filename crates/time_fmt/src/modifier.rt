@@ -15,7 +15,7 @@ use time_provide::ComponentProvider;
 /// The choices of one component, whose type says which component it is.
 ///
 /// Each type of choices in `time_below::format_description::modifier` is one, but for those of
-/// deprecated components and of the two that have no text. The impls stand beside the writers of
+/// deprecated components and of the two that have no text. The impls are beside the writers of
 /// their group.
 pub trait Modifier: Copy {
     /// The component with these choices.
@@ -26,14 +26,14 @@ pub trait Modifier: Copy {
     /// The part of a value that the component is taken from.
     const GROUP: Group;
 
-    /// The most bytes that its text has, whatever the value.
+    /// The most bytes of its text, over all values.
     fn width(self) -> usize
         ensures { result ≡ component_width (component_of self) };
 
-    /// Appends its text where there is room for its width, of a value that supplies its group. Takes
-    /// no memory.
+    /// Appends its text, of a value that supplies its group. The output needs spare capacity for
+    /// its width. Allocates nothing.
     ///
-    /// Answers the number of bytes appended, or the refusal of the component, which has no bytes.
+    /// Returns the number of bytes appended, or the refusal of the component, which has no bytes.
     fn write_supplied<V: ComponentProvider>(
         self,
         output: &mut Vec<u8>,
@@ -49,9 +49,9 @@ pub trait Modifier: Copy {
             (supplied_outcome (component_of self) (V.facts value.now)) }
         ensures agrees { V.agrees state.new value.now };
 
-    /// Appends its text where there is room for its width. Takes no memory.
+    /// Appends its text. The output needs spare capacity for its width. Allocates nothing.
     ///
-    /// Answers the number of bytes appended, or the refusal of the component, which has no bytes.
+    /// Returns the number of bytes appended, or the refusal of the component, which has no bytes.
     #[inline(always)]
     final fn write<V: ComponentProvider>(
         self,

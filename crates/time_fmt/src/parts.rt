@@ -1,6 +1,6 @@
 //! Descriptions that are known when they are compiled, by their parts in order.
 //!
-//! A description that stands in the program's text needs no list of items: `text!` makes one of its parts,
+//! A description that is in the program's text needs no list of items: `text!` makes one of its parts,
 //! and the compiler one function of that, with the outcome of the list of the same items. One import has
 //! all that it takes:
 //!
@@ -25,7 +25,7 @@ pub use time_provide::DateState;
 ///
 /// A text in bytes, as `b"-"`, is a [`Literal`]. Any other part is a description: the choices of a
 /// component, a well-known format, a tree, or another `text!`. The parts are put together in pairs, four by
-/// four, so that pairs stand few deep: at a call of a method there may be 32 parts. (With more, the
+/// four, so that pairs are few deep: at a call of a method there may be 32 parts. (With more, the
 /// compiler's search for the impl ends: write a longer text by two calls.)
 #[macro_export]
 macro_rules! text {
@@ -69,7 +69,8 @@ pub const YEAR_CENTURY: modifier::CalendarYearCenturyExtendedRange =
         sign_is_mandatory: false,
     };
 
-/// The same, -99 to 99, as `19`. Every other century is refused.
+/// The calendar year without its last two digits, -99 to 99, as `19`. Every other century is
+/// refused.
 pub const YEAR_CENTURY_STANDARD: modifier::CalendarYearCenturyStandardRange =
     modifier::CalendarYearCenturyStandardRange {
         padding: Padding::Zero,
@@ -143,7 +144,7 @@ pub const ISO_YEAR: modifier::IsoYearFullExtendedRange = modifier::IsoYearFullEx
     sign_is_mandatory: false,
 };
 
-/// The same, -9,999 to 9,999, as `1997`. Every other year is refused.
+/// The year of the week calendar, -9,999 to 9,999, as `1997`. Every other year is refused.
 pub const ISO_YEAR_STANDARD: modifier::IsoYearFullStandardRange =
     modifier::IsoYearFullStandardRange {
         padding: Padding::Zero,
@@ -157,7 +158,8 @@ pub const ISO_YEAR_CENTURY: modifier::IsoYearCenturyExtendedRange =
         sign_is_mandatory: false,
     };
 
-/// The same, -99 to 99, as `19`. Every other century is refused.
+/// The year of the week calendar without its last two digits, -99 to 99, as `19`. Every other
+/// century is refused.
 pub const ISO_YEAR_CENTURY_STANDARD: modifier::IsoYearCenturyStandardRange =
     modifier::IsoYearCenturyStandardRange {
         padding: Padding::Zero,

@@ -1,6 +1,6 @@
-//! Texts appended to a vector that has room for them. No writer takes memory.
+//! Texts appended to a vector with spare capacity for them. No writer allocates.
 //!
-//! Beside the writers of a group stand the impls of [`Modifier`](crate::Modifier) for its components.
+//! The impls of [`Modifier`](crate::Modifier) for a group's components are beside its writers.
 mod century;
 mod date;
 mod decimals;

@@ -4,7 +4,7 @@ use Rattle.time_below.specs.declared.format_description.component.Component.TheV
 use Rattle.time_below.specs.declared.format_description.modifier.Padding.TheVariants as padding
 use Rattle.time_below.specs.Tree.{Trees, text_literal, of_component, end, more}
 
--- year, month, day, hour, minute and second, with zeros, and what stands between them
+-- year, month, day, hour, minute and second, with zeros, and what is between them
 abbrev pub date_time_items : Trees
 date_time_items =
     more (of_component (component.CalendarYearFullExtendedRange

@@ -50,7 +50,7 @@ where
     assert_same(rt, formatted.as_str(), text);
 }
 
-/// The same of one component.
+/// Compares the text of one component, and its width.
 pub(crate) fn assert_component<V: ComponentProvider>(
     rt: &impl Abort,
     alloc: Global,
@@ -72,7 +72,7 @@ where
     );
 }
 
-/// Formats the value with a fresh state behind a byte, and as a text, and compares the refusals. No
+/// Formats the value with a fresh state after a byte, and as a text, and compares the refusals. No
 /// byte is appended.
 pub(crate) fn assert_refused<D: Formattable, V: ComponentProvider>(
     rt: &impl Abort,
@@ -95,7 +95,7 @@ where
     assert_same(rt, refusal_name(&answer), name);
 }
 
-/// Formats the date with a fresh state behind a byte, and compares the bytes before the refusal, and its
+/// Formats the date with a fresh state after a byte, and compares the bytes before the refusal, and its
 /// name. The day is then appended with the same state.
 pub(crate) fn assert_refused_after(
     rt: &impl Abort,

@@ -1,5 +1,5 @@
 -- Formats that have a place for each hour of an offset, and what the usual texts of ISO 8601 have a place for.
-use Rattle.std.proofs.Common.{◌≡◌, ℕ, ◌≤◌, Bool, true, false, ◌&&◌, ◌==◌, List, ◌++◌, refl, ap, ◌∙◌, arith, ℤ, unsigned_abs}
+use Rattle.std.proofs.Common.{◌≡◌, ℕ, ◌≤◌, Bool, true, false, List, ◌++◌, refl, ap, arith, ℤ, unsigned_abs}
 use Rattle.std.proofs.Common.{nat_lt, Option, Some, None}
 use Rattle.std.proofs.lemmas.Bool.Decides.{nat_tests}
 use Rattle.std.proofs.lemmas.Grind.{common_steps}
@@ -33,7 +33,7 @@ usual_passes : (c : Choices) (has_separators : Bool) (digits : Option ℕ) (sign
     → iso_of_groups c d t o ≡ done (usual_text c digits d t o)
 usual_passes c has_separators digits sign d t o e year seconds = grind (arith, common_steps)
 
--- where the year and the offset are accepted, the text of these choices is completed
+-- an accepted year and offset complete the text of these choices
 pub usual_accepted : (c : Choices) (has_separators : Bool) (digits : Option ℕ) (sign : DecimalSign) (d : DateFacts)
     (t : TimeOfDay) (o : Offset) (text : List ℕ) → c ≡ usual_choices has_separators digits sign
     → checked_text 0 25 d.year (unsigned_abs o.hours) (unsigned_abs o.seconds) text ≡ done text

@@ -4,7 +4,7 @@ use Rattle.time_known.specs.Changes.{Field, the_components, the_separators, the_
 use Rattle.time_known.specs.Changes.{the_sign, choice_of, with_choice}
 use Rattle.time_known.specs.Config.{Choices}
 
--- in either order, each of the two fields has its new choice and the others are as they were
+-- the order of two changes does not matter: each of the two fields has its new choice, and the others are unchanged
 pub changes_may_be_exchanged : (f g : Field) → f ≢ g → (x : choice_of f) (y : choice_of g) (c : Choices)
     → with_choice f x (with_choice g y c) ≡ with_choice g y (with_choice f x c)
 changes_may_be_exchanged the_components the_components differ x y c = absurd (differ refl)

@@ -43,7 +43,7 @@ same_precision (precision.Second d) (precision.Hour e) h = cc
 same_precision (precision.Second d) (precision.Minute e) h = cc
 same_precision (precision.Second d) (precision.Second e) h = ap precision.Second (same_decimals d e h)
 
--- and each is found equal to itself
+-- each precision compares as equal to itself
 equal_precision : (a : TimePrecision) → of_time_precision.ghosts.eq a a ≡ true
 equal_precision (precision.Hour d) = equal_decimals d
 equal_precision (precision.Minute d) = equal_decimals d
@@ -85,7 +85,7 @@ same_choices a b h =
     (same_precision _ _ time.0) (same_true offset_precision.the_type tt _ _ offset.0)
     (same_true decimal_sign.the_type tt _ _ offset.1)
 
--- and each is found equal to itself
+-- equal configurations compare as equal
 pub equal_choices : (a b : Choices) → a ≡ b → of_config.ghosts.eq a b ≡ true
 equal_choices a b e = subst (λ (c : Choices). of_config.ghosts.eq a c ≡ true) e
     (rw (

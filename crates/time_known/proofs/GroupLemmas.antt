@@ -27,17 +27,17 @@ of_supplied : {G : Type 0} (group : Option G) (other : G) (outcome : G → Outco
 of_supplied None other outcome h = cc
 of_supplied (Some g) other outcome h = refl
 
--- so does the date of a value that has one, by the name that clauses give it
+-- the outcome by the date of a value that has one, under the name of the clauses
 pub of_the_date : (f : Facts) (outcome : DateFacts → Outcome) → is_some f.date ≡ true
     → of_group f.date outcome ≡ outcome (the_date f)
 of_the_date f outcome h = of_supplied f.date _ outcome h
 
--- and its time of day
+-- the outcome by the time of day of a value that has one, under the name of the clauses
 pub of_the_time : (f : Facts) (outcome : TimeOfDay → Outcome) → is_some f.time ≡ true
     → of_group f.time outcome ≡ outcome (the_time f)
 of_the_time f outcome h = of_supplied f.time _ outcome h
 
--- and its offset
+-- the outcome by the offset of a value that has one, under the name of the clauses
 of_the_offset : (f : Facts) (outcome : Offset → Outcome) → is_some f.offset ≡ true
     → of_group f.offset outcome ≡ outcome (the_offset f)
 of_the_offset f outcome h = of_supplied f.offset _ outcome h
@@ -75,7 +75,7 @@ pub record HasAll (f : Facts) : Type 0 where
   pub time : is_some f.time ≡ true
   pub offset : is_some f.offset ≡ true
 
--- so they are where all three are needed
+-- a value has all three groups if all are needed
 pub has_all : (f : Facts) → has_groups all f ≡ true → HasAll f
 has_all f h =
     let needed = has_needed all f h in

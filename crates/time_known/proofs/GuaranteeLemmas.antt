@@ -1,4 +1,4 @@
--- The texts of the well-known formats are ASCII, and so UTF-8, whatever the numbers in them are.
+-- Texts of the well-known formats are ASCII, and so UTF-8, for any numbers.
 use Rattle.std.proofs.Common.{◌∷◌, ◌≡◌, refl, arith, ℕ, Bool, true, false, List, [], ◌++◌, IsAscii, IsUtf8, Option}
 use Rattle.std.proofs.Common.{Some, None, ℤ, if◌then◌else◌}
 use Rattle.time_digits.specs.Fraction.{trimmed_fraction}
@@ -115,7 +115,7 @@ ruleset texts = (nil, byte, after, either, number, digits, fraction, sign, month
 pub rfc3339_utf8 : (f : Facts) → IsUtf8 (rfc3339_outcome f).bytes
 rfc3339_utf8 f = utf8 (search (of_any, tested, texts) depth 25)
 
--- so are those of RFC 2822
+-- the bytes of each outcome of RFC 2822 are UTF-8
 pub rfc2822_utf8 : (f : Facts) → IsUtf8 (rfc2822_outcome f).bytes
 rfc2822_utf8 f = utf8 (search (of_any, tested, texts) depth 25)
 

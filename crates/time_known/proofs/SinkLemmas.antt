@@ -43,7 +43,7 @@ pub text_appended : {width : ℕ} {old new : Vec ℕ Global} {n : ℕ} {text : L
     → AppendsUpTo width old new (Ok n) (done text)
 text_appended w = record { appends = appends_up_to w; within = omega (arith, w.grown, w.within) }
 
--- a text of at most so many bytes has at most as many as any greater number
+-- a text of at most this many bytes has at most as many as any greater number
 pub wider : {a b : ℕ} {old new : Buffer} {text : List ℕ} → PutsUpTo a old new text → a ≤ b → PutsUpTo b old new text
 wider p h = record {
   put = p.put;

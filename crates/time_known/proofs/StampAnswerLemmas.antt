@@ -74,7 +74,7 @@ pub completed_has_stamp : {old new : Vec ℕ Global} (answer : Result ℕ Format
 completed_has_stamp (Ok n) {v = v} a = has_stamp v (a.appends (λ e. cc)).counted.0 a.spelled
 completed_has_stamp (Err e) a = tt
 
--- and answers 30
+-- a completed call returns 30
 pub completed_length : {old new : Vec ℕ Global} (answer : Result ℕ Format) {v : DateAndTime}
     → Answered old new answer v → IfOk answer (λ count. count ≡ stamp_length)
 completed_length (Ok n) {v = v} a =
@@ -82,7 +82,7 @@ completed_length (Ok n) {v = v} a =
     adds.counted.1 ∙ (stamps_are_completed v (completed_has_stamp (Ok n) a)).has_length
 completed_length (Err e) a = tt
 
--- and the output is longer by that
+-- a completed call makes the output 30 bytes longer
 pub completed_longer : {old new : Vec ℕ Global} (answer : Result ℕ Format) {v : DateAndTime}
     → Answered old new answer v → IfOk answer (λ _. vec_len new ≡ vec_len old + stamp_length)
 completed_longer {old} {new} (Ok n) {v = v} a =
@@ -94,7 +94,7 @@ completed_longer (Err e) a = tt
 named_none : (o : Outcome) (e : Format) → o.refusal ≡ None → IsSomeAnd o.refusal (Names e) → ⊥
 named_none o e none named = subst (λ (r : Option Refusal). IsSomeAnd r (Names e)) none named
 
--- with memory, a call is completed exactly for a year of four digits
+-- a call that is not out of memory is completed exactly for a year of four digits
 pub completed_years : {old new : Vec ℕ Global} (answer : Result ℕ Format) {v : DateAndTime}
     → Answered old new answer v → answer ≢ no_memory → IsOk answer ↔ IsStampYear v.date.year
 completed_years (Ok n) a some = (λ _. (completed_has_stamp (Ok n) a).year, λ _. refl)
@@ -118,7 +118,7 @@ names_year : (old new : Vec ℕ Global) (v : DateAndTime) (e : Format) → Adds 
 names_year old new v e adds =
     subst (λ (o : Outcome). IsSomeAnd o.refusal (Names e)) (refused_year old new v e adds) adds.named
 
--- and no byte is appended
+-- a refused stamp adds no byte
 adds_nothing : (old new : Vec ℕ Global) (v : DateAndTime) (e : Format) → Adds old new (Err e) (stamp_of v)
     → new.items ≡ old.items
 adds_nothing old new v e adds =
@@ -129,7 +129,7 @@ adds_nothing old new v e adds =
 not_memory : {e : Format} → e ≢ error.OutOfMemory → ◌≢◌ {A = Result ℕ Format} (Err e) no_memory
 not_memory {e} other same = other cc
 
--- so an error names the year
+-- an error that is not out of memory names the year
 pub year_named : {old new : Vec ℕ Global} (answer : Result ℕ Format) {v : DateAndTime}
     → Answered old new answer v
     → IfErr answer (λ e. e ≢ error.OutOfMemory → Names e (invalid_component (codes "year")))
@@ -137,7 +137,7 @@ year_named (Ok n) a = tt
 year_named {old} {new} (Err e) {v = v} a =
     λ other. names_year old new v e (a.appends (not_memory other))
 
--- and appends nothing
+-- a call that returns an error appends nothing
 pub refused_unchanged : {old new : Vec ℕ Global} (answer : Result ℕ Format) {v : DateAndTime}
     → Answered old new answer v → OnErr answer (new.items ≡ old.items)
 refused_unchanged (Ok n) a = tt

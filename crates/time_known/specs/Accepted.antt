@@ -16,7 +16,7 @@ component_name out.OffsetSecond = codes "offset_second"
 abbrev pub refused_for : OutOfRange → Outcome
 refused_for component = refused (invalid_component (component_name component))
 
--- the text, if the year is from the first to 9,999, and the offset has at most so many hours and no seconds
+-- the text, if the year is from the first to 9,999, and the offset has at most this many hours and no seconds
 abbrev pub checked_text : ℕ → ℕ → ℤ → ℕ → ℕ → List ℕ → Outcome
 checked_text first greatest_hour year hour second text =
     refused_if (is_outside first 9_999 year) (codes "year")

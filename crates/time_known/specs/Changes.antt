@@ -26,7 +26,7 @@ choice_of the_time = TimePrecision
 choice_of the_offset = OffsetPrecision
 choice_of the_sign = DecimalSign
 
--- the same choices, but for one field
+-- the choices with one field changed
 abbrev pub with_choice : (f : Field) → choice_of f → Choices → Choices
 with_choice the_components x c = record c { formatted_components = x }
 with_choice the_separators x c = record c { use_separators = x }

@@ -5,6 +5,7 @@ use Rattle.time_below.specs.Offset.{Offset, is_negative, is_utc}
 use Rattle.time_below.specs.TimeOfDay.{TimeOfDay}
 use Rattle.time_digits.specs.Digits.{zero_padded}
 use Rattle.time_fmt.specs.Text.{sign_text}
+use Rattle.time_known.specs.Days.{month_and_day}
 use Rattle.time_known.specs.declared.fields.Fields.{Fields}
 use Rattle.time_known.specs.declared.fields.OffsetFields.{OffsetFields}
 use Rattle.time_known.specs.declared.fields.TimeFields.{TimeFields}
@@ -23,7 +24,25 @@ offset_fields o = record {
   seconds = unsigned_abs o.seconds;
 }
 
-abbrev pub fields : DateFacts → TimeOfDay → Offset → Fields
+-- what fields show, by the month and the day
+pub record Shown : Type 0 where
+  pub year : ℕ
+  pub month : ℕ
+  pub day : ℕ
+  pub time : TimeFields
+  pub offset : OffsetFields
+
+abbrev pub shown : Fields → Shown
+shown f = record {
+  year = f.year;
+  month = (month_and_day f.date).month;
+  day = (month_and_day f.date).day;
+  time = f.time;
+  offset = f.offset;
+}
+
+-- what those of a value show
+abbrev pub fields : DateFacts → TimeOfDay → Offset → Shown
 fields d t o = record {
   year = unsigned_abs d.year;
   month = d.month;
@@ -39,7 +58,7 @@ time_of_day t = record { hour = t.hour; minute = t.minute; second = t.second; na
 -- ---- texts
 
 -- the year, the month and the day, and the separator between them
-abbrev pub date_of_fields : List ℕ → Fields → List ℕ
+abbrev pub date_of_fields : List ℕ → Shown → List ℕ
 date_of_fields separator f =
     zero_padded 4 f.year ++ (separator ++ zero_padded 2 f.month ++ separator ++ zero_padded 2 f.day)
 

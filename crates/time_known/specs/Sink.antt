@@ -2,7 +2,7 @@
 use base.Fml.{GName}
 use Rattle.std.specs.Prelude.{ℕ, ◌≡◌, ◌+◌, ◌≤◌, ◌++◌, List, length, drop, Option}
 
--- the bytes, their number, how many there may be, what stands behind them, and what all that is borrowed from
+-- the bytes, their number, how many there may be, what follows them, and what all that is borrowed from
 pub record Buffer : Type 0 where
   pub bytes : List ℕ
   pub len : ℕ
@@ -10,11 +10,11 @@ pub record Buffer : Type 0 where
   pub rest : List ℕ
   pub lender : Option GName
 
--- so many more bytes fit
+-- this many more bytes fit
 abbrev pub Fits : ℕ → Buffer → Type 0
 Fits width buffer = buffer.len + width ≤ buffer.capacity
 
--- The text was put behind the bytes. The capacity stays, so that what fits afterwards is less by the length of
+-- The text was put after the bytes. The capacity stays, so that what fits afterwards is less by the length of
 -- the text.
 pub record Puts (old new : Buffer) (text : List ℕ) : Type 0 where
   pub put : new.bytes ≡ old.bytes ++ text
@@ -23,7 +23,7 @@ pub record Puts (old new : Buffer) (text : List ℕ) : Type 0 where
   pub rest : new.rest ≡ drop (length text) old.rest
   pub lender : new.lender ≡ old.lender
 
--- the same, of a text of at most so many bytes
+-- a text of at most this many bytes was put
 pub record PutsUpTo (width : ℕ) (old new : Buffer) (text : List ℕ) : Type 0 where
   pub put : new.bytes ≡ old.bytes ++ text
   pub grown : new.len ≡ old.len + length text
@@ -32,7 +32,7 @@ pub record PutsUpTo (width : ℕ) (old new : Buffer) (text : List ℕ) : Type 0 
   pub lender : new.lender ≡ old.lender
   pub within : length text ≤ width
 
--- the same, of a text of just so many bytes
+-- a text of exactly this many bytes was put
 pub record PutsJust (width : ℕ) (old new : Buffer) (text : List ℕ) : Type 0 where
   pub put : new.bytes ≡ old.bytes ++ text
   pub grown : new.len ≡ old.len + width

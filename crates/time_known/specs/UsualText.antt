@@ -1,21 +1,25 @@
--- The text of ISO 8601 by the configurations that most callers ask for, of a value of which nothing is refused.
-use Rattle.std.specs.Prelude.{ℕ, ◌++◌, Bool, false, List, codes, Option, unsigned_abs, if◌then◌else◌}
+-- The text of ISO 8601 by the usual configurations, of a value of which nothing is refused.
+use Rattle.std.specs.Prelude.{ℕ, ◌≡◌, ◌++◌, Bool, false, List, codes, Option, Some, None, IfSome, unsigned_abs, if◌then◌else◌}
 use Rattle.time_below.specs.Facts.{DateFacts}
 use Rattle.time_below.specs.Offset.{Offset, is_utc}
 use Rattle.time_below.specs.TimeOfDay.{TimeOfDay}
 use Rattle.time_digits.specs.Digits.{zero_padded}
 use Rattle.time_known.specs.Config.{Choices, separator}
-use Rattle.time_known.specs.Fields.{date_of_fields, offset_of_fields, time_of_day}
+use Rattle.time_known.specs.Fields.{Shown, date_of_fields, offset_of_fields, time_of_day}
 use Rattle.time_known.specs.Iso8601.{decimal_part}
 use Rattle.time_known.specs.WellKnown.{month_and_day_text, clock_text, offset_text}
-use Rattle.time_known.specs.declared.fields.Fields.{Fields}
+use Rattle.time_known.specs.declared.iso8601.config.DateKind.{DateKind}
 use Rattle.time_known.specs.declared.iso8601.config.DateKind.TheVariants as kind
 use Rattle.time_known.specs.declared.iso8601.config.DecimalSign.{DecimalSign}
+use Rattle.time_known.specs.declared.iso8601.config.FormattedComponents.{FormattedComponents}
 use Rattle.time_known.specs.declared.iso8601.config.FormattedComponents.TheVariants as components
+use Rattle.time_known.specs.declared.iso8601.config.OffsetPrecision.{OffsetPrecision}
 use Rattle.time_known.specs.declared.iso8601.config.OffsetPrecision.TheVariants as offset_precision
+use Rattle.time_known.specs.declared.iso8601.config.TimePrecision.{TimePrecision}
 use Rattle.time_known.specs.declared.iso8601.config.TimePrecision.TheVariants as precision
+use Rattle.time_known.specs.declared.iso8601.config.Usual.{Usual}
 
--- the month and the day behind four digits of the year, the time to the second or to decimals of it, and the offset to
+-- the month and the day after four digits of the year, the time to the second or to decimals of it, and the offset to
 -- the minute
 abbrev pub usual_choices : Bool → Option ℕ → DecimalSign → Choices
 usual_choices has_separators decimal_digits decimal_sign = record {
@@ -27,6 +31,22 @@ usual_choices has_separators decimal_digits decimal_sign = record {
   offset_precision = offset_precision.Minute;
   decimal_sign = decimal_sign;
 }
+
+-- what is left to choose, where the rest is chosen so
+abbrev pub left_of : FormattedComponents → DateKind → TimePrecision → OffsetPrecision → Bool → Bool → DecimalSign
+    → Option Usual
+left_of components.DateTimeOffset kind.Calendar (precision.Second digits) offset_precision.Minute false separators sign =
+    Some (record { has_separators = separators; decimal_digits = digits; decimal_sign = sign })
+left_of _ _ _ _ _ _ _ = None
+
+abbrev pub usual_of : Choices → Option Usual
+usual_of c =
+    left_of c.formatted_components c.date_kind c.time_precision c.offset_precision c.year_is_six_digits c.use_separators
+    c.decimal_sign
+
+-- what is left to choose, if anything is, decides all choices
+abbrev pub IsUsual : Choices → Option Usual → Type 0
+IsUsual c usual = IfSome usual (λ u. c ≡ usual_choices u.has_separators u.decimal_digits u.decimal_sign)
 
 -- the parts of such a text
 abbrev pub usual_date_text : List ℕ → DateFacts → List ℕ
@@ -45,8 +65,8 @@ usual_text c digits d t o =
     ++ usual_time_text (separator c (codes ":")) c.decimal_sign digits t
     ++ usual_offset_text (separator c (codes ":")) o
 
--- the same text by the fields of the value
-abbrev pub usual_of_fields : Choices → Option ℕ → Fields → List ℕ
+-- the text by the fields of the value
+abbrev pub usual_of_fields : Choices → Option ℕ → Shown → List ℕ
 usual_of_fields c digits f =
     date_of_fields (separator c (codes "-")) f
     ++ usual_time_text (separator c (codes ":")) c.decimal_sign digits (time_of_day f.time)

@@ -10,7 +10,7 @@ ghost use Rattle.time_known.specs.Groups.{AreAllSupplied};
 use time_digits::ru16;
 use time_provide::ComponentProvider;
 
-/// A component of a value for which a format has no place.
+/// A component of a value that a format refuses.
 #[derive(Debug, Clone, Copy)]
 pub enum OutOfRange {
     /// A year before the first of the format, or past 9,999 where it has four digits.
@@ -38,7 +38,7 @@ impl OutOfRange {
 }
 
 /// The year as a number of four digits, if it is from the first to 9,999, and the offset has at most
-/// so many hours and no seconds. Else the first of them that has no place.
+/// this many hours and no seconds. Else the first of them that is refused.
 #[inline(always)]
 pub fn accepted_year(
     first: u16,
@@ -66,7 +66,7 @@ pub fn accepted_year(
     Ok(ru16::within(year.unsigned_abs() as u16))
 }
 
-// The same of the date and the offset of a value.
+// Returns the accepted year of a value, by its date and its offset, or what is refused first.
 #[inline]
 pub(crate) fn accepted_year_of<V: ComponentProvider>(
     first: u16,

@@ -2,12 +2,13 @@
 ghost use Rattle.std.specs.Prelude.{◌≡◌, IsTrue, unsigned_abs};
 ghost use Rattle.time_below.specs.Facts.{the_date, the_time, the_offset};
 ghost use Rattle.time_provide.specs.Real.{AgreesOnOffset, AgreesOnTime};
-ghost use Rattle.time_known.specs.Fields.{fields, offset_fields, time_fields};
+ghost use Rattle.time_known.specs.Fields.{fields, offset_fields, shown, time_fields};
 ghost use Rattle.time_known.specs.Groups.{AreAllSupplied, at_groups};
 
+use crate::days::CalendarDay;
 use time_digits::{ru8, ru16};
 use time_provide::ComponentProvider;
-use time_provide::ranges::{Day, Hours, Minutes, Nanoseconds, Seconds};
+use time_provide::ranges::{Hours, Minutes, Nanoseconds, Seconds};
 
 /// The fields of a time of day.
 #[derive(Clone, Copy)]
@@ -42,18 +43,15 @@ pub struct OffsetFields {
 pub struct Fields {
     /// The year.
     pub year: ru16<0, 9_999>,
-    /// The month, 1 to 12.
-    pub month: ru8<1, 12>,
-    /// The day of the month.
-    pub day: Day,
+    /// The month and the day.
+    pub date: CalendarDay,
     /// The time of day.
     pub time: TimeFields,
     /// The offset.
     pub offset: OffsetFields,
 }
 
-// The fields of the value's date, which is of this year, its time and its offset. The day is read
-// first, since its computation gives the month too.
+// The fields of the value's date, which is of this year, its time and its offset.
 #[inline(always)]
 pub(crate) fn fields_of<V: ComponentProvider>(
     year: ru16<0, 9_999>,
@@ -63,17 +61,15 @@ pub(crate) fn fields_of<V: ComponentProvider>(
     requires supplied { AreAllSupplied V.SUPPLIES_DATE V.SUPPLIES_TIME V.SUPPLIES_OFFSET }
     requires year { year ≡ unsigned_abs (the_date (V.facts value.now)).year }
     requires agrees { V.agrees state.old value.now }
-    ensures fields { result ≡ at_groups fields (V.facts value.now) }
+    ensures fields { shown result ≡ at_groups fields (V.facts value.now) }
     ensures agrees { AgreesOnTime (V.agrees state.new value.now) (V.facts value.now) }
 {
-    let day = value.day(state);
-    let month = ru8::within(u8::from(value.month(state)));
+    let date = CalendarDay::in_year(year, value.ordinal(state));
     let offset = offset_of(value, state);
     let time = time_of(value, state);
     Fields {
         year,
-        month,
-        day,
+        date,
         time,
         offset,
     }

@@ -5,10 +5,12 @@ ghost use Rattle.time_digits.specs.Digits.{fixed, zero_padded};
 ghost use Rattle.time_digits.specs.Fraction.{trimmed_fraction};
 ghost use Rattle.time_fmt.specs.Decimals.{decimals};
 ghost use Rattle.time_fmt.specs.DateText.{month_name, weekday_name, short_name};
-ghost use Rattle.time_known.specs.Fields.{date_of_fields, hours_of_fields, offset_of_fields, signed_offset_of_fields, time_of_day};
+ghost use Rattle.time_known.specs.Days.{month_and_day};
+ghost use Rattle.time_known.specs.Fields.{date_of_fields, hours_of_fields, offset_of_fields, shown, signed_offset_of_fields, time_of_day};
 ghost use Rattle.time_known.specs.Sink.{Fits, Puts, PutsJust, PutsUpTo};
 ghost use Rattle.time_known.specs.WellKnown.{clock_text};
 
+use crate::days::CalendarDay;
 use crate::fields::{Fields, OffsetFields, TimeFields};
 use crate::sink::Sink;
 use time_below::Weekday;
@@ -147,49 +149,27 @@ pub fn put_date<S: Sink>(output: &mut S, fields: &Fields, separator: &str)
     requires room { Fits (8 + 2 * length separator.now) (S.buffer output.old) }
     ensures puts { PutsUpTo (8 + 2 * length separator.now)
         (S.buffer output.old) (S.buffer output.new)
-        (date_of_fields separator.now fields.now) }
+        (date_of_fields separator.now (shown fields.now)) }
 {
+    let (month, day) = fields.date.digits();
     put_four_digits(output, fields.year);
     output.put(separator);
-    put_pair(output, fields.month.expand());
+    output.put(month);
     output.put(separator);
-    put_pair(output, fields.day.expand());
+    output.put(day);
 }
 
 /// Puts the first three letters of the month's English name.
 #[inline(always)]
 #[tactic(auto, using(crate::proofs::LengthLemmas::joined_lengths))]
-pub fn put_month_name<S: Sink>(output: &mut S, month: ru8<1, 12>)
+pub fn put_month_name<S: Sink>(output: &mut S, date: CalendarDay)
     requires room { Fits 3 (S.buffer output.old) }
     ensures puts { PutsJust 3 (S.buffer output.old) (S.buffer output.new)
-        (short_name (month_name month)) }
+        (short_name (month_name (month_and_day date).month)) }
 {
-    let (first, rest) = month_letters(month);
+    let (first, rest) = date.month_letters();
     output.put(first);
     output.put(rest);
-}
-
-// The first letter of the month's English name, and the next two.
-#[inline(always)]
-fn month_letters(month: ru8<1, 12>) -> (&'static str, &'static str)
-    ensures text { result.0.now ++ result.1.now ≡ short_name (month_name month) }
-    ensures first { length result.0.now ≡ 1 }
-    ensures rest { length result.1.now ≡ 2 }
-{
-    match month.get() {
-        1 => ("J", "an"),
-        2 => ("F", "eb"),
-        3 => ("M", "ar"),
-        4 => ("A", "pr"),
-        5 => ("M", "ay"),
-        6 => ("J", "un"),
-        7 => ("J", "ul"),
-        8 => ("A", "ug"),
-        9 => ("S", "ep"),
-        10 => ("O", "ct"),
-        11 => ("N", "ov"),
-        _ => ("D", "ec"),
-    }
 }
 
 /// Puts the first three letters of the weekday's English name.

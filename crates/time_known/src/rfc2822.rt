@@ -1,6 +1,7 @@
 //! RFC 2822.
 ghost use Rattle.std.specs.Prelude.{true};
 ghost use Rattle.time_below.specs.Weekday.{days_from_monday};
+ghost use Rattle.time_known.specs.Fields.{shown};
 ghost use Rattle.time_known.specs.Longest.{FillsRfc2822Width};
 ghost use Rattle.time_known.specs.ReadBack.{ReadsAs};
 ghost use Rattle.time_known.specs.Rfc2822.{rfc2822_of_fields, rfc2822_outcome, named_date_of_fields, day_of_fields};
@@ -11,9 +12,7 @@ ghost use Rattle.time_known.specs.Sink.{Fits, PutsUpTo};
 use crate::accepted::accepted_year_of;
 use crate::fields::{Fields, fields_of};
 use crate::groups::Groups;
-use crate::put::{
-    put_clock, put_four_digits, put_month_name, put_pair, put_signed_offset, put_weekday_name,
-};
+use crate::put::{put_clock, put_four_digits, put_month_name, put_signed_offset, put_weekday_name};
 use crate::sink::{Sink, Text, append};
 use time_below::Weekday;
 use time_fmt::{ComputeMetadata, Format, Formattable, Metadata};
@@ -81,7 +80,7 @@ pub struct Rfc2822Text {
 impl Text for Rfc2822Text {
     ghost width = { λ _. rfc2822_width };
 
-    ghost text = { λ t. rfc2822_of_fields (days_from_monday t.weekday) t.fields };
+    ghost text = { λ t. rfc2822_of_fields (days_from_monday t.weekday) (shown t.fields) };
 
     #[inline(always)]
     fn put_into<S: Sink>(&self, output: &mut S) {
@@ -94,7 +93,7 @@ impl Text for Rfc2822Text {
 fn put_rfc2822<S: Sink>(output: &mut S, weekday: Weekday, fields: &Fields)
     requires room { Fits rfc2822_width (S.buffer output.old) }
     ensures puts { PutsUpTo rfc2822_width (S.buffer output.old) (S.buffer output.new)
-        (rfc2822_of_fields (days_from_monday weekday) fields.now) }
+        (rfc2822_of_fields (days_from_monday weekday) (shown fields.now)) }
 {
     put_named_date(output, weekday, fields);
     output.put(" ");
@@ -109,7 +108,7 @@ fn put_rfc2822<S: Sink>(output: &mut S, weekday: Weekday, fields: &Fields)
 fn put_named_date<S: Sink>(output: &mut S, weekday: Weekday, fields: &Fields)
     requires room { Fits named_date_width (S.buffer output.old) }
     ensures puts { PutsUpTo named_date_width (S.buffer output.old) (S.buffer output.new)
-        (named_date_of_fields (days_from_monday weekday) fields.now) }
+        (named_date_of_fields (days_from_monday weekday) (shown fields.now)) }
 {
     put_weekday_name(output, weekday);
     output.put(", ");
@@ -122,11 +121,12 @@ fn put_named_date<S: Sink>(output: &mut S, weekday: Weekday, fields: &Fields)
 fn put_day<S: Sink>(output: &mut S, fields: &Fields)
     requires room { Fits date_width (S.buffer output.old) }
     ensures puts { PutsUpTo date_width (S.buffer output.old) (S.buffer output.new)
-        (day_of_fields fields.now) }
+        (day_of_fields (shown fields.now)) }
 {
-    put_pair(output, fields.day.expand());
+    let (_, day) = fields.date.digits();
+    output.put(day);
     output.put(" ");
-    put_month_name(output, fields.month);
+    put_month_name(output, fields.date);
     output.put(" ");
     put_four_digits(output, fields.year);
 }

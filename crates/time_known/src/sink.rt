@@ -1,4 +1,4 @@
-//! Where texts are put, piece by piece, and the texts that are put there.
+//! Sinks of texts, and the texts that are put into them, piece by piece.
 ghost use Rattle.std.specs.Prelude.{◌≡◌, ◌<◌, ◌≤◌, ℕ, List, length};
 ghost use Rattle.time_fmt.specs.Decimals.{decimals};
 ghost use Rattle.time_fmt.specs.Room.{HasRoom, Writes, WritesUpTo};
@@ -8,12 +8,12 @@ use crate::pieces::{put_back, take_out};
 use time_digits::ru8;
 use time_fmt::writers::{format_decimals, write};
 
-/// Where a text is put, piece by piece.
+/// A sink of a text, piece by piece.
 pub trait Sink {
     /// What it holds, and how much it can.
     ghost buffer: { Self → Buffer };
 
-    /// Puts a piece behind what the sink holds.
+    /// Puts a piece after what the sink holds.
     fn put(&mut self, piece: &str)
         requires room { Fits (length piece.now) (buffer self.old) }
         ensures puts { Puts (buffer self.old) (buffer self.new) piece.now };
@@ -28,7 +28,7 @@ pub trait Sink {
 
 /// A text that is not written yet.
 pub trait Text {
-    /// The most bytes of the text, for which a sink needs room.
+    /// The most bytes of the text, which must fit the sink.
     ghost width: { Self → ℕ };
 
     /// Its bytes.
@@ -81,7 +81,7 @@ fn put_long(output: &mut Vec<u8>, piece: &str)
     put_back(output, taken);
 }
 
-// Appends the text, in pieces that are inlined, and answers the number of its bytes.
+// Appends the text, in pieces that are inlined, and returns the number of its bytes.
 #[inline(always)]
 pub(crate) fn append<T: Text>(output: &mut Vec<u8>, text: &T) -> usize
     requires room { HasRoom output.old (T.width text.now) }

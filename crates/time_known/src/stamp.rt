@@ -15,7 +15,7 @@ use time_provide::DateState;
 /// earlier moment.
 ///
 /// Returns 30, the number of bytes appended. A year outside 0 to 9,999 is refused as the component
-/// `year`, and nothing is appended. Reserves once if there is no room for the 35 bytes of the format's
+/// `year`, and nothing is appended. Reserves once if the spare capacity is below the 35 bytes of the format's
 /// width. If that fails, the result is `OutOfMemory`, and the output is unchanged.
 pub fn stamp_into(output: &mut Vec<u8>, value: &UtcDateTime) -> Result<usize, Format>
     ensures appended { IfOk result
@@ -31,14 +31,14 @@ pub fn stamp_into(output: &mut Vec<u8>, value: &UtcDateTime) -> Result<usize, Fo
         → Names e (invalid_component (codes "year"))) }
     ensures unchanged { OnErr result (output.new.items ≡ output.old.items) }
 
-    // Where there is room the capacity stays, and else it grows to what is needed or is doubled.
+    // The capacity is unchanged if the width fits. Else it grows to what is needed or is doubled.
     ensures in_place { HasRoom output.old stamp_width
         → vec_capacity output.new ≡ vec_capacity output.old }
     ensures grown { vec_capacity output.old ≤ vec_capacity output.new }
     ensures bounded { vec_capacity output.new
         ≤ max (2 * vec_capacity output.old) (vec_len output.old + stamp_width) }
 
-    // `OutOfMemory` leaves the capacity unchanged, and is never returned where there is room.
+    // `OutOfMemory` leaves the capacity unchanged, and is never returned if the width fits.
     ensures same_capacity { result ≡ Err Format.OutOfMemory
         → vec_capacity output.new ≡ vec_capacity output.old }
     ensures room { HasRoom output.old stamp_width → result ≢ Err Format.OutOfMemory }

@@ -1,5 +1,5 @@
-//! The longest example in a vector of exactly the width, by each format and each choice, and the stamp
-//! that finds no room behind another one.
+//! The longest example in a vector of exactly the width, by each format and each choice, and a
+//! stamp that does not fit after another one.
 ghost use Rattle.std.specs.Prelude.{◌≡◌, ◌≤◌, IfOk, vec_capacity};
 
 use crate::texts::{assert_same, assert_that};
@@ -49,7 +49,7 @@ fn each_format_fills_its_width(rt: HostRuntime) -> Result<(), Fail> {
     Ok(())
 }
 
-/// A caller that proves the room of each part by the widths that the configuration tells.
+/// Appends the parts, and proves the capacity for each by the widths of the configuration.
 fn append_parts(
     config: &Config,
     output: &mut Vec<u8>,
@@ -135,7 +135,7 @@ fn each_choice_of_an_offset_fills_its_width(rt: HostRuntime) -> Result<(), Fail>
     Ok(())
 }
 
-/// Two stamps have 60 bytes, whether or not there was room: what a caller learns from `stamp_into`.
+/// Two stamps have 60 bytes, with or without a reservation: what a caller learns from `stamp_into`.
 fn two_stamps(output: &mut Vec<u8>, value: &UtcDateTime) -> Result<usize, Format>
     ensures count { IfOk result (λ count. count ≡ 60) }
     ensures grown { vec_capacity output.old ≤ vec_capacity output.new }
@@ -146,7 +146,7 @@ fn two_stamps(output: &mut Vec<u8>, value: &UtcDateTime) -> Result<usize, Format
     Ok(output.len() - before)
 }
 
-/// The second stamp makes room where the first left too little.
+/// The second stamp reserves if the first left too little capacity.
 #[test]
 fn a_stamp_makes_room_behind_another(rt: HostRuntime) -> Result<(), Fail> {
     let value = longest(&rt);

@@ -51,7 +51,7 @@ fn format_by(choices: &Choices) -> Iso8601 {
     Iso8601::new(config)
 }
 
-/// The default with these parts alone.
+/// The default configuration with these parts alone.
 fn with_parts(parts: Parts) -> Config {
     Config::default().set_formatted_components(parts)
 }
@@ -89,7 +89,7 @@ where
     }
 }
 
-/// The same by the choices of a row. The text fills the width.
+/// Compares the text by the choices of a row. The text fills the width.
 fn assert_row<V: ComponentProvider>(
     rt: &impl Abort,
     alloc: Global,
@@ -254,7 +254,7 @@ const DECIMALS: &[Decimals] = &[
     ((0, 0, 0, 1), Second, ("00:00:00.", "000000001", b'0')),
 ];
 
-/// Formats the time, with separators and by either decimal sign, and compares so many decimals.
+/// Formats the time, with separators and by either decimal sign, and compares this many decimals.
 fn assert_decimals(
     rt: &impl Abort,
     alloc: Global,

@@ -130,7 +130,7 @@ fn refuses_a_year_past_9999_or_below_0(rt: HostRuntime) -> Result<(), Fail> {
     Ok(())
 }
 
-/// Room for 35 bytes is kept, and where it is missing the output grows once.
+/// Spare capacity of 35 bytes is kept, and the output grows once if it is missing.
 #[test]
 fn a_stamp_keeps_room_for_35_bytes(rt: HostRuntime) -> Result<(), Fail> {
     let good = utc(&rt, ((1970, 1, 1), (0, 0, 0, 0)));

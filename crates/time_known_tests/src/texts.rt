@@ -44,7 +44,7 @@ where
     assert_same(rt, formatted.as_str(), text);
 }
 
-/// Formats the value with a fresh state behind a byte, and as a text, and compares the refusals. No
+/// Formats the value with a fresh state after a byte, and as a text, and compares the refusals. No
 /// byte is appended.
 pub(crate) fn assert_refused<D: Formattable, V: ComponentProvider>(
     rt: &impl Abort,

@@ -1,5 +1,4 @@
--- What a call of a provider keeps and shows: the state agrees with the value, and the group that was
--- asked is real.
+-- What a call of a provider keeps and shows: the state agrees with the value, and the group of the method is real.
 use Rattle.std.specs.Prelude.{◌≡◌}
 use Rattle.time_below.specs.Calendar.{OrdinalDate, IsDate}
 use Rattle.time_below.specs.Facts.{Facts, DateFacts, date_facts, the_date, the_time, the_offset, the_moment}
@@ -21,17 +20,17 @@ pub record AgreesOnDate (Agrees : Type 0) (f : Facts) : Type 0 where
   pub agrees : Agrees
   pub real : AreFactsOfDate (the_date f)
 
--- the same of the time of day
+-- the state agrees with the value, and the time of day is real
 pub record AgreesOnTime (Agrees : Type 0) (f : Facts) : Type 0 where
   pub agrees : Agrees
   pub real : IsTimeOfDay (the_time f)
 
--- of the offset
+-- the state agrees with the value, and the offset is real
 pub record AgreesOnOffset (Agrees : Type 0) (f : Facts) : Type 0 where
   pub agrees : Agrees
   pub real : IsOffset (the_offset f)
 
--- and of the moment
+-- the state agrees with the value, and the moment is real
 pub record AgreesOnMoment (Agrees : Type 0) (f : Facts) : Type 0 where
   pub agrees : Agrees
   pub real : IsNearMoment (the_moment f)

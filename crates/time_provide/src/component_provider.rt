@@ -34,22 +34,22 @@ pub trait ComponentProvider {
 
     ghost SUPPLIES_DATE: { Bool };
 
-    /// Whether the value has a date, and the first nine methods answer.
+    /// Whether the value has a date, which the first nine methods supply.
     const SUPPLIES_DATE: bool;
 
     ghost SUPPLIES_TIME: { Bool };
 
-    /// Whether the value has a time of day, and the next five methods answer.
+    /// Whether the value has a time of day, which the next five methods supply.
     const SUPPLIES_TIME: bool;
 
     ghost SUPPLIES_OFFSET: { Bool };
 
-    /// Whether the value has an offset from UTC, and the next five methods answer.
+    /// Whether the value has an offset from UTC, which the next five methods supply.
     const SUPPLIES_OFFSET: bool;
 
     ghost SUPPLIES_TIMESTAMP: { Bool };
 
-    /// Whether the value is a moment, and the last two methods answer.
+    /// Whether the value is a moment, which the last two methods supply.
     const SUPPLIES_TIMESTAMP: bool;
 
     /// The day of the month, 1 to 31.

@@ -1,4 +1,4 @@
-//! What a value supplies to a description, method by method. No call takes memory.
+//! Values supplied to a description, method by method. No call allocates.
 //!
 //! What is read into `_in_range` shows that a value is in its ranges, and costs no instruction.
 #![tactic(auto)]

@@ -23,7 +23,7 @@ const STAMP: &str = "1997-11-12T09:55:06-06:00";
 enum Came {
     /// The right text at once.
     Right,
-    /// Out of memory, which changed nothing, and then the right text.
+    /// `OutOfMemory` that changed nothing, and then the right text.
     RightAfterRefusal,
     /// Anything else.
     Wrong,

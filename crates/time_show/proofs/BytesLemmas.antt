@@ -11,7 +11,7 @@ use Rattle.memchr.specs.Find.{IsFirstByte}
 no_both : (b : Bool) → b ≡ true → b ≡ false → ⊥
 no_both b holds fails = cc
 
--- where an element passes, the first one is the answer
+-- the first element that passes is the answer, if one does
 some_position : (p : ℕ → Bool) (xs : List ℕ) (i : ℕ) → i < length xs → position_or_len p xs ≡ i → Some i ≡ position p xs
 some_position p xs i inside e = grind (arith, common_steps)
 

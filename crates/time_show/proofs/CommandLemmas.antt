@@ -18,13 +18,13 @@ ten : (xs : List ℤ) (d : ℤ) → length xs ≡ 10 → date_time_numbers (Some
 ten (a ∷ b ∷ c ∷ e ∷ f ∷ g ∷ h ∷ i ∷ j ∷ k ∷ []) d len = refl
 ten xs d len = absurd (grind arith)
 
--- as many numbers as are asked for are all of them
+-- a list of exactly `count` numbers is all of them
 exactly-Some : (count : ℕ) (numbers : Option (List ℤ)) (xs : List ℤ) → Some xs ≡ exactly count numbers
     → (numbers ≡ Some xs) × (length xs ≡ count)
 exactly-Some count None xs e = absurd (cc)
 exactly-Some count (Some ys) xs e = (grind arith, grind arith)
 
--- where a line has ten numbers, they are those of a date and time
+-- ten numbers of a line are those of a date and time
 pub ten_numbers : (numbers : Option (List ℤ)) (xs : List ℤ) (d : ℤ) → Some xs ≡ exactly 10 numbers
     → date_time_numbers numbers ≡ Some (date_time_at xs d)
 ten_numbers numbers xs d e = let all = exactly-Some 10 numbers xs e in rw all.0 (ten xs d all.1)
@@ -41,7 +41,7 @@ seven : (xs : List ℤ) (d : ℤ) → length xs ≡ 7 → utc_numbers (Some xs) 
 seven (a ∷ b ∷ c ∷ e ∷ f ∷ g ∷ h ∷ []) d len = refl
 seven xs d len = absurd (grind arith)
 
--- where a line has seven numbers, they are those of a date and time in UTC
+-- seven numbers of a line are those of a date and time in UTC
 pub seven_numbers : (numbers : Option (List ℤ)) (xs : List ℤ) (d : ℤ) → Some xs ≡ exactly 7 numbers
     → utc_numbers numbers ≡ Some (utc_at xs d)
 seven_numbers numbers xs d e = let all = exactly-Some 7 numbers xs e in rw all.0 (seven xs d all.1)

@@ -18,7 +18,7 @@ use Rattle.std.specs.Option.{MatchOption}
 use Rattle.std.specs.Str.Parse.{digits_value}
 use Rattle.time_show.specs.Fields.{space, fields_of, is_natural, natural_of, LeadingDigits, FirstNatural}
 
--- where nothing is found there is one part
+-- a list has one part if nothing is found
 parts-none : (p : ℕ → Bool) (xs : List ℕ) → length xs ≤ position_or_len p xs → slice_split p xs ≡ xs ∷ []
 parts-none p [] h = refl
 parts-none p (x ∷ xs) h = grind (arith, parts-none p xs)
@@ -30,11 +30,11 @@ pub parts-found : (p : ℕ → Bool) (xs : List ℕ) (place : Option ℕ) → pl
 parts-found p xs None e = grind (arith, parts-none p xs)
 parts-found p xs (Some i) e = grind (arith, slice_split_first p xs 0)
 
--- the test of digits tells digits
+-- the test of digits holds exactly for digits
 tells_natural : IsDigitsTest (λ ds. list_all is_ascii_digit ds ≡ true)
 tells_natural = search rules
 
--- so digits have the value that they spell
+-- digits have the value of their numeral
 numerals : IsNumeralModel (λ ds. list_all is_ascii_digit ds ≡ true) (digits_value 10)
 numerals = numerals_by_value _ tells_natural
 
@@ -49,7 +49,7 @@ pub record DigitMore (ds : List ℕ) (i : ℕ) : Type 0 where
 digit-range : (b : ℕ) → is_ascii_digit b ≡ true → IsInRange 48 57 b
 digit-range b h = grind arith
 
--- each place where a digit stands behind digits has one more
+-- each place where a digit follows digits has one more
 pub digit_more : (ds : List ℕ) (i : ℕ) → i < 9 → list_all is_ascii_digit (take i ds) ≡ true → i < length ds →
     is_ascii_digit (get_or ds i 0) ≡ true → DigitMore ds i
 digit_more ds i short before lt here =
@@ -101,7 +101,7 @@ digit_at text count k h lt le =
     (All-get_or (λ x. is_ascii_digit x ≡ true) (take count text) k 0 (omega (arith, length-take count text))
     (AllPass-from_list_all is_ascii_digit (take count text) h))
 
--- where another byte than a digit follows some first digits, or a byte follows nine, they are no number
+-- first digits are no number if another byte follows them, or a byte follows nine
 no_natural : (field : List ℕ) (count : ℕ) → count < length field
     → (count ≡ 9) ⊎ (is_ascii_digit (get_or field count 0) ≡ false) →
     natural_of field ≡ None
@@ -147,7 +147,7 @@ natural_before text value count read some inside here =
           read some,
     )
 
--- the same up to the first space
+-- the text up to the first space is no number, if first digits end before it
 no_natural_before : (text : List ℕ) (value count : ℕ) → LeadingDigits text value count
     → count < position_or_len is_space text →
     natural_of (take (position_or_len is_space text) text) ≡ None
@@ -157,12 +157,12 @@ no_natural_before text value count read lt =
     omega (arith, length-take k text, prefix_len-le-length (λ x. not (is_space x)) text) in
     no_natural (take k text) count inside (rw (get_or-take k text count 0 lt) read.ended)
 
--- a space stands at the first one
+-- a space is at the first one
 at_space : (text : List ℕ) → position_or_len is_space text < length text
     → is_space (get_or text (position_or_len is_space text) 0) ≡ false → ⊥
 at_space text lt other = absurd (cc (passes_at_first is_space text 0 lt, other))
 
--- so it stands behind digits
+-- the first space is after the first digits
 no_space_before : (text : List ℕ) (value count : ℕ) → LeadingDigits text value count → count < length text →
     is_space (get_or text count 0) ≡ false → position_or_len is_space text ≤ count → ⊥
 no_space_before text value count read inside other le =
@@ -172,7 +172,7 @@ no_space_before text value count read inside other le =
     rw same other))
     (cases_lt (position_or_len is_space text) count)
 
--- no digit, or another byte behind them than a space, is no number
+-- no digit, or another byte after them than a space, is no number
 missed : (text : List ℕ) (value count : ℕ) → LeadingDigits text value count →
     (count ≡ 0) ⊎ ((count < length text) × (is_space (get_or text count 0) ≡ false))
     → position_or_len is_space text ≤ count →

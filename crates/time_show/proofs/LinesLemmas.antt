@@ -24,14 +24,14 @@ onto_first-more : (b : ℕ) (lines : List (List ℕ)) (rest more : List ℕ) →
 onto_first-more b [] rest more ne = grind arith
 onto_first-more b (line ∷ lines) rest more ne = refl
 
--- the same of the whole lines
+-- a byte that is no line feed goes to the front of the first whole line, also with more bytes
 onto_whole-more : (b : ℕ) (lines : List (List ℕ)) (rest more : List ℕ) → b ≢ line_feed →
     onto_whole b (lines ++ whole_lines_of (rest ++ more)) ≡ onto_whole b lines ++ whole_lines_of
     (onto_rest b lines rest ++ more)
 onto_whole-more b [] rest more ne = grind arith
 onto_whole-more b (line ∷ lines) rest more ne = refl
 
--- and of the bytes after the last line feed
+-- a byte that is no line feed goes to the front of the rest, if there is no whole line, also with more bytes
 onto_rest-more : (b : ℕ) (lines : List (List ℕ)) (rest more : List ℕ) → b ≢ line_feed →
     onto_rest b (lines ++ whole_lines_of (rest ++ more)) (unended_of (rest ++ more)) ≡ unended_of
     (onto_rest b lines rest ++ more)
@@ -47,7 +47,7 @@ lines_of-append (b ∷ bytes) more = elim (eqb_tells b line_feed) [
   | inr t ↦ rw (t.0, lines_of-append bytes more) (onto_first-more b (whole_lines_of bytes) (unended_of bytes) more t.1)
 ]
 
--- the same of its whole lines
+-- The whole lines of a longer text are those so far and those of the rest with more bytes.
 pub whole_lines_of-append : (bytes more : List ℕ) →
     whole_lines_of (bytes ++ more) ≡ whole_lines_of bytes ++ whole_lines_of (unended_of bytes ++ more)
 whole_lines_of-append [] more = refl
@@ -57,7 +57,7 @@ whole_lines_of-append (b ∷ bytes) more = elim (eqb_tells b line_feed) [
       (onto_whole-more b (whole_lines_of bytes) (unended_of bytes) more t.1)
 ]
 
--- and of the bytes after its last line feed
+-- The bytes of a longer text after its last line feed are those of the rest with more bytes.
 pub unended_of-append : (bytes more : List ℕ) → unended_of (bytes ++ more) ≡ unended_of (unended_of bytes ++ more)
 unended_of-append [] more = refl
 unended_of-append (b ∷ bytes) more = elim (eqb_tells b line_feed) [
@@ -93,7 +93,7 @@ onto_rest-one : (b : ℕ) (lines : List (List ℕ)) (rest : List ℕ) → b ≢ 
 onto_rest-one b [] rest ne p = (ne, p)
 onto_rest-one b (line ∷ lines) rest ne p = p
 
--- and the whole lines
+-- a byte that is no line feed keeps the whole lines free of them
 onto_whole-one : (b : ℕ) (lines : List (List ℕ)) → b ≢ line_feed → AllByRecursion IsOneLine lines
     → AllByRecursion IsOneLine (onto_whole b lines)
 onto_whole-one b [] ne p = p
@@ -164,7 +164,7 @@ one_line-cons : (b n : ℕ) (bytes : List ℕ) → b ≢ line_feed → IsOneLine
     → IsOneLine (take (1 + n) (b ∷ bytes))
 one_line-cons b n bytes ne p = rw (one_more n) (ne, p)
 
--- up to the first line feed there is none
+-- the bytes up to the first line feed are one line
 one_line-front : (bytes : List ℕ) → IsOneLine (take (position_or_len (λ b. b == line_feed) bytes) bytes)
 one_line-front [] = tt
 one_line-front (b ∷ bytes) = elim (eqb_tells b line_feed) [
@@ -172,7 +172,7 @@ one_line-front (b ∷ bytes) = elim (eqb_tells b line_feed) [
   | inr t ↦ rw t.0 (one_line-cons b (position_or_len (λ b. b == line_feed) bytes) bytes t.1 (one_line-front bytes))
 ]
 
--- where no line feed is found there is none
+-- bytes are one line if no line feed is found
 one_line-none : (bytes : List ℕ) → length bytes ≤ position_or_len (λ b. b == line_feed) bytes → IsOneLine bytes
 one_line-none bytes le = rw (take_all (position_or_len (λ b. b == line_feed) bytes) bytes le) at (one_line-front bytes)
 
@@ -188,7 +188,7 @@ found-at bytes end lt is =
     let rest : drop end bytes ≡ line_feed ∷ drop (suc end) bytes = rw (drop-cons bytes end 0 lt, is) in
     rw (add-one end) (sym (ap (λ more. take end bytes ++ more) (sym rest) ∙ take-append-drop end bytes))
 
--- before the place that is found there is none
+-- the bytes before the first line feed are one line
 ends-front : (bytes : List ℕ) (end : ℕ) → Some end ≡ position (λ b. b == line_feed) bytes → IsOneLine (take end bytes)
 ends-front bytes end e = elim (cases_lt (position_or_len (λ b. b == line_feed) bytes) (length bytes)) [
   | inl t ↦ let same : end ≡ position_or_len (λ b. b == line_feed) bytes = grind arith in rw same (one_line-front bytes)

@@ -20,14 +20,14 @@ Appends-then (Some a) None c xs ys p q = absurd p
 Appends-then (Some a) (Some b) None xs ys p q = absurd q
 Appends-then (Some a) (Some b) (Some c) xs ys p q = rw (q, p, append_assoc)
 
--- after a text nothing more is written
+-- an appended text stays if nothing more is written
 pub Appends-kept : (a b c : Option (List ℕ)) (xs : List ℕ) → Appends a b xs → Keeps b c → Appends a c xs
 Appends-kept None b c xs p q = search rules
 Appends-kept (Some a) None c xs p q = absurd p
 Appends-kept (Some a) (Some b) None xs p q = absurd q
 Appends-kept (Some a) (Some b) (Some c) xs p q = rw (q, p)
 
--- bytes are left behind a place before the end
+-- bytes are left after a place before the end
 drop-some : (n : ℕ) (xs : List ℕ) → n < length xs → drop n xs ≢ []
 drop-some n xs lt e = let len : length (drop n xs) ≡ length {A = ℕ} [] = ap length e in grind (arith, common_steps)
 
@@ -61,7 +61,7 @@ AppendsStart-more a b xs ys p = record {
 pub Accepts-none : (o : Output) → Accepts o o []
 Accepts-none o = record { sent = []; went_out = Appends-none o.held; in_order = append-nil o.waiting }
 
--- bytes wait behind those that wait
+-- bytes wait after those that wait
 pub Accepts-waits : (held : Option (List ℕ)) (waiting bytes : List ℕ)
     → Accepts (buffered held waiting) (buffered held (waiting ++ bytes)) bytes
 Accepts-waits held waiting bytes = record { sent = []; went_out = Appends-none held; in_order = refl }

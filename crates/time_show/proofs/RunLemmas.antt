@@ -22,12 +22,12 @@ AreAnswers-more [] line text answer p h = (answer, [], rw (p, append-nil), h, re
 AreAnswers-more (first ∷ lines) line text answer p h =
     (p.0, p.1 ++ answer, rw (p.2, append_assoc), p.3, AreAnswers-more lines line p.1 answer p.4 h)
 
--- where two texts are equal, the first part of the one ends at or after the end of the other's, or before it
+-- the first part of one of two equal texts ends at or after the end of the other's, or before it
 data Meets (xs ys us vs : List ℕ) : Type 0 where
   later : (more : List ℕ) → xs ≡ us ++ more → vs ≡ more ++ ys → Meets xs ys us vs
   earlier : (more : List ℕ) → us ≡ xs ++ more → more ≢ [] → Meets xs ys us vs
 
--- the same with one more byte at the front of both
+-- one more equal byte at the front of both texts keeps where their parts end
 meets-cons : (b c : ℕ) (xs ys us vs : List ℕ) → b ≡ c → Meets xs ys us vs → Meets (b ∷ xs) ys (c ∷ us) vs
 meets-cons b c xs ys us vs e (later more p q) = later more (rw (e, p)) q
 meets-cons b c xs ys us vs e (earlier more p some) = earlier more (rw (e, p)) some
@@ -75,7 +75,7 @@ BreaksOff-later line answer text start lines h b e = record {
   unfinished = b.unfinished;
 }
 
--- what stands behind something in an empty text is empty
+-- what follows something in an empty text is empty
 no_text : (start missing : List ℕ) → start ++ missing ≡ [] → missing ≡ []
 no_text [] missing e = e
 no_text (b ∷ start) missing e = cc
@@ -90,7 +90,7 @@ BreaksOff-cut (line ∷ lines) start missing p some = elim (meets start missing 
   | earlier more e unfinished ↦ BreaksOff-first line p.0 start more lines p.3 e unfinished
 ]
 
--- the same before more lines
+-- a text that breaks off in some lines breaks off before more lines
 BreaksOff-before : (lines more : List (List ℕ)) (text : List ℕ) → BreaksOff lines text → BreaksOff (lines ++ more) text
 BreaksOff-before lines more text b = record {
   first = b.first;
@@ -204,7 +204,7 @@ CutsAnswersOff-after xs ys a b held p q before text upto =
       CutsOff-after (output_of a) (output_of b) held so_far.0 cut.2 so_far.1 cut.5,
     )
 
--- what waits behind answered bytes goes out
+-- the bytes that wait after answered ones go out
 pub AnswersOn-flushed : (bytes : List ℕ) (a b : RunState) (held : Option (List ℕ)) →
     AnswersOn bytes a b → Appends b.held held b.waiting → AnswersOn bytes a (state b.kept held [])
 AnswersOn-flushed bytes a b held p q before text upto =
@@ -216,7 +216,7 @@ AnswersOn-flushed bytes a b held p q before text upto =
       on.2,
     )
 
--- what waits behind answered bytes is cut off
+-- the bytes that wait after answered ones are cut off
 pub CutsAnswersOff-flushed : (bytes : List ℕ) (a b : RunState) (held : Option (List ℕ)) →
     AnswersOn bytes a b → AppendsStart b.held held b.waiting → CutsAnswersOff bytes a held
 CutsAnswersOff-flushed bytes a b held p q before text upto =
@@ -247,7 +247,7 @@ lines_of-kept bytes kept some is =
     ∙ ap (λ last. whole_lines_of bytes ++ last)
     (last_line_of-some (unended_of bytes) (λ (e : unended_of bytes ≡ []). some (is ∙ ap kept_of e)))
 
--- where no bytes came after the last line feed, all is answered
+-- all is answered if no bytes came after the last line feed
 pub AnswersRest-none : (s : RunState) → s.kept ≡ Some [] → AnswersRest s s
 AnswersRest-none s empty before text upto =
     let rest : unended_of before ≡ [] = kept-empty (unended_of before) (sym empty ∙ upto.rest) in (
@@ -306,7 +306,7 @@ Consumes-then (Some a) None c xs ys p q = absurd p
 Consumes-then (Some a) (Some b) None xs ys p q = absurd q
 Consumes-then (Some a) (Some b) (Some c) xs ys p q = rw (p, q, append_assoc)
 
--- after some bytes nothing more is read
+-- the bytes consumed stay if nothing more is read
 Consumes-end : (a b c : Option (List ℕ)) (xs : List ℕ) → Consumes a b xs → Consumes b c [] → Consumes a c xs
 Consumes-end a b c xs p q = rw (append-nil xs) at (Consumes-then a b c xs [] p q)
 

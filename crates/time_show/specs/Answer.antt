@@ -22,7 +22,7 @@ refusal_name insufficient = codes "insufficient"
 refusal_name (invalid_component name) = name
 refusal_name (out_of_range range) = range.name
 
--- a width that is greater is told as this one
+-- the greatest width that is printed
 abbrev pub greatest_usize : ℕ
 greatest_usize = 2 ^ 64 - 1
 

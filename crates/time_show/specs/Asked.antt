@@ -1,4 +1,4 @@
--- What a line asks for.
+-- The request of a line.
 use Rattle.std.specs.Prelude.{ℕ, Option, Some, None, Result, Ok, Err, List, [], ◌∷◌, codes}
 use Rattle.time_below.specs.Facts.{facts_of_time, facts_of_offset_date_time}
 use Rattle.time_below.specs.Tree.{Tree, trees, text_literal, of_component, all_of}
@@ -45,7 +45,7 @@ time_tree = all_of (trees (
 abbrev pub comma_choices : Choices
 comma_choices = record default_choices { decimal_sign = Comma }
 
--- what a command asks for, if there is one
+-- the request of a command, if there is one
 abbrev pub asked_by : Option Command → Asked
 asked_by None = no_command
 asked_by (Some (Time numbers)) =
@@ -63,6 +63,6 @@ asked_by (Some (IsoComma numbers)) =
     (date_time_value numbers)
 asked_by (Some (Stamp numbers)) = asked_value stamp_width stamp_of (utc_date_time_value numbers)
 
--- what a line asks for
+-- the request of a line
 abbrev pub asked_of : List ℕ → Asked
 asked_of line = asked_by (command_of line)

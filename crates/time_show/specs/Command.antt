@@ -61,6 +61,6 @@ abbrev pub command_of_fields : List (List ℕ) → Option Command
 command_of_fields [] = None
 command_of_fields (field ∷ fields) = option_and_then (λ name. with_numbers name (numbers_of fields)) (named field)
 
--- what a line asks for, if it is a command and not too long
+-- the command of a line that is not too long, if it has one
 abbrev pub command_of : List ℕ → Option Command
 command_of line = option_and_then (λ line. command_of_fields (fields_of line)) (kept_of line)

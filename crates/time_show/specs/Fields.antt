@@ -13,7 +13,7 @@ space = 32
 abbrev pub minus : ℕ
 minus = 45
 
--- what stands between the spaces: two spaces in a row have an empty field between them
+-- what is between the spaces: two spaces in a row have an empty field between them
 abbrev pub fields_of : List ℕ → List (List ℕ)
 fields_of line = slice_split (λ b. b == space) line
 
@@ -41,7 +41,7 @@ abbrev pub numbers_of : List (List ℕ) → Option (List ℤ)
 numbers_of [] = Some []
 numbers_of (field ∷ fields) = onto_numbers (number_of field) (numbers_of fields)
 
--- as many numbers as are asked for
+-- the numbers, if they are exactly this many
 abbrev pub exactly : ℕ → Option (List ℤ) → Option (List ℤ)
 exactly count None = None
 exactly count (Some numbers) = if length numbers == count then Some numbers else None
@@ -59,7 +59,7 @@ pub record LeadingDigits (text : List ℕ) (value count : ℕ) : Type 0 where
   pub spelled : value ≡ digits_value 10 (take count text)
   pub ended : (count ≡ 9) ⊎ (is_ascii_digit (get_or text count 0) ≡ false)
 
--- the number that the first field of the text spells, and the fields behind it
+-- the number that the first field of the text spells, and the fields after it
 abbrev pub FirstNatural : List ℕ → Option (ℕ × List (List ℕ)) → Type 0
 FirstNatural text None =
     (field : List ℕ) × (others : List (List ℕ)) × (fields_of text ≡ field ∷ others) × (natural_of field ≡ None)

@@ -2,7 +2,7 @@
 use Rattle.std.specs.Prelude.{ℕ, ◌≡◌, ◌≢◌, ◌++◌, List, [], Option}
 use Rattle.std.specs.Io.KnownBytes.{Appends}
 
--- what the writer holds, if it tells, and what waits to be written
+-- the bytes that the writer holds, if it shows them, and those that wait to be written
 pub record Output : Type 0 where
   pub held : Option (List ℕ)
   pub waiting : List ℕ

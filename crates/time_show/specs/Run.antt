@@ -8,7 +8,7 @@ use Rattle.time_show.specs.LineBuffer.{kept_of}
 use Rattle.time_show.specs.Lines.{lines_of, whole_lines_of, unended_of}
 use Rattle.time_show.specs.OutputBuffer.{Output, buffered, Accepts, CutsOff}
 
--- what is kept of the line whose end has not come, what the output holds, if it tells, and what waits to be written
+-- what is kept of the line whose end has not come, what the output holds, if it shows it, and what waits to be written
 pub record RunState : Type 0 where
   pub kept : Option (List ℕ)
   pub held : Option (List ℕ)

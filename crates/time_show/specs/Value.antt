@@ -56,7 +56,7 @@ time_value n =
     with_value (natural_part Nanosecond 0 999_999_999 n.nanosecond) (λ nanosecond.
     Ok (record { hour = hour; minute = minute; second = second; nanosecond = nanosecond })))))
 
--- where the signs of the numbers differ, the largest that is not zero decides
+-- the largest number that is not zero decides the sign, if the signs of the numbers differ
 abbrev pub offset_value : OffsetNumbers → Result Offset Part
 offset_value n =
     with_value (signed_part Hours 25 n.hours) (λ hours.
@@ -72,7 +72,7 @@ date_time_value n =
     with_value (offset_value n.offset) (λ offset.
     Ok (record { date = date; time = time; offset = offset }))))
 
--- the same without an offset, in UTC
+-- the value of a date and time in UTC, without an offset
 abbrev pub utc_date_time_value : UtcNumbers → Result DateAndTime Part
 utc_date_time_value n =
     with_value (date_value n.date) (λ date.

@@ -1,4 +1,4 @@
-//! Bytes that mean something in a line, and where they stand.
+//! Bytes that mean something in a line, and their places.
 ghost use Rattle.std.specs.Prelude.{◌≡◌, ◌==◌, position};
 
 use memchr::memchr;

@@ -1,4 +1,4 @@
-//! What a line asks for.
+//! The command of a line.
 ghost use Rattle.std.specs.Prelude.{◌≡◌, ◌≤◌, length};
 ghost use Rattle.time_show.specs.Command.{command_of, named, time_numbers, date_time_numbers, utc_numbers};
 ghost use Rattle.time_show.specs.Fields.{numbers_of};

@@ -51,7 +51,7 @@ impl<'a> Fields<'a> {
     }
 
     /// Takes the first field, if it spells a number: perhaps a minus sign, and one to nine decimal
-    /// digits. They are read where they stand.
+    /// digits. They are read in place.
     fn next_number(&mut self) -> Option<i32>
         ensures { MatchOption result ((self.old ≡ []) ⊎ (numbers_of self.old ≡ None))
             (λ n. numbers_of self.old ≡ onto_numbers (Some n) (numbers_of self.new)) }
@@ -87,7 +87,7 @@ fn leading_digits(text: &[u8]) -> (u32, usize)
 }
 
 /// The number that the first field of the text spells by one to nine decimal digits, and what is left
-/// behind the field.
+/// after the field.
 fn natural_first(text: &[u8]) -> Option<(u32, Fields<'_>)>
     ensures value { FirstNatural text.now result }
     ensures small { IfSome result (λ r. r.0 < 10 ^ DIGITS_LIMIT) }

@@ -118,7 +118,7 @@ impl OutputBuffer {
         Ok(())
     }
 
-    /// Writes what waits, where it leaves no room for `most` bytes.
+    /// Writes what waits, if it leaves less than `most` bytes of the buffer.
     fn make_room<W: Write>(&mut self, output: &mut W, most: usize) -> Result<(), WriteFailed>
         ensures room { OnOk result (OUTPUT_LIMIT < length self.new + most → self.new ≡ []) }
         ensures ok { OnOk result (Accepts (buffered (W.contents output.old) self.old)
@@ -132,7 +132,7 @@ impl OutputBuffer {
         Ok(())
     }
 
-    /// Accepts the bytes. Where there is no room for them, what waits goes out first.
+    /// Accepts the bytes. What waits is written first if they do not fit.
     fn append<W: Write>(&mut self, output: &mut W, bytes: &[u8]) -> Result<(), WriteFailed>
         ensures ok { OnOk result (Accepts (buffered (W.contents output.old) self.old)
             (buffered (W.contents output.new) self.new) bytes.now) }
@@ -230,7 +230,7 @@ impl OutputBuffer {
         ensures err { OnErr result (CutsOff (buffered (W.contents output.old) self.old)
             (W.contents output.new) (ok_text count width text.now)) }
     {
-        // Mostly the text is short and there is room, so that nothing has to go out first.
+        // Most texts are short and fit, so that nothing has to be written first.
         if text.len() <= SHORT_TEXT && self.room() >= SHORT_TEXT + FRAME_LIMIT {
             self.push_formatted(count, width, text);
             return Ok(());

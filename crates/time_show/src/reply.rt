@@ -174,7 +174,7 @@ fn iso_with_comma() -> Iso8601
     Iso8601::new(Config::default().set_decimal_sign(DecimalSign::Comma))
 }
 
-/// Answers a line. The text of the answer stands in this vector, whose memory serves each line.
+/// Answers a line. The text of the answer is in this vector, whose memory serves each line.
 pub fn reply_to<'a>(text: &'a mut Vec<u8>, line: &[u8]) -> Reply<'a>
     requires { length line.now ≤ LINE_LIMIT }
     ensures { IsAnswer line.now (reply_text result) }

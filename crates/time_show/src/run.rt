@@ -36,7 +36,7 @@ impl From<WriteFailed> for ShowError {
     }
 }
 
-/// The reply to the line in the buffer, whose text stands in the vector.
+/// The reply to the line in the buffer, whose text is in the vector.
 fn reply_for<'a>(text: &'a mut Vec<u8>, line: &LineBuffer) -> Reply<'a>
     ensures { (whole : List ℕ) → line.now ≡ kept_of whole → IsAnswer whole (reply_text result) }
 {
@@ -137,7 +137,7 @@ fn answer_last<W: Write>(
 /// that the whole lines so far were answered. A failed write means that some first lines were, with a
 /// beginning of the answer to the next, which has its line feed unless the input has ended.
 ///
-/// No clause says that reads go on as long as they succeed, nor how much memory is asked for; tests
+/// No clause says that reads go on as long as they succeed, nor how much memory is allocated; tests
 /// do. The body allocates the text of one answer at a time, and answers a failed allocation by
 /// `refused 0 out-of-memory`.
 pub fn run<R: Read, W: Write>(alloc: Global, input: &mut R, output: &mut W) -> Result<(), ShowError>

@@ -24,7 +24,7 @@ pub struct IsoConfig {
     pub comma: u8,
 }
 
-/// What a text is written by: the choices of a `time_known::iso8601::Config`.
+/// The configuration of a text: the choices of a `time_known::iso8601::Config`.
 #[derive(Clone, Copy)]
 pub struct Choices {
     formatted_components: FormattedComponents,
@@ -140,7 +140,7 @@ impl Choices {
         )
     }
 
-    /// Whether the letter T stands before the time.
+    /// Whether the letter T precedes the time.
     pub fn has_time_letter(self) -> bool
         ensures { result ≡ has_time_letter self }
     {
@@ -216,7 +216,7 @@ fn sign_at(number: u8) -> Result<DecimalSign, Reason>
     }
 }
 
-/// What these numbers choose, if each of them is one that there is.
+/// The choices of these numbers, if each of them is valid.
 pub fn choices_at(numbers: &IsoConfig) -> Result<Choices, Reason>
     ensures { result ≡ choices_at numbers.now }
 {

@@ -186,7 +186,7 @@ impl Component {
     }
 }
 
-/// The most bytes that the text of the component has, whatever the value.
+/// The most bytes of the component's text, over all values.
 #[inline(always)]
 pub fn component_width(component: &Component) -> usize
     ensures { result ≡ component_width component.now }
@@ -232,7 +232,7 @@ pub fn component_width(component: &Component) -> usize
     }
 }
 
-/// The most bytes that so many decimals of a second have.
+/// The most bytes that this many decimals of a second have.
 pub fn subsecond_width(digits: SubsecondDigits) -> usize
     ensures { result ≡ subsecond_width digits }
 {

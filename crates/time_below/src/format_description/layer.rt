@@ -1,4 +1,4 @@
-//! One layer of a description, whichever type it is written in.
+//! One layer of a description of any type.
 ghost use Rattle.std.specs.Prelude.{ℕ, ◌≡◌, ◌<◌, ⊤};
 ghost use Rattle.time_below.specs.Size.{size_below};
 ghost use Rattle.time_below.specs.Tree.{Tree, layer_tree};
@@ -7,7 +7,7 @@ use crate::format_description::Component;
 use std::alloc::AllocError;
 use std::clone::Clone;
 
-/// What stands at the head of a description, with the descriptions below it.
+/// What is at the head of a description, with the descriptions below it.
 #[derive_where(Copy)]
 pub enum Layer<'a, T> {
     /// Bytes, which need not be UTF-8.

@@ -19,7 +19,7 @@ pub struct Metadata {
 }
 
 impl Metadata {
-    // What is known once a text of at most so many bytes comes after.
+    // What is known once a text of at most this many bytes comes after.
     #[inline(always)]
     fn with_text(self, width: usize) -> Metadata
         ensures width { result.max_bytes_needed ≡ min (self.max_bytes_needed + width) usize.MAX }

@@ -1,6 +1,6 @@
 //! The choices that a component has.
 
-/// What stands before a number that is shorter than its places.
+/// The padding before a number that is shorter than its places.
 #[derive(Clone, Copy)]
 pub enum Padding {
     /// Spaces.
@@ -48,7 +48,7 @@ pub enum TrailingInput {
 /// The day of the month, 1 to 31, in two places.
 #[derive(Clone, Copy)]
 pub struct Day {
-    /// What stands before a number of one digit.
+    /// The padding before a number of one digit.
     pub padding: Padding,
 }
 
@@ -69,14 +69,14 @@ pub struct MonthLong {
 /// The month, 1 to 12, in two places.
 #[derive(Clone, Copy)]
 pub struct MonthNumerical {
-    /// What stands before a number of one digit.
+    /// The padding before a number of one digit.
     pub padding: Padding,
 }
 
 /// The day of the year, 1 to 366, in three places (ISO 8601-1:2019, ordinal date).
 #[derive(Clone, Copy)]
 pub struct Ordinal {
-    /// What stands before a number of fewer than three digits.
+    /// The padding before a number of fewer than three digits.
     pub padding: Padding,
 }
 
@@ -111,28 +111,28 @@ pub struct WeekdayMonday {
 /// The week of the week calendar, 1 to 53, in two places (ISO 8601-1:2019, week date).
 #[derive(Clone, Copy)]
 pub struct WeekNumberIso {
-    /// What stands before a number of one digit.
+    /// The padding before a number of one digit.
     pub padding: Padding,
 }
 
 /// The week of the year, 0 to 53, in two places, where week 1 begins on the first Sunday.
 #[derive(Clone, Copy)]
 pub struct WeekNumberSunday {
-    /// What stands before a number of one digit.
+    /// The padding before a number of one digit.
     pub padding: Padding,
 }
 
 /// The week of the year, 0 to 53, in two places, where week 1 begins on the first Monday.
 #[derive(Clone, Copy)]
 pub struct WeekNumberMonday {
-    /// What stands before a number of one digit.
+    /// The padding before a number of one digit.
     pub padding: Padding,
 }
 
 /// The year, -999,999 to 999,999, in four places, or a sign and all its digits.
 #[derive(Clone, Copy)]
 pub struct CalendarYearFullExtendedRange {
-    /// What stands before a number of fewer than four digits.
+    /// The padding before a number of fewer than four digits.
     pub padding: Padding,
     /// Whether a plus is written before a number that is not negative.
     pub sign_is_mandatory: bool,
@@ -141,7 +141,7 @@ pub struct CalendarYearFullExtendedRange {
 /// The year, -9,999 to 9,999, in four places. Every other year is refused.
 #[derive(Clone, Copy)]
 pub struct CalendarYearFullStandardRange {
-    /// What stands before a number of fewer than four digits.
+    /// The padding before a number of fewer than four digits.
     pub padding: Padding,
     /// Whether a plus is written before a number that is not negative.
     pub sign_is_mandatory: bool,
@@ -151,7 +151,7 @@ pub struct CalendarYearFullStandardRange {
 /// its digits.
 #[derive(Clone, Copy)]
 pub struct CalendarYearCenturyExtendedRange {
-    /// What stands before a number of one digit.
+    /// The padding before a number of one digit.
     pub padding: Padding,
     /// Whether a plus is written before a number that is not negative.
     pub sign_is_mandatory: bool,
@@ -160,7 +160,7 @@ pub struct CalendarYearCenturyExtendedRange {
 /// The year without its last two digits, -99 to 99, in two places. Every other one is refused.
 #[derive(Clone, Copy)]
 pub struct CalendarYearCenturyStandardRange {
-    /// What stands before a number of one digit.
+    /// The padding before a number of one digit.
     pub padding: Padding,
     /// Whether a plus is written before a number that is not negative.
     pub sign_is_mandatory: bool,
@@ -169,7 +169,7 @@ pub struct CalendarYearCenturyStandardRange {
 /// The last two digits of the year, 0 to 99, in two places, unsigned.
 #[derive(Clone, Copy)]
 pub struct CalendarYearLastTwo {
-    /// What stands before a number of one digit.
+    /// The padding before a number of one digit.
     pub padding: Padding,
 }
 
@@ -177,7 +177,7 @@ pub struct CalendarYearLastTwo {
 /// all its digits (ISO 8601-1:2019, week date).
 #[derive(Clone, Copy)]
 pub struct IsoYearFullExtendedRange {
-    /// What stands before a number of fewer than four digits.
+    /// The padding before a number of fewer than four digits.
     pub padding: Padding,
     /// Whether a plus is written before a number that is not negative.
     pub sign_is_mandatory: bool,
@@ -186,7 +186,7 @@ pub struct IsoYearFullExtendedRange {
 /// The year of the week calendar, -9,999 to 9,999, in four places. Every other year is refused.
 #[derive(Clone, Copy)]
 pub struct IsoYearFullStandardRange {
-    /// What stands before a number of fewer than four digits.
+    /// The padding before a number of fewer than four digits.
     pub padding: Padding,
     /// Whether a plus is written before a number that is not negative.
     pub sign_is_mandatory: bool,
@@ -196,7 +196,7 @@ pub struct IsoYearFullStandardRange {
 /// or a sign and all its digits.
 #[derive(Clone, Copy)]
 pub struct IsoYearCenturyExtendedRange {
-    /// What stands before a number of one digit.
+    /// The padding before a number of one digit.
     pub padding: Padding,
     /// Whether a plus is written before a number that is not negative.
     pub sign_is_mandatory: bool,
@@ -206,7 +206,7 @@ pub struct IsoYearCenturyExtendedRange {
 /// other one is refused.
 #[derive(Clone, Copy)]
 pub struct IsoYearCenturyStandardRange {
-    /// What stands before a number of one digit.
+    /// The padding before a number of one digit.
     pub padding: Padding,
     /// Whether a plus is written before a number that is not negative.
     pub sign_is_mandatory: bool,
@@ -215,28 +215,28 @@ pub struct IsoYearCenturyStandardRange {
 /// The last two digits of the year of the week calendar, 0 to 99, in two places, unsigned.
 #[derive(Clone, Copy)]
 pub struct IsoYearLastTwo {
-    /// What stands before a number of one digit.
+    /// The padding before a number of one digit.
     pub padding: Padding,
 }
 
 /// The hour of the 12-hour clock, 1 to 12, in two places.
 #[derive(Clone, Copy)]
 pub struct Hour12 {
-    /// What stands before a number of one digit.
+    /// The padding before a number of one digit.
     pub padding: Padding,
 }
 
 /// The hour of the day, 0 to 23, in two places.
 #[derive(Clone, Copy)]
 pub struct Hour24 {
-    /// What stands before a number of one digit.
+    /// The padding before a number of one digit.
     pub padding: Padding,
 }
 
 /// The minute of the hour, 0 to 59, in two places.
 #[derive(Clone, Copy)]
 pub struct Minute {
-    /// What stands before a number of one digit.
+    /// The padding before a number of one digit.
     pub padding: Padding,
 }
 
@@ -252,7 +252,7 @@ pub struct Period {
 /// The second of the minute, 0 to 59, in two places.
 #[derive(Clone, Copy)]
 pub struct Second {
-    /// What stands before a number of one digit.
+    /// The padding before a number of one digit.
     pub padding: Padding,
 }
 
@@ -266,7 +266,7 @@ pub struct Subsecond {
 /// The hour of the offset from UTC, 0 to 25, in two places, after the sign of the whole offset.
 #[derive(Clone, Copy)]
 pub struct OffsetHour {
-    /// What stands before a number of one digit.
+    /// The padding before a number of one digit.
     pub padding: Padding,
     /// Whether a plus is written before a number that is not negative.
     pub sign_is_mandatory: bool,
@@ -275,14 +275,14 @@ pub struct OffsetHour {
 /// The minute of the offset from UTC, 0 to 59, in two places, without a sign.
 #[derive(Clone, Copy)]
 pub struct OffsetMinute {
-    /// What stands before a number of one digit.
+    /// The padding before a number of one digit.
     pub padding: Padding,
 }
 
 /// The second of the offset from UTC, 0 to 59, in two places, without a sign.
 #[derive(Clone, Copy)]
 pub struct OffsetSecond {
-    /// What stands before a number of one digit.
+    /// The padding before a number of one digit.
     pub padding: Padding,
 }
 
@@ -365,7 +365,7 @@ pub enum YearRepr {
 pub enum YearRange {
     /// The years -9999 to 9999.
     Standard,
-    /// Whatever its size.
+    /// A year of any size.
     Extended,
 }
 
@@ -403,7 +403,7 @@ pub struct Weekday {
 /// Deprecated: a week of the year.
 #[derive(Clone, Copy)]
 pub struct WeekNumber {
-    /// What stands before a number of one digit.
+    /// The padding before a number of one digit.
     pub padding: Padding,
     /// Which weeks are counted.
     pub repr: WeekNumberRepr,
@@ -412,7 +412,7 @@ pub struct WeekNumber {
 /// Deprecated: an hour of the day.
 #[derive(Clone, Copy)]
 pub struct Hour {
-    /// What stands before a number of one digit.
+    /// The padding before a number of one digit.
     pub padding: Padding,
     /// Whether the hour is that of the 12-hour clock, 1 to 12, and not 0 to 23.
     pub is_12_hour_clock: bool,
@@ -430,7 +430,7 @@ pub struct UnixTimestamp {
 /// Deprecated: a year, or a part of one.
 #[derive(Clone, Copy)]
 pub struct Year {
-    /// What stands before a number that is shorter than its places.
+    /// The padding before a number that is shorter than its places.
     pub padding: Padding,
     /// The whole year or a part of it.
     pub repr: YearRepr,

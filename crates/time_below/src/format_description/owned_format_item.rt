@@ -1,4 +1,4 @@
-//! A description over parts of its own.
+//! A description that owns its parts.
 ghost use Rattle.time_below.specs.Size.{owned_size};
 ghost use Rattle.time_below.specs.Tree.{owned_tree};
 

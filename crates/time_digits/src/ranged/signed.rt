@@ -21,7 +21,7 @@ impl<const MAX: u8> Model for ri8<MAX> {
 }
 
 impl<const MAX: u8> ri8<MAX> {
-    /// The number `n`, where it lies in `-MAX` to `MAX`, else `None`.
+    /// Returns `n` if it is in `-MAX` to `MAX`, else `None`.
     #[inline]
     pub fn new(n: i8) -> Option<Self>
         ensures { SomeIff result (unsigned_abs n ≤ MAX) n }
@@ -33,7 +33,7 @@ impl<const MAX: u8> ri8<MAX> {
         }
     }
 
-    /// The number `n`, of which it is known that it lies in `-MAX` to `MAX`; nothing is tested.
+    /// Returns `n`, which is known to be in `-MAX` to `MAX`; nothing is tested.
     #[inline]
     pub fn within(n: i8) -> Self
         requires range { unsigned_abs n ≤ MAX }
@@ -80,7 +80,7 @@ impl<const MAX: u8> ri8<MAX> {
         }
     }
 
-    /// Narrows the bounds to `-HIGH` to `HIGH`, or answers `None` if the number is outside.
+    /// Narrows the bounds to `-HIGH` to `HIGH`, or returns `None` if the number is outside.
     #[inline]
     pub fn narrow<const HIGH: u8>(self) -> Option<ri8<HIGH>>
         ensures { SomeIff result (unsigned_abs self.entry ≤ HIGH) self.entry }
@@ -106,7 +106,7 @@ impl<const MAX: u16> Model for ri16<MAX> {
 }
 
 impl<const MAX: u16> ri16<MAX> {
-    /// The number `n`, where it lies in `-MAX` to `MAX`, else `None`.
+    /// Returns `n` if it is in `-MAX` to `MAX`, else `None`.
     #[inline]
     pub fn new(n: i16) -> Option<Self>
         ensures { SomeIff result (unsigned_abs n ≤ MAX) n }
@@ -118,7 +118,7 @@ impl<const MAX: u16> ri16<MAX> {
         }
     }
 
-    /// The number `n`, of which it is known that it lies in `-MAX` to `MAX`; nothing is tested.
+    /// Returns `n`, which is known to be in `-MAX` to `MAX`; nothing is tested.
     #[inline]
     pub fn within(n: i16) -> Self
         requires range { unsigned_abs n ≤ MAX }
@@ -165,7 +165,7 @@ impl<const MAX: u16> ri16<MAX> {
         }
     }
 
-    /// Narrows the bounds to `-HIGH` to `HIGH`, or answers `None` if the number is outside.
+    /// Narrows the bounds to `-HIGH` to `HIGH`, or returns `None` if the number is outside.
     #[inline]
     pub fn narrow<const HIGH: u16>(self) -> Option<ri16<HIGH>>
         ensures { SomeIff result (unsigned_abs self.entry ≤ HIGH) self.entry }
@@ -191,7 +191,7 @@ impl<const MAX: u32> Model for ri32<MAX> {
 }
 
 impl<const MAX: u32> ri32<MAX> {
-    /// The number `n`, where it lies in `-MAX` to `MAX`, else `None`.
+    /// Returns `n` if it is in `-MAX` to `MAX`, else `None`.
     #[inline]
     pub fn new(n: i32) -> Option<Self>
         ensures { SomeIff result (unsigned_abs n ≤ MAX) n }
@@ -203,7 +203,7 @@ impl<const MAX: u32> ri32<MAX> {
         }
     }
 
-    /// The number `n`, of which it is known that it lies in `-MAX` to `MAX`; nothing is tested.
+    /// Returns `n`, which is known to be in `-MAX` to `MAX`; nothing is tested.
     #[inline]
     pub fn within(n: i32) -> Self
         requires range { unsigned_abs n ≤ MAX }
@@ -250,7 +250,7 @@ impl<const MAX: u32> ri32<MAX> {
         }
     }
 
-    /// Narrows the bounds to `-HIGH` to `HIGH`, or answers `None` if the number is outside.
+    /// Narrows the bounds to `-HIGH` to `HIGH`, or returns `None` if the number is outside.
     #[inline]
     pub fn narrow<const HIGH: u32>(self) -> Option<ri32<HIGH>>
         ensures { SomeIff result (unsigned_abs self.entry ≤ HIGH) self.entry }

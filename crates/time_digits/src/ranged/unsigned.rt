@@ -20,7 +20,7 @@ impl<const MIN: u8, const MAX: u8> Model for ru8<MIN, MAX> {
 }
 
 impl<const MIN: u8, const MAX: u8> ru8<MIN, MAX> {
-    /// The number `n`, where it lies in `MIN` to `MAX`, else `None`.
+    /// Returns `n` if it is in `MIN` to `MAX`, else `None`.
     #[inline]
     pub fn new(n: u8) -> Option<Self>
         ensures { SomeIff result ((MIN ≤ n) × (n ≤ MAX)) n }
@@ -32,7 +32,7 @@ impl<const MIN: u8, const MAX: u8> ru8<MIN, MAX> {
         }
     }
 
-    /// The number `n`, of which it is known that it lies in `MIN` to `MAX`; nothing is tested.
+    /// Returns `n`, which is known to be in `MIN` to `MAX`; nothing is tested.
     #[inline]
     pub fn within(n: u8) -> Self
         requires least { MIN ≤ n }
@@ -64,7 +64,7 @@ impl<const MIN: u8, const MAX: u8> ru8<MIN, MAX> {
         }
     }
 
-    /// Narrows the bounds to `LOW` to `HIGH`, or answers `None` if the number is outside.
+    /// Narrows the bounds to `LOW` to `HIGH`, or returns `None` if the number is outside.
     #[inline]
     pub fn narrow<const LOW: u8, const HIGH: u8>(self) -> Option<ru8<LOW, HIGH>>
         ensures { SomeIff result ((LOW ≤ self.entry) × (self.entry ≤ HIGH)) self.entry }
@@ -90,7 +90,7 @@ impl<const MIN: u16, const MAX: u16> Model for ru16<MIN, MAX> {
 }
 
 impl<const MIN: u16, const MAX: u16> ru16<MIN, MAX> {
-    /// The number `n`, where it lies in `MIN` to `MAX`, else `None`.
+    /// Returns `n` if it is in `MIN` to `MAX`, else `None`.
     #[inline]
     pub fn new(n: u16) -> Option<Self>
         ensures { SomeIff result ((MIN ≤ n) × (n ≤ MAX)) n }
@@ -102,7 +102,7 @@ impl<const MIN: u16, const MAX: u16> ru16<MIN, MAX> {
         }
     }
 
-    /// The number `n`, of which it is known that it lies in `MIN` to `MAX`; nothing is tested.
+    /// Returns `n`, which is known to be in `MIN` to `MAX`; nothing is tested.
     #[inline]
     pub fn within(n: u16) -> Self
         requires least { MIN ≤ n }
@@ -134,7 +134,7 @@ impl<const MIN: u16, const MAX: u16> ru16<MIN, MAX> {
         }
     }
 
-    /// Narrows the bounds to `LOW` to `HIGH`, or answers `None` if the number is outside.
+    /// Narrows the bounds to `LOW` to `HIGH`, or returns `None` if the number is outside.
     #[inline]
     pub fn narrow<const LOW: u16, const HIGH: u16>(self) -> Option<ru16<LOW, HIGH>>
         ensures { SomeIff result ((LOW ≤ self.entry) × (self.entry ≤ HIGH)) self.entry }
@@ -160,7 +160,7 @@ impl<const MIN: u32, const MAX: u32> Model for ru32<MIN, MAX> {
 }
 
 impl<const MIN: u32, const MAX: u32> ru32<MIN, MAX> {
-    /// The number `n`, where it lies in `MIN` to `MAX`, else `None`.
+    /// Returns `n` if it is in `MIN` to `MAX`, else `None`.
     #[inline]
     pub fn new(n: u32) -> Option<Self>
         ensures { SomeIff result ((MIN ≤ n) × (n ≤ MAX)) n }
@@ -172,7 +172,7 @@ impl<const MIN: u32, const MAX: u32> ru32<MIN, MAX> {
         }
     }
 
-    /// The number `n`, of which it is known that it lies in `MIN` to `MAX`; nothing is tested.
+    /// Returns `n`, which is known to be in `MIN` to `MAX`; nothing is tested.
     #[inline]
     pub fn within(n: u32) -> Self
         requires least { MIN ≤ n }
@@ -204,7 +204,7 @@ impl<const MIN: u32, const MAX: u32> ru32<MIN, MAX> {
         }
     }
 
-    /// Narrows the bounds to `LOW` to `HIGH`, or answers `None` if the number is outside.
+    /// Narrows the bounds to `LOW` to `HIGH`, or returns `None` if the number is outside.
     #[inline]
     pub fn narrow<const LOW: u32, const HIGH: u32>(self) -> Option<ru32<LOW, HIGH>>
         ensures { SomeIff result ((LOW ≤ self.entry) × (self.entry ≤ HIGH)) self.entry }

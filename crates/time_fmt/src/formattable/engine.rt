@@ -51,8 +51,8 @@ pub(super) fn write_nodes<T: Node, V: ComponentProvider>(
     Ok(count)
 }
 
-/// Writes a literal, or a component that is met often and never refused, and answers the number of
-/// bytes. Of any other node it writes nothing, and answers nothing. It becomes part of the loop over a
+/// Writes a literal, or a component that is met often and never refused, and returns the number of
+/// bytes. Of any other node it writes nothing, and returns `None`. It becomes part of the loop over a
 /// list, which so holds no error on the way that most nodes take.
 #[inline(always)]
 fn write_leaf<T: Node, V: ComponentProvider>(
@@ -150,9 +150,9 @@ fn write_uncommon_leaf<T: Node, V: ComponentProvider>(
     }
 }
 
-/// Appends the text of the node where there is room for its width. Takes no memory.
+/// Appends the text of the node. The output needs spare capacity for its width. Allocates nothing.
 ///
-/// Answers the number of bytes appended, or the refusal that ends the text.
+/// Returns the number of bytes appended, or the refusal that ends the text.
 #[cycle(engine)]
 #[inline(never)]
 pub(super) fn write_node<T: Node, V: ComponentProvider>(

@@ -16,7 +16,7 @@ use crate::writers::{put_back, take_out};
 use time_below::format_description::Metadata;
 use time_provide::ComponentProvider;
 
-/// A text as it is, of so many bytes. It is sure to be UTF-8 where it is ASCII.
+/// A text as it is, of this many bytes. It is guaranteed to be UTF-8 if it is ASCII.
 #[derive(Clone, Copy)]
 pub struct Literal<const N: usize>(pub [u8; N]);
 
@@ -100,8 +100,8 @@ impl<A: Formattable, B: Formattable> Formattable for (A, B) {
         }
     }
 
-    // As of any description, but part of the caller, where the choices are known. The vector is taken
-    // out meanwhile, so that the compiler sees that its block does not move.
+    // This becomes part of the caller, where the choices are known. The vector is taken out
+    // meanwhile, so that the compiler sees that its block does not move.
     #[inline(always)]
     fn format_into<V: ComponentProvider>(
         &self,
@@ -145,7 +145,8 @@ impl<M: Modifier> Formattable for M {
         value: &V,
         state: &mut V::State,
     ) -> Result<usize, Format> {
-        // As `write` does, with no call between: else a pair that is used in four places is not inlined.
+        // This is `write` without a call between: else a pair that is used in four places is not
+        // inlined.
         if !supplies::<V>(M::GROUP) {
             return Err(Format::InsufficientTypeInformation);
         }

@@ -86,9 +86,10 @@ impl Formattable for FormatDescriptionV3<'_> {
     }
 }
 
-/// Appends the text of the description where there is room for its width. Takes no memory.
+/// Appends the text of the description. The output needs spare capacity for its width. Allocates
+/// nothing.
 ///
-/// Answers the number of bytes appended, or the refusal that ends the text.
+/// Returns the number of bytes appended, or the refusal that ends the text.
 #[inline]
 pub fn v3_write_into<V: ComponentProvider>(
     item: &FormatDescriptionV3Inner<'_>,

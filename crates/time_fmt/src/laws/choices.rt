@@ -4,7 +4,7 @@ ghost use Rattle.std.specs.Prelude.{◌≡◌};
 use crate::modifier::Modifier;
 use time_below::format_description::{Component, modifier};
 
-/// Of the day, the month, the weekday and the week.
+/// The choices of the day, the month, the weekday and the week.
 pub fn choices_of_dates()
     ensures day { ⟦<modifier::Day as Modifier>⟧.component_of ≡ Component.Day }
     ensures month_short { ⟦<modifier::MonthShort as Modifier>⟧.component_of ≡ Component.MonthShort }
@@ -28,7 +28,7 @@ pub fn choices_of_dates()
         ≡ Component.WeekNumberMonday }
 {}
 
-/// Of the year, its century and its last two digits.
+/// The choices of the year, its century and its last two digits.
 pub fn choices_of_years()
     ensures calendar_year_full_extended_range { ⟦<modifier::CalendarYearFullExtendedRange as Modifier>⟧.component_of
         ≡ Component.CalendarYearFullExtendedRange }
@@ -52,7 +52,7 @@ pub fn choices_of_years()
         ≡ Component.IsoYearLastTwo }
 {}
 
-/// Of the time of day, the offset and the moment.
+/// The choices of the time of day, the offset and the moment.
 pub fn choices_of_times()
     ensures hour_12 { ⟦<modifier::Hour12 as Modifier>⟧.component_of ≡ Component.Hour12 }
     ensures hour_24 { ⟦<modifier::Hour24 as Modifier>⟧.component_of ≡ Component.Hour24 }

@@ -374,7 +374,7 @@ fn write_any_century(
     write_extended_century(output, century, number < 0, padding, sign_is_mandatory)
 }
 
-// The same, if it has at most two digits.
+// Appends the century of a year of either calendar, if it has at most two digits.
 #[tactic(auto, using(crate::proofs::TextLemmas::signed_lengths))]
 fn write_accepted_century(
     output: &mut Vec<u8>,

@@ -5,7 +5,7 @@ ghost use Rattle.time_fmt.specs.Room.{HasRoom, Writes};
 
 use time_digits::ru8;
 
-/// Appends the first 1 to 255 decimals of `rest / unit`, not rounded, and answers their number.
+/// Appends the first 1 to 255 decimals of `rest / unit`, not rounded, and returns their number.
 ///
 /// Both are counts of one smaller unit, as nanoseconds, of which an hour has the most.
 pub fn format_decimals(output: &mut Vec<u8>, rest: u64, unit: u64, digits: ru8<1, 255>) -> usize

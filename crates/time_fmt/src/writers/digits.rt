@@ -52,7 +52,8 @@ pub fn format_two_digits(output: &mut Vec<u8>, value: ru8<0, 99>, padding: Paddi
     }
 }
 
-// The same apart, since most numbers have zeros in front.
+// Appends two places of rare padding to a vector that is taken out, since most numbers have zeros
+// in front.
 #[inline]
 fn write_two_rarely(output: &mut Vec<u8>, value: ru8<0, 99>, padding: Padding) -> usize
     requires room { HasRoom output.old (length (padded_text padding 2 value)) }
@@ -64,7 +65,7 @@ fn write_two_rarely(output: &mut Vec<u8>, value: ru8<0, 99>, padding: Padding) -
     count
 }
 
-// The same of a vector that was taken out.
+// Appends two places to a vector that was taken out.
 #[cold]
 #[inline(never)]
 fn write_two_places(output: &mut Vec<u8>, value: ru8<0, 99>, padding: Padding) -> usize
@@ -103,7 +104,8 @@ pub fn format_four_digits(output: &mut Vec<u8>, value: ru16<0, 9_999>, padding: 
     }
 }
 
-// The same apart, since most numbers have zeros in front.
+// Appends four places of rare padding to a vector that is taken out, since most numbers have zeros
+// in front.
 #[inline]
 fn write_four_rarely(output: &mut Vec<u8>, value: ru16<0, 9_999>, padding: Padding) -> usize
     requires room { HasRoom output.old (length (padded_text padding 4 value)) }
@@ -115,7 +117,7 @@ fn write_four_rarely(output: &mut Vec<u8>, value: ru16<0, 9_999>, padding: Paddi
     count
 }
 
-// The same of a vector that was taken out.
+// Appends four places to a vector that was taken out.
 #[cold]
 #[inline(never)]
 fn write_four_places(output: &mut Vec<u8>, value: ru16<0, 9_999>, padding: Padding) -> usize
@@ -180,7 +182,7 @@ pub fn format_int_padded(output: &mut Vec<u8>, value: u64, width: u8) -> usize
     zeros + write(output, digits.as_str())
 }
 
-// Appends so many zeros.
+// Appends this many zeros.
 fn write_zeros(output: &mut Vec<u8>, count: usize) -> usize
     requires room { HasRoom output.old count }
     ensures writes { Writes output.old output.new result (replicate count 48) }

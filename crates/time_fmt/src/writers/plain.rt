@@ -5,9 +5,9 @@ ghost use Rattle.time_fmt.specs.Room.{HasRoom, Writes};
 
 use std::mem::{forget, replace};
 
-/// Takes the vector out of its borrow, in which an empty one stays. A call that is not inlined, and to
-/// which a vector is lent, keeps that vector in memory for the whole of the caller. So the rare ways of
-/// writers lend one that they have taken out, and put it back.
+/// Takes the vector out of its borrow, which keeps an empty one. A call that is not inlined, and
+/// that borrows a vector, keeps that vector in memory for the whole of the caller. So the slow
+/// paths of writers borrow one that they have taken out, and put it back.
 #[inline(always)]
 pub(crate) fn take_out(output: &mut Vec<u8>) -> Vec<u8>
     ensures taken { result ≡ output.old }
@@ -17,7 +17,7 @@ pub(crate) fn take_out(output: &mut Vec<u8>) -> Vec<u8>
     replace(output, Vec::new(alloc))
 }
 
-/// Puts the vector in the place of the empty one, whose memory is not asked for.
+/// Puts the vector back in place of the empty one, which has no memory to free.
 #[inline(always)]
 pub(crate) fn put_back(output: &mut Vec<u8>, taken: Vec<u8>)
     ensures put { output.new ≡ taken }
@@ -25,7 +25,7 @@ pub(crate) fn put_back(output: &mut Vec<u8>, taken: Vec<u8>)
     forget(replace(output, taken))
 }
 
-/// Appends the bytes, and answers their number.
+/// Appends the bytes, and returns their number.
 #[inline(always)]
 pub fn write_bytes(output: &mut Vec<u8>, bytes: &[u8]) -> usize
     requires room { HasRoom output.old (length bytes.now) }
@@ -135,7 +135,7 @@ fn push_rest(output: &mut Vec<u8>, bytes: &[u8])
     }
 }
 
-/// Appends the text, and answers the number of its bytes.
+/// Appends the text, and returns the number of its bytes.
 #[inline(always)]
 pub fn write(output: &mut Vec<u8>, text: &str) -> usize
     requires room { HasRoom output.old (length text.now) }
@@ -159,7 +159,7 @@ pub(super) fn write_pair(output: &mut Vec<u8>, text: &str) -> usize
     2
 }
 
-// Appends three bytes, as of a short name. It needs no loop over blocks, and no vector taken out once more.
+// Appends three bytes, as of a short name, without a loop over blocks.
 #[inline(always)]
 pub(super) fn write_three(output: &mut Vec<u8>, bytes: &[u8]) -> usize
     requires three { length bytes.now ≡ 3 }
@@ -173,7 +173,7 @@ pub(super) fn write_three(output: &mut Vec<u8>, bytes: &[u8]) -> usize
     3
 }
 
-/// Appends the texts one after another, and answers the number of their bytes.
+/// Appends the texts one after another, and returns the number of their bytes.
 #[inline]
 pub fn write_many(output: &mut Vec<u8>, texts: &[&str]) -> usize
     requires room { HasRoom output.old (length (joined texts.now)) }
@@ -186,7 +186,7 @@ pub fn write_many(output: &mut Vec<u8>, texts: &[&str]) -> usize
     sum
 }
 
-/// Appends the text if it is wanted, and answers the number of bytes appended.
+/// Appends the text if it is wanted, and returns the number of bytes appended.
 #[inline(always)]
 pub fn write_if(output: &mut Vec<u8>, is_wanted: bool, text: &str) -> usize
     requires room { HasRoom output.old (length (if is_wanted then text.now else [])) }
@@ -195,7 +195,7 @@ pub fn write_if(output: &mut Vec<u8>, is_wanted: bool, text: &str) -> usize
     if is_wanted { write(output, text) } else { 0 }
 }
 
-/// Appends the first text if it is wanted, else the other, and answers the number of bytes appended.
+/// Appends the first text if it is wanted, else the other, and returns the number of bytes appended.
 #[inline]
 pub fn write_if_else(output: &mut Vec<u8>, is_wanted: bool, text: &str, other: &str) -> usize
     requires room { HasRoom output.old (length (if is_wanted then text.now else other.now)) }

@@ -108,7 +108,7 @@ fn write_rare_decimals(
     count
 }
 
-// The same of a vector that was taken out.
+// Appends decimals of the second to a vector that was taken out.
 #[cold]
 #[inline(never)]
 fn write_decimals(output: &mut Vec<u8>, nanosecond: Nanoseconds, digits: SubsecondDigits) -> usize
@@ -118,9 +118,9 @@ fn write_decimals(output: &mut Vec<u8>, nanosecond: Nanoseconds, digits: Subseco
     fmt_subsecond(output, nanosecond, modifier::Subsecond { digits })
 }
 
-/// Appends the first three of the nine digits. Takes no memory and refuses nothing.
+/// Appends the first three of the nine digits. Allocates nothing and refuses nothing.
 ///
-/// Answers the number of bytes appended.
+/// Returns the number of bytes appended.
 #[inline(always)]
 #[tactic(auto, using(crate::proofs::DecimalLemmas::first_decimals))]
 pub fn write_three_decimals(output: &mut Vec<u8>, nanosecond: Nanoseconds) -> usize
@@ -145,11 +145,11 @@ fn write_three_digits(output: &mut Vec<u8>, number: ru16<0, 999>) -> usize
     1 + write_pair(output, pair)
 }
 
-/// Appends the nine digits without the zeros at their end, at least one digit. There has to be room for
-/// them alone. Takes no memory and refuses nothing.
+/// Appends the nine digits without the zeros at their end, at least one digit. The output needs
+/// spare capacity for these digits. Allocates nothing and refuses nothing.
 ///
-/// Answers the number of bytes appended. What most users write, nine digits, milliseconds and
-/// microseconds, is stored at once: digits that are read back wait until they are all stored.
+/// Returns the number of bytes appended. Nine digits, milliseconds and microseconds are stored at
+/// once: digits that are read back wait until they are all stored.
 #[inline(always)]
 #[tactic(auto, using(crate::proofs::TrimLemmas::whole_fractions))]
 pub fn write_fraction(output: &mut Vec<u8>, nanosecond: Nanoseconds) -> usize
@@ -169,7 +169,8 @@ pub fn write_fraction(output: &mut Vec<u8>, nanosecond: Nanoseconds) -> usize
     write_rare_fraction(output, nanosecond)
 }
 
-// The same of any fraction, apart, since most are of nine, three or six digits.
+// Appends any fraction to a vector that is taken out, since most fractions have nine, three or six
+// digits.
 #[inline]
 fn write_rare_fraction(output: &mut Vec<u8>, nanosecond: Nanoseconds) -> usize
     requires room { HasRoom output.old (length (trimmed_fraction nanosecond)) }
@@ -181,9 +182,9 @@ fn write_rare_fraction(output: &mut Vec<u8>, nanosecond: Nanoseconds) -> usize
     count
 }
 
-/// Appends the first six of the nine digits. Takes no memory and refuses nothing.
+/// Appends the first six of the nine digits. Allocates nothing and refuses nothing.
 ///
-/// Answers the number of bytes appended.
+/// Returns the number of bytes appended.
 #[inline(always)]
 #[tactic(auto, using(crate::proofs::DecimalLemmas::six_digits))]
 pub fn write_six_decimals(output: &mut Vec<u8>, nanosecond: Nanoseconds) -> usize

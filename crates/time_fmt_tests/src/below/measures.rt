@@ -6,7 +6,7 @@ use time_below::format_description::{
     BorrowedFormatItem, FormatDescriptionV3Inner, metadata_of_node,
 };
 
-/// How many lists stand in one another. Were each list measured twice, the innermost one would be
+/// How many lists are in one another. Were each list measured twice, the innermost one would be
 /// measured 2^64 times.
 const LEVELS: usize = 64;
 
@@ -28,7 +28,7 @@ fn nested(alloc: Global) -> Result<BorrowedFormatItem<'static>, AllocError> {
     Ok(item)
 }
 
-/// The same of the third version.
+/// Lists of four items of version 3, of which the last is the next list.
 fn nested_v3(alloc: Global) -> Result<FormatDescriptionV3Inner<'static>, AllocError> {
     let mut item = FormatDescriptionV3Inner::from(DAY);
     for _ in 0..LEVELS {

@@ -3,7 +3,7 @@ use crate::texts::assert_same;
 use std::process::Abort;
 use time_digits::DigitCount;
 
-// Through the trait's bound, as generic callers count.
+// Counts through the trait's bound, as generic callers do.
 fn assert_digits<N: DigitCount>(rt: &impl Abort, n: N, want: u8) {
     assert_same(rt, n.num_digits(), want);
 }

@@ -20,7 +20,7 @@ fn assert_printed<T: Display>(
     Ok(())
 }
 
-/// The same of an error by itself, and inside the outer one.
+/// Compares the printed text of an error alone, and inside the outer one.
 fn assert_both_printed(
     rt: &impl Abort,
     alloc: Global,

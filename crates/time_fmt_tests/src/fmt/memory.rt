@@ -1,4 +1,4 @@
-//! Reservations that are refused, and memory that is there.
+//! Allocations that fail, and allocations that succeed.
 use crate::texts::{DAY, assert_same, assert_that, refusal_name};
 use crate::values::wednesday;
 use std::alloc::{AllocError, Global};
@@ -14,8 +14,8 @@ type Lent = &'static [BorrowedFormatItem<'static>];
 
 type LentV3 = &'static [FormatDescriptionV3Inner<'static>];
 
-// Two levels of 32 items over one literal of 8 KiB have 8 MiB, and are measured quickly. All are leaked,
-// since what is lent to a tree lives as long as its parts.
+// Two levels of 32 items over one literal of 8 KiB have 8 MiB, and are measured quickly. All are
+// leaked, since a tree borrows its parts for their whole life.
 const LITERAL: usize = 8_192;
 
 // Twice the smallest piece that is taken, so that nothing of that width is left. Of what owns its parts
@@ -68,8 +68,8 @@ pub(super) fn all_that_is_left(alloc: Global) -> Result<Vec<Vec<u8>>, AllocError
     Ok(taken)
 }
 
-/// A failed allocation changes nothing, and the next call writes what it is asked for. Nothing of the
-/// width is left meanwhile.
+/// Asserts that a failed allocation changes nothing, and that the next call writes its text. No
+/// block as large as the width is left meanwhile.
 fn assert_refused<D: Formattable>(
     rt: &impl Abort,
     alloc: Global,

@@ -33,7 +33,8 @@ struct Values {
 }
 
 impl Values {
-    /// Of 1997-11-12 9:55:06.123456789 -06:30, and the moment 879,351,906 seconds after 1970.
+    /// Returns the values of 1997-11-12 9:55:06.123456789 -06:30, and the moment 879,351,906
+    /// seconds after 1970.
     fn new(rt: &impl Abort) -> Values {
         let date = date_at(rt, (1997, 11, 12));
         let time = time_at(rt, (9, 55, 6, 123_456_789));
@@ -55,7 +56,7 @@ fn example(rt: &impl Abort) -> OffsetDateTime {
     moment(rt, (1997, 11, 12), (9, 55, 6, 123_456_789), (-6, -30, 0))
 }
 
-/// Appends both to a vector of their own, behind a byte, and compares bytes and answers.
+/// Appends both to a vector of their own, after a byte, and compares bytes and answers.
 fn assert_as_list<P: Formattable, V: ComponentProvider>(
     rt: &impl Abort,
     alloc: Global,
@@ -265,7 +266,7 @@ fn one_part_and_33_are_texts(rt: HostRuntime) {
     assert_text(&rt, alloc, &many, &value, text, 35);
 }
 
-// What stands before the refusal stays, and nothing follows it.
+// What precedes the refusal stays, and nothing follows it.
 #[test]
 fn a_refusal_in_the_midst_ends_the_text(rt: HostRuntime) {
     let (alloc, values) = (rt.alloc(), Values::new(&rt));

@@ -1,4 +1,4 @@
-//! Long texts, long outputs, long lists and deep trees. Memory is there, so its absence is not answered.
+//! Long texts, long outputs, long lists and deep trees. Memory is available, so no call is out of memory.
 use crate::texts::{DAY, assert_same, assert_text, assert_that};
 use crate::values::wednesday;
 use std::alloc::{AllocError, Global};
@@ -36,7 +36,7 @@ fn a_text_stands_behind_a_megabyte(rt: HostRuntime) -> Result<(), Fail> {
     Ok(())
 }
 
-/// Compares the bytes with so many of these letters.
+/// Compares the bytes with this many of these letters.
 fn assert_repeated(rt: &impl Abort, bytes: &[u8], letter: &[u8], count: usize) {
     let mut found = 0usize;
     for piece in bytes.chunks(letter.len().max(1)) {
@@ -92,7 +92,7 @@ const TREES: &[(Level, usize)] = &[
     (Level::First, 1_000),
 ];
 
-// What is lent to a tree lives as long as its parts, so it is leaked here.
+// A tree borrows its parts for their whole life, so they are leaked here.
 fn borrowed(
     alloc: Global,
     level: Level,

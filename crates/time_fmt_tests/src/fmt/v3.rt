@@ -23,7 +23,7 @@ fn date(alloc: Global, slash: Inner<'static>) -> Result<Vec<Inner<'static>>, Fai
     Ok(vec![in alloc; day, slash, month]?)
 }
 
-// What is lent to a description lives as long as its own parts, so it is leaked here.
+// A description borrows its parts for their whole life, so they are leaked here.
 #[test]
 fn a_list_is_written_in_order_and_of_a_first_the_first(rt: HostRuntime) -> Result<(), Fail> {
     let alloc = rt.alloc();

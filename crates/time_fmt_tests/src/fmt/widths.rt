@@ -1,4 +1,4 @@
-//! Each component, written into exactly as much room as its width.
+//! Each component, written into exactly as much spare capacity as its width.
 use crate::texts::{assert_same, assert_that};
 use crate::values::moment;
 use std::alloc::Global;
@@ -94,8 +94,8 @@ const OTHERS: &[Component] = components! {
     End { trailing_input: TrailingInput::Prohibit },
 };
 
-/// Writes the component of the value where there is exactly the room of its width, and answers the
-/// number of its bytes; a refusal has none.
+/// Writes the component of the value into exactly as much spare capacity as its width, and returns
+/// the number of its bytes; a refusal has none.
 fn written(rt: &impl Abort, alloc: Global, component: &Component, value: &OffsetDateTime) -> usize {
     let width = component_width(component);
     let Ok(mut output) = Vec::with_capacity(alloc, width) else {

@@ -10,7 +10,7 @@ use time_below::format_description::modifier::Padding;
 use time_digits::{ru8, ru16, ru32};
 use time_fmt::writers::*;
 
-/// An empty vector with room for each text of these tests.
+/// Returns an empty vector with capacity for each text of these tests.
 fn empty(rt: &HostRuntime) -> Result<Vec<u8>, AllocError>
     ensures { IfOk result (λ output. HasRoom output 20) }
 {

@@ -25,7 +25,7 @@ lacking_of components.DateTime c f h = grind (arith, common_steps, unsupplied)
 lacking_of components.DateTimeOffset c f h = grind (arith, common_steps, unsupplied)
 lacking_of components.TimeOffset c f h = grind (arith, common_steps, unsupplied)
 
--- the same, where the test reads the choices once more
+-- a value without a needed group is refused, by choices that the test reads once more
 pub lacking : (c read : Choices) (f : Facts) (needed : Groups) → read ≡ c
     → needed ≡ groups_of read.formatted_components → has_groups needed f ≡ false
     → iso8601_outcome c f ≡ refused insufficient

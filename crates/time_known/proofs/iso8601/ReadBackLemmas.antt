@@ -32,7 +32,7 @@ joined_are_canonical c w =
           (is.0, is.1, sym (outcome_is c v w) ∙ is.2);
     }
 
--- where nothing is refused, the bytes spell the value whose groups they are
+-- completed bytes spell the value of their groups
 iso8601_reads : (c : Choices) (f : Facts) → has_groups (groups_of c.formatted_components) f ≡ true
     → (c.formatted_components ≡ components.DateTimeOffset → AreReal f)
     → (iso8601_outcome c f).refusal ≡ None
@@ -46,7 +46,7 @@ iso8601_reads c f there real complete w =
     (sym (ap (λ (x : Outcome). x.refusal) same) ∙ complete) in
     subst (λ (x : Outcome). ReadsAs (λ v. v) (Iso8601Spells c) (IsCanonicalIso8601 c) f x.bytes) (sym same) read
 
--- where a text is completed, it spells the value
+-- a completed text spells the value
 pub completed_reads : {old new : Vec ℕ Global} (answer : Result ℕ Format) (read c : Choices) (f : Facts)
     → read ≡ c → has_groups (groups_of read.formatted_components) f ≡ true
     → OnOk answer (read.formatted_components ≡ components.DateTimeOffset → AreReal f)

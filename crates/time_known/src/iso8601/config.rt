@@ -1,14 +1,14 @@
 //! The choices of ISO 8601-1:2019 that a text is written by.
-ghost use Rattle.std.specs.Prelude.{◌≡◌, IfSome};
+ghost use Rattle.std.specs.Prelude.{◌≡◌};
 ghost use Rattle.time_known.specs.Config.{default_choices, separator, decimal_sign_text, has_time_letter, has_date, has_time, has_offset, groups_of};
-ghost use Rattle.time_known.specs.UsualText.{usual_choices};
+ghost use Rattle.time_known.specs.UsualText.{IsUsual, usual_of};
 
 use crate::groups::Groups;
 use std::default::Default;
 use std::marker::Model;
 use time_digits::ru8;
 
-/// Which parts are written.
+/// The parts of a text.
 #[derive(Debug, Clone, Copy, PartialEq, Eq)]
 pub enum FormattedComponents {
     /// No part, which formats nothing.
@@ -21,7 +21,7 @@ pub enum FormattedComponents {
     TimeOffset,
 }
 
-/// Which date is written.
+/// The kind of the date in a text.
 #[derive(Debug, Clone, Copy, PartialEq, Eq)]
 pub enum DateKind {
     /// The year, the month and the day (section 5.2.2).
@@ -56,7 +56,7 @@ pub enum OffsetPrecision {
     Minute,
 }
 
-/// How a text is written.
+/// The configuration of a text.
 #[derive(Debug, Clone, Copy, PartialEq, Eq)]
 pub struct Config {
     formatted_components: FormattedComponents,
@@ -68,7 +68,7 @@ pub struct Config {
     decimal_sign: DecimalSign,
 }
 
-// What is left to choose for a text of the date by month and day behind four digits of the year, the time to
+// What is left to choose for a text of the date by month and day after four digits of the year, the time to
 // the second or to decimals of it, and the offset to the minute.
 #[derive(Clone, Copy)]
 pub(super) struct Usual {
@@ -124,7 +124,7 @@ impl Default for Config {
 }
 
 impl Config {
-    /// The same configuration, with these parts of a text.
+    /// Returns this configuration with these parts of a text.
     pub fn set_formatted_components(self, formatted_components: FormattedComponents) -> Self
         ensures { result ≡ record self { formatted_components = formatted_components } }
     {
@@ -134,7 +134,7 @@ impl Config {
         }
     }
 
-    /// The same configuration, with or without separators.
+    /// Returns this configuration with or without separators.
     pub fn set_use_separators(self, use_separators: bool) -> Self
         ensures { result ≡ record self { use_separators = use_separators } }
     {
@@ -144,7 +144,7 @@ impl Config {
         }
     }
 
-    /// The same configuration, with six digits of the year and its sign, or with four digits.
+    /// Returns this configuration with six digits of the year and its sign, or with four digits.
     pub fn set_year_is_six_digits(self, year_is_six_digits: bool) -> Self
         ensures { result ≡ record self { year_is_six_digits = year_is_six_digits } }
     {
@@ -154,14 +154,14 @@ impl Config {
         }
     }
 
-    /// The same configuration, with this kind of date.
+    /// Returns this configuration with this kind of date.
     pub fn set_date_kind(self, date_kind: DateKind) -> Self
         ensures { result ≡ record self { date_kind = date_kind } }
     {
         Config { date_kind, ..self }
     }
 
-    /// The same configuration, with this precision of the time.
+    /// Returns this configuration with this precision of the time.
     pub fn set_time_precision(self, time_precision: TimePrecision) -> Self
         ensures { result ≡ record self { time_precision = time_precision } }
     {
@@ -171,7 +171,7 @@ impl Config {
         }
     }
 
-    /// The same configuration, with this precision of the offset.
+    /// Returns this configuration with this precision of the offset.
     pub fn set_offset_precision(self, offset_precision: OffsetPrecision) -> Self
         ensures { result ≡ record self { offset_precision = offset_precision } }
     {
@@ -181,8 +181,8 @@ impl Config {
         }
     }
 
-    /// The same configuration, with this sign before the decimals of the time. It has no effect on a
-    /// text without decimals.
+    /// Returns this configuration with this sign before the decimals of the time. It has no effect
+    /// on a text without decimals.
     pub fn set_decimal_sign(self, decimal_sign: DecimalSign) -> Self
         ensures { result ≡ record self { decimal_sign = decimal_sign } }
     {
@@ -235,7 +235,7 @@ impl Config {
         if self.use_separators { text } else { "" }
     }
 
-    // Whether the letter T stands before the time.
+    // Whether the letter T precedes the time.
     pub(super) fn has_time_letter(&self) -> bool
         ensures { result ≡ has_time_letter self.now }
     {
@@ -245,8 +245,8 @@ impl Config {
     // What is left to choose, where the rest is chosen as by most callers.
     #[inline(always)]
     pub(super) fn usual(&self) -> Option<Usual>
-        ensures { IfSome result (λ u. self.now
-            ≡ usual_choices u.has_separators u.decimal_digits u.decimal_sign) }
+        ensures left { result ≡ usual_of self.now }
+        ensures usual { IsUsual self.now result }
     {
         let parts = (self.formatted_components, self.date_kind);
         match (parts, self.time_precision, self.offset_precision) {

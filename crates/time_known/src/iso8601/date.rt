@@ -24,11 +24,11 @@ use time_fmt::writers::{
 use time_provide::ComponentProvider;
 use time_provide::ranges::Year;
 
-/// Appends the date where there is room for its width, whether or not the configuration formats
-/// dates. Takes no memory.
+/// Appends the date, whether or not the configuration formats dates. The output needs spare
+/// capacity for its width. Allocates nothing.
 ///
-/// Answers the number of bytes appended, or the refusal of a year that four digits do not hold, before
-/// any byte of the date.
+/// Returns the number of bytes appended, or the refusal of a year that four digits do not hold,
+/// before any byte of the date.
 pub fn format_date<V: ComponentProvider>(
     config: &Config,
     output: &mut Vec<u8>,

@@ -17,11 +17,12 @@ use time_fmt::Format;
 use time_fmt::writers::{fmt_offset_hour, fmt_offset_minute, write};
 use time_provide::ComponentProvider;
 
-/// Appends the offset where there is room for its width, whether or not the configuration formats
-/// offsets: `Z` for UTC where it formats a time, else the difference from UTC. Takes no memory.
+/// Appends the offset, whether or not the configuration formats offsets: `Z` for UTC if it formats
+/// a time, else the difference from UTC. The output needs spare capacity for its width. Allocates
+/// nothing.
 ///
-/// Answers the number of bytes appended, or the refusal of a second before any byte of the offset, or
-/// of a minute that the precision leaves out, after the hour.
+/// Returns the number of bytes appended, or the refusal of a second before any byte of the offset,
+/// or of a minute that the precision leaves out, after the hour.
 pub fn format_offset<V: ComponentProvider>(
     config: &Config,
     output: &mut Vec<u8>,

@@ -10,8 +10,9 @@ ghost use Rattle.time_known.specs.Config.{groups_of};
 ghost use Rattle.time_known.specs.Groups.{AreAllSupplied, are_supplied, at_groups};
 ghost use Rattle.time_known.specs.Iso8601.{iso8601_outcome, iso_date, iso_time, iso_offset, iso_of_groups};
 ghost use Rattle.time_known.specs.Iso8601Width.{iso8601_width, iso_date_width, iso_time_width, iso_offset_width};
+ghost use Rattle.time_known.specs.UsualText.{IsUsual};
 
-use crate::iso8601::config::{Config, FormattedComponents};
+use crate::iso8601::config::{Config, FormattedComponents, Usual};
 use crate::iso8601::date::format_date;
 use crate::iso8601::offset::format_offset;
 use crate::iso8601::time::format_time;
@@ -19,16 +20,18 @@ use crate::iso8601::usual_text::write_usual;
 use time_fmt::Format;
 use time_provide::ComponentProvider;
 
-// Appends the parts that are formatted, of a value that supplies their groups. Nothing to format is
-// refused. What most callers ask for has a way of its own, but for values of which something is
-// refused.
+// Appends the parts that are formatted, of a value that supplies their groups. A configuration that
+// formats nothing is refused. The usual configurations have a fast path, unless something of the
+// value is refused.
 #[inline(always)]
 pub(super) fn write_parts<V: ComponentProvider>(
     config: &Config,
+    usual: &Option<Usual>,
     output: &mut Vec<u8>,
     value: &V,
     state: &mut V::State,
 ) -> Result<usize, Format>
+    requires usual { IsUsual config.now usual.now }
     requires supplied { IsTrue (are_supplied (groups_of config.now.formatted_components)
         V.SUPPLIES_DATE V.SUPPLIES_TIME V.SUPPLIES_OFFSET) }
     requires room { HasRoom output.old (iso8601_width config.now) }
@@ -40,8 +43,8 @@ pub(super) fn write_parts<V: ComponentProvider>(
         → AreReal (V.facts value.now)) }
     ensures agrees { V.agrees state.new value.now }
 {
-    if let Some(usual) = config.usual() {
-        if let Some(count) = write_usual(config, &usual, output, value, state) {
+    if let Some(usual) = usual {
+        if let Some(count) = write_usual(config, usual, output, value, state) {
             return Ok(count);
         }
     }

@@ -23,10 +23,10 @@ const NANOSECONDS_PER_MINUTE: u64 = 60_000_000_000;
 
 const NANOSECONDS_PER_HOUR: u64 = 3_600_000_000_000;
 
-/// Appends the time where there is room for its width, whether or not the configuration formats
-/// times. Takes no memory and refuses nothing.
+/// Appends the time, whether or not the configuration formats times. The output needs spare
+/// capacity for its width. Allocates nothing and refuses nothing.
 ///
-/// Answers the number of bytes appended.
+/// Returns the number of bytes appended.
 pub fn format_time<V: ComponentProvider>(
     config: &Config,
     output: &mut Vec<u8>,

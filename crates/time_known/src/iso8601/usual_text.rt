@@ -1,11 +1,11 @@
-//! The texts of the configurations that most callers ask for, in pieces that are inlined.
+//! The texts of the usual configurations, in pieces that are inlined.
 ghost use Rattle.std.specs.Prelude.{◌≡◌, ◌+◌, ◌*◌, ◌++◌, length, Some, OnSome, MatchOption, Ok};
 ghost use Rattle.time_fmt.specs.Decimals.{decimals};
 ghost use Rattle.time_fmt.specs.Outcome.{AppendsUpTo};
 ghost use Rattle.time_fmt.specs.Room.{HasRoom};
 ghost use Rattle.time_provide.specs.Real.{AreReal};
 ghost use Rattle.time_known.specs.Config.{default_choices};
-ghost use Rattle.time_known.specs.Fields.{date_of_fields, offset_of_fields, time_of_day};
+ghost use Rattle.time_known.specs.Fields.{date_of_fields, offset_of_fields, shown, time_of_day};
 ghost use Rattle.time_known.specs.Groups.{AreAllSupplied, at_groups};
 ghost use Rattle.time_known.specs.Iso8601.{decimal_part, iso_of_groups};
 ghost use Rattle.time_known.specs.Iso8601Width.{decimal_part_width, iso8601_width};
@@ -67,7 +67,7 @@ impl Text for UsualText {
 
     ghost text = { λ t. usual_of_fields
         (usual_choices t.usual.has_separators t.usual.decimal_digits t.usual.decimal_sign)
-        t.usual.decimal_digits t.fields };
+        t.usual.decimal_digits (shown t.fields) };
 
     #[inline(always)]
     #[tactic(auto, using(crate::proofs::LengthLemmas::joined_lengths))]
@@ -90,7 +90,7 @@ pub struct DefaultText {
 impl Text for DefaultText {
     ghost width = { λ _. 35 };
 
-    ghost text = { λ t. usual_of_fields default_choices (Some 9) t.fields };
+    ghost text = { λ t. usual_of_fields default_choices (Some 9) (shown t.fields) };
 
     #[inline(always)]
     fn put_into<S: Sink>(&self, output: &mut S) {
@@ -112,7 +112,7 @@ fn put_usual<S: Sink>(output: &mut S, usual: &Usual, fields: &Fields, dash: &str
         + decimal_part_width usual.now.decimal_digits) (S.buffer output.old) }
     ensures puts { PutsUpTo (20 + 2 * length dash.now + 3 * length colon.now
         + decimal_part_width usual.now.decimal_digits) (S.buffer output.old) (S.buffer output.new)
-        (date_of_fields dash.now fields.now
+        (date_of_fields dash.now (shown fields.now)
         ++ usual_time_text colon.now usual.now.decimal_sign usual.now.decimal_digits
         (time_of_day fields.now.time)
         ++ offset_of_fields colon.now fields.now.offset) }
@@ -156,7 +156,7 @@ fn put_fraction_by<S: Sink>(output: &mut S, usual: &Usual, nanosecond: Nanosecon
     }
 }
 
-// Puts so many decimals of the second.
+// Puts this many decimals of the second.
 #[inline(always)]
 #[tactic(auto, using(crate::proofs::iso8601::LengthLemmas::decimals_of_second))]
 fn put_decimals<S: Sink>(output: &mut S, nanosecond: Nanoseconds, digits: ru8<1, 255>)

@@ -7,9 +7,10 @@ use crate::iso8601::config::{
 };
 use time_digits::ru8;
 
-// The width of the parts that are formatted. What most callers ask for is told first.
+// Returns the width of the parts that are formatted. The usual configurations are tested first.
 pub(super) fn width(config: &Config) -> usize
-    ensures { result ≡ iso8601_width config.now }
+    ensures width { result ≡ iso8601_width config.now }
+    ensures most { result ≤ 284 }
 {
     if let Some(usual) = config.usual() {
         let signs = if usual.has_separators { 25 } else { 20 };
@@ -30,8 +31,8 @@ pub(super) fn width(config: &Config) -> usize
 }
 
 impl Config {
-    /// The most bytes of the date by this configuration, which `format_date` needs room for: 7 to 13.
-    /// It is told whether or not the configuration formats dates.
+    /// Returns the most bytes of the date by this configuration, 7 to 13: the spare capacity that
+    /// `format_date` needs. It does not depend on whether the configuration formats dates.
     pub fn date_width(&self) -> usize
         ensures width { result ≡ iso_date_width self.now }
         ensures most { result ≤ 13 }
@@ -45,8 +46,8 @@ impl Config {
         year + rest
     }
 
-    /// The most bytes of the time by this configuration, which `format_time` needs room for: 2 to 265.
-    /// It is told whether or not the configuration formats times.
+    /// Returns the most bytes of the time by this configuration, 2 to 265: the spare capacity that
+    /// `format_time` needs. It does not depend on whether the configuration formats times.
     pub fn time_width(&self) -> usize
         ensures width { result ≡ iso_time_width self.now }
         ensures most { result ≤ 265 }
@@ -63,8 +64,8 @@ impl Config {
         letter + units
     }
 
-    /// The most bytes of the offset by this configuration, which `format_offset` needs room for: 3 to
-    /// 6. It is told whether or not the configuration formats offsets.
+    /// Returns the most bytes of the offset by this configuration, 3 to 6: the spare capacity that
+    /// `format_offset` needs. It does not depend on whether the configuration formats offsets.
     pub fn offset_width(&self) -> usize
         ensures width { result ≡ iso_offset_width self.now }
         ensures most { result ≤ 6 }

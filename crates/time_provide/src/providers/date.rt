@@ -79,7 +79,7 @@ impl ComponentProvider for Date {
         state.iso_year(*self)
     }
 
-    // No caller may reach a method of a group that is not supplied: it answers a constant.
+    // No caller may reach a method of a group that is not supplied: it returns a constant.
     fn hour(&self, state: &mut DateState) -> Hours
         ensures value { result ≡ 0 }
         ensures kept { state.new ≡ state.old }

@@ -92,7 +92,7 @@ impl ComponentProvider for PlainDateTime {
         ComponentProvider::nanosecond(&self.time(), &mut ())
     }
 
-    // No caller may reach a method of a group that is not supplied: it answers a constant.
+    // No caller may reach a method of a group that is not supplied: it returns a constant.
     fn offset_is_negative(&self, state: &mut DateState) -> bool
         ensures value { result ≡ false }
         ensures kept { state.new ≡ state.old }

@@ -33,7 +33,7 @@ impl ComponentProvider for UtcOffset {
 
     const SUPPLIES_TIMESTAMP: bool = false;
 
-    // No caller may reach a method of a group that is not supplied: it answers a constant.
+    // No caller may reach a method of a group that is not supplied: it returns a constant.
     fn day(&self, _state: &mut ()) -> Day
         ensures { result ≡ 1 }
     {

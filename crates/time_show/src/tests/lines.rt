@@ -156,7 +156,7 @@ fn answers_many_lines(rt: HostRuntime) -> Result<(), Fail> {
     Ok(())
 }
 
-/// The theorem of `run` at a reader and a writer that tell their bytes.
+/// The theorem of `run` at a reader and a writer that show their bytes.
 fn answer_all(alloc: Global, input: &[u8]) -> Result<Vec<u8>, ShowError>
     ensures { IfOk result (λ output. AreAnswers (lines_of input.now) output.items) }
 {

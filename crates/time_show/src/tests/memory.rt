@@ -9,7 +9,7 @@ use std::io::Write;
 use std::process::Abort;
 use std::test::Fail;
 
-/// Holds what is written in an array, so that it asks for no memory.
+/// Holds what is written in an array, so that it allocates nothing.
 #[derive(Drop)]
 struct Page {
     bytes: [u8; 128],
@@ -30,7 +30,7 @@ impl Write for Page {
     }
 }
 
-/// Asks for no memory but in `run`, so that it also passes where any one request is refused.
+/// Allocates nothing but in `run`, so that it also passes where any one allocation fails.
 #[test]
 fn goes_on_after_a_refusal(rt: HostRuntime) {
     let mut source: &[u8] = b"time 1 0 0 0\nno\ntime 2 0 0 0\ntime 3 0 0 0\n";
@@ -63,7 +63,7 @@ fn all_that_is_left(alloc: Global) -> Result<Vec<Vec<u8>>, AllocError> {
     Ok(taken)
 }
 
-/// Compares the answer to one time of day. Only `run` asks for memory.
+/// Compares the answer to one time of day. Only `run` allocates.
 fn assert_answer(rt: &impl Abort, alloc: Global, answer: &[u8]) {
     let mut source: &[u8] = b"time 9 55 6 120000000\n";
     let mut page = Page {
@@ -75,9 +75,9 @@ fn assert_answer(rt: &impl Abort, alloc: Global, answer: &[u8]) {
 }
 
 /// The value is refused when no memory is left. One of the smallest vectors given back is enough
-/// for its text, so an answer that asked for much more would be refused once more.
+/// for its text, so an answer that allocated much more would be refused once more.
 ///
-/// An allocator that keeps addresses of its own for small requests cannot be emptied so, and there
+/// An allocator that keeps separate addresses for small requests cannot be emptied so, and there
 /// the answer is the right one.
 #[test]
 fn a_value_is_refused_where_no_memory_is_left(rt: HostRuntime) -> Result<(), Fail> {

@@ -1,4 +1,5 @@
-//! A reader and a writer that fail once and would work after: the run ends, and neither is asked again.
+//! A reader and a writer that fail once and would work after: the run ends, and calls neither
+//! again.
 use super::{assert_same, assert_same_at};
 use crate::run::{ShowError, run};
 use crate::tests::{INPUT, answers};
@@ -8,7 +9,7 @@ use std::io::{ErrorKind, Read, Write};
 use std::process::Abort;
 use std::test::Fail;
 
-/// How a call fails. Elsewhere the second and the third are taken for a wish to be asked again.
+/// How a call fails. Elsewhere the second and the third mean that the call is to be repeated.
 const KINDS: &[ErrorKind] = &[
     ErrorKind::Other,
     ErrorKind::Interrupted,

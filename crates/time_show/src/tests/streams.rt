@@ -98,7 +98,7 @@ fn fails_at_each_write(rt: HostRuntime) -> Result<(), Fail> {
     Ok(())
 }
 
-/// Each line of the stored run in a read of its own, so that each answer is a write of its own.
+/// Each line of the stored run is one read, so that each answer is one write.
 #[test]
 fn fails_at_the_write_of_each_answer(rt: HostRuntime) -> Result<(), Fail> {
     for calls in 0..4usize {
@@ -161,12 +161,12 @@ fn makes_as_many_reads_as_there_are_bytes(rt: HostRuntime) -> Result<(), Fail> {
     Ok(())
 }
 
-/// How many answers of 9 bytes and then of 20 and of 21 bytes one block asks for, and what each
+/// How many answers of 9 bytes and then of 20 and of 21 bytes one block requests, and what each
 /// write takes. The buffer holds 16,384 bytes.
 const WRITES: &[((usize, usize, usize), &[usize])] = &[
     // They fill the buffer to its last byte.
     ((1776, 20, 0), &[16_384]),
-    // One more goes out behind a full buffer.
+    // One more goes out after a full buffer.
     ((1776, 21, 0), &[16_384, 20]),
     // One of 21 bytes does not fit into the 10 that are left, and is not torn.
     ((1786, 15, 1), &[16_374, 21]),

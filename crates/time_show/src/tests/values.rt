@@ -24,7 +24,7 @@ const NAMES: &[&str; 10] = &[
 
 /// Numbers in their ranges, each followed by one past its range.
 const EDGES: &[[(i32, i32); 10]] = &[
-    // Above the greatest.
+    // Numbers above the greatest.
     [
         (999_999, 1_000_000),
         (12, 13),
@@ -37,7 +37,7 @@ const EDGES: &[[(i32, i32); 10]] = &[
         (59, 60),
         (59, 60),
     ],
-    // Below the least.
+    // Numbers below the least.
     [
         (-999_999, -1_000_000),
         (1, 0),

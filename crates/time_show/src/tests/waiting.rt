@@ -27,8 +27,8 @@ impl Write for Counter {
     }
 }
 
-/// An answer whose text has so many bytes. It has eight more, `ok 0 0 ` and a line feed, and no answer
-/// has fewer.
+/// An answer whose text has this many bytes. It has eight more, `ok 0 0 ` and a line feed, and no
+/// answer has fewer.
 fn reply(text: &[u8], len: usize) -> Reply<'_> {
     Reply::Formatted {
         count: 0,

@@ -2,7 +2,7 @@ use Rattle.std.proofs.Common.{◌≡◌, ◌≤◌, length}
 use Rattle.movaliren_c.specs.Batch.{ended, Stand}
 use Rattle.movaliren_c.proofs.batch.lines_written.Given as goal
 
--- the lines of the items so far stand at the start of the room
+-- the lines of the items so far are at the start of the buffer
 abbrev pub invariant-loop-item : goal.invariant-loop-item
 invariant-loop-item g l =
     (l.done ≡ l.item-index)

@@ -26,7 +26,7 @@ overflow_sub-start-then-rest-gt9 c =
     let l = c.loop-rest in
     places_left 1 c.args.value l.rest l.start l.bytes l.invariant c.if-rest-gt9.true l.auto.rest-fits.fits
 
--- after the pair, if there is one, at most one digit is left
+-- at most one digit is left after the pair, if there is one
 one_left : (c : Joined-rest-gt9) → IsPending c.args.value c.if-rest-gt9.rest c.if-rest-gt9.start c.if-rest-gt9.bytes
     × (c.if-rest-gt9.rest ≤ 9)
 one_left c =
@@ -46,7 +46,7 @@ overflow_sub-start-then-rest-ne0 c =
     last_place c.args.value c.if-rest-gt9.rest c.if-rest-gt9.start c.if-rest-gt9.bytes left.0 left.1
     c.then-rest-ne0.either
 
--- with the first digit, if there is one, all is written
+-- all is written with the first digit, if there is one
 written : (c : Joined-rest-ne0) → (drop c.if-rest-ne0.start c.if-rest-ne0.bytes ≡ decimal c.args.value)
     × (c.if-rest-ne0.start ≤ 20)
 written c =

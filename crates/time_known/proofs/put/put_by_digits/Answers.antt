@@ -1,4 +1,4 @@
-use Rattle.std.proofs.Common.{◌≡◌, ◌+◌, ◌-◌, ◌*◌, ◌/◌, ◌%◌, ◌^◌, ◌++◌, ℕ, List, [], ◌∷◌, arith, ap, ◌∙◌, decimal, drop, length, sym}
+use Rattle.std.proofs.Common.{◌≡◌, ◌+◌, ◌-◌, ◌*◌, ◌/◌, ◌%◌, ◌^◌, ◌++◌, ℕ, List, [], ◌∷◌, arith, ap, ◌∙◌, decimal, drop, length}
 use Rattle.std.proofs.lemmas.List.{drop-drop}
 use Rattle.time_digits.proofs.DigitLemmas.{length-fixed}
 use Rattle.time_fmt.specs.Decimals.{decimals}

@@ -1,4 +1,4 @@
-//! The same entries over many dates, times and offsets, and after a third method.
+//! The entries of a state over many dates, times and offsets, and after a third method.
 use super::{ENTRIES, Method, call, check_entries, either, held, state_after};
 use crate::ComponentProvider;
 use crate::date_state::DateState;
@@ -42,7 +42,7 @@ fn entries_of_many_dates(rt: HostRuntime) {
     }
 }
 
-/// After a third method the state holds its entries too.
+/// Checks that the state also holds its entries after a third method.
 fn check_third<V: ComponentProvider<State = DateState>>(
     rt: &impl Abort,
     value: &V,

@@ -1,4 +1,4 @@
-//! The same entries on dates of negative years, and on further moments.
+//! The entries of a state on dates of negative years, and on further moments.
 use super::{ENTRIES, check_entries, held, state_after};
 use crate::tests::{date_at, moment_at};
 use std::process::Abort;

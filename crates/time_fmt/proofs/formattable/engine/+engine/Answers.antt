@@ -66,7 +66,7 @@ write_node-returns-in-Some-clause-text g t c =
     (g.V.ComponentProvider.facts c.args.value.now) (sym c.in-Some.ensures.value) in
     rw (← c.in-First.ensures.tree) (first c.write_node.ensures.text)
 
--- at the end of the loop nothing is left
+-- the end of the loop leaves nothing
 pub write_nodes-returns-clause-appends : goal.write_nodes-returns-clause-appends
 write_nodes-returns-clause-appends g t c =
     rw (c.put_back-2.ensures.put, c.len.ensures, c.len-begin.ensures, c.take_out-taken.ensures.taken)
@@ -107,7 +107,7 @@ pub write_node-returns-in-Optional-clause-text : goal.write_node-returns-in-Opti
 write_node-returns-in-Optional-clause-text g t c =
     rw (← c.in-Optional.ensures.tree) c.write_node-in-Optional.ensures.text
 
--- each layer has the room of its tree
+-- each layer has the capacity of its tree
 pub write_node-write_bytes-requires : goal.write_node-write_bytes-requires
 write_node-write_bytes-requires g t c = record { room = rw (← c.in-Bytes.ensures.tree) at c.requires.room }
 

@@ -1,7 +1,7 @@
 use Rattle.std.proofs.Common.{◌≡◌, ◌+◌, ◌≤◌, ◌++◌, replicate, vec_len, vec_capacity}
 use Rattle.time_fmt.proofs.writers.digits.write_zeros.Given as goal
 
--- so many zeros stand behind what was there, and all of them have room
+-- the zeros so far are at the end of the output, and the others fit its capacity
 abbrev pub invariant-loop : goal.invariant-loop
 invariant-loop l = record {
   bytes : l.output.items ≡ l.fn.output.items ++ replicate l.counter 48;

@@ -12,7 +12,7 @@ returns-in-Some-write_usual-clause-appends g c =
     let choices = c.args.config.now in
     let f = g.V.ComponentProvider.facts value in
     let law = g.met.V.ComponentProvider in
-    let chosen = ap (λ (c : Choices). c.formatted_components) c.in-Some.ensures in
+    let chosen = ap (λ (c : Choices). c.formatted_components) (rw c.in-Some.is at c.requires.usual) in
     let there : has_groups (groups_of choices.formatted_components) f ≡ true =
     rw (law.supplies_date value, law.supplies_time value, law.supplies_offset value) c.requires.supplied in
     by_choice choices f components.DateTimeOffset chosen

@@ -1,4 +1,3 @@
-use Rattle.std.proofs.Common.{sym, ◌∙◌}
 use Rattle.time_below.specs.Facts.{the_date, the_time, the_offset}
 use Rattle.time_known.specs.Groups.{at_groups}
 use Rattle.time_known.specs.UsualText.{usual_choices, usual_of_fields, usual_text}

@@ -2,6 +2,7 @@ use Rattle.std.proofs.Common.{ap, sym, ◌∙◌, ℕ, unsigned_abs}
 use Rattle.time_below.specs.Facts.{the_date, the_offset}
 use Rattle.time_fmt.specs.Outcome.{Outcome}
 use Rattle.time_fmt.proofs.WriteLemmas.{appends_nothing, appends_up_to}
+use Rattle.time_known.specs.Fields.{shown}
 use Rattle.time_known.specs.Groups.{at_groups}
 use Rattle.time_known.specs.Rfc2822.{rfc2822_of_fields, rfc2822_of_groups, rfc2822_text}
 use Rattle.time_known.proofs.AcceptedLemmas.{any_hour}
@@ -23,7 +24,7 @@ returns-in-Ok-clause-appends g c =
     (unsigned_abs (the_offset f).seconds) text c.accepted_year_of.ensures.offset.0.0 in
     rw (outcome_of_all f all rfc2822_of_groups ∙ sym hours ∙ c.in-Ok.ensures.accepted text)
     (appends_up_to (written_as (rfc2822_of_fields (the_date f).weekday) c.fields_of-fields.ensures.fields
-    (written_as (λ (weekday : ℕ). rfc2822_of_fields weekday c.fields_of-fields.result)
+    (written_as (λ (weekday : ℕ). rfc2822_of_fields weekday (shown c.fields_of-fields.result))
     c.weekday-weekday.ensures.value c.append.ensures.writes)))
 
 pub returns-in-Ok-clause-spelled : goal.returns-in-Ok-clause-spelled

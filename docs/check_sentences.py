@@ -1,0 +1,38 @@
+#!/usr/bin/env python3
+"""Measures the documents: no sentence outside code and tables has more than 40 words, nor have all more than allowed."""
+
+import pathlib
+import re
+import sys
+
+TOP = pathlib.Path(__file__).resolve().parent.parent
+PAGES = ["README.md", "CONTRIBUTING.md", "CHANGELOG.md", "docs/*.md", "crates/*/README.md"]
+MOST_OF_SENTENCE = 40
+# Two thirds of what the documents had before they were shortened.
+MOST_OF_ALL = 15_992
+
+
+def paragraphs(page):
+    """Paragraphs and items of lists, each as one line."""
+    text = re.sub(r"^```.*?^```$", "", page, flags=re.S | re.M)
+    text = re.sub(r"^(\||#).*$", "", text, flags=re.M)
+    return [" ".join(it.split()) for it in re.split(r"\n\s*\n|\n(?=\s*(?:[-*]|\d+\.) )", text) if it.strip()]
+
+
+def sentences(paragraph):
+    return re.split(r"(?<=[.!?])\s+(?=[\"'(`*]*[A-Z`\[])", re.sub(r"^(?:[-*]|\d+\.) ", "", paragraph))
+
+
+def main():
+    texts = {path: path.read_text() for page in PAGES for path in sorted(TOP.glob(page))}
+    found = [(path, it) for path, text in texts.items() for line in paragraphs(text) for it in sentences(line)]
+    long = [(path, it) for path, it in found if len(it.split()) > MOST_OF_SENTENCE]
+    for path, it in long:
+        print(f"{path.relative_to(TOP)}: a sentence of {len(it.split())} words: {it[:80]}")
+    words = sum(len(text.split()) for text in texts.values())
+    print(f"{len(found)} sentences, {len(long)} too long; {words} words of {MOST_OF_ALL}")
+    return 1 if long or words > MOST_OF_ALL else 0
+
+
+if __name__ == "__main__":
+    sys.exit(main())
