@@ -3,7 +3,7 @@ ghost use Rattle.std.specs.Prelude.{◌≡◌, ◌+◌, ◌≤◌, IsTrue, IsUtf
 ghost use Rattle.time_below.specs.Conversion.{is_current};
 ghost use Rattle.time_below.specs.Width.{component_width};
 ghost use Rattle.time_fmt.specs.Description.{component_outcome, current_outcome};
-ghost use Rattle.time_fmt.specs.Outcome.{Appends, AppendsUpTo};
+ghost use Rattle.time_fmt.specs.Outcome.{Appends, AppendsUpTo, AppendsWhole};
 ghost use Rattle.time_fmt.specs.Room.{HasRoom};
 
 use crate::error::Format;
@@ -40,6 +40,81 @@ pub(crate) fn write_common<V: ComponentProvider>(
         Component::Second(part) => write_unless_refused(part, output, value, state),
         Component::Subsecond(part) => write_apart(part, output, value, state),
         _ => None,
+    }
+}
+
+/// Appends the text of a component that is met less often, and returns the number of bytes. Of one that
+/// is refused it writes nothing, and returns nothing. Each writer stands apart, so that this is a jump to
+/// the writer and has no frame.
+#[inline(always)]
+pub(crate) fn write_uncommon<V: ComponentProvider>(
+    component: Component,
+    output: &mut Vec<u8>,
+    value: &V,
+    state: &mut V::State,
+) -> Option<usize>
+    requires room { HasRoom output.old (component_width component) }
+    requires agrees { V.agrees state.old value.now }
+    ensures appends { MatchOption result (output.new ≡ output.old)
+        (λ count. AppendsUpTo (component_width component) output.old output.new (Ok count)
+        (component_outcome component (V.facts value.now))) }
+    ensures agrees { V.agrees state.new value.now }
+{
+    match component {
+        Component::MonthShort(part) => write_lent(part, output, value, state),
+        Component::MonthLong(part) => write_lent(part, output, value, state),
+        Component::Ordinal(part) => write_lent(part, output, value, state),
+        Component::WeekdayShort(part) => write_lent(part, output, value, state),
+        Component::WeekdayLong(part) => write_lent(part, output, value, state),
+        Component::WeekdaySunday(part) => write_lent(part, output, value, state),
+        Component::WeekdayMonday(part) => write_lent(part, output, value, state),
+        Component::WeekNumberIso(part) => write_lent(part, output, value, state),
+        Component::WeekNumberSunday(part) => write_lent(part, output, value, state),
+        Component::WeekNumberMonday(part) => write_lent(part, output, value, state),
+        Component::CalendarYearCenturyExtendedRange(part) => write_lent(part, output, value, state),
+        Component::CalendarYearCenturyStandardRange(part) => write_lent(part, output, value, state),
+        Component::CalendarYearLastTwo(part) => write_lent(part, output, value, state),
+        Component::IsoYearFullExtendedRange(part) => write_lent(part, output, value, state),
+        Component::IsoYearFullStandardRange(part) => write_lent(part, output, value, state),
+        Component::IsoYearCenturyExtendedRange(part) => write_lent(part, output, value, state),
+        Component::IsoYearCenturyStandardRange(part) => write_lent(part, output, value, state),
+        Component::IsoYearLastTwo(part) => write_lent(part, output, value, state),
+        Component::Hour12(part) => write_lent(part, output, value, state),
+        Component::Period(part) => write_lent(part, output, value, state),
+        Component::OffsetHour(part) => write_lent(part, output, value, state),
+        Component::OffsetMinute(part) => write_lent(part, output, value, state),
+        Component::OffsetSecond(part) => write_lent(part, output, value, state),
+        Component::UnixTimestampSecond(part) => write_lent(part, output, value, state),
+        Component::UnixTimestampMillisecond(part) => write_lent(part, output, value, state),
+        Component::Month(_)
+        | Component::Weekday(_)
+        | Component::WeekNumber(_)
+        | Component::Hour(_)
+        | Component::UnixTimestamp(_)
+        | Component::Year(_) => write_converted(component, output, value, state),
+        _ => None,
+    }
+}
+
+// Writes a deprecated component by the current one in its place.
+#[inline(never)]
+#[tactic(auto, using(crate::proofs::ConversionLemmas::width_of_current))]
+fn write_converted<V: ComponentProvider>(
+    component: Component,
+    output: &mut Vec<u8>,
+    value: &V,
+    state: &mut V::State,
+) -> Option<usize>
+    requires room { HasRoom output.old (component_width component) }
+    requires agrees { V.agrees state.old value.now }
+    ensures appends { MatchOption result (output.new ≡ output.old)
+        (λ count. AppendsUpTo (component_width component) output.old output.new (Ok count)
+        (component_outcome component (V.facts value.now))) }
+    ensures agrees { V.agrees state.new value.now }
+{
+    match current_write_into(component.current(), output, value, state) {
+        Ok(count) => Some(count),
+        Err(_) => None,
     }
 }
 
@@ -169,7 +244,7 @@ fn current_write_into<V: ComponentProvider>(
     requires current { IsTrue (is_current component) }
     requires room { HasRoom output.old (component_width component) }
     requires agrees { V.agrees state.old value.now }
-    ensures appends { AppendsUpTo (component_width component) output.old output.new result
+    ensures appends { AppendsWhole (component_width component) output.old output.new result
         (current_outcome component (V.facts value.now)) }
     ensures agrees { V.agrees state.new value.now }
 {

@@ -10,7 +10,7 @@ ghost use Rattle.time_fmt.specs.Text.{padded_text};
 use crate::error::Format;
 use crate::modifier::Modifier;
 use crate::writers::digits::{format_three_digits, format_two_digits};
-use crate::writers::plain::write_name;
+use crate::writers::plain::{write_name, write_three};
 use time_below::Month;
 use time_below::format_description::{Group, modifier};
 use time_digits::ru8;
@@ -60,7 +60,7 @@ pub fn fmt_month_short(output: &mut Vec<u8>, month: Month, modifier: modifier::M
         (short_name (month_name (month_number month))) }
 {
     let _ = modifier;
-    write_name(output, &name_of_month(month).as_bytes()[..3])
+    write_three(output, &name_of_month(month).as_bytes()[..3])
 }
 
 impl Modifier for modifier::MonthShort {

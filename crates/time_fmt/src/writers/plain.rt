@@ -159,6 +159,20 @@ pub(super) fn write_pair(output: &mut Vec<u8>, text: &str) -> usize
     2
 }
 
+// Appends three bytes, as of a short name, without a loop over blocks.
+#[inline(always)]
+pub(super) fn write_three(output: &mut Vec<u8>, bytes: &[u8]) -> usize
+    requires three { length bytes.now ≡ 3 }
+    requires room { HasRoom output.old 3 }
+    ensures writes { Writes output.old output.new result bytes.now }
+{
+    let (first, second, third) = (bytes[0], bytes[1], bytes[2]);
+    output.push_reserved(first);
+    output.push_reserved(second);
+    output.push_reserved(third);
+    3
+}
+
 /// Appends the texts one after another, and returns the number of their bytes.
 #[inline]
 pub fn write_many(output: &mut Vec<u8>, texts: &[&str]) -> usize

@@ -11,7 +11,7 @@ ghost use Rattle.time_fmt.specs.Text.{padded_text};
 use crate::error::Format;
 use crate::modifier::Modifier;
 use crate::writers::digits::{format_single_digit, format_two_digits};
-use crate::writers::plain::write_name;
+use crate::writers::plain::{write_name, write_three};
 use time_below::Weekday;
 use time_below::format_description::{Group, modifier};
 use time_digits::ru8;
@@ -31,7 +31,7 @@ pub fn fmt_weekday_short(
         (short_name (weekday_name (days_from_monday weekday))) }
 {
     let _ = modifier;
-    write_name(output, &name_of_weekday(weekday).as_bytes()[..3])
+    write_three(output, &name_of_weekday(weekday).as_bytes()[..3])
 }
 
 impl Modifier for modifier::WeekdayShort {

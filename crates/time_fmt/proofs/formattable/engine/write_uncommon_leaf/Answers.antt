@@ -1,5 +1,5 @@
 use Rattle.time_fmt.proofs.GuaranteeLemmas.{text_of_written}
-use Rattle.time_fmt.proofs.formattable.engine.write_leaf.Goals as goal
+use Rattle.time_fmt.proofs.formattable.engine.write_uncommon_leaf.Goals as goal
 
 pub returns-in-Component-clause-text : goal.returns-in-Component-clause-text
 returns-in-Component-clause-text g c =
