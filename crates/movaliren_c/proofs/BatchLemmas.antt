@@ -26,10 +26,10 @@ stopped_line (Ok o) r before after h = (h.1, h.0)
 stopped_line (Err e) r before after h = (let same = h.0 in cc, h.1)
 
 -- a text that is written after the front of a buffer extends that front
-placed : (front init room later t : List ℕ) (b n : ℕ) → b ≡ length front
+placed_after_front : (front init room later t : List ℕ) (b n : ℕ) → b ≡ length front
     → room ≡ front ++ drop b init → n ≡ length t → take b later ≡ take b room
     → drop b later ≡ t ++ drop n (drop b room) → later ≡ (front ++ t) ++ drop (b + n) init
-placed front init room later t b n eb er en et ed =
+placed_after_front front init room later t b n eb er en et ed =
     let whole = sym (take-append-drop b later) in
     grind (arith, common_steps)
 
@@ -40,9 +40,9 @@ same_room room later b et ed = sym (take-append-drop b later) ∙ ap (λ x. x ++
     (λ x. take b room ++ x) ed ∙ take-append-drop b room
 
 -- the bytes after the lines are unchanged
-behind : (front init room : List ℕ) (b : ℕ) → b ≡ length front → room ≡ front ++ drop b init
+bytes_after_front : (front init room : List ℕ) (b : ℕ) → b ≡ length front → room ≡ front ++ drop b init
     → drop b room ≡ drop b init
-behind front init room b eb er = grind (arith, common_steps)
+bytes_after_front front init room b eb er = grind (arith, common_steps)
 
 lines_more : {A : Type 0} (line : A → Result Outcome Reason) (items : List A) (n : ℕ) (d : A)
     → n < length items
@@ -69,7 +69,7 @@ stand_more {A} n items line bytes before room later d count inside s h same =
       whole = subst (All P) (sym (take_more items n d inside)) (All-push P (take n items) (get_or
           items n d) s.whole k.0);
       counted = omega (arith, ap length grown, length-append front t, s.counted, k.1);
-      written = placed front before room later t bytes count s.counted s.written k.1 same k.2 ∙ ap
+      written = placed_after_front front before room later t bytes count s.counted s.written k.1 same k.2 ∙ ap
           (λ x. x ++ drop (bytes + count) before) (sym grown);
     }
 
@@ -83,7 +83,7 @@ pub stops_at : {A : Type 0} (n : ℕ) (items : List A) (line : A → Result Outc
 stops_at n items line bytes before room later d r inside s h same =
     let k = stopped_line (line (get_or items n d)) r (drop bytes room) (drop bytes later) h in
     let e = same_room room later bytes same k.1 in
-    let b = behind (lines line (take n items)) before room bytes s.counted s.written in (
+    let b = bytes_after_front (lines line (take n items)) before room bytes s.counted s.written in (
       rw e s,
       rw (slice_get-get_or items n d inside) (subst (λ rest. Stops r (line (get_or items n
           d)) (length rest)) b k.0),

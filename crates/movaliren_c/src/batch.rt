@@ -35,7 +35,7 @@ pub extern "C" fn movaliren_rfc3339_batch(moments: &[Moment], end: u8, room: &mu
     ensures { IsBatch moments.now (λ moment. ended end (gives (moment_value moment) rfc3339_of))
         result room.old room.new }
 {
-    lines_written(&Rfc3339, moments, end, room)
+    write_lines(&Rfc3339, moments, end, room)
 }
 
 /// The texts of RFC 2822 of the moments, one after another, each ended by this byte.
@@ -44,7 +44,7 @@ pub extern "C" fn movaliren_rfc2822_batch(moments: &[Moment], end: u8, room: &mu
     ensures { IsBatch moments.now (λ moment. ended end (gives (moment_value moment) rfc2822_of))
         result room.old room.new }
 {
-    lines_written(&Rfc2822, moments, end, room)
+    write_lines(&Rfc2822, moments, end, room)
 }
 
 /// The texts of ISO 8601 of the moments by the default configuration, one after another, each ended
@@ -55,7 +55,7 @@ pub extern "C" fn movaliren_iso8601_batch(moments: &[Moment], end: u8, room: &mu
         (λ moment. ended end (gives (moment_value moment) (iso8601_of default_choices)))
         result room.old room.new }
 {
-    lines_written(&Iso8601, moments, end, room)
+    write_lines(&Iso8601, moments, end, room)
 }
 
 /// The texts of ISO 8601 of the moments by a configuration, one after another, each ended by this
@@ -72,7 +72,7 @@ pub extern "C" fn movaliren_iso8601_by_batch(
         (with_value (choices_at config.now) (λ c. gives (moment_value moment) (iso8601_of c))))
         result room.old room.new }
 {
-    lines_written(config, moments, end, room)
+    write_lines(config, moments, end, room)
 }
 
 /// The stamps of the moments, one after another, each ended by this byte.
@@ -82,18 +82,18 @@ pub extern "C" fn movaliren_stamp_batch(moments: &[UtcMoment], end: u8, room: &m
         (λ moment. ended end (gives (stamp_value moment.seconds moment.nanosecond) stamp_of))
         result room.old room.new }
 {
-    lines_written(&Stamp, moments, end, room)
+    write_lines(&Stamp, moments, end, room)
 }
 
 /// The texts of the items, one after another, each ended by this byte.
-pub fn lines_written<W: Writer>(writer: &W, items: &[W::Item], end: u8, room: &mut [u8]) -> Progress
+pub fn write_lines<W: Writer>(writer: &W, items: &[W::Item], end: u8, room: &mut [u8]) -> Progress
     ensures { IsBatch items.now (λ item. ended end (W.asked writer.now item))
         result room.old room.new }
 {
     let mut bytes = 0usize;
     let mut done = 0usize;
     for item in items {
-        match line_behind(writer, item, end, room, bytes) {
+        match write_line_after(writer, item, end, room, bytes) {
             Ok(count) => {
                 bytes += count;
                 done += 1;
@@ -115,7 +115,7 @@ pub fn lines_written<W: Writer>(writer: &W, items: &[W::Item], end: u8, room: &m
 }
 
 /// Writes the line of the item after this many bytes of the buffer.
-fn line_behind<W: Writer>(
+fn write_line_after<W: Writer>(
     writer: &W,
     item: &W::Item,
     end: u8,
@@ -128,12 +128,12 @@ fn line_behind<W: Writer>(
     ensures front { take bytes room.new ≡ take bytes room.old }
     ensures inside { IfOk result (λ count. bytes + count ≤ length room.old) }
 {
-    line_written(writer, item, end, &mut room[bytes..])
+    write_line(writer, item, end, &mut room[bytes..])
 }
 
 /// Writes the text of the item and its end byte to the start of the buffer. The text may use all
 /// but the last byte. An empty buffer has no such byte, so an empty text does not fit it either.
-fn line_written<W: Writer>(
+fn write_line<W: Writer>(
     writer: &W,
     item: &W::Item,
     end: u8,
@@ -143,7 +143,7 @@ fn line_written<W: Writer>(
     ensures fits { IfOk result (λ count. count ≤ length room.old) }
 {
     let most = room.len().saturating_sub(1);
-    match text_within(writer, item, room, most) {
+    match write_text_within(writer, item, room, most) {
         Ok(count) => {
             if count == room.len() {
                 return Err(Reason::NoRoom);
@@ -156,7 +156,7 @@ fn line_written<W: Writer>(
 }
 
 /// Writes the text of the item to the first bytes of the buffer.
-fn text_within<W: Writer>(
+fn write_text_within<W: Writer>(
     writer: &W,
     item: &W::Item,
     room: &mut [u8],

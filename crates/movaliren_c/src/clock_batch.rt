@@ -7,7 +7,7 @@ ghost use Rattle.time_known.specs.Iso8601.{iso8601_of};
 ghost use Rattle.time_known.specs.Rfc2822.{rfc2822_of};
 ghost use Rattle.time_known.specs.Rfc3339.{rfc3339_of};
 
-use crate::batch::{Progress, lines_written};
+use crate::batch::{Progress, write_lines};
 use crate::iso8601::IsoConfig;
 use crate::local::{Rfc2822Local, Rfc3339Local};
 use crate::moment::UtcMoment;
@@ -24,7 +24,7 @@ pub extern "C" fn movaliren_rfc3339_utc_batch(
         (λ m. ended end (gives (utc_value m.seconds m.nanosecond) rfc3339_of))
         result room.old room.new }
 {
-    lines_written(&Rfc3339Utc, moments, end, room)
+    write_lines(&Rfc3339Utc, moments, end, room)
 }
 
 /// The texts of RFC 2822 of the moments in UTC, one after another, each ended by this byte.
@@ -38,7 +38,7 @@ pub extern "C" fn movaliren_rfc2822_utc_batch(
         (λ m. ended end (gives (utc_value m.seconds m.nanosecond) rfc2822_of))
         result room.old room.new }
 {
-    lines_written(&Rfc2822Utc, moments, end, room)
+    write_lines(&Rfc2822Utc, moments, end, room)
 }
 
 /// The texts of ISO 8601 of the moments in UTC by the default configuration, one after another, each
@@ -53,7 +53,7 @@ pub extern "C" fn movaliren_iso8601_utc_batch(
         (λ m. ended end (gives (utc_value m.seconds m.nanosecond) (iso8601_of default_choices)))
         result room.old room.new }
 {
-    lines_written(&Iso8601Utc, moments, end, room)
+    write_lines(&Iso8601Utc, moments, end, room)
 }
 
 /// The texts of ISO 8601 of the moments in UTC by a configuration, one after another, each ended by
@@ -69,7 +69,7 @@ pub extern "C" fn movaliren_iso8601_by_utc_batch(
         (λ m. ended end (iso8601_by_utc config.now m.seconds m.nanosecond))
         result room.old room.new }
 {
-    lines_written(&Iso8601ByUtc { config: *config }, moments, end, room)
+    write_lines(&Iso8601ByUtc { config: *config }, moments, end, room)
 }
 
 /// The texts of RFC 3339 of the moments, at an offset of this many seconds east of UTC, one after
@@ -85,7 +85,7 @@ pub extern "C" fn movaliren_rfc3339_local_batch(
         (λ m. ended end (gives (local_value m.seconds m.nanosecond offset) rfc3339_of))
         result room.old room.new }
 {
-    lines_written(&Rfc3339Local { offset }, moments, end, room)
+    write_lines(&Rfc3339Local { offset }, moments, end, room)
 }
 
 /// The texts of RFC 2822 of the moments, at an offset of this many seconds east of UTC, one after
@@ -101,5 +101,5 @@ pub extern "C" fn movaliren_rfc2822_local_batch(
         (λ m. ended end (gives (local_value m.seconds m.nanosecond offset) rfc2822_of))
         result room.old room.new }
 {
-    lines_written(&Rfc2822Local { offset }, moments, end, room)
+    write_lines(&Rfc2822Local { offset }, moments, end, room)
 }

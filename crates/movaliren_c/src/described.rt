@@ -13,7 +13,7 @@ ghost use Rattle.time_fmt.specs.Room.{HasRoom};
 use crate::item::{Item, Part, part_of};
 use crate::moment::{Moment, date_value, provided_value, timestamp_value};
 use crate::reason::{Reason, answer_number, reason_of};
-use crate::room::copied;
+use crate::room::copy_text;
 use std::alloc::Global;
 use std::default::Default;
 use time_below::format_description::component_width;
@@ -41,7 +41,7 @@ pub extern "C" fn movaliren_format(
         (described (trees_of texts.now items.now) (moment_value moment.now)
         facts_of_offset_date_time) answer room.old room.new) }
 {
-    answer_number(value_described(alloc, items, texts, provided_value(moment), room))
+    answer_number(write_value_described(alloc, items, texts, provided_value(moment), room))
 }
 
 /// The text of a moment in UTC.
@@ -63,7 +63,7 @@ pub extern "C" fn movaliren_format_utc(
         facts_of_timestamp) answer room.old room.new) }
 {
     let value = timestamp_value(seconds, nanosecond);
-    answer_number(value_described(alloc, items, texts, value, room))
+    answer_number(write_value_described(alloc, items, texts, value, room))
 }
 
 /// The text of a date.
@@ -85,7 +85,7 @@ pub extern "C" fn movaliren_format_date(
         (described (trees_of texts.now items.now) (date_value year month day)
         facts_of_date) answer room.old room.new) }
 {
-    answer_number(value_described(alloc, items, texts, date_value(year, month, day), room))
+    answer_number(write_value_described(alloc, items, texts, date_value(year, month, day), room))
 }
 
 /// The most bytes that a text of the description has, up to the greatest `isize`.
@@ -97,7 +97,7 @@ pub extern "C" fn movaliren_width(items: &[Item], texts: &[u8]) -> isize
 }
 
 /// Writes the text of the value by the description, if there are both.
-fn value_described<V: ComponentProvider + Drop>(
+fn write_value_described<V: ComponentProvider + Drop>(
     alloc: Global,
     items: &[Item],
     texts: &[u8],
@@ -113,7 +113,7 @@ where
 {
     match width(items, texts) {
         Ok(width) => match value {
-            Ok(value) => written(alloc, items, texts, width, &value, room),
+            Ok(value) => write_description(alloc, items, texts, width, &value, room),
             Err(reason) => Err(reason),
         },
         Err(reason) => Err(reason),
@@ -121,7 +121,7 @@ where
 }
 
 /// Writes the text of the value by a description of this width.
-fn written<V: ComponentProvider>(
+fn write_description<V: ComponentProvider>(
     alloc: Global,
     items: &[Item],
     texts: &[u8],
@@ -145,7 +145,7 @@ where
         return Err(Reason::OutOfMemory);
     };
     match write_items(items, texts, &mut line, value, &mut Default::default()) {
-        Ok(_) => copied(line.as_slice(), room),
+        Ok(_) => copy_text(line.as_slice(), room),
         Err(error) => Err(reason_of(error)),
     }
 }

@@ -13,7 +13,7 @@ use crate::fields::{accepted_year_of, fields_of, parts_of};
 use crate::moment::{LocalMoment, Moment, moment_value};
 use crate::moment_text::{MomentText, put_at_start, write_moment};
 use crate::reason::{Reason, answer_number, reason_for};
-use crate::room::copied;
+use crate::room::copy_text;
 use crate::sinks::ArraySink;
 use crate::writer::Writer;
 pub use config::{IsoConfig, config_at};
@@ -82,7 +82,7 @@ impl Writer for IsoConfig {
     fn write(&self, moment: &Moment, room: &mut [u8]) -> Result<usize, Reason> {
         match config_at(self) {
             Ok(config) => match moment_value(moment) {
-                Ok(value) => written_by(config, value, room),
+                Ok(value) => write_by(config, value, room),
                 Err(reason) => Err(reason),
             },
             Err(reason) => Err(reason),
@@ -93,19 +93,19 @@ impl Writer for IsoConfig {
 /// Writes the text of the value by a configuration to the start of the buffer. The usual
 /// configurations have a fast path, unless something of the value is refused or the buffer is small.
 #[inline(always)]
-pub fn written_by(config: Config, value: LocalMoment, room: &mut [u8]) -> Result<usize, Reason>
+pub fn write_by(config: Config, value: LocalMoment, room: &mut [u8]) -> Result<usize, Reason>
     ensures { IsWritten result (iso8601_of config value) room.old room.new }
 {
-    match usual_written(&config, &value, room) {
+    match write_usual(&config, &value, room) {
         Some(count) => Ok(count),
-        None => copied_by(config, value, room),
+        None => copy_by(config, value, room),
     }
 }
 
 /// Writes the text by a usual configuration, if nothing of the value is refused, and the room holds
 /// each of its texts; else it writes nothing.
 #[inline(always)]
-fn usual_written(config: &Config, value: &LocalMoment, room: &mut [u8]) -> Option<usize>
+fn write_usual(config: &Config, value: &LocalMoment, room: &mut [u8]) -> Option<usize>
     ensures { MatchOption result (room.new ≡ room.old)
         (λ n. IsWritten (Ok n) (iso8601_of config.now value.now) room.old room.new) }
 {
@@ -126,7 +126,7 @@ fn usual_written(config: &Config, value: &LocalMoment, room: &mut [u8]) -> Optio
 
 /// Writes the text by way of an array, since a part may be refused behind others.
 #[inline(never)]
-fn copied_by(config: Config, value: LocalMoment, room: &mut [u8]) -> Result<usize, Reason>
+fn copy_by(config: Config, value: LocalMoment, room: &mut [u8]) -> Result<usize, Reason>
     ensures { IsWritten result (iso8601_of config value) room.old room.new }
 {
     if config.formats_nothing() {
@@ -134,20 +134,20 @@ fn copied_by(config: Config, value: LocalMoment, room: &mut [u8]) -> Result<usiz
     }
     let parts = parts_of(&config, &value);
     let _width = config.width();
-    copied_parts(&config, &parts, room)
+    copy_parts(&config, &parts, room)
 }
 
 /// Writes the text of the parts by way of an array. No text has more bytes: 13 of the date, 265 of the
 /// time and 6 of the offset.
 #[inline(always)]
 #[tactic(auto, using(crate::proofs::PushLemmas::copied_whole))]
-fn copied_parts(config: &Config, parts: &Parts, room: &mut [u8]) -> Result<usize, Reason>
+fn copy_parts(config: &Config, parts: &Parts, room: &mut [u8]) -> Result<usize, Reason>
     requires width { parts_width config.now parts.now ≤ 284 }
     ensures { IsWritten result (parts_text config.now parts.now) room.old room.new }
 {
     let mut line = ArraySink::<284>::new();
     match put_parts(&mut line, config, parts) {
-        Ok(()) => copied(line.as_bytes(), room),
+        Ok(()) => copy_text(line.as_bytes(), room),
         Err(component) => Err(reason_for(component)),
     }
 }

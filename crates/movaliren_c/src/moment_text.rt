@@ -7,7 +7,7 @@ ghost use Rattle.time_fmt.specs.Outcome.{Outcome, done};
 
 use crate::moment::{LocalMoment, Moment, moment_value};
 use crate::reason::Reason;
-use crate::room::copied;
+use crate::room::copy_text;
 use crate::sinks::{ArraySink, RoomSink};
 use time_known::sink::Text;
 
@@ -109,7 +109,7 @@ fn copy_value<T: MomentText>(value: &LocalMoment, room: &mut [u8]) -> Result<usi
         Ok(text) => {
             let mut line = ArraySink::<35>::new();
             text.put_into(&mut line);
-            copied(line.as_bytes(), room)
+            copy_text(line.as_bytes(), room)
         }
         Err(reason) => Err(reason),
     }

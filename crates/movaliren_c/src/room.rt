@@ -7,7 +7,7 @@ use crate::reason::Reason;
 
 /// Copies the text to the start of the buffer, if it fits.
 #[inline(always)]
-pub fn copied(text: &[u8], room: &mut [u8]) -> Result<usize, Reason>
+pub fn copy_text(text: &[u8], room: &mut [u8]) -> Result<usize, Reason>
     ensures written { IsWritten result (done text.now) room.old room.new }
     ensures fits { IfOk result (λ count. count ≤ length room.old) }
 {

@@ -21,14 +21,14 @@ impl Writer for Stamp {
 
     fn write(&self, moment: &UtcMoment, room: &mut [u8]) -> Result<usize, Reason> {
         match stamp_value(moment.seconds, moment.nanosecond) {
-            Ok(value) => stamp_written(value, room),
+            Ok(value) => write_stamp(value, room),
             Err(reason) => Err(reason),
         }
     }
 }
 
 /// Writes the stamp of a value to the start of the buffer.
-fn stamp_written(value: UtcDateTime, room: &mut [u8]) -> Result<usize, Reason>
+fn write_stamp(value: UtcDateTime, room: &mut [u8]) -> Result<usize, Reason>
     ensures { IsWritten result (stamp_of value) room.old room.new }
 {
     write_value::<DefaultText>(&LocalMoment::in_utc(value), room)

@@ -7,7 +7,7 @@ ghost use Rattle.time_known.specs.Iso8601.{iso8601_of};
 ghost use Rattle.time_known.specs.Rfc2822.{rfc2822_of};
 ghost use Rattle.time_known.specs.Rfc3339.{rfc3339_of};
 
-use crate::iso8601::{IsoConfig, config_at, written_by};
+use crate::iso8601::{IsoConfig, config_at, write_by};
 use crate::kept_offset::KeptOffset;
 use crate::moment::{LocalMoment, UtcMoment, value_at};
 use crate::moment_text::write_value;
@@ -132,13 +132,13 @@ impl Writer for Iso8601ByUtc {
     ghost asked = { λ by m. iso8601_by_utc by.config m.seconds m.nanosecond };
 
     fn write(&self, moment: &UtcMoment, room: &mut [u8]) -> Result<usize, Reason> {
-        written_in_utc(&self.config, moment.seconds, moment.nanosecond, room)
+        write_in_utc(&self.config, moment.seconds, moment.nanosecond, room)
     }
 }
 
 /// Writes the text of a moment in UTC by a configuration to the start of the buffer.
 #[tactic(auto, unfolding(crate::specs::Utc::iso8601_by_utc))]
-fn written_in_utc(
+fn write_in_utc(
     config: &IsoConfig,
     seconds: i64,
     nanosecond: u32,
@@ -148,7 +148,7 @@ fn written_in_utc(
 {
     match config_at(config) {
         Ok(config) => match utc_value(seconds, nanosecond) {
-            Ok(value) => written_by(config, value, room),
+            Ok(value) => write_by(config, value, room),
             Err(reason) => Err(reason),
         },
         Err(reason) => Err(reason),
@@ -167,5 +167,5 @@ pub extern "C" fn movaliren_iso8601_by_utc(
     ensures { Answers result (λ answer.
         IsText (iso8601_by_utc config.now seconds nanosecond) answer room.old room.new) }
 {
-    answer_number(written_in_utc(config, seconds, nanosecond, room))
+    answer_number(write_in_utc(config, seconds, nanosecond, room))
 }

@@ -82,22 +82,22 @@ other_widths p b = refl
 
 -- the current components in the place of the deprecated ones, choice by choice
 
-months : (p : Padding) (b : Bool)
+month_rows : (p : Padding) (b : Bool)
     → map (λ x. current_component (component.Month (record { padding = p; repr = x; case_sensitive = b })))
     (month.Numerical ∷ month.Long ∷ month.Short ∷ [])
     ≡ component.MonthNumerical (record { padding = p }) ∷
     component.MonthLong (record { case_sensitive = b }) ∷
     component.MonthShort (record { case_sensitive = b }) ∷ []
-months p b = refl
+month_rows p b = refl
 
-weekdays : (p : Padding) (b : Bool)
+weekday_rows : (p : Padding) (b : Bool)
     → map (λ x. current_component (component.Weekday (record { repr = x; one_indexed = b; case_sensitive = b })))
     (weekday.Short ∷ weekday.Long ∷ weekday.Sunday ∷ weekday.Monday ∷ [])
     ≡ component.WeekdayShort (record { case_sensitive = b }) ∷
     component.WeekdayLong (record { case_sensitive = b }) ∷
     component.WeekdaySunday (record { one_indexed = b }) ∷
     component.WeekdayMonday (record { one_indexed = b }) ∷ []
-weekdays p b = refl
+weekday_rows p b = refl
 
 week_numbers : (p : Padding) (b : Bool)
     → map (λ x. current_component (component.WeekNumber (record { padding = p; repr = x })))
@@ -107,12 +107,12 @@ week_numbers : (p : Padding) (b : Bool)
     component.WeekNumberMonday (record { padding = p }) ∷ []
 week_numbers p b = refl
 
-hours : (p : Padding) (b : Bool)
+hour_rows : (p : Padding) (b : Bool)
     → map (λ x. current_component (component.Hour (record { padding = p; is_12_hour_clock = x })))
     (true ∷ false ∷ [])
     ≡ component.Hour12 (record { padding = p }) ∷
     component.Hour24 (record { padding = p }) ∷ []
-hours p b = refl
+hour_rows p b = refl
 
 unix_timestamps : (p : Padding) (b : Bool)
     → map (λ x. current_component (component.UnixTimestamp (record { precision = x; sign_is_mandatory = b })))

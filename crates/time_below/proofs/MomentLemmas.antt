@@ -69,17 +69,17 @@ seconds_of_time_at : (passed nanosecond : ℕ)
 seconds_of_time_at passed nanosecond = omega arith
 
 -- whole days and the second of the day make the second again
-joined : (s d z : ℤ) (n r p : ℕ) → s +ℤ pos seconds_before ≡ pos n → d ≡ z
+days_and_second_joined : (s d z : ℤ) (n r p : ℕ) → s +ℤ pos seconds_before ≡ pos n → d ≡ z
     → pos (n / day_seconds) -ℤ pos days_before ≡ z → r ≡ n % day_seconds → p ≡ r
     → (d -ℤ pos unix_day) *ℤ pos day_seconds +ℤ pos p ≡ s
-joined s d z n r p e same day rest parts = omega (arith, ints)
+days_and_second_joined s d z n r p e same day rest parts = omega (arith, ints)
 
 -- the UTC date and time of a moment have its seconds
 pub unix_seconds-utc : (m : Moment) → IsMoment m → unix_seconds (utc_date_and_time m) ≡ m.seconds
 unix_seconds-utc m h =
     let n = unsigned_abs (m.seconds +ℤ pos seconds_before) in
     let e = seconds_from_start m.seconds h.0 in
-    joined m.seconds (day_number (utc_date m.seconds)) (day_of_second m.seconds) n
+    days_and_second_joined m.seconds (day_number (utc_date m.seconds)) (day_of_second m.seconds) n
     (second_of_day m.seconds) _ e
     (day_number_back (day_of_second m.seconds) (day_within m.seconds h.0))
     (utc_day m.seconds n e)
@@ -180,13 +180,13 @@ offset_within : (o : Offset) → AreOffsetParts o.hours o.minutes o.seconds
 offset_within o h = omega (arith, ints)
 
 -- less than 26 hours from a second of a timestamp
-pub near : (s o : ℤ) → IsTimestampSecond s → unsigned_abs o < 93_600 → IsNearTimestampSecond (s -ℤ o)
-near s o h k = (omega (arith, ints), omega (arith, ints))
+pub near_timestamp_second : (s o : ℤ) → IsTimestampSecond s → unsigned_abs o < 93_600 → IsNearTimestampSecond (s -ℤ o)
+near_timestamp_second s o h k = (omega (arith, ints), omega (arith, ints))
 
 -- the seconds of a local date and time are less than 26 hours outside the range
 pub IsNearTimestampSecond-local_unix_seconds : (t : OffsetDateAndTime) → IsDate t.date
     → IsTimeOfDay t.time → IsOffset t.offset → IsNearTimestampSecond (local_unix_seconds t)
 IsNearTimestampSecond-local_unix_seconds t h r o =
     let same : DateAndTime = record { date = t.date; time = t.time } in
-    near (unix_seconds same) (offset_seconds t.offset) (IsTimestampSecond-unix_seconds same h r)
+    near_timestamp_second (unix_seconds same) (offset_seconds t.offset) (IsTimestampSecond-unix_seconds same h r)
     (offset_within t.offset o.0)

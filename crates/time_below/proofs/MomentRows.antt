@@ -8,8 +8,8 @@ use Rattle.time_below.specs.Moment.{unix_seconds, local_unix_seconds, utc_date_a
 abbrev day_in : ℤ → ℕ → OrdinalDate
 day_in year ordinal = record { year = year; ordinal = ordinal }
 
-abbrev clock : ℕ → ℕ → ℕ → TimeOfDay
-clock hour minute second = record { hour = hour; minute = minute; second = second; nanosecond = 5 }
+abbrev time_of_clock : ℕ → ℕ → ℕ → TimeOfDay
+time_of_clock hour minute second = record { hour = hour; minute = minute; second = second; nanosecond = 5 }
 
 abbrev offset_of : ℤ → ℤ → ℤ → Offset
 offset_of hours minutes seconds = record { hours = hours; minutes = minutes; seconds = seconds }
@@ -19,35 +19,35 @@ record IsAt (seconds : ℤ) (date : OrdinalDate) (time : TimeOfDay) : Type 0 whe
   pub there : unix_seconds (record { date = date; time = time }) ≡ seconds
   pub back : utc_date_and_time (record { seconds = seconds; nanosecond = 5 }) ≡ record { date = date; time = time }
 
-the_beginning : IsAt (pos 0) (day_in (pos 1970) 1) (clock 0 0 0)
+the_beginning : IsAt (pos 0) (day_in (pos 1970) 1) (time_of_clock 0 0 0)
 unfolding date_at
 the_beginning = record { there = refl; back = refl }
 
-the_second_before : IsAt (neg_ℤ (pos 1)) (day_in (pos 1969) 365) (clock 23 59 59)
+the_second_before : IsAt (neg_ℤ (pos 1)) (day_in (pos 1969) 365) (time_of_clock 23 59 59)
 unfolding date_at
 the_second_before = record { there = refl; back = refl }
 
-on_a_leap_day : IsAt (pos 951_827_696) (day_in (pos 2000) 60) (clock 12 34 56)
+on_a_leap_day : IsAt (pos 951_827_696) (day_in (pos 2000) 60) (time_of_clock 12 34 56)
 unfolding date_at
 on_a_leap_day = record { there = refl; back = refl }
 
-before_march_1900 : IsAt (neg_ℤ (pos 2_203_891_201)) (day_in (pos 1900) 59) (clock 23 59 59)
+before_march_1900 : IsAt (neg_ℤ (pos 2_203_891_201)) (day_in (pos 1900) 59) (time_of_clock 23 59 59)
 unfolding date_at
 before_march_1900 = record { there = refl; back = refl }
 
-the_year_1 : IsAt (neg_ℤ (pos 62_135_596_800)) (day_in (pos 1) 1) (clock 0 0 0)
+the_year_1 : IsAt (neg_ℤ (pos 62_135_596_800)) (day_in (pos 1) 1) (time_of_clock 0 0 0)
 unfolding date_at
 the_year_1 = record { there = refl; back = refl }
 
-the_last_of_four_digits : IsAt (pos 253_402_300_799) (day_in (pos 9999) 365) (clock 23 59 59)
+the_last_of_four_digits : IsAt (pos 253_402_300_799) (day_in (pos 9999) 365) (time_of_clock 23 59 59)
 unfolding date_at
 the_last_of_four_digits = record { there = refl; back = refl }
 
-the_first_moment : IsAt (neg_ℤ (pos 31_619_087_596_800)) (day_in (neg_ℤ (pos 999_999)) 1) (clock 0 0 0)
+the_first_moment : IsAt (neg_ℤ (pos 31_619_087_596_800)) (day_in (neg_ℤ (pos 999_999)) 1) (time_of_clock 0 0 0)
 unfolding date_at
 the_first_moment = record { there = refl; back = refl }
 
-the_last_moment : IsAt (pos 31_494_784_780_799) (day_in (pos 999_999) 365) (clock 23 59 59)
+the_last_moment : IsAt (pos 31_494_784_780_799) (day_in (pos 999_999) 365) (time_of_clock 23 59 59)
 unfolding date_at
 the_last_moment = record { there = refl; back = refl }
 
@@ -56,18 +56,18 @@ abbrev IsLocallyAt : ℤ → OrdinalDate → TimeOfDay → Offset → Type 0
 IsLocallyAt seconds date time offset =
     local_unix_seconds (record { date = date; time = time; offset = offset }) ≡ seconds
 
-west_of_greenwich : IsLocallyAt (pos 879_350_106) (day_in (pos 1997) 316) (clock 9 55 6)
+west_of_greenwich : IsLocallyAt (pos 879_350_106) (day_in (pos 1997) 316) (time_of_clock 9 55 6)
     (offset_of (neg_ℤ (pos 6)) (pos 0) (pos 0))
 west_of_greenwich = refl
 
-east_of_greenwich : IsLocallyAt (pos 0) (day_in (pos 1970) 1) (clock 1 30 0) (offset_of (pos 1) (pos 30) (pos 0))
+east_of_greenwich : IsLocallyAt (pos 0) (day_in (pos 1970) 1) (time_of_clock 1 30 0) (offset_of (pos 1) (pos 30) (pos 0))
 east_of_greenwich = refl
 
-past_the_last_moment : IsLocallyAt (pos 31_494_784_874_398) (day_in (pos 999_999) 365) (clock 23 59 59)
+past_the_last_moment : IsLocallyAt (pos 31_494_784_874_398) (day_in (pos 999_999) 365) (time_of_clock 23 59 59)
     (offset_of (neg_ℤ (pos 25)) (neg_ℤ (pos 59)) (neg_ℤ (pos 59)))
 past_the_last_moment = refl
 
-before_the_first_moment : IsLocallyAt (neg_ℤ (pos 31_619_087_690_399)) (day_in (neg_ℤ (pos 999_999)) 1) (clock 0 0 0)
+before_the_first_moment : IsLocallyAt (neg_ℤ (pos 31_619_087_690_399)) (day_in (neg_ℤ (pos 999_999)) 1) (time_of_clock 0 0 0)
     (offset_of (pos 25) (pos 59) (pos 59))
 before_the_first_moment = refl
 

@@ -26,14 +26,14 @@ both_above : (y z : ℤ) (a b : ℕ) → y ≡ pos a → z ≡ pos b → HasNoOt
 both_above y z a b e f = (λ h. omega (arith, ints), λ h. absurd (omega (arith, ints)))
 
 -- a size below zero, or zero
-negated : (n : ℕ) → neg_ℤ (pos n) ≤ℤ pos 0
-negated zero = omega (arith, ints)
-negated (suc n) = omega (arith, ints)
+negated_is_not_above : (n : ℕ) → neg_ℤ (pos n) ≤ℤ pos 0
+negated_is_not_above zero = omega (arith, ints)
+negated_is_not_above (suc n) = omega (arith, ints)
 
 -- two parts that are not above zero have one sign
 both_below : (y z : ℤ) (a b : ℕ) → y ≡ neg_ℤ (pos a) → z ≡ neg_ℤ (pos b) → HasNoOtherSign y z
 both_below y z a b e f =
-    (λ h. absurd (omega (arith, ints, negated a)), λ h. omega (arith, ints, negated b))
+    (λ h. absurd (omega (arith, ints, negated_is_not_above a)), λ h. omega (arith, ints, negated_is_not_above b))
 
 -- what holds for each sign of a part holds
 by_sign : (P : Type 0) (lead : ℤ) → (pos 0 <ℤ lead → P) → (lead <ℤ pos 0 → P)
@@ -50,7 +50,7 @@ no_other_sign lead x = (
     arith,
     ints,
     like_negative lead x h,
-    negated (unsigned_abs x),
+    negated_is_not_above (unsigned_abs x),
   ),
 )
 
@@ -118,9 +118,9 @@ below_is y zero h size = omega (arith, ints)
 below_is y (suc n) h size = omega (arith, ints)
 
 -- a part of the size of x that has not the other sign, and is x where the lead is zero, takes the sign of the lead
-alike : (lead x y : ℤ) → HasNoOtherSign lead y → unsigned_abs y ≡ unsigned_abs x
+takes_sign_of_lead : (lead x y : ℤ) → HasNoOtherSign lead y → unsigned_abs y ≡ unsigned_abs x
     → (lead ≡ pos 0 → y ≡ x) → y ≡ signed_like lead x
-alike lead x y sign size at_zero =
+takes_sign_of_lead lead x y sign size at_zero =
     by_sign (y ≡ signed_like lead x) lead
     (λ h. above_is y (unsigned_abs x) (sign.0 h) size ∙ sym (like_positive lead x h))
     (λ h. below_is y (unsigned_abs x) (sign.1 h) size ∙ sym (like_negative lead x h))
@@ -137,10 +137,10 @@ only_settled h m s o k =
     let size : unsigned_abs o.seconds ≡ unsigned_abs (signed_like m s) =
     k.seconds_size ∙ sym (size_kept m s) in
     let at_zero = λ (e : h ≡ pos 0).
-    alike m s o.seconds (rw (k.minutes_kept e) at k.seconds_like_minutes) k.seconds_size (k.seconds_kept e) in
+    takes_sign_of_lead m s o.seconds (rw (k.minutes_kept e) at k.seconds_like_minutes) k.seconds_size (k.seconds_kept e) in
     same_parts h _ _ o.hours o.minutes o.seconds k.hours_kept
-    (alike h m o.minutes (rw k.hours_kept at k.minutes_like_hours) k.minutes_size k.minutes_kept)
-    (alike h (signed_like m s) o.seconds (rw k.hours_kept at k.seconds_like_hours) size at_zero)
+    (takes_sign_of_lead h m o.minutes (rw k.hours_kept at k.minutes_like_hours) k.minutes_size k.minutes_kept)
+    (takes_sign_of_lead h (signed_like m s) o.seconds (rw k.hours_kept at k.seconds_like_hours) size at_zero)
 
 -- ---- offsets without seconds
 

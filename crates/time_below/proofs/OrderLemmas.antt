@@ -49,8 +49,8 @@ pub data Trichotomy (a b : ℕ) : Type 0 where
   greater : b < a → Trichotomy a b
 
 -- any two numbers are less, equal or greater
-pub compared : (a b : ℕ) → Trichotomy a b
-compared a b =
+pub trichotomy : (a b : ℕ) → Trichotomy a b
+trichotomy a b =
     ⊎_elim (λ (h : a < b). less h)
     (λ (h : b ≤ a). ⊎_elim (λ (k : b < a). greater k) (λ (k : a ≤ b). equal (omega arith)) (cases_lt b a))
     (cases_lt a b)
@@ -66,7 +66,7 @@ pub record IsJoined (a b p q m n : ℕ) : Type 0 where
 -- two pairs compare as the numbers that they join to
 pub joined_cmp : (a b p q m n : ℕ) (rest : Ordering) → IsJoined a b p q m n
     → ordering_then (nat_cmp a b) (ordering_then (nat_cmp p q) rest) ≡ ordering_then (nat_cmp m n) rest
-joined_cmp a b p q m n rest j = by (compared a b) (compared p q) where
+joined_cmp a b p q m n rest j = by (trichotomy a b) (trichotomy p q) where
   by : Trichotomy a b → Trichotomy p q → ordering_then (nat_cmp a b) (ordering_then (nat_cmp p q) rest)
       ≡ ordering_then (nat_cmp m n) rest
   by (less h) k = rw (cmp_less a b h, cmp_less m n (j.first_less h)) refl
@@ -78,7 +78,7 @@ joined_cmp a b p q m n rest j = by (compared a b) (compared p q) where
 -- what follows a pair matters where the pair is equal
 pub then_where_equal : (a b : ℕ) (x y : Ordering) → (a ≡ b → x ≡ y)
     → ordering_then (nat_cmp a b) x ≡ ordering_then (nat_cmp a b) y
-then_where_equal a b x y h = by (compared a b) where
+then_where_equal a b x y h = by (trichotomy a b) where
   by : Trichotomy a b → ordering_then (nat_cmp a b) x ≡ ordering_then (nat_cmp a b) y
   by (less k) = rw (cmp_less a b k) refl
   by (greater k) = rw (cmp_greater a b k) refl
@@ -213,8 +213,8 @@ parts_cmp v w =
 abbrev days_at : DateAndTime → ℕ
 days_at v = days_to (unsigned_abs v.date.year) + v.date.ordinal
 
-abbrev total : DateAndTime → ℕ
-total v = 86_400 * days_at v + seconds_from_midnight v.time
+abbrev total_seconds : DateAndTime → ℕ
+total_seconds v = 86_400 * days_at v + seconds_from_midnight v.time
 
 -- the day of the year is that of the month and the day
 ordinal_is : (v : DateAndTime) → IsFromYearZero v
@@ -246,7 +246,7 @@ ordinals_cmp v w h k rest e =
 
 -- the parts compare as the seconds, and then the nanoseconds
 parts_total : (v w : DateAndTime) → IsFromYearZero v → IsFromYearZero w
-    → parts_cmp v w ≡ ordering_then (nat_cmp (total v) (total w))
+    → parts_cmp v w ≡ ordering_then (nat_cmp (total_seconds v) (total_seconds w))
     (ordering_then (nat_cmp v.time.nanosecond w.time.nanosecond) Equal)
 unfolding parts_cmp
 parts_total v w h k =
@@ -288,7 +288,7 @@ pair_cmp a b m n = ordering_then (nat_cmp a b) (ordering_then (nat_cmp m n) Equa
 
 -- they compare as less exactly if they are less
 pair_less : (a b m n : ℕ) → pair_cmp a b m n ≡ Less ↔ IsPairLess a b m n
-pair_less a b m n = by (compared a b) (compared m n) where
+pair_less a b m n = by (trichotomy a b) (trichotomy m n) where
   by : Trichotomy a b → Trichotomy m n → pair_cmp a b m n ≡ Less ↔ IsPairLess a b m n
   by (less h) k = (λ e. inl h, λ p. rw (cmp_less a b h) refl)
   by (greater h) k = (
@@ -307,7 +307,7 @@ pair_less a b m n = by (compared a b) (compared m n) where
 
 -- the seconds of a moment, counted from -999999-01-01
 seconds_from_start : (v : DateAndTime) → IsFromYearZero v
-    → unix_seconds v +ℤ pos (86_400 * 365_961_663) ≡ pos (total v)
+    → unix_seconds v +ℤ pos (86_400 * 365_961_663) ≡ pos (total_seconds v)
 seconds_from_start v h =
     let start = day_number_from_start v.date (unsigned_abs v.date.year + 999_999)
     (omega (arith, ints, h.year)) h.date.1.0 in
@@ -330,7 +330,7 @@ pub date_and_time_order : (v w : DateAndTime) → IsFromYearZero v → IsFromYea
     ⊎ ((unix_seconds v ≡ unix_seconds w) × (v.time.nanosecond < w.time.nanosecond)))
 date_and_time_order v w h k =
     let e = parts_total v w h k in
-    let p = pair_less (total v) (total w) v.time.nanosecond w.time.nanosecond in
+    let p = pair_less (total_seconds v) (total_seconds w) v.time.nanosecond w.time.nanosecond in
     let m = moment_order v.time.nanosecond w.time.nanosecond (unix_seconds v) (unix_seconds w)
-    (total v) (total w) (86_400 * 365_961_663) (seconds_from_start v h) (seconds_from_start w k) in
+    (total_seconds v) (total_seconds w) (86_400 * 365_961_663) (seconds_from_start v h) (seconds_from_start w k) in
     (λ b. m.0 (p.0 (sym e ∙ b)), λ b. e ∙ p.1 (m.1 b))

@@ -8,21 +8,21 @@ use Rattle.time_below.proofs.CalendarLemmas.{days_of_years, day_number_from_star
 use Rattle.time_below.proofs.YearLemmas.{years_from_start}
 
 -- how many of the n days after a place are at a place that seven divides
-abbrev sevenths : ℕ → ℕ → ℕ
-sevenths place n = (n + 6 - (place + n + 6) % 7) / 7
+abbrev sevenths_after : ℕ → ℕ → ℕ
+sevenths_after place n = (n + 6 - (place + n + 6) % 7) / 7
 
 -- one more day
-sevenths-more : (place n : ℕ) → sevenths place n + (if (place + n) % 7 == 0 then 1 else 0) ≡ sevenths place (suc n)
+sevenths-more : (place n : ℕ) → sevenths_after place n + (if (place + n) % 7 == 0 then 1 else 0) ≡ sevenths_after place (suc n)
 sevenths-more place n = grind (arith, nat_tests)
 
 -- the number of days of one name in the first n days of a year
-counted : (weekday : ℕ) (y : ℤ) (place : ℕ)
+days_of_name_counted : (weekday : ℕ) (y : ℤ) (place : ℕ)
     → ((n : ℕ) → (weekday_of (record { year = y; ordinal = suc n }) == weekday) ≡ ((place + n) % 7 == 0))
-    → (n : ℕ) → days_of_name weekday y n ≡ sevenths place n
+    → (n : ℕ) → days_of_name weekday y n ≡ sevenths_after place n
 unfolding days_of_name
-counted weekday y place same zero = omega arith
-counted weekday y place same (suc n) =
-    ap₂ (λ (i j : ℕ). i + j) (counted weekday y place same n) (ap (λ b. if b then 1 else 0) (same n))
+days_of_name_counted weekday y place same zero = omega arith
+days_of_name_counted weekday y place same (suc n) =
+    ap₂ (λ (i j : ℕ). i + j) (days_of_name_counted weekday y place same n) (ap (λ b. if b then 1 else 0) (same n))
     ∙ sevenths-more place n
 
 -- how many days before a year the calendar has, from its start
@@ -54,7 +54,7 @@ week_before k one = omega arith
 pub mondays_counted : (d : OrdinalDate) → IsDate d → monday_based_week_of d ≡ days_of_name 0 d.year d.ordinal
 mondays_counted d h =
     let place = start_of d.year in
-    let count = counted 0 d.year place (λ n. ap (λ k. k == 0) (weekday_after d.year h.0 n)) d.ordinal in
+    let count = days_of_name_counted 0 d.year place (λ n. ap (λ k. k == 0) (weekday_after d.year h.0 n)) d.ordinal in
     let day = weekday_in_year d h.0 h.1.0 in
     let same : weekday_of d ≡ (place + d.ordinal + 6) % 7 = day
     ∙ week_before (place + d.ordinal) (omega (arith, h.1.0)) in
@@ -65,7 +65,7 @@ pub sundays_counted : (d : OrdinalDate) → IsDate d → sunday_based_week_of d 
 sundays_counted d h =
     let place = start_of d.year in
     let test = λ (n : ℕ). ap (λ k. k == 6) (weekday_after d.year h.0 n) ∙ sunday_is_first place n in
-    let count = counted 6 d.year (place + 1) test d.ordinal in
+    let count = days_of_name_counted 6 d.year (place + 1) test d.ordinal in
     let day = weekday_in_year d h.0 h.1.0 in
     let same : from_sunday (weekday_of d) ≡ (place + 1 + d.ordinal + 6) % 7 = omega (arith, day, h.1.0) in
     ap (λ k. (d.ordinal + 6 - k) / 7) same ∙ sym count

@@ -36,7 +36,7 @@ pub fn days_in_month(is_leap: bool, month: u8) -> u8
 }
 
 // The days of the months before a month.
-#[tactic(auto, using(crate::proofs::MonthLemmas::cumulative))]
+#[tactic(auto, using(crate::proofs::MonthLemmas::days_of_months_by_table))]
 pub fn days_before_month(is_leap: bool, month: u8) -> u16
     requires { IsInRange 1 12 month }
     ensures value { result ≡ days_of_months is_leap (month - 1) }

@@ -55,8 +55,8 @@ unended_is_trimmed {n} text f unended =
     })
 
 -- one zero less
-shorter : {n : ℕ} (front : List ℕ) → 1 ≤ length front → IsFraction (front ++ codes "0") n → IsFraction front n
-shorter front some f =
+fraction_one_zero_less : {n : ℕ} (front : List ℕ) → 1 ≤ length front → IsFraction (front ++ codes "0") n → IsFraction front n
+fraction_one_zero_less front some f =
     let long : length (front ++ codes "0") ≡ length front + 1 = length-append front (codes "0") in
     let most = f.most in
     let more : 9 - length front ≡ suc (9 - length (front ++ codes "0")) = omega arith in
@@ -81,7 +81,7 @@ not_ended {n} text [] e t some small =
 not_ended {n} text (d ∷ ds) e t some small =
     let front = d ∷ ds in
     let long : length (front ++ codes "0") ≡ length front + 1 = length-append front (codes "0") in
-    let less = t.shortest front (shorter front (omega arith) (subst (λ ds. IsFraction ds n) e t.fraction)) in
+    let less = t.shortest front (fraction_one_zero_less front (omega arith) (subst (λ ds. IsFraction ds n) e t.fraction)) in
     omega (arith, ap length e, less, long)
 
 -- the trimmed fraction of more than zero does not end in `0`

@@ -56,16 +56,16 @@ without_last_zeros-append [] k = without_last_zeros-replicate k
 without_last_zeros-append (d ∷ ds) k = rw (are_zeros-append (d ∷ ds) k, without_last_zeros-append ds k) refl
 
 -- filled with zeros again, it is the text
-filled : (ds : List ℕ) → without_last_zeros ds ++ replicate (length ds - length (without_last_zeros ds)) 48 ≡ ds
-filled [] = refl
-filled (d ∷ ds) =
+zeros_filled_again : (ds : List ℕ) → without_last_zeros ds ++ replicate (length ds - length (without_last_zeros ds)) 48 ≡ ds
+zeros_filled_again [] = refl
+zeros_filled_again (d ∷ ds) =
     ⊎_elim (λ (e : are_zeros (d ∷ ds) ≡ true).
     let all : suc (length ds) - 0 ≡ suc (length ds) = omega arith in
     rw (zeros_none d ds e, all) (sym (zeros_are (d ∷ ds) e)))
     (λ (e : are_zeros (d ∷ ds) ≡ false).
     let count : suc (length ds) - suc (length (without_last_zeros ds)) ≡ length ds - length (without_last_zeros ds) =
     omega arith in
-    rw (not_zeros d ds e, count) (ap (λ bs. d ∷ bs) (filled ds)))
+    rw (not_zeros d ds e, count) (ap (λ bs. d ∷ bs) (zeros_filled_again ds)))
     (cases_Bool (are_zeros (d ∷ ds)))
 
 -- the front of a text of digits is one
@@ -86,7 +86,7 @@ trimmed_filled [] = refl
 trimmed_filled (d ∷ ds) =
     let count : suc (length ds) - suc (length (without_last_zeros ds)) ≡ length ds - length (without_last_zeros ds) =
     omega arith in
-    rw count (ap (λ bs. d ∷ bs) (filled ds))
+    rw count (ap (λ bs. d ∷ bs) (zeros_filled_again ds))
 
 -- ---- the trimmed fraction of a number
 
@@ -139,7 +139,7 @@ unfolding last_zeros
 without_last_zeros-take ds =
     let kept = without_last_zeros ds in
     let count : length ds - (length ds - length kept) ≡ length kept = omega (arith, length-without_last_zeros ds) in
-    rw count (sym (rw filled at (take_at kept (replicate (length ds - length kept) 48) (length kept) refl)))
+    rw count (sym (rw zeros_filled_again at (take_at kept (replicate (length ds - length kept) 48) (length kept) refl)))
 
 -- a trimmed text, by the zeros that end it after its first byte
 trimmed-take : (d : ℕ) (ds : List ℕ) → trimmed (d ∷ ds) ≡ take (suc (length ds) - last_zeros ds) (d ∷ ds)
@@ -166,8 +166,8 @@ trimmed_fraction-take n =
 -- ---- more than nine places
 
 -- a multiple is divided without a remainder
-multiple : (n p : ℕ) → 0 < p → (n * p / p ≡ n) × (n * p % p ≡ 0)
-multiple n p h =
+multiple_divided : (n p : ℕ) → 0 < p → (n * p / p ≡ n) × (n * p % p ≡ 0)
+multiple_divided n p h =
     let q = div-mul-add n p 0 h in
     let e : n * p + 0 ≡ n * p = omega arith in
     let d : n * p / p ≡ n = rw e at q in
@@ -181,7 +181,7 @@ nine_places n d h =
     let all : 9 + k ≡ d = omega arith in
     let power : 10 ^ d ≡ 1_000_000_000 * p = rw all at (pow-add 10 9 k) in
     let some : 0 < p = one-le-pow k 10 (omega arith) in
-    let m = multiple n p some in
+    let m = multiple_divided n p some in
     let product : n * 10 ^ d ≡ 1_000_000_000 * (n * p) = rw power (grind arith) in
     let quotient : n * 10 ^ d / 1_000_000_000 ≡ n * p = omega (arith, product) in
     let split : fixed d (n * p) ≡ fixed 9 (n * p / p) ++ fixed k (n * p) = rw all at (fixed-append 9 k (n * p)) in

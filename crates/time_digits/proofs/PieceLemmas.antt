@@ -40,27 +40,27 @@ one_place : (fill n : ℕ) → n < 10 → padded fill 1 n ≡ decimal n
 one_place fill n h = padded_whole fill 1 n (omega (arith, length-digit n h))
 
 -- two pieces end in no third
-ended : (xs ys zs : List ℕ) → xs ++ ys ≡ zs → xs ++ (ys ++ []) ≡ zs
-ended xs ys zs e = rw append-nil e
+two_pieces_only : (xs ys zs : List ℕ) → xs ++ ys ≡ zs → xs ++ (ys ++ []) ≡ zs
+two_pieces_only xs ys zs e = rw append-nil e
 
 -- ---- three places
 
 -- a number below 1,000 with zeros: its first digit, and the last two
 pub three_zero_padded : (n : ℕ) → n < 1000 → decimal (n / 100) ++ (zero_padded 2 (n % 100) ++ []) ≡ zero_padded 3 n
 three_zero_padded n h =
-    ended _ _ _ (rw (one_place 48 (n / 100) (omega arith)) at (zero_pieces 0 1 n (omega arith) h (omega arith)))
+    two_pieces_only _ _ _ (rw (one_place 48 (n / 100) (omega arith)) at (zero_pieces 0 1 n (omega arith) h (omega arith)))
 
 -- three places with spaces are the quotient and two places, from 100 on
 pub three_spaced : (n : ℕ) → 100 ≤ n → n < 1000 → decimal (n / 100) ++ (zero_padded 2 (n % 100) ++ [])
     ≡ space_padded 3 n
 three_spaced n low h =
-    ended _ _ _ (rw (one_place 32 (n / 100) (omega arith)) at (split_pieces 32 1 1 n low (omega arith)))
+    two_pieces_only _ _ _ (rw (one_place 32 (n / 100) (omega arith)) at (split_pieces 32 1 1 n low (omega arith)))
 
 -- three places with spaces are a space and two places, below 100
 pub three_spaced_low : (n : ℕ) → n < 100 → 32 ∷ (space_padded 2 (n % 100) ++ []) ≡ space_padded 3 n
 three_spaced_low n h =
     let m : n % 100 ≡ n = omega arith in
-    ended (32 ∷ []) _ _ (rw m (sym (padded_short 32 1 2 n (length-decimal_two n h))))
+    two_pieces_only (32 ∷ []) _ _ (rw m (sym (padded_short 32 1 2 n (length-decimal_two n h))))
 
 -- three places need no padding from 100 on
 pub three_whole : (n : ℕ) → 100 ≤ n → n < 2 ^ 64 → zero_padded 3 n ≡ decimal n
@@ -84,18 +84,18 @@ pub ruleset three_places = (
 -- a number below 10,000 with zeros: two pairs
 pub four_zero_padded : (n : ℕ) → n < 10_000 → zero_padded 2 (n / 100) ++ (zero_padded 2 (n % 100) ++ [])
     ≡ zero_padded 4 n
-four_zero_padded n h = ended _ _ _ (zero_pieces 1 1 n (omega arith) h (omega arith))
+four_zero_padded n h = two_pieces_only _ _ _ (zero_pieces 1 1 n (omega arith) h (omega arith))
 
 -- four places with spaces have them in the first pair alone, from 100 on
 pub four_spaced : (n : ℕ) → 100 ≤ n → n < 10_000 → space_padded 2 (n / 100) ++ (zero_padded 2 (n % 100) ++ [])
     ≡ space_padded 4 n
-four_spaced n low h = ended _ _ _ (split_pieces 32 2 1 n low (omega arith))
+four_spaced n low h = two_pieces_only _ _ _ (split_pieces 32 2 1 n low (omega arith))
 
 -- four places with spaces are two spaces and two places, below 100
 pub four_spaced_low : (n : ℕ) → n < 100 → 32 ∷ 32 ∷ (space_padded 2 (n % 100) ++ []) ≡ space_padded 4 n
 four_spaced_low n h =
     let m : n % 100 ≡ n = omega arith in
-    ended (32 ∷ 32 ∷ []) _ _ (rw m (sym (padded_short 32 2 2 n (length-decimal_two n h))))
+    two_pieces_only (32 ∷ 32 ∷ []) _ _ (rw m (sym (padded_short 32 2 2 n (length-decimal_two n h))))
 
 -- four places need no padding from 1,000 on
 pub four_whole : (n : ℕ) → 1000 ≤ n → n < 2 ^ 64 → zero_padded 4 n ≡ decimal n

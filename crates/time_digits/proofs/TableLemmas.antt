@@ -24,5 +24,5 @@ ascii_test bs h =
     (AllPass-from_list_all (λ b. nat_lt b 128) bs h))
 
 -- an ASCII text may be cut at any place
-pub boundary : (bs : List ℕ) (i : ℕ) → IsTrue (is_ascii bs) → i ≤ length bs → IsCharBoundary bs i
-boundary bs i h = IsCharBoundary-from_ascii bs i (ascii_test bs h)
+pub ascii_boundary : (bs : List ℕ) (i : ℕ) → IsTrue (is_ascii bs) → i ≤ length bs → IsCharBoundary bs i
+ascii_boundary bs i h = IsCharBoundary-from_ascii bs i (ascii_test bs h)

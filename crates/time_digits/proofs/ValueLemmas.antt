@@ -13,9 +13,9 @@ use Rattle.time_digits.specs.Digits.{fixed}
 use Rattle.time_digits.proofs.DigitLemmas.{fixed_step}
 
 -- one more digit
-step : (k v d : ℕ) (front : List ℕ) → d < 10 → fixed k v ≡ front
+one_more_digit : (k v d : ℕ) (front : List ℕ) → d < 10 → fixed k v ≡ front
     → fixed (suc k) (v * 10 + d) ≡ front ++ (48 + d) ∷ []
-step k v d front h e =
+one_more_digit k v d front h e =
     let rest : (v * 10 + d) / 10 ≡ v = omega arith in
     let last : (v * 10 + d) % 10 ≡ d = omega arith in
     fixed_step k (v * 10 + d) ∙ rw (rest, last, e) refl
@@ -33,7 +33,7 @@ fixed_take (suc k) text h each =
     let longer = take_more text k 0 h in
     let one : k + 1 ≡ suc k = omega arith in
     let last : 48 + digit_value b ≡ b = omega arith in
-    let pushed = step k (digits_value 10 (take k text)) (digit_value b) (take k text) (omega arith)
+    let pushed = one_more_digit k (digits_value 10 (take k text)) (digit_value b) (take k text) (omega arith)
     (fixed_take k text (omega arith) each) in
     rw one at (ap (fixed (suc k)) more ∙ pushed ∙ ap (λ c. take k text ++ c ∷ []) last ∙ sym longer)
 

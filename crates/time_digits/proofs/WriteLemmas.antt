@@ -75,7 +75,7 @@ pub two_fixed : (n : ℕ) → n < 100 → zero_padded 2 n ≡ fixed 2 n
 two_fixed n h = zero_padded_is 1 n h (omega arith)
 
 -- lemmas for the calls that write one digit, and two
-pub ruleset written = (two_fixed, decimal_one, one_put, two_put, length-fixed)
+pub ruleset digit_writes = (two_fixed, decimal_one, one_put, two_put, length-fixed)
 
 -- ---- groups of digits
 

@@ -26,7 +26,7 @@ const EIGHT_ZEROS: u64 = 0x3030_3030_3030_3030;
 /// Writes `value` in two places, with a zero in front where it is below 10, to the bytes `offset`
 /// and `offset + 1`.
 #[inline]
-#[tactic(auto, using(crate::proofs::WriteLemmas::written))]
+#[tactic(auto, using(crate::proofs::WriteLemmas::digit_writes))]
 pub fn write_two_digits(buf: &mut [u8], offset: usize, value: ru8<0, 99>)
     requires room { offset + 2 ≤ length buf.old }
     ensures { buf.new ≡ take offset buf.old ++ fixed 2 value ++ drop (offset + 2) buf.old }
@@ -38,7 +38,7 @@ pub fn write_two_digits(buf: &mut [u8], offset: usize, value: ru8<0, 99>)
 
 /// Writes the digit `value` to the byte `offset`.
 #[inline]
-#[tactic(auto, using(crate::proofs::WriteLemmas::written))]
+#[tactic(auto, using(crate::proofs::WriteLemmas::digit_writes))]
 pub fn write_one_digit(buf: &mut [u8], offset: usize, value: ru8<0, 9>)
     requires room { offset + 1 ≤ length buf.old }
     ensures { buf.new ≡ take offset buf.old ++ fixed 1 value ++ drop (offset + 1) buf.old }

@@ -25,7 +25,7 @@ pub const SPACE_PADDED_PAIRS: &str = " 0 1 2 3 4 5 6 7 8 9\
 
 // The `len` bytes of an ASCII table from `start` on.
 #[inline]
-#[tactic(auto, using(crate::proofs::TableLemmas::boundary))]
+#[tactic(auto, using(crate::proofs::TableLemmas::ascii_boundary))]
 pub(crate) fn piece_of(table: &'static str, start: usize, len: usize) -> &'static str
     requires ascii { IsTrue (is_ascii table.now) }
     requires within { start + len ≤ length table.now }

@@ -27,29 +27,29 @@ use Rattle.time_fmt.specs.Text.{padded_text, period_text, subsecond_text}
 use Rattle.time_fmt.proofs.TextLemmas.{no_padding}
 
 -- decimals of the second, as many as are chosen, or nine
-subseconds : (decimals : SubsecondDigits) → length (subsecond_text decimals 123_456_789) ≡ subsecond_width decimals
+length-subseconds : (decimals : SubsecondDigits) → length (subsecond_text decimals 123_456_789) ≡ subsecond_width decimals
 unfolding fixed last_zeros trimmed_fraction
-subseconds chosen.One = refl
-subseconds chosen.Two = refl
-subseconds chosen.Three = refl
-subseconds chosen.Four = refl
-subseconds chosen.Five = refl
-subseconds chosen.Six = refl
-subseconds chosen.Seven = refl
-subseconds chosen.Eight = refl
-subseconds chosen.Nine = refl
-subseconds chosen.OneOrMore = refl
+length-subseconds chosen.One = refl
+length-subseconds chosen.Two = refl
+length-subseconds chosen.Three = refl
+length-subseconds chosen.Four = refl
+length-subseconds chosen.Five = refl
+length-subseconds chosen.Six = refl
+length-subseconds chosen.Seven = refl
+length-subseconds chosen.Eight = refl
+length-subseconds chosen.Nine = refl
+length-subseconds chosen.OneOrMore = refl
 
 -- whether a text fills a width, for any padding, case and sign
-abbrev fills : Kind → ℕ → Bool
-fills (kind.number p places n) width = nat_le places (length (decimal n)) && (length (decimal n) == width)
-fills (kind.signed is_negative is_wanted p places n) width =
+abbrev fills_width : Kind → ℕ → Bool
+fills_width (kind.number p places n) width = nat_le places (length (decimal n)) && (length (decimal n) == width)
+fills_width (kind.signed is_negative is_wanted p places n) width =
     is_negative && (nat_le places (length (decimal n)) && (length (decimal n) + 1 == width))
-fills (kind.limited greatest n k) width = nat_le n greatest && fills k width
-fills (kind.digit one_indexed days) width = nat_lt days 9 && (1 == width)
-fills (kind.half_day p is_uppercase) width = 2 == width
-fills (kind.decimals d n) width = false
-fills k width = length (kind_text k) == width
+fills_width (kind.limited greatest n k) width = nat_le n greatest && fills_width k width
+fills_width (kind.digit one_indexed days) width = nat_lt days 9 && (1 == width)
+fills_width (kind.half_day p is_uppercase) width = 2 == width
+fills_width (kind.decimals d n) width = false
+fills_width k width = length (kind_text k) == width
 
 -- a number whose digits fill its places
 number_fills : (p : Padding) (places n width : ℕ) → IsTrue (nat_le places (length (decimal n)))
@@ -69,7 +69,7 @@ half_day_fills Pm true = refl
 half_day_fills Pm false = refl
 
 -- it has then this many bytes
-text_fills : (k : Kind) (width : ℕ) → IsTrue (fills k width) → length (kind_text k) ≡ width
+text_fills : (k : Kind) (width : ℕ) → IsTrue (fills_width k width) → length (kind_text k) ≡ width
 text_fills (kind.number p places n) width h =
     let both = and_parts (nat_le places (length (decimal n))) (length (decimal n) == width) h in
     number_fills p places n width both.0 (eqb-true (length (decimal n)) width both.1)
@@ -82,7 +82,7 @@ text_fills (kind.signed true is_wanted p places n) width h =
       eqb-true (length (decimal n) + 1) width both.1,
     )
 text_fills (kind.signed false is_wanted p places n) width h = cc
-text_fills (kind.limited greatest n k) width h = text_fills k width (and_parts (nat_le n greatest) (fills k width) h).1
+text_fills (kind.limited greatest n k) width h = text_fills k width (and_parts (nat_le n greatest) (fills_width k width) h).1
 text_fills (kind.digit one_indexed days) width h =
     let both = and_parts (nat_lt days 9) (1 == width) h in
     digit_fills one_indexed days (ltb-true days 9 both.0) ∙ eqb-true 1 width both.1
@@ -91,28 +91,28 @@ text_fills (kind.decimals d n) width h = cc
 text_fills k width h = eqb-true (length (kind_text k)) width h
 
 -- one of the two values fills the width
-reached : (c : Component) (value : OffsetDateAndTime)
-    → IsTrue (fills (kind_of c (facts_of_offset_date_time value)) (component_width c))
+width_is_reached : (c : Component) (value : OffsetDateAndTime)
+    → IsTrue (fills_width (kind_of c (facts_of_offset_date_time value)) (component_width c))
     → length (kind_text (kind_of c (facts_of_offset_date_time value))) ≡ component_width c
-reached c value h = text_fills (kind_of c (facts_of_offset_date_time value)) (component_width c) h
+width_is_reached c value h = text_fills (kind_of c (facts_of_offset_date_time value)) (component_width c) h
 
 -- each width is reached
 pub reaches_width : (c : Component) → ReachesWidth c
 unfolding digits days_of_months last_begun date_at
-reaches_width (component.MonthNumerical m) h = inr (reached (component.MonthNumerical m) longest_standard refl)
+reaches_width (component.MonthNumerical m) h = inr (width_is_reached (component.MonthNumerical m) longest_standard refl)
 reaches_width (component.CalendarYearFullStandardRange m) h =
-    inr (reached (component.CalendarYearFullStandardRange m) longest_standard refl)
+    inr (width_is_reached (component.CalendarYearFullStandardRange m) longest_standard refl)
 reaches_width (component.CalendarYearCenturyStandardRange m) h =
-    inr (reached (component.CalendarYearCenturyStandardRange m) longest_standard refl)
+    inr (width_is_reached (component.CalendarYearCenturyStandardRange m) longest_standard refl)
 reaches_width (component.IsoYearFullStandardRange m) h =
-    inr (reached (component.IsoYearFullStandardRange m) longest_standard refl)
+    inr (width_is_reached (component.IsoYearFullStandardRange m) longest_standard refl)
 reaches_width (component.IsoYearCenturyStandardRange m) h =
-    inr (reached (component.IsoYearCenturyStandardRange m) longest_standard refl)
-reaches_width (component.Subsecond m) h = inl (subseconds m.digits)
+    inr (width_is_reached (component.IsoYearCenturyStandardRange m) longest_standard refl)
+reaches_width (component.Subsecond m) h = inl (length-subseconds m.digits)
 reaches_width (component.Month m) h = cc
 reaches_width (component.Weekday m) h = cc
 reaches_width (component.WeekNumber m) h = cc
 reaches_width (component.Hour m) h = cc
 reaches_width (component.UnixTimestamp m) h = cc
 reaches_width (component.Year m) h = cc
-reaches_width c h = inl (reached c longest_extended refl)
+reaches_width c h = inl (width_is_reached c longest_extended refl)

@@ -11,27 +11,27 @@ use Rattle.time_fmt.specs.Outcome.{Outcome, Refusal, done, join}
 use Rattle.time_fmt.specs.Parts.{both_lists, PairMeansBothLists, ItemMeansItsList}
 
 -- which are put together first does not matter
-joined : (x : List ℕ) (r : Option Refusal) (y : List ℕ) (s : Option Refusal) (c : Outcome)
+joins_regrouped : (x : List ℕ) (r : Option Refusal) (y : List ℕ) (s : Option Refusal) (c : Outcome)
     → join (join (record { bytes = x; refusal = r }) (record { bytes = y; refusal = s })) c
     ≡ join (record { bytes = x; refusal = r }) (join (record { bytes = y; refusal = s }) c)
-joined x (Some r) y s c = refl
-joined x None y (Some s) c = refl
-joined x None y None c = ap (λ (bs : List ℕ). record { bytes = bs; refusal = c.refusal }) (append_assoc x y c.bytes)
+joins_regrouped x (Some r) y s c = refl
+joins_regrouped x None y (Some s) c = refl
+joins_regrouped x None y None c = ap (λ (bs : List ℕ). record { bytes = bs; refusal = c.refusal }) (append_assoc x y c.bytes)
 
 -- nothing more
-alone : (x : List ℕ) (r : Option Refusal)
+join_nothing : (x : List ℕ) (r : Option Refusal)
     → record { bytes = x; refusal = r } ≡ join (record { bytes = x; refusal = r }) (done [])
-alone x (Some r) = refl
-alone x None = ap (λ (bs : List ℕ). record { bytes = bs; refusal = None }) (sym (append-nil x))
+join_nothing x (Some r) = refl
+join_nothing x None = ap (λ (bs : List ℕ). record { bytes = bs; refusal = None }) (sym (append-nil x))
 
 outcome_of_item : (t : Tree) (f : Facts) → tree_outcome t f ≡ trees_outcome (more t end) f
-outcome_of_item t f = alone (tree_outcome t f).bytes (tree_outcome t f).refusal
+outcome_of_item t f = join_nothing (tree_outcome t f).bytes (tree_outcome t f).refusal
 
 outcome_of_pair : (ts us : Trees) (f : Facts)
     → join (trees_outcome ts f) (trees_outcome us f) ≡ trees_outcome (both_lists ts us) f
 outcome_of_pair end us f = refl
 outcome_of_pair (more t ts) us f =
-    joined (tree_outcome t f).bytes (tree_outcome t f).refusal (trees_outcome ts f).bytes (trees_outcome ts f).refusal
+    joins_regrouped (tree_outcome t f).bytes (tree_outcome t f).refusal (trees_outcome ts f).bytes (trees_outcome ts f).refusal
     (trees_outcome us f)
     ∙ ap (join (tree_outcome t f)) (outcome_of_pair ts us f)
 
@@ -46,9 +46,9 @@ guarantee_of_pair (more t ts) us =
     and_assoc (is_guaranteed_text t) (are_guaranteed_text ts) (are_guaranteed_text us)
     ∙ ap (λ b. is_guaranteed_text t && b) (guarantee_of_pair ts us)
 
-one : (b : Bool) → b ≡ (b && true)
-one true = refl
-one false = refl
+and_true : (b : Bool) → b ≡ (b && true)
+and_true true = refl
+and_true false = refl
 
 pub pair_means_both_lists : PairMeansBothLists
 pair_means_both_lists first second width other_width is_guaranteed is_other ts us a b = record {
@@ -61,5 +61,5 @@ pub item_means_its_list : ItemMeansItsList
 item_means_its_list t = record {
   outcome = outcome_of_item t;
   width = omega arith;
-  text = one (is_guaranteed_text t);
+  text = and_true (is_guaranteed_text t);
 }

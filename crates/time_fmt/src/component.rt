@@ -61,31 +61,35 @@ pub(crate) fn write_uncommon<V: ComponentProvider>(
     ensures agrees { V.agrees state.new value.now }
 {
     match component {
-        Component::MonthShort(part) => write_lent(part, output, value, state),
-        Component::MonthLong(part) => write_lent(part, output, value, state),
-        Component::Ordinal(part) => write_lent(part, output, value, state),
-        Component::WeekdayShort(part) => write_lent(part, output, value, state),
-        Component::WeekdayLong(part) => write_lent(part, output, value, state),
-        Component::WeekdaySunday(part) => write_lent(part, output, value, state),
-        Component::WeekdayMonday(part) => write_lent(part, output, value, state),
-        Component::WeekNumberIso(part) => write_lent(part, output, value, state),
-        Component::WeekNumberSunday(part) => write_lent(part, output, value, state),
-        Component::WeekNumberMonday(part) => write_lent(part, output, value, state),
-        Component::CalendarYearCenturyExtendedRange(part) => write_lent(part, output, value, state),
-        Component::CalendarYearCenturyStandardRange(part) => write_lent(part, output, value, state),
-        Component::CalendarYearLastTwo(part) => write_lent(part, output, value, state),
-        Component::IsoYearFullExtendedRange(part) => write_lent(part, output, value, state),
-        Component::IsoYearFullStandardRange(part) => write_lent(part, output, value, state),
-        Component::IsoYearCenturyExtendedRange(part) => write_lent(part, output, value, state),
-        Component::IsoYearCenturyStandardRange(part) => write_lent(part, output, value, state),
-        Component::IsoYearLastTwo(part) => write_lent(part, output, value, state),
-        Component::Hour12(part) => write_lent(part, output, value, state),
-        Component::Period(part) => write_lent(part, output, value, state),
-        Component::OffsetHour(part) => write_lent(part, output, value, state),
-        Component::OffsetMinute(part) => write_lent(part, output, value, state),
-        Component::OffsetSecond(part) => write_lent(part, output, value, state),
-        Component::UnixTimestampSecond(part) => write_lent(part, output, value, state),
-        Component::UnixTimestampMillisecond(part) => write_lent(part, output, value, state),
+        Component::MonthShort(part) => write_taken_out(part, output, value, state),
+        Component::MonthLong(part) => write_taken_out(part, output, value, state),
+        Component::Ordinal(part) => write_taken_out(part, output, value, state),
+        Component::WeekdayShort(part) => write_taken_out(part, output, value, state),
+        Component::WeekdayLong(part) => write_taken_out(part, output, value, state),
+        Component::WeekdaySunday(part) => write_taken_out(part, output, value, state),
+        Component::WeekdayMonday(part) => write_taken_out(part, output, value, state),
+        Component::WeekNumberIso(part) => write_taken_out(part, output, value, state),
+        Component::WeekNumberSunday(part) => write_taken_out(part, output, value, state),
+        Component::WeekNumberMonday(part) => write_taken_out(part, output, value, state),
+        Component::CalendarYearCenturyExtendedRange(part) => write_taken_out(
+            part, output, value, state,
+        ),
+        Component::CalendarYearCenturyStandardRange(part) => write_taken_out(
+            part, output, value, state,
+        ),
+        Component::CalendarYearLastTwo(part) => write_taken_out(part, output, value, state),
+        Component::IsoYearFullExtendedRange(part) => write_taken_out(part, output, value, state),
+        Component::IsoYearFullStandardRange(part) => write_taken_out(part, output, value, state),
+        Component::IsoYearCenturyExtendedRange(part) => write_taken_out(part, output, value, state),
+        Component::IsoYearCenturyStandardRange(part) => write_taken_out(part, output, value, state),
+        Component::IsoYearLastTwo(part) => write_taken_out(part, output, value, state),
+        Component::Hour12(part) => write_taken_out(part, output, value, state),
+        Component::Period(part) => write_taken_out(part, output, value, state),
+        Component::OffsetHour(part) => write_taken_out(part, output, value, state),
+        Component::OffsetMinute(part) => write_taken_out(part, output, value, state),
+        Component::OffsetSecond(part) => write_taken_out(part, output, value, state),
+        Component::UnixTimestampSecond(part) => write_taken_out(part, output, value, state),
+        Component::UnixTimestampMillisecond(part) => write_taken_out(part, output, value, state),
         Component::Month(_)
         | Component::Weekday(_)
         | Component::WeekNumber(_)
@@ -136,14 +140,14 @@ fn write_apart<M: Modifier, V: ComponentProvider>(
     ensures agrees { V.agrees state.new value.now }
 {
     let mut taken = take_out(output);
-    let count = write_lent(part, &mut taken, value, state);
+    let count = write_taken_out(part, &mut taken, value, state);
     put_back(output, taken);
     count
 }
 
 // Writes a component to a vector that was taken out. This is not inlined.
 #[inline(never)]
-fn write_lent<M: Modifier, V: ComponentProvider>(
+fn write_taken_out<M: Modifier, V: ComponentProvider>(
     part: M,
     output: &mut Vec<u8>,
     value: &V,

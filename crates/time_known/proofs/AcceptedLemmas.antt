@@ -17,7 +17,7 @@ use Rattle.time_known.specs.WellKnown.{refused_if, is_outside, offset_hours_text
 use Rattle.time_known.specs.declared.accepted.OutOfRange.{OutOfRange}
 use Rattle.time_known.specs.declared.iso8601.config.DateKind.TheVariants as kind
 use Rattle.time_known.specs.declared.iso8601.config.DecimalSign.{DecimalSign}
-use Rattle.time_known.proofs.OutcomeLemmas.{above_not, passed}
+use Rattle.time_known.proofs.OutcomeLemmas.{above_not, test_is_passed}
 
 -- no offset has more than 25 hours
 pub any_hour : (first : ℕ) (year : ℤ) (hour second : ℕ) (text : List ℕ) → hour ≤ 25
@@ -39,9 +39,9 @@ pub usual_accepted : (c : Choices) (has_separators : Bool) (digits : Option ℕ)
     → checked_text 0 25 d.year (unsigned_abs o.hours) (unsigned_abs o.seconds) text ≡ done text
     → iso_of_groups c d t o ≡ done (usual_text c digits d t o)
 usual_accepted c has_separators digits sign d t o text e accepted =
-    let year = passed _ _ _ text accepted in
-    let hours = passed _ _ _ text year.done in
-    let seconds = passed _ _ _ text hours.done in
+    let year = test_is_passed _ _ _ text accepted in
+    let hours = test_is_passed _ _ _ text year.done in
+    let seconds = test_is_passed _ _ _ text hours.done in
     usual_passes c has_separators digits sign d t o e year.right seconds.right
 
 -- UTC has no seconds

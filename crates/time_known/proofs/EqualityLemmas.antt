@@ -52,8 +52,8 @@ equal_precision (precision.Second d) = equal_decimals d
 -- ---- configurations
 
 -- choices are equal where each field is
-abbrev choices : FormattedComponents → Bool → Bool → DateKind → TimePrecision → OffsetPrecision → DecimalSign → Choices
-choices parts separators six_digits kind time offset sign = record {
+abbrev choices_of_fields : FormattedComponents → Bool → Bool → DateKind → TimePrecision → OffsetPrecision → DecimalSign → Choices
+choices_of_fields parts separators six_digits kind time offset sign = record {
   formatted_components = parts;
   use_separators = separators;
   year_is_six_digits = six_digits;
@@ -67,7 +67,7 @@ same_fields : {parts parts' : FormattedComponents} {separators separators' six s
     {time time' : TimePrecision} {offset offset' : OffsetPrecision} {sign sign' : DecimalSign}
     → parts ≡ parts' → separators ≡ separators' → six ≡ six' → kind ≡ kind' → time ≡ time' → offset ≡ offset'
     → sign ≡ sign'
-    → choices parts separators six kind time offset sign ≡ choices parts' separators' six' kind' time' offset' sign'
+    → choices_of_fields parts separators six kind time offset sign ≡ choices_of_fields parts' separators' six' kind' time' offset' sign'
 same_fields p q r s t u v = cc
 
 -- configurations that are found equal have the same choices

@@ -11,15 +11,15 @@ use Rattle.time_known.specs.Groups.{has_groups, at_groups}
 use Rattle.time_known.specs.WellKnown.{of_all_groups}
 
 -- a group that is there is the one that is named
-pub there : {G : Type 0} (other : G) (x : Option G) → is_some x ≡ true → x ≡ Some (group_or other x)
-there other (Some group) h = refl
-there other None h = cc
+pub some_group_or : {G : Type 0} (other : G) (x : Option G) → is_some x ≡ true → x ≡ Some (group_or other x)
+some_group_or other (Some group) h = refl
+some_group_or other None h = cc
 
 -- a group that is not there is refused
-pub unsupplied : {G : Type 0} (group : Option G) (outcome : G → Outcome) → is_some group ≡ false
+pub of_unsupplied_group : {G : Type 0} (group : Option G) (outcome : G → Outcome) → is_some group ≡ false
     → of_group group outcome ≡ refused insufficient
-unsupplied None outcome h = refl
-unsupplied (Some g) outcome h = cc
+of_unsupplied_group None outcome h = refl
+of_unsupplied_group (Some g) outcome h = cc
 
 -- one that is there gives the outcome
 of_supplied : {G : Type 0} (group : Option G) (other : G) (outcome : G → Outcome) → is_some group ≡ true
@@ -43,15 +43,15 @@ pub of_the_offset : (f : Facts) (outcome : Offset → Outcome) → is_some f.off
 of_the_offset f outcome h = of_supplied f.offset _ outcome h
 
 -- both tests hold
-both : (a b : Bool) → (a && b) ≡ true → (a ≡ true) × (b ≡ true)
-both true b h = (refl, h)
-both false b h = cc
+both_tests_hold : (a b : Bool) → (a && b) ≡ true → (a ≡ true) × (b ≡ true)
+both_tests_hold true b h = (refl, h)
+both_tests_hold false b h = cc
 
 -- a group that is needed and supplied is there
-supplied : (is_there is_needed : Bool) → (is_there || not is_needed) ≡ true → is_needed ≡ true → is_there ≡ true
-supplied true is_needed h e = refl
-supplied false true h e = cc
-supplied false false h e = cc
+needed_is_supplied : (is_there is_needed : Bool) → (is_there || not is_needed) ≡ true → is_needed ≡ true → is_there ≡ true
+needed_is_supplied true is_needed h e = refl
+needed_is_supplied false true h e = cc
+needed_is_supplied false false h e = cc
 
 -- the groups that are needed are there
 pub record HasNeeded (needed : Groups) (f : Facts) : Type 0 where
@@ -61,13 +61,13 @@ pub record HasNeeded (needed : Groups) (f : Facts) : Type 0 where
 
 pub has_needed : (needed : Groups) (f : Facts) → has_groups needed f ≡ true → HasNeeded needed f
 has_needed needed f h =
-    let first = both _ _ h in
-    let two = both _ _ first.0 in
-    record { date = supplied _ _ two.0; time = supplied _ _ two.1; offset = supplied _ _ first.1 }
+    let first = both_tests_hold _ _ h in
+    let two = both_tests_hold _ _ first.0 in
+    record { date = needed_is_supplied _ _ two.0; time = needed_is_supplied _ _ two.1; offset = needed_is_supplied _ _ first.1 }
 
 -- all three are needed
-abbrev pub all : Groups
-all = record { date = true; time = true; offset = true }
+abbrev pub all_groups : Groups
+all_groups = record { date = true; time = true; offset = true }
 
 -- a date, a time and an offset are there
 pub record HasAll (f : Facts) : Type 0 where
@@ -76,9 +76,9 @@ pub record HasAll (f : Facts) : Type 0 where
   pub offset : is_some f.offset ≡ true
 
 -- a value has all three groups if all are needed
-pub has_all : (f : Facts) → has_groups all f ≡ true → HasAll f
+pub has_all : (f : Facts) → has_groups all_groups f ≡ true → HasAll f
 has_all f h =
-    let needed = has_needed all f h in
+    let needed = has_needed all_groups f h in
     record { date = needed.date refl; time = needed.time refl; offset = needed.offset refl }
 
 -- what they give is the outcome

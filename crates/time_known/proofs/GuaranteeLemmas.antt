@@ -40,133 +40,133 @@ record Ascii (bytes : List ℕ) : Type 0 where
   is : IsAscii bytes
 
 -- a text that is known to be ASCII
-leaf : {bytes : List ℕ} → IsAscii bytes → Ascii bytes
-leaf h = record { is = h }
+known_ascii : {bytes : List ℕ} → IsAscii bytes → Ascii bytes
+known_ascii h = record { is = h }
 
 -- ASCII is UTF-8
-utf8 : {bytes : List ℕ} → Ascii bytes → IsUtf8 bytes
-utf8 {bytes} h = IsUtf8-from_ascii bytes h.is
+utf8_of_ascii : {bytes : List ℕ} → Ascii bytes → IsUtf8 bytes
+utf8_of_ascii {bytes} h = IsUtf8-from_ascii bytes h.is
 
-nil : Ascii []
-nil = leaf IsAscii-nil
+ascii_empty : Ascii []
+ascii_empty = known_ascii IsAscii-nil
 
 -- one text after another
-after : {a b : List ℕ} → Ascii a → Ascii b → Ascii (a ++ b)
-after {a} {b} p q = leaf (IsAscii-append a b p.is q.is)
+ascii_append : {a b : List ℕ} → Ascii a → Ascii b → Ascii (a ++ b)
+ascii_append {a} {b} p q = known_ascii (IsAscii-append a b p.is q.is)
 
 -- a byte, and then a text
-byte : {b : ℕ} {bytes : List ℕ} → nat_lt b 128 ≡ true → Ascii bytes → Ascii (b ∷ bytes)
-byte {b} {bytes} below h = after {a = b ∷ []} (leaf (ascii_test (b ∷ []) (rw below))) h
+ascii_byte_before : {b : ℕ} {bytes : List ℕ} → nat_lt b 128 ≡ true → Ascii bytes → Ascii (b ∷ bytes)
+ascii_byte_before {b} {bytes} below h = ascii_append {a = b ∷ []} (known_ascii (ascii_test (b ∷ []) (rw below))) h
 
 -- one of two texts
-either : {a b : List ℕ} (c : Bool) → Ascii a → Ascii b → Ascii (if c then a else b)
-either true p q = p
-either false p q = q
+ascii_either : {a b : List ℕ} (c : Bool) → Ascii a → Ascii b → Ascii (if c then a else b)
+ascii_either true p q = p
+ascii_either false p q = q
 
 -- ---- outcomes
 
 -- one of two outcomes
-either_outcome : (c : Bool) (a b : Outcome) → Ascii a.bytes → Ascii b.bytes → Ascii (if c then a else b).bytes
-either_outcome true a b p q = p
-either_outcome false a b p q = q
+ascii_either_outcome : (c : Bool) (a b : Outcome) → Ascii a.bytes → Ascii b.bytes → Ascii (if c then a else b).bytes
+ascii_either_outcome true a b p q = p
+ascii_either_outcome false a b p q = q
 
 -- an outcome after a test, whether it refuses or not
-tested : (c : Bool) (name : List ℕ) (o : Outcome) → Ascii o.bytes → Ascii (refused_if c name o).bytes
-tested c name o h = either_outcome c (refused (invalid_component name)) o nil h
+ascii_refused_if : (c : Bool) (name : List ℕ) (o : Outcome) → Ascii o.bytes → Ascii (refused_if c name o).bytes
+ascii_refused_if c name o h = ascii_either_outcome c (refused (invalid_component name)) o ascii_empty h
 
 -- one outcome after another
-joined : (a b : Outcome) → Ascii a.bytes → Ascii b.bytes → Ascii (join a b).bytes
-joined a b p q =
+ascii_join : (a b : Outcome) → Ascii a.bytes → Ascii b.bytes → Ascii (join a b).bytes
+ascii_join a b p q =
     elim a.refusal as (λ r. Ascii (join (record { bytes = a.bytes; refusal = r }) b).bytes)
-    [ None ↦ after p q | Some r ↦ p ]
+    [ None ↦ ascii_append p q | Some r ↦ p ]
 
 -- what a group gives, whether it is there or not
-of_any : {G : Type 0} (group : Option G) (outcome : G → Outcome) → ((g : G) → Ascii (outcome g).bytes)
+ascii_of_group : {G : Type 0} (group : Option G) (outcome : G → Outcome) → ((g : G) → Ascii (outcome g).bytes)
     → Ascii (of_group group outcome).bytes
-of_any None outcome each = nil
-of_any (Some g) outcome each = each g
+ascii_of_group None outcome each = ascii_empty
+ascii_of_group (Some g) outcome each = each g
 
 -- ---- texts
 
-number : (k n : ℕ) → Ascii (zero_padded k n)
-number k n = leaf (IsAscii-padded 48 k n (omega arith))
+ascii_zero_padded : (k n : ℕ) → Ascii (zero_padded k n)
+ascii_zero_padded k n = known_ascii (IsAscii-padded 48 k n (omega arith))
 
-digits : (k n : ℕ) → Ascii (fixed k n)
-digits k n = leaf (IsAscii-fixed k n)
+ascii_fixed : (k n : ℕ) → Ascii (fixed k n)
+ascii_fixed k n = known_ascii (IsAscii-fixed k n)
 
-fraction : (n : ℕ) → Ascii (trimmed_fraction n)
-fraction n = leaf (IsAscii-trimmed_fraction n)
+ascii_trimmed_fraction : (n : ℕ) → Ascii (trimmed_fraction n)
+ascii_trimmed_fraction n = known_ascii (IsAscii-trimmed_fraction n)
 
-sign : (is_negative is_wanted : Bool) → Ascii (sign_text is_negative is_wanted)
-sign is_negative is_wanted = leaf (IsAscii-sign_text is_negative is_wanted)
+ascii_sign_text : (is_negative is_wanted : Bool) → Ascii (sign_text is_negative is_wanted)
+ascii_sign_text is_negative is_wanted = known_ascii (IsAscii-sign_text is_negative is_wanted)
 
-month : (n : ℕ) → Ascii (short_name (month_name n))
-month n = leaf (IsAscii-take (month_name n) 3 (IsAscii-month_name n))
+ascii_month_name : (n : ℕ) → Ascii (short_name (month_name n))
+ascii_month_name n = known_ascii (IsAscii-take (month_name n) 3 (IsAscii-month_name n))
 
-weekday : (n : ℕ) → Ascii (short_name (weekday_name n))
-weekday n = leaf (IsAscii-take (weekday_name n) 3 (IsAscii-weekday_name n))
+ascii_weekday_name : (n : ℕ) → Ascii (short_name (weekday_name n))
+ascii_weekday_name n = known_ascii (IsAscii-take (weekday_name n) 3 (IsAscii-weekday_name n))
 
 -- a text is ASCII where its parts are
-ruleset texts = (nil, byte, after, either, number, digits, fraction, sign, month, weekday, refl)
+ruleset ascii_text_lemmas = (ascii_empty, ascii_byte_before, ascii_append, ascii_either, ascii_zero_padded, ascii_fixed, ascii_trimmed_fraction, ascii_sign_text, ascii_month_name, ascii_weekday_name, refl)
 
 -- ---- RFC 3339 and RFC 2822
 
 -- the bytes of each outcome of RFC 3339 are UTF-8
 pub rfc3339_utf8 : (f : Facts) → IsUtf8 (rfc3339_outcome f).bytes
-rfc3339_utf8 f = utf8 (search (of_any, tested, texts) depth 25)
+rfc3339_utf8 f = utf8_of_ascii (search (ascii_of_group, ascii_refused_if, ascii_text_lemmas) depth 25)
 
 -- the bytes of each outcome of RFC 2822 are UTF-8
 pub rfc2822_utf8 : (f : Facts) → IsUtf8 (rfc2822_outcome f).bytes
-rfc2822_utf8 f = utf8 (search (of_any, tested, texts) depth 25)
+rfc2822_utf8 f = utf8_of_ascii (search (ascii_of_group, ascii_refused_if, ascii_text_lemmas) depth 25)
 
 -- ---- ISO 8601
 
-year : (is_six_digits : Bool) (y : ℤ) → Ascii (iso_year is_six_digits y).bytes
-year true y = search texts
-year false y = search (tested, texts)
+ascii_iso_year : (is_six_digits : Bool) (y : ℤ) → Ascii (iso_year is_six_digits y).bytes
+ascii_iso_year true y = search ascii_text_lemmas
+ascii_iso_year false y = search (ascii_refused_if, ascii_text_lemmas)
 
 -- what follows the year
-after_year : (k : DateKind) (c : Choices) (d : DateFacts) → Ascii (text_after_year k c d)
-after_year kind.Calendar c d = search texts depth 8
-after_year kind.Week c d = search texts depth 8
-after_year kind.Ordinal c d = search texts
+ascii_text_after_year : (k : DateKind) (c : Choices) (d : DateFacts) → Ascii (text_after_year k c d)
+ascii_text_after_year kind.Calendar c d = search ascii_text_lemmas depth 8
+ascii_text_after_year kind.Week c d = search ascii_text_lemmas depth 8
+ascii_text_after_year kind.Ordinal c d = search ascii_text_lemmas
 
-date : (c : Choices) (d : DateFacts) → Ascii (iso_date c d).bytes
-date c d = search (joined, year, after_year)
+ascii_iso_date : (c : Choices) (d : DateFacts) → Ascii (iso_date c d).bytes
+ascii_iso_date c d = search (ascii_join, ascii_iso_year, ascii_text_after_year)
 
 -- decimals and the sign before them
-decimals_of : (s : DecimalSign) (d : Option ℕ) (rest unit : ℕ) → Ascii (decimal_part s d rest unit)
-decimals_of s None rest unit = nil
-decimals_of sign_of.Point (Some d) rest unit = search texts
-decimals_of sign_of.Comma (Some d) rest unit = search texts
+ascii_decimal_part : (s : DecimalSign) (d : Option ℕ) (rest unit : ℕ) → Ascii (decimal_part s d rest unit)
+ascii_decimal_part s None rest unit = ascii_empty
+ascii_decimal_part sign_of.Point (Some d) rest unit = search ascii_text_lemmas
+ascii_decimal_part sign_of.Comma (Some d) rest unit = search ascii_text_lemmas
 
-units : (p : TimePrecision) (c : Choices) (t : TimeOfDay) → Ascii (units_text p c t)
-units (precision.Hour d) c t = search (texts, decimals_of)
-units (precision.Minute d) c t = search (texts, decimals_of) depth 8
-units (precision.Second d) c t = search (texts, decimals_of) depth 10
+ascii_units_text : (p : TimePrecision) (c : Choices) (t : TimeOfDay) → Ascii (units_text p c t)
+ascii_units_text (precision.Hour d) c t = search (ascii_text_lemmas, ascii_decimal_part)
+ascii_units_text (precision.Minute d) c t = search (ascii_text_lemmas, ascii_decimal_part) depth 8
+ascii_units_text (precision.Second d) c t = search (ascii_text_lemmas, ascii_decimal_part) depth 10
 
-time : (c : Choices) (t : TimeOfDay) → Ascii (iso_time c t).bytes
-time c t = search (texts, units)
+ascii_iso_time : (c : Choices) (t : TimeOfDay) → Ascii (iso_time c t).bytes
+ascii_iso_time c t = search (ascii_text_lemmas, ascii_units_text)
 
-minutes : (p : OffsetPrecision) (c : Choices) (o : Offset) → Ascii (iso_minutes p c o).bytes
-minutes offset_precision.Minute c o = search texts
-minutes offset_precision.Hour c o = search (tested, texts)
+ascii_iso_minutes : (p : OffsetPrecision) (c : Choices) (o : Offset) → Ascii (iso_minutes p c o).bytes
+ascii_iso_minutes offset_precision.Minute c o = search ascii_text_lemmas
+ascii_iso_minutes offset_precision.Hour c o = search (ascii_refused_if, ascii_text_lemmas)
 
-zone : (c : Choices) (o : Offset) → Ascii (iso_offset c o).bytes
-zone c o = search (either_outcome, tested, joined, texts, minutes)
+ascii_iso_offset : (c : Choices) (o : Offset) → Ascii (iso_offset c o).bytes
+ascii_iso_offset c o = search (ascii_either_outcome, ascii_refused_if, ascii_join, ascii_text_lemmas, ascii_iso_minutes)
 
 -- the parts that are written, one after another
-ruleset outcomes = (nil, of_any, joined, date, time, zone)
+ruleset ascii_outcome_lemmas = (ascii_empty, ascii_of_group, ascii_join, ascii_iso_date, ascii_iso_time, ascii_iso_offset)
 
-parts : (p : FormattedComponents) (c : Choices) (f : Facts) → Ascii (iso8601_outcome_of p c f).bytes
-parts components.None c f = search outcomes
-parts components.Date c f = search outcomes
-parts components.Time c f = search outcomes
-parts components.Offset c f = search outcomes
-parts components.DateTime c f = search outcomes
-parts components.DateTimeOffset c f = search outcomes depth 8
-parts components.TimeOffset c f = search outcomes
+ascii_iso8601_outcome : (p : FormattedComponents) (c : Choices) (f : Facts) → Ascii (iso8601_outcome_of p c f).bytes
+ascii_iso8601_outcome components.None c f = search ascii_outcome_lemmas
+ascii_iso8601_outcome components.Date c f = search ascii_outcome_lemmas
+ascii_iso8601_outcome components.Time c f = search ascii_outcome_lemmas
+ascii_iso8601_outcome components.Offset c f = search ascii_outcome_lemmas
+ascii_iso8601_outcome components.DateTime c f = search ascii_outcome_lemmas
+ascii_iso8601_outcome components.DateTimeOffset c f = search ascii_outcome_lemmas depth 8
+ascii_iso8601_outcome components.TimeOffset c f = search ascii_outcome_lemmas
 
 -- the bytes of each outcome of ISO 8601 are UTF-8
 pub iso8601_utf8 : (c : Choices) (f : Facts) → IsUtf8 (iso8601_outcome c f).bytes
-iso8601_utf8 c f = utf8 (parts c.formatted_components c f)
+iso8601_utf8 c f = utf8_of_ascii (ascii_iso8601_outcome c.formatted_components c f)

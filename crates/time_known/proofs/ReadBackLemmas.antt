@@ -10,7 +10,7 @@ use Rattle.time_known.specs.Laws.{IsValue, CompletedAreCanonical}
 use Rattle.time_known.specs.ReadBack.{ReadsAs}
 use Rattle.time_known.specs.Rules.{Rule}
 use Rattle.time_known.specs.WellKnown.{of_all_groups}
-use Rattle.time_known.proofs.GroupLemmas.{HasAll, there, outcome_of_all}
+use Rattle.time_known.proofs.GroupLemmas.{HasAll, some_group_or, outcome_of_all}
 
 -- an outcome without a refusal is completed by its bytes
 completed_by_bytes : (o : Outcome) → o.refusal ≡ None → o ≡ done o.bytes
@@ -35,9 +35,9 @@ reads_as of_groups law f all real_date real_time real_offset complete =
     record {
       value = value;
       fits = fits;
-      date = there _ f.date all.date ∙ ap Some real_date.components;
-      time = there _ f.time all.time;
-      offset = there _ f.offset all.offset;
+      date = some_group_or _ f.date all.date ∙ ap Some real_date.components;
+      time = some_group_or _ f.time all.time;
+      offset = some_group_or _ f.offset all.offset;
       spelled = read.0;
       canonical = read.1;
     }

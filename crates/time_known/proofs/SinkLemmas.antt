@@ -9,8 +9,8 @@ use Rattle.time_fmt.proofs.WriteLemmas.{appends_up_to}
 use Rattle.time_known.specs.Sink.{Buffer, Puts, PutsJust, PutsUpTo}
 
 -- a piece is put up to its own length
-pub whole : {old new : Buffer} {text : List ℕ} → Puts old new text → PutsUpTo (length text) old new text
-whole p = record {
+pub puts_up_to_length : {old new : Buffer} {text : List ℕ} → Puts old new text → PutsUpTo (length text) old new text
+puts_up_to_length p = record {
   put = p.put;
   grown = p.grown;
   capacity = p.capacity;
@@ -55,8 +55,8 @@ pub text_appended : {width : ℕ} {old new : Vec ℕ Global} {n : ℕ} {text : L
 text_appended w = record { appends = appends_up_to w; within = omega (arith, w.grown, w.within) }
 
 -- a text of at most this many bytes has at most as many as any greater number
-pub wider : {a b : ℕ} {old new : Buffer} {text : List ℕ} → PutsUpTo a old new text → a ≤ b → PutsUpTo b old new text
-wider p h = record {
+pub puts_up_to_more : {a b : ℕ} {old new : Buffer} {text : List ℕ} → PutsUpTo a old new text → a ≤ b → PutsUpTo b old new text
+puts_up_to_more p h = record {
   put = p.put;
   grown = p.grown;
   capacity = p.capacity;

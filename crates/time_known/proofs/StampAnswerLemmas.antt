@@ -15,7 +15,7 @@ use Rattle.time_known.specs.Config.{default_choices}
 use Rattle.time_known.specs.Iso8601Grammar.{iso8601_reads_as}
 use Rattle.time_known.specs.Stamps.{stamp_of, stamp_text, stamp_length, IsStampYear, HasStamp}
 use Rattle.time_known.specs.WellKnown.{is_outside}
-use Rattle.time_known.proofs.OutcomeLemmas.{IsYearWithin, within}
+use Rattle.time_known.proofs.OutcomeLemmas.{IsYearWithin, year_is_within}
 use Rattle.time_known.proofs.StampLemmas.{year_within, stamp_year, stamp_done, default_is_whole, stamps_are_completed}
 use Rattle.time_known.proofs.StampLemmas.{year_refused}
 
@@ -36,7 +36,7 @@ either_year : (v : DateAndTime)
     → (stamp_of v ≡ refused (invalid_component (codes "year"))) ⊎ IsYearWithin 0 9_999 v.date.year
 either_year v =
     ⊎_elim (λ (e : is_outside 0 9_999 v.date.year ≡ true). inl (year_refused v e))
-    (λ (e : is_outside 0 9_999 v.date.year ≡ false). inr (within 0 9_999 v.date.year e))
+    (λ (e : is_outside 0 9_999 v.date.year ≡ false). inr (year_is_within 0 9_999 v.date.year e))
     (cases_Bool (is_outside 0 9_999 v.date.year))
 
 -- what is not refused has a year of four digits

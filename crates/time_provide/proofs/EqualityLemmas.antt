@@ -24,11 +24,11 @@ months_decide : (a b : Month) → Decides (sameb month.the_type a b) (a ≡ b)
 months_decide a b = (λ h. same_true month.the_type tt a b h, λ e. true_same month.the_type a b e)
 
 -- a state by its entries
-abbrev entries : Option ℕ → Option Month → Option ℕ → Option ℤ → DateState
-entries day month week year = record { day = day; month = month; iso_week = week; iso_year = year }
+abbrev state_of_entries : Option ℕ → Option Month → Option ℕ → Option ℤ → DateState
+state_of_entries day month week year = record { day = day; month = month; iso_week = week; iso_year = year }
 
 same_entries : {d d' w w' : Option ℕ} {m m' : Option Month} {y y' : Option ℤ} → d ≡ d' → m ≡ m' → w ≡ w' → y ≡ y'
-    → entries d m w y ≡ entries d' m' w' y'
+    → state_of_entries d m w y ≡ state_of_entries d' m' w' y'
 same_entries p q r s = cc
 
 -- two states are found equal exactly if they hold the same

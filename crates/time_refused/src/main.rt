@@ -71,7 +71,7 @@ fn example() -> Option<OffsetDateTime> {
 }
 
 /// Appends the text to this vector, and once more after a failed allocation.
-fn appended<D: Formattable>(
+fn append_text<D: Formattable>(
     output: &mut Vec<u8>,
     description: &D,
     value: &OffsetDateTime,
@@ -92,7 +92,7 @@ fn appended<D: Formattable>(
 }
 
 /// Appends the text to a new vector of this capacity.
-fn appended_to_new<D: Formattable>(
+fn append_to_new<D: Formattable>(
     alloc: Global,
     capacity: usize,
     description: &D,
@@ -100,14 +100,14 @@ fn appended_to_new<D: Formattable>(
     text: &str,
 ) -> Came {
     match Vec::with_capacity(alloc, capacity) {
-        Ok(mut output) => appended(&mut output, description, value, text),
+        Ok(mut output) => append_text(&mut output, description, value, text),
         // There is no call without a vector.
         Err(_) => Came::Right.after_refusal(),
     }
 }
 
 /// Formats the text, and once more after a failed allocation.
-fn formatted<D: Formattable>(
+fn format_text<D: Formattable>(
     alloc: Global,
     description: &D,
     value: &OffsetDateTime,
@@ -126,7 +126,7 @@ fn formatted<D: Formattable>(
 }
 
 /// Writes what came of a call.
-fn tell(rt: &HostRuntime, call: &str, came: Came) -> io::Result<()> {
+fn print_came(rt: &HostRuntime, call: &str, came: Came) -> io::Result<()> {
     println!(rt; "{call}: {}", came.name())
 }
 
@@ -145,16 +145,16 @@ fn main(rt: HostRuntime) -> io::Result<()> {
     let nothing = BorrowedFormatItem::Compound(&[]);
     let alloc = rt.alloc();
 
-    let came = appended_to_new(alloc, 0, &list, &value, "12/11");
-    tell(&rt, "a list, no room", came)?;
-    let came = appended_to_new(alloc, 4, &list, &value, "12/11");
-    tell(&rt, "a list, one byte short", came)?;
-    let came = appended_to_new(alloc, 34, &Rfc3339, &value, STAMP);
-    tell(&rt, "RFC 3339, one byte short", came)?;
-    let came = formatted(alloc, &list, &value, "12/11");
-    tell(&rt, "the text of a list", came)?;
-    let came = formatted(alloc, &torn, &value, "\u{fffd}");
-    tell(&rt, "the text of a byte that is none", came)?;
-    let came = formatted(alloc, &nothing, &value, "");
-    tell(&rt, "the text of an empty list", came)
+    let came = append_to_new(alloc, 0, &list, &value, "12/11");
+    print_came(&rt, "a list, no room", came)?;
+    let came = append_to_new(alloc, 4, &list, &value, "12/11");
+    print_came(&rt, "a list, one byte short", came)?;
+    let came = append_to_new(alloc, 34, &Rfc3339, &value, STAMP);
+    print_came(&rt, "RFC 3339, one byte short", came)?;
+    let came = format_text(alloc, &list, &value, "12/11");
+    print_came(&rt, "the text of a list", came)?;
+    let came = format_text(alloc, &torn, &value, "\u{fffd}");
+    print_came(&rt, "the text of a byte that is none", came)?;
+    let came = format_text(alloc, &nothing, &value, "");
+    print_came(&rt, "the text of an empty list", came)
 }

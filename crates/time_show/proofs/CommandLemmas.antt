@@ -14,9 +14,9 @@ date_time_at xs d = record {
 }
 
 -- ten numbers are those of a date and time
-ten : (xs : List ℤ) (d : ℤ) → length xs ≡ 10 → date_time_numbers (Some xs) ≡ Some (date_time_at xs d)
-ten (a ∷ b ∷ c ∷ e ∷ f ∷ g ∷ h ∷ i ∷ j ∷ k ∷ []) d len = refl
-ten xs d len = absurd (grind arith)
+date_time_of_ten : (xs : List ℤ) (d : ℤ) → length xs ≡ 10 → date_time_numbers (Some xs) ≡ Some (date_time_at xs d)
+date_time_of_ten (a ∷ b ∷ c ∷ e ∷ f ∷ g ∷ h ∷ i ∷ j ∷ k ∷ []) d len = refl
+date_time_of_ten xs d len = absurd (grind arith)
 
 -- a list of exactly `count` numbers is all of them
 exactly-Some : (count : ℕ) (numbers : Option (List ℤ)) (xs : List ℤ) → Some xs ≡ exactly count numbers
@@ -27,7 +27,7 @@ exactly-Some count (Some ys) xs e = (grind arith, grind arith)
 -- ten numbers of a line are those of a date and time
 pub ten_numbers : (numbers : Option (List ℤ)) (xs : List ℤ) (d : ℤ) → Some xs ≡ exactly 10 numbers
     → date_time_numbers numbers ≡ Some (date_time_at xs d)
-ten_numbers numbers xs d e = let all = exactly-Some 10 numbers xs e in rw all.0 (ten xs d all.1)
+ten_numbers numbers xs d e = let all = exactly-Some 10 numbers xs e in rw all.0 (date_time_of_ten xs d all.1)
 
 -- the numbers of a date and time in UTC at their places in a list
 abbrev pub utc_at : List ℤ → ℤ → UtcNumbers
@@ -37,11 +37,11 @@ utc_at xs d = record {
 }
 
 -- seven numbers are those of a date and time in UTC
-seven : (xs : List ℤ) (d : ℤ) → length xs ≡ 7 → utc_numbers (Some xs) ≡ Some (utc_at xs d)
-seven (a ∷ b ∷ c ∷ e ∷ f ∷ g ∷ h ∷ []) d len = refl
-seven xs d len = absurd (grind arith)
+utc_of_seven : (xs : List ℤ) (d : ℤ) → length xs ≡ 7 → utc_numbers (Some xs) ≡ Some (utc_at xs d)
+utc_of_seven (a ∷ b ∷ c ∷ e ∷ f ∷ g ∷ h ∷ []) d len = refl
+utc_of_seven xs d len = absurd (grind arith)
 
 -- seven numbers of a line are those of a date and time in UTC
 pub seven_numbers : (numbers : Option (List ℤ)) (xs : List ℤ) (d : ℤ) → Some xs ≡ exactly 7 numbers
     → utc_numbers numbers ≡ Some (utc_at xs d)
-seven_numbers numbers xs d e = let all = exactly-Some 7 numbers xs e in rw all.0 (seven xs d all.1)
+seven_numbers numbers xs d e = let all = exactly-Some 7 numbers xs e in rw all.0 (utc_of_seven xs d all.1)

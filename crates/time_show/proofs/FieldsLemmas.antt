@@ -35,8 +35,8 @@ tells_natural : IsDigitsTest (λ ds. list_all is_ascii_digit ds ≡ true)
 tells_natural = search rules
 
 -- digits have the value of their numeral
-numerals : IsNumeralModel (λ ds. list_all is_ascii_digit ds ≡ true) (digits_value 10)
-numerals = numerals_by_value _ tells_natural
+digits_are_numerals : IsNumeralModel (λ ds. list_all is_ascii_digit ds ≡ true) (digits_value 10)
+digits_are_numerals = numerals_by_value _ tells_natural
 
 -- one more digit after others: ten times the value so far, and the digit, by its code from that of `0`, which is 48
 pub record DigitMore (ds : List ℕ) (i : ℕ) : Type 0 where
@@ -62,7 +62,7 @@ digit_more ds i short before lt here =
       digits = all;
       is_digit = omega arith;
       value = omega arith;
-      small = digits_value_short numerals (take (i + 1) ds) 9 all (omega (arith, length-take (i + 1) ds));
+      small = digits_value_short digits_are_numerals (take (i + 1) ds) 9 all (omega (arith, length-take (i + 1) ds));
     }
 
 -- one to nine digits are a number
@@ -173,12 +173,12 @@ no_space_before text value count read inside other le =
     (cases_lt (position_or_len is_space text) count)
 
 -- no digit, or another byte after them than a space, is no number
-missed : (text : List ℕ) (value count : ℕ) → LeadingDigits text value count →
+missed_number : (text : List ℕ) (value count : ℕ) → LeadingDigits text value count →
     (count ≡ 0) ⊎ ((count < length text) × (is_space (get_or text count 0) ≡ false))
     → position_or_len is_space text ≤ count →
     natural_of (take (position_or_len is_space text) text) ≡ None
-missed text value count read (inl none) le = let zero : position_or_len is_space text ≡ 0 = omega arith in rw zero refl
-missed text value count read (inr other) le = absurd (no_space_before text value count read other.0 other.1 le)
+missed_number text value count read (inl none) le = let zero : position_or_len is_space text ≡ 0 = omega arith in rw zero refl
+missed_number text value count read (inr other) le = absurd (no_space_before text value count read other.0 other.1 le)
 
 pub natural_missed : (text : List ℕ) (value count : ℕ) → LeadingDigits text value count →
     (count ≡ 0) ⊎ ((count < length text) × (is_space (get_or text count 0) ≡ false)) →
@@ -188,12 +188,12 @@ natural_missed text value count read wrong =
     let none : natural_of (take (position_or_len is_space text) text) ≡ None =
     ⊎_elim
     (λ before. no_natural_before text value count read before)
-    (λ past. missed text value count read wrong past)
+    (λ past. missed_number text value count read wrong past)
     (cases_lt count (position_or_len is_space text)) in
     (_, first.0, first.1, none)
 
 -- a number of a line has nine digits at most
 pub natural_small : (text : List ℕ) (value count : ℕ) → LeadingDigits text value count → value < 10 ^ 9
 natural_small text value count read =
-    rw read.spelled (digits_value_short numerals (take count text) 9 read.digits
+    rw read.spelled (digits_value_short digits_are_numerals (take count text) 9 read.digits
     (omega (arith, read.short, length-take count text)))

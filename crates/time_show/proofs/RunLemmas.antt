@@ -33,13 +33,13 @@ meets-cons b c xs ys us vs e (later more p q) = later more (rw (e, p)) q
 meets-cons b c xs ys us vs e (earlier more p some) = earlier more (rw (e, p)) some
 
 -- one of the two holds of any two equal texts
-meets : (xs ys us vs : List ℕ) → xs ++ ys ≡ us ++ vs → Meets xs ys us vs
-meets xs ys [] vs e = later xs refl (sym e)
-meets [] ys (u ∷ us) vs e = earlier (u ∷ us) refl (λ (h : u ∷ us ≡ []). cc)
-meets (x ∷ xs) ys (u ∷ us) vs e =
+equal_texts_meet : (xs ys us vs : List ℕ) → xs ++ ys ≡ us ++ vs → Meets xs ys us vs
+equal_texts_meet xs ys [] vs e = later xs refl (sym e)
+equal_texts_meet [] ys (u ∷ us) vs e = earlier (u ∷ us) refl (λ (h : u ∷ us ≡ []). cc)
+equal_texts_meet (x ∷ xs) ys (u ∷ us) vs e =
     let heads : x ≡ u = cc in
     let tails : xs ++ ys ≡ us ++ vs = cc in
-    meets-cons x u xs ys us vs heads (meets xs ys us vs tails)
+    meets-cons x u xs ys us vs heads (equal_texts_meet xs ys us vs tails)
 
 -- the answer to the first line lacks its end
 BreaksOff-first : (line answer start missing : List ℕ) (lines : List (List ℕ)) →
@@ -84,7 +84,7 @@ no_text (b ∷ start) missing e = cc
 BreaksOff-cut : (lines : List (List ℕ)) (start missing : List ℕ) → AreAnswers lines (start ++ missing) → missing ≢ []
     → BreaksOff lines start
 BreaksOff-cut [] start missing p some = absurd (some (no_text start missing p))
-BreaksOff-cut (line ∷ lines) start missing p some = elim (meets start missing p.0 p.1 p.2) [
+BreaksOff-cut (line ∷ lines) start missing p some = elim (equal_texts_meet start missing p.0 p.1 p.2) [
   | later more e rest ↦ BreaksOff-later line p.0 more start lines p.3
       (BreaksOff-cut lines more missing (rw (← rest) p.4) some) e
   | earlier more e unfinished ↦ BreaksOff-first line p.0 start more lines p.3 e unfinished

@@ -12,24 +12,24 @@ use Rattle.time_known.specs.declared.iso8601.config.FormattedComponents.TheVaria
 use Rattle.time_known.specs.Groups.{has_groups, at_groups}
 use Rattle.time_known.specs.Iso8601.{iso_of_groups, iso8601_outcome, iso8601_outcome_of}
 use Rattle.time_known.specs.Iso8601Width.{iso8601_width, iso8601_width_of}
-use Rattle.time_known.proofs.GroupLemmas.{unsupplied, has_all, outcome_of_all}
+use Rattle.time_known.proofs.GroupLemmas.{of_unsupplied_group, has_all, outcome_of_all}
 
 -- facts that lack a group which is formatted are refused
 lacking_of : (parts : FormattedComponents) (c : Choices) (f : Facts) → has_groups (groups_of parts) f ≡ false
     → iso8601_outcome_of parts c f ≡ refused insufficient
 lacking_of components.None c f h = refl
-lacking_of components.Date c f h = grind (arith, common_steps, unsupplied)
-lacking_of components.Time c f h = grind (arith, common_steps, unsupplied)
-lacking_of components.Offset c f h = grind (arith, common_steps, unsupplied)
-lacking_of components.DateTime c f h = grind (arith, common_steps, unsupplied)
-lacking_of components.DateTimeOffset c f h = grind (arith, common_steps, unsupplied)
-lacking_of components.TimeOffset c f h = grind (arith, common_steps, unsupplied)
+lacking_of components.Date c f h = grind (arith, common_steps, of_unsupplied_group)
+lacking_of components.Time c f h = grind (arith, common_steps, of_unsupplied_group)
+lacking_of components.Offset c f h = grind (arith, common_steps, of_unsupplied_group)
+lacking_of components.DateTime c f h = grind (arith, common_steps, of_unsupplied_group)
+lacking_of components.DateTimeOffset c f h = grind (arith, common_steps, of_unsupplied_group)
+lacking_of components.TimeOffset c f h = grind (arith, common_steps, of_unsupplied_group)
 
 -- a value without a needed group is refused, by choices that the test reads once more
-pub lacking : (c read : Choices) (f : Facts) (needed : Groups) → read ≡ c
+pub missing_group_refused : (c read : Choices) (f : Facts) (needed : Groups) → read ≡ c
     → needed ≡ groups_of read.formatted_components → has_groups needed f ≡ false
     → iso8601_outcome c f ≡ refused insufficient
-lacking c read f needed e groups h =
+missing_group_refused c read f needed e groups h =
     ap (λ (choices : Choices). iso8601_outcome choices f) (sym e)
     ∙ lacking_of read.formatted_components read f (ap (λ (g : Groups). has_groups g f) (sym groups) ∙ h)
 

@@ -23,17 +23,17 @@ zeros_to_drop-dropped-requires c =
     record { digits = subst P (sym (last_eight c)) (fixed_digits 8 c.args.n) }
 
 -- what is kept is the trimmed fraction
-kept : (c : After-zeros_to_drop-dropped) → take (9 - c.zeros_to_drop-dropped.result) c.nine_digits-bytes.result
+kept_is_trimmed_fraction : (c : After-zeros_to_drop-dropped) → take (9 - c.zeros_to_drop-dropped.result) c.nine_digits-bytes.result
     ≡ trimmed_fraction c.args.n
-kept c = rw (c.nine_digits-bytes.ensures, c.zeros_to_drop-dropped.ensures.value, last_eight c.before)
+kept_is_trimmed_fraction c = rw (c.nine_digits-bytes.ensures, c.zeros_to_drop-dropped.ensures.value, last_eight c.before)
     (sym (trimmed_fraction-take c.args.n))
 
 pub new-requires : goal.new-requires
 new-requires c =
     let after = (goal.at.new-requires c).After-zeros_to_drop-dropped in
     let ascii : IsAscii (take (9 - c.zeros_to_drop-dropped.result) c.nine_digits-bytes.result) =
-    rw (kept after) (IsAscii-trimmed_fraction c.args.n) in
+    rw (kept_is_trimmed_fraction after) (IsAscii-trimmed_fraction c.args.n) in
     (omega arith, (omega arith, (omega arith, ascii)))
 
 pub returns-clause-text : goal.returns-clause-text
-returns-clause-text c = c.new.ensures ∙ kept (goal.at.returns-clause-text c).After-zeros_to_drop-dropped
+returns-clause-text c = c.new.ensures ∙ kept_is_trimmed_fraction (goal.at.returns-clause-text c).After-zeros_to_drop-dropped

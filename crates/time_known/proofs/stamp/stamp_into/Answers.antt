@@ -4,26 +4,26 @@ use Rattle.time_known.proofs.stamp.stamp_into.Goals as goal
 use Rattle.time_known.proofs.stamp.stamp_into.Goals.{After-format_into}
 
 -- what the call says, by the default configuration
-said : (c : After-format_into)
+stamp_is_answered : (c : After-format_into)
     → Answered c.args.output.now c.format_into.new.output c.format_into.result c.args.value.now
-said c =
+stamp_is_answered c =
     let e = rw c.default.ensures at c.format_into.ensures in
     record { appends = e.appends; spelled = e.spelled; unchanged = e.unchanged }
 
 pub returns-clause-length : goal.returns-clause-length
-returns-clause-length c = completed_length _ (said (goal.at.returns-clause-length c).After-format_into)
+returns-clause-length c = completed_length _ (stamp_is_answered (goal.at.returns-clause-length c).After-format_into)
 
 pub returns-clause-longer : goal.returns-clause-longer
-returns-clause-longer c = completed_longer _ (said (goal.at.returns-clause-longer c).After-format_into)
+returns-clause-longer c = completed_longer _ (stamp_is_answered (goal.at.returns-clause-longer c).After-format_into)
 
 pub returns-clause-is_stamp : goal.returns-clause-is_stamp
-returns-clause-is_stamp c = completed_has_stamp _ (said (goal.at.returns-clause-is_stamp c).After-format_into)
+returns-clause-is_stamp c = completed_has_stamp _ (stamp_is_answered (goal.at.returns-clause-is_stamp c).After-format_into)
 
 pub returns-clause-year : goal.returns-clause-year
-returns-clause-year c = completed_years _ (said (goal.at.returns-clause-year c).After-format_into)
+returns-clause-year c = completed_years _ (stamp_is_answered (goal.at.returns-clause-year c).After-format_into)
 
 pub returns-clause-named : goal.returns-clause-named
-returns-clause-named c = year_named _ (said (goal.at.returns-clause-named c).After-format_into)
+returns-clause-named c = year_named _ (stamp_is_answered (goal.at.returns-clause-named c).After-format_into)
 
 pub returns-clause-unchanged : goal.returns-clause-unchanged
-returns-clause-unchanged c = refused_unchanged _ (said (goal.at.returns-clause-unchanged c).After-format_into)
+returns-clause-unchanged c = refused_unchanged _ (stamp_is_answered (goal.at.returns-clause-unchanged c).After-format_into)

@@ -5,8 +5,8 @@ use Rattle.time_below.proofs.OffsetLemmas.{IsOffset-parts}
 use Rattle.time_below.proofs.utc_offset.UtcOffset.from_hms.Goals as goal
 
 -- the parts as the code holds them
-abbrev held : ℤ → ℤ
-held part = to_z w8 (of_z w8 part)
+abbrev held_part : ℤ → ℤ
+held_part part = to_z w8 (of_z w8 part)
 
 pub invariant_of-result : goal.invariant_of-result
 invariant_of-result c =
@@ -18,6 +18,6 @@ invariant_of-result c =
     let seconds =
     to_z-of_z w8 c.signed_like-seconds.result seconds_fit
     ∙ c.signed_like-seconds.ensures.value
-    ∙ ap (signed_like (held c.args.hours)) inner in
-    IsOffset-parts (held c.args.hours) (held c.args.minutes) (held c.args.seconds) _ _ minutes
+    ∙ ap (signed_like (held_part c.args.hours)) inner in
+    IsOffset-parts (held_part c.args.hours) (held_part c.args.minutes) (held_part c.args.seconds) _ _ minutes
     seconds (omega arith, omega arith, omega arith)

@@ -1,6 +1,6 @@
 use Rattle.std.proofs.Common.{◌≡◌, ◌≤◌, length}
 use Rattle.movaliren_c.specs.Batch.{ended, Stand}
-use Rattle.movaliren_c.proofs.batch.lines_written.Given as goal
+use Rattle.movaliren_c.proofs.batch.write_lines.Given as goal
 
 -- the lines of the items so far are at the start of the buffer
 abbrev pub invariant-loop-item : goal.invariant-loop-item

@@ -7,7 +7,7 @@ use Rattle.time_known.specs.Iso8601.{iso8601_of}
 use Rattle.time_known.specs.UsualText.{usual_choices, usual_of_fields, usual_text}
 use Rattle.time_known.proofs.AcceptedLemmas.{usual_accepted}
 use Rattle.movaliren_c.specs.Answer.{IsWritten}
-use Rattle.movaliren_c.proofs.iso8601.usual_written.Goals as goal
+use Rattle.movaliren_c.proofs.iso8601.write_usual.Goals as goal
 
 pub returns-in-Ok : goal.returns-in-Ok
 returns-in-Ok c =

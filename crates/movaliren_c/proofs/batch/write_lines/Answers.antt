@@ -1,6 +1,6 @@
 use Rattle.std.proofs.Common.{◌<◌, length, inr, arith, rules}
 use Rattle.movaliren_c.proofs.BatchLemmas.{stops_at_item}
-use Rattle.movaliren_c.proofs.batch.lines_written.Goals as goal
+use Rattle.movaliren_c.proofs.batch.write_lines.Goals as goal
 
 pub returns-in-Err : goal.returns-in-Err
 returns-in-Err g c =
@@ -9,7 +9,7 @@ returns-in-Err g c =
       c.loop-item-test.true,
     ) in
     let s = stops_at_item c.loop-item.item-index c.args.items.now _ c.loop-item.bytes
-    c.args.room.now c.loop-item.room c.line_behind.new.room c.item-item.result c.in-Err.reason
+    c.args.room.now c.loop-item.room c.write_line_after.new.room c.item-item.result c.in-Err.reason
     inside c.item-item.is c.loop-item.invariant.2 c.in-Err.ensures.written
     c.in-Err.ensures.front in
     let e = c.loop-item.invariant.0 in

@@ -7,10 +7,10 @@ use Rattle.time_known.specs.declared.iso8601.config.FormattedComponents.TheVaria
 use Rattle.time_known.specs.declared.iso8601.parts.Parts.{Parts}
 use Rattle.time_known.proofs.iso8601.PartsLemmas.{chosen_text, chosen_width}
 use Rattle.movaliren_c.specs.Answer.{IsWritten}
-use Rattle.movaliren_c.proofs.iso8601.copied_by.Goals as goal
+use Rattle.movaliren_c.proofs.iso8601.copy_by.Goals as goal
 
-pub copied_parts-requires : goal.copied_parts-requires
-copied_parts-requires c =
+pub copy_parts-requires : goal.copy_parts-requires
+copy_parts-requires c =
     let choices = c.args.config in
     let some : choices.formatted_components ≢ components.None = λ none.
     let wrong : true ≡ false = sym (c.formats_nothing.ensures.1 none) ∙ c.if-formats_nothing.false in cc in
@@ -27,5 +27,5 @@ returns c =
     let whole : iso8601_of choices v ≡ parts_text choices c.parts_of-parts.result =
     chosen_text choices (facts_of_offset_date_time v) refl some
     ∙ ap (λ (p : Parts). parts_text choices p) (sym c.parts_of-parts.ensures) in
-    subst (λ (o : Outcome). IsWritten c.copied_parts.result o c.args.room.now c.copied_parts.new.room)
-    (sym whole) c.copied_parts.ensures
+    subst (λ (o : Outcome). IsWritten c.copy_parts.result o c.args.room.now c.copy_parts.new.room)
+    (sym whole) c.copy_parts.ensures
