@@ -1,6 +1,6 @@
-// beside WAY NAME COUNT: so many texts of that name by that way, strftime or {fmt}, of the same 64 random
-// values as in values.rt.in, each as a tm that is made before. Prints the number of bytes and the last text,
-// or nothing where the way cannot write the text. For bench/run.py, which compares the answers.
+// beside WAY NAME COUNT writes COUNT texts of that name by strftime or {fmt}, of the 64 random values of
+// values.rt.in, each as a tm that is made before. It prints the number of bytes and the last text, or nothing
+// if the way cannot write the text. bench/run.py compares the output.
 #include <cstdint>
 #include <cstdio>
 #include <cstdlib>

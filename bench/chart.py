@@ -21,7 +21,7 @@ ROWS = [
     "`Sat, 19 Aug 6169 21:36:48 +0000`", "`Aug 19, 6169 09:36 PM`", "`6169-W33-6`",
 ]
 SERIES = {"Movaliren": "Behind", "time 0.3.55": "0.3.55", "strftime": "`strftime`", "{fmt}": "{fmt}"}
-# Colours that are told apart on white, on black, and by who does not see red or green.
+# These colours differ on white, on black, and for readers who do not see red or green.
 COLORS = "#2f74b5", "#b45f06", "#6e737b", "#7c5cbf"
 CSS = """
 .background, .plot > .background { fill: transparent !important }
@@ -57,7 +57,7 @@ def main():
     for name, column in SERIES.items():
         figures = [rows[row].get(column, "") for row in reversed(ROWS)]
         chart.add(name, [int(figure) if figure else None for figure in figures])
-    # Without its script, which a page that shows the chart does not run.
+    # A page that shows the chart does not run its script.
     drawn = re.sub(r"<script.*?</script>|<!--.*?-->", "", chart.render(is_unicode=True), flags=re.S)
     (DOCS / "speed.svg").write_text(drawn + "\n")
 

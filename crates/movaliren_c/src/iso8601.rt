@@ -102,8 +102,8 @@ pub fn write_by(config: Config, value: LocalMoment, room: &mut [u8]) -> Result<u
     }
 }
 
-/// Writes the text by a usual configuration, if nothing of the value is refused, and the room holds
-/// each of its texts; else it writes nothing.
+/// Writes the text by a usual configuration. Writes nothing if something of the value is refused, or if
+/// the buffer does not hold each of its texts.
 #[inline(always)]
 fn write_usual(config: &Config, value: &LocalMoment, room: &mut [u8]) -> Option<usize>
     ensures { MatchOption result (room.new ≡ room.old)
@@ -124,7 +124,7 @@ fn write_usual(config: &Config, value: &LocalMoment, room: &mut [u8]) -> Option<
     }
 }
 
-/// Writes the text by way of an array, since a part may be refused behind others.
+/// Writes the text to an array first, since a part may be refused after others.
 #[inline(never)]
 fn copy_by(config: Config, value: LocalMoment, room: &mut [u8]) -> Result<usize, Reason>
     ensures { IsWritten result (iso8601_of config value) room.old room.new }

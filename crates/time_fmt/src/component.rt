@@ -43,9 +43,9 @@ pub(crate) fn write_common<V: ComponentProvider>(
     }
 }
 
-/// Appends the text of a component that is met less often, and returns the number of bytes. Of one that
-/// is refused it writes nothing, and returns nothing. Each writer stands apart, so that this is a jump to
-/// the writer and has no frame.
+/// Appends the text of a less common component, and returns the number of bytes. If it is refused,
+/// writes nothing and returns `None`. No writer is inlined, so that this is a jump to the writer and has
+/// no stack frame.
 #[inline(always)]
 pub(crate) fn write_uncommon<V: ComponentProvider>(
     component: Component,

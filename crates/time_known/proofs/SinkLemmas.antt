@@ -19,7 +19,7 @@ puts_up_to_length p = record {
   within = omega arith;
 }
 
--- so is one of just so many bytes
+-- a text of just this many bytes has at most this many
 pub just : {a : ℕ} {old new : Buffer} {text : List ℕ} → PutsJust a old new text → PutsUpTo a old new text
 just p = record {
   put = p.put;

@@ -71,7 +71,7 @@ abbrev pub part_text : {A : Type 0} → (A → Outcome) → Option A → Outcome
 part_text text None = done []
 part_text text (Some part) = text part
 
--- the same of a time, of which nothing is refused
+-- the text of a time, if it is there; nothing of it is refused
 abbrev pub time_part_text : Choices → Option TimeFields → List ℕ
 time_part_text c None = []
 time_part_text c (Some t) = iso_time_text c (time_of_day t)

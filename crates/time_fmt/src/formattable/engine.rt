@@ -103,7 +103,7 @@ fn write_component<T: Node, V: ComponentProvider>(
     }
 }
 
-// Writes a component that is met less often, by a vector that is taken out once more.
+// Writes a less common component to a vector that is taken out once more.
 #[inline(always)]
 fn write_apart<T: Node, V: ComponentProvider>(
     node: &T,
@@ -126,8 +126,8 @@ fn write_apart<T: Node, V: ComponentProvider>(
     count
 }
 
-// Writes a component that is met less often. It asks the node once more, so that the loop over a list
-// keeps the node alone for it, and not each of the component's choices.
+// Writes a less common component. It reads the node's layer again, so that the loop over a list keeps
+// the node alone, and not each of the component's choices.
 #[inline(never)]
 fn write_uncommon_leaf<T: Node, V: ComponentProvider>(
     node: &T,

@@ -115,7 +115,7 @@ pub chosen_text : (c : Choices) (f : Facts) → has_groups (groups_of c.formatte
     → c.formatted_components ≢ components.None → iso8601_outcome c f ≡ parts_text c (chosen_parts c f)
 chosen_text c f h some = text_by c.formatted_components c f h some
 
--- and have its width
+-- the parts have the width of the text
 pub chosen_width : (c : Choices) (f : Facts) → c.formatted_components ≢ components.None
     → parts_width c (chosen_parts c f) ≡ iso8601_width c
 chosen_width c f some = width_by c.formatted_components c f some
