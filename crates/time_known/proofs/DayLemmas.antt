@@ -67,8 +67,8 @@ pub ruleset digits_of_days = (month_digits, day_digits, table_length, table_asci
 pub ruleset names_of_days = (name_letters, table_length, table_ascii)
 
 -- an ASCII text may be cut at any place
-pub boundary : (bs : List ℕ) (i : ℕ) → IsTrue (is_ascii bs) → i ≤ length bs → IsCharBoundary bs i
-boundary bs i h within = table.boundary bs i h within
+pub row_boundary : (bs : List ℕ) (i : ℕ) → IsTrue (is_ascii bs) → i ≤ length bs → IsCharBoundary bs i
+row_boundary bs i h within = table.ascii_boundary bs i h within
 
 -- the days of a common year are days of a leap year
 common_days : map (λ n. month_and_day_in true (day_of_leap_year false (n + 1))) (range_with_len 0 365)

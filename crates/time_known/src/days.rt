@@ -154,7 +154,7 @@ fn day_of_leap_year(is_leap: bool, ordinal: Ordinal) -> Ordinal
 
 // This many bytes of the row of a day, from one on.
 #[inline]
-#[tactic(auto, using(crate::proofs::DayLemmas::boundary))]
+#[tactic(auto, using(crate::proofs::DayLemmas::row_boundary))]
 fn piece_of_row(table: &'static str, day: Ordinal, from: usize, len: usize) -> &'static str
     requires ascii { IsTrue (is_ascii table.now) }
     requires rows { length table.now ≡ 2_928 }
