@@ -26,4 +26,4 @@ def in_lanes_by_jobs(tasks):
 
 if __name__ == "__main__":
     rt.in_lanes = in_lanes_by_jobs
-    sys.exit(rt.ci())
+    sys.exit(rt.main(["ci"]))

@@ -2,17 +2,13 @@
 """Tries the wrong bodies of must-fail/ many at once. The prover must refuse each in the function that it names.
 
 An edit has a line `refused: FUNCTION`, its path in the crate, or several; `rt` ignores them. The prover holds a body to
-the contracts of what it calls, so edits within the bodies of different functions are made in one copy of the crate, and
-the check's line of each function tells a reason of its own from a call of a refused function. An edit elsewhere, as of a
-constant or a clause, is tried alone. So is each edit of a joined check that does not tell, before it fails.
-
-A check of the unedited crate adds what a copy of crates/NAME/out/incremental lacks, and each other check starts from a
-copy of that. The last line is `N passed, M failed`.
+the contracts of what it calls, so edits within different functions are made in one copy of the crate, and the check's
+line of each function tells its own reason from a call of a refused one. An edit elsewhere, and each of a joined check
+that does not tell, is tried alone. A check of the unedited crate adds what a copy of crates/NAME/out/incremental lacks,
+and all others start from copies of that. The last line is `N passed, M failed`.
 """
 import argparse
 import concurrent.futures
-import importlib.machinery
-import importlib.util
 import os
 import re
 import shutil
@@ -20,14 +16,15 @@ import sys
 import tempfile
 import threading
 import time
+from importlib import machinery, util
 
 LINE = re.compile(r"^(?:fn|impl) (\S+): (.*)$", re.M)
+CYCLE = re.compile(r"#\[cycle\((\w+)\)\]\n(?:\s*#\[.*\n)*\s*(?:pub\S* )?fn (\w+)")
 ITSELF = re.compile(r"not proved\b|no proof: (?!it calls|it passes|a call of)")
-# The most memory that a check of these crates was seen to take, in bytes.
-LARGEST = 4_500_000_000
+LARGEST = 4_500_000_000  # bytes, the most that a check of these crates was seen to take
 sys.dont_write_bytecode = True
-loader = importlib.machinery.SourceFileLoader("rt", os.path.realpath(shutil.which("rt")))
-rt = importlib.util.module_from_spec(importlib.util.spec_from_loader("rt", loader))
+loader = machinery.SourceFileLoader("rt", os.path.realpath(shutil.which("rt")))
+rt = util.module_from_spec(util.spec_from_loader("rt", loader))
 loader.exec_module(rt)
 
 
@@ -74,8 +71,7 @@ def refused(crate, functions, texts, kept, given):
         while rt.free() < LARGEST and not said_by(given.log)[1]:
             time.sleep(2)
         if texts:
-            # The prover replaces a file as a whole.
-            kept = shutil.copytree(kept, f"{room}/kept", copy_function=os.link)
+            kept = shutil.copytree(kept, f"{room}/kept", copy_function=os.link)  # the prover replaces a file as a whole
         only = [word for it in sorted(functions) for word in ("--only", it)]
         ran = rt.checked(crate, texts, ["--jobs", "1", *only], kept)
     lines = ran.stdout.rstrip("\n").split("\n")
@@ -85,26 +81,30 @@ def refused(crate, functions, texts, kept, given):
     return {name for name, words in LINE.findall(ran.stdout) if ITSELF.match(words)}, ""
 
 
+def with_cycles(crate, names):
+    """Returns these names of functions (a trait's method is checked for each impl), and of those proved together with one."""
+    cycles = [it for file in rt.rtlib.files_of(crate.folder) for it in CYCLE.findall(rt.rtlib.text_of(file))]
+    return names | {name for cycle, name in cycles if any((cycle, it) in cycles for it in names)}
+
+
 def tried(crate, group, kept, given):
     """Returns for each edit of a group whether it is refused in the functions that it names, and what to say."""
     functions = set().union(*(it.functions for it in group))
     found, why = refused(crate, functions, joined(crate, group), kept, given)
-    # A method that a trait writes is checked once more for each impl that takes it.
-    names = {it.rpartition("::")[2] for it in functions}
+    names = with_cycles(crate, {it.rpartition("::")[2] for it in functions})
     others = [it for it in found if it.rpartition("::")[2] not in names]
     if len(group) > 1 and (why or others or not functions <= found):
         print(f"{crate.name}: {why or f'{len(group)} joined edits, more {others}, less {functions - found}'}: each alone", flush=True)
         return [it for edit in group for it in tried(crate, [edit], kept, given)]
-    where = f"refused in {', '.join(sorted(found))}, and not in" if found else "NOT REFUSED in"
     is_well = not why and functions <= found
-    said = why or f"{'refused in' if is_well else where} {', '.join(sorted(functions))}"
-    return [(is_well, f"{it.label}: {said if len(group) == 1 else 'refused in ' + ', '.join(sorted(it.functions))}") for it in group]
+    where = "refused in" if is_well else f"refused in {', '.join(sorted(found))}, and not in" if found else "NOT REFUSED in"
+    return [(is_well, f"{it.label}: {why or f'{where} ' + ', '.join(sorted(it.functions))}") for it in group]
 
 
 def said_by(log):
     """Returns the libraries that `rt ci` has proved by its log, and whether it has ended."""
     said = rt.rtlib.text_of(log) or "" if log else "0 passed, 0 failed\n"
-    return {*re.findall(r"^rt: (\w+) proved$", said, re.M)}, bool(re.search(r"^\d+ passed, \d+ failed$", said, re.M))
+    return {*re.findall(r"^rt: (\w+) (?:proved$|is kept:)", said, re.M)}, bool(re.search(r"^\d+ passed, \d+ failed$", said, re.M))
 
 
 def tried_all(crate, given):
