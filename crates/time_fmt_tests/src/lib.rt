@@ -1,5 +1,5 @@
-//! The rows of `time_below` and `time_fmt`, by public calls alone: tests of what no contract says, in a
-//! library of their own, so that the two are not proved once more beside their tests.
+//! Tests of the crates up to `time_fmt`, by public calls alone, of what no contract says. They stand in a library
+//! of their own, so that those crates are not proved once more beside their tests.
 #![tactic(auto)]
 
 #[cfg(test)]
@@ -9,6 +9,8 @@ mod digits;
 pub mod examples;
 #[cfg(test)]
 mod fmt;
+#[cfg(test)]
+mod provide;
 #[cfg(test)]
 mod texts;
 #[cfg(test)]

@@ -8,8 +8,6 @@ mod date_state;
 pub mod laws;
 mod providers;
 pub mod ranges;
-#[cfg(test)]
-mod tests;
 mod timestamp_state;
 
 pub use component_provider::ComponentProvider;

@@ -1,0 +1,380 @@
+//! Which entries a state holds after the methods of each type. A state shows them by its `Debug` text, and two
+//! states of dates are equal if they hold the same.
+ghost use Rattle.std.specs.Prelude.{IsTrue};
+
+use crate::texts::{assert_same, assert_that};
+use crate::values::{date_at, moment, offset_at, time_at, timestamp_at};
+use std::alloc::Global;
+use std::default::Default;
+use std::fmt::Debug;
+use std::process::Abort;
+use time_below::{Date, OffsetDateTime, PlainDateTime, UtcDateTime};
+use time_provide::{ComponentProvider, DateState};
+
+#[derive(Clone, Copy, Debug)]
+enum Method {
+    Day,
+    Month,
+    Ordinal,
+    Weekday,
+    IsoWeekNumber,
+    MondayBasedWeek,
+    SundayBasedWeek,
+    CalendarYear,
+    IsoYear,
+    Hour,
+    Minute,
+    Period,
+    Second,
+    Nanosecond,
+    OffsetIsNegative,
+    OffsetIsUtc,
+    OffsetHour,
+    OffsetMinute,
+    OffsetSecond,
+    UnixTimestampSeconds,
+    UnixTimestampMilliseconds,
+}
+
+/// What a state of a date keeps after one method.
+#[derive(Clone, Copy)]
+enum Kept {
+    Nothing,
+    Month,
+    /// The day of the month, with the month.
+    Day,
+    /// The week of the week calendar, with its year.
+    Week,
+}
+
+/// The date and the time of a moment.
+const NEITHER: [bool; 2] = [false, false];
+
+const DATE: [bool; 2] = [true, false];
+
+const TIME: [bool; 2] = [false, true];
+
+/// What a fresh state of a date keeps after each method, and what one of a moment keeps beside it.
+const METHODS: &[(Method, Kept, [bool; 2])] = &[
+    (Method::Day, Kept::Day, DATE),
+    (Method::Month, Kept::Month, DATE),
+    (Method::Ordinal, Kept::Nothing, DATE),
+    (Method::Weekday, Kept::Nothing, DATE),
+    (Method::IsoWeekNumber, Kept::Week, DATE),
+    (Method::MondayBasedWeek, Kept::Nothing, DATE),
+    (Method::SundayBasedWeek, Kept::Nothing, DATE),
+    (Method::CalendarYear, Kept::Nothing, DATE),
+    (Method::IsoYear, Kept::Week, DATE),
+    (Method::Hour, Kept::Nothing, TIME),
+    (Method::Minute, Kept::Nothing, TIME),
+    (Method::Period, Kept::Nothing, TIME),
+    (Method::Second, Kept::Nothing, TIME),
+    (Method::Nanosecond, Kept::Nothing, NEITHER),
+    (Method::OffsetIsNegative, Kept::Nothing, NEITHER),
+    (Method::OffsetIsUtc, Kept::Nothing, NEITHER),
+    (Method::OffsetHour, Kept::Nothing, NEITHER),
+    (Method::OffsetMinute, Kept::Nothing, NEITHER),
+    (Method::OffsetSecond, Kept::Nothing, NEITHER),
+    (Method::UnixTimestampSeconds, Kept::Nothing, NEITHER),
+    (Method::UnixTimestampMilliseconds, Kept::Nothing, NEITHER),
+];
+
+/// Calls the method where the value supplies its group. Where it does not, a clause of the method
+// says that the state is kept.
+fn call<V: ComponentProvider>(value: &V, state: &mut V::State, method: Method)
+    requires { V.agrees state.old value.now }
+    ensures { V.agrees state.new value.now }
+{
+    match method {
+        Method::Day if V::SUPPLIES_DATE => {
+            let _day = value.day(state);
+        }
+        Method::Month if V::SUPPLIES_DATE => {
+            let _month = value.month(state);
+        }
+        Method::Ordinal if V::SUPPLIES_DATE => {
+            let _ordinal = value.ordinal(state);
+        }
+        Method::Weekday if V::SUPPLIES_DATE => {
+            let _weekday = value.weekday(state);
+        }
+        Method::IsoWeekNumber if V::SUPPLIES_DATE => {
+            let _week = value.iso_week_number(state);
+        }
+        Method::MondayBasedWeek if V::SUPPLIES_DATE => {
+            let _week = value.monday_based_week(state);
+        }
+        Method::SundayBasedWeek if V::SUPPLIES_DATE => {
+            let _week = value.sunday_based_week(state);
+        }
+        Method::CalendarYear if V::SUPPLIES_DATE => {
+            let _year = value.calendar_year(state);
+        }
+        Method::IsoYear if V::SUPPLIES_DATE => {
+            let _year = value.iso_year(state);
+        }
+        Method::Hour if V::SUPPLIES_TIME => {
+            let _hour = value.hour(state);
+        }
+        Method::Minute if V::SUPPLIES_TIME => {
+            let _minute = value.minute(state);
+        }
+        Method::Period if V::SUPPLIES_TIME => {
+            let _period = value.period(state);
+        }
+        Method::Second if V::SUPPLIES_TIME => {
+            let _second = value.second(state);
+        }
+        Method::Nanosecond if V::SUPPLIES_TIME => {
+            let _nanosecond = value.nanosecond(state);
+        }
+        Method::OffsetIsNegative if V::SUPPLIES_OFFSET => {
+            let _is_negative = value.offset_is_negative(state);
+        }
+        Method::OffsetIsUtc if V::SUPPLIES_OFFSET => {
+            let _is_utc = value.offset_is_utc(state);
+        }
+        Method::OffsetHour if V::SUPPLIES_OFFSET => {
+            let _hour = value.offset_hour(state);
+        }
+        Method::OffsetMinute if V::SUPPLIES_OFFSET => {
+            let _minute = value.offset_minute(state);
+        }
+        Method::OffsetSecond if V::SUPPLIES_OFFSET => {
+            let _second = value.offset_second(state);
+        }
+        Method::UnixTimestampSeconds if V::SUPPLIES_TIMESTAMP => {
+            let _seconds = value.unix_timestamp_seconds(state);
+        }
+        Method::UnixTimestampMilliseconds if V::SUPPLIES_TIMESTAMP => {
+            let _milliseconds = value.unix_timestamp_milliseconds(state);
+        }
+        _ => {}
+    }
+}
+
+/// The state after three methods in turn.
+fn state_after<V: ComponentProvider>(
+    value: &V,
+    first: Method,
+    second: Method,
+    third: Method,
+) -> V::State
+    ensures { V.agrees result value.now }
+{
+    let mut state = V::State::default();
+    call(value, &mut state, first);
+    call(value, &mut state, second);
+    call(value, &mut state, third);
+    state
+}
+
+/// Has the state keep this of the value.
+fn keep<V: ComponentProvider>(value: &V, state: &mut V::State, kept: Kept)
+    requires supplied { IsTrue V.SUPPLIES_DATE }
+    requires agrees { V.agrees state.old value.now }
+    ensures { V.agrees state.new value.now }
+{
+    match kept {
+        Kept::Nothing => {}
+        Kept::Month => {
+            let _month = value.month(state);
+        }
+        Kept::Day => {
+            let _day = value.day(state);
+        }
+        Kept::Week => {
+            let _week = value.iso_week_number(state);
+        }
+    }
+}
+
+/// The state of the date that keeps all of these.
+fn state_with(date: &Date, first: Kept, second: Kept, third: Kept) -> DateState {
+    let mut state = DateState::default();
+    keep(date, &mut state, first);
+    keep(date, &mut state, second);
+    keep(date, &mut state, third);
+    state
+}
+
+/// Whether the text of the state shows the day, the month, the week, its year, the date and the time.
+fn shown(rt: &impl Abort, alloc: Global, state: &impl Debug) -> [bool; 6] {
+    let Ok(text) = format!(in alloc; "{state:?}") else {
+        panic!(rt; "no text");
+    };
+    [
+        text.contains("day: Some"),
+        text.contains("month: Some"),
+        text.contains("iso_week: Some"),
+        text.contains("iso_year: Some"),
+        text.contains("date: Some"),
+        text.contains("time: Some"),
+    ]
+}
+
+/// What such a text shows after one method.
+fn entries(kept: Kept, [date, time]: [bool; 2]) -> [bool; 6] {
+    match kept {
+        Kept::Nothing => [false, false, false, false, date, time],
+        Kept::Month => [false, true, false, false, date, time],
+        Kept::Day => [true, true, false, false, date, time],
+        Kept::Week => [false, false, true, true, date, time],
+    }
+}
+
+fn either(one: [bool; 6], other: [bool; 6]) -> [bool; 6] {
+    [
+        one[0] || other[0],
+        one[1] || other[1],
+        one[2] || other[2],
+        one[3] || other[3],
+        one[4] || other[4],
+        one[5] || other[5],
+    ]
+}
+
+const KEPT: &[Kept] = &[Kept::Nothing, Kept::Month, Kept::Day, Kept::Week];
+
+/// The states with which others are compared hold what they are to hold.
+fn assert_shown(rt: &impl Abort, alloc: Global, date: Date) {
+    for &first in KEPT {
+        for &second in KEPT {
+            let state = state_with(&date, first, second, second);
+            let wanted = either(entries(first, NEITHER), entries(second, NEITHER));
+            assert_same(rt, shown(rt, alloc, &state), wanted);
+        }
+    }
+}
+
+/// The state holds the entries of two methods after they were called in turn.
+fn assert_pairs<V: ComponentProvider<State = DateState>>(rt: &impl Abort, value: &V, date: Date) {
+    for &(first, of_first, _) in METHODS {
+        for &(second, of_second, _) in METHODS {
+            let state = state_after(value, first, second, second);
+            let wanted = state_with(&date, of_first, of_second, of_second);
+            assert!(rt; state == wanted, "after {first:?} and {second:?}");
+        }
+    }
+}
+
+/// The state also holds its entries after a third method.
+fn assert_thirds<V: ComponentProvider<State = DateState>>(
+    rt: &impl Abort,
+    value: &V,
+    date: Date,
+    (first, of_first): (Method, Kept),
+    (second, of_second): (Method, Kept),
+) {
+    for &(third, of_third, _) in METHODS {
+        let state = state_after(value, first, second, third);
+        let wanted = state_with(&date, of_first, of_second, of_third);
+        assert!(rt;
+            state == wanted,
+            "after {first:?}, {second:?} and {third:?}"
+        );
+    }
+}
+
+fn assert_triples<V: ComponentProvider<State = DateState>>(rt: &impl Abort, value: &V, date: Date) {
+    for &(first, of_first, _) in METHODS {
+        for &(second, of_second, _) in METHODS {
+            assert_thirds(rt, value, date, (first, of_first), (second, of_second));
+        }
+    }
+}
+
+/// Years at the ends of the range, of each sign, and of each turn of the leap rule.
+const YEARS: &[i32] = &[
+    -999_999, -10_000, -400, -4, -1, 0, 1, 1900, 1970, 2000, 2023, 2024, 9_999, 10_000, 999_999,
+];
+
+/// Days of the year at the ends of years and of months.
+const ORDINALS: &[u16] = &[
+    1, 2, 3, 4, 31, 32, 59, 60, 61, 182, 361, 362, 363, 364, 365, 366,
+];
+
+/// An hour of the day, and hours of an offset.
+const HOURS: &[(u8, i8)] = &[(0, 0), (9, -6), (12, 1), (23, 25)];
+
+/// The entries of each value on the date, at each hour.
+fn assert_date(rt: &impl Abort, alloc: Global, date: Date) {
+    assert_shown(rt, alloc, date);
+    assert_pairs(rt, &date, date);
+    for &(hour, offset) in HOURS {
+        let time = time_at(rt, (hour, 0, 0, 0));
+        assert_pairs(rt, &PlainDateTime::new(date, time), date);
+        assert_pairs(rt, &UtcDateTime::new(date, time), date);
+        let offset = offset_at(rt, (offset, 0, 0));
+        assert_pairs(rt, &OffsetDateTime::new_in_offset(date, time, offset), date);
+    }
+}
+
+#[test]
+fn a_state_holds_what_two_methods_keep_on_many_dates(rt: HostRuntime) {
+    for &year in YEARS {
+        for &ordinal in ORDINALS {
+            if let Ok(date) = Date::from_ordinal_date(year, ordinal) {
+                assert_date(&rt, rt.alloc(), date);
+            }
+        }
+    }
+}
+
+#[test]
+fn a_state_holds_what_three_methods_keep(rt: HostRuntime) {
+    let date = date_at(&rt, (1997, 11, 12));
+    let time = time_at(&rt, (9, 55, 6, 0));
+    assert_triples(&rt, &date, date);
+    assert_triples(&rt, &PlainDateTime::new(date, time), date);
+    assert_triples(&rt, &UtcDateTime::new(date, time), date);
+    let value = moment(&rt, (1997, 11, 12), (9, 55, 6, 0), (-6, 0, 0));
+    assert_triples(&rt, &value, date);
+}
+
+/// What the state of a moment holds after three methods, of which the second is called once more or the third is any.
+fn assert_moment(
+    rt: &impl Abort,
+    alloc: Global,
+    parts: (i64, u32),
+    (first, of_first): (Method, [bool; 6]),
+    (second, of_second): (Method, [bool; 6]),
+) {
+    let moment = timestamp_at(rt, parts);
+    for &(third, of_third, beside) in METHODS {
+        let state = state_after(&moment, first, second, third);
+        let wanted = either(either(of_first, of_second), entries(of_third, beside));
+        assert_same(rt, shown(rt, alloc, &state), wanted);
+    }
+}
+
+/// The first and the last moment, one of a leap day, one of a negative year, and one just before 1970.
+const MOMENTS: &[(i64, u32)] = &[
+    (-31_619_087_596_800, 0),
+    (31_494_784_780_799, 999_999_999),
+    (951_825_600, 0),
+    (-62_167_219_201, 500_000_000),
+    (-1, 999_500_000),
+];
+
+#[test]
+fn a_state_of_a_moment_also_holds_its_date_and_time(rt: HostRuntime) {
+    for &parts in MOMENTS {
+        for &(method, kept, beside) in METHODS {
+            let of_method = (method, entries(kept, beside));
+            assert_moment(&rt, rt.alloc(), parts, of_method, of_method);
+        }
+    }
+}
+
+#[test]
+fn a_state_of_a_moment_holds_what_three_methods_keep(rt: HostRuntime) {
+    let parts = (879_350_106, 120_000_000);
+    for &(first, of_first, beside_first) in METHODS {
+        for &(second, of_second, beside_second) in METHODS {
+            let of_first = (first, entries(of_first, beside_first));
+            let of_second = (second, entries(of_second, beside_second));
+            assert_moment(&rt, rt.alloc(), parts, of_first, of_second);
+        }
+    }
+}
