@@ -53,7 +53,8 @@ impl Month {
             9 => Month::September,
             10 => Month::October,
             11 => Month::November,
-            _ => Month::December,
+            12 => Month::December,
+            _ => unreachable!(),
         }
     }
 }

@@ -11,7 +11,7 @@ use Rattle.time_digits.proofs.FractionLemmas.{only_trimmed_fraction}
 use Rattle.time_digits.proofs.LengthLemmas.{length-fixed}
 use Rattle.time_digits.proofs.FractionLemmas.{length-trimmed_fraction}
 use Rattle.time_fmt.proofs.WriteLemmas.{whole_text}
-use Rattle.time_fmt.proofs.DecimalLemmas.{take-fixed, length-first, length-subsecond_text}
+use Rattle.time_fmt.proofs.DecimalLemmas.{take-fixed, length-first, length-subsecond_text, nine_decimals}
 
 -- nine digits are the first ones, and zeros
 filled_at : (j k n : ℕ) → j + k ≡ 9 → n % 10 ^ k ≡ 0 → fixed j (n / 10 ^ k) ++ replicate k 48 ≡ fixed 9 n
@@ -85,4 +85,11 @@ length-six n zeros some = ap length (sym (six_are n zeros some)) ∙ length-firs
 pub ruleset whole_fractions = (nine_are, three_are, six_are, length-nine, length-three, length-six)
 
 -- what the decimals of a component are, and how many
-pub ruleset subsecond_lengths = (length-subsecond_text, length-trimmed_fraction, nine_are, length-nine, whole_text)
+pub ruleset subsecond_lengths = (
+  length-subsecond_text,
+  length-trimmed_fraction,
+  nine_are,
+  nine_decimals,
+  length-nine,
+  whole_text,
+)

@@ -1,5 +1,5 @@
 //! A component of a description.
-ghost use Rattle.std.specs.Prelude.{◌≡◌, IsTrue};
+ghost use Rattle.std.specs.Prelude.{◌≡◌, ◌≤◌, IsTrue};
 ghost use Rattle.time_below.specs.Conversion.{current_component, is_current};
 ghost use Rattle.time_below.specs.Group.{group_of};
 ghost use Rattle.time_below.specs.Width.{component_width, subsecond_width, month_width, weekday_width, unix_timestamp_width, year_width};
@@ -229,6 +229,54 @@ pub fn component_width(component: &Component) -> usize
         Component::Weekday(modifier) => weekday_width(modifier.repr),
         Component::UnixTimestamp(modifier) => unix_timestamp_width(modifier.precision),
         Component::Year(modifier) => year_width(modifier.repr),
+    }
+}
+
+/// A bound of the width, the same whatever the choices are, so that the compiler makes a table of it.
+#[inline(always)]
+pub fn component_bound(component: &Component) -> usize
+    ensures { component_width component.now ≤ result }
+{
+    match component {
+        Component::WeekdaySunday(_)
+        | Component::WeekdayMonday(_)
+        | Component::Ignore(_)
+        | Component::End(_) => 1,
+        Component::Day(_)
+        | Component::MonthNumerical(_)
+        | Component::WeekNumberIso(_)
+        | Component::WeekNumberSunday(_)
+        | Component::WeekNumberMonday(_)
+        | Component::CalendarYearLastTwo(_)
+        | Component::IsoYearLastTwo(_)
+        | Component::Hour12(_)
+        | Component::Hour24(_)
+        | Component::Minute(_)
+        | Component::Period(_)
+        | Component::Second(_)
+        | Component::OffsetMinute(_)
+        | Component::OffsetSecond(_)
+        | Component::WeekNumber(_)
+        | Component::Hour(_) => 2,
+        Component::MonthShort(_)
+        | Component::Ordinal(_)
+        | Component::WeekdayShort(_)
+        | Component::CalendarYearCenturyStandardRange(_)
+        | Component::IsoYearCenturyStandardRange(_)
+        | Component::OffsetHour(_) => 3,
+        Component::CalendarYearFullStandardRange(_)
+        | Component::CalendarYearCenturyExtendedRange(_)
+        | Component::IsoYearFullStandardRange(_)
+        | Component::IsoYearCenturyExtendedRange(_) => 5,
+        Component::CalendarYearFullExtendedRange(_) | Component::IsoYearFullExtendedRange(_) => 7,
+        Component::MonthLong(_) | Component::WeekdayLong(_) => 9,
+        Component::UnixTimestampSecond(_) => 15,
+        Component::UnixTimestampMillisecond(_) => 18,
+        Component::Subsecond(_) => 9,
+        Component::Month(_) => 9,
+        Component::Weekday(_) => 9,
+        Component::UnixTimestamp(_) => 18,
+        Component::Year(_) => 7,
     }
 }
 

@@ -9,7 +9,7 @@ use crate::formattable::Formattable;
 use crate::formattable::engine::write_nodes;
 use crate::metadata::ComputeMetadata;
 use time_below::format_description::{
-    BorrowedFormatItem, Metadata, OwnedFormatItem, metadata_of_nodes,
+    BorrowedFormatItem, Metadata, OwnedFormatItem, metadata_of_nodes, nodes_fit,
 };
 use time_provide::ComponentProvider;
 
@@ -39,6 +39,10 @@ impl Formattable for BorrowedItems<'_> {
         let BorrowedItems(items) = *self;
         write_nodes(items, output, value, state)
     }
+
+    fn fits_plainly(&self, room: usize) -> bool {
+        nodes_fit(self.0, room)
+    }
 }
 
 /// Owned items in order.
@@ -66,5 +70,9 @@ impl Formattable for OwnedItems<'_> {
     ) -> Result<usize, Format> {
         let OwnedItems(items) = *self;
         write_nodes(items, output, value, state)
+    }
+
+    fn fits_plainly(&self, room: usize) -> bool {
+        nodes_fit(self.0, room)
     }
 }

@@ -6,13 +6,12 @@ ghost use Rattle.std.specs.Prelude.{◌≡◌, ◌+◌, ◌&&◌, length, true};
 ghost use Rattle.time_below.specs.Width.{component_width};
 ghost use Rattle.time_fmt.specs.Description.{component_outcome};
 ghost use Rattle.time_fmt.specs.Outcome.{done, join};
-ghost use Rattle.time_fmt.specs.Room.{HasRoom, Writes};
 
 use crate::error::Format;
 use crate::formattable::{Formattable, make_room};
 use crate::metadata::ComputeMetadata;
 use crate::modifier::{Modifier, supplies};
-use crate::writers::{put_back, take_out};
+use crate::writers::{put_back, take_out, write_each};
 use time_below::format_description::Metadata;
 use time_provide::ComponentProvider;
 
@@ -54,18 +53,6 @@ fn is_text(bytes: &[u8]) -> bool
     ensures { result ≡ list_all is_ascii bytes.now }
 {
     bytes.iter().all(|byte| byte.is_ascii())
-}
-
-// Appends the bytes. Where their number is known, the loop is a few stores.
-#[inline(always)]
-fn write_each(output: &mut Vec<u8>, bytes: &[u8]) -> usize
-    requires room { HasRoom output.old (length bytes.now) }
-    ensures writes { Writes output.old output.new result bytes.now }
-{
-    for byte in bytes {
-        output.push_reserved(*byte);
-    }
-    bytes.len()
 }
 
 /// One description after the other.

@@ -10,7 +10,7 @@ ghost use Rattle.time_fmt.specs.Text.{padded_text};
 use crate::error::Format;
 use crate::modifier::Modifier;
 use crate::writers::digits::{format_three_digits, format_two_digits};
-use crate::writers::plain::{write_name, write_three};
+use crate::writers::plain::{write_each, write_three};
 use time_below::Month;
 use time_below::format_description::{Group, modifier};
 use time_digits::ru8;
@@ -96,7 +96,20 @@ pub fn fmt_month_long(output: &mut Vec<u8>, month: Month, modifier: modifier::Mo
     ensures writes { Writes output.old output.new result (month_name (month_number month)) }
 {
     let _ = modifier;
-    write_name(output, name_of_month(month).as_bytes())
+    match month {
+        Month::January => write_each(output, b"January"),
+        Month::February => write_each(output, b"February"),
+        Month::March => write_each(output, b"March"),
+        Month::April => write_each(output, b"April"),
+        Month::May => write_each(output, b"May"),
+        Month::June => write_each(output, b"June"),
+        Month::July => write_each(output, b"July"),
+        Month::August => write_each(output, b"August"),
+        Month::September => write_each(output, b"September"),
+        Month::October => write_each(output, b"October"),
+        Month::November => write_each(output, b"November"),
+        Month::December => write_each(output, b"December"),
+    }
 }
 
 impl Modifier for modifier::MonthLong {

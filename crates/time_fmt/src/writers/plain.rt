@@ -43,29 +43,48 @@ pub fn write_bytes(output: &mut Vec<u8>, bytes: &[u8]) -> usize
     bytes.len()
 }
 
+/// Appends the bytes. Where their number is known, the loop is a few stores.
+#[inline(always)]
+pub(crate) fn write_each(output: &mut Vec<u8>, bytes: &[u8]) -> usize
+    requires room { HasRoom output.old (length bytes.now) }
+    ensures writes { Writes output.old output.new result bytes.now }
+{
+    for byte in bytes {
+        output.push_reserved(*byte);
+    }
+    bytes.len()
+}
+
 /// Appends a literal of a list. For a long one the vector is taken out once more.
 #[inline(always)]
 pub(crate) fn write_literal(output: &mut Vec<u8>, bytes: &[u8]) -> usize
     requires room { HasRoom output.old (length bytes.now) }
     ensures writes { Writes output.old output.new result bytes.now }
 {
-    if bytes.len() <= 2 {
-        write_bytes(output, bytes)
-    } else {
-        write_name(output, bytes)
+    match bytes {
+        [a] => {
+            output.push_reserved(*a);
+            1
+        }
+        [a, b] => {
+            output.push_reserved(*a);
+            output.push_reserved(*b);
+            2
+        }
+        _ => write_long_literal(output, bytes),
     }
 }
 
-/// Appends the bytes of a name, or of its beginning.
+// Appends a literal of any length to a vector that is taken out.
 #[inline]
-pub(super) fn write_name(output: &mut Vec<u8>, name: &[u8]) -> usize
-    requires room { HasRoom output.old (length name.now) }
-    ensures writes { Writes output.old output.new result name.now }
+fn write_long_literal(output: &mut Vec<u8>, bytes: &[u8]) -> usize
+    requires room { HasRoom output.old (length bytes.now) }
+    ensures writes { Writes output.old output.new result bytes.now }
 {
     let mut taken = take_out(output);
-    write_in_blocks(&mut taken, name);
+    write_in_blocks(&mut taken, bytes);
     put_back(output, taken);
-    name.len()
+    bytes.len()
 }
 
 /// Appends the bytes, eight at a time. `extend_from_slice` has no clause that the capacity stays. The

@@ -81,8 +81,8 @@ impl Modifier for modifier::Subsecond {
         let nanosecond = value.nanosecond(state);
         match self.digits {
             SubsecondDigits::Three => Ok(write_three_decimals(output, nanosecond)),
-            // Mostly all nine are needed.
-            SubsecondDigits::OneOrMore if nanosecond.get() % 10 != 0 => {
+            // Mostly the last of the nine is not zero.
+            SubsecondDigits::Nine | SubsecondDigits::OneOrMore if nanosecond.get() % 10 != 0 => {
                 Ok(write_nine_digits(output, nanosecond))
             }
             rare => Ok(write_rare_decimals(output, nanosecond, rare)),

@@ -11,7 +11,7 @@ ghost use Rattle.time_fmt.specs.Text.{padded_text};
 use crate::error::Format;
 use crate::modifier::Modifier;
 use crate::writers::digits::{format_single_digit, format_two_digits};
-use crate::writers::plain::{write_name, write_three};
+use crate::writers::plain::{write_each, write_three};
 use time_below::Weekday;
 use time_below::format_description::{Group, modifier};
 use time_digits::ru8;
@@ -71,7 +71,15 @@ pub fn fmt_weekday_long(
     ensures writes { Writes output.old output.new result (weekday_name (days_from_monday weekday)) }
 {
     let _ = modifier;
-    write_name(output, name_of_weekday(weekday).as_bytes())
+    match weekday {
+        Weekday::Monday => write_each(output, b"Monday"),
+        Weekday::Tuesday => write_each(output, b"Tuesday"),
+        Weekday::Wednesday => write_each(output, b"Wednesday"),
+        Weekday::Thursday => write_each(output, b"Thursday"),
+        Weekday::Friday => write_each(output, b"Friday"),
+        Weekday::Saturday => write_each(output, b"Saturday"),
+        Weekday::Sunday => write_each(output, b"Sunday"),
+    }
 }
 
 impl Modifier for modifier::WeekdayLong {

@@ -1,5 +1,5 @@
 use Rattle.std.proofs.Common.{◌≡◌, ◌+◌, ◌≤◌, ◌++◌, drop, length, vec_len, vec_capacity}
-use Rattle.time_fmt.proofs.formattable.parts.write_each.Given as goal
+use Rattle.time_fmt.proofs.writers.plain.write_each.Given as goal
 
 -- what is written so far, and then the bytes that are left, are all bytes
 abbrev pub invariant-loop-byte : goal.invariant-loop-byte
