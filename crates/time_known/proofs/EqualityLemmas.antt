@@ -22,9 +22,8 @@ use Rattle.time_known.specs.declared.iso8601.config.TimePrecision.TheVariants as
 -- the decimals are read in the same way at each unit
 same_decimals : (d e : Option ℕ) → of_time_precision.ghosts.eq (precision.Hour d) (precision.Hour e) ≡ true → d ≡ e
 same_decimals None None h = refl
-same_decimals None (Some e) h = cc
-same_decimals (Some d) None h = cc
 same_decimals (Some d) (Some e) h = ap Some (eqb-true d e h)
+same_decimals _ _ h = cc
 
 -- decimals are found equal to themselves
 equal_decimals : (d : Option ℕ) → of_time_precision.ghosts.eq (precision.Hour d) (precision.Hour d) ≡ true
@@ -34,14 +33,9 @@ equal_decimals (Some d) = eq-eqb d d refl
 -- precisions that are found equal have the same unit and decimals
 same_precision : (a b : TimePrecision) → of_time_precision.ghosts.eq a b ≡ true → a ≡ b
 same_precision (precision.Hour d) (precision.Hour e) h = ap precision.Hour (same_decimals d e h)
-same_precision (precision.Hour d) (precision.Minute e) h = cc
-same_precision (precision.Hour d) (precision.Second e) h = cc
-same_precision (precision.Minute d) (precision.Hour e) h = cc
 same_precision (precision.Minute d) (precision.Minute e) h = ap precision.Minute (same_decimals d e h)
-same_precision (precision.Minute d) (precision.Second e) h = cc
-same_precision (precision.Second d) (precision.Hour e) h = cc
-same_precision (precision.Second d) (precision.Minute e) h = cc
 same_precision (precision.Second d) (precision.Second e) h = ap precision.Second (same_decimals d e h)
+same_precision _ _ h = cc
 
 -- each precision compares as equal to itself
 equal_precision : (a : TimePrecision) → of_time_precision.ghosts.eq a a ≡ true

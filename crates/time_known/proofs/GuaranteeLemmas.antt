@@ -128,8 +128,7 @@ ascii_iso_year false y = search (ascii_refused_if, ascii_text_lemmas)
 -- what follows the year
 ascii_text_after_year : (k : DateKind) (c : Choices) (d : DateFacts) → Ascii (text_after_year k c d)
 ascii_text_after_year kind.Calendar c d = search ascii_text_lemmas depth 8
-ascii_text_after_year kind.Week c d = search ascii_text_lemmas depth 8
-ascii_text_after_year kind.Ordinal c d = search ascii_text_lemmas
+ascii_text_after_year _ c d = search ascii_text_lemmas depth 8
 
 ascii_iso_date : (c : Choices) (d : DateFacts) → Ascii (iso_date c d).bytes
 ascii_iso_date c d = search (ascii_join, ascii_iso_year, ascii_text_after_year)
@@ -138,19 +137,18 @@ ascii_iso_date c d = search (ascii_join, ascii_iso_year, ascii_text_after_year)
 ascii_decimal_part : (s : DecimalSign) (d : Option ℕ) (rest unit : ℕ) → Ascii (decimal_part s d rest unit)
 ascii_decimal_part s None rest unit = ascii_empty
 ascii_decimal_part sign_of.Point (Some d) rest unit = search ascii_text_lemmas
-ascii_decimal_part sign_of.Comma (Some d) rest unit = search ascii_text_lemmas
+ascii_decimal_part _ (Some d) rest unit = search ascii_text_lemmas
 
 ascii_units_text : (p : TimePrecision) (c : Choices) (t : TimeOfDay) → Ascii (units_text p c t)
 ascii_units_text (precision.Hour d) c t = search (ascii_text_lemmas, ascii_decimal_part)
-ascii_units_text (precision.Minute d) c t = search (ascii_text_lemmas, ascii_decimal_part) depth 8
-ascii_units_text (precision.Second d) c t = search (ascii_text_lemmas, ascii_decimal_part) depth 10
+ascii_units_text _ c t = search (ascii_text_lemmas, ascii_decimal_part) depth 10
 
 ascii_iso_time : (c : Choices) (t : TimeOfDay) → Ascii (iso_time c t).bytes
 ascii_iso_time c t = search (ascii_text_lemmas, ascii_units_text)
 
 ascii_iso_minutes : (p : OffsetPrecision) (c : Choices) (o : Offset) → Ascii (iso_minutes p c o).bytes
 ascii_iso_minutes offset_precision.Minute c o = search ascii_text_lemmas
-ascii_iso_minutes offset_precision.Hour c o = search (ascii_refused_if, ascii_text_lemmas)
+ascii_iso_minutes _ c o = search (ascii_refused_if, ascii_text_lemmas)
 
 ascii_iso_offset : (c : Choices) (o : Offset) → Ascii (iso_offset c o).bytes
 ascii_iso_offset c o = search (ascii_either_outcome, ascii_refused_if, ascii_join, ascii_text_lemmas, ascii_iso_minutes)
@@ -160,12 +158,7 @@ ruleset ascii_outcome_lemmas = (ascii_empty, ascii_of_group, ascii_join, ascii_i
 
 ascii_iso8601_outcome : (p : FormattedComponents) (c : Choices) (f : Facts) → Ascii (iso8601_outcome_of p c f).bytes
 ascii_iso8601_outcome components.None c f = search ascii_outcome_lemmas
-ascii_iso8601_outcome components.Date c f = search ascii_outcome_lemmas
-ascii_iso8601_outcome components.Time c f = search ascii_outcome_lemmas
-ascii_iso8601_outcome components.Offset c f = search ascii_outcome_lemmas
-ascii_iso8601_outcome components.DateTime c f = search ascii_outcome_lemmas
-ascii_iso8601_outcome components.DateTimeOffset c f = search ascii_outcome_lemmas depth 8
-ascii_iso8601_outcome components.TimeOffset c f = search ascii_outcome_lemmas
+ascii_iso8601_outcome _ c f = search ascii_outcome_lemmas depth 8
 
 -- the bytes of each outcome of ISO 8601 are UTF-8
 pub iso8601_utf8 : (c : Choices) (f : Facts) → IsUtf8 (iso8601_outcome c f).bytes

@@ -41,12 +41,12 @@ either_year v =
 
 -- what is not refused has a year of four digits
 year_of_completed : (v : DateAndTime) → (stamp_of v).refusal ≡ None → IsYearWithin 0 9_999 v.date.year
-year_of_completed v none =
-    ⊎_elim (λ (e : stamp_of v ≡ refused (invalid_component (codes "year"))).
-    absurd (let some : Some (invalid_component (codes "year")) ≡ None = sym (ap (λ (o : Outcome). o.refusal) e)
-    ∙ none in cc))
-    (λ (h : IsYearWithin 0 9_999 v.date.year). h)
-    (either_year v)
+year_of_completed v none = at (either_year v) where
+  at : (stamp_of v ≡ refused (invalid_component (codes "year"))) ⊎ IsYearWithin 0 9_999 v.date.year
+      → IsYearWithin 0 9_999 v.date.year
+  at (inl e) =
+      let some : Some (invalid_component (codes "year")) ≡ None = sym (ap (λ (o : Outcome). o.refusal) e) ∙ none in cc
+  at (inr h) = h
 
 -- what is completed and read back has a stamp
 has_stamp : (v : DateAndTime) → (stamp_of v).refusal ≡ None
@@ -103,27 +103,17 @@ completed_years (Err e) {v = v} a some = (
   λ year. absurd (named_none (stamp_of v) e (not_refused v year) (a.appends some).named),
 )
 
--- an error other than `OutOfMemory` refuses the year
-refused_year : (old new : Vec ℕ Global) (v : DateAndTime) (e : Format) → Adds old new (Err e) (stamp_of v)
-    → stamp_of v ≡ refused (invalid_component (codes "year"))
-refused_year old new v e adds =
-    ⊎_elim (λ (r : stamp_of v ≡ refused (invalid_component (codes "year"))). r)
-    (λ (h : IsYearWithin 0 9_999 v.date.year).
-    absurd (named_none (stamp_of v) e (not_refused v (stamp_year v.date.year h)) adds.named))
-    (either_year v)
-
--- it names it
-names_year : (old new : Vec ℕ Global) (v : DateAndTime) (e : Format) → Adds old new (Err e) (stamp_of v)
-    → Names e (invalid_component (codes "year"))
-names_year old new v e adds =
-    subst (λ (o : Outcome). IsSomeAnd o.refusal (Names e)) (refused_year old new v e adds) adds.named
-
--- a refused stamp adds no byte
-adds_nothing : (old new : Vec ℕ Global) (v : DateAndTime) (e : Format) → Adds old new (Err e) (stamp_of v)
-    → new.items ≡ old.items
-adds_nothing old new v e adds =
-    adds.appended ∙ ap (λ (o : Outcome). old.items ++ o.bytes) (refused_year old new v e adds)
-    ∙ append-nil old.items
+-- an error other than `OutOfMemory` names the year, and adds no byte
+refused_by_year : (old new : Vec ℕ Global) (v : DateAndTime) (e : Format) → Adds old new (Err e) (stamp_of v)
+    → Names e (invalid_component (codes "year")) × (new.items ≡ old.items)
+refused_by_year old new v e adds = at (either_year v) where
+  at : (stamp_of v ≡ refused (invalid_component (codes "year"))) ⊎ IsYearWithin 0 9_999 v.date.year
+      → Names e (invalid_component (codes "year")) × (new.items ≡ old.items)
+  at (inl r) = (
+    subst (λ (o : Outcome). IsSomeAnd o.refusal (Names e)) r adds.named,
+    adds.appended ∙ ap (λ (o : Outcome). old.items ++ o.bytes) r ∙ append-nil old.items,
+  )
+  at (inr h) = absurd (named_none (stamp_of v) e (not_refused v (stamp_year v.date.year h)) adds.named)
 
 -- any error but one is not `OutOfMemory`
 not_memory : {e : Format} → e ≢ error.OutOfMemory → ◌≢◌ {A = Result ℕ Format} (Err e) no_memory
@@ -135,16 +125,11 @@ pub year_named : {old new : Vec ℕ Global} (answer : Result ℕ Format) {v : Da
     → IfErr answer (λ e. e ≢ error.OutOfMemory → Names e (invalid_component (codes "year")))
 year_named (Ok n) a = tt
 year_named {old} {new} (Err e) {v = v} a =
-    λ other. names_year old new v e (a.appends (not_memory other))
+    λ other. (refused_by_year old new v e (a.appends (not_memory other))).0
 
 -- a call that returns an error appends nothing
 pub refused_unchanged : {old new : Vec ℕ Global} (answer : Result ℕ Format) {v : DateAndTime}
     → Answered old new answer v → OnErr answer (new.items ≡ old.items)
 refused_unchanged (Ok n) a = tt
 refused_unchanged (Err error.OutOfMemory) a = a.unchanged refl
-refused_unchanged {old} {new} (Err error.InsufficientTypeInformation) {v = v} a =
-    adds_nothing old new v error.InsufficientTypeInformation (a.appends (λ e. cc))
-refused_unchanged {old} {new} (Err (error.InvalidComponent name)) {v = v} a =
-    adds_nothing old new v (error.InvalidComponent name) (a.appends (λ e. cc))
-refused_unchanged {old} {new} (Err (error.ComponentRange range)) {v = v} a =
-    adds_nothing old new v (error.ComponentRange range) (a.appends (λ e. cc))
+refused_unchanged {old} {new} (Err e) {v = v} a = (refused_by_year old new v e (a.appends (λ same. cc))).1

@@ -1,5 +1,5 @@
 -- The text of ISO 8601 by the fields of the parts that are written.
-use Rattle.std.specs.Prelude.{ℕ, ◌+◌, ◌++◌, ◌&&◌, List, [], codes, nat_lt, Option, Some, None, if◌then◌else◌}
+use Rattle.std.specs.Prelude.{ℕ, ◌+◌, ◌*◌, ◌++◌, length, ◌&&◌, List, [], codes, nat_lt, Option, Some, None, if◌then◌else◌}
 use Rattle.time_below.specs.Facts.{Facts, DateFacts, the_date, the_time, the_offset}
 use Rattle.time_digits.specs.Digits.{zero_padded}
 use Rattle.time_fmt.specs.Outcome.{Outcome, done, join}
@@ -84,13 +84,13 @@ parts_text c p =
 
 -- ---- their widths
 
-abbrev pub rest_width : Choices → RestOfDate → ℕ
-rest_width c (rest.MonthAndDay month day) = if c.use_separators then 6 else 4
-rest_width c (rest.WeekAndWeekday week weekday) = if c.use_separators then 6 else 4
-rest_width c (rest.DayOfYear day) = if c.use_separators then 4 else 3
+abbrev pub rest_width : ℕ → RestOfDate → ℕ
+rest_width separator (rest.MonthAndDay month day) = 4 + 2 * separator
+rest_width separator (rest.WeekAndWeekday week weekday) = 4 + 2 * separator
+rest_width separator (rest.DayOfYear day) = 3 + separator
 
 abbrev pub date_parts_width : Choices → DateParts → ℕ
-date_parts_width c d = year_width c.year_is_six_digits + rest_width c d.rest
+date_parts_width c d = year_width c.year_is_six_digits + rest_width (length (separator c (codes "-"))) d.rest
 
 abbrev pub part_width : {A : Type 0} → (A → ℕ) → Option A → ℕ
 part_width width None = 0

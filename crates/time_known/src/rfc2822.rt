@@ -35,6 +35,7 @@ impl ComputeMetadata for Rfc2822 {
 
     ghost reaches_width = { λ _. FillsRfc2822Width };
 
+    #[tactic(auto, using(crate::proofs::LongestLemmas::rfc2822_fills_its_width))]
     fn compute_metadata(&self) -> Metadata {
         Metadata {
             max_bytes_needed: WIDTH,
@@ -48,6 +49,7 @@ impl Formattable for Rfc2822 {
 
     ghost reads_as = { λ _. ReadsAs to_whole_second Rfc2822Spells Rfc2822Spells };
 
+    #[tactic(auto, using(crate::proofs::GuaranteeLemmas::rfc2822_utf8))]
     fn write_into<V: ComponentProvider>(
         &self,
         output: &mut Vec<u8>,

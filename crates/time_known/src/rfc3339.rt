@@ -35,6 +35,7 @@ impl ComputeMetadata for Rfc3339 {
 
     ghost reaches_width = { λ _. FillsRfc3339Width };
 
+    #[tactic(auto, using(crate::proofs::LongestLemmas::rfc3339_fills_its_width))]
     fn compute_metadata(&self) -> Metadata {
         Metadata {
             max_bytes_needed: WIDTH,
@@ -48,6 +49,7 @@ impl Formattable for Rfc3339 {
 
     ghost reads_as = { λ _. ReadsAs (λ v. v) Rfc3339Spells IsCanonicalRfc3339 };
 
+    #[tactic(auto, using(crate::proofs::GuaranteeLemmas::rfc3339_utf8))]
     fn write_into<V: ComponentProvider>(
         &self,
         output: &mut Vec<u8>,

@@ -18,12 +18,7 @@ use Rattle.time_known.proofs.GroupLemmas.{of_unsupplied_group, has_all, outcome_
 lacking_of : (parts : FormattedComponents) (c : Choices) (f : Facts) → has_groups (groups_of parts) f ≡ false
     → iso8601_outcome_of parts c f ≡ refused insufficient
 lacking_of components.None c f h = refl
-lacking_of components.Date c f h = grind (arith, common_steps, of_unsupplied_group)
-lacking_of components.Time c f h = grind (arith, common_steps, of_unsupplied_group)
-lacking_of components.Offset c f h = grind (arith, common_steps, of_unsupplied_group)
-lacking_of components.DateTime c f h = grind (arith, common_steps, of_unsupplied_group)
-lacking_of components.DateTimeOffset c f h = grind (arith, common_steps, of_unsupplied_group)
-lacking_of components.TimeOffset c f h = grind (arith, common_steps, of_unsupplied_group)
+lacking_of _ c f h = grind (arith, common_steps, of_unsupplied_group)
 
 -- a value without a needed group is refused, by choices that the test reads once more
 pub missing_group_refused : (c read : Choices) (f : Facts) (needed : Groups) → read ≡ c

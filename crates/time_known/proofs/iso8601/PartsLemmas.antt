@@ -1,5 +1,5 @@
 -- The text and the width of the parts that are written are those of the choices.
-use Rattle.std.proofs.Common.{◌≡◌, ◌≢◌, ℕ, ◌+◌, ◌++◌, true, List, [], refl, sym, ap, subst, ◌∙◌, arith, Option, Some, None}
+use Rattle.std.proofs.Common.{◌≡◌, ◌≢◌, ℕ, ◌+◌, ◌*◌, ◌++◌, Bool, true, false, length, List, [], refl, sym, ap, subst, ◌∙◌, arith, Option, Some, None}
 use Rattle.std.proofs.Common.{Result, Vec, unsigned_abs, nat_lt}
 use Rattle.std.specs.Global.{Global}
 use Rattle.std.specs.Prelude.{◌&&◌, codes, if◌then◌else◌}
@@ -52,10 +52,19 @@ offset_is c o =
     (join (done (offset_hours_text o)) minutes))
     (minutes_are c.offset_precision c o)
 
-rest_width_is : (k : DateKind) (c : Choices) (d : DateFacts) → rest_width c (rest_of_kind k d) ≡ width_after_year k c
-rest_width_is kind.Calendar c d = refl
-rest_width_is kind.Week c d = refl
-rest_width_is kind.Ordinal c d = refl
+two_dashes : (b : Bool) → 4 + 2 * length (if b then codes "-" else []) ≡ (if b then 6 else 4)
+two_dashes true = refl
+two_dashes false = refl
+
+one_dash : (b : Bool) → 3 + length (if b then codes "-" else []) ≡ (if b then 4 else 3)
+one_dash true = refl
+one_dash false = refl
+
+rest_width_is : (k : DateKind) (c : Choices) (d : DateFacts)
+    → rest_width (length (separator c (codes "-"))) (rest_of_kind k d) ≡ width_after_year k c
+rest_width_is kind.Calendar c d = two_dashes c.use_separators
+rest_width_is kind.Week c d = two_dashes c.use_separators
+rest_width_is kind.Ordinal c d = one_dash c.use_separators
 
 date_width_is : (c : Choices) (d : DateFacts) → date_parts_width c (date_parts c.date_kind d) ≡ iso_date_width c
 date_width_is c d = ap (λ (n : ℕ). year_width c.year_is_six_digits + n) (rest_width_is c.date_kind c d)

@@ -14,8 +14,9 @@ ghost use Rattle.time_known.specs.Iso8601Width.{iso_date_width, year_width};
 ghost use Rattle.time_known.specs.Sink.{Fits, PutsJust, PutsUpTo};
 
 use crate::accepted::OutOfRange;
-use crate::iso8601::config::Config;
-use crate::iso8601::parts::{DateParts, Parts, RestOfDate, append_parts, date_of};
+use crate::iso8601::config::{Config, DateKind};
+use crate::iso8601::parts::{DateParts, RestOfDate, date_of};
+use crate::pieces::{put_back, take_out};
 use crate::put::{put_four_digits, put_pair, put_three_digits};
 use crate::sink::Sink;
 use time_digits::num_fmt::six_digits_zero_padded;
@@ -42,12 +43,31 @@ pub fn format_date<V: ComponentProvider>(
         (iso_date config.now (the_date (V.facts value.now))) }
     ensures agrees { AgreesOnDate (V.agrees state.new value.now) (V.facts value.now) }
 {
-    let parts = Parts {
-        date: Some(date_of(config.date_kind(), value, state)),
-        time: None,
-        offset: None,
-    };
-    append_parts(config, output, &parts)
+    match config.date_kind() {
+        DateKind::Calendar => {
+            append_date(config, output, date_of(DateKind::Calendar, value, state))
+        }
+        DateKind::Week => append_date(config, output, date_of(DateKind::Week, value, state)),
+        DateKind::Ordinal => append_date(config, output, date_of(DateKind::Ordinal, value, state)),
+    }
+}
+
+// Appends the date of a kind that the compiler sees, so that no other is tested.
+#[inline(always)]
+fn append_date(config: &Config, output: &mut Vec<u8>, date: DateParts) -> Result<usize, Format>
+    requires room { HasRoom output.old (date_parts_width config.now date) }
+    ensures appends { AppendsUpTo (date_parts_width config.now date) output.old output.new result
+        (date_of_parts config.now date) }
+{
+    let mut taken = take_out(output);
+    let begin = taken.len();
+    let answer = put_date(&mut taken, config, &date);
+    let count = taken.len() - begin;
+    put_back(output, taken);
+    match answer {
+        Ok(()) => Ok(count),
+        Err(component) => Err(Format::InvalidComponent(component.name())),
+    }
 }
 
 // Puts the date, if there is one.
@@ -76,7 +96,11 @@ fn put_date<S: Sink>(output: &mut S, config: &Config, date: &DateParts) -> Resul
         (S.buffer output.old) (S.buffer output.new) result (date_of_parts config.now date.now) }
 {
     put_year(output, date.year, config.year_is_six_digits())?;
-    put_rest(output, config, &date.rest);
+    if config.use_separators() {
+        put_rest(output, &date.rest, "-");
+    } else {
+        put_rest(output, &date.rest, "");
+    }
     Ok(())
 }
 
@@ -116,13 +140,12 @@ fn put_six_digits<S: Sink>(output: &mut S, year: Year)
 
 // Puts what follows the year.
 #[inline(always)]
-fn put_rest<S: Sink>(output: &mut S, config: &Config, rest: &RestOfDate)
-    requires room { Fits (rest_width config.now rest.now) (S.buffer output.old) }
-    ensures puts { PutsUpTo (rest_width config.now rest.now)
-        (S.buffer output.old) (S.buffer output.new)
-        (rest_text (separator config.now (codes "-")) rest.now) }
+#[tactic(auto, using(crate::proofs::LengthLemmas::joined_lengths))]
+fn put_rest<S: Sink>(output: &mut S, rest: &RestOfDate, dash: &str)
+    requires room { Fits (rest_width (length dash.now) rest.now) (S.buffer output.old) }
+    ensures puts { PutsUpTo (rest_width (length dash.now) rest.now)
+        (S.buffer output.old) (S.buffer output.new) (rest_text dash.now rest.now) }
 {
-    let dash = config.separator("-");
     match *rest {
         RestOfDate::MonthAndDay { month, day } => {
             put_pairs(output, dash, month.expand(), day.expand())

@@ -16,9 +16,9 @@ ghost use Rattle.time_known.specs.UsualText.{IsUsual};
 use crate::accepted::OutOfRange;
 use crate::fields::{OffsetFields, TimeFields, offset_of, time_of};
 use crate::iso8601::config::{Config, DateKind, FormattedComponents, Usual};
-use crate::iso8601::date::put_date_part;
+use crate::iso8601::date::{format_date, put_date_part};
 use crate::iso8601::offset::put_offset_part;
-use crate::iso8601::time::put_time_part;
+use crate::iso8601::time::{format_time, put_time_part};
 use crate::iso8601::usual_text::write_usual;
 use crate::pieces::{put_back, take_out};
 use crate::sink::Sink;
@@ -101,6 +101,7 @@ pub(super) fn append_parts(
 }
 
 // The fields of the value's date by this kind.
+#[inline(always)]
 pub(super) fn date_of<V: ComponentProvider>(
     kind: DateKind,
     value: &V,
@@ -219,9 +220,13 @@ fn write_each<V: ComponentProvider>(
         → AreReal (V.facts value.now)) }
     ensures agrees { V.agrees state.new value.now }
 {
-    if config.formats_nothing() {
-        return Err(Format::InsufficientTypeInformation);
+    match config.formatted_components() {
+        FormattedComponents::None => Err(Format::InsufficientTypeInformation),
+        FormattedComponents::Date => format_date(config, output, value, state),
+        FormattedComponents::Time => format_time(config, output, value, state),
+        _ => {
+            let parts = parts_of(config, value, state);
+            append_parts(config, output, &parts)
+        }
     }
-    let parts = parts_of(config, value, state);
-    append_parts(config, output, &parts)
 }

@@ -15,8 +15,8 @@ ghost use Rattle.time_known.specs.WellKnown.{clock_text};
 
 use crate::fields::{TimeFields, time_of};
 use crate::iso8601::config::{Config, DecimalSign, TimePrecision};
-use crate::iso8601::parts::{Parts, append_parts};
 use crate::iso8601::usual_text::put_fraction_by;
+use crate::pieces::{put_back, take_out};
 use crate::put::{put_clock, put_pair};
 use crate::sink::Sink;
 use time_digits::ru8;
@@ -46,12 +46,13 @@ pub fn format_time<V: ComponentProvider>(
         (iso_time config.now (the_time (V.facts value.now))) }
     ensures agrees { AgreesOnTime (V.agrees state.new value.now) (V.facts value.now) }
 {
-    let parts = Parts {
-        date: None,
-        time: Some(time_of(value, state)),
-        offset: None,
-    };
-    append_parts(config, output, &parts)
+    let time = time_of(value, state);
+    let mut taken = take_out(output);
+    let begin = taken.len();
+    put_time(&mut taken, config, &time);
+    let count = taken.len() - begin;
+    put_back(output, taken);
+    Ok(count)
 }
 
 // Puts the time, if there is one.

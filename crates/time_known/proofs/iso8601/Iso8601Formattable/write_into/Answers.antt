@@ -2,7 +2,6 @@ use Rattle.std.proofs.Common.{ap, sym, ◌∙◌}
 use Rattle.time_fmt.proofs.WriteLemmas.{appends_nothing}
 use Rattle.time_known.specs.declared.groups.Groups.{Groups}
 use Rattle.time_known.specs.Groups.{has_groups}
-use Rattle.time_known.proofs.GuaranteeLemmas.{iso8601_utf8}
 use Rattle.time_known.proofs.iso8601.GroupLemmas.{missing_group_refused}
 use Rattle.time_known.proofs.iso8601.ReadBackLemmas.{completed_reads}
 use Rattle.time_known.proofs.iso8601.Iso8601Formattable.write_into.Goals as goal
@@ -13,12 +12,6 @@ returns-then-not-are_supplied_by-clause-appends g c =
     rw (missing_group_refused c.args.self.now c.self.inside.config (g.V.ComponentProvider.facts value) c.groups.result c.self.view_is
     c.groups.ensures (c.are_supplied_by.ensures.there value ∙ c.if-not-are_supplied_by.true))
     (appends_nothing _ _ _ tt)
-
-pub returns-then-not-are_supplied_by-clause-text : goal.returns-then-not-are_supplied_by-clause-text
-returns-then-not-are_supplied_by-clause-text g c = λ _. iso8601_utf8 c.args.self.now _
-
-pub returns-clause-text : goal.returns-clause-text
-returns-clause-text g c = λ _. iso8601_utf8 c.args.self.now _
 
 pub returns-clause-spelled : goal.returns-clause-spelled
 returns-clause-spelled g c =

@@ -7,7 +7,6 @@ use Rattle.time_known.specs.Groups.{at_groups}
 use Rattle.time_known.specs.Rfc2822.{rfc2822_of_fields, rfc2822_of_groups, rfc2822_text}
 use Rattle.time_known.proofs.AcceptedLemmas.{any_hour}
 use Rattle.time_known.proofs.GroupLemmas.{has_all, outcome_of_all}
-use Rattle.time_known.proofs.GuaranteeLemmas.{rfc2822_utf8}
 use Rattle.time_known.proofs.LawLemmas.{completed_are_canonical}
 use Rattle.time_known.proofs.ReadBackLemmas.{reads_as}
 use Rattle.time_known.proofs.Rfc2822Lemmas.{rfc2822_is_written}
@@ -40,9 +39,6 @@ returns-in-Ok-clause-spelled g c =
     c.fields_of-fields.ensures.agrees.real c.accepted_year_of.ensures.offset
     (ap (λ (o : Outcome). o.refusal) completed)
 
-pub returns-in-Ok-clause-text : goal.returns-in-Ok-clause-text
-returns-in-Ok-clause-text g c = λ _. rfc2822_utf8 (g.V.ComponentProvider.facts c.args.value.now)
-
 pub returns-in-Err-clause-appends : goal.returns-in-Err-clause-appends
 returns-in-Err-clause-appends g c =
     let value = c.args.value.now in
@@ -53,9 +49,3 @@ returns-in-Err-clause-appends g c =
     (unsigned_abs (the_offset f).seconds) text c.accepted_year_of.ensures.offset.0.0 in
     rw (outcome_of_all f all rfc2822_of_groups ∙ sym hours ∙ c.in-Err.ensures.refused text)
     (appends_nothing _ _ _ c.name.ensures)
-
-pub returns-in-Err-clause-text : goal.returns-in-Err-clause-text
-returns-in-Err-clause-text g c = λ _. rfc2822_utf8 (g.V.ComponentProvider.facts c.args.value.now)
-
-pub returns-then-not-are_supplied_by-clause-text : goal.returns-then-not-are_supplied_by-clause-text
-returns-then-not-are_supplied_by-clause-text g c = λ _. rfc2822_utf8 (g.V.ComponentProvider.facts c.args.value.now)

@@ -4,7 +4,6 @@ use Rattle.time_fmt.proofs.WriteLemmas.{appends_nothing, appends_up_to}
 use Rattle.time_known.specs.Groups.{at_groups}
 use Rattle.time_known.specs.Rfc3339.{rfc3339_of_fields, rfc3339_of_groups, rfc3339_text}
 use Rattle.time_known.proofs.GroupLemmas.{has_all, outcome_of_all}
-use Rattle.time_known.proofs.GuaranteeLemmas.{rfc3339_utf8}
 use Rattle.time_known.proofs.LawLemmas.{completed_are_canonical}
 use Rattle.time_known.proofs.ReadBackLemmas.{reads_as}
 use Rattle.time_known.proofs.Rfc3339Lemmas.{rfc3339_is_written}
@@ -29,9 +28,6 @@ returns-in-Ok-clause-spelled g c =
     c.fields_of-fields.ensures.agrees.real c.accepted_year_of.ensures.offset
     (ap (λ (o : Outcome). o.refusal) completed)
 
-pub returns-in-Ok-clause-text : goal.returns-in-Ok-clause-text
-returns-in-Ok-clause-text g c = λ _. rfc3339_utf8 (g.V.ComponentProvider.facts c.args.value.now)
-
 pub returns-in-Err-clause-appends : goal.returns-in-Err-clause-appends
 returns-in-Err-clause-appends g c =
     let value = c.args.value.now in
@@ -39,9 +35,3 @@ returns-in-Err-clause-appends g c =
     let all = has_all f (c.are_supplied_by.ensures.there value ∙ c.if-not-are_supplied_by.false) in
     rw (outcome_of_all f all rfc3339_of_groups ∙ c.in-Err.ensures.refused (at_groups rfc3339_text f))
     (appends_nothing _ _ _ c.name.ensures)
-
-pub returns-in-Err-clause-text : goal.returns-in-Err-clause-text
-returns-in-Err-clause-text g c = λ _. rfc3339_utf8 (g.V.ComponentProvider.facts c.args.value.now)
-
-pub returns-then-not-are_supplied_by-clause-text : goal.returns-then-not-are_supplied_by-clause-text
-returns-then-not-are_supplied_by-clause-text g c = λ _. rfc3339_utf8 (g.V.ComponentProvider.facts c.args.value.now)
