@@ -1,34 +1,26 @@
 -- The fields of a line, and the numbers that digits spell.
 use Rattle.std.proofs.Common.{ℕ, not, ◌⊎◌, inl, inr, ⊎_elim, false, ◌==◌, ◌≡◌, ◌+◌, ◌-◌, ◌*◌, ◌^◌, ◌<◌, ◌≤◌, Bool, true}
-use Rattle.std.proofs.Common.{List, [], ◌∷◌, length, take, drop, get_or, Option, Some, None, refl, ◌∙◌, arith, rules}
+use Rattle.std.proofs.Common.{List, [], ◌∷◌, length, take, drop, get_or, Some, None, refl, ap, ◌∙◌, arith, rules}
 use Rattle.std.proofs.lemmas.Int.Digits.{digits_value_more}
 use Rattle.std.proofs.lemmas.Bool.{cases_lt}
 use Rattle.std.proofs.lemmas.List.{length-take, get_or-take, take_all}
 use Rattle.std.proofs.lemmas.List.Elements.{All-get_or}
 use Rattle.std.proofs.lemmas.List.Folds.{list_all_at, list_all_more}
-use Rattle.std.proofs.lemmas.List.Splits.{slice_split_first}
+use Rattle.std.proofs.lemmas.List.Splits.{slice_split_first, length-slice_split}
 use Rattle.std.proofs.lemmas.List.Sums.{AllPass-from_list_all, passes_at_first, position_or_len_is}
 use Rattle.std.proofs.lemmas.List.Sums.{prefix_len-le-length}
 use Rattle.std.proofs.lemmas.Str.{digit_value_digit}
 use Rattle.std.proofs.lemmas.Str.Parse.{IsDigitsTest, IsNumeralModel, numerals_by_value, digits_value_short}
 use Rattle.std.specs.Char.{is_ascii_digit, digit_value}
 use Rattle.std.specs.Int.{IsInRange}
-use Rattle.std.specs.List.{slice_split, list_all, position, position_or_len}
-use Rattle.std.specs.Option.{MatchOption}
+use Rattle.std.specs.List.{slice_split, list_all, position_or_len}
 use Rattle.std.specs.Str.Parse.{digits_value}
 use Rattle.time_show.specs.Fields.{space, fields_of, is_natural, natural_of, LeadingDigits, FirstNatural}
 
 -- a list has one part if nothing is found
-parts-none : (p : ℕ → Bool) (xs : List ℕ) → length xs ≤ position_or_len p xs → slice_split p xs ≡ xs ∷ []
+pub parts-none : (p : ℕ → Bool) (xs : List ℕ) → length xs ≤ position_or_len p xs → slice_split p xs ≡ xs ∷ []
 parts-none p [] h = refl
 parts-none p (x ∷ xs) h = grind (arith, parts-none p xs)
-
--- the parts round the first place that is found
-pub parts-found : (p : ℕ → Bool) (xs : List ℕ) (place : Option ℕ) → place ≡ position p xs →
-    MatchOption place (slice_split p xs ≡ xs ∷ [])
-    (λ i. (i < length xs) × (slice_split p xs ≡ take i xs ∷ slice_split p (drop (i + 1) xs)))
-parts-found p xs None e = grind (arith, parts-none p xs)
-parts-found p xs (Some i) e = grind (arith, slice_split_first p xs 0)
 
 -- the test of digits holds exactly for digits
 tells_natural : IsDigitsTest (λ ds. list_all is_ascii_digit ds ≡ true)
@@ -75,8 +67,12 @@ pub natural-whole : (ds : List ℕ) → 0 < length ds → length ds ≤ 9 → li
     natural_of ds ≡ Some (digits_value 10 ds)
 natural-whole ds some short all = rw (natural-when ds some short all) refl
 
+-- a line has a field
+pub some_field : (text : List ℕ) → fields_of text ≡ [] → ⊥
+some_field text e = omega (arith, length-slice_split (λ b. b == space) text, ap length e)
+
 -- whether the byte ends a field
-abbrev is_space : ℕ → Bool
+abbrev pub is_space : ℕ → Bool
 is_space b = b == space
 
 -- the first field ends at the first space

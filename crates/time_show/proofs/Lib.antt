@@ -3,6 +3,5 @@ pub mod CommandLemmas
 pub mod OutputBufferLemmas
 pub mod LinesLemmas
 pub mod FieldsLemmas
-pub mod ReplyLemmas
 pub mod RunLemmas
 pub mod ValueLemmas

@@ -5,7 +5,9 @@ use Rattle.time_show.specs.declared.command.Command.{Command}
 use Rattle.time_show.specs.declared.command.Command.TheVariants.{Time, Rfc3339, Rfc2822, Iso, IsoComma, Stamp}
 use Rattle.time_show.specs.declared.command.Name.{Name}
 use Rattle.time_show.specs.declared.command.Name.TheVariants as name
+use Rattle.time_show.specs.declared.value.DateNumbers.{DateNumbers}
 use Rattle.time_show.specs.declared.value.DateTimeNumbers.{DateTimeNumbers}
+use Rattle.time_show.specs.declared.value.OffsetNumbers.{OffsetNumbers}
 use Rattle.time_show.specs.declared.value.TimeNumbers.{TimeNumbers}
 use Rattle.time_show.specs.declared.value.UtcNumbers.{UtcNumbers}
 use Rattle.time_show.specs.Fields.{fields_of, numbers_of}
@@ -16,6 +18,18 @@ abbrev pub time_numbers : Option (List ℤ) → Option TimeNumbers
 time_numbers (Some (hour ∷ minute ∷ second ∷ nanosecond ∷ [])) =
     Some (record { hour = hour; minute = minute; second = second; nanosecond = nanosecond })
 time_numbers _ = None
+
+-- the numbers of a date before others
+abbrev pub onto_date : DateNumbers → Option (List ℤ) → Option (List ℤ)
+onto_date n numbers = option_map (λ others. n.year ∷ n.month ∷ n.day ∷ others) numbers
+
+-- those of a time of day
+abbrev pub onto_time : TimeNumbers → Option (List ℤ) → Option (List ℤ)
+onto_time n numbers = option_map (λ others. n.hour ∷ n.minute ∷ n.second ∷ n.nanosecond ∷ others) numbers
+
+-- those of an offset
+abbrev pub onto_offset : OffsetNumbers → Option (List ℤ) → Option (List ℤ)
+onto_offset n numbers = option_map (λ others. n.hours ∷ n.minutes ∷ n.seconds ∷ others) numbers
 
 -- `Y Mo D h m s n oh om os`
 abbrev pub date_time_numbers : Option (List ℤ) → Option DateTimeNumbers

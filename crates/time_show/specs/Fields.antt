@@ -1,5 +1,5 @@
 -- The fields of a line, and the numbers that fields spell.
-use Rattle.std.specs.Prelude.{◌≡◌, ◌≤◌, ◌⊎◌, ℕ, ℤ, pos, neg_ℤ, Option, Some, None, List, [], ◌∷◌, length, take, get_or}
+use Rattle.std.specs.Prelude.{◌≡◌, ◌≤◌, ◌<◌, ◌⊎◌, ℕ, ℤ, pos, neg_ℤ, Option, Some, None, List, [], ◌∷◌, length, take, get_or}
 use Rattle.std.specs.Prelude.{Bool, true, false, ◌==◌, ◌&&◌, nat_lt, nat_le, if◌then◌else◌, option_map}
 use Rattle.std.specs.List.{slice_split, list_all}
 use Rattle.std.proofs.Common.{Bor}
@@ -41,10 +41,9 @@ abbrev pub numbers_of : List (List ℕ) → Option (List ℤ)
 numbers_of [] = Some []
 numbers_of (field ∷ fields) = onto_numbers (number_of field) (numbers_of fields)
 
--- the numbers, if they are exactly this many
-abbrev pub exactly : ℕ → Option (List ℤ) → Option (List ℤ)
-exactly count None = None
-exactly count (Some numbers) = if length numbers == count then Some numbers else None
+-- fewer numbers than this, if each field spells one
+abbrev pub Lacks : ℕ → Option (List ℤ) → Type 0
+Lacks count numbers = (all : List ℤ) → numbers ≡ Some all → length all < count
 
 -- the fields of what is left of a line
 abbrev pub fields_left : Option (Bor (List ℕ)) → List (List ℕ)

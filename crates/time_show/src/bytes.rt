@@ -12,13 +12,6 @@ pub const SPACE: u8 = b' ';
 /// Stands before the digits of a negative number.
 pub const MINUS: u8 = b'-';
 
-/// The first place of the byte, counted from 0, if it stands there at all.
-pub fn place_of(byte: u8, bytes: &[u8]) -> Option<usize>
-    ensures { result ≡ position (λ b. b == byte) bytes.now }
-{
-    bytes.iter().position(|other| *other == byte)
-}
-
 /// The first place of a line feed, by a search that looks at many bytes at a time.
 pub fn place_of_end(bytes: &[u8]) -> Option<usize>
     ensures { result ≡ position (λ b. b == 10) bytes.now }

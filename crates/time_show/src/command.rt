@@ -1,9 +1,9 @@
 //! The command of a line.
-ghost use Rattle.std.specs.Prelude.{◌≡◌, ◌≤◌, length};
-ghost use Rattle.time_show.specs.Command.{command_of, named, time_numbers, date_time_numbers, utc_numbers};
-ghost use Rattle.time_show.specs.Fields.{numbers_of};
+ghost use Rattle.std.specs.Prelude.{◌≡◌, ◌≢◌, ◌++◌, ℕ, List, MatchOption, None};
+ghost use Rattle.time_show.specs.Command.{command_of, command_of_fields, with_numbers, onto_date, onto_time, onto_offset, time_numbers, date_time_numbers, utc_numbers};
+ghost use Rattle.time_show.specs.Fields.{fields_of, numbers_of, Lacks};
 
-use crate::fields::{Fields, numbers};
+use crate::fields::Fields;
 use crate::line_buffer::LINE_LIMIT;
 use crate::value::{DateNumbers, DateTimeNumbers, OffsetNumbers, TimeNumbers, UtcNumbers};
 
@@ -44,11 +44,13 @@ pub enum Name {
 
 /// The command that a line is, and nothing for a line that is none.
 pub fn command_in(line: &[u8]) -> Option<Command>
-    requires { length line.now ≤ LINE_LIMIT }
     ensures { result ≡ command_of line.now }
 {
-    let mut fields = Fields::new(line);
-    match named(fields.next()?)? {
+    if line.len() > LINE_LIMIT {
+        return None;
+    }
+    let (name, fields) = name_first(line)?;
+    match name {
         Name::Time => time_numbers(fields).map(Command::Time),
         Name::Rfc3339 => date_time_numbers(fields).map(Command::Rfc3339),
         Name::Rfc2822 => date_time_numbers(fields).map(Command::Rfc2822),
@@ -58,39 +60,85 @@ pub fn command_in(line: &[u8]) -> Option<Command>
     }
 }
 
-/// The command that a field names.
-#[inline]
-fn named(field: &[u8]) -> Option<Name>
-    ensures { result ≡ named field.now }
+/// The name that the line begins with, if a space follows it, and the fields after it.
+#[inline(always)]
+fn name_first(line: &[u8]) -> Option<(Name, Fields<'_>)>
+    ensures { MatchOption result (command_of_fields (fields_of line.now) ≡ None)
+        (λ r. command_of_fields (fields_of line.now) ≡ with_numbers r.0 (numbers_of r.1)) }
 {
-    if field == b"time".as_slice() {
-        Some(Name::Time)
-    } else if field == b"rfc3339".as_slice() {
-        Some(Name::Rfc3339)
-    } else if field == b"rfc2822".as_slice() {
-        Some(Name::Rfc2822)
-    } else if field == b"iso".as_slice() {
-        Some(Name::Iso)
-    } else if field == b"iso-comma".as_slice() {
-        Some(Name::IsoComma)
-    } else if field == b"stamp".as_slice() {
-        Some(Name::Stamp)
+    if let Some(rest) = after(b"time ", line) {
+        Some((Name::Time, Fields::new(rest)))
+    } else if let Some(rest) = after(b"rfc3339 ", line) {
+        Some((Name::Rfc3339, Fields::new(rest)))
+    } else if let Some(rest) = after(b"rfc2822 ", line) {
+        Some((Name::Rfc2822, Fields::new(rest)))
+    } else if let Some(rest) = after(b"iso ", line) {
+        Some((Name::Iso, Fields::new(rest)))
+    } else if let Some(rest) = after(b"iso-comma ", line) {
+        Some((Name::IsoComma, Fields::new(rest)))
+    } else if let Some(rest) = after(b"stamp ", line) {
+        Some((Name::Stamp, Fields::new(rest)))
     } else {
         None
     }
+}
+
+/// What follows these bytes, if the line begins with them.
+#[inline(always)]
+fn after<'a, const N: usize>(front: &[u8; N], line: &'a [u8]) -> Option<&'a [u8]>
+    ensures { MatchOption result ((rest : List ℕ) → line.now ≢ front.now ++ rest)
+        (λ rest. line.now ≡ front.now ++ rest.now) }
+{
+    line.strip_prefix(front.as_slice())
+}
+
+/// Takes the numbers of a date.
+#[inline(always)]
+fn next_date(fields: &mut Fields<'_>) -> Option<DateNumbers>
+    ensures { MatchOption result (Lacks 3 (numbers_of fields.old))
+        (λ n. numbers_of fields.old ≡ onto_date n (numbers_of fields.new)) }
+{
+    Some(DateNumbers {
+        year: fields.next_number()?,
+        month: fields.next_number()?,
+        day: fields.next_number()?,
+    })
+}
+
+/// Takes the numbers of a time of day.
+#[inline(always)]
+fn next_time(fields: &mut Fields<'_>) -> Option<TimeNumbers>
+    ensures { MatchOption result (Lacks 4 (numbers_of fields.old))
+        (λ n. numbers_of fields.old ≡ onto_time n (numbers_of fields.new)) }
+{
+    Some(TimeNumbers {
+        hour: fields.next_number()?,
+        minute: fields.next_number()?,
+        second: fields.next_number()?,
+        nanosecond: fields.next_number()?,
+    })
+}
+
+/// Takes the numbers of an offset.
+#[inline(always)]
+fn next_offset(fields: &mut Fields<'_>) -> Option<OffsetNumbers>
+    ensures { MatchOption result (Lacks 3 (numbers_of fields.old))
+        (λ n. numbers_of fields.old ≡ onto_offset n (numbers_of fields.new)) }
+{
+    Some(OffsetNumbers {
+        hours: fields.next_number()?,
+        minutes: fields.next_number()?,
+        seconds: fields.next_number()?,
+    })
 }
 
 /// The numbers of a time of day, where these fields are four numbers.
 fn time_numbers(fields: Fields<'_>) -> Option<TimeNumbers>
     ensures { result ≡ time_numbers (numbers_of fields.entry) }
 {
-    let [hour, minute, second, nanosecond] = numbers::<4>(fields)?;
-    Some(TimeNumbers {
-        hour,
-        minute,
-        second,
-        nanosecond,
-    })
+    let mut fields = fields;
+    let time = next_time(&mut fields)?;
+    if fields.is_empty() { Some(time) } else { None }
 }
 
 /// The numbers of a local date and time with its offset, where these fields are ten numbers.
@@ -98,32 +146,15 @@ fn time_numbers(fields: Fields<'_>) -> Option<TimeNumbers>
 pub fn date_time_numbers(fields: Fields<'_>) -> Option<DateTimeNumbers>
     ensures { result ≡ date_time_numbers (numbers_of fields.entry) }
 {
-    let [
-        year,
-        month,
-        day,
-        hour,
-        minute,
-        second,
-        nanosecond,
-        hours,
-        minutes,
-        seconds,
-    ] = numbers::<10>(fields)?;
-    Some(DateTimeNumbers {
-        date: DateNumbers { year, month, day },
-        time: TimeNumbers {
-            hour,
-            minute,
-            second,
-            nanosecond,
-        },
-        offset: OffsetNumbers {
-            hours,
-            minutes,
-            seconds,
-        },
-    })
+    let mut fields = fields;
+    let date = next_date(&mut fields)?;
+    let time = next_time(&mut fields)?;
+    let offset = next_offset(&mut fields)?;
+    if fields.is_empty() {
+        Some(DateTimeNumbers { date, time, offset })
+    } else {
+        None
+    }
 }
 
 /// The numbers of a date and time in UTC, where these fields are seven numbers.
@@ -131,14 +162,8 @@ pub fn date_time_numbers(fields: Fields<'_>) -> Option<DateTimeNumbers>
 fn utc_numbers(fields: Fields<'_>) -> Option<UtcNumbers>
     ensures { result ≡ utc_numbers (numbers_of fields.entry) }
 {
-    let [year, month, day, hour, minute, second, nanosecond] = numbers::<7>(fields)?;
-    Some(UtcNumbers {
-        date: DateNumbers { year, month, day },
-        time: TimeNumbers {
-            hour,
-            minute,
-            second,
-            nanosecond,
-        },
-    })
+    let mut fields = fields;
+    let date = next_date(&mut fields)?;
+    let time = time_numbers(fields)?;
+    Some(UtcNumbers { date, time })
 }

@@ -1,13 +1,17 @@
 //! What a line is answered by.
-ghost use Rattle.std.specs.Prelude.{◌≡◌, ◌≤◌, length, map, min, Some};
+ghost use Rattle.std.specs.Prelude.{◌≡◌, map, min, Some};
+ghost use Rattle.time_below.specs.Facts.{facts_of_offset_date_time};
 ghost use Rattle.time_below.specs.Tree.{all_of, borrowed_tree, trees};
 ghost use Rattle.time_show.specs.Answer.{IsAnswer, Answers};
 ghost use Rattle.time_show.specs.Asked.{asked_by, asked_value, comma_choices, formatted, time_tree};
 ghost use Rattle.time_show.specs.Reply.{reply_text, error_name};
+ghost use Rattle.time_show.specs.Value.{date_time_value};
 
 use crate::command::{Command, command_in};
-use crate::line_buffer::LINE_LIMIT;
-use crate::value::{Part, TimeNumbers, date_time_value, time_value, utc_date_time_value};
+use crate::value::{
+    DateTimeNumbers, Part, TimeNumbers, UtcNumbers, date_time_value, time_value,
+    utc_date_time_value,
+};
 use std::default::Default;
 use time_below::format_description::modifier::{
     Hour24, Minute, Padding, Second, Subsecond, SubsecondDigits,
@@ -85,7 +89,6 @@ where
 }
 
 /// The reply to a value by a description of this width, or to the part that is out of its range.
-#[inline(never)]
 fn value_reply_of_width<'a, D: Formattable, V: ComponentProvider + Drop>(
     text: &'a mut Vec<u8>,
     description: &D,
@@ -124,6 +127,30 @@ where
 {
     let width = description.compute_metadata().max_bytes_needed;
     value_reply_of_width(text, description, width, value)
+}
+
+/// The reply to the numbers of a local date and time by a description.
+#[inline(never)]
+fn date_time_reply<'a, D: Formattable>(
+    text: &'a mut Vec<u8>,
+    description: &D,
+    numbers: DateTimeNumbers,
+) -> Reply<'a>
+    ensures { Answers
+        (asked_value (D.width_of description.now)
+        (λ value. D.outcome_of description.now (facts_of_offset_date_time value))
+        (date_time_value numbers))
+        (reply_text result) }
+{
+    value_reply(text, description, date_time_value(numbers))
+}
+
+/// The reply to the numbers of a stamp.
+#[inline(never)]
+fn stamp_reply(text: &mut Vec<u8>, numbers: UtcNumbers) -> Reply<'_>
+    ensures { Answers (asked_by (Some (Command.Stamp numbers))) (reply_text result) }
+{
+    value_reply(text, &Iso8601::default(), utc_date_time_value(numbers))
 }
 
 /// The items of the description of a time: hour, minute and second in two digits each, then the
@@ -176,22 +203,15 @@ fn iso_with_comma() -> Iso8601
 
 /// Answers a line. The text of the answer is in this vector, whose memory serves each line.
 pub fn reply_to<'a>(text: &'a mut Vec<u8>, line: &[u8]) -> Reply<'a>
-    requires { length line.now ≤ LINE_LIMIT }
     ensures { IsAnswer line.now (reply_text result) }
 {
     match command_in(line) {
         None => Reply::BadLine,
         Some(Command::Time(numbers)) => time_reply(text, numbers),
-        Some(Command::Rfc3339(numbers)) => value_reply(text, &Rfc3339, date_time_value(numbers)),
-        Some(Command::Rfc2822(numbers)) => value_reply(text, &Rfc2822, date_time_value(numbers)),
-        Some(Command::Iso(numbers)) => {
-            value_reply(text, &Iso8601::default(), date_time_value(numbers))
-        }
-        Some(Command::IsoComma(numbers)) => {
-            value_reply(text, &iso_with_comma(), date_time_value(numbers))
-        }
-        Some(Command::Stamp(numbers)) => {
-            value_reply(text, &Iso8601::default(), utc_date_time_value(numbers))
-        }
+        Some(Command::Rfc3339(numbers)) => date_time_reply(text, &Rfc3339, numbers),
+        Some(Command::Rfc2822(numbers)) => date_time_reply(text, &Rfc2822, numbers),
+        Some(Command::Iso(numbers)) => date_time_reply(text, &Iso8601::default(), numbers),
+        Some(Command::IsoComma(numbers)) => date_time_reply(text, &iso_with_comma(), numbers),
+        Some(Command::Stamp(numbers)) => stamp_reply(text, numbers),
     }
 }

@@ -1,8 +1,8 @@
 //! Lines in, answers out.
-ghost use Rattle.std.specs.Prelude.{is_ok, if◌then◌else◌, ◌≡◌, ℕ, List, [], OnOk, OnErr};
+ghost use Rattle.std.specs.Prelude.{is_ok, if◌then◌else◌, ◌≡◌, ℕ, List, [], Some, OnOk, OnErr};
 ghost use Rattle.std.specs.Io.KnownBytes.{IsAtEnd};
 ghost use Rattle.time_show.specs.Answer.{IsAnswer};
-ghost use Rattle.time_show.specs.LineBuffer.{kept_of};
+ghost use Rattle.time_show.specs.LineBuffer.{kept_of, kept_with};
 ghost use Rattle.time_show.specs.Reply.{reply_text};
 ghost use Rattle.time_show.specs.Run.{state, AcceptsAnswer, CutsAnswerOff, AnswersOn, CutsAnswersOff, AnswersRest, CutsRestOff, Ran};
 
@@ -64,6 +64,34 @@ fn answer_line<W: Write>(
     answers.append_reply(output, reply)
 }
 
+/// Answers the line that these bytes end, and begins the next. Most lines stand whole in their block,
+/// and are answered where they stand.
+#[inline(always)]
+fn end_line<W: Write>(
+    text: &mut Vec<u8>,
+    line: &mut LineBuffer,
+    bytes: &[u8],
+    answers: &mut OutputBuffer,
+    output: &mut W,
+) -> Result<(), WriteFailed>
+    ensures next { OnOk result (line.new ≡ Some []) }
+    ensures ok { OnOk result (AcceptsAnswer
+        (state (kept_with line.old bytes.now) (W.contents output.old) answers.old)
+        (state (kept_with line.old bytes.now) (W.contents output.new) answers.new)) }
+    ensures err { OnErr result (CutsAnswerOff
+        (state (kept_with line.old bytes.now) (W.contents output.old) answers.old)
+        (W.contents output.new)) }
+{
+    if line.is_empty() {
+        let reply = reply_to(text, bytes);
+        return answers.append_reply(output, reply);
+    }
+    line.extend(bytes);
+    answer_line(text, line, answers, output)?;
+    line.clear();
+    Ok(())
+}
+
 /// Takes the next bytes of the input, and answers each line that they end.
 fn feed<W: Write>(
     text: &mut Vec<u8>,
@@ -81,9 +109,7 @@ fn feed<W: Write>(
 {
     let mut rest = bytes;
     while let Some(end) = place_of_end(rest) {
-        line.extend(&rest[..end]);
-        answer_line(text, line, answers, output)?;
-        line.clear();
+        end_line(text, line, &rest[..end], answers, output)?;
         rest = &rest[end + 1..];
     }
     line.extend(rest);

@@ -29,15 +29,6 @@ loop-done-preserved g c = record {
   untouched = λ e. absurd (omega (arith, ap length e));
 }
 
-pub returns-clause-nothing : goal.returns-clause-nothing
-returns-clause-nothing g c = c.loop-done.invariant.untouched
-
-pub returns-in-Ok-eq0-clause-nothing : goal.returns-in-Ok-eq0-clause-nothing
-returns-in-Ok-eq0-clause-nothing g c e = absurd (omega (arith, ap length e))
-
-pub returns-in-Err-clause-nothing : goal.returns-in-Err-clause-nothing
-returns-in-Err-clause-nothing g c e = absurd (omega (arith, ap length e))
-
 pub returns-in-Err-clause-err : goal.returns-in-Err-clause-err
 returns-in-Err-clause-err g c =
     AppendsStart-at _ _ c.args.bytes.now c.loop-done.done c.loop-done-test.true

@@ -61,20 +61,20 @@ loop-end-preserved g c =
     let i = c.loop-end.invariant in
     let ends : EndsAt c.loop-end.rest.now c.in-Some.end = line-found c.loop-end.rest.now (Some c.in-Some.end)
     c.in-Some.ensures in
-    line_is_answered _ i.0 c.loop-end.rest.now c.in-Some.end _ _ _ _ _ _ _ _ _ _ i.1 ends c.extend.ensures c.clear.ensures i.2
-    c.in_ok-answer_line.ensures.ok
+    line_is_answered _ i.0 c.loop-end.rest.now c.in-Some.end _ _ _ _ _ _ _ _ _ _ i.1 ends refl
+    c.in_ok-end_line.ensures.next i.2 c.in_ok-end_line.ensures.ok
 
 pub returns-clause-ok : goal.returns-clause-ok
 returns-clause-ok g c =
     let i = c.loop-end.invariant in
     let one : IsOneLine c.loop-end.rest.now = line-found c.loop-end.rest.now None c.in_default.ensures in
-    rest_is_kept _ i.0 c.loop-end.rest.now _ _ _ _ _ _ _ i.1 one c.extend-2.ensures i.2
+    rest_is_kept _ i.0 c.loop-end.rest.now _ _ _ _ _ _ _ i.1 one c.extend.ensures i.2
 
-pub returns-in_err-answer_line-clause-err : goal.returns-in_err-answer_line-clause-err
-returns-in_err-answer_line-clause-err g c =
+pub returns-in_err-end_line-clause-err : goal.returns-in_err-end_line-clause-err
+returns-in_err-end_line-clause-err g c =
     let p = err_from_is_err_and c.from_residual.result c.from_residual.ensures.1 in
     let i = c.loop-end.invariant in
     let ends : EndsAt c.loop-end.rest.now c.in-Some.end = line-found c.loop-end.rest.now (Some c.in-Some.end)
     c.in-Some.ensures in
-    rw p.1 (line_is_cut_off _ i.0 c.loop-end.rest.now c.in-Some.end _ _ _ _ _ _ _ _ i.1 ends c.extend.ensures i.2
-    c.in_err-answer_line.ensures.err)
+    rw p.1 (line_is_cut_off _ i.0 c.loop-end.rest.now c.in-Some.end _ _ _ _ _ _ _ _ i.1 ends refl i.2
+    c.in_err-end_line.ensures.err)
