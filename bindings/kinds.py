@@ -1,6 +1,6 @@
 #!/usr/bin/env python3
 """Writes the kinds of items into the header and into the Rust crate, from the code: `item.rt` of movaliren_c has their
-numbers and what each reads of an item, and `component.rt` of time_below says what each is.
+numbers and the choices of each, and `component.rt` of time_below documents each.
 
     bindings/kinds.py           writes both
     bindings/kinds.py --check   ends with status 1 where one is not what would be written
@@ -16,16 +16,16 @@ ITEM = CRATES / "movaliren_c/src/item.rt"
 COMPONENT = CRATES / "time_below/src/format_description/component.rt"
 HEADER = HERE / "c/movaliren.h"
 RUST = HERE / "rust/src/description.rs"
-# The words of a component's name that a kind has not, or has otherwise.
+# Words of a component's name, and those of the kind in their place.
 SHORTER = [
     ("CalendarYearCentury", "Century"), ("IsoYearCentury", "IsoCentury"), ("CalendarYear", "Year"), ("YearFull", "Year"),
     ("ExtendedRange", "Extended"), ("StandardRange", ""), ("WeekdaySunday", "WeekdayFromSunday"),
     ("WeekdayMonday", "WeekdayFromMonday"), ("WeekNumber", "Week"), ("Numerical", ""), ("Hour24", "Hour"),
     ("UnixTimestamp", "Unix"),
 ]
-# What the header says of a choice that an item has.
+# The header's words for the choices of an item.
 CHOICES = {
-    "padding": "padding", "sign_is_mandatory: flag": "flag: a plus too", "one_indexed: flag": "flag: from 1 on",
+    "padding": "padding", "sign_is_mandatory: flag": "flag: always a sign", "one_indexed: flag": "flag: counted from 1",
     "is_uppercase: flag": "flag: upper case", "digits": "digits",
 }
 
@@ -34,8 +34,8 @@ def kinds():
     """Each component with its number and its choices, by the number."""
     arm = r"(\d+) => Ok\(Component::(\w+)\(\s*modifier::\w+ \{(.*?)\}"
     found = re.findall(arm, ITEM.read_text(), re.S)
-    read = lambda told: [CHOICES[choice] for choice in re.split(r",\s*", told.strip(" \n,")) if choice in CHOICES]
-    return sorted((int(number), name, read(told)) for number, name, told in found)
+    read = lambda choices: [CHOICES[choice] for choice in re.split(r",\s*", choices.strip(" \n,")) if choice in CHOICES]
+    return sorted((int(number), name, read(choices)) for number, name, choices in found)
 
 
 def short(name):
@@ -56,15 +56,15 @@ def in_header():
             run.append((code, comment))
             continue
         width = max((len(before) for before, _ in run), default=0)
-        lines += [f"{before:{width}} /* {told} */" for before, told in run] + [code]
+        lines += [f"{before:{width}} /* {choices} */" for before, choices in run] + [code]
         run = []
     return "enum movaliren_kind {\n" + "\n".join(lines) + "};"
 
 
 def in_rust():
     """The enum with what is said of each component."""
-    said = {name: told for told, name in re.findall(r"((?:    ///[^\n]*\n)+)    (\w+)\(", COMPONENT.read_text())}
-    rows = [f"{said[name]}    {short(name)} = {number},\n" for number, name, _ in kinds()]
+    docs = {name: doc for doc, name in re.findall(r"((?:    ///[^\n]*\n)+)    (\w+)\(", COMPONENT.read_text())}
+    rows = [f"{docs[name]}    {short(name)} = {number},\n" for number, name, _ in kinds()]
     return "pub enum Kind {\n" + "".join(rows) + "}"
 
 

@@ -1,23 +1,33 @@
 #!/usr/bin/env python3
-"""Compares what crosses the border in its three interfaces: the Rattle crate, the C header, the Rust crate.
+"""Compares the interface as the Rattle crate, the C header and the Rust crate declare it.
 
-Numbers of reasons, of kinds and of choices; the texts of reasons; fields of structs, in order, with their types;
-functions, with their parameters in order and the types of these and of the answer; the version; and whether
-`bindings/counts` counts each function. Prints each difference, and ends with status 1 if there is one. `names.py --drifts` instead makes one change in each place where
-one may drift, and ends with status 1 if a change is not told. `names.py --functions` prints the names of the header's
-functions."""
+Numbers of reasons, of kinds and of choices; the texts of reasons; the greatest lengths of texts; fields of structs, in
+order, with their types; functions, with their parameters in order and the types of these and of the result; and the
+version. Also whether the header declares each name that it, the C programs and the documents use, and whether
+`bindings/counts` counts each function. Prints each difference, and ends with status 1 if there is one.
 
+    names.py --drifts      makes one change at a time in the names, numbers, texts and types, and ends with status 1 if
+                           a change makes no difference
+    names.py --functions   prints the names of the header's functions
+"""
+
+import functools
 import pathlib
 import re
 import sys
 
 HERE = pathlib.Path(__file__).resolve().parent
-CRATE = HERE.parent / "crates/movaliren_c"
+TOP = HERE.parent
+CRATE = TOP / "crates/movaliren_c"
 HEADER = HERE / "c/movaliren.h"
 RUST = HERE / "rust/src"
 CARGO = HERE / "rust/Cargo.toml"
 COUNTED = HERE / "c/clock.cpp"
 
+COMMENTS = {
+    ".h": r"/\*.*?\*/", ".cpp": r"//[^\n]*", ".rs": r"//[^\n]*", ".rt": r"//[^\n]*", ".antt": r"--[^\n]*",
+    ".toml": r"#[^\n]*",
+}
 TYPES = {
     "int8_t": "i8", "uint8_t": "u8", "int32_t": "i32", "uint32_t": "u32", "int64_t": "i64",
     "size_t": "usize", "ptrdiff_t": "isize",
@@ -29,250 +39,338 @@ STRUCTS = {
     "progress": "Progress",
 }
 # The enums of a configuration and of an item: in the header, in the Rust crate, and the Rattle function that reads
-# their numbers.
+# their numbers. The header has no enum for the last two.
 CHOICES = [
     ("components", "Parts", "components_at"),
     ("date_kind", "DateKind", "date_kind_at"),
     ("precision", "TimePrecision", "precision_at"),
+    ("precision", "OffsetPrecision", "offset_precision_at"),
     ("padding", "Padding", "padding_at"),
+    (None, "DecimalSign", "sign_at"),
+    (None, "SubsecondDigits", "digits_at"),
 ]
+# The greatest lengths of texts, by their names in the specs of time_known. A stamp is of the default of ISO 8601.
+WIDTHS = {
+    "rfc3339_width": "rfc3339", "rfc2822_width": "rfc2822", "stamp_width": "iso8601", "stamp_length": "stamp",
+}
+# A crate, a variable of the environment, and the mark of the header.
+NOT_IN_HEADER = {"movaliren_c", "MOVALIREN_LIB", "MOVALIREN_H"}
 
 
 def read():
-    """The texts of the three interfaces, by their paths."""
-    paths = [*CRATE.glob("src/**/*.rt"), *CRATE.glob("specs/*.antt"), HEADER, CARGO, COUNTED, *RUST.glob("*.rs")]
+    """The texts that are compared, by their paths."""
+    paths = [
+        HEADER, CARGO, HERE / "c/expect.h", *HERE.glob("c/*.c"), *HERE.glob("c/*.cpp"), *RUST.glob("*.rs"),
+        *CRATE.glob("src/**/*.rt"), *CRATE.glob("specs/*.antt"), TOP / "README.md", *TOP.glob("docs/*.md"),
+        *(TOP / f"crates/time_known/specs/{name}.antt" for name in ("Rfc3339", "Rfc2822", "Stamps")),
+    ]
     return {path: path.read_text() for path in sorted(paths)}
 
 
+# A change is in one text, so what was found in the others is kept.
+kept = functools.lru_cache(maxsize=5000)
+
+
+@kept
 def words(name):
     """OffsetHours, OFFSET_HOURS and offset_hours are one name."""
     return re.sub(r"[^a-z0-9]", "", name.lower())
 
 
-def joined(texts, suffix, without):
-    return "\n".join(re.sub(without, "", text, flags=re.S) for path, text in texts.items() if path.suffix == suffix)
+@kept
+def code(text, suffix):
+    """The text with spaces in the place of its comments."""
+    return re.sub(COMMENTS[suffix], lambda found: re.sub(r"[^\n]", " ", found[0]), text, flags=re.S)
 
 
-def braces(text, head):
+@kept
+def found_in(pattern, text):
+    return re.findall(pattern, text, re.S | re.M)
+
+
+def findall(pattern, *texts):
+    return [found for text in texts for found in found_in(pattern, text)]
+
+
+def only(pattern, *texts):
+    """The first match of the pattern, or of its group."""
+    for found in findall(pattern, *texts):
+        return found
+    raise LookupError(f"nothing of the form {pattern}")
+
+
+def braces(head, *texts):
     """What stands between the braces after the head."""
-    found = re.search(head + r"\s*\{(.*?)\n?\}", text, re.S)
-    if not found:
-        raise SystemExit(f"names.py: nothing of the form {head}")
-    return found[1]
+    return only(head + r"\s*\{(.*?)\n?\}", *texts)
 
 
-class Tellings:
+def numbers(pattern, *texts):
+    return {words(name): int(number) for name, number in findall(pattern, *texts)}
+
+
+def c_type(declared):
+    """A type of the header in the words of Rust. One that the other interfaces cannot have stays."""
+    declared = declared.replace("struct movaliren_", "").strip()
+    base = declared.removeprefix("const ").rstrip("* ")
+    if "*" not in declared:
+        return STRUCTS.get(base) or TYPES.get(base, base)
+    base = STRUCTS.get(base) or POINTED.get(base, base)
+    return ("*const " if declared.startswith("const ") else "*mut ") + base
+
+
+@kept
+def c_functions(text):
+    found = findall(r"((?:\bstruct )?\b\w+) (movaliren_\w+)\(([^)]*)\);", text)
+    split = lambda parameter: re.fullmatch(r"\s*(.*?)(\w+)\s*", parameter, re.S).groups()
+    return {
+        name: ([(parameter, c_type(kind)) for kind, parameter in map(split, all.split(","))], c_type(result))
+        for result, name, all in found
+    }
+
+
+@kept
+def rattle_functions(*texts):
+    """A slice is a pointer and a length in C, a reference a pointer, and `Global` nothing."""
+    functions = {}
+    for name, all, result in findall(r'extern "C" fn (movaliren_\w+)\((.*?)\)\s*->\s*(\w+)', *texts):
+        parameters = []
+        for parameter, kind in re.findall(r"(\w+): ([^,]+)", all):
+            kind = kind.strip()
+            reference = re.fullmatch(r"&(mut )?(\[)?(\w+)\]?", kind)
+            if reference:
+                parameters.append((parameter, ("*mut " if reference[1] else "*const ") + reference[3]))
+                if reference[2]:
+                    parameters.append((f"{parameter}_len", "usize"))
+            elif kind != "Global":
+                parameters.append((parameter, kind))
+        functions[name] = (parameters, result)
+    return functions
+
+
+@kept
+def rust_functions(*texts):
+    found = findall(r"pub\(super\) fn (movaliren_\w+)\((.*?)\)\s*->\s*(\w+);", *texts)
+    return {name: (re.findall(r"(\w+): ([^,]+?)\s*(?:,|$)", all), result) for name, all, result in found}
+
+
+class Interfaces:
     def __init__(self, texts):
-        self.rattle = joined(texts, ".rt", r"//[^\n]*")
-        self.specs = joined(texts, ".antt", r"--[^\n]*")
-        self.c = joined(texts, ".h", r"/\*.*?\*/")
-        self.rust = joined(texts, ".rs", r"//[^\n]*")
-        self.cargo = joined(texts, ".toml", r"#[^\n]*")
-        self.counted = joined(texts, ".cpp", r"//[^\n]*")
+        of = {suffix: [] for suffix in (*COMMENTS, ".c", ".md")}
+        for path, text in texts.items():
+            of[path.suffix].append(code(text, path.suffix) if path.suffix in (".rt", ".antt", ".rs") else text)
+        self.rattle, self.specs, self.rust = of[".rt"], of[".antt"], of[".rs"]
+        self.users = of[".h"] + of[".c"] + of[".cpp"] + of[".md"]
+        self.c, self.cargo, self.counted = (code(texts[path], path.suffix) for path in (HEADER, CARGO, COUNTED))
         self.differences = []
 
     def same(self, what, *interfaces):
         if any(interface != interfaces[0] for interface in interfaces):
             self.differences.append("\n".join([f"{what} differs:", *(f"    {interface}" for interface in interfaces)]))
 
-    def numbers(self, text, pattern):
-        return {words(name): int(number) for name, number in re.findall(pattern, text)}
-
     def reasons(self):
-        rust = {words(name): int(number) for number, name in re.findall(r"(-\d+) => Error::(\w+),", self.rust)}
-        specs = self.numbers(self.specs, r"reason_number reason\.(\w+) = neg_ℤ \(pos (\d+)\)")
+        rust = {words(name): int(number) for number, name in findall(r"(-\d+) => Error::(\w+),", *self.rust)}
+        specs = numbers(r"reason_number reason\.(\w+) = neg_ℤ \(pos (\d+)\)", *self.specs)
         self.same(
             "a reason",
-            self.numbers(self.rattle, r"Reason::(\w+) => (-\d+),"),
-            self.numbers(self.c, r"MOVALIREN_ERROR_(\w+) = (-\d+)"),
+            numbers(r"Reason::(\w+) => (-\d+),", *self.rattle),
+            numbers(r"MOVALIREN_ERROR_(\w+) = (-\d+)", self.c),
             rust,
             {name: -number for name, number in specs.items()},
         )
 
     def texts(self):
-        c = re.findall(r'case MOVALIREN_ERROR_(\w+):\s*return ("[^"]*");', self.c)
-        rust = re.findall(r'Error::(\w+) => \{?\s*("[^"]*")', self.rust)
+        c = findall(r'case MOVALIREN_ERROR_(\w+):\s*return ("[^"]*");', self.c)
+        rust = findall(r'Error::(\w+) => \{?\s*("[^"]*")', *self.rust)
         here = {words(name): text for name, text in rust}
         self.same("the text of a reason", {words(name): text for name, text in c}, here)
-        self.same("the set of texts", sorted(here), sorted(self.numbers(self.c, r"MOVALIREN_ERROR_(\w+) = (-\d+)")))
+        self.same("the set of texts", sorted(here), sorted(numbers(r"MOVALIREN_ERROR_(\w+) = (-\d+)", self.c)))
+        unknown = findall(r'Error::Unknown\(_\) => ("[^"]*")', *self.rust)
+        self.same("the text of another number", findall(r'reason < 0 \? ("[^"]*")', self.c), unknown)
+
+    def lengths(self):
+        rust = numbers(r"\b(\w+) over [\w, ]+: (\d+) bytes;", *self.rust)
+        for name in ("rfc3339", "rfc2822"):
+            self.same(f"the greatest length of {name} at an offset", rust.pop(f"{name}local", None), rust.get(name))
+        specs = numbers(rf"^({'|'.join(WIDTHS)}) = (\d+)$", *self.specs)
+        self.same("the greatest length of a text", {WIDTHS[name]: specs.get(words(name)) for name in WIDTHS}, rust)
+        rust["iso8601by"] = sum(255 + int(number) for number in findall(r"(\d+) \+ self\.0\.decimals", *self.rust))
+        self.same("the length of a buffer", numbers(r"MOVALIREN_(\w+)_ROOM = (\d+)", self.c), rust)
+        self.same("the array of a stamp", [rust.get("stamp")], [int(n) for n in findall(r"\[u8; (\d+)\]", *self.rust)])
 
     def version(self):
         self.same(
             "the version",
-            re.findall(r'#define MOVALIREN_VERSION ("[^"]*")', self.c),
-            re.findall(r'^version = ("[^"]*")', self.cargo, re.M),
+            findall(r'#define MOVALIREN_VERSION ("[^"]*")', self.c),
+            findall(r'^version = ("[^"]*")', self.cargo),
         )
 
     def header_numbers(self, enum):
-        found = self.numbers(braces(self.c, f"enum movaliren_{enum}"), r"MOVALIREN_(?:ISO_)?(\w+) = (\d+)")
+        found = numbers(r"MOVALIREN_(?:ISO_)?(\w+) = (\d+)", braces(f"enum movaliren_{enum}", self.c))
         if not found:
-            raise SystemExit(f"names.py: enum movaliren_{enum} has no numbers")
+            raise LookupError(f"enum movaliren_{enum} has no numbers")
         return found
 
     def kinds(self):
-        body = braces(self.c, "enum movaliren_kind")
-        header = self.numbers(body, r"MOVALIREN_(\w+) = (\d+)")
-        header.pop("text")
-        self.same("a kind", header, self.numbers(braces(self.rust, "enum Kind"), r"(\w+) = (\d+)"))
+        body = braces("enum movaliren_kind", self.c)
+        header = numbers(r"MOVALIREN_(\w+) = (\d+)", body)
+        self.same(
+            "the kind of a text",
+            findall(r"MOVALIREN_TEXT = (\d+)", self.c),
+            findall(r"\bkind: (\d+)", *self.rust),
+            findall(r"\bif i\.kind == (\d+)", *self.specs),
+        )
+        header.pop("text", None)
+        self.same("a kind", header, numbers(r"(\w+) = (\d+)", braces("enum Kind", *self.rust)))
         # The Rattle crate has longer names; each kind has one number in the header's order.
-        code = re.findall(r"(\d+) => Ok\(Component::(\w+)\(", self.rattle)
-        specs = re.findall(r"k == (\d+) then Ok \(component\.(\w+)", self.specs)
-        self.same("a component", code, specs)
-        self.same("the number of a kind", sorted(header.values()), sorted(int(number) for number, _ in code))
+        rattle = findall(r"(\d+) => Ok\(Component::(\w+)\(", *self.rattle)
+        specs = findall(r"k == (\d+) then Ok \(component\.(\w+)", *self.specs)
+        self.same("a component", rattle, specs)
+        self.same("the number of a kind", sorted(header.values()), sorted(int(number) for number, _ in rattle))
         names = {number: name for name, number in header.items()}
-        for number, name in code:
-            told = names.get(int(number), "")
-            self.same(f"the component of kind {number}", self.short_name(told), self.short_name(words(name)))
+        for number, name in rattle:
+            short = self.short_name(names.get(int(number), ""))
+            self.same(f"the component of kind {number}", short, self.short_name(words(name)))
 
     @staticmethod
     def short_name(name):
         """Without the words that the header leaves out, or the Rattle crate."""
-        for word in ("calendaryear", "year", "full", "standardrange", "range", "numerical", "number", "timestamp", "24", "from"):
+        left_out = (
+            "calendaryear", "year", "full", "standardrange", "range", "numerical", "number", "timestamp", "24", "from",
+        )
+        for word in left_out:
             name = name.replace(word, "")
         return name
 
     def choices(self):
         for enum, name, reader in CHOICES:
-            header = self.header_numbers(enum)
-            rust = self.numbers(braces(self.rust, f"enum {name}"), r"(\w+) = (\d+)")
-            if enum == "components":
-                header.pop("none")
-            self.same(f"movaliren_{enum}", header, rust)
-            body = re.search(rf"fn {reader}\(.*?\n\}}", self.rattle, re.S)[0]
-            code = {words(choice): int(number) for number, choice in re.findall(r"(\d+) => Ok\(\w+::(\w+)", body)}
-            if enum == "components":
-                code.pop("none")
-            if enum == "padding":
-                code["nopadding"] = code.pop("none")
-            self.same(f"{reader}", header, code)
+            rust = numbers(r"(\w+) = (\d+)", braces(f"enum {name}", *self.rust))
+            body = only(rf"^fn {reader}\(.*?\n\}}", *self.rattle)
+            rattle = {words(choice): int(number) for number, choice in findall(r"(\d+) => Ok\(\w+::(\w+)", body)}
+            if name == "Padding":
+                rattle["nopadding"] = rattle.pop("none", None)
+            header = self.header_numbers(enum) if enum else rattle
+            if name == "OffsetPrecision":
+                header = {choice: number for choice, number in header.items() if choice in rust}
+            self.same(reader, header, rattle)
+            if name == "Parts":
+                # The Rust crate cannot name the configuration that writes nothing.
+                header.pop("none", None)
+            self.same(f"enum {name}", header, rust)
+        flags = findall(r"(\d+) => Ok\((true|false)\)", *self.rattle)
+        self.same("a flag", [("0", "false"), ("1", "true")] * (len(flags) // 2), flags)
 
     def structs(self):
+        field = r"(?:pub(?:\(\w+\))? )?(\w+): (\w+),"
         for header, name in STRUCTS.items():
-            body = braces(self.c, f"struct movaliren_{header}")
-            fields = [(field, TYPES[kind]) for kind, field in re.findall(r"(\w+) (\w+);", body)]
-            field = r"(?:pub(?:\(\w+\))? )?(\w+): (\w+),"
-            rust = self.rust[self.rust.index("mod library"):] if name == "Progress" else self.rust
+            fields = findall(r"(\w+) (\w+);", braces(f"struct movaliren_{header}", self.c))
+            head = rf"#\[repr\(C\)\][^{{]*struct {name}"
             self.same(
                 f"struct {name}",
-                re.findall(field, braces(self.rattle, rf"#\[repr\(C\)\][^{{]*struct {name}")),
-                fields,
-                re.findall(field, braces(rust, rf"#\[repr\(C\)\][^{{]*struct {name}")),
+                findall(field, braces(head, *self.rattle)),
+                [(field, TYPES.get(kind, kind)) for kind, field in fields],
+                findall(field, braces(head, *self.rust)),
             )
 
-    @staticmethod
-    def c_type(told):
-        """A type of the header in the words of Rust."""
-        told = told.replace("struct movaliren_", "").strip()
-        base = told.removeprefix("const ").rstrip("* ")
-        if "*" not in told:
-            return STRUCTS.get(base) or TYPES[base]
-        # A pointer to any other type is as no interface has it.
-        base = STRUCTS.get(base) or POINTED.get(base, base)
-        return ("*const " if told.startswith("const ") else "*mut ") + base
-
-    def c_functions(self):
-        found = re.findall(r"((?:struct )?\w+) (movaliren_\w+)\(([^)]*)\);", self.c)
-        split = lambda told: re.fullmatch(r"\s*(.*?)(\w+)\s*", told, re.S).groups()
-        return {
-            name: ([(parameter, self.c_type(kind)) for kind, parameter in map(split, told.split(","))], self.c_type(answer))
-            for answer, name, told in found
-        }
-
-    def rattle_functions(self):
-        """Slices cross as a pointer and a length, references as pointers, and `Global` takes no bytes."""
-        functions = {}
-        for name, told, answer in re.findall(r'extern "C" fn (movaliren_\w+)\((.*?)\)\s*->\s*(\w+)', self.rattle, re.S):
-            parameters = []
-            for parameter, kind in re.findall(r"(\w+): ([^,]+)", told):
-                kind = kind.strip()
-                reference = re.fullmatch(r"&(mut )?(\[)?(\w+)\]?", kind)
-                if reference:
-                    parameters.append((parameter, ("*mut " if reference[1] else "*const ") + reference[3]))
-                    if reference[2]:
-                        parameters.append((f"{parameter}_len", "usize"))
-                elif kind != "Global":
-                    parameters.append((parameter, kind))
-            functions[name] = (parameters, answer)
-        return functions
-
-    def rust_functions(self):
-        found = re.findall(r"pub\(super\) fn (movaliren_\w+)\((.*?)\)\s*->\s*(\w+);", self.rust, re.S)
-        return {name: (re.findall(r"(\w+): ([^,]+?)\s*(?:,|$)", told), answer) for name, told, answer in found}
-
     def functions(self):
-        interfaces = [self.rattle_functions(), self.c_functions(), self.rust_functions()]
+        interfaces = [rattle_functions(*self.rattle), c_functions(self.c), rust_functions(*self.rust)]
         self.same("the set of functions", *(sorted(interface) for interface in interfaces))
         for name in interfaces[0]:
             self.same(name, *(interface.get(name) for interface in interfaces))
-        return len(interfaces[0])
+
+    def uses(self):
+        declared = findall(
+            r"#define (MOVALIREN_\w+)|\b(MOVALIREN_\w+) = -?\d|^(?:enum|struct) (movaliren_\w+) \{"
+            r"|^(?:static inline )?(?:const )?(?:struct )?\w+ \*?(movaliren_\w+)\(", self.c)
+        used = set(findall(r"\b(?:MOVALIREN|movaliren)_\w*[A-Za-z0-9]\b", *self.users))
+        self.same("what is not in the header", set(), used - {"".join(names) for names in declared} - NOT_IN_HEADER)
 
     def counts(self):
-        calls = set(re.findall(r"movaliren_\w+(?=\()", self.counted))
-        self.same("what bindings/counts counts", [], sorted(set(self.c_functions()) - calls))
+        calls = set(findall(r"movaliren_\w+(?=\()", self.counted))
+        self.same("what bindings/counts counts", [], sorted(set(c_functions(self.c)) - calls))
 
-    def compared(self):
-        self.reasons()
-        self.texts()
-        self.version()
-        self.kinds()
-        self.choices()
-        self.structs()
-        self.functions()
-        self.counts()
+    def compared(self, stops=False):
+        """All differences, or those of the first check that has one."""
+        checks = (
+            self.functions, self.uses, self.structs, self.kinds, self.choices, self.reasons, self.texts, self.lengths,
+            self.version, self.counts,
+        )
+        for check in checks:
+            try:
+                check()
+            except LookupError as missing:
+                self.differences.append(str(missing))
+            if stops and self.differences:
+                break
         return self.differences
 
 
-# One change in each place: the file, what stands there, and what is to stand there.
-DRIFTS = [
-    (CRATE / "src/reason.rt", "Reason::NoRoom => -20", "Reason::NoRoom => -23"),
-    (CRATE / "src/moment.rt", "pub minute: u8,\n    pub second: u8,", "pub second: u8,\n    pub minute: u8,"),
-    (CRATE / "src/moment.rt", "pub seconds: i64", "pub seconds: i32"),
-    (CRATE / "src/item.rt", "25 => Ok(Component::Minute(", "25 => Ok(Component::Second("),
-    (CRATE / "src/item.rt", "1 => Ok(Padding::Space)", "2 => Ok(Padding::Space)"),
-    (CRATE / "src/iso8601/config.rt", "1 => Ok(DateKind::Week)", "1 => Ok(DateKind::Ordinal)"),
-    (CRATE / "src/iso8601/config.rt", "pub comma: u8", "pub point: u8"),
-    (CRATE / "src/stamp.rt", "seconds: i64, nanosecond: u32, room", "nanosecond: u32, seconds: i64, room"),
-    (CRATE / "src/local.rt", "nanosecond: u32,\n    offset: i64", "offset: i64,\n    nanosecond: u32"),
-    (CRATE / "specs/Answer.antt", "reason.Day = neg_ℤ (pos 3)", "reason.Day = neg_ℤ (pos 4)"),
-    (HEADER, "MOVALIREN_ERROR_BAD_ITEM = -19", "MOVALIREN_ERROR_BAD_ITEM = -18"),
-    (HEADER, "MOVALIREN_WEEK_ISO = 10", "MOVALIREN_WEEK_ISO = 11"),
-    (HEADER, "MOVALIREN_ISO_ORDINAL = 2", "MOVALIREN_ISO_ORDINAL = 3"),
-    (HEADER, "size_t bytes;", "ptrdiff_t bytes;"),
-    (HEADER, "int32_t year, uint8_t month, uint8_t day", "int32_t year, uint8_t day, uint8_t month"),
-    (HEADER, "void *room", "uint8_t *room"),
-    (HEADER, "const void *texts", "void *texts"),
-    (HEADER, "the hour is outside 0 to 23", "the hour is outside 1 to 24"),
-    (HEADER, '#define MOVALIREN_VERSION "0.', '#define MOVALIREN_VERSION "1.'),
-    (COUNTED, "movaliren_format_date(", "movaliren_format_utc("),
-    (RUST / "error.rs", '"out of memory"', '"memory was refused"'),
-    (RUST / "error.rs", "-8 => Error::OffsetHours", "-9 => Error::OffsetHours"),
-    (RUST / "description.rs", "Period = 26", "Period = 28"),
-    (RUST / "config.rs", "TimeOffset = 6", "TimeOffset = 7"),
-    (RUST / "raw.rs", "pub(crate) digits: u8,\n    pub(crate) unused: u8,", "pub(crate) unused: u8,\n    pub(crate) digits: u8,"),
-    (RUST / "raw.rs", "fn movaliren_stamp_batch(\n            moments: *const UtcMoment", "fn movaliren_stamp_batch(\n            moments: *const Moment"),
+TYPE = r"\b(?:[iu]\d+|[iu]size)\b"
+EXPORTS = r'extern "C" fn movaliren_\w+\(.*?\)\s*->\s*\w+'
+STRUCT = r"#\[repr\(C\)\].*?\n\}"
+ENUM = r"^pub enum .*?\n\}"
+# What follows in the header is there alone.
+SHARED = r"^struct movaliren_moment .*^struct movaliren_description "
+# The places of changes: a file, the parts of it, and what is changed there.
+PLACES = [
+    ("movaliren.h", r".*", r"\b(?:MOVALIREN|movaliren)_\w+(?<!MOVALIREN_H)"),
+    ("movaliren.h", r".*", r'(?<=return )"[^"]+"|(?<=\? )"[^"]+"|(?<=VERSION )"[^"]+"'),
+    ("movaliren.h", r".*", r"\bMOVALIREN_\w+ = -?\d+"),
+    ("movaliren.h", SHARED, r"(?<=_t )\w+(?=[;,)])|(?<=\*)\w+(?=[;,)])|\b\w+_t(?= \w+[;,)(])|\bconst "),
+    ("clock.cpp", r".*", r"movaliren_format_date(?=\()"),
+    ("Cargo.toml", r".*", r'(?<=^version = )"[^"]+"'),
+    ("error.rs", r".*", r'-\d+(?= =>)|(?<=Error::)\w+(?= =>|,$)|(?<!= )"[^"]+"'),
+    ("description.rs", ENUM, r"^    [A-Z]\w+(?= = )|(?<= = )\d+(?=,$)"),
+    ("config.rs", ENUM, r"^    [A-Z]\w+(?= = )|(?<= = )\d+(?=,$)"),
+    ("config.rs", r".*", r"\d+(?= \+ self\.0\.decimals)"),
+    ("known.rs", r".*", r"\d+(?= bytes;)|(?<=\[u8; )\d+"),
+    ("moment.rs", STRUCT, rf"\w+(?=: )|{TYPE}"),
+    ("raw.rs", STRUCT, rf"\w+(?=: )|{TYPE}"),
+    ("raw.rs", r"fn movaliren_\w+\(.*?;", rf"movaliren_\w+|\w+(?=: )|{TYPE}|\b[A-Z]\w+"),
+    ("reason.rt", r".*", r"(?<=Reason::)\w+(?= => -)|-\d+(?=,$)"),
+    ("item.rt", r".*", r"\d+(?= => Ok)|(?<=Ok\()(?:Component|Padding|SubsecondDigits)::\w+|(?<=Ok\()(?:true|false)"),
+    ("config.rt", r".*", r"\d+(?= => Ok)|(?<=Ok\()(?:\w+::\w+|true|false)"),
+    ("*.rt", STRUCT, rf"\w+(?=: )|{TYPE}"),
+    ("*.rt", EXPORTS, rf"movaliren_\w+|\b(?!alloc\b)\w+(?=: )|{TYPE}|\bmut |(?<=[&\[])[A-Z]\w+|Progress"),
+    ("Answer.antt", r"^reason_number [^\n]*", r"(?<=reason\.)\w+|\d+(?=\)$)"),
+    ("Items.antt", r".*", r"\d+(?= then Ok \(component)|(?<=Ok \(component\.)\w+|(?<=i\.kind == )\d+"),
+    ("*.antt", rf"^(?:{'|'.join(WIDTHS)}) = .*?$", r"\d+$"),
 ]
 
 
-def renamed(texts):
-    """Each function by another name, in each interface."""
-    for name in Tellings(texts).c_functions():
-        for suffix, head in (".rt", "fn "), (".h", "ptrdiff_t "), (".h", "movaliren_progress "), (".rs", "fn "):
-            for path, text in texts.items():
-                if path.suffix == suffix and f"{head}{name}(" in text:
-                    yield path, f"{head}{name}(", f"{head}{name}_too("
+def changed(word):
+    """Another name, number or text; or nothing, in the place of a word with the space after it."""
+    if word.endswith(" "):
+        return ""
+    return f'{word[:-1]}7"' if word.endswith('"') else f"{word}7"
+
+
+def changes(texts):
+    """Each change: the path, where it is made, and what stands there then."""
+    for name, part, pattern in PLACES:
+        count = 0
+        for path, text in texts.items():
+            if not path.match(name):
+                continue
+            plain = code(text, path.suffix)
+            for region in re.finditer(part, plain, re.S | re.M):
+                for found in re.compile(pattern, re.M).finditer(plain, *region.span()):
+                    yield path, found.span(), changed(found[0])
+                    count += 1
+        if count == 0:
+            raise SystemExit(f"names.py: {name} has nothing of the form {pattern}")
 
 
 def try_drifts(texts):
-    drifts = [*DRIFTS, *renamed(texts)]
-    missed = 0
-    for path, old, new in drifts:
-        if texts[path].count(old) == 0:
-            print(f"{path.name} has nothing of the form {old!r}")
+    seen = missed = 0
+    for path, (start, end), new in changes(texts):
+        text = texts[path]
+        if Interfaces({**texts, path: text[:start] + new + text[end:]}).compared(stops=True):
+            seen += 1
+        else:
             missed += 1
-        elif not Tellings({**texts, path: texts[path].replace(old, new, 1)}).compared():
-            print(f"{path.name}: {new!r} was not told")
-            missed += 1
-    print(f"names: {len(drifts) - missed} of {len(drifts)} drifts are told")
+            line = text.count("\n", 0, start) + 1
+            print(f"{path.name}:{line}: {text[start:end]!r} as {new!r} makes no difference")
+    print(f"names: {seen} of {seen + missed} changes make a difference")
     return missed
 
 
@@ -281,9 +379,9 @@ def main():
     if sys.argv[1:] == ["--drifts"]:
         return try_drifts(texts) != 0
     if sys.argv[1:] == ["--functions"]:
-        print("\n".join(sorted(Tellings(texts).c_functions())))
+        print("\n".join(sorted(c_functions(code(texts[HEADER], ".h")))))
         return 0
-    differences = Tellings(texts).compared()
+    differences = Interfaces(texts).compared()
     print("\n".join(differences or ["names: the three interfaces are the same"]))
     return bool(differences)
 

@@ -159,12 +159,43 @@ static void try_building(void)
             }
 }
 
+/* Each choice of an item that is added is its own. */
+static void try_choices(void)
+{
+    static const struct movaliren_moment moment = MOMENT(1997, 11, 2, 9, 55, 6, 120000000, 0, 0, 0);
+    struct movaliren_item items[4];
+    char texts[3], text[16];
+    struct movaliren_description line = MOVALIREN_DESCRIPTION(items, texts);
+    movaliren_add(&line, MOVALIREN_DAY, MOVALIREN_SPACE, 0, 0);
+    movaliren_add(&line, MOVALIREN_PERIOD, MOVALIREN_ZERO, 1, 0);
+    movaliren_add(&line, MOVALIREN_SUBSECOND, MOVALIREN_ZERO, 0, 3);
+    movaliren_add_bytes(&line, "a\0b", 3);
+    ptrdiff_t n = movaliren_format(
+        items, line.items_len, texts, line.texts_len, &moment, text, sizeof text);
+    if (line.reason || n != 10 || memcmp(text, " 2AM120a\0b", 10)) {
+        failures++;
+        printf("choices: answer %td\n", n);
+    }
+}
+
+static void try_error_texts(void)
+{
+    if (strcmp(movaliren_error_text(MOVALIREN_ERROR_DAY), "the month has no such day")
+        || strcmp(movaliren_error_text(-100), "unknown error")
+        || strcmp(movaliren_error_text(0), "no error")) {
+        failures++;
+        puts("a reason has another text");
+    }
+}
+
 int main(void)
 {
     try_descriptions();
     try_the_empty_description();
     try_widths();
     try_building();
+    try_choices();
+    try_error_texts();
     printf("descriptions: %d wrong\n", failures);
     return failures != 0;
 }

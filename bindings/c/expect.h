@@ -49,7 +49,7 @@ static void expect_text(writer *write, const void *format, const void *value, co
     for (ptrdiff_t less = 0; less < len; less++)
         if (called(write, format, value, buffer, (size_t)less) != MOVALIREN_ERROR_NO_ROOM) {
             failures++;
-            printf("%s: taken with room of %td\n", text, less);
+            printf("%s: written to a buffer of %td bytes\n", text, less);
         }
 }
 

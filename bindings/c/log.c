@@ -10,16 +10,16 @@ static const struct movaliren_iso_config milliseconds = MOVALIREN_ISO_DECIMALS(3
 
 static void *work(void *name)
 {
-    char stamp[MOVALIREN_ISO8601_ROOM + 1];
+    char stamp[MOVALIREN_ISO8601_ROOM];
     for (int line = 0; line < 3; line++) {
         struct timespec now;
         clock_gettime(CLOCK_REALTIME, &now);
         ptrdiff_t n = movaliren_iso8601_by_utc(
-            &milliseconds, now.tv_sec, now.tv_nsec, stamp, sizeof stamp - 1);
+            &milliseconds, now.tv_sec, now.tv_nsec, stamp, sizeof stamp);
         if (n < 0)
-            return (void *)movaliren_error_text(n);
-        stamp[n] = 0;
-        printf("%s %s line %d\n", stamp, (const char *)name, line);
+            fprintf(stderr, "%s\n", movaliren_error_text(n));
+        else
+            printf("%.*s %s line %d\n", (int)n, stamp, (const char *)name, line);
     }
     return 0;
 }

@@ -116,7 +116,7 @@ static int is_refused_well(int which, long most, size_t width)
     }
     is_well &= !live;
     if (!is_well)
-        printf("call %d answers %td and asks %ld times\n", which, count, requests);
+        printf("call %d returns %td and allocates %ld times\n", which, count, requests);
     return is_well;
 }
 

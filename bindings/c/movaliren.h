@@ -15,17 +15,18 @@
  *
  * Only movaliren_format, movaliren_format_utc and movaliren_format_date allocate: once, freed before
  * they return. They may not be called from a signal handler, nor in the forked child of a process with
- * threads. They allocate through two symbols, which the installed library defines by malloc and free,
- * and a program with an allocator of its own defines both in their place:
+ * threads. They allocate through two symbols, which the library defines by malloc and free. A program
+ * that links the static library may define both itself. is_there is 1, or 0 if out of memory, and block
+ * is never null:
  *
  *     struct { uint64_t is_there; void *block; } rattle_alloc(size_t size, size_t alignment);
  *     void rattle_dealloc(void *block);
  *
- * The other calls need neither: a program that makes no other links without them by -Wl,--gc-sections.
+ * A program that makes none of these three calls needs neither symbol if it links by -Wl,--gc-sections.
  *
- * The caller guarantees: no pointer is null, not even where its length is 0 (the contracts that are
- * proved speak of arrays, and a null pointer is none; "" will do); each length is that of its array and
- * below PTRDIFF_MAX; the buffer overlaps nothing else that the call is given; all fields are set. */
+ * The caller guarantees: no pointer is null, not even if its length is 0 (the proved contracts are on
+ * arrays, and null is not one: pass ""); each length is that of its array and below PTRDIFF_MAX; the
+ * buffer overlaps nothing else that the call is given; all fields are set. */
 #ifndef MOVALIREN_H
 #define MOVALIREN_H
 
@@ -113,7 +114,7 @@ static inline const char *movaliren_error_text(ptrdiff_t reason)
     case MOVALIREN_ERROR_OTHER:
         return "the format cannot represent a component";
     default:
-        return "no error";
+        return reason < 0 ? "unknown error" : "no error";
     }
 }
 
@@ -162,7 +163,7 @@ ptrdiff_t movaliren_rfc2822(
 ptrdiff_t movaliren_iso8601(
     const struct movaliren_moment *moment, void *room, size_t room_len);
 
-/* A stamp, as 1997-11-12T15:55:06.000000000Z: 30 bytes, in the order of the moments. */
+/* A stamp, as 1997-11-12T15:55:06.000000000Z, of 30 bytes. Stamps sort by bytes as their moments do. */
 ptrdiff_t movaliren_stamp(int64_t seconds, uint32_t nanosecond, void *room, size_t room_len);
 
 /* ---- configurations of ISO 8601 */
@@ -196,8 +197,8 @@ struct movaliren_iso_config {
     uint8_t decimals;           /* of the last part of the time: 0 for none, or 1 to 255 */
     uint8_t offset_precision;   /* MOVALIREN_ISO_HOUR or MOVALIREN_ISO_MINUTE */
     uint8_t use_separators;     /* 0 or 1, as the two below */
-    uint8_t year_is_six_digits; /* and a sign */
-    uint8_t comma;              /* before the decimals, in the place of a point */
+    uint8_t year_is_six_digits; /* with a sign */
+    uint8_t comma;              /* before the decimals, in place of a point */
 };
 
 /* The configuration of movaliren_iso8601 with another number of decimals, as an initialiser: with 3 it
@@ -214,7 +215,7 @@ struct movaliren_iso_config {
 ptrdiff_t movaliren_iso8601_by(const struct movaliren_iso_config *config,
     const struct movaliren_moment *moment, void *room, size_t room_len);
 
-/* ---- moments by the clock: seconds and a nanosecond, as in movaliren_utc_moment */
+/* ---- moments as clocks give them: seconds and a nanosecond, as in movaliren_utc_moment */
 
 /* A moment in UTC, with Z or +0000 for the offset. */
 ptrdiff_t movaliren_rfc3339_utc(int64_t seconds, uint32_t nanosecond, void *room, size_t room_len);
@@ -228,9 +229,9 @@ ptrdiff_t movaliren_iso8601_utc(int64_t seconds, uint32_t nanosecond, void *room
 ptrdiff_t movaliren_iso8601_by_utc(const struct movaliren_iso_config *config, int64_t seconds,
     uint32_t nanosecond, void *room, size_t room_len);
 
-/* A moment by its local date and time. The offset is the seconds that clocks are ahead of UTC, as
- * tm_gmtoff: at most 25:59:59 either way, or else MOVALIREN_ERROR_OFFSET_HOURS. The formats refuse
- * seconds of an offset. The moment is tested before the offset. */
+/* A moment by its local date and time, which is this many seconds ahead of UTC, as tm_gmtoff. An offset
+ * of more than 25:59:59 either way is MOVALIREN_ERROR_OFFSET_HOURS. The formats refuse an offset with
+ * seconds. The moment is tested before the offset. */
 ptrdiff_t movaliren_rfc3339_local(
     int64_t seconds, uint32_t nanosecond, int64_t offset, void *room, size_t room_len);
 ptrdiff_t movaliren_rfc2822_local(
@@ -285,20 +286,20 @@ enum movaliren_kind {
     MOVALIREN_ORDINAL = 5, /* padding */
     MOVALIREN_WEEKDAY_SHORT = 6,
     MOVALIREN_WEEKDAY_LONG = 7,
-    MOVALIREN_WEEKDAY_FROM_SUNDAY = 8,   /* flag: from 1 on */
-    MOVALIREN_WEEKDAY_FROM_MONDAY = 9,   /* flag: from 1 on */
+    MOVALIREN_WEEKDAY_FROM_SUNDAY = 8,   /* flag: counted from 1 */
+    MOVALIREN_WEEKDAY_FROM_MONDAY = 9,   /* flag: counted from 1 */
     MOVALIREN_WEEK_ISO = 10,             /* padding */
     MOVALIREN_WEEK_SUNDAY = 11,          /* padding */
     MOVALIREN_WEEK_MONDAY = 12,          /* padding */
-    MOVALIREN_YEAR_EXTENDED = 13,        /* padding, flag: a plus too */
-    MOVALIREN_YEAR = 14,                 /* padding, flag: a plus too */
-    MOVALIREN_CENTURY_EXTENDED = 15,     /* padding, flag: a plus too */
-    MOVALIREN_CENTURY = 16,              /* padding, flag: a plus too */
+    MOVALIREN_YEAR_EXTENDED = 13,        /* padding, flag: always a sign */
+    MOVALIREN_YEAR = 14,                 /* padding, flag: always a sign */
+    MOVALIREN_CENTURY_EXTENDED = 15,     /* padding, flag: always a sign */
+    MOVALIREN_CENTURY = 16,              /* padding, flag: always a sign */
     MOVALIREN_YEAR_LAST_TWO = 17,        /* padding */
-    MOVALIREN_ISO_YEAR_EXTENDED = 18,    /* padding, flag: a plus too */
-    MOVALIREN_ISO_YEAR = 19,             /* padding, flag: a plus too */
-    MOVALIREN_ISO_CENTURY_EXTENDED = 20, /* padding, flag: a plus too */
-    MOVALIREN_ISO_CENTURY = 21,          /* padding, flag: a plus too */
+    MOVALIREN_ISO_YEAR_EXTENDED = 18,    /* padding, flag: always a sign */
+    MOVALIREN_ISO_YEAR = 19,             /* padding, flag: always a sign */
+    MOVALIREN_ISO_CENTURY_EXTENDED = 20, /* padding, flag: always a sign */
+    MOVALIREN_ISO_CENTURY = 21,          /* padding, flag: always a sign */
     MOVALIREN_ISO_YEAR_LAST_TWO = 22,    /* padding */
     MOVALIREN_HOUR_12 = 23,              /* padding */
     MOVALIREN_HOUR = 24,                 /* padding */
@@ -306,17 +307,17 @@ enum movaliren_kind {
     MOVALIREN_PERIOD = 26,               /* flag: upper case */
     MOVALIREN_SECOND = 27,               /* padding */
     MOVALIREN_SUBSECOND = 28,            /* digits */
-    MOVALIREN_OFFSET_HOUR = 29,          /* padding, flag: a plus too */
+    MOVALIREN_OFFSET_HOUR = 29,          /* padding, flag: always a sign */
     MOVALIREN_OFFSET_MINUTE = 30,        /* padding */
     MOVALIREN_OFFSET_SECOND = 31,        /* padding */
-    MOVALIREN_UNIX_SECOND = 32,          /* flag: a plus too */
-    MOVALIREN_UNIX_MILLISECOND = 33      /* flag: a plus too */
+    MOVALIREN_UNIX_SECOND = 32,          /* flag: always a sign */
+    MOVALIREN_UNIX_MILLISECOND = 33      /* flag: always a sign */
 };
 
 enum movaliren_padding { MOVALIREN_ZERO = 0, MOVALIREN_SPACE = 1, MOVALIREN_NO_PADDING = 2 };
 
-/* An item of a description. padding, flag and digits are tested for each item that is no text, also
- * where its kind has no use for them. */
+/* An item of a description. padding, flag and digits of a component must be valid, even if its kind
+ * does not use them. */
 struct movaliren_item {
     uint32_t kind;   /* movaliren_kind */
     uint8_t padding; /* movaliren_padding */
@@ -344,7 +345,7 @@ ptrdiff_t movaliren_format_date(const struct movaliren_item *items, size_t items
 ptrdiff_t movaliren_width(const struct movaliren_item *items, size_t items_len,
     const void *texts, size_t texts_len);
 
-/* A description that is built in two arrays of the caller, so that nobody counts where a text starts:
+/* A description that is built in two arrays of the caller, who counts no offsets of texts:
  *
  *     struct movaliren_item items[8];
  *     char texts[32];
@@ -359,7 +360,7 @@ struct movaliren_description {
     size_t items_len, items_room;
     char *texts;
     size_t texts_len, texts_room;
-    ptrdiff_t reason; /* MOVALIREN_ERROR_NO_ROOM once an item did not fit, and then nothing is added */
+    ptrdiff_t reason; /* MOVALIREN_ERROR_NO_ROOM after an item did not fit: nothing more is added */
 };
 
 /* The empty description over two arrays, as an initialiser. */

@@ -262,7 +262,7 @@ static void try_stamps(void)
     }
 }
 
-/* ---- moments by the clock, in UTC and at an offset. The texts are those of the RFCs. */
+/* ---- moments as clocks give them, in UTC and at an offset. The texts are those of the RFCs. */
 
 struct clock {
     struct movaliren_utc_moment moment;

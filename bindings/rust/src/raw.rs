@@ -252,7 +252,7 @@ const _: () = assert!(core::mem::size_of::<IsoConfig>() == 8);
 const _: () = assert!(core::mem::size_of::<Item>() == 24);
 const _: () = assert!(core::mem::size_of::<library::Progress>() == 24);
 
-/// Memory that a call writes to. No answer depends on what it held.
+/// Memory that a call writes to. No result depends on what it held.
 type Buffer = [MaybeUninit<u8>];
 
 /// A format, by the function of the library that writes its text.
