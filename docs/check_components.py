@@ -1,9 +1,11 @@
 #!/usr/bin/env python3
-"""Compares the tables of `docs/COMPONENTS.md` with the code, and prints what differs.
+"""Compares the tables of `docs/COMPONENTS.md` with the code, and tables of the code with each other, and prints what
+differs.
 
 A row of a component has its name, perhaps a constant, its choices, its width and its example, and a test formats it.
-A choice without a value has the usual one, which a table names. A constant has the usual choices, but for its row's
-own of a choice that has none. The heading over a row is that of the component's group.
+A choice without a value has the usual one, which a table names beside the other values. A constant has the usual
+choices, but for its row's own of a choice that has none, and a test has it as a part. The heading over a row is that of
+the component's group. The comment at a component is that at its choices and at its variant of version 3.
 """
 
 import pathlib
@@ -11,20 +13,25 @@ import re
 import sys
 
 TOP = pathlib.Path(__file__).resolve().parent.parent
-USUAL = re.compile(r"^\| `([a-z_]+)` \| `(\w+)` \| `", re.M)
+BELOW = TOP / "crates/time_below/src/format_description"
+TESTS = TOP / "crates/time_fmt_tests/src/fmt/components_table.rt"
+USUAL = re.compile(r"^\| `([a-z_]+)` \| `(\w+)` \| `(.*?)` \|", re.M)
 ROW = re.compile(r"^\| `(\w+)` \|(?: (`[A-Z_0-9]+`|-) \|)? (`[a-z_]+.*?) \| .* \| (\d+) \| (-|`.*`) \|$", re.M)
 CONSTANT = re.compile(r"^\| `([A-Z_0-9]+)` \| `(\w+)` \| (.*) \|$", re.M)
 DEFINED = re.compile(r"^pub const (\w+): modifier::(\w+) =\s*modifier::\w+ \{(.*?)\};", re.S | re.M)
 TESTED = re.compile(r"Component::(\w+)\(\s*modifier::\w+ \{(.*?)\}\s*\),\s*\"(.*?)\",\s*(\d+),?\s*\)", re.S)
 TABLE = re.compile(r"^(?:pub\(super\) )?const (?:COMPONENTS|DEPRECATED): .*?^};$", re.S | re.M)
 LINE_TESTED = re.compile(r"^    (\w+) \{([^{}]*)\}\s+\"(.*?)\" (\d+),$", re.M)
+PART = re.compile(r"^        ([A-Z_0-9]+) (\w+) \"<", re.M)
+VARIANT = re.compile(r"((?: {4}///[^\n]*\n)+)    (\w+)\(modifier::\w+\),")
+STRUCT = re.compile(r"((?:///[^\n]*\n)+)#\[[^\n]*\]\npub struct (\w+) \{")
 ARM = re.compile(r"((?:\s*\|?\s*Component::\w+\(_\))+) => \{?\s*Group::(\w+)")
 HEADINGS = {
     "Date": "Date", "Time": "Time", "Offset from UTC": "Offset", "Moment": "Timestamp", "No group": "None",
 }
 
 page = (TOP / "docs/COMPONENTS.md").read_text()
-usual = dict(USUAL.findall(page))
+usual = {choice: value for choice, value, _ in USUAL.findall(page)}
 
 
 def choices(text):
@@ -39,7 +46,7 @@ def documented():
 
 
 def tested():
-    text = (TOP / "crates/time_fmt_tests/src/fmt/components_table.rt").read_text()
+    text = TESTS.read_text()
     rows = TESTED.findall(text) + LINE_TESTED.findall("".join(TABLE.findall(text)))
     return [(name, choices(fields), example, width) for name, fields, example, width in rows]
 
@@ -55,6 +62,27 @@ def defined():
     return sorted((name, kind, choices(fields)) for name, kind, fields in DEFINED.findall(code))
 
 
+def parted():
+    """Each constant that a test has as a part, with its component."""
+    return sorted(PART.findall(TESTS.read_text()))
+
+
+def values():
+    """The values of each choice by the page, and by the code."""
+    code = (BELOW / "modifier.rt").read_text()
+    paddings = re.findall(r"^    (\w+),", re.search(r"pub enum Padding \{(.*?)\n\}", code, re.S)[1], re.M)
+    kinds = dict(re.findall(r"pub (\w+): (Padding|bool),", code))
+    told = sorted((choice, sorted([value, *others.split("`, `")])) for choice, value, others in USUAL.findall(page))
+    return told, [(choice, sorted(paddings if kinds[choice] == "Padding" else ["false", "true"])) for choice, _ in told]
+
+
+def said(file, pattern):
+    """What is said of each component that is not deprecated."""
+    found = pattern.findall((BELOW / file).read_text())
+    rows = [(name, " ".join(re.findall(r"/// (.*)", comment))) for comment, name in found]
+    return sorted(row for row in rows if not row[1].startswith("Deprecated: "))
+
+
 def headed():
     """Each component that is not deprecated, with the group of the heading over its rows."""
     parts = re.findall(r"^## (.*?)\n(.*?)(?=^## |\Z)", page, re.M | re.S)
@@ -62,28 +90,36 @@ def headed():
 
 
 def grouped():
-    code = (TOP / "crates/time_below/src/format_description/component.rt").read_text()
+    code = (BELOW / "component.rt").read_text()
     current = {name for name, _ in headed()}
     groups = [(name, group) for names, group in ARM.findall(code) for name in re.findall(r"Component::(\w+)", names)]
     return sorted((name, group) for name, group in groups if name in current)
 
 
-def compared(what, ours, theirs):
+def compared(what, ours, theirs, first="the table", second="the code"):
     for row in ours:
         if row not in theirs:
-            print(f"not in the code: {row}")
+            print(f"not in {second}: {row}")
     for row in theirs:
         if row not in ours:
-            print(f"not in the table: {row}")
+            print(f"not in {first}: {row}")
     same = sorted(map(repr, ours)) == sorted(map(repr, theirs)) and ours
-    print(f"{len(ours)} {what}, {len(theirs)} in the code: {'the same' if same else 'they differ'}")
+    print(f"{len(ours)} {what} in {first}, {len(theirs)} in {second}: {'the same' if same else 'they differ'}")
     return same
 
 
 def main():
+    comments = said("component.rt", VARIANT)
+    names = [name for _, name in VARIANT.findall((BELOW / "component.rt").read_text())]
     same = [
-        compared("rows", documented(), tested()), compared("constants", shown(), defined()),
+        compared("components", sorted({row[0] for row in ROW.findall(page)}), sorted(names)),
+        compared("rows", documented(), tested()),
+        compared("constants", shown(), defined()),
+        compared("constants", [(name, kind) for name, kind, _ in defined()], parted(), "the code", "the tests"),
         compared("groups", headed(), grouped()),
+        compared("choices", *values()),
+        compared("comments", comments, said("modifier.rt", STRUCT), "component.rt", "modifier.rt"),
+        compared("comments", comments, said("format_description_v3.rt", VARIANT), "component.rt", "version 3"),
     ]
     return 0 if all(same) else 1
 
