@@ -39,7 +39,7 @@ class Edit:
     def is_in_body(self, folder):
         """Returns whether each old text stands in the body of a function that is named, as `rt fmt` lays it out."""
         names, source, is_in = "|".join(it.rpartition("::")[2] for it in self.functions), "", True
-        body = rf"^( *)(?:\w\S* )*fn (?:{names})\b(?:[^\n]*|.*?^\1(?:\S[^\n]*)?)\{{$(.*?)^\1\}}$"
+        body = rf"^( *)(?:[\w\"]\S* )*fn (?:{names})\b(?:[^\n]*|.*?^\1(?:\S[^\n]*)?)\{{$(.*?)^\1\}}$"
         for path, old in re.findall(r"^file: (.+)|^old: (.+)", self.text, re.M):
             source = rt.rtlib.text_of(f"{folder}/{path}") if path else source
             is_in = is_in and (path or any(old in it[2] for it in re.finditer(body, source, re.M | re.S)))
