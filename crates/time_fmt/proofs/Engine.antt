@@ -1,15 +1,15 @@
 -- Nodes one after another: what is written so far, and then the outcome of what is left, is the outcome of all.
 use Rattle.std.proofs.Common.{◌≡◌, refl, ap, sym, ◌∙◌, arith, ℕ, ◌+◌, ◌-◌, ◌≤◌, ◌++◌, List, [], ◌∷◌, map, drop, length}
-use Rattle.std.proofs.Common.{append_assoc, length-append, subst, Some, Ok, Err, vec_len, vec_capacity, Vec}
-use Rattle.std.specs.Prelude.{slice_get}
+use Rattle.std.proofs.Common.{append_assoc, length-append, subst, Some, Result, Ok, Err, vec_len, vec_capacity, Vec}
 use Rattle.std.specs.Global.{Global}
+use Rattle.std.specs.Prelude.{slice_get}
 use Rattle.std.proofs.lemmas.List.{append-nil, at_drop_all}
 use Rattle.time_below.specs.Facts.{Facts}
-use Rattle.time_below.specs.Tree.{Tree, Trees, trees, first_of, end, more}
+use Rattle.time_below.specs.Tree.{Tree, Trees, trees, all_of, first_of, end, more}
 use Rattle.time_below.specs.Width.{tree_width, trees_width, is_guaranteed_text, are_guaranteed_text}
 use Rattle.time_fmt.specs.declared.error.Format.{Format}
 use Rattle.time_fmt.specs.Description.{tree_outcome, trees_outcome}
-use Rattle.time_fmt.specs.Guarantee.{IsTextIf}
+use Rattle.time_fmt.specs.Guarantee.{IsTextIf, AppendsTree}
 use Rattle.time_fmt.specs.Outcome.{Outcome, Names, AppendsUpTo}
 use Rattle.time_fmt.specs.Room.{HasRoom}
 use Rattle.time_fmt.proofs.WriteLemmas.{some_of, join_refused, join_done}
@@ -82,17 +82,19 @@ refused_along old mid new e f all left others t along next up_to =
       within = omega (arith, along.within, width, up_to.within);
     }
 
--- the text so far, and that of a node that is refused, make the text of the list
-pub text_refused : {agrees : Type 0} {sum all_size left_size : ℕ} (old mid new : Vec ℕ Global) (e : Format) (f : Facts)
+-- a list ends with a node that is refused
+pub list_refused : {agrees : Type 0} {sum all_size left_size : ℕ} (old mid new : Vec ℕ Global) (e : Format) (f : Facts)
     (all left others : Trees) (t : Tree) →
     Along agrees old mid sum f all left all_size left_size → left ≡ more t others
-    → AppendsUpTo (tree_width t) mid new (Err e) (tree_outcome t f)
-    → IsTextIf (is_guaranteed_text t) (tree_outcome t f) → IsTextIf (are_guaranteed_text all) (trees_outcome all f)
-text_refused old mid new e f all left others t along next step first =
-    let r = some_of (Names e) (tree_outcome t f).refusal step.appends.named in
-    let stops = text_stops t others f first (join_refused (tree_outcome t f) (trees_outcome others f) r.0 r.1) in
+    → AppendsTree t f mid new (Err e) → AppendsTree (all_of all) f old new (Err e)
+list_refused old mid new e f all left others t along next step =
+    let r = some_of (Names e) (tree_outcome t f).refusal step.appends.appends.named in
+    let stops = text_stops t others f step.text (join_refused (tree_outcome t f) (trees_outcome others f) r.0 r.1) in
     let P : Trees → Type 0 = λ ts. IsTextIf (are_guaranteed_text ts) (trees_outcome ts f) in
-    along.text (subst P (sym next) stops)
+    record {
+      appends = refused_along old mid new e f all left others t along next step.appends;
+      text = along.text (subst P (sym next) stops);
+    }
 
 -- what was written before a node, and what the node wrote, is followed by what is left
 pub written_along : {agrees agrees_after : Type 0} {sum count all_size left_size rest_size : ℕ}
@@ -140,56 +142,36 @@ by_lengths {agrees} {sum} {all_size} {left_size} old now f all left along =
 pub all_along : {A agrees : Type 0} {sum all_size left_size : ℕ} (tree : A → Tree) (nodes : List A) (i : ℕ)
     (old now : Vec ℕ Global) (f : Facts) → length nodes ≤ i
     → Along agrees old now sum f (trees (map tree nodes)) (trees (map tree (drop i nodes))) all_size left_size
-    → AppendsUpTo (trees_width (trees (map tree nodes))) old now (Ok sum) (trees_outcome (trees (map tree nodes)) f)
+    → AppendsTree (all_of (trees (map tree nodes))) f old now (Ok sum)
 all_along {A} {agrees} {sum} tree nodes i old now f past along =
     let none : trees (map tree (drop i nodes)) ≡ end = at_drop_all (λ xs. trees (map tree xs)) nodes i past in
     let bytes : (trees_outcome (trees (map tree (drop i nodes))) f).bytes ≡ [] =
     ap (λ ts. (trees_outcome ts f).bytes) none in
+    let P : Trees → Type 0 = λ ts. IsTextIf (are_guaranteed_text ts) (trees_outcome ts f) in
     record {
       appends = record {
-        appended = sym (along.bytes ∙ ap (λ bs. now.items ++ bs) bytes ∙ append-nil now.items);
-        counted = (
-          along.refusal
-              ∙ ap (λ ts. (trees_outcome ts f).refusal) none,
-          omega (arith, along.count, ap length bytes),
-        );
-        named = tt;
-        grown = omega (arith, along.grown, along.count, ap length bytes);
-        capacity = along.capacity;
+        appends = record {
+          appended = sym (along.bytes ∙ ap (λ bs. now.items ++ bs) bytes ∙ append-nil now.items);
+          counted = (
+            along.refusal ∙ ap (λ ts. (trees_outcome ts f).refusal) none,
+            omega (arith, along.count, ap length bytes),
+          );
+          named = tt;
+          grown = omega (arith, along.grown, along.count, ap length bytes);
+          capacity = along.capacity;
+        };
+        within = omega (arith, along.within);
       };
-      within = omega (arith, along.within);
+      text = along.text (subst P (sym none) (λ _. empty_utf8));
     }
 
--- a list keeps its guarantee of text at its end
-pub text_at_end : {A : Type 0} (tree : A → Tree) (nodes : List A) (i : ℕ) (f : Facts) → length nodes ≤ i
-    → (IsTextIf (are_guaranteed_text (trees (map tree (drop i nodes))))
-    (trees_outcome (trees (map tree (drop i nodes))) f)
-    → IsTextIf (are_guaranteed_text (trees (map tree nodes))) (trees_outcome (trees (map tree nodes)) f))
-    → IsTextIf (are_guaranteed_text (trees (map tree nodes))) (trees_outcome (trees (map tree nodes)) f)
-text_at_end tree nodes i f past so_far =
-    let P : Trees → Type 0 = λ ts. IsTextIf (are_guaranteed_text ts) (trees_outcome ts f) in
-    let none : trees (map tree (drop i nodes)) ≡ end = at_drop_all (λ xs. trees (map tree xs)) nodes i past in
-    so_far (subst P (sym none) (λ _. empty_utf8))
-
--- the first of a list that begins with x has the outcome of x
-pub outcome_of_first : {A : Type 0} (tree : A → Tree) (nodes : List A) (x : A) (f : Facts) → slice_get nodes 0 ≡ Some x
-    → tree_outcome (first_of (trees (map tree nodes))) f ≡ tree_outcome (tree x) f
-outcome_of_first tree [] x f h = cc
-outcome_of_first tree (y ∷ ys) x f h = let e : y ≡ x = cc in ap (λ z. tree_outcome (tree z) f) e
-
--- the first of a list that begins with x has the width of x
-pub width_of_first : {A : Type 0} (tree : A → Tree) (nodes : List A) (x : A) → slice_get nodes 0 ≡ Some x
-    → tree_width (first_of (trees (map tree nodes))) ≡ tree_width (tree x)
-width_of_first tree [] x h = cc
-width_of_first tree (y ∷ ys) x h = let e : y ≡ x = cc in ap (λ z. tree_width (tree z)) e
-
--- the first of a list that begins with x is a text if x is one
-pub text_of_first : {A : Type 0} (tree : A → Tree) (nodes : List A) (x : A) (f : Facts) → slice_get nodes 0 ≡ Some x
-    → IsTextIf (is_guaranteed_text (tree x)) (tree_outcome (tree x) f)
-    → IsTextIf (is_guaranteed_text (first_of (trees (map tree nodes))))
-    (tree_outcome (first_of (trees (map tree nodes))) f)
-text_of_first tree [] x f h text = let no : ⊥ = cc in absurd no
-text_of_first {A} tree (y ∷ ys) x f h text =
+-- the first of a list that begins with x appends what x does
+pub first_appends : {A : Type 0} {answer : Result ℕ Format} (tree : A → Tree) (nodes : List A) (x : A)
+    (old new : Vec ℕ Global) (f : Facts) → slice_get nodes 0 ≡ Some x → AppendsTree (tree x) f old new answer
+    → AppendsTree (first_of (trees (map tree nodes))) f old new answer
+first_appends tree [] x old new f h appends = let no : ⊥ = cc in absurd no
+first_appends {A} {answer} tree (y ∷ ys) x old new f h appends =
     let e : y ≡ x = cc in
-    let P : A → Type 0 = λ z. IsTextIf (is_guaranteed_text (tree z)) (tree_outcome (tree z) f) in
-    subst P (sym e) text
+    let P : A → Type 0 = λ z. AppendsTree (tree z) f old new answer in
+    let first = subst P (sym e) appends in
+    record { appends = first.appends; text = first.text }

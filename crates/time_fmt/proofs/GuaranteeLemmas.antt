@@ -1,6 +1,6 @@
 -- Texts of components are ASCII, and texts one after another are UTF-8 where each of them is.
-use Rattle.std.proofs.Common.{◌≡◌, ℕ, ◌+◌, ◌-◌, ◌<◌, ◌≤◌, Bool, true, false, ◌&&◌, nat_lt, List, [], ◌∷◌, ◌++◌, length}
-use Rattle.std.proofs.Common.{IsAscii, IsUtf8, IsTrue, IfSome, Option, Some, None, if◌then◌else◌, refl, arith, Result}
+use Rattle.std.proofs.Common.{◌≡◌, ℕ, ◌+◌, ◌-◌, ◌<◌, ◌≤◌, Bool, true, false, ◌&&◌, nat_lt, List, [], ◌∷◌, length}
+use Rattle.std.proofs.Common.{IsAscii, IsUtf8, IsTrue, MatchOption, Option, Some, None, if◌then◌else◌, refl, arith, Result, Ok}
 use Rattle.std.proofs.Common.{Vec, vec_len}
 use Rattle.std.specs.Global.{Global}
 use Rattle.std.specs.Prelude.{codes, nat_le}
@@ -22,7 +22,7 @@ use Rattle.time_below.specs.declared.format_description.modifier.SubsecondDigits
 use Rattle.time_below.specs.Facts.{Facts}
 use Rattle.time_below.specs.Group.{group_of}
 use Rattle.time_below.specs.Tree.{Tree, Trees, of_component, more}
-use Rattle.time_below.specs.Width.{is_guaranteed_text, are_guaranteed_text, subsecond_width}
+use Rattle.time_below.specs.Width.{component_width, is_guaranteed_text, are_guaranteed_text, subsecond_width}
 use Rattle.time_digits.specs.Digits.{fixed}
 use Rattle.time_digits.proofs.DigitLemmas.{IsAscii-fixed}
 use Rattle.time_digits.proofs.FractionLemmas.{IsAscii-trimmed_fraction}
@@ -30,10 +30,10 @@ use Rattle.time_digits.proofs.LengthLemmas.{IsAscii-padded, IsAscii-number}
 use Rattle.time_fmt.specs.DateText.{month_names, month_name, weekday_names, weekday_name, indexed}
 use Rattle.time_fmt.specs.Description.{has_group, kind_of, supplied_outcome, current_outcome, component_outcome}
 use Rattle.time_fmt.specs.Description.{tree_outcome, trees_outcome}
-use Rattle.time_fmt.specs.Guarantee.{IsTextIf}
+use Rattle.time_fmt.specs.Guarantee.{IsTextIf, AppendsTree}
 use Rattle.time_fmt.specs.Kind as kind
 use Rattle.time_fmt.specs.Kind.{Kind, kind_text, kind_outcome}
-use Rattle.time_fmt.specs.Outcome.{Outcome, Adds, done, refused, join, insufficient, out_of_range}
+use Rattle.time_fmt.specs.Outcome.{Outcome, AppendsUpTo, Adds, done, refused, join, insufficient, out_of_range}
 use Rattle.time_fmt.specs.Text.{padded_text, sign_text, period_text, subsecond_text}
 use Rattle.time_fmt.specs.declared.error.Format.{Format}
 use Rattle.time_fmt.proofs.TextLemmas.{passes_at}
@@ -127,11 +127,13 @@ empty_utf8 = IsUtf8-from_ascii [] IsAscii-nil
 pub text_of_component : (c : Component) (f : Facts) → IsUtf8 (component_outcome c f).bytes
 text_of_component c f = IsUtf8-from_ascii (component_outcome c f).bytes (ascii_current (current_component c) f)
 
--- a component that was written has a text
-pub text_of_written : (written : Option ℕ) (c : Component) (f : Facts)
-    → IfSome written (λ _. IsTextIf (is_guaranteed_text (of_component c)) (tree_outcome (of_component c) f))
-text_of_written None c f = tt
-text_of_written (Some n) c f = λ _. text_of_component c f
+-- a component that was written is that of its tree
+pub tree_of_written : (written : Option ℕ) (c : Component) (f : Facts) (old new : Vec ℕ Global)
+    → MatchOption written (new ≡ old)
+    (λ count. AppendsUpTo (component_width c) old new (Ok count) (component_outcome c f))
+    → MatchOption written (new ≡ old) (λ count. AppendsTree (of_component c) f old new (Ok count))
+tree_of_written None c f old new nothing = nothing
+tree_of_written (Some n) c f old new appends = record { appends = appends; text = λ _. text_of_component c f }
 
 -- a list has a text if its first tree has one, and so have the others
 pub text_more : (t : Tree) (ts : Trees) (f : Facts) → IsTextIf (is_guaranteed_text t) (tree_outcome t f)

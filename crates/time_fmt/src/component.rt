@@ -1,21 +1,25 @@
 //! The engine for one component.
-ghost use Rattle.std.specs.Prelude.{◌≡◌, ◌+◌, ◌≤◌, IsTrue, IsUtf8, MatchOption, vec_len};
+ghost use Rattle.std.specs.Prelude.{◌≡◌, ◌+◌, ◌≤◌, IfNone, IsSome, IsTrue, IsUtf8, MatchOption, vec_len};
 ghost use Rattle.time_below.specs.Conversion.{is_current};
 ghost use Rattle.time_below.specs.Width.{component_width};
-ghost use Rattle.time_fmt.specs.Description.{component_outcome, current_outcome};
-ghost use Rattle.time_fmt.specs.Outcome.{Appends, AppendsUpTo, AppendsWhole};
+ghost use Rattle.time_fmt.specs.Description.{component_outcome};
+ghost use Rattle.time_fmt.specs.Outcome.{Appends, AppendsUpTo, AppendsUnlessRefused};
 ghost use Rattle.time_fmt.specs.Room.{HasRoom};
 
 use crate::error::Format;
-use crate::modifier::Modifier;
+use crate::modifier::{Modifier, supplies};
 use crate::writers::{put_back, take_out};
+use time_below::ComponentRange;
 use time_below::format_description::Component;
 use time_provide::ComponentProvider;
 
-/// Appends the text of a component that is met often, and returns the number of bytes. Of any other
-/// component, and of one that is refused, it writes nothing, and returns `None`.
+/// Appends the text of a component that is not deprecated, and returns the number of bytes. If it is
+/// refused, or deprecated, writes nothing and returns `None`.
+///
+/// The writers of components that are met often become part of the loop over a list. Each other one is a
+/// call.
 #[inline(always)]
-pub(crate) fn write_common<V: ComponentProvider>(
+pub(crate) fn write_component<V: ComponentProvider>(
     component: Component,
     output: &mut Vec<u8>,
     value: &V,
@@ -26,99 +30,57 @@ pub(crate) fn write_common<V: ComponentProvider>(
     ensures appends { MatchOption result (output.new ≡ output.old)
         (λ count. AppendsUpTo (component_width component) output.old output.new (Ok count)
         (component_outcome component (V.facts value.now))) }
+    ensures refused { IsTrue (is_current component)
+        → IfNone result (IsSome (component_outcome component (V.facts value.now)).refusal) }
     ensures agrees { V.agrees state.new value.now }
 {
     match component {
         Component::Day(part) => write_unless_refused(part, output, value, state),
+        Component::MonthShort(part) => write_apart(part, output, value, state),
+        Component::MonthLong(part) => write_apart(part, output, value, state),
         Component::MonthNumerical(part) => write_unless_refused(part, output, value, state),
+        Component::Ordinal(part) => write_apart(part, output, value, state),
+        Component::WeekdayShort(part) => write_apart(part, output, value, state),
+        Component::WeekdayLong(part) => write_apart(part, output, value, state),
+        Component::WeekdaySunday(part) => write_apart(part, output, value, state),
+        Component::WeekdayMonday(part) => write_apart(part, output, value, state),
+        Component::WeekNumberIso(part) => write_apart(part, output, value, state),
+        Component::WeekNumberSunday(part) => write_apart(part, output, value, state),
+        Component::WeekNumberMonday(part) => write_apart(part, output, value, state),
         Component::CalendarYearFullExtendedRange(part) => {
             write_unless_refused(part, output, value, state)
         }
         Component::CalendarYearFullStandardRange(part) => write_apart(part, output, value, state),
+        Component::CalendarYearCenturyExtendedRange(part) => {
+            write_apart(part, output, value, state)
+        }
+        Component::CalendarYearCenturyStandardRange(part) => {
+            write_apart(part, output, value, state)
+        }
+        Component::CalendarYearLastTwo(part) => write_apart(part, output, value, state),
+        Component::IsoYearFullExtendedRange(part) => write_apart(part, output, value, state),
+        Component::IsoYearFullStandardRange(part) => write_apart(part, output, value, state),
+        Component::IsoYearCenturyExtendedRange(part) => write_apart(part, output, value, state),
+        Component::IsoYearCenturyStandardRange(part) => write_apart(part, output, value, state),
+        Component::IsoYearLastTwo(part) => write_apart(part, output, value, state),
+        Component::Hour12(part) => write_apart(part, output, value, state),
         Component::Hour24(part) => write_unless_refused(part, output, value, state),
         Component::Minute(part) => write_unless_refused(part, output, value, state),
+        Component::Period(part) => write_apart(part, output, value, state),
         Component::Second(part) => write_unless_refused(part, output, value, state),
         Component::Subsecond(part) => write_apart(part, output, value, state),
-        _ => None,
-    }
-}
-
-/// Appends the text of a less common component, and returns the number of bytes. If it is refused,
-/// writes nothing and returns `None`. No writer is inlined, so that this is a jump to the writer and has
-/// no stack frame.
-#[inline(always)]
-pub(crate) fn write_uncommon<V: ComponentProvider>(
-    component: Component,
-    output: &mut Vec<u8>,
-    value: &V,
-    state: &mut V::State,
-) -> Option<usize>
-    requires room { HasRoom output.old (component_width component) }
-    requires agrees { V.agrees state.old value.now }
-    ensures appends { MatchOption result (output.new ≡ output.old)
-        (λ count. AppendsUpTo (component_width component) output.old output.new (Ok count)
-        (component_outcome component (V.facts value.now))) }
-    ensures agrees { V.agrees state.new value.now }
-{
-    match component {
-        Component::MonthShort(part) => write_taken_out(part, output, value, state),
-        Component::MonthLong(part) => write_taken_out(part, output, value, state),
-        Component::Ordinal(part) => write_taken_out(part, output, value, state),
-        Component::WeekdayShort(part) => write_taken_out(part, output, value, state),
-        Component::WeekdayLong(part) => write_taken_out(part, output, value, state),
-        Component::WeekdaySunday(part) => write_taken_out(part, output, value, state),
-        Component::WeekdayMonday(part) => write_taken_out(part, output, value, state),
-        Component::WeekNumberIso(part) => write_taken_out(part, output, value, state),
-        Component::WeekNumberSunday(part) => write_taken_out(part, output, value, state),
-        Component::WeekNumberMonday(part) => write_taken_out(part, output, value, state),
-        Component::CalendarYearCenturyExtendedRange(part) => write_taken_out(
-            part, output, value, state,
-        ),
-        Component::CalendarYearCenturyStandardRange(part) => write_taken_out(
-            part, output, value, state,
-        ),
-        Component::CalendarYearLastTwo(part) => write_taken_out(part, output, value, state),
-        Component::IsoYearFullExtendedRange(part) => write_taken_out(part, output, value, state),
-        Component::IsoYearFullStandardRange(part) => write_taken_out(part, output, value, state),
-        Component::IsoYearCenturyExtendedRange(part) => write_taken_out(part, output, value, state),
-        Component::IsoYearCenturyStandardRange(part) => write_taken_out(part, output, value, state),
-        Component::IsoYearLastTwo(part) => write_taken_out(part, output, value, state),
-        Component::Hour12(part) => write_taken_out(part, output, value, state),
-        Component::Period(part) => write_taken_out(part, output, value, state),
-        Component::OffsetHour(part) => write_taken_out(part, output, value, state),
-        Component::OffsetMinute(part) => write_taken_out(part, output, value, state),
-        Component::OffsetSecond(part) => write_taken_out(part, output, value, state),
-        Component::UnixTimestampSecond(part) => write_taken_out(part, output, value, state),
-        Component::UnixTimestampMillisecond(part) => write_taken_out(part, output, value, state),
+        Component::OffsetHour(part) => write_apart(part, output, value, state),
+        Component::OffsetMinute(part) => write_apart(part, output, value, state),
+        Component::OffsetSecond(part) => write_apart(part, output, value, state),
+        Component::UnixTimestampSecond(part) => write_apart(part, output, value, state),
+        Component::UnixTimestampMillisecond(part) => write_apart(part, output, value, state),
+        Component::Ignore(_) | Component::End(_) => Some(0),
         Component::Month(_)
         | Component::Weekday(_)
         | Component::WeekNumber(_)
         | Component::Hour(_)
         | Component::UnixTimestamp(_)
-        | Component::Year(_) => write_converted(component, output, value, state),
-        _ => None,
-    }
-}
-
-// Writes a deprecated component by the current one in its place.
-#[inline(never)]
-#[tactic(auto, using(crate::proofs::ConversionLemmas::width_of_current))]
-fn write_converted<V: ComponentProvider>(
-    component: Component,
-    output: &mut Vec<u8>,
-    value: &V,
-    state: &mut V::State,
-) -> Option<usize>
-    requires room { HasRoom output.old (component_width component) }
-    requires agrees { V.agrees state.old value.now }
-    ensures appends { MatchOption result (output.new ≡ output.old)
-        (λ count. AppendsUpTo (component_width component) output.old output.new (Ok count)
-        (component_outcome component (V.facts value.now))) }
-    ensures agrees { V.agrees state.new value.now }
-{
-    match current_write_into(component.current(), output, value, state) {
-        Ok(count) => Some(count),
-        Err(_) => None,
+        | Component::Year(_) => None,
     }
 }
 
@@ -133,10 +95,8 @@ fn write_apart<M: Modifier, V: ComponentProvider>(
 ) -> Option<usize>
     requires room { HasRoom output.old (component_width (M.component_of part)) }
     requires agrees { V.agrees state.old value.now }
-    ensures appends { MatchOption result (output.new ≡ output.old)
-        (λ count. AppendsUpTo (component_width (M.component_of part))
-        output.old output.new (Ok count)
-        (component_outcome (M.component_of part) (V.facts value.now))) }
+    ensures appends { AppendsUnlessRefused (component_width (M.component_of part))
+        output.old output.new result (component_outcome (M.component_of part) (V.facts value.now)) }
     ensures agrees { V.agrees state.new value.now }
 {
     let mut taken = take_out(output);
@@ -155,10 +115,8 @@ fn write_taken_out<M: Modifier, V: ComponentProvider>(
 ) -> Option<usize>
     requires room { HasRoom output.old (component_width (M.component_of part)) }
     requires agrees { V.agrees state.old value.now }
-    ensures appends { MatchOption result (output.new ≡ output.old)
-        (λ count. AppendsUpTo (component_width (M.component_of part))
-        output.old output.new (Ok count)
-        (component_outcome (M.component_of part) (V.facts value.now))) }
+    ensures appends { AppendsUnlessRefused (component_width (M.component_of part))
+        output.old output.new result (component_outcome (M.component_of part) (V.facts value.now)) }
     ensures agrees { V.agrees state.new value.now }
 {
     write_unless_refused(part, output, value, state)
@@ -174,10 +132,8 @@ fn write_unless_refused<M: Modifier, V: ComponentProvider>(
 ) -> Option<usize>
     requires room { HasRoom output.old (component_width (M.component_of part)) }
     requires agrees { V.agrees state.old value.now }
-    ensures appends { MatchOption result (output.new ≡ output.old)
-        (λ count. AppendsUpTo (component_width (M.component_of part))
-        output.old output.new (Ok count)
-        (component_outcome (M.component_of part) (V.facts value.now))) }
+    ensures appends { AppendsUnlessRefused (component_width (M.component_of part))
+        output.old output.new result (component_outcome (M.component_of part) (V.facts value.now)) }
     ensures agrees { V.agrees state.new value.now }
 {
     match part.write(output, value, state) {
@@ -191,7 +147,7 @@ fn write_unless_refused<M: Modifier, V: ComponentProvider>(
 ///
 /// A deprecated component has the text of the current one. Returns the number of bytes appended, or
 /// the refusal of the component, which has no bytes.
-#[inline(always)]
+#[inline]
 pub fn component_write_into<V: ComponentProvider>(
     component: &Component,
     output: &mut Vec<u8>,
@@ -206,92 +162,12 @@ pub fn component_write_into<V: ComponentProvider>(
     ensures text { IsUtf8 (component_outcome component.now (V.facts value.now)).bytes }
     ensures agrees { V.agrees state.new value.now }
 {
-    match write_common(*component, output, value, state) {
+    let current = component.current();
+    match write_component(current, output, value, state) {
         Some(count) => Ok(count),
-        None => {
-            let mut taken = take_out(output);
-            let outcome = write_any(*component, &mut taken, value, state);
-            put_back(output, taken);
-            outcome
+        None if supplies::<V>(current.group()) => {
+            Err(Format::ComponentRange(ComponentRange::conditional("year")))
         }
-    }
-}
-
-/// Appends the text of any component, common or not. This is not inlined into the loop that calls
-/// it.
-#[inline(never)]
-#[tactic(auto, using(crate::proofs::ConversionLemmas::width_of_current))]
-pub(crate) fn write_any<V: ComponentProvider>(
-    component: Component,
-    output: &mut Vec<u8>,
-    value: &V,
-    state: &mut V::State,
-) -> Result<usize, Format>
-    requires room { HasRoom output.old (component_width component) }
-    requires agrees { V.agrees state.old value.now }
-    ensures appends { AppendsUpTo (component_width component) output.old output.new result
-        (component_outcome component (V.facts value.now)) }
-    ensures text { IsUtf8 (component_outcome component (V.facts value.now)).bytes }
-    ensures agrees { V.agrees state.new value.now }
-{
-    current_write_into(component.current(), output, value, state)
-}
-
-/// Appends the text of a component that is not deprecated.
-#[inline]
-fn current_write_into<V: ComponentProvider>(
-    component: Component,
-    output: &mut Vec<u8>,
-    value: &V,
-    state: &mut V::State,
-) -> Result<usize, Format>
-    requires current { IsTrue (is_current component) }
-    requires room { HasRoom output.old (component_width component) }
-    requires agrees { V.agrees state.old value.now }
-    ensures appends { AppendsWhole (component_width component) output.old output.new result
-        (current_outcome component (V.facts value.now)) }
-    ensures agrees { V.agrees state.new value.now }
-{
-    match component {
-        Component::Day(part) => part.write(output, value, state),
-        Component::MonthShort(part) => part.write(output, value, state),
-        Component::MonthLong(part) => part.write(output, value, state),
-        Component::MonthNumerical(part) => part.write(output, value, state),
-        Component::Ordinal(part) => part.write(output, value, state),
-        Component::WeekdayShort(part) => part.write(output, value, state),
-        Component::WeekdayLong(part) => part.write(output, value, state),
-        Component::WeekdaySunday(part) => part.write(output, value, state),
-        Component::WeekdayMonday(part) => part.write(output, value, state),
-        Component::WeekNumberIso(part) => part.write(output, value, state),
-        Component::WeekNumberSunday(part) => part.write(output, value, state),
-        Component::WeekNumberMonday(part) => part.write(output, value, state),
-        Component::CalendarYearFullExtendedRange(part) => part.write(output, value, state),
-        Component::CalendarYearFullStandardRange(part) => part.write(output, value, state),
-        Component::CalendarYearCenturyExtendedRange(part) => part.write(output, value, state),
-        Component::CalendarYearCenturyStandardRange(part) => part.write(output, value, state),
-        Component::CalendarYearLastTwo(part) => part.write(output, value, state),
-        Component::IsoYearFullExtendedRange(part) => part.write(output, value, state),
-        Component::IsoYearFullStandardRange(part) => part.write(output, value, state),
-        Component::IsoYearCenturyExtendedRange(part) => part.write(output, value, state),
-        Component::IsoYearCenturyStandardRange(part) => part.write(output, value, state),
-        Component::IsoYearLastTwo(part) => part.write(output, value, state),
-        Component::Hour12(part) => part.write(output, value, state),
-        Component::Hour24(part) => part.write(output, value, state),
-        Component::Minute(part) => part.write(output, value, state),
-        Component::Period(part) => part.write(output, value, state),
-        Component::Second(part) => part.write(output, value, state),
-        Component::Subsecond(part) => part.write(output, value, state),
-        Component::OffsetHour(part) => part.write(output, value, state),
-        Component::OffsetMinute(part) => part.write(output, value, state),
-        Component::OffsetSecond(part) => part.write(output, value, state),
-        Component::UnixTimestampSecond(part) => part.write(output, value, state),
-        Component::UnixTimestampMillisecond(part) => part.write(output, value, state),
-        Component::Ignore(_) | Component::End(_) => Ok(0),
-        Component::Month(_)
-        | Component::Weekday(_)
-        | Component::WeekNumber(_)
-        | Component::Hour(_)
-        | Component::UnixTimestamp(_)
-        | Component::Year(_) => unreachable!(),
+        None => Err(Format::InsufficientTypeInformation),
     }
 }
