@@ -43,6 +43,18 @@ puts_then {old = old} {first = first} {last = last} p q = record {
   within = omega (arith, length-append first last, p.within, q.within);
 }
 
+-- a text that was put is any that is equal
+pub puts_text : {a : ℕ} {old new : Buffer} {text other : List ℕ} → PutsUpTo a old new text → text ≡ other
+    → Puts old new other
+puts_text {old = old} {new = new} p e =
+    subst (Puts old new) e (record {
+      put = p.put;
+      grown = p.grown;
+      capacity = p.capacity;
+      rest = p.rest;
+      lender = p.lender;
+    })
+
 -- what is written by one value is written by any that is equal
 pub written_as : {A : Type 0} {a b : A} {width : ℕ} {old new : Vec ℕ Global} {n : ℕ} (text : A → List ℕ) → a ≡ b
     → WritesUpTo width old new n (text a) → WritesUpTo width old new n (text b)

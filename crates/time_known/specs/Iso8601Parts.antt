@@ -4,10 +4,12 @@ use Rattle.time_below.specs.Facts.{Facts, DateFacts, the_date, the_time, the_off
 use Rattle.time_digits.specs.Digits.{zero_padded}
 use Rattle.time_fmt.specs.Outcome.{Outcome, done, join}
 use Rattle.time_known.specs.Config.{Choices, has_date, has_time, has_offset, separator}
+use Rattle.time_known.specs.Days.{month_and_day}
 use Rattle.time_known.specs.Fields.{hours_of_fields, offset_fields, time_fields, time_of_day}
 use Rattle.time_known.specs.Iso8601.{iso_time_text, iso_year, year_of_kind}
 use Rattle.time_known.specs.Iso8601Width.{iso_offset_width, iso_time_width, year_width}
 use Rattle.time_known.specs.WellKnown.{refused_if}
+use Rattle.time_known.specs.declared.days.CalendarDay.TheVariants as day
 use Rattle.time_known.specs.declared.fields.OffsetFields.{OffsetFields}
 use Rattle.time_known.specs.declared.fields.TimeFields.{TimeFields}
 use Rattle.time_known.specs.declared.iso8601.config.DateKind.{DateKind}
@@ -24,7 +26,7 @@ use Rattle.time_known.specs.declared.iso8601.parts.RestOfDate.TheVariants as res
 
 -- what follows the year in a date of the kind
 abbrev pub rest_of_kind : DateKind → DateFacts → RestOfDate
-rest_of_kind kind.Calendar d = rest.MonthAndDay d.month d.day
+rest_of_kind kind.Calendar d = rest.MonthAndDay (day.OfMonth d.month d.day)
 rest_of_kind kind.Week d = rest.WeekAndWeekday d.iso_week (d.weekday + 1)
 rest_of_kind kind.Ordinal d = rest.DayOfYear d.ordinal
 
@@ -42,12 +44,28 @@ parts_by components kind f = record {
 abbrev pub chosen_parts : Choices → Facts → Parts
 chosen_parts c f = parts_by c.formatted_components c.date_kind f
 
+-- the same by the numbers of the month and the day
+abbrev pub shown_rest : RestOfDate → RestOfDate
+shown_rest (rest.MonthAndDay d) = rest.MonthAndDay (day.OfMonth (month_and_day d).month (month_and_day d).day)
+shown_rest (rest.WeekAndWeekday week weekday) = rest.WeekAndWeekday week weekday
+shown_rest (rest.DayOfYear number) = rest.DayOfYear number
+
+abbrev pub shown_date : DateParts → DateParts
+shown_date d = record { year = d.year; rest = shown_rest d.rest }
+
+abbrev pub shown_part : Option DateParts → Option DateParts
+shown_part None = None
+shown_part (Some d) = Some (shown_date d)
+
+abbrev pub shown_parts : Parts → Parts
+shown_parts p = record { date = shown_part p.date; time = p.time; offset = p.offset }
+
 -- ---- their texts
 
 -- what follows the year, each after the separator
 abbrev pub rest_text : List ℕ → RestOfDate → List ℕ
-rest_text separator (rest.MonthAndDay month day) =
-    separator ++ zero_padded 2 month ++ separator ++ zero_padded 2 day
+rest_text separator (rest.MonthAndDay d) =
+    separator ++ zero_padded 2 (month_and_day d).month ++ separator ++ zero_padded 2 (month_and_day d).day
 rest_text separator (rest.WeekAndWeekday week weekday) =
     separator ++ codes "W" ++ zero_padded 2 week ++ separator ++ zero_padded 1 weekday
 rest_text separator (rest.DayOfYear day) = separator ++ zero_padded 3 day
@@ -85,7 +103,7 @@ parts_text c p =
 -- ---- their widths
 
 abbrev pub rest_width : ℕ → RestOfDate → ℕ
-rest_width separator (rest.MonthAndDay month day) = 4 + 2 * separator
+rest_width separator (rest.MonthAndDay d) = 4 + 2 * separator
 rest_width separator (rest.WeekAndWeekday week weekday) = 4 + 2 * separator
 rest_width separator (rest.DayOfYear day) = 3 + separator
 

@@ -1,5 +1,5 @@
 //! The days of a year, by their month and the day of that month.
-ghost use Rattle.std.specs.Prelude.{◌≡◌, ◌+◌, ◌-◌, ◌*◌, ◌≤◌, ◌++◌, IsTrue, drop, if◌then◌else◌, length, pos, take};
+ghost use Rattle.std.specs.Prelude.{◌≡◌, ◌+◌, ◌-◌, ◌*◌, ◌≤◌, ◌++◌, IsTrue, drop, if◌then◌else◌, length, take};
 ghost use Rattle.std.specs.Int.{IsInRange};
 ghost use Rattle.time_below.specs.Calendar.{days_in_year, is_leap_year};
 ghost use Rattle.time_digits.specs.Digits.{is_ascii, zero_padded};
@@ -7,7 +7,7 @@ ghost use Rattle.time_fmt.specs.DateText.{month_name, short_name};
 ghost use Rattle.time_known.specs.Days.{day_of_leap_year, month_and_day, month_and_day_in};
 
 use time_digits::{ru8, ru16, two_digits_zero_padded};
-use time_provide::ranges::{Day, Ordinal};
+use time_provide::ranges::{Day, Ordinal, Year};
 
 // Two digits of the month and two of the day, a space and the month's name, of each day of a leap year:
 // eight bytes a day. A common year has all of these but 29 February.
@@ -79,9 +79,9 @@ impl CalendarDay {
     /// The month and the day of a day of this year. None of them is computed: the table has both.
     #[inline(always)]
     #[tactic(auto, using(crate::proofs::DayLemmas::days_of_years))]
-    pub fn in_year(year: ru16<0, 9_999>, ordinal: Ordinal) -> CalendarDay
-        requires { IsInRange 1 (days_in_year (pos year)) ordinal }
-        ensures { month_and_day result ≡ month_and_day_in (is_leap_year (pos year)) ordinal }
+    pub fn in_year(year: Year, ordinal: Ordinal) -> CalendarDay
+        requires { IsInRange 1 (days_in_year year) ordinal }
+        ensures { month_and_day result ≡ month_and_day_in (is_leap_year year) ordinal }
     {
         CalendarDay::OfLeapYear(day_of_leap_year(is_leap_year(year.get()), ordinal))
     }
@@ -126,10 +126,10 @@ impl CalendarDay {
     }
 }
 
-// Whether a year of at most four digits is a leap year.
+// Whether a year is a leap year.
 #[inline(always)]
-fn is_leap_year(year: u16) -> bool
-    ensures { result ≡ is_leap_year (pos year) }
+fn is_leap_year(year: i32) -> bool
+    ensures { result ≡ is_leap_year year }
 {
     if year % 25 == 0 {
         year % 16 == 0

@@ -6,7 +6,7 @@ ghost use Rattle.time_known.specs.Fields.{fields, offset_fields, shown, time_fie
 ghost use Rattle.time_known.specs.Groups.{AreAllSupplied, at_groups};
 
 use crate::days::CalendarDay;
-use time_digits::{ru8, ru16};
+use time_digits::{ri32, ru8, ru16};
 use time_provide::ComponentProvider;
 use time_provide::ranges::{Hours, Minutes, Nanoseconds, Seconds};
 
@@ -64,7 +64,7 @@ pub(crate) fn fields_of<V: ComponentProvider>(
     ensures fields { shown result ≡ at_groups fields (V.facts value.now) }
     ensures agrees { AgreesOnTime (V.agrees state.new value.now) (V.facts value.now) }
 {
-    let date = CalendarDay::in_year(year, value.ordinal(state));
+    let date = CalendarDay::in_year(ri32::within(i32::from(year.get())), value.ordinal(state));
     let offset = offset_of(value, state);
     let time = time_of(value, state);
     Fields {

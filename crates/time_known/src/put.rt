@@ -133,8 +133,21 @@ pub fn put_date<S: Sink>(output: &mut S, fields: &Fields, separator: &str)
         (S.buffer output.old) (S.buffer output.new)
         (date_of_fields separator.now (shown fields.now)) }
 {
-    let (month, day) = fields.date.digits();
     put_four_digits(output, fields.year);
+    put_month_and_day(output, fields.date, separator);
+}
+
+/// Puts the month and the day, and the separator before each of them.
+#[inline(always)]
+#[tactic(auto, using(crate::proofs::LengthLemmas::joined_lengths))]
+pub fn put_month_and_day<S: Sink>(output: &mut S, date: CalendarDay, separator: &str)
+    requires room { Fits (4 + 2 * length separator.now) (S.buffer output.old) }
+    ensures puts { PutsUpTo (4 + 2 * length separator.now)
+        (S.buffer output.old) (S.buffer output.new)
+        (separator.now ++ zero_padded 2 (month_and_day date).month
+        ++ separator.now ++ zero_padded 2 (month_and_day date).day) }
+{
+    let (month, day) = date.digits();
     output.put(separator);
     output.put(month);
     output.put(separator);

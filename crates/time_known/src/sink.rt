@@ -18,6 +18,12 @@ pub trait Sink {
         requires room { Fits (length piece.now) (buffer self.old) }
         ensures puts { Puts (buffer self.old) (buffer self.new) piece.now };
 
+    /// Puts a piece that few texts have. A sink may do so by a call, so that the texts of formats stay
+    /// small enough to be inlined.
+    fn put_seldom(&mut self, piece: &str)
+        requires room { Fits (length piece.now) (buffer self.old) }
+        ensures puts { Puts (buffer self.old) (buffer self.new) piece.now };
+
     /// Puts the first decimals of `rest / unit`, not rounded.
     fn put_decimals(&mut self, rest: u64, unit: u64, digits: ru8<1, 255>)
         requires part { rest < unit }
@@ -59,6 +65,11 @@ impl Sink for Vec<u8> {
         } else {
             put_long(self, piece);
         }
+    }
+
+    #[inline(always)]
+    fn put_seldom(&mut self, piece: &str) {
+        self.put(piece);
     }
 
     #[inline]

@@ -1,13 +1,17 @@
 -- How long numbers and decimals of ISO 8601 are: what functions that write them name.
-use Rattle.std.proofs.Common.{◌≡◌, ℕ, ◌<◌, length, length-append, append_assoc, decimal, refl, arith}
+use Rattle.std.proofs.Common.{◌≡◌, ℕ, ◌+◌, ◌-◌, ◌*◌, ◌/◌, ◌^◌, ◌<◌, ◌≤◌, true, length, length-append, append_assoc, decimal}
+use Rattle.std.proofs.Common.{refl, sym, ap, ◌∙◌, arith, take, replicate}
 use Rattle.std.proofs.lemmas.Fmt.{length-decimal-le}
-use Rattle.time_digits.specs.Digits.{zero_padded}
-use Rattle.time_digits.proofs.DigitLemmas.{length-fixed, padded_whole}
+use Rattle.std.proofs.lemmas.List.{length-replicate, replicate-append-replicate, take-append-le, take_all}
+use Rattle.time_digits.specs.Digits.{fixed, is_ascii, zero_padded}
+use Rattle.time_digits.proofs.DigitLemmas.{decimal_one, length-fixed, padded_whole}
 use Rattle.time_digits.proofs.LengthLemmas.{length-padded, length-digit}
+use Rattle.time_fmt.specs.Decimals.{decimals}
 use Rattle.time_fmt.proofs.DecimalLemmas.{three_of_second, six_of_second}
 use Rattle.time_known.specs.Config.{decimal_sign_text}
 use Rattle.time_known.specs.declared.iso8601.config.DecimalSign.{DecimalSign}
 use Rattle.time_known.specs.declared.iso8601.config.DecimalSign.TheVariants.{Point, Comma}
+use Rattle.time_known.specs.declared.iso8601.usual_text.TheConstants.{ZEROS}
 
 -- ---- lengths
 
@@ -25,6 +29,36 @@ pub ruleset one_digit = (padded_digit, length-digit)
 pub length-decimal_sign : (s : DecimalSign) → length (decimal_sign_text s) ≡ 1
 length-decimal_sign Point = refl
 length-decimal_sign Comma = refl
+
+-- the first decimal of a second
+pub one_of_second : (n : ℕ) → n < 1_000_000_000 → decimal (n / 100_000_000) ≡ decimals n 1_000_000_000 1
+one_of_second n h =
+    let same : n / 100_000_000 ≡ n * 10 ^ 1 / 1_000_000_000 = omega arith in
+    decimal_one (n / 100_000_000) (omega arith) ∙ ap (fixed 1) same
+
+pub ruleset first_decimal = (one_of_second, length-digit)
+
+-- the table has 246 zeros
+zeros_are : ZEROS.now ≡ replicate 246 48
+zeros_are = refl
+
+pub zeros_ascii : is_ascii ZEROS.now ≡ true
+zeros_ascii = refl
+
+pub zeros_length : length ZEROS.now ≡ 246
+zeros_length = refl
+
+-- the first of them
+pub first_zeros : (k : ℕ) → k ≤ 246 → take k ZEROS.now ≡ replicate k 48
+first_zeros k h =
+    let zeros = replicate {A = ℕ} k 48 in
+    let size = length-replicate {A = ℕ} k 48 in
+    let more : k + (246 - k) ≡ 246 = omega arith in
+    ap (take k) (zeros_are ∙ ap (λ (n : ℕ). replicate n 48) (sym more) ∙ sym (replicate-append-replicate k (246 - k) 48))
+    ∙ take-append-le k zeros (replicate (246 - k) 48) (omega (arith, size)) ∙ take_all k zeros (omega (arith, size))
+
+-- how long the table is, and that it is ASCII
+pub ruleset table_of_zeros = (zeros_ascii, zeros_length, length-fixed)
 
 -- what the first digits of a nanosecond are decimals of
 pub ruleset decimals_of_second = (three_of_second, six_of_second)

@@ -1,13 +1,11 @@
 -- The text and the width of the parts that are written are those of the choices.
 use Rattle.std.proofs.Common.{◌≡◌, ◌≢◌, ℕ, ◌+◌, ◌*◌, ◌++◌, Bool, true, false, length, List, [], refl, sym, ap, subst, ◌∙◌, arith, Option, Some, None}
-use Rattle.std.proofs.Common.{Result, Vec, unsigned_abs, nat_lt}
-use Rattle.std.specs.Global.{Global}
+use Rattle.std.proofs.Common.{unsigned_abs, nat_lt}
 use Rattle.std.specs.Prelude.{◌&&◌, codes, if◌then◌else◌}
 use Rattle.std.proofs.lemmas.List.{append-nil}
 use Rattle.time_below.specs.Facts.{Facts, DateFacts, the_date, the_time, the_offset}
 use Rattle.time_below.specs.Offset.{Offset, is_utc}
-use Rattle.time_fmt.specs.declared.error.Format.{Format}
-use Rattle.time_fmt.specs.Outcome.{AppendsUpTo, Outcome, Refusal, done, join}
+use Rattle.time_fmt.specs.Outcome.{Outcome, Refusal, done, join}
 use Rattle.time_known.specs.Config.{Choices, groups_of, has_time, separator}
 use Rattle.time_known.specs.Fields.{offset_fields}
 use Rattle.time_known.specs.Groups.{has_groups}
@@ -15,8 +13,10 @@ use Rattle.time_known.specs.Iso8601.{iso8601_outcome, iso8601_outcome_of, iso_da
 use Rattle.time_known.specs.Iso8601.{iso_time_text, iso_year, text_after_year, year_of_kind}
 use Rattle.time_known.specs.Iso8601Parts.{chosen_parts, date_of_parts, date_parts, date_parts_width}
 use Rattle.time_known.specs.Iso8601Parts.{iso_offset_of_fields, minutes_of_fields, parts_by, parts_text, parts_width}
-use Rattle.time_known.specs.Iso8601Parts.{rest_of_kind, rest_text, rest_width}
-use Rattle.time_known.specs.Iso8601Width.{iso8601_width, iso8601_width_of, iso_date_width, width_after_year, year_width}
+use Rattle.time_known.specs.Iso8601Parts.{part_text, part_width, rest_of_kind, rest_text, rest_width, shown_part, shown_parts}
+use Rattle.time_known.specs.Iso8601Parts.{shown_rest, time_part_text}
+use Rattle.time_known.specs.Iso8601Width.{iso8601_width, iso8601_width_of, iso_date_width, iso_offset_width, iso_time_width}
+use Rattle.time_known.specs.Iso8601Width.{width_after_year, year_width}
 use Rattle.time_known.specs.WellKnown.{offset_hours_text, refused_if}
 use Rattle.time_known.specs.declared.iso8601.config.DateKind.{DateKind}
 use Rattle.time_known.specs.declared.iso8601.config.DateKind.TheVariants as kind
@@ -24,7 +24,10 @@ use Rattle.time_known.specs.declared.iso8601.config.FormattedComponents.{Formatt
 use Rattle.time_known.specs.declared.iso8601.config.FormattedComponents.TheVariants as components
 use Rattle.time_known.specs.declared.iso8601.config.OffsetPrecision.{OffsetPrecision}
 use Rattle.time_known.specs.declared.iso8601.config.OffsetPrecision.TheVariants as offset_precision
+use Rattle.time_known.specs.declared.iso8601.parts.DateParts.{DateParts}
 use Rattle.time_known.specs.declared.iso8601.parts.Parts.{Parts}
+use Rattle.time_known.specs.declared.iso8601.parts.RestOfDate.{RestOfDate}
+use Rattle.time_known.specs.declared.iso8601.parts.RestOfDate.TheVariants as rest
 use Rattle.time_known.proofs.GroupLemmas.{has_needed, of_the_date, of_the_time, of_the_offset}
 
 -- ---- the parts
@@ -129,14 +132,46 @@ pub chosen_width : (c : Choices) (f : Facts) → c.formatted_components ≢ comp
     → parts_width c (chosen_parts c f) ≡ iso8601_width c
 chosen_width c f some = width_by c.formatted_components c f some
 
--- what is appended by the parts is appended by the choices
-pub by_parts : {old new : Vec ℕ Global} {answer : Result ℕ Format} (c : Choices) (f : Facts) (p : Parts)
+-- the numbers of the month and the day give the same text and width
+same_rest : (separator : List ℕ) (r : RestOfDate) → rest_text separator (shown_rest r) ≡ rest_text separator r
+same_rest separator (rest.MonthAndDay d) = refl
+same_rest separator (rest.WeekAndWeekday week weekday) = refl
+same_rest separator (rest.DayOfYear number) = refl
+
+same_rest_width : (n : ℕ) (r : RestOfDate) → rest_width n (shown_rest r) ≡ rest_width n r
+same_rest_width n (rest.MonthAndDay d) = refl
+same_rest_width n (rest.WeekAndWeekday week weekday) = refl
+same_rest_width n (rest.DayOfYear number) = refl
+
+same_date : (c : Choices) (d : Option DateParts)
+    → part_text (date_of_parts c) (shown_part d) ≡ part_text (date_of_parts c) d
+same_date c None = refl
+same_date c (Some d) =
+    ap (λ (rest : List ℕ). join (iso_year c.year_is_six_digits d.year) (done rest))
+    (same_rest (separator c (codes "-")) d.rest)
+
+same_date_width : (c : Choices) (d : Option DateParts)
+    → part_width (date_parts_width c) (shown_part d) ≡ part_width (date_parts_width c) d
+same_date_width c None = refl
+same_date_width c (Some d) =
+    ap (λ (n : ℕ). year_width c.year_is_six_digits + n) (same_rest_width (length (separator c (codes "-"))) d.rest)
+
+-- the width of the parts is that of the choices
+pub by_parts_width : (c : Choices) (f : Facts) (p : Parts) → c.formatted_components ≢ components.None
+    → shown_parts p ≡ chosen_parts c f → parts_width c p ≡ iso8601_width c
+by_parts_width c f p some e =
+    ap (λ (n : ℕ). n + part_width (λ _. iso_time_width c) p.time + part_width (λ _. iso_offset_width c) p.offset)
+    (sym (same_date_width c p.date))
+    ∙ ap (parts_width c) e ∙ chosen_width c f some
+
+-- what holds of the width and the text of the parts holds of those of the choices
+pub by_parts : (c : Choices) (f : Facts) (p : Parts) (Holds : ℕ → Outcome → Type 0)
     → has_groups (groups_of c.formatted_components) f ≡ true → c.formatted_components ≢ components.None
-    → p ≡ chosen_parts c f → AppendsUpTo (parts_width c p) old new answer (parts_text c p)
-    → AppendsUpTo (iso8601_width c) old new answer (iso8601_outcome c f)
-by_parts {old} {new} {answer} c f p there some e h =
-    let chosen : AppendsUpTo (parts_width c (chosen_parts c f)) old new answer (parts_text c (chosen_parts c f)) =
-    subst (λ (q : Parts). AppendsUpTo (parts_width c q) old new answer (parts_text c q)) e h in
-    let wide = subst (λ (n : ℕ). AppendsUpTo n old new answer (parts_text c (chosen_parts c f)))
-    (chosen_width c f some) chosen in
-    subst (λ (o : Outcome). AppendsUpTo (iso8601_width c) old new answer o) (sym (chosen_text c f there some)) wide
+    → shown_parts p ≡ chosen_parts c f → Holds (parts_width c p) (parts_text c p)
+    → Holds (iso8601_width c) (iso8601_outcome c f)
+by_parts c f p Holds there some e h =
+    let text : parts_text c p ≡ iso8601_outcome c f =
+    ap (λ (date : Outcome). join date (join (done (time_part_text c p.time)) (part_text (iso_offset_of_fields c) p.offset)))
+    (sym (same_date c p.date))
+    ∙ ap (parts_text c) e ∙ sym (chosen_text c f there some) in
+    subst (Holds (iso8601_width c)) text (subst (λ (n : ℕ). Holds n (parts_text c p)) (by_parts_width c f p some e) h)

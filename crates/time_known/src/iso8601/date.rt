@@ -1,5 +1,5 @@
 //! The date of a text of ISO 8601-1:2019, section 5.2.
-ghost use Rattle.std.specs.Prelude.{◌+◌, ◌*◌, ◌++◌, length, pos, int_lt, unsigned_abs, true, IsTrue, codes};
+ghost use Rattle.std.specs.Prelude.{◌≡◌, MatchOption, Ok, false, ◌+◌, ◌*◌, ◌++◌, length, pos, int_lt, unsigned_abs, true, IsTrue, codes};
 ghost use Rattle.time_below.specs.Facts.{the_date};
 ghost use Rattle.time_digits.specs.Digits.{zero_padded};
 ghost use Rattle.time_fmt.specs.Outcome.{AppendsUpTo};
@@ -15,9 +15,9 @@ ghost use Rattle.time_known.specs.Sink.{Fits, PutsJust, PutsUpTo};
 
 use crate::accepted::OutOfRange;
 use crate::iso8601::config::{Config, DateKind};
-use crate::iso8601::parts::{DateParts, RestOfDate, date_of};
+use crate::iso8601::parts::{DateParts, Parts, RestOfDate, append_parts, date_of};
 use crate::pieces::{put_back, take_out};
-use crate::put::{put_four_digits, put_pair, put_three_digits};
+use crate::put::{put_four_digits, put_month_and_day, put_pair, put_three_digits};
 use crate::sink::Sink;
 use time_digits::num_fmt::six_digits_zero_padded;
 use time_digits::{ru8, ru16, single_digit};
@@ -43,31 +43,102 @@ pub fn format_date<V: ComponentProvider>(
         (iso_date config.now (the_date (V.facts value.now))) }
     ensures agrees { AgreesOnDate (V.agrees state.new value.now) (V.facts value.now) }
 {
-    match config.date_kind() {
-        DateKind::Calendar => {
-            append_date(config, output, date_of(DateKind::Calendar, value, state))
-        }
-        DateKind::Week => append_date(config, output, date_of(DateKind::Week, value, state)),
-        DateKind::Ordinal => append_date(config, output, date_of(DateKind::Ordinal, value, state)),
+    let parts = Parts {
+        date: Some(date_of(config.date_kind(), value, state)),
+        time: None,
+        offset: None,
+    };
+    match append_parts(config, output, &parts) {
+        Ok(count) => Ok(count),
+        Err(component) => Err(Format::InvalidComponent(component.name())),
     }
 }
 
-// Appends the date of a kind that the compiler sees, so that no other is tested.
+// Appends the date, where four digits hold its year; else it appends nothing.
 #[inline(always)]
-fn append_date(config: &Config, output: &mut Vec<u8>, date: DateParts) -> Result<usize, Format>
-    requires room { HasRoom output.old (date_parts_width config.now date) }
-    ensures appends { AppendsUpTo (date_parts_width config.now date) output.old output.new result
-        (date_of_parts config.now date) }
+pub(super) fn write_short_date<V: ComponentProvider>(
+    config: &Config,
+    output: &mut Vec<u8>,
+    value: &V,
+    state: &mut V::State,
+) -> Option<usize>
+    requires short { config.now.year_is_six_digits ≡ false }
+    requires supplied { IsTrue V.SUPPLIES_DATE }
+    requires room { HasRoom output.old (iso_date_width config.now) }
+    requires agrees { V.agrees state.old value.now }
+    ensures appends { MatchOption result (output.new ≡ output.old)
+        (λ n. AppendsUpTo (iso_date_width config.now) output.old output.new (Ok n)
+        (iso_date config.now (the_date (V.facts value.now)))) }
+    ensures agrees { AgreesOnDate (V.agrees state.new value.now) (V.facts value.now) }
 {
+    match config.date_kind() {
+        DateKind::Calendar => write_date_by(config, DateKind::Calendar, output, value, state),
+        DateKind::Week => write_date_by(config, DateKind::Week, output, value, state),
+        DateKind::Ordinal => write_date_by(config, DateKind::Ordinal, output, value, state),
+    }
+}
+
+// The same by a kind that the compiler sees, so that no other is tested.
+#[inline(always)]
+pub(super) fn write_date_by<V: ComponentProvider>(
+    config: &Config,
+    kind: DateKind,
+    output: &mut Vec<u8>,
+    value: &V,
+    state: &mut V::State,
+) -> Option<usize>
+    requires kind { config.now.date_kind ≡ kind }
+    requires short { config.now.year_is_six_digits ≡ false }
+    requires supplied { IsTrue V.SUPPLIES_DATE }
+    requires room { HasRoom output.old (iso_date_width config.now) }
+    requires agrees { V.agrees state.old value.now }
+    ensures appends { MatchOption result (output.new ≡ output.old)
+        (λ n. AppendsUpTo (iso_date_width config.now) output.old output.new (Ok n)
+        (iso_date config.now (the_date (V.facts value.now)))) }
+    ensures agrees { AgreesOnDate (V.agrees state.new value.now) (V.facts value.now) }
+{
+    append_short(config, output, date_of(kind, value, state))
+}
+
+// Appends a date, where four digits hold its year.
+#[inline(always)]
+#[tactic(auto, using(crate::proofs::LengthLemmas::joined_lengths))]
+fn append_short(config: &Config, output: &mut Vec<u8>, date: DateParts) -> Option<usize>
+    requires short { config.now.year_is_six_digits ≡ false }
+    requires room { HasRoom output.old (date_parts_width config.now date) }
+    ensures appends { MatchOption result (output.new ≡ output.old)
+        (λ n. AppendsUpTo (date_parts_width config.now date) output.old output.new (Ok n)
+        (date_of_parts config.now date)) }
+{
+    let number = date.year.get();
+    if number < 0 || number > 9_999 {
+        return None;
+    }
+    let year = ru16::within(number.unsigned_abs() as u16);
+    let has_separators = config.use_separators();
     let mut taken = take_out(output);
     let begin = taken.len();
-    let answer = put_date(&mut taken, config, &date);
+    if has_separators {
+        put_short(&mut taken, year, &date.rest, "-");
+    } else {
+        put_short(&mut taken, year, &date.rest, "");
+    }
     let count = taken.len() - begin;
     put_back(output, taken);
-    match answer {
-        Ok(()) => Ok(count),
-        Err(component) => Err(Format::InvalidComponent(component.name())),
-    }
+    Some(count)
+}
+
+// Puts four digits of the year, and what follows it.
+#[inline(always)]
+#[tactic(auto, using(crate::proofs::LengthLemmas::joined_lengths))]
+fn put_short<S: Sink>(output: &mut S, year: ru16<0, 9_999>, rest: &RestOfDate, dash: &str)
+    requires room { Fits (4 + rest_width (length dash.now) rest.now) (S.buffer output.old) }
+    ensures puts { PutsUpTo (4 + rest_width (length dash.now) rest.now)
+        (S.buffer output.old) (S.buffer output.new)
+        (zero_padded 4 year ++ rest_text dash.now rest.now) }
+{
+    put_four_digits(output, year);
+    put_rest(output, rest, dash);
 }
 
 // Puts the date, if there is one.
@@ -147,9 +218,7 @@ fn put_rest<S: Sink>(output: &mut S, rest: &RestOfDate, dash: &str)
         (S.buffer output.old) (S.buffer output.new) (rest_text dash.now rest.now) }
 {
     match *rest {
-        RestOfDate::MonthAndDay { month, day } => {
-            put_pairs(output, dash, month.expand(), day.expand())
-        }
+        RestOfDate::MonthAndDay(day) => put_month_and_day(output, day, dash),
         RestOfDate::WeekAndWeekday { week, weekday } => put_week(
             output,
             dash,
@@ -158,21 +227,6 @@ fn put_rest<S: Sink>(output: &mut S, rest: &RestOfDate, dash: &str)
         ),
         RestOfDate::DayOfYear { day } => put_day_of_year(output, dash, day.expand()),
     }
-}
-
-// Puts two numbers of two digits, and the separator before each of them.
-#[inline(always)]
-#[tactic(auto, using(crate::proofs::LengthLemmas::joined_lengths))]
-fn put_pairs<S: Sink>(output: &mut S, separator: &str, first: ru8<0, 99>, second: ru8<0, 99>)
-    requires room { Fits (4 + 2 * length separator.now) (S.buffer output.old) }
-    ensures puts { PutsUpTo (4 + 2 * length separator.now)
-        (S.buffer output.old) (S.buffer output.new)
-        (separator.now ++ zero_padded 2 first ++ separator.now ++ zero_padded 2 second) }
-{
-    output.put(separator);
-    put_pair(output, first);
-    output.put(separator);
-    put_pair(output, second);
 }
 
 // Puts the letter `W` with two digits of the week, and the weekday, and the separator before each of

@@ -43,7 +43,10 @@ pub fn format_offset<V: ComponentProvider>(
         time: None,
         offset: Some(offset_of(value, state)),
     };
-    append_parts(config, output, &parts)
+    match append_parts(config, output, &parts) {
+        Ok(count) => Ok(count),
+        Err(component) => Err(Format::InvalidComponent(component.name())),
+    }
 }
 
 // Puts the offset, if there is one.
@@ -103,7 +106,9 @@ fn put_minutes<S: Sink>(
 {
     match config.offset_precision() {
         OffsetPrecision::Minute => {
-            output.put(config.separator(":"));
+            if config.use_separators() {
+                output.put(":");
+            }
             put_pair(output, offset.minutes.expand());
             Ok(())
         }

@@ -1,31 +1,32 @@
 //! The parts of a value that a text is made of, one after another.
-ghost use Rattle.std.specs.Prelude.{◌≡◌, IsTrue, OnOk};
-ghost use Rattle.time_below.specs.Facts.{the_date};
-ghost use Rattle.time_fmt.specs.Outcome.{AppendsUpTo};
+ghost use Rattle.std.specs.Prelude.{◌≡◌, ◌≢◌, ◌+◌, IsTrue, MatchOption, Ok, OnOk, OnSome};
+ghost use Rattle.time_below.specs.Facts.{the_date, the_time};
+ghost use Rattle.time_fmt.specs.Outcome.{AppendsUpTo, join};
 ghost use Rattle.time_fmt.specs.Room.{HasRoom};
 ghost use Rattle.time_provide.specs.Real.{AgreesOnDate, AreReal};
 ghost use Rattle.time_known.specs.Config.{groups_of};
 ghost use Rattle.time_known.specs.Groups.{are_supplied};
-ghost use Rattle.time_known.specs.Iso8601.{iso8601_outcome};
-ghost use Rattle.time_known.specs.Iso8601Parts.{chosen_parts, date_parts, parts_text, parts_width};
-ghost use Rattle.time_known.specs.Iso8601Width.{iso8601_width};
+ghost use Rattle.time_known.specs.Iso8601.{iso8601_outcome, iso_date, iso_time};
+ghost use Rattle.time_known.specs.Iso8601Parts.{chosen_parts, date_parts, parts_text, parts_width, shown_date, shown_parts};
+ghost use Rattle.time_known.specs.Iso8601Width.{iso8601_width, iso_date_width, iso_time_width};
 ghost use Rattle.time_known.specs.Sink.{Fits};
-ghost use Rattle.time_known.specs.Accepted.{PutsOutcome};
+ghost use Rattle.time_known.specs.Accepted.{AppendsOrRefuses, PutsOutcome};
 ghost use Rattle.time_known.specs.UsualText.{IsUsual};
 
 use crate::accepted::OutOfRange;
+use crate::days::CalendarDay;
 use crate::fields::{OffsetFields, TimeFields, offset_of, time_of};
-use crate::iso8601::config::{Config, DateKind, FormattedComponents, Usual};
-use crate::iso8601::date::{format_date, put_date_part};
+use crate::iso8601::config::{Config, DateKind, FormattedComponents, TimePrecision, Usual};
+use crate::iso8601::date::{put_date_part, write_date_by, write_short_date};
 use crate::iso8601::offset::put_offset_part;
-use crate::iso8601::time::{format_time, put_time_part};
+use crate::iso8601::time::{put_time_part, put_time_to_second, write_to_second};
 use crate::iso8601::usual_text::write_usual;
 use crate::pieces::{put_back, take_out};
 use crate::sink::Sink;
 use time_digits::ru8;
 use time_fmt::Format;
 use time_provide::ComponentProvider;
-use time_provide::ranges::{Day, IsoWeekNumber, Ordinal, Year};
+use time_provide::ranges::{IsoWeekNumber, Ordinal, Year};
 
 /// The fields of a date by one kind.
 #[derive(Clone, Copy)]
@@ -40,10 +41,7 @@ pub struct DateParts {
 #[derive(Clone, Copy)]
 pub enum RestOfDate {
     /// The month and the day.
-    MonthAndDay {
-        month: ru8<1, 12>,
-        day: Day,
-    },
+    MonthAndDay(CalendarDay),
     /// The week, and the weekday from 1 for Monday.
     WeekAndWeekday {
         week: IsoWeekNumber,
@@ -84,10 +82,10 @@ pub(super) fn append_parts(
     config: &Config,
     output: &mut Vec<u8>,
     parts: &Parts,
-) -> Result<usize, Format>
+) -> Result<usize, OutOfRange>
     requires room { HasRoom output.old (parts_width config.now parts.now) }
-    ensures appends { AppendsUpTo (parts_width config.now parts.now) output.old output.new result
-        (parts_text config.now parts.now) }
+    ensures appends { AppendsOrRefuses (parts_width config.now parts.now) output.old output.new
+        result (parts_text config.now parts.now) }
 {
     let mut taken = take_out(output);
     let begin = taken.len();
@@ -96,8 +94,50 @@ pub(super) fn append_parts(
     put_back(output, taken);
     match answer {
         Ok(()) => Ok(count),
-        Err(component) => Err(Format::InvalidComponent(component.name())),
+        Err(component) => Err(component),
     }
+}
+
+// Appends the parts, of which the time is to the second: no other precision is tested.
+#[inline(always)]
+fn append_to_second(
+    config: &Config,
+    digits: Option<ru8<1, 255>>,
+    output: &mut Vec<u8>,
+    parts: &Parts,
+) -> Result<usize, OutOfRange>
+    requires precision { config.now.time_precision ≡ TimePrecision.Second digits }
+    requires room { HasRoom output.old (parts_width config.now parts.now) }
+    ensures appends { AppendsOrRefuses (parts_width config.now parts.now) output.old output.new
+        result (parts_text config.now parts.now) }
+{
+    let mut taken = take_out(output);
+    let begin = taken.len();
+    let answer = put_to_second(&mut taken, config, digits, parts);
+    let count = taken.len() - begin;
+    put_back(output, taken);
+    match answer {
+        Ok(()) => Ok(count),
+        Err(component) => Err(component),
+    }
+}
+
+// Puts the parts, of which the time is to the second.
+#[inline(always)]
+fn put_to_second<S: Sink>(
+    output: &mut S,
+    config: &Config,
+    digits: Option<ru8<1, 255>>,
+    parts: &Parts,
+) -> Result<(), OutOfRange>
+    requires precision { config.now.time_precision ≡ TimePrecision.Second digits }
+    requires room { Fits (parts_width config.now parts.now) (S.buffer output.old) }
+    ensures puts { PutsOutcome (parts_width config.now parts.now)
+        (S.buffer output.old) (S.buffer output.new) result (parts_text config.now parts.now) }
+{
+    put_date_part(output, config, &parts.date)?;
+    put_time_to_second(output, config, digits, &parts.time);
+    put_offset_part(output, config, &parts.offset)
 }
 
 // The fields of the value's date by this kind.
@@ -109,17 +149,16 @@ pub(super) fn date_of<V: ComponentProvider>(
 ) -> DateParts
     requires supplied { IsTrue V.SUPPLIES_DATE }
     requires agrees { V.agrees state.old value.now }
-    ensures parts { result ≡ date_parts kind (the_date (V.facts value.now)) }
+    ensures parts { shown_date result ≡ date_parts kind (the_date (V.facts value.now)) }
     ensures agrees { AgreesOnDate (V.agrees state.new value.now) (V.facts value.now) }
 {
     match kind {
         DateKind::Calendar => {
             let year = value.calendar_year(state);
-            let day = value.day(state);
-            let month = ru8::within(u8::from(value.month(state)));
+            let day = CalendarDay::in_year(year, value.ordinal(state));
             DateParts {
                 year,
-                rest: RestOfDate::MonthAndDay { month, day },
+                rest: RestOfDate::MonthAndDay(day),
             }
         }
         DateKind::Week => {
@@ -143,11 +182,12 @@ pub(super) fn date_of<V: ComponentProvider>(
 }
 
 // The fields of the parts that are formatted.
+#[inline(always)]
 fn parts_of<V: ComponentProvider>(config: &Config, value: &V, state: &mut V::State) -> Parts
     requires supplied { IsTrue (are_supplied (groups_of config.now.formatted_components)
         V.SUPPLIES_DATE V.SUPPLIES_TIME V.SUPPLIES_OFFSET) }
     requires agrees { V.agrees state.old value.now }
-    ensures parts { result ≡ chosen_parts config.now (V.facts value.now) }
+    ensures parts { shown_parts result ≡ chosen_parts config.now (V.facts value.now) }
     ensures real { config.now.formatted_components ≡ FormattedComponents.DateTimeOffset
         → AreReal (V.facts value.now) }
     ensures agrees { V.agrees state.new value.now }
@@ -197,36 +237,114 @@ pub(super) fn write_parts<V: ComponentProvider>(
         if let Some(count) = write_usual(config, usual, output, value, state) {
             return Ok(count);
         }
+    } else if let Some(count) = write_frequent(config, output, value, state) {
+        return Ok(count);
     }
-    write_each(config, output, value, state)
+    if config.formats_nothing() {
+        return Err(Format::InsufficientTypeInformation);
+    }
+    match write_each(config, output, value, state) {
+        Ok(count) => Ok(count),
+        Err(component) => Err(Format::InvalidComponent(component.name())),
+    }
 }
 
-// Appends the parts that are formatted, by any configuration.
+// Appends the parts that are formatted, by any configuration that formats something.
 #[inline(never)]
 fn write_each<V: ComponentProvider>(
     config: &Config,
     output: &mut Vec<u8>,
     value: &V,
     state: &mut V::State,
-) -> Result<usize, Format>
+) -> Result<usize, OutOfRange>
+    requires some { config.now.formatted_components ≢ FormattedComponents.None }
     requires supplied { IsTrue (are_supplied (groups_of config.now.formatted_components)
         V.SUPPLIES_DATE V.SUPPLIES_TIME V.SUPPLIES_OFFSET) }
     requires room { HasRoom output.old (iso8601_width config.now) }
     requires agrees { V.agrees state.old value.now }
-    ensures appends { AppendsUpTo (iso8601_width config.now) output.old output.new result
+    ensures appends { AppendsOrRefuses (iso8601_width config.now) output.old output.new result
         (iso8601_outcome config.now (V.facts value.now)) }
-    ensures real { OnOk result
-        (config.now.formatted_components ≡ FormattedComponents.DateTimeOffset
-        → AreReal (V.facts value.now)) }
+    ensures real { config.now.formatted_components ≡ FormattedComponents.DateTimeOffset
+        → AreReal (V.facts value.now) }
     ensures agrees { V.agrees state.new value.now }
 {
-    match config.formatted_components() {
-        FormattedComponents::None => Err(Format::InsufficientTypeInformation),
-        FormattedComponents::Date => format_date(config, output, value, state),
-        FormattedComponents::Time => format_time(config, output, value, state),
+    match config.time_precision() {
+        TimePrecision::Second { decimal_digits } => {
+            let parts = parts_of(config, value, state);
+            append_to_second(config, decimal_digits, output, &parts)
+        }
         _ => {
             let parts = parts_of(config, value, state);
             append_parts(config, output, &parts)
         }
+    }
+}
+
+// Appends a date, a time to the second, or both, each in a straight line, where nothing of it is refused;
+// else, and by other configurations, it appends nothing.
+#[inline(always)]
+fn write_frequent<V: ComponentProvider>(
+    config: &Config,
+    output: &mut Vec<u8>,
+    value: &V,
+    state: &mut V::State,
+) -> Option<usize>
+    requires supplied { IsTrue (are_supplied (groups_of config.now.formatted_components)
+        V.SUPPLIES_DATE V.SUPPLIES_TIME V.SUPPLIES_OFFSET) }
+    requires room { HasRoom output.old (iso8601_width config.now) }
+    requires agrees { V.agrees state.old value.now }
+    ensures appends { MatchOption result (output.new ≡ output.old)
+        (λ n. AppendsUpTo (iso8601_width config.now) output.old output.new (Ok n)
+        (iso8601_outcome config.now (V.facts value.now))) }
+    ensures parts { OnSome result
+        (config.now.formatted_components ≢ FormattedComponents.DateTimeOffset) }
+    ensures agrees { V.agrees state.new value.now }
+{
+    match config.formatted_components() {
+        FormattedComponents::Date => {
+            if config.year_is_six_digits() {
+                return None;
+            }
+            write_short_date(config, output, value, state)
+        }
+        FormattedComponents::Time => match config.time_precision() {
+            TimePrecision::Second { decimal_digits } => {
+                Some(write_to_second(config, decimal_digits, output, value, state))
+            }
+            _ => None,
+        },
+        FormattedComponents::DateTime => write_date_time(config, output, value, state),
+        _ => None,
+    }
+}
+
+// Appends the date by month and day after four digits of the year, and the time to the second.
+#[inline(never)]
+#[tactic(auto, using(time_fmt::proofs::WriteLemmas::appends_both))]
+fn write_date_time<V: ComponentProvider>(
+    config: &Config,
+    output: &mut Vec<u8>,
+    value: &V,
+    state: &mut V::State,
+) -> Option<usize>
+    requires date { IsTrue V.SUPPLIES_DATE }
+    requires time { IsTrue V.SUPPLIES_TIME }
+    requires room { HasRoom output.old (iso_date_width config.now + iso_time_width config.now) }
+    requires agrees { V.agrees state.old value.now }
+    ensures appends { MatchOption result (output.new ≡ output.old)
+        (λ n. AppendsUpTo (iso_date_width config.now + iso_time_width config.now)
+        output.old output.new (Ok n) (join (iso_date config.now (the_date (V.facts value.now)))
+        (iso_time config.now (the_time (V.facts value.now))))) }
+    ensures agrees { V.agrees state.new value.now }
+{
+    if config.year_is_six_digits() {
+        return None;
+    }
+    match (config.date_kind(), config.time_precision()) {
+        (DateKind::Calendar, TimePrecision::Second { decimal_digits }) => {
+            let date = write_date_by(config, DateKind::Calendar, output, value, state)?;
+            Some(date + write_to_second(config, decimal_digits, output, value, state))
+        }
+        _ => None,
     }
 }

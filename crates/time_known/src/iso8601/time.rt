@@ -1,5 +1,5 @@
 //! The time of day of a text of ISO 8601-1:2019, section 5.3.
-ghost use Rattle.std.specs.Prelude.{◌≡◌, ◌+◌, ◌*◌, ◌<◌, ◌≤◌, ◌++◌, length, IsTrue};
+ghost use Rattle.std.specs.Prelude.{◌≡◌, Ok, ◌+◌, ◌*◌, ◌<◌, ◌≤◌, ◌++◌, length, IsTrue};
 ghost use Rattle.time_below.specs.Facts.{the_time};
 ghost use Rattle.time_digits.specs.Digits.{zero_padded};
 ghost use Rattle.time_fmt.specs.Outcome.{AppendsUpTo};
@@ -55,6 +55,42 @@ pub fn format_time<V: ComponentProvider>(
     Ok(count)
 }
 
+// Appends the time to the second.
+#[inline(never)]
+#[tactic(auto, using(crate::proofs::LengthLemmas::joined_lengths))]
+pub(super) fn write_to_second<V: ComponentProvider>(
+    config: &Config,
+    digits: Option<ru8<1, 255>>,
+    output: &mut Vec<u8>,
+    value: &V,
+    state: &mut V::State,
+) -> usize
+    requires precision { config.now.time_precision ≡ TimePrecision.Second digits }
+    requires supplied { IsTrue V.SUPPLIES_TIME }
+    requires room { HasRoom output.old (iso_time_width config.now) }
+    requires agrees { V.agrees state.old value.now }
+    ensures appends { AppendsUpTo (iso_time_width config.now) output.old output.new (Ok result)
+        (iso_time config.now (the_time (V.facts value.now))) }
+    ensures agrees { AgreesOnTime (V.agrees state.new value.now) (V.facts value.now) }
+{
+    let time = time_of(value, state);
+    let (sign, has_separators) = (config.decimal_sign(), config.use_separators());
+    let has_letter = config.has_time_letter();
+    let mut taken = take_out(output);
+    let begin = taken.len();
+    if has_letter {
+        taken.put("T");
+    }
+    if has_separators {
+        put_to_second(&mut taken, &time, ":", sign, digits);
+    } else {
+        put_to_second(&mut taken, &time, "", sign, digits);
+    }
+    let count = taken.len() - begin;
+    put_back(output, taken);
+    count
+}
+
 // Puts the time, if there is one.
 #[inline(always)]
 pub(super) fn put_time_part<S: Sink>(output: &mut S, config: &Config, time: &Option<TimeFields>)
@@ -100,6 +136,51 @@ fn put_units<S: Sink>(output: &mut S, config: &Config, time: &TimeFields)
         TimePrecision::Second { decimal_digits } => {
             put_to_second(output, time, colon, sign, decimal_digits)
         }
+    }
+}
+
+// Puts the hour, the minute and the second by separators that the compiler knows, and decimals of the second.
+#[inline(always)]
+fn put_second<S: Sink>(
+    output: &mut S,
+    config: &Config,
+    time: &TimeFields,
+    digits: Option<ru8<1, 255>>,
+)
+    requires room { Fits (units_width (TimePrecision.Second digits) config.now)
+        (S.buffer output.old) }
+    ensures puts { PutsUpTo (units_width (TimePrecision.Second digits) config.now)
+        (S.buffer output.old) (S.buffer output.new)
+        (units_text (TimePrecision.Second digits) config.now (time_of_day time.now)) }
+{
+    let sign = config.decimal_sign();
+    if config.use_separators() {
+        put_to_second(output, time, ":", sign, digits);
+    } else {
+        put_to_second(output, time, "", sign, digits);
+    }
+}
+
+// Puts the time to the second, if there is one.
+#[inline(always)]
+#[tactic(auto, using(crate::proofs::LengthLemmas::joined_lengths))]
+pub(super) fn put_time_to_second<S: Sink>(
+    output: &mut S,
+    config: &Config,
+    digits: Option<ru8<1, 255>>,
+    time: &Option<TimeFields>,
+)
+    requires precision { config.now.time_precision ≡ TimePrecision.Second digits }
+    requires room { Fits (part_width (λ _. iso_time_width config.now) time.now)
+        (S.buffer output.old) }
+    ensures puts { PutsUpTo (part_width (λ _. iso_time_width config.now) time.now)
+        (S.buffer output.old) (S.buffer output.new) (time_part_text config.now time.now) }
+{
+    if let Some(time) = time {
+        if config.has_time_letter() {
+            output.put("T");
+        }
+        put_second(output, config, time, digits);
     }
 }
 
@@ -199,7 +280,7 @@ fn nanoseconds_of_minute(time: &TimeFields) -> u64
 }
 
 // Puts the decimal sign and the decimals of the rest over the unit, if any are wanted.
-#[inline(always)]
+#[inline(never)]
 #[tactic(auto, using(crate::proofs::iso8601::LengthLemmas::decimal_lengths))]
 fn put_decimals<S: Sink>(
     output: &mut S,

@@ -1,5 +1,6 @@
 //! The texts of the usual configurations, in pieces that are inlined.
-ghost use Rattle.std.specs.Prelude.{◌≡◌, ◌+◌, ◌*◌, ◌++◌, length, Some, OnSome, MatchOption, Ok, true};
+ghost use Rattle.std.specs.Prelude.{◌≡◌, ◌≤◌, ◌+◌, ◌*◌, ◌++◌, length, take, IsTrue, Some, OnSome, MatchOption, Ok, true};
+ghost use Rattle.time_digits.specs.Digits.{is_ascii};
 ghost use Rattle.time_fmt.specs.Decimals.{decimals};
 ghost use Rattle.time_fmt.specs.Outcome.{AppendsUpTo};
 ghost use Rattle.time_fmt.specs.Room.{HasRoom};
@@ -18,7 +19,7 @@ use crate::iso8601::config::{Config, DecimalSign, Usual};
 use crate::iso8601::time::{NANOSECONDS_PER_SECOND, put_to_second};
 use crate::put::{put_date, put_nine_digits, put_offset, put_six_decimals, put_three_decimals};
 use crate::sink::{Sink, Text, append};
-use time_digits::ru8;
+use time_digits::{ru8, single_digit};
 use time_provide::ComponentProvider;
 use time_provide::ranges::Nanoseconds;
 
@@ -124,6 +125,12 @@ impl Text for DefaultText {
     }
 }
 
+// The zeros after the ninth decimal.
+const ZEROS: &str = "\
+0000000000000000000000000000000000000000000000000000000000000000000000000000000000\
+0000000000000000000000000000000000000000000000000000000000000000000000000000000000\
+0000000000000000000000000000000000000000000000000000000000000000000000000000000000";
+
 // Puts the date, the time and the offset with these separators, which the compiler knows, and so where
 // each part stands.
 #[inline(always)]
@@ -195,12 +202,51 @@ fn put_decimals<S: Sink>(output: &mut S, nanosecond: Nanoseconds, digits: ru8<1,
         (decimals nanosecond NANOSECONDS_PER_SECOND digits) }
 {
     match digits.get() {
-        9 => put_nine_digits(output, nanosecond),
+        9.. => put_nine_and_more(output, nanosecond, digits.get()),
         6 => put_six_decimals(output, nanosecond),
         3 => put_three_decimals(output, nanosecond),
+        1 => put_one_decimal(output, nanosecond),
         _ => {
             let rest = u64::from(nanosecond.get());
             output.put_decimals(rest, NANOSECONDS_PER_SECOND, digits);
         }
     }
+}
+
+// Puts the nine digits, and as many zeros as there are more decimals.
+#[inline(always)]
+#[tactic(auto, using(crate::proofs::iso8601::LengthLemmas::table_of_zeros))]
+fn put_nine_and_more<S: Sink>(output: &mut S, nanosecond: Nanoseconds, digits: u8)
+    requires many { 9 ≤ digits }
+    requires room { Fits digits (S.buffer output.old) }
+    ensures puts { Puts (S.buffer output.old) (S.buffer output.new)
+        (decimals nanosecond NANOSECONDS_PER_SECOND digits) }
+{
+    put_nine_digits(output, nanosecond);
+    if digits > 9 {
+        output.put_seldom(first_bytes(ZEROS, digits as usize - 9));
+    }
+}
+
+// Puts the first decimal.
+#[inline(always)]
+#[tactic(auto, using(crate::proofs::iso8601::LengthLemmas::first_decimal))]
+fn put_one_decimal<S: Sink>(output: &mut S, nanosecond: Nanoseconds)
+    requires room { Fits 1 (S.buffer output.old) }
+    ensures puts { Puts (S.buffer output.old) (S.buffer output.new)
+        (decimals nanosecond NANOSECONDS_PER_SECOND 1) }
+{
+    output.put(single_digit(ru8::within((nanosecond.get() / 100_000_000) as u8)));
+}
+
+// This many bytes of a table.
+#[inline]
+#[tactic(auto, using(crate::proofs::DayLemmas::row_boundary))]
+fn first_bytes(table: &'static str, count: usize) -> &'static str
+    requires ascii { IsTrue (is_ascii table.now) }
+    requires within { count ≤ length table.now }
+    ensures text { result.now ≡ take count table.now }
+    ensures length { length result.now ≡ count }
+{
+    &table[..count]
 }
