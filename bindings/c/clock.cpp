@@ -15,6 +15,8 @@ static movaliren_moment values[VALUES];
 static char room[VALUES * LINE];
 
 static const movaliren_iso_config milliseconds = MOVALIREN_ISO_DECIMALS(3);
+static const movaliren_iso_config microseconds = MOVALIREN_ISO_DECIMALS(6);
+static const movaliren_iso_config nanoseconds = MOVALIREN_ISO_DEFAULT;
 static movaliren_item items[11];
 static char texts[5];
 static movaliren_description line = MOVALIREN_DESCRIPTION(items, texts);
@@ -78,6 +80,7 @@ typedef long one(const movaliren_utc_moment &moment);
 typedef movaliren_progress many();
 
 #define NOW moment.seconds, moment.nanosecond
+#define PARTS &values[&moment - moments]
 #define ONE(call) [](const movaliren_utc_moment &moment) -> long { return long(call); }
 #define MANY(call) []() -> movaliren_progress { return call; }
 #define ALL(values) values, VALUES, '\n', room, sizeof room
@@ -132,6 +135,7 @@ static const struct {
         return long(strftime(room, LINE, MAIL, &parts)); }, 0 },
     { "rfc2822_fmt", ONE(FMT_SIZE(FMT_COMPILE("{:" MAIL "}"), fmt::gmtime(moment.seconds))), 0 },
     { "iso8601", ONE(movaliren_iso8601_utc(NOW, room, LINE)), 0 },
+    { "iso8601_parts", ONE(movaliren_iso8601(PARTS, room, LINE)), 0 },
     { "iso8601_batch", 0, MANY(movaliren_iso8601_utc_batch(ALL(moments))) },
     { "iso8601_gmtime batch", 0, MANY(movaliren_iso8601_batch(ALL(all_values()))) },
     { "iso8601_gmtime", [](const movaliren_utc_moment &moment) -> long {
@@ -140,6 +144,10 @@ static const struct {
     { "stamp", ONE(movaliren_stamp(NOW, room, LINE)), 0 },
     { "stamp_batch", 0, MANY(movaliren_stamp_batch(ALL(moments))) },
     { "milliseconds", ONE(movaliren_iso8601_by_utc(&milliseconds, NOW, room, LINE)), 0 },
+    { "microseconds", ONE(movaliren_iso8601_by_utc(&microseconds, NOW, room, LINE)), 0 },
+    { "nanoseconds", ONE(movaliren_iso8601_by_utc(&nanoseconds, NOW, room, LINE)), 0 },
+    { "nanoseconds_parts", ONE(movaliren_iso8601_by(&nanoseconds, PARTS, room, LINE)), 0 },
+    { "milliseconds_parts", ONE(movaliren_iso8601_by(&milliseconds, PARTS, room, LINE)), 0 },
     { "milliseconds_batch", 0,
         MANY(movaliren_iso8601_by_utc_batch(&milliseconds, ALL(moments))) },
     { "milliseconds_gmtime batch", 0, MANY(movaliren_iso8601_by_batch(&milliseconds, ALL(all_values()))) },
@@ -179,6 +187,7 @@ int main(int argc, char **argv)
     if (argc < 3)
         return argc != 2;
     fill();
+    all_values();
     long sum = 0, count = atol(argv[2]);
     for (const auto &call : calls)
         if (!strcmp(argv[1], call.name)) {

@@ -107,6 +107,105 @@ static void try_descriptions(void)
             expect_error(rows[i].write, &rows[i].description, rows[i].value, rows[i].error);
 }
 
+#define X16 "xxxxxxxxxxxxxxxx"
+#define X126 X16 X16 X16 X16 X16 X16 X16 "xxxxxxxxxxxxxx"
+
+/* Items of the usual kinds, whose texts are put straight into the buffer: those whose width is at most 128 bytes,
+ * for years of four digits. */
+static void try_usual_items(void)
+{
+    static const struct movaliren_moment parts = MOMENT(1997, 11, 12, 9, 55, 6, 120000000, -6, 0, 0),
+                                         behind = MOMENT(2026, 1, 2, 3, 4, 5, 6, 0, -30, 0),
+                                         seconds = MOMENT(2026, 1, 2, 3, 4, 5, 6, 7, 8, 9),
+                                         first = MOMENT(0, 1, 1, 0, 0, 0, 0, 0, 0, 0),
+                                         before = MOMENT(-1, 12, 31, 0, 0, 0, 0, 0, 0, 0),
+                                         last = MOMENT(9999, 12, 31, 0, 0, 0, 0, 0, 0, 0),
+                                         after = MOMENT(10000, 1, 1, 0, 0, 0, 0, 0, 0, 0),
+                                         no_day = MOMENT(2026, 2, 29, 0, 0, 0, 0, 0, 0, 0);
+    static const struct movaliren_utc_moment half = { -1, 999500000 }, too_late = { INT64_MAX, 0 };
+    const struct {
+        writer *write;
+        struct description description;
+        const void *value;
+        const char *text;
+        int error;
+    } rows[] = {
+        BY(described, &parts, " -T:.", "Nov 12 1997-11-12T09:55:06.120-06:00", 0,
+            { .kind = MOVALIREN_MONTH_SHORT }, { .len = 1 }, { .kind = MOVALIREN_DAY }, { .len = 1 },
+            { .kind = MOVALIREN_YEAR_EXTENDED }, { .start = 1, .len = 1 }, { .kind = MOVALIREN_MONTH },
+            { .start = 1, .len = 1 }, { .kind = MOVALIREN_DAY }, { .start = 2, .len = 1 },
+            { .kind = MOVALIREN_HOUR }, { .start = 3, .len = 1 }, { .kind = MOVALIREN_MINUTE },
+            { .start = 3, .len = 1 }, { .kind = MOVALIREN_SECOND }, { .start = 4, .len = 1 },
+            { .kind = MOVALIREN_SUBSECOND, .digits = 3 }, { .kind = MOVALIREN_OFFSET_HOUR, .flag = 1 },
+            { .start = 3, .len = 1 }, { .kind = MOVALIREN_OFFSET_MINUTE }),
+        BY(described_utc, &half, "-", "1969-999500-999500000+0000", 0, { .kind = MOVALIREN_YEAR },
+            { .len = 1 }, { .kind = MOVALIREN_SUBSECOND, .digits = 6 }, { .len = 1 },
+            { .kind = MOVALIREN_SUBSECOND, .digits = 9 }, { .kind = MOVALIREN_OFFSET_HOUR, .flag = 1 },
+            { .kind = MOVALIREN_OFFSET_MINUTE }),
+        BY(described, &behind, "", "-0030", 0, { .kind = MOVALIREN_OFFSET_HOUR, .flag = 1 },
+            { .kind = MOVALIREN_OFFSET_MINUTE }),
+        BY(described, &seconds, "", "+0708", 0, { .kind = MOVALIREN_OFFSET_HOUR, .flag = 1 },
+            { .kind = MOVALIREN_OFFSET_MINUTE }),
+        BY(described_date, &parts, "of the year ", "12of the year 1997", 0, { .kind = MOVALIREN_DAY },
+            { .len = 12 }, { .kind = MOVALIREN_YEAR }),
+        BY(described_date, &first, "", "0000", 0, { .kind = MOVALIREN_YEAR }),
+        BY(described_date, &before, "", "-0001", 0, { .kind = MOVALIREN_YEAR }),
+        BY(described_date, &last, "", "99999999", 0, { .kind = MOVALIREN_YEAR },
+            { .kind = MOVALIREN_YEAR_EXTENDED }),
+        BY(described_date, &after, "", "01+10000", 0, { .kind = MOVALIREN_MONTH },
+            { .kind = MOVALIREN_YEAR_EXTENDED }),
+        /* bytes before a component that is refused, and usual items before one that is not usual or invalid */
+        BY(described_date, &after, "in ", 0, MOVALIREN_ERROR_OUT_OF_RANGE, { .len = 3 },
+            { .kind = MOVALIREN_MONTH }, { .kind = MOVALIREN_YEAR }),
+        BY(described_date, &parts, "", 0, MOVALIREN_ERROR_INSUFFICIENT, { .kind = MOVALIREN_DAY },
+            { .kind = MOVALIREN_MINUTE }),
+        BY(described, &parts, "-", "1997-12", 0, { .kind = MOVALIREN_YEAR }, { .len = 1 },
+            { .kind = MOVALIREN_SUBSECOND }, { .start = 1 }, { .kind = MOVALIREN_TEXT }),
+        BY(described, &parts, "-", 0, MOVALIREN_ERROR_BAD_ITEM, { .kind = MOVALIREN_YEAR },
+            { .len = 1 }, { .kind = MOVALIREN_DAY, .flag = 2 }),
+        BY(described, &no_day, "-", 0, MOVALIREN_ERROR_BAD_ITEM, { .kind = MOVALIREN_YEAR },
+            { .len = 1 }, { .kind = MOVALIREN_DAY, .digits = 10 }),
+        BY(described, &no_day, "-", 0, MOVALIREN_ERROR_BAD_ITEM, { .kind = MOVALIREN_DAY },
+            { .start = 1, .len = 1 }),
+        BY(described, &no_day, "", 0, MOVALIREN_ERROR_DAY, { .kind = MOVALIREN_DAY }),
+        BY(described_utc, &too_late, "", 0, MOVALIREN_ERROR_MOMENT_SECONDS, { .kind = MOVALIREN_DAY }),
+        /* choices that the kind does not use, and others than most texts have */
+        BY(described, &parts, "", "11", 0,
+            { .kind = MOVALIREN_MONTH, .flag = 1, .digits = 9 }),
+        BY(described, &behind, "", " 21+2026", 0, { .kind = MOVALIREN_DAY, .padding = MOVALIREN_SPACE },
+            { .kind = MOVALIREN_MONTH, .padding = MOVALIREN_NO_PADDING },
+            { .kind = MOVALIREN_YEAR, .flag = 1 }),
+        BY(described, &seconds, "", "07", 0, { .kind = MOVALIREN_OFFSET_HOUR }),
+        /* literals of no bytes, of which one begins behind the texts, and of as many as are put */
+        BY(described, &parts, "-", "1112", 0, { .kind = MOVALIREN_MONTH }, { .start = 1 },
+            { .kind = MOVALIREN_DAY }, { .len = 0 }),
+        BY(described, &parts, "-", 0, MOVALIREN_ERROR_BAD_ITEM, { .kind = MOVALIREN_MONTH },
+            { .start = 2 }, { .kind = MOVALIREN_DAY }),
+        BY(described, &parts, X126, X126 "12", 0, { .len = 126 }, { .kind = MOVALIREN_DAY }),
+        BY(described, &parts, "a" X126, "a" X126 "12", 0, { .len = 127 }, { .kind = MOVALIREN_DAY }),
+    };
+    for (size_t i = 0; i < sizeof rows / sizeof *rows; i++)
+        if (rows[i].text)
+            expect_text(rows[i].write, &rows[i].description, rows[i].value, rows[i].text);
+        else
+            expect_error(rows[i].write, &rows[i].description, rows[i].value, rows[i].error);
+}
+
+/* The width of a year is five bytes, and this one has four. */
+static void try_a_width(void)
+{
+    static const struct movaliren_item year = { .kind = MOVALIREN_YEAR };
+    for (size_t room_len = 3; room_len <= 6; room_len++) {
+        char room[] = "######";
+        const ptrdiff_t n = movaliren_format_date(&year, 1, "", 0, 2026, 1, 1, room, room_len);
+        const ptrdiff_t expected = room_len == 3 ? MOVALIREN_ERROR_NO_ROOM : 4;
+        if (n != expected || strcmp(room, n == 4 ? "2026##" : "######")) {
+            failures++;
+            printf("a year in %zu bytes: answer %td, %s\n", room_len, n, room);
+        }
+    }
+}
+
 static void try_the_empty_description(void)
 {
     uint8_t none = FILL;
@@ -191,6 +290,8 @@ static void try_error_texts(void)
 int main(void)
 {
     try_descriptions();
+    try_usual_items();
+    try_a_width();
     try_the_empty_description();
     try_widths();
     try_building();

@@ -50,7 +50,7 @@ void __wrap_free(void *pointer)
     __real_free(pointer);
 }
 
-enum { ROOM = 300, CALLS = 26 };
+enum { ROOM = 300, CALLS = 29 };
 
 static const struct movaliren_moment moment = { .year = 1997, .month = 11, .day = 12, .hour = 9,
     .minute = 55, .second = 6, .nanosecond = 120000000, .offset_hours = -6 };
@@ -58,6 +58,8 @@ static const struct movaliren_utc_moment epoch = { 0, 0 };
 static const struct movaliren_iso_config config = { 5, 1, 2, 255, 1, 1, 1, 0 };
 static const struct movaliren_item items[] = { { .kind = MOVALIREN_YEAR }, { .len = 1 },
     { .kind = MOVALIREN_MONTH_LONG }, { .len = 1 }, { .kind = MOVALIREN_DAY } };
+static const struct movaliren_item usual[]
+    = { { .kind = MOVALIREN_YEAR }, { .len = 1 }, { .kind = MOVALIREN_MONTH } };
 
 static ptrdiff_t bytes_of(struct movaliren_progress progress)
 {
@@ -93,7 +95,10 @@ static ptrdiff_t call(int which, uint8_t *room)
     case 22: return bytes_of(movaliren_iso8601_utc_batch(&epoch, 1, '\n', room, ROOM));
     case 23: return bytes_of(movaliren_iso8601_by_utc_batch(&config, &epoch, 1, '\n', room, ROOM));
     case 24: return bytes_of(movaliren_rfc3339_local_batch(&epoch, 1, 60, '\n', room, ROOM));
-    default: return bytes_of(movaliren_rfc2822_local_batch(&epoch, 1, 60, '\n', room, ROOM));
+    case 25: return bytes_of(movaliren_rfc2822_local_batch(&epoch, 1, 60, '\n', room, ROOM));
+    case 26: return movaliren_format(usual, 3, dash, 1, &moment, room, ROOM);
+    case 27: return movaliren_format_utc(usual, 3, dash, 1, 0, 0, room, ROOM);
+    default: return movaliren_format_date(usual, 3, dash, 1, 2026, 1, 1, room, ROOM);
     }
 }
 

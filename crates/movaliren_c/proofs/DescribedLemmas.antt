@@ -4,6 +4,7 @@ use Rattle.std.proofs.Common.{refl, sym, ap, ◌∙◌, arith, subst, rules, Vec
 use Rattle.std.proofs.lemmas.List.{at_drop_more, at_drop_all}
 use Rattle.std.specs.Global.{Global}
 use Rattle.movaliren_c.specs.Items.{HasRoomFor, IsAppended, list_of}
+use Rattle.movaliren_c.specs.ShortLine.{HasWidth}
 use Rattle.movaliren_c.specs.Value.{with_value}
 use Rattle.movaliren_c.specs.declared.reason.Reason.{Reason}
 use Rattle.time_below.specs.Facts.{Facts}
@@ -19,7 +20,7 @@ use Rattle.time_fmt.proofs.Engine.{Along, written_along, refused_along}
 -- ---- lists of which each member is there, or not
 
 -- the first member and the rest of a list without an error
-parts_of : {A : Type 0} (a : A) (rest : Result (List A) Reason) (all : List A)
+pub parts_of : {A : Type 0} (a : A) (rest : Result (List A) Reason) (all : List A)
     → with_value rest (λ others. Ok (a ∷ others)) ≡ Ok all
     → (others : List A) × (rest ≡ Ok others) × (all ≡ a ∷ others)
 parts_of a (Ok others) all h = (others, refl, let e = h in cc)
@@ -31,14 +32,14 @@ next_of : {I A : Type 0} (f : I → Result A Reason) (items : List I) (i : ℕ) 
     → list_of (map f (drop i items)) ≡ list_of (f (get_or items i d) ∷ map f (drop (i + 1) items))
 next_of f items i d inside = at_drop_more (λ rest. list_of (map f rest)) items i d inside
 
-next_there : {I A : Type 0} (f : I → Result A Reason) (items : List I) (i : ℕ) (d : I) (a : A)
+pub next_there : {I A : Type 0} (f : I → Result A Reason) (items : List I) (i : ℕ) (d : I) (a : A)
     → i < length items → f (get_or items i d) ≡ Ok a
     → list_of (map f (drop i items)) ≡ with_value (list_of (map f (drop (i + 1) items))) (λ others.
     Ok (a ∷ others))
 next_there f items i d a inside there = next_of f items i d inside ∙ ap (λ x. list_of (x ∷ map f
     (drop (i + 1) items))) there
 
-next_not_there : {I A : Type 0} (f : I → Result A Reason) (items : List I) (i : ℕ) (d : I) (r :
+pub next_not_there : {I A : Type 0} (f : I → Result A Reason) (items : List I) (i : ℕ) (d : I) (r :
     Reason)
     → i < length items → f (get_or items i d) ≡ Err r → list_of (map f (drop i items)) ≡ Err r
 next_not_there f items i d r inside none = next_of f items i d inside ∙ ap (λ x. list_of (x ∷ map f
@@ -46,10 +47,10 @@ next_not_there f items i d r inside none = next_of f items i d inside ∙ ap (λ
 
 -- ---- widths
 
--- the sum so far and that of what is left make the width of all, up to the greatest
-pub record Summed (greatest sum : ℕ) (all left : Result (List Tree) Reason) : Type 0 where
+-- the sum so far and the width of what is left make the width of all after the first bytes, up to the greatest
+pub record Summed (greatest first sum : ℕ) (all left : Result (List Tree) Reason) : Type 0 where
   pub fits : sum ≤ greatest
-  pub same : with_value all (λ ts. Ok (min (trees_width (trees ts)) greatest)) ≡ with_value left (λ
+  pub same : with_value all (λ ts. Ok (min (first + trees_width (trees ts)) greatest)) ≡ with_value left (λ
       ts. Ok (min (sum + trees_width (trees ts)) greatest))
 
 summed_rest : (greatest sum : ℕ) (t : Tree) (rest : Result (List Tree) Reason)
@@ -65,11 +66,11 @@ summed_rest greatest sum t (Err r) = refl
 
 -- one item more
 pub summed_more : {I : Type 0} (f : I → Result Tree Reason) (items : List I) (i : ℕ) (d : I) (t :
-    Tree) (greatest sum next : ℕ) (all : Result (List Tree) Reason)
+    Tree) (greatest first sum next : ℕ) (all : Result (List Tree) Reason)
     → i < length items → f (get_or items i d) ≡ Ok t → next ≡ min (sum + tree_width t) greatest
-    → Summed greatest sum all (list_of (map f (drop i items)))
-    → Summed greatest next all (list_of (map f (drop (i + 1) items)))
-summed_more f items i d t greatest sum next all inside there is summed =
+    → Summed greatest first sum all (list_of (map f (drop i items)))
+    → Summed greatest first next all (list_of (map f (drop (i + 1) items)))
+summed_more f items i d t greatest first sum next all inside there is summed =
     let rest = list_of (map f (drop (i + 1) items)) in
     let step = next_there f items i d t inside there in
     record {
@@ -82,23 +83,35 @@ summed_more f items i d t greatest sum next all inside there is summed =
           is);
     }
 
+-- one item more of this width
+pub summed_width : {I : Type 0} (f : I → Result Tree Reason) (items : List I) (i : ℕ) (d : I) (item :
+    Result Tree Reason) (greatest first sum width : ℕ) (all : Result (List Tree) Reason)
+    → i < length items → f (get_or items i d) ≡ item → HasWidth width item → sum + width ≤ greatest
+    → Summed greatest first sum all (list_of (map f (drop i items)))
+    → Summed greatest first (sum + width) all (list_of (map f (drop (i + 1) items)))
+summed_width f items i d (Ok t) greatest first sum width all inside is has within summed =
+    summed_more f items i d t greatest first sum (sum + width) all inside is (omega (arith, has))
+    summed
+summed_width f items i d (Err r) greatest first sum width all inside is has within summed = absurd
+    has
+
 -- an item that is none
 pub summed_stops : {I : Type 0} (f : I → Result Tree Reason) (items : List I) (i : ℕ) (d : I) (r :
-    Reason) (greatest sum : ℕ) (all : Result (List Tree) Reason)
+    Reason) (greatest first sum : ℕ) (all : Result (List Tree) Reason)
     → i < length items → f (get_or items i d) ≡ Err r
-    → Summed greatest sum all (list_of (map f (drop i items)))
-    → Err r ≡ with_value all (λ ts. Ok (min (trees_width (trees ts)) greatest))
-summed_stops f items i d r greatest sum all inside none summed =
+    → Summed greatest first sum all (list_of (map f (drop i items)))
+    → Err r ≡ with_value all (λ ts. Ok (min (first + trees_width (trees ts)) greatest))
+summed_stops f items i d r greatest first sum all inside none summed =
     let step = next_not_there f items i d r inside none in
     sym (summed.same ∙ ap (λ left. with_value left (λ ts. Ok (min (sum + trees_width (trees ts))
     greatest))) step)
 
 -- all items
-pub summed_all : {I : Type 0} (f : I → Result Tree Reason) (items : List I) (i : ℕ) (greatest sum :
+pub summed_all : {I : Type 0} (f : I → Result Tree Reason) (items : List I) (i : ℕ) (greatest first sum :
     ℕ) (all : Result (List Tree) Reason)
-    → length items ≤ i → Summed greatest sum all (list_of (map f (drop i items)))
-    → Ok sum ≡ with_value all (λ ts. Ok (min (trees_width (trees ts)) greatest))
-summed_all f items i greatest sum all past summed =
+    → length items ≤ i → Summed greatest first sum all (list_of (map f (drop i items)))
+    → Ok sum ≡ with_value all (λ ts. Ok (min (first + trees_width (trees ts)) greatest))
+summed_all f items i greatest first sum all past summed =
     let none : list_of (map f (drop i items)) ≡ Ok [] = at_drop_all (λ rest. list_of (map f rest))
     items i past in
     let e : min (sum + 0) greatest ≡ sum = omega (arith, summed.fits) in
@@ -107,10 +120,10 @@ summed_all f items i greatest sum all past summed =
 
 -- a vector with capacity for a width below the greatest holds the texts
 pub room_for : (greatest width : ℕ) (all : Result (List Tree) Reason) (output : Vec ℕ Global)
-    → with_value all (λ ts. Ok (min (trees_width (trees ts)) greatest)) ≡ Ok width
+    → with_value all (λ ts. Ok (min (0 + trees_width (trees ts)) greatest)) ≡ Ok width
     → width < greatest → vec_len output ≡ 0 → width ≤ vec_capacity output → HasRoomFor output all
 room_for greatest width (Ok ts) output is less none room =
-    let e : min (trees_width (trees ts)) greatest ≡ width = let h = is in cc in
+    let e : min (0 + trees_width (trees ts)) greatest ≡ width = let h = is in cc in
     omega arith
 room_for greatest width (Err r) output is less none room = absurd (let h = is in cc)
 

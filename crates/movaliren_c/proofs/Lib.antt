@@ -5,4 +5,5 @@ pub mod MeaningLemmas
 pub mod NumberLemmas
 pub mod OffsetLemmas
 pub mod PushLemmas
+pub mod ShortLineLemmas
 pub mod SinkLemmas

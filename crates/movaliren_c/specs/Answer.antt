@@ -1,4 +1,4 @@
--- The result of a call across the border.
+-- The result of a call.
 use Rattle.std.specs.Prelude.{◌≡◌, ◌≢◌, ◌<◌, ◌++◌, ◌⊎◌, ℕ, ℤ, pos, neg_ℤ, List, length, drop, codes, None, Result, Ok}
 use Rattle.std.specs.Prelude.{Err, IsSomeAnd}
 use Rattle.movaliren_c.specs.Value.{with_value}

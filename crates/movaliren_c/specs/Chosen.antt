@@ -1,10 +1,14 @@
 -- The configuration of ISO 8601 that numbers choose.
 use Rattle.std.specs.Prelude.{ℕ, Bool, true, false, ◌==◌, Option, Some, None, Result, Ok, Err, if◌then◌else◌}
+use Rattle.movaliren_c.specs.Answer.{gives}
 use Rattle.movaliren_c.specs.Value.{with_value}
 use Rattle.movaliren_c.specs.declared.iso8601.config.IsoConfig.{IsoConfig}
 use Rattle.movaliren_c.specs.declared.reason.Reason.{Reason}
 use Rattle.movaliren_c.specs.declared.reason.Reason.TheVariants as reason
+use Rattle.time_below.specs.Moment.{OffsetDateAndTime}
+use Rattle.time_fmt.specs.Outcome.{Outcome}
 use Rattle.time_known.specs.Config.{Choices}
+use Rattle.time_known.specs.Iso8601.{iso8601_of}
 use Rattle.time_known.specs.declared.iso8601.config.DateKind.{DateKind}
 use Rattle.time_known.specs.declared.iso8601.config.DateKind.TheVariants as kind
 use Rattle.time_known.specs.declared.iso8601.config.DecimalSign.{DecimalSign}
@@ -76,3 +80,7 @@ choices_at n =
       offset_precision = offset_precision;
       decimal_sign = sign;
     }))))))))
+
+-- the outcome of a value by a configuration, whose numbers are tested first
+unfoldable pub iso8601_by : IsoConfig → Result OffsetDateAndTime Reason → Result Outcome Reason
+iso8601_by numbers value = with_value (choices_at numbers) (λ c. gives value (iso8601_of c))

@@ -168,10 +168,15 @@ abbrev pub described : {V : Type 0} → Result (List Tree) Reason → Result V R
 described description value facts = with_value description (λ ts. gives value (λ v. trees_outcome
     (trees ts) (facts v)))
 
--- the width of a description, up to the greatest `isize`, or the reason why there is no description
+-- the width of a description after so many bytes, up to the greatest `isize`, or the reason why there is no
+-- description
+abbrev pub width_after : ℕ → Result (List Tree) Reason → Result ℕ Reason
+width_after before description = with_value description (λ ts. Ok (min (before + trees_width (trees
+    ts)) 0x7fff_ffff_ffff_ffff))
+
+-- the width of a description, or the reason
 abbrev pub width_answer : Result (List Tree) Reason → Result ℕ Reason
-width_answer description = with_value description (λ ts. Ok (min (trees_width (trees ts))
-    0x7fff_ffff_ffff_ffff))
+width_answer description = width_after 0 description
 
 -- the description is valid, and the vector has capacity for its texts
 abbrev pub HasRoomFor : Vec ℕ Global → Result (List Tree) Reason → Type 0

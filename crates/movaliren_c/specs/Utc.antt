@@ -1,17 +1,12 @@
 -- The value that seconds since 1970 and a nanosecond give, in UTC or at an offset.
 use Rattle.std.specs.Prelude.{◌≡◌, ℕ, ◌/◌, ◌%◌, ℤ, ◌+ℤ◌, pos, unsigned_abs, nat_lt, int_lt, Result, Ok}
-use Rattle.movaliren_c.specs.Answer.{gives}
-use Rattle.movaliren_c.specs.Chosen.{choices_at}
 use Rattle.movaliren_c.specs.Value.{checked, with_value, timestamp_value, stamp_value}
-use Rattle.movaliren_c.specs.declared.iso8601.config.IsoConfig.{IsoConfig}
 use Rattle.movaliren_c.specs.declared.reason.Reason.{Reason}
 use Rattle.movaliren_c.specs.declared.reason.Reason.TheVariants as reason
 use Rattle.time_below.specs.Calendar.{IsDate}
 use Rattle.time_below.specs.Moment.{Moment, DateAndTime, OffsetDateAndTime, local_unix_seconds}
 use Rattle.time_below.specs.Offset.{Offset, IsOffset, offset_seconds, signed, utc}
 use Rattle.time_below.specs.TimeOfDay.{IsTimeOfDay}
-use Rattle.time_fmt.specs.Outcome.{Outcome}
-use Rattle.time_known.specs.Iso8601.{iso8601_of}
 
 -- a date and time, and this offset
 abbrev pub with_offset : Offset → DateAndTime → OffsetDateAndTime
@@ -25,11 +20,6 @@ value_at seconds nanosecond o =
 -- a moment in UTC
 abbrev pub utc_value : ℤ → ℕ → Result OffsetDateAndTime Reason
 utc_value seconds nanosecond = value_at seconds nanosecond utc
-
--- the outcome of a moment in UTC by a configuration, which is tested first
-unfoldable pub iso8601_by_utc : IsoConfig → ℤ → ℕ → Result Outcome Reason
-iso8601_by_utc config seconds nanosecond =
-    with_value (choices_at config) (λ c. gives (utc_value seconds nanosecond) (iso8601_of c))
 
 -- the offset of this many seconds east of UTC
 abbrev pub offset_of_seconds : ℤ → Offset

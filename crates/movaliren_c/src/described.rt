@@ -1,7 +1,9 @@
 //! Descriptions that cross as data.
-ghost use Rattle.std.specs.Prelude.{◌≡◌, ◌+◌, ◌≤◌, Ok, vec_len};
+ghost use Rattle.std.specs.List.{All};
+ghost use Rattle.std.specs.Prelude.{◌≡◌, ◌+◌, ◌≤◌, IsTrue, MatchOption, Ok, drop, length, vec_len};
 ghost use Rattle.movaliren_c.specs.Answer.{Answers, IsText, IsTextInMemory};
-ghost use Rattle.movaliren_c.specs.Items.{HasRoomFor, IsAppended, described, part_tree, trees_of, width_answer};
+ghost use Rattle.movaliren_c.specs.Items.{HasRoomFor, IsAppended, described, part_tree, trees_of, width_after, width_answer};
+ghost use Rattle.movaliren_c.specs.ShortLine.{is_usual};
 ghost use Rattle.movaliren_c.specs.Value.{date_value, moment_value, timestamp_value};
 ghost use Rattle.time_below.specs.Facts.{facts_of_date, facts_of_offset_date_time, facts_of_timestamp};
 ghost use Rattle.time_below.specs.Width.{tree_width, is_guaranteed_text};
@@ -10,10 +12,13 @@ ghost use Rattle.time_fmt.specs.Guarantee.{IsTextIf};
 ghost use Rattle.time_fmt.specs.Outcome.{Appends};
 ghost use Rattle.time_fmt.specs.Room.{HasRoom};
 
+use crate::calendar_date::CalendarDate;
+use crate::described_value::DescribedValue;
 use crate::item::{Item, Part, part_of};
-use crate::moment::{Moment, date_value, provided_value, timestamp_value};
+use crate::moment::{Moment, moment_value, timestamp_value};
 use crate::reason::{Reason, answer_number, reason_of};
 use crate::room::copy_text;
+use crate::short_line::{LONGEST_COPY, UsualStart, has_short_year, usual_start, write_line};
 use std::alloc::Global;
 use std::default::Default;
 use time_below::format_description::component_width;
@@ -41,7 +46,7 @@ pub extern "C" fn movaliren_format(
         (described (trees_of texts.now items.now) (moment_value moment.now)
         facts_of_offset_date_time) answer room.old room.new) }
 {
-    answer_number(write_value_described(alloc, items, texts, provided_value(moment), room))
+    answer_number(write_value_described(alloc, items, texts, moment_value(moment), room))
 }
 
 /// The text of a moment in UTC.
@@ -85,7 +90,8 @@ pub extern "C" fn movaliren_format_date(
         (described (trees_of texts.now items.now) (date_value year month day)
         facts_of_date) answer room.old room.new) }
 {
-    answer_number(write_value_described(alloc, items, texts, date_value(year, month, day), room))
+    let value = CalendarDate::new(year, month, day);
+    answer_number(write_value_described(alloc, items, texts, value, room))
 }
 
 /// The most bytes that a text of the description has, up to the greatest `isize`.
@@ -93,31 +99,92 @@ pub extern "C" fn movaliren_format_date(
 pub extern "C" fn movaliren_width(items: &[Item], texts: &[u8]) -> isize
     ensures { Answers result (λ answer. answer ≡ width_answer (trees_of texts.now items.now)) }
 {
-    answer_number(width(items, texts))
+    answer_number(width(items, texts, usual_start(items, texts, true)))
 }
 
 /// Writes the text of the value by the description, if there are both.
-fn write_value_described<V: ComponentProvider + Drop>(
+fn write_value_described<V: ComponentProvider + Drop, T: DescribedValue<V> + Drop>(
     alloc: Global,
     items: &[Item],
     texts: &[u8],
-    value: Result<V, Reason>,
+    value: Result<T, Reason>,
     room: &mut [u8],
 ) -> Result<usize, Reason>
 where
     V::State: Drop,
-    ensures text { IsTextInMemory (described (trees_of texts.now items.now) value V.facts)
+    ensures text { IsTextInMemory (described (trees_of texts.now items.now) value T.facts)
         result room.old room.new }
     ensures nothing_needed { width_answer (trees_of texts.now items.now) ≡ Ok 0
-        → IsText (described (trees_of texts.now items.now) value V.facts) result room.old room.new }
+        → IsText (described (trees_of texts.now items.now) value T.facts) result room.old room.new }
 {
-    match width(items, texts) {
+    let start = usual_start(items, texts, T::HAS_TIME);
+    match width(items, texts, start) {
         Ok(width) => match value {
-            Ok(value) => write_description(alloc, items, texts, width, &value, room),
+            Ok(value) => {
+                let all_usual = start.count == items.len();
+                write_value::<V, T>(alloc, items, texts, all_usual, width, &value, room)
+            }
             Err(reason) => Err(reason),
         },
         Err(reason) => Err(reason),
     }
+}
+
+/// Writes the text of the value by a description of this width, whose items may all be usual.
+#[inline(always)]
+fn write_value<V: ComponentProvider + Drop, T: DescribedValue<V>>(
+    alloc: Global,
+    items: &[Item],
+    texts: &[u8],
+    all_usual: bool,
+    width: usize,
+    value: &T,
+    room: &mut [u8],
+) -> Result<usize, Reason>
+where
+    V::State: Drop,
+    requires width { width_answer (trees_of texts.now items.now) ≡ Ok width }
+    requires usual { IsTrue all_usual → All (λ item. IsTrue (is_usual T.HAS_TIME item)) items.now }
+    requires short { IsTrue all_usual → width ≤ 0xffff_ffff }
+    ensures text { IsTextInMemory (described (trees_of texts.now items.now) (Ok value.now) T.facts)
+        result room.old room.new }
+    ensures nothing_needed { width ≡ 0
+        → IsText (described (trees_of texts.now items.now) (Ok value.now) T.facts)
+        result room.old room.new }
+{
+    if all_usual {
+        if let Some(answer) = write_usual::<V, T>(items, texts, width, value, room) {
+            return answer;
+        }
+    }
+    write_description(alloc, items, texts, width, &value.provided(), room)
+}
+
+/// Writes the text of the value by usual items, which allocates nothing. Writes nothing if the year has
+/// a sign or more than four digits, or if the text is long and may not fit.
+#[inline(always)]
+fn write_usual<V: ComponentProvider, T: DescribedValue<V>>(
+    items: &[Item],
+    texts: &[u8],
+    width: usize,
+    value: &T,
+    room: &mut [u8],
+) -> Option<Result<usize, Reason>>
+    requires usual { All (λ item. IsTrue (is_usual T.HAS_TIME item)) items.now }
+    requires width { width_answer (trees_of texts.now items.now) ≡ Ok width }
+    requires short { width ≤ 0xffff_ffff }
+    ensures { MatchOption result (room.new ≡ room.old) (λ answer. IsText
+        (described (trees_of texts.now items.now) (Ok value.now) T.facts)
+        answer room.old room.new) }
+{
+    if width == 0 || width > room.len().max(LONGEST_COPY) {
+        return None;
+    }
+    let local = value.local();
+    if !has_short_year(&local) {
+        return None;
+    }
+    Some(write_line(items, texts, width, &local, room))
 }
 
 /// Writes the text of the value by a description of this width.
@@ -151,13 +218,29 @@ where
 }
 
 /// The width of the items, up to the greatest `isize`, or the reason of the first invalid item.
-fn width(items: &[Item], texts: &[u8]) -> Result<usize, Reason>
+#[inline(always)]
+fn width(items: &[Item], texts: &[u8], start: UsualStart) -> Result<usize, Reason>
+    requires within { start.count ≤ length items.now }
+    requires short { start.width ≤ 0xffff_ffff }
+    requires width { width_answer (trees_of texts.now items.now)
+        ≡ width_after start.width (trees_of texts.now (drop start.count items.now)) }
     ensures { result ≡ width_answer (trees_of texts.now items.now) }
 {
-    let mut sum = 0usize;
+    if start.count == items.len() {
+        return Ok(start.width);
+    }
+    width_after(&items[start.count..], texts, start.width)
+}
+
+/// The width of the items and of what is before them.
+fn width_after(items: &[Item], texts: &[u8], before: usize) -> Result<usize, Reason>
+    requires { before ≤ 0xffff_ffff }
+    ensures { result ≡ width_after before (trees_of texts.now items.now) }
+{
+    let mut sum = before;
     for item in items {
         match part_of(item, texts) {
-            Ok(part) => sum = sum.saturating_add(part_width(part)).min(GREATEST_WIDTH),
+            Ok(part) => sum += part_width(part).min(GREATEST_WIDTH - sum),
             Err(reason) => return Err(reason),
         }
     }

@@ -1,5 +1,6 @@
 //! The fields of values, from which the texts of moments are written.
 ghost use Rattle.std.specs.Prelude.{◌≡◌, ◌≤◌, ℕ, List, IfOk, IfErr, unsigned_abs};
+ghost use Rattle.time_below.specs.Calendar.{day_of, month_of};
 ghost use Rattle.time_below.specs.Facts.{date_facts, facts_of_offset_date_time};
 ghost use Rattle.time_fmt.specs.Outcome.{done};
 ghost use Rattle.time_known.specs.Accepted.{checked_text, refused_for};
@@ -52,12 +53,20 @@ pub fn fields_of(year: ru16<0, 9_999>, value: &LocalMoment) -> Fields
 {
     Fields {
         year,
-        date: CalendarDay::OfMonth {
-            month: ru8::within(value.date().month()),
-            day: ru8::within(value.date().day()),
-        },
+        date: calendar_day(value.date()),
         time: time_of(value.time()),
         offset: offset_of(value.offset()),
+    }
+}
+
+// The month and the day of a date.
+#[inline(always)]
+fn calendar_day(date: CalendarDate) -> CalendarDay
+    ensures { result ≡ CalendarDay.OfMonth (month_of date) (day_of date) }
+{
+    CalendarDay::OfMonth {
+        month: ru8::within(date.month()),
+        day: ru8::within(date.day()),
     }
 }
 
@@ -96,10 +105,7 @@ fn date_of(kind: DateKind, date: CalendarDate) -> DateParts
     match kind {
         DateKind::Calendar => DateParts {
             year: ri32::within(date.year()),
-            rest: RestOfDate::MonthAndDay {
-                month: ru8::within(date.month()),
-                day: ru8::within(date.day()),
-            },
+            rest: RestOfDate::MonthAndDay(calendar_day(date)),
         },
         DateKind::Week => {
             let date = date.date();

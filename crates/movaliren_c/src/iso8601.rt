@@ -1,50 +1,71 @@
 //! ISO 8601-1:2019, by its default configuration and by any other.
-ghost use Rattle.std.specs.Prelude.{◌≡◌, ◌≤◌, Ok, MatchOption};
-ghost use Rattle.movaliren_c.specs.Answer.{Answers, IsText, IsWritten, gives};
-ghost use Rattle.movaliren_c.specs.Chosen.{choices_at};
-ghost use Rattle.movaliren_c.specs.Value.{moment_value, with_value};
+ghost use Rattle.std.specs.Prelude.{◌≡◌, ◌≤◌, IfErr, IfOk, Ok, length, true};
+ghost use Rattle.movaliren_c.specs.Answer.{Answers, IsRefusedFor, IsText, IsWritten, gives};
+ghost use Rattle.movaliren_c.specs.Batch.{IsBatch, ended};
+ghost use Rattle.movaliren_c.specs.Chosen.{choices_at, iso8601_by};
+ghost use Rattle.movaliren_c.specs.Utc.{utc_value};
+ghost use Rattle.movaliren_c.specs.Value.{moment_value};
+ghost use Rattle.time_fmt.specs.Outcome.{done};
 ghost use Rattle.time_known.specs.Config.{default_choices};
 ghost use Rattle.time_known.specs.Iso8601.{iso8601_of};
 ghost use Rattle.time_known.specs.Iso8601Parts.{parts_text, parts_width};
+ghost use Rattle.time_known.specs.Iso8601Width.{iso8601_width};
+ghost use Rattle.time_known.specs.UsualText.{usual_choices};
 
 mod config;
 
+use crate::batch::{Progress, write_lines};
 use crate::fields::{accepted_year_of, fields_of, parts_of};
-use crate::moment::{LocalMoment, Moment, moment_value};
-use crate::moment_text::{MomentText, put_at_start, write_moment};
+use crate::moment::{LocalMoment, Moment, UtcMoment};
+use crate::moment_text::{Format, answer_at, put_at_start, texts_of};
 use crate::reason::{Reason, answer_number, reason_for};
 use crate::room::copy_text;
 use crate::sinks::ArraySink;
+use crate::source::{ByParts, InUtc, Source};
 use crate::writer::Writer;
-pub use config::{IsoConfig, config_at};
-use time_known::iso8601::{Config, DefaultText, Parts, SeparatedText, put_parts};
+pub use config::IsoConfig;
+use config::{config_at, separated_config_at};
+use time_digits::ru8;
+use time_known::iso8601::{Config, DecimalSign, Parts, SeparatedText, Usual, put_parts};
+use time_known::sink::Text;
 
-/// The format of ISO 8601 by its default configuration, over moments with an offset.
+/// The format of ISO 8601 by its default configuration.
+#[derive(Clone, Copy)]
 pub struct Iso8601;
 
-impl MomentText for DefaultText {
-    ghost outcome = { iso8601_of default_choices };
+impl Format for Iso8601 {
+    type Text = SeparatedText;
+
+    ghost outcome = { λ _. iso8601_of default_choices };
 
     #[inline(always)]
-    fn of_value(value: &LocalMoment) -> Result<Self, Reason> {
-        match accepted_year_of(0, 25, value) {
-            Ok(year) => {
-                let fields = fields_of(year, value);
-                Ok(DefaultText { fields })
-            }
-            Err(component) => Err(reason_for(component)),
-        }
+    fn text(self, value: &LocalMoment) -> Result<SeparatedText, Reason> {
+        let usual = Usual {
+            has_separators: true,
+            decimal_digits: ru8::new(9),
+            decimal_sign: DecimalSign::Point,
+        };
+        separated_text(&usual, value)
     }
 }
 
-impl Writer for Iso8601 {
-    type Item = Moment;
-
-    ghost asked = { λ _ moment. gives (moment_value moment) (iso8601_of default_choices) };
-
-    #[inline(never)]
-    fn write(&self, moment: &Moment, room: &mut [u8]) -> Result<usize, Reason> {
-        write_moment::<DefaultText>(moment, room)
+/// The text of the value by such choices with separators, or the reason why it has none.
+#[inline(always)]
+fn separated_text(usual: &Usual, value: &LocalMoment) -> Result<SeparatedText, Reason>
+    ensures chosen { IfOk result (λ t. t.usual ≡ usual.now) }
+    ensures text { IfOk result (λ t. iso8601_of
+        (usual_choices true usual.now.decimal_digits usual.now.decimal_sign) value.now
+        ≡ done (⟦<SeparatedText as Text>⟧.text t)) }
+    ensures refused { IfErr result (λ r. IsRefusedFor r (iso8601_of
+        (usual_choices true usual.now.decimal_digits usual.now.decimal_sign) value.now)) }
+{
+    match accepted_year_of(0, 25, value) {
+        Ok(year) => {
+            let fields = fields_of(year, value);
+            let usual = *usual;
+            Ok(SeparatedText { usual, fields })
+        }
+        Err(component) => Err(reason_for(component)),
     }
 }
 
@@ -55,7 +76,75 @@ pub extern "C" fn movaliren_iso8601(moment: &Moment, room: &mut [u8]) -> isize
         IsText (gives (moment_value moment.now) (iso8601_of default_choices))
         answer room.old room.new) }
 {
-    answer_number(Iso8601.write(moment, room))
+    answer_number(texts_of(Iso8601, ByParts).write(moment, room))
+}
+
+/// The text of ISO 8601 of a moment in UTC, by the default configuration.
+#[unsafe(no_mangle)]
+pub extern "C" fn movaliren_iso8601_utc(seconds: i64, nanosecond: u32, room: &mut [u8]) -> isize
+    ensures { Answers result (λ answer.
+        IsText (gives (utc_value seconds nanosecond) (iso8601_of default_choices))
+        answer room.old room.new) }
+{
+    answer_at(&texts_of(Iso8601, InUtc), seconds, nanosecond, room)
+}
+
+/// The texts of ISO 8601 of the moments by the default configuration, one after another, each ended
+/// by this byte.
+#[unsafe(no_mangle)]
+pub extern "C" fn movaliren_iso8601_batch(moments: &[Moment], end: u8, room: &mut [u8]) -> Progress
+    ensures { IsBatch moments.now
+        (λ moment. ended end (gives (moment_value moment) (iso8601_of default_choices)))
+        result room.old room.new }
+{
+    write_lines(&texts_of(Iso8601, ByParts), moments, end, room)
+}
+
+/// The texts of ISO 8601 of the moments in UTC by the default configuration, one after another, each
+/// ended by this byte.
+#[unsafe(no_mangle)]
+pub extern "C" fn movaliren_iso8601_utc_batch(
+    moments: &[UtcMoment],
+    end: u8,
+    room: &mut [u8],
+) -> Progress
+    ensures { IsBatch moments.now
+        (λ m. ended end (gives (utc_value m.seconds m.nanosecond) (iso8601_of default_choices)))
+        result room.old room.new }
+{
+    write_lines(&texts_of(Iso8601, InUtc), moments, end, room)
+}
+
+/// The format of ISO 8601 by a configuration, over the moments of a source.
+#[derive(Clone, Copy)]
+pub struct Iso8601By<S> {
+    /// The numbers of the configuration.
+    pub config: IsoConfig,
+    /// What gives the moments.
+    pub source: S,
+}
+
+impl<S: Source> Writer for Iso8601By<S> {
+    type Item = S::Item;
+
+    ghost asked = { λ by item. iso8601_by by.config (S.given by.source item) };
+
+    fn write(&self, item: &S::Item, room: &mut [u8]) -> Result<usize, Reason> {
+        match separated_config_at(&self.config) {
+            Some(usual) if room.len() >= usual.width() => write_usual(&usual, self, item, room),
+            _ => write_by(self, item, room),
+        }
+    }
+}
+
+/// The texts of ISO 8601 by this configuration, of the moments of this source.
+fn iso8601_by<S: Source>(config: &IsoConfig, source: S) -> Iso8601By<S>
+    ensures { result ≡ record { config = config.now; source = source } }
+{
+    Iso8601By {
+        config: *config,
+        source,
+    }
 }
 
 /// The text of ISO 8601 by a configuration, whose numbers are tested before the moment.
@@ -66,75 +155,133 @@ pub extern "C" fn movaliren_iso8601_by(
     room: &mut [u8],
 ) -> isize
     ensures { Answers result (λ answer.
-        IsText (with_value (choices_at config.now)
-        (λ c. gives (moment_value moment.now) (iso8601_of c)))
-        answer room.old room.new) }
+        IsText (iso8601_by config.now (moment_value moment.now)) answer room.old room.new) }
 {
-    answer_number(config.write(moment, room))
+    answer_number(iso8601_by(config, ByParts).write(moment, room))
 }
 
-impl Writer for IsoConfig {
-    type Item = Moment;
+/// The text of ISO 8601 of a moment in UTC by a configuration, whose numbers are tested before the
+/// moment.
+#[unsafe(no_mangle)]
+pub extern "C" fn movaliren_iso8601_by_utc(
+    config: &IsoConfig,
+    seconds: i64,
+    nanosecond: u32,
+    room: &mut [u8],
+) -> isize
+    ensures { Answers result (λ answer.
+        IsText (iso8601_by config.now (utc_value seconds nanosecond))
+        answer room.old room.new) }
+{
+    answer_at(&iso8601_by(config, InUtc), seconds, nanosecond, room)
+}
 
-    ghost asked = { λ config moment.
-        with_value (choices_at config) (λ c. gives (moment_value moment) (iso8601_of c)) };
+/// The texts of ISO 8601 of the moments by a configuration, one after another, each ended by this
+/// byte.
+#[unsafe(no_mangle)]
+pub extern "C" fn movaliren_iso8601_by_batch(
+    config: &IsoConfig,
+    moments: &[Moment],
+    end: u8,
+    room: &mut [u8],
+) -> Progress
+    ensures { IsBatch moments.now
+        (λ moment. ended end (iso8601_by config.now (moment_value moment)))
+        result room.old room.new }
+{
+    write_lines(&iso8601_by(config, ByParts), moments, end, room)
+}
 
-    fn write(&self, moment: &Moment, room: &mut [u8]) -> Result<usize, Reason> {
-        match config_at(self) {
-            Ok(config) => match moment_value(moment) {
-                Ok(value) => write_by(config, value, room),
-                Err(reason) => Err(reason),
-            },
+/// The texts of ISO 8601 of the moments in UTC by a configuration, one after another, each ended by
+/// this byte.
+#[unsafe(no_mangle)]
+pub extern "C" fn movaliren_iso8601_by_utc_batch(
+    config: &IsoConfig,
+    moments: &[UtcMoment],
+    end: u8,
+    room: &mut [u8],
+) -> Progress
+    ensures { IsBatch moments.now
+        (λ m. ended end (iso8601_by config.now (utc_value m.seconds m.nanosecond)))
+        result room.old room.new }
+{
+    write_lines(&iso8601_by(config, InUtc), moments, end, room)
+}
+
+/// Writes the text of the item by a usual configuration with separators to the start of a buffer that
+/// holds each of its texts.
+#[inline(always)]
+#[tactic(auto, unfolding(crate::specs::Chosen::iso8601_by))]
+fn write_usual<S: Source>(
+    usual: &Usual,
+    by: &Iso8601By<S>,
+    item: &S::Item,
+    room: &mut [u8],
+) -> Result<usize, Reason>
+    requires chosen { choices_at by.now.config
+        ≡ Ok (usual_choices true usual.now.decimal_digits usual.now.decimal_sign) }
+    requires room { iso8601_width
+        (usual_choices true usual.now.decimal_digits usual.now.decimal_sign) ≤ length room.old }
+    ensures { IsText (iso8601_by by.now.config (S.given by.now.source item.now))
+        result room.old room.new }
+{
+    match by.source.value(item) {
+        Ok(value) => by.put_usual(usual, &value, room),
+        Err(reason) => Err(reason),
+    }
+}
+
+impl<S: Source> Iso8601By<S> {
+    /// Puts the text of the value by such choices with separators at the start of the buffer. Each
+    /// source has one call of a function of its own, so that the compiler can inline it.
+    #[inline]
+    fn put_usual(
+        &self,
+        usual: &Usual,
+        value: &LocalMoment,
+        room: &mut [u8],
+    ) -> Result<usize, Reason>
+        requires room { iso8601_width
+            (usual_choices true usual.now.decimal_digits usual.now.decimal_sign)
+            ≤ length room.old }
+        ensures { IsWritten result
+            (iso8601_of (usual_choices true usual.now.decimal_digits usual.now.decimal_sign)
+            value.now) room.old room.new }
+    {
+        match separated_text(usual, value) {
+            Ok(text) => Ok(put_at_start(&text, room)),
             Err(reason) => Err(reason),
         }
     }
 }
 
-/// Writes the text of the value by a configuration to the start of the buffer. The usual
-/// configurations have a fast path, unless something of the value is refused or the buffer is small.
-#[inline(always)]
-pub fn write_by(config: Config, value: LocalMoment, room: &mut [u8]) -> Result<usize, Reason>
-    ensures { IsWritten result (iso8601_of config value) room.old room.new }
+/// Writes the text of the item by any configuration to the start of the buffer.
+#[inline(never)]
+#[tactic(auto, unfolding(crate::specs::Chosen::iso8601_by))]
+fn write_by<S: Source>(by: &Iso8601By<S>, item: &S::Item, room: &mut [u8]) -> Result<usize, Reason>
+    ensures { IsText (iso8601_by by.now.config (S.given by.now.source item.now))
+        result room.old room.new }
 {
-    match write_usual(&config, &value, room) {
-        Some(count) => Ok(count),
-        None => copy_by(config, value, room),
-    }
-}
-
-/// Writes the text by a usual configuration. Writes nothing if something of the value is refused, or if
-/// the buffer does not hold each of its texts.
-#[inline(always)]
-fn write_usual(config: &Config, value: &LocalMoment, room: &mut [u8]) -> Option<usize>
-    ensures { MatchOption result (room.new ≡ room.old)
-        (λ n. IsWritten (Ok n) (iso8601_of config.now value.now) room.old room.new) }
-{
-    let Some(usual) = config.separated() else {
-        return None;
-    };
-    if room.len() < usual.width() {
-        return None;
-    }
-    match accepted_year_of(0, 25, value) {
-        Ok(year) => {
-            let fields = fields_of(year, value);
-            Some(put_at_start(&SeparatedText { usual, fields }, room))
-        }
-        Err(_) => None,
+    match config_at(&by.config) {
+        Ok(config) => match by.source.value(item) {
+            Ok(value) => copy_by(&config, &value, room),
+            Err(reason) => Err(reason),
+        },
+        Err(reason) => Err(reason),
     }
 }
 
 /// Writes the text to an array first, since a part may be refused after others.
 #[inline(never)]
-fn copy_by(config: Config, value: LocalMoment, room: &mut [u8]) -> Result<usize, Reason>
-    ensures { IsWritten result (iso8601_of config value) room.old room.new }
+fn copy_by(config: &Config, value: &LocalMoment, room: &mut [u8]) -> Result<usize, Reason>
+    ensures { IsWritten result (iso8601_of config.now value.now) room.old room.new }
 {
     if config.formats_nothing() {
         return Err(Reason::Insufficient);
     }
-    let parts = parts_of(&config, &value);
+    let parts = parts_of(config, value);
     let _width = config.width();
-    copy_parts(&config, &parts, room)
+    copy_parts(config, &parts, room)
 }
 
 /// Writes the text of the parts by way of an array. No text has more bytes: 13 of the date, 265 of the

@@ -1,4 +1,4 @@
-//! The items of a description, as they cross the border.
+//! The items of a description, as C passes them.
 ghost use Rattle.std.specs.Prelude.{◌≡◌};
 ghost use Rattle.movaliren_c.specs.Items.{padding_at, choice_at, digits_at, date_component, year_component, time_component, component_at, component_of, item_tree, tree_of};
 

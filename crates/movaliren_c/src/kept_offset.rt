@@ -87,6 +87,18 @@ impl KeptOffset {
         }
     }
 
+    /// Returns the same offset.
+    #[inline(always)]
+    pub fn copy(&self) -> KeptOffset
+        ensures { result ≡ self.now }
+    {
+        KeptOffset {
+            hours: self.hours,
+            minutes: self.minutes,
+            seconds: self.seconds,
+        }
+    }
+
     /// The size of the hours, at most 25.
     #[inline(always)]
     #[tactic(auto, using(crate::proofs::OffsetLemmas::settled_sizes))]

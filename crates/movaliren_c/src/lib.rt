@@ -3,26 +3,26 @@
 //!
 //! Each export returns the number of bytes at the start of the buffer, which are the whole text, or
 //! a negative number that names the error; the buffer is then unchanged. No export has a condition,
-//! and only descriptions allocate.
+//! and only long or unusual descriptions allocate.
 #![tactic(auto)]
 
 mod batch;
 mod calendar_date;
-mod clock_batch;
 mod described;
+mod described_value;
 mod fields;
 mod iso8601;
 mod item;
 mod kept_offset;
 pub mod laws;
-mod local;
 mod moment;
 mod moment_text;
 mod reason;
 mod rfc2822;
 mod rfc3339;
 mod room;
+mod short_line;
 mod sinks;
+mod source;
 mod stamp;
-mod utc;
 mod writer;

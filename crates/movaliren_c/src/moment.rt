@@ -1,14 +1,13 @@
-//! Moments as they cross the border, and the values that they give.
+//! Moments in the interface, and the values that they give.
 ghost use Rattle.std.specs.Prelude.{◌≡◌};
-ghost use Rattle.time_below.specs.Offset.{utc};
 ghost use Rattle.movaliren_c.specs.Utc.{value_at, with_offset};
-ghost use Rattle.movaliren_c.specs.Value.{date_value, time_value, moment_value, timestamp_value, stamp_value};
+ghost use Rattle.movaliren_c.specs.Value.{time_value, moment_value, timestamp_value, stamp_value};
 
 use crate::calendar_date::CalendarDate;
 use crate::kept_offset::KeptOffset;
 use crate::reason::Reason;
 use std::marker::Model;
-use time_below::{Date, OffsetDateTime, Time, Timestamp, UtcDateTime};
+use time_below::{OffsetDateTime, Time, Timestamp, UtcDateTime};
 
 /// A local date and time, and its offset from UTC.
 #[repr(C)]
@@ -51,17 +50,6 @@ impl Model for LocalMoment {
 }
 
 impl LocalMoment {
-    /// The date and time in UTC, with its offset.
-    pub fn in_utc(value: UtcDateTime) -> LocalMoment
-        ensures { result ≡ record { date = value.date; time = value.time; offset = utc } }
-    {
-        LocalMoment {
-            date: CalendarDate::of_date(value.date()),
-            time: value.time(),
-            offset: KeptOffset::utc(),
-        }
-    }
-
     /// Returns the date and time with this offset.
     pub fn with_offset(value: UtcDateTime, offset: KeptOffset) -> LocalMoment
         ensures { result ≡ with_offset offset value }
@@ -71,6 +59,39 @@ impl LocalMoment {
             time: value.time(),
             offset,
         }
+    }
+
+    /// The midnight in UTC at which the date begins.
+    pub fn at_midnight(date: CalendarDate) -> LocalMoment
+        ensures { result.date ≡ date }
+    {
+        match Time::from_hms_nano(0, 0, 0, 0) {
+            Ok(time) => LocalMoment {
+                date,
+                time,
+                offset: KeptOffset::utc(),
+            },
+            Err(_) => unreachable!(),
+        }
+    }
+
+    /// Returns the same value.
+    #[inline(always)]
+    pub fn copy(&self) -> LocalMoment
+        ensures { result ≡ self.now }
+    {
+        LocalMoment {
+            date: self.date,
+            time: self.time,
+            offset: self.offset.copy(),
+        }
+    }
+
+    /// Returns the value for the formatter.
+    pub fn provided(&self) -> OffsetDateTime
+        ensures { result ≡ self.now }
+    {
+        OffsetDateTime::new_in_offset(self.date.date(), self.time, self.offset.offset())
     }
 
     /// The local date.
@@ -127,30 +148,6 @@ pub fn moment_value(moment: &Moment) -> Result<LocalMoment, Reason>
     let time = time_value(moment)?;
     let offset = KeptOffset::of_moment(moment)?;
     Ok(LocalMoment { date, time, offset })
-}
-
-/// Returns the value of the moment for descriptions.
-pub fn provided_value(moment: &Moment) -> Result<OffsetDateTime, Reason>
-    ensures { result ≡ moment_value moment.now }
-{
-    match moment_value(moment) {
-        Ok(value) => Ok(OffsetDateTime::new_in_offset(
-            value.date.date(),
-            value.time,
-            value.offset.offset(),
-        )),
-        Err(reason) => Err(reason),
-    }
-}
-
-/// The date of a year, a month and a day, for descriptions.
-pub fn date_value(year: i32, month: u8, day: u8) -> Result<Date, Reason>
-    ensures { result ≡ date_value year month day }
-{
-    match CalendarDate::new(year, month, day) {
-        Ok(date) => Ok(date.date()),
-        Err(reason) => Err(reason),
-    }
 }
 
 /// The moment of this many seconds since 1970-01-01T00:00:00 UTC, and a nanosecond.

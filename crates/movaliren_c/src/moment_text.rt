@@ -1,62 +1,87 @@
-//! The texts of moments with an offset, which allocate nothing.
+//! Formats of moments, whose texts are written without an allocation.
 ghost use Rattle.std.specs.Prelude.{◌≡◌, ◌≤◌, ◌++◌, IfOk, IfErr, drop, length};
-ghost use Rattle.movaliren_c.specs.Answer.{IsRefusedFor, IsText, IsWritten, gives};
-ghost use Rattle.movaliren_c.specs.Value.{moment_value};
+ghost use Rattle.movaliren_c.specs.Answer.{Answers, IsRefusedFor, IsText, IsWritten, gives};
 ghost use Rattle.time_below.specs.Moment.{OffsetDateAndTime};
 ghost use Rattle.time_fmt.specs.Outcome.{Outcome, done};
 
-use crate::moment::{LocalMoment, Moment, moment_value};
-use crate::reason::Reason;
+use crate::moment::{LocalMoment, UtcMoment};
+use crate::reason::{Reason, answer_number};
 use crate::room::copy_text;
 use crate::sinks::{ArraySink, RoomSink};
+use crate::source::Source;
+use crate::writer::Writer;
 use time_known::sink::Text;
 
-/// A text of a moment by one format, of at most 35 bytes.
-pub trait MomentText: Text + Copy {
+/// A format of moments, whose texts have at most 35 bytes.
+pub trait Format: Copy {
+    /// A text, of a value of which nothing is refused.
+    type Text: Text + Copy;
+
     /// What the format gives.
-    ghost outcome: { OffsetDateAndTime → Outcome };
+    ghost outcome: { Self → OffsetDateAndTime → Outcome };
 
     /// The text of the value, or the reason why it has none.
-    fn of_value(value: &LocalMoment) -> Result<Self, Reason>
-        ensures text { IfOk result (λ t. outcome value.now ≡ done (Self.text t)) }
-        ensures width { IfOk result (λ t. Self.width t ≤ 35) }
-        ensures refused { IfErr result (λ r. IsRefusedFor r (outcome value.now)) };
+    fn text(self, value: &LocalMoment) -> Result<Self::Text, Reason>
+        ensures text { IfOk result (λ t. outcome self value.now ≡ done (Self.Text.text t)) }
+        ensures width { IfOk result (λ t. Self.Text.width t ≤ 35) }
+        ensures refused { IfErr result (λ r. IsRefusedFor r (outcome self value.now)) };
 }
 
-/// Writes the text of the moment to the start of the buffer.
-#[inline(always)]
-pub fn write_moment<T: MomentText>(moment: &Moment, room: &mut [u8]) -> Result<usize, Reason>
-    ensures { IsText (gives (moment_value moment.now) T.outcome) result room.old room.new }
+/// The texts of a format, of the moments of a source.
+#[derive(Clone, Copy)]
+pub struct Texts<F, S> {
+    format: F,
+    source: S,
+}
+
+/// Returns the texts of this format, of the moments of this source.
+pub fn texts_of<F: Format, S: Source>(format: F, source: S) -> Texts<F, S>
+    ensures { result ≡ record { format = format; source = source } }
 {
-    if room.len() < 35 {
-        return copy_moment::<T>(moment, room);
-    }
-    match moment_value(moment) {
-        Ok(value) => write_in_place::<T>(&value, room),
-        Err(reason) => Err(reason),
+    Texts { format, source }
+}
+
+impl<F: Format, S: Source> Writer for Texts<F, S> {
+    type Item = S::Item;
+
+    ghost asked = { λ texts item. gives (S.given texts.source item) (F.outcome texts.format) };
+
+    fn write(&self, item: &S::Item, room: &mut [u8]) -> Result<usize, Reason> {
+        if room.len() < 35 {
+            return self.copy(item, room);
+        }
+        match self.source.value(item) {
+            Ok(value) => self.put(&value, room),
+            Err(reason) => Err(reason),
+        }
     }
 }
 
-/// Writes the text of the value to the start of the buffer.
-#[inline(always)]
-pub fn write_value<T: MomentText>(value: &LocalMoment, room: &mut [u8]) -> Result<usize, Reason>
-    ensures { IsWritten result (T.outcome value.now) room.old room.new }
-{
-    if room.len() < 35 {
-        return copy_value::<T>(value, room);
+impl<F: Format, S: Source> Texts<F, S> {
+    /// Puts the text of the value at the start of a buffer that holds every text. Each format and source
+    /// has one call of a function of its own, so that the compiler can inline it.
+    #[inline]
+    fn put(&self, value: &LocalMoment, room: &mut [u8]) -> Result<usize, Reason>
+        requires room { 35 ≤ length room.old }
+        ensures { IsWritten result (F.outcome self.now.format value.now) room.old room.new }
+    {
+        match self.format.text(value) {
+            Ok(text) => Ok(put_at_start(&text, room)),
+            Err(reason) => Err(reason),
+        }
     }
-    write_in_place::<T>(value, room)
-}
 
-/// Writes the text of the value to the start of a buffer that holds every text.
-#[inline(always)]
-fn write_in_place<T: MomentText>(value: &LocalMoment, room: &mut [u8]) -> Result<usize, Reason>
-    requires room { 35 ≤ length room.old }
-    ensures { IsWritten result (T.outcome value.now) room.old room.new }
-{
-    match T::of_value(value) {
-        Ok(text) => Ok(put_at_start(&text, room)),
-        Err(reason) => Err(reason),
+    /// Writes the text of the item to the start of a buffer that may be too small.
+    #[cold]
+    #[inline(never)]
+    fn copy(&self, item: &S::Item, room: &mut [u8]) -> Result<usize, Reason>
+        ensures { IsText (gives (S.given self.now.source item.now) (F.outcome self.now.format))
+            result room.old room.new }
+    {
+        match self.source.value(item) {
+            Ok(value) => copy_value(self.format, &value, room),
+            Err(reason) => Err(reason),
+        }
     }
 }
 
@@ -86,26 +111,11 @@ fn put_into_empty<T: Text>(sink: &mut RoomSink<'_>, text: &T)
     text.put_into(sink);
 }
 
-/// Writes the text of the moment to the start of a buffer that may be too small. This borrows
-/// nothing but the moment, so that the caller keeps in registers what it reads of it.
-#[cold]
-#[inline(never)]
-fn copy_moment<T: MomentText>(moment: &Moment, room: &mut [u8]) -> Result<usize, Reason>
-    ensures { IsText (gives (moment_value moment.now) T.outcome) result room.old room.new }
-{
-    match moment_value(moment) {
-        Ok(value) => copy_value::<T>(&value, room),
-        Err(reason) => Err(reason),
-    }
-}
-
 /// Writes the text of the value to the start of a buffer that may be too small.
-#[cold]
-#[inline(never)]
-fn copy_value<T: MomentText>(value: &LocalMoment, room: &mut [u8]) -> Result<usize, Reason>
-    ensures { IsWritten result (T.outcome value.now) room.old room.new }
+fn copy_value<F: Format>(format: F, value: &LocalMoment, room: &mut [u8]) -> Result<usize, Reason>
+    ensures { IsWritten result (F.outcome format value.now) room.old room.new }
 {
-    match T::of_value(value) {
+    match format.text(value) {
         Ok(text) => {
             let mut line = ArraySink::<35>::new();
             text.put_into(&mut line);
@@ -113,4 +123,23 @@ fn copy_value<T: MomentText>(value: &LocalMoment, room: &mut [u8]) -> Result<usi
         }
         Err(reason) => Err(reason),
     }
+}
+
+/// Answers for a moment by its seconds since 1970 and its nanosecond.
+#[inline(always)]
+pub fn answer_at<W: Writer<Item = UtcMoment>>(
+    writer: &W,
+    seconds: i64,
+    nanosecond: u32,
+    room: &mut [u8],
+) -> isize
+    ensures { Answers result (λ answer.
+        IsText (W.asked writer.now (record { seconds = seconds; nanosecond = nanosecond }))
+        answer room.old room.new) }
+{
+    let moment = UtcMoment {
+        seconds,
+        nanosecond,
+    };
+    answer_number(writer.write(&moment, room))
 }

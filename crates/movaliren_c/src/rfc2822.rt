@@ -1,27 +1,34 @@
 //! RFC 2822, section 3.3.
 ghost use Rattle.std.specs.Prelude.{◌≡◌};
 ghost use Rattle.movaliren_c.specs.Answer.{Answers, IsText, gives};
+ghost use Rattle.movaliren_c.specs.Batch.{IsBatch, ended};
+ghost use Rattle.movaliren_c.specs.Utc.{local_value, utc_value};
 ghost use Rattle.movaliren_c.specs.Value.{moment_value};
 ghost use Rattle.time_below.specs.Facts.{date_facts};
 ghost use Rattle.time_below.specs.Weekday.{days_from_monday};
 ghost use Rattle.time_known.specs.Rfc2822.{rfc2822_of};
 
+use crate::batch::{Progress, write_lines};
 use crate::fields::{accepted_year_of, fields_of};
-use crate::moment::{LocalMoment, Moment};
-use crate::moment_text::{MomentText, write_moment};
+use crate::moment::{LocalMoment, Moment, UtcMoment};
+use crate::moment_text::{Format, answer_at, texts_of};
 use crate::reason::{Reason, answer_number, reason_for};
+use crate::source::{AtOffset, ByParts, InUtc};
 use crate::writer::Writer;
 use time_below::Weekday;
 use time_known::rfc2822::Rfc2822Text;
 
-/// The format of RFC 2822 over moments with an offset.
+/// The format of RFC 2822.
+#[derive(Clone, Copy)]
 pub struct Rfc2822;
 
-impl MomentText for Rfc2822Text {
-    ghost outcome = { rfc2822_of };
+impl Format for Rfc2822 {
+    type Text = Rfc2822Text;
+
+    ghost outcome = { λ _. rfc2822_of };
 
     #[inline(always)]
-    fn of_value(value: &LocalMoment) -> Result<Self, Reason> {
+    fn text(self, value: &LocalMoment) -> Result<Rfc2822Text, Reason> {
         match accepted_year_of(1900, 25, value) {
             Ok(year) => {
                 let weekday = weekday_of(value);
@@ -33,24 +40,78 @@ impl MomentText for Rfc2822Text {
     }
 }
 
-impl Writer for Rfc2822 {
-    type Item = Moment;
-
-    ghost asked = { λ _ moment. gives (moment_value moment) rfc2822_of };
-
-    #[inline(never)]
-    fn write(&self, moment: &Moment, room: &mut [u8]) -> Result<usize, Reason> {
-        write_moment::<Rfc2822Text>(moment, room)
-    }
-}
-
 /// The text of RFC 2822.
 #[unsafe(no_mangle)]
 pub extern "C" fn movaliren_rfc2822(moment: &Moment, room: &mut [u8]) -> isize
     ensures { Answers result (λ answer.
         IsText (gives (moment_value moment.now) rfc2822_of) answer room.old room.new) }
 {
-    answer_number(Rfc2822.write(moment, room))
+    answer_number(texts_of(Rfc2822, ByParts).write(moment, room))
+}
+
+/// The text of RFC 2822 of a moment in UTC.
+#[unsafe(no_mangle)]
+pub extern "C" fn movaliren_rfc2822_utc(seconds: i64, nanosecond: u32, room: &mut [u8]) -> isize
+    ensures { Answers result (λ answer.
+        IsText (gives (utc_value seconds nanosecond) rfc2822_of) answer room.old room.new) }
+{
+    answer_at(&texts_of(Rfc2822, InUtc), seconds, nanosecond, room)
+}
+
+/// The text of RFC 2822 of a moment, at an offset of this many seconds east of UTC.
+#[unsafe(no_mangle)]
+pub extern "C" fn movaliren_rfc2822_local(
+    seconds: i64,
+    nanosecond: u32,
+    offset: i64,
+    room: &mut [u8],
+) -> isize
+    ensures { Answers result (λ answer.
+        IsText (gives (local_value seconds nanosecond offset) rfc2822_of)
+        answer room.old room.new) }
+{
+    let texts = texts_of(Rfc2822, AtOffset { east: offset });
+    answer_at(&texts, seconds, nanosecond, room)
+}
+
+/// The texts of RFC 2822 of the moments, one after another, each ended by this byte.
+#[unsafe(no_mangle)]
+pub extern "C" fn movaliren_rfc2822_batch(moments: &[Moment], end: u8, room: &mut [u8]) -> Progress
+    ensures { IsBatch moments.now (λ moment. ended end (gives (moment_value moment) rfc2822_of))
+        result room.old room.new }
+{
+    write_lines(&texts_of(Rfc2822, ByParts), moments, end, room)
+}
+
+/// The texts of RFC 2822 of the moments in UTC, one after another, each ended by this byte.
+#[unsafe(no_mangle)]
+pub extern "C" fn movaliren_rfc2822_utc_batch(
+    moments: &[UtcMoment],
+    end: u8,
+    room: &mut [u8],
+) -> Progress
+    ensures { IsBatch moments.now
+        (λ m. ended end (gives (utc_value m.seconds m.nanosecond) rfc2822_of))
+        result room.old room.new }
+{
+    write_lines(&texts_of(Rfc2822, InUtc), moments, end, room)
+}
+
+/// The texts of RFC 2822 of the moments, at an offset of this many seconds east of UTC, one after
+/// another, each ended by this byte.
+#[unsafe(no_mangle)]
+pub extern "C" fn movaliren_rfc2822_local_batch(
+    moments: &[UtcMoment],
+    offset: i64,
+    end: u8,
+    room: &mut [u8],
+) -> Progress
+    ensures { IsBatch moments.now
+        (λ m. ended end (gives (local_value m.seconds m.nanosecond offset) rfc2822_of))
+        result room.old room.new }
+{
+    let texts = texts_of(Rfc2822, AtOffset { east: offset });
+    write_lines(&texts, moments, end, room)
 }
 
 /// The weekday of the local date.

@@ -1,23 +1,30 @@
 //! RFC 3339, section 5.6.
 ghost use Rattle.movaliren_c.specs.Answer.{Answers, IsText, gives};
+ghost use Rattle.movaliren_c.specs.Batch.{IsBatch, ended};
+ghost use Rattle.movaliren_c.specs.Utc.{local_value, utc_value};
 ghost use Rattle.movaliren_c.specs.Value.{moment_value};
 ghost use Rattle.time_known.specs.Rfc3339.{rfc3339_of};
 
+use crate::batch::{Progress, write_lines};
 use crate::fields::{accepted_year_of, fields_of};
-use crate::moment::{LocalMoment, Moment};
-use crate::moment_text::{MomentText, write_moment};
+use crate::moment::{LocalMoment, Moment, UtcMoment};
+use crate::moment_text::{Format, answer_at, texts_of};
 use crate::reason::{Reason, answer_number, reason_for};
+use crate::source::{AtOffset, ByParts, InUtc};
 use crate::writer::Writer;
 use time_known::rfc3339::Rfc3339Text;
 
-/// The format of RFC 3339 over moments with an offset.
+/// The format of RFC 3339.
+#[derive(Clone, Copy)]
 pub struct Rfc3339;
 
-impl MomentText for Rfc3339Text {
-    ghost outcome = { rfc3339_of };
+impl Format for Rfc3339 {
+    type Text = Rfc3339Text;
+
+    ghost outcome = { λ _. rfc3339_of };
 
     #[inline(always)]
-    fn of_value(value: &LocalMoment) -> Result<Self, Reason> {
+    fn text(self, value: &LocalMoment) -> Result<Rfc3339Text, Reason> {
         match accepted_year_of(0, 23, value) {
             Ok(year) => {
                 let fields = fields_of(year, value);
@@ -28,22 +35,76 @@ impl MomentText for Rfc3339Text {
     }
 }
 
-impl Writer for Rfc3339 {
-    type Item = Moment;
-
-    ghost asked = { λ _ moment. gives (moment_value moment) rfc3339_of };
-
-    #[inline(never)]
-    fn write(&self, moment: &Moment, room: &mut [u8]) -> Result<usize, Reason> {
-        write_moment::<Rfc3339Text>(moment, room)
-    }
-}
-
 /// The text of RFC 3339.
 #[unsafe(no_mangle)]
 pub extern "C" fn movaliren_rfc3339(moment: &Moment, room: &mut [u8]) -> isize
     ensures { Answers result (λ answer.
         IsText (gives (moment_value moment.now) rfc3339_of) answer room.old room.new) }
 {
-    answer_number(Rfc3339.write(moment, room))
+    answer_number(texts_of(Rfc3339, ByParts).write(moment, room))
+}
+
+/// The text of RFC 3339 of a moment in UTC.
+#[unsafe(no_mangle)]
+pub extern "C" fn movaliren_rfc3339_utc(seconds: i64, nanosecond: u32, room: &mut [u8]) -> isize
+    ensures { Answers result (λ answer.
+        IsText (gives (utc_value seconds nanosecond) rfc3339_of) answer room.old room.new) }
+{
+    answer_at(&texts_of(Rfc3339, InUtc), seconds, nanosecond, room)
+}
+
+/// The text of RFC 3339 of a moment, at an offset of this many seconds east of UTC.
+#[unsafe(no_mangle)]
+pub extern "C" fn movaliren_rfc3339_local(
+    seconds: i64,
+    nanosecond: u32,
+    offset: i64,
+    room: &mut [u8],
+) -> isize
+    ensures { Answers result (λ answer.
+        IsText (gives (local_value seconds nanosecond offset) rfc3339_of)
+        answer room.old room.new) }
+{
+    let texts = texts_of(Rfc3339, AtOffset { east: offset });
+    answer_at(&texts, seconds, nanosecond, room)
+}
+
+/// The texts of RFC 3339 of the moments, one after another, each ended by this byte.
+#[unsafe(no_mangle)]
+pub extern "C" fn movaliren_rfc3339_batch(moments: &[Moment], end: u8, room: &mut [u8]) -> Progress
+    ensures { IsBatch moments.now (λ moment. ended end (gives (moment_value moment) rfc3339_of))
+        result room.old room.new }
+{
+    write_lines(&texts_of(Rfc3339, ByParts), moments, end, room)
+}
+
+/// The texts of RFC 3339 of the moments in UTC, one after another, each ended by this byte.
+#[unsafe(no_mangle)]
+pub extern "C" fn movaliren_rfc3339_utc_batch(
+    moments: &[UtcMoment],
+    end: u8,
+    room: &mut [u8],
+) -> Progress
+    ensures { IsBatch moments.now
+        (λ m. ended end (gives (utc_value m.seconds m.nanosecond) rfc3339_of))
+        result room.old room.new }
+{
+    write_lines(&texts_of(Rfc3339, InUtc), moments, end, room)
+}
+
+/// The texts of RFC 3339 of the moments, at an offset of this many seconds east of UTC, one after
+/// another, each ended by this byte.
+#[unsafe(no_mangle)]
+pub extern "C" fn movaliren_rfc3339_local_batch(
+    moments: &[UtcMoment],
+    offset: i64,
+    end: u8,
+    room: &mut [u8],
+) -> Progress
+    ensures { IsBatch moments.now
+        (λ m. ended end (gives (local_value m.seconds m.nanosecond offset) rfc3339_of))
+        result room.old room.new }
+{
+    let texts = texts_of(Rfc3339, AtOffset { east: offset });
+    write_lines(&texts, moments, end, room)
 }

@@ -2,10 +2,19 @@
 ghost use Rattle.std.specs.Prelude.{◌≡◌, ◌<◌, ◌≤◌, ◌+◌, ◌++◌, [], length, take, drop};
 ghost use Rattle.arrayvec.specs.ArrayString.{array_string_len};
 ghost use Rattle.time_fmt.specs.Decimals.{decimals};
+ghost use Rattle.time_known.specs.Sink.{Fits, Puts};
 
 use arrayvec::ArrayString;
 use time_digits::{ru8, single_digit};
 use time_known::sink::Sink;
+
+/// A sink that also takes bytes that need not be UTF-8.
+pub trait ByteSink: Sink {
+    /// Puts bytes after what the sink holds.
+    fn put_bytes(&mut self, bytes: &[u8])
+        requires room { Fits (length bytes.now) (Self.buffer self.old) }
+        ensures puts { Puts (Self.buffer self.old) (Self.buffer self.new) bytes.now };
+}
 
 /// A text of at most `N` bytes, in an array.
 #[derive(Drop)]
@@ -47,6 +56,11 @@ impl<const N: usize> Sink for ArraySink<N> {
     #[inline(always)]
     fn put(&mut self, piece: &str) {
         self.text.push_str(piece);
+    }
+
+    #[inline(never)]
+    fn put_seldom(&mut self, piece: &str) {
+        self.put(piece);
     }
 
     #[tactic(auto, using(time_known::proofs::iso8601::LengthLemmas::decimal_lengths))]
@@ -110,6 +124,7 @@ impl Sink for RoomSink<'_> {
       lender = Some s.room.ghost_name;
     } };
 
+    // This does not call `put_bytes`: one call more and the texts of formats are not inlined.
     #[inline(always)]
     #[tactic(auto, using(crate::proofs::SinkLemmas::written_pieces))]
     fn put(&mut self, piece: &str) {
@@ -133,11 +148,35 @@ impl Sink for RoomSink<'_> {
         }
     }
 
+    #[inline(never)]
+    fn put_seldom(&mut self, piece: &str) {
+        self.put(piece);
+    }
+
     #[tactic(auto, using(time_known::proofs::iso8601::LengthLemmas::decimal_lengths))]
     fn put_decimals(&mut self, rest: u64, unit: u64, digits: ru8<1, 255>) {
         let mut line = ArrayString::<255>::new();
         push_decimals(&mut line, rest, unit, digits.get());
         self.put(line.as_str());
+    }
+}
+
+impl ByteSink for RoomSink<'_> {
+    #[inline(always)]
+    #[tactic(auto, using(crate::proofs::SinkLemmas::written_pieces))]
+    fn put_bytes(&mut self, bytes: &[u8]) {
+        match bytes {
+            [a] => {
+                let (at, a) = (self.len, *a);
+                self.room[at] = a;
+                self.len = at + 1;
+            }
+            bytes => {
+                let at = self.len;
+                write_over(self.room, at, bytes);
+                self.len = at + bytes.len();
+            }
+        }
     }
 }
 

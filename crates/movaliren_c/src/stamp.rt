@@ -1,18 +1,19 @@
 //! Stamps: texts of moments in UTC whose bytes are in the order of the moments.
-ghost use Rattle.std.specs.Prelude.{◌≡◌};
-ghost use Rattle.movaliren_c.specs.Answer.{Answers, IsText, IsWritten, gives};
+ghost use Rattle.movaliren_c.specs.Answer.{Answers, IsText, gives};
+ghost use Rattle.movaliren_c.specs.Batch.{IsBatch, ended};
 ghost use Rattle.movaliren_c.specs.Value.{stamp_value};
 ghost use Rattle.time_known.specs.Stamps.{stamp_of};
 
-use crate::moment::{LocalMoment, UtcMoment, stamp_value};
-use crate::moment_text::write_value;
-use crate::reason::{Reason, answer_number};
+use crate::batch::{Progress, write_lines};
+use crate::iso8601::Iso8601;
+use crate::moment::UtcMoment;
+use crate::moment_text::{answer_at, texts_of};
+use crate::reason::Reason;
+use crate::source::InUtc;
 use crate::writer::Writer;
-use time_below::UtcDateTime;
-use time_known::iso8601::DefaultText;
 
 /// Stamps of moments in UTC.
-pub struct Stamp;
+struct Stamp;
 
 impl Writer for Stamp {
     type Item = UtcMoment;
@@ -20,18 +21,8 @@ impl Writer for Stamp {
     ghost asked = { λ _ moment. gives (stamp_value moment.seconds moment.nanosecond) stamp_of };
 
     fn write(&self, moment: &UtcMoment, room: &mut [u8]) -> Result<usize, Reason> {
-        match stamp_value(moment.seconds, moment.nanosecond) {
-            Ok(value) => write_stamp(value, room),
-            Err(reason) => Err(reason),
-        }
+        texts_of(Iso8601, InUtc).write(moment, room)
     }
-}
-
-/// Writes the stamp of a value to the start of the buffer.
-fn write_stamp(value: UtcDateTime, room: &mut [u8]) -> Result<usize, Reason>
-    ensures { IsWritten result (stamp_of value) room.old room.new }
-{
-    write_value::<DefaultText>(&LocalMoment::in_utc(value), room)
 }
 
 /// The stamp of a moment.
@@ -40,9 +31,15 @@ pub extern "C" fn movaliren_stamp(seconds: i64, nanosecond: u32, room: &mut [u8]
     ensures { Answers result (λ answer.
         IsText (gives (stamp_value seconds nanosecond) stamp_of) answer room.old room.new) }
 {
-    let moment = UtcMoment {
-        seconds,
-        nanosecond,
-    };
-    answer_number(Stamp.write(&moment, room))
+    answer_at(&Stamp, seconds, nanosecond, room)
+}
+
+/// The stamps of the moments, one after another, each ended by this byte.
+#[unsafe(no_mangle)]
+pub extern "C" fn movaliren_stamp_batch(moments: &[UtcMoment], end: u8, room: &mut [u8]) -> Progress
+    ensures { IsBatch moments.now
+        (λ moment. ended end (gives (stamp_value moment.seconds moment.nanosecond) stamp_of))
+        result room.old room.new }
+{
+    write_lines(&Stamp, moments, end, room)
 }

@@ -8,7 +8,7 @@ use crate::reason::Reason;
 
 /// A format, and what it formats.
 pub trait Writer {
-    /// What crosses the border for one text.
+    /// What is passed for one text.
     type Item;
 
     /// What the item gives: the outcome of its value, or the reason why there is none.

@@ -1,12 +1,13 @@
-//! Configurations of ISO 8601 as they cross the border.
-ghost use Rattle.std.specs.Prelude.{◌≡◌};
+//! Configurations of ISO 8601 in the interface.
+ghost use Rattle.std.specs.Prelude.{◌≡◌, IfSome, IsTrue, Ok, true};
 ghost use Rattle.movaliren_c.specs.Chosen.{components_at, date_kind_at, decimals_at, precision_at, offset_precision_at, flag_at, sign_at, choices_at};
+ghost use Rattle.time_known.specs.UsualText.{usual_choices};
 
 use crate::reason::Reason;
 use std::default::Default;
 use time_digits::ru8;
 use time_known::iso8601::{
-    Config, DateKind, DecimalSign, FormattedComponents, OffsetPrecision, TimePrecision,
+    Config, DateKind, DecimalSign, FormattedComponents, OffsetPrecision, TimePrecision, Usual,
 };
 
 /// The seven choices, and the number of decimals.
@@ -106,4 +107,43 @@ pub fn config_at(numbers: &IsoConfig) -> Result<Config, Reason>
             .set_year_is_six_digits(flag_at(numbers.year_is_six_digits)?)
             .set_decimal_sign(sign_at(numbers.comma)?),
     )
+}
+
+/// What these numbers choose of a text with separators, if the rest is chosen as by most callers. The
+/// numbers of a point and at most nine decimals are told by a few tests.
+#[inline(always)]
+pub fn separated_config_at(numbers: &IsoConfig) -> Option<Usual>
+    ensures chosen { IfSome result (λ u. choices_at numbers.now
+        ≡ Ok (usual_choices true u.decimal_digits u.decimal_sign)) }
+    ensures separators { IfSome result (λ u. IsTrue u.has_separators) }
+{
+    let parts_are_usual = numbers.components == 5
+        && numbers.date_kind == 0
+        && numbers.time_precision == 2
+        && numbers.offset_precision == 1;
+    let signs_are_usual = numbers.use_separators == 1
+        && numbers.year_is_six_digits == 0
+        && numbers.comma == 0;
+    if parts_are_usual && signs_are_usual {
+        Some(Usual {
+            has_separators: true,
+            decimal_digits: ru8::new(numbers.decimals),
+            decimal_sign: DecimalSign::Point,
+        })
+    } else {
+        separated_by_choices(numbers)
+    }
+}
+
+/// The same, by each choice.
+#[inline(never)]
+fn separated_by_choices(numbers: &IsoConfig) -> Option<Usual>
+    ensures chosen { IfSome result (λ u. choices_at numbers.now
+        ≡ Ok (usual_choices true u.decimal_digits u.decimal_sign)) }
+    ensures separators { IfSome result (λ u. IsTrue u.has_separators) }
+{
+    match config_at(numbers) {
+        Ok(config) => config.separated(),
+        Err(_) => None,
+    }
 }

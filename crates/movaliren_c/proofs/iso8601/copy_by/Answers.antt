@@ -11,17 +11,17 @@ use Rattle.movaliren_c.proofs.iso8601.copy_by.Goals as goal
 
 pub copy_parts-requires : goal.copy_parts-requires
 copy_parts-requires c =
-    let choices = c.args.config in
+    let choices = c.args.config.now in
     let some : choices.formatted_components ≢ components.None = λ none.
     let wrong : true ≡ false = sym (c.formats_nothing.ensures.1 none) ∙ c.if-formats_nothing.false in cc in
     let same = ap (λ (p : Parts). parts_width choices p) c.parts_of-parts.ensures
-    ∙ chosen_width choices (facts_of_offset_date_time c.args.value) some in
+    ∙ chosen_width choices (facts_of_offset_date_time c.args.value.now) some in
     omega (arith, same, c.width-width.ensures.width, c.width-width.ensures.most)
 
 pub returns : goal.returns
 returns c =
-    let choices = c.args.config in
-    let v = c.args.value in
+    let choices = c.args.config.now in
+    let v = c.args.value.now in
     let some : choices.formatted_components ≢ components.None = λ none.
     let wrong : true ≡ false = sym (c.formats_nothing.ensures.1 none) ∙ c.if-formats_nothing.false in cc in
     let whole : iso8601_of choices v ≡ parts_text choices c.parts_of-parts.result =

@@ -1,0 +1,235 @@
+-- The texts of usual items, one after another.
+use Rattle.std.proofs.Common.{◌≡◌, ◌<◌, ◌≤◌, ◌+◌, ℕ, min, ℤ, pos, negsuc, ◌≤ℤ◌, ◌-ℤ◌, unsigned_abs, Bool, true, false, List, [], ◌++◌, length, drop, take, get_or, map, Result, Ok, Err, Some, None}
+use Rattle.std.proofs.Common.{refl, sym, ap, ◌∙◌, arith, append_assoc, subst}
+use Rattle.std.proofs.lemmas.List.{append-nil, at_drop_all, take_all}
+use Rattle.std.proofs.lemmas.List.Elements.{All-same}
+use Rattle.std.specs.List.{All}
+use Rattle.std.proofs.lemmas.Bool.{and_parts, eqb-true}
+use Rattle.std.proofs.lemmas.Bool.Decides.{nat_tests}
+use Rattle.std.proofs.lemmas.Int.{ints}
+use Rattle.std.specs.Prelude.{IsTrue, int_lt, nat_le}
+use Rattle.movaliren_c.specs.Items.{item_tree, list_of}
+use Rattle.movaliren_c.specs.ShortLine.{AllFit, FitsAll, FitsItem, IsShortYear, PutsAll, PutsItem, facts_of_local, has_choices, is_usual}
+use Rattle.movaliren_c.specs.declared.item.Item.{Item}
+use Rattle.movaliren_c.specs.declared.reason.Reason.{Reason}
+use Rattle.movaliren_c.proofs.DescribedLemmas.{parts_of, next_there, next_not_there}
+use Rattle.movaliren_c.proofs.PushLemmas.{join_done}
+use Rattle.movaliren_c.specs.Utc.{with_offset}
+use Rattle.movaliren_c.specs.Value.{with_value}
+use Rattle.time_below.proofs.MomentLemmas.{unix_seconds-utc}
+use Rattle.time_below.specs.Facts.{Facts, date_facts, facts_of_timestamp}
+use Rattle.time_below.specs.Moment.{Moment, DateAndTime, OffsetDateAndTime, IsMoment, local_unix_seconds, unix_seconds, utc_date}
+use Rattle.time_below.specs.Moment.{utc_time, utc_date_and_time}
+use Rattle.time_below.specs.Offset.{offset_seconds, utc}
+use Rattle.time_below.specs.Tree.{Tree, trees}
+use Rattle.time_below.specs.Width.{tree_width, trees_width}
+use Rattle.time_fmt.specs.Description.{tree_outcome, trees_outcome}
+use Rattle.time_fmt.specs.Outcome.{Outcome}
+use Rattle.time_digits.specs.Digits.{zero_padded}
+use Rattle.time_known.specs.Fields.{hours_of_fields, offset_fields}
+use Rattle.time_known.specs.declared.fields.OffsetFields.{OffsetFields}
+use Rattle.time_known.specs.Sink.{Buffer, Fits, PutsJust, PutsUpTo}
+use Rattle.time_known.proofs.SinkLemmas.{just, puts_then, puts_up_to_more}
+
+-- ---- an item
+
+choices_of : (flag digits : ℕ) (i : Item) → IsTrue (has_choices flag digits i)
+    → (i.padding ≡ 0) × (i.flag ≡ flag) × (i.digits ≡ digits)
+choices_of flag digits i h =
+    let last = and_parts _ _ h in
+    let first = and_parts _ _ last.0 in
+    (eqb-true _ _ first.0, eqb-true _ _ first.1, eqb-true _ _ last.1)
+
+-- the sign and the hours of an offset
+pub offset_put : (texts : List ℕ) (i : Item) (has_time : Bool) (v : OffsetDateAndTime) (o :
+    OffsetFields) (old new : Buffer) → i.kind ≡ 29 → IsTrue (is_usual has_time i)
+    → o ≡ offset_fields v.offset → PutsJust 3 old new (hours_of_fields o)
+    → PutsItem old new (item_tree texts i) (facts_of_local has_time v)
+offset_put texts i has_time v o old new kind usual same put =
+    let puts = rw same at put in
+    let parts = and_parts has_time (has_choices 1 0 i) (rw kind at usual) in
+    let is = choices_of 1 0 i parts.1 in
+    rw (kind, is.0, is.1, is.2, parts.0) (refl, just puts)
+
+-- a year without a sign
+year_tests : (y : ℤ) → pos 0 ≤ℤ y → y ≤ℤ pos 9_999
+    → (int_lt y (pos 0) ≡ false) × (int_lt (pos 9_999) y ≡ false) × (nat_le (unsigned_abs y) 9_999 ≡ true)
+year_tests (pos n) low high =
+    let within : n ≤ 9_999 = omega (arith, ints) in
+    (grind (arith, nat_tests), grind (arith, nat_tests), grind (arith, nat_tests))
+year_tests (negsuc n) low high = absurd (omega (arith, ints))
+
+pub extended_year_put : (texts : List ℕ) (i : Item) (has_time : Bool) (v : OffsetDateAndTime) (n :
+    ℕ) (old new : Buffer) → i.kind ≡ 13 → IsTrue (is_usual has_time i) → IsShortYear v
+    → n ≡ unsigned_abs v.date.year → PutsJust 4 old new (zero_padded 4 n)
+    → PutsItem old new (item_tree texts i) (facts_of_local has_time v)
+extended_year_put texts i has_time v n old new kind usual year same put =
+    let puts = rw same at put in
+    let is = choices_of 0 0 i (rw kind at usual) in
+    let tests = year_tests v.date.year year.0 year.1 in
+    rw (kind, is.0, is.1, is.2, tests.0, tests.1) (refl, puts_up_to_more (just puts) (omega arith))
+
+pub year_put : (texts : List ℕ) (i : Item) (has_time : Bool) (v : OffsetDateAndTime) (n :
+    ℕ) (old new : Buffer) → i.kind ≡ 14 → IsTrue (is_usual has_time i) → IsShortYear v
+    → n ≡ unsigned_abs v.date.year → PutsJust 4 old new (zero_padded 4 n)
+    → PutsItem old new (item_tree texts i) (facts_of_local has_time v)
+year_put texts i has_time v n old new kind usual year same put =
+    let puts = rw same at put in
+    let is = choices_of 0 0 i (rw kind at usual) in
+    let tests = year_tests v.date.year year.0 year.1 in
+    rw (kind, is.0, is.1, is.2, tests.0, tests.2) (refl, puts_up_to_more (just puts) (omega arith))
+
+-- ---- a description and its value
+
+-- the usual items at the start are all items
+pub all_usual : (before after : Bool) (n : ℕ) (items : List Item) → before ≡ after → n ≡ length items
+    → All (λ item. IsTrue (is_usual before item)) (take n items)
+    → All (λ item. IsTrue (is_usual after item)) items
+all_usual before after n items same all usual =
+    let P : Bool → Item → Type 0 = λ b item. IsTrue (is_usual b item) in
+    All-same (P after) items (take n items) (sym (take_all n items (omega (arith, all))))
+    (subst (λ b. All (P b) (take n items)) same usual)
+
+-- a width below the greatest is that of the texts
+pub all_fit : (greatest width most : ℕ) (all : Result (List Tree) Reason)
+    → with_value all (λ ts. Ok (min (0 + trees_width (trees ts)) greatest)) ≡ Ok width
+    → width < greatest → width ≤ most → AllFit most all
+all_fit greatest width most (Ok ts) is less fits =
+    let e : min (0 + trees_width (trees ts)) greatest ≡ width = let h = is in cc in
+    omega arith
+all_fit greatest width most (Err r) is less fits = absurd (let h = is in cc)
+
+minus_none : (s e : ℤ) → e ≡ pos 0 → s -ℤ e ≡ s
+minus_none s e h = omega (arith, ints)
+
+-- a moment in UTC shows what its date and time in UTC show
+pub facts_in_utc : (m : Moment) (v : DateAndTime) (local : OffsetDateAndTime) → IsMoment m
+    → v ≡ utc_date_and_time m → local ≡ with_offset utc v
+    → facts_of_timestamp m ≡ facts_of_local true local
+facts_in_utc m v local real is same =
+    let u = utc_date_and_time m in
+    let seconds : local_unix_seconds (with_offset utc u) ≡ m.seconds =
+    minus_none (unix_seconds u) (offset_seconds utc) refl ∙ unix_seconds-utc m real in
+    let F : ℤ → Facts = λ s. record {
+      date = Some (date_facts (utc_date m.seconds));
+      time = Some (utc_time m);
+      offset = Some utc;
+      moment = Some (record { seconds = s; nanosecond = m.nanosecond });
+    } in
+    ap F (sym seconds) ∙ sym (ap (facts_of_local true) (same ∙ ap (with_offset utc) is))
+
+-- ---- one after another
+
+-- the texts of the items before these were put
+pub record SoFar (old now : Buffer) (f : Facts) (all left : Result (List Tree) Reason) : Type 0 where
+  pub every : List Tree
+  pub rest : List Tree
+  pub is_every : all ≡ Ok every
+  pub is_rest : left ≡ Ok rest
+  pub text : List ℕ
+  pub width : ℕ
+  pub puts : PutsUpTo width old now text
+  pub bytes : (trees_outcome (trees every) f).bytes ≡ text ++ (trees_outcome (trees rest) f).bytes
+  pub refusal : (trees_outcome (trees every) f).refusal ≡ (trees_outcome (trees rest) f).refusal
+  pub widths : trees_width (trees every) ≡ width + trees_width (trees rest)
+  pub room : Fits (trees_width (trees every)) old
+
+pub none_so_far : (sink : Buffer) (f : Facts) (all : Result (List Tree) Reason) → FitsAll sink all
+    → SoFar sink sink f all all
+none_so_far sink f (Ok ts) room =
+    record {
+      every = ts;
+      rest = ts;
+      is_every = refl;
+      is_rest = refl;
+      text = [];
+      width = 0;
+      puts = record {
+        put = sym (append-nil sink.bytes);
+        grown = omega arith;
+        capacity = refl;
+        rest = refl;
+        lender = refl;
+        within = omega arith;
+      };
+      bytes = refl;
+      refusal = refl;
+      widths = omega arith;
+      room = room;
+    }
+none_so_far sink f (Err r) room = absurd room
+
+-- the next item is there and fits
+pub next_fits : {I : Type 0} (g : I → Result Tree Reason) (items : List I) (i : ℕ) (d : I) (old now :
+    Buffer) (f : Facts) (all : Result (List Tree) Reason) (next : Result Tree Reason)
+    → g (get_or items i d) ≡ next → i < length items
+    → SoFar old now f all (list_of (map g (drop i items))) → FitsItem now next
+next_fits g items i d old now f all (Ok t) is inside so_far =
+    let parts = parts_of t _ so_far.rest (sym (next_there g items i d t inside is) ∙ so_far.is_rest) in
+    let width : trees_width (trees so_far.rest) ≡ tree_width t + trees_width (trees parts.0) =
+    ap (λ ts. trees_width (trees ts)) parts.2 in
+    omega (
+      arith,
+      so_far.room,
+      so_far.widths,
+      width,
+      so_far.puts.within,
+      so_far.puts.grown,
+      so_far.puts.capacity,
+    )
+next_fits g items i d old now f all (Err r) is inside so_far =
+    absurd (let e = sym (next_not_there g items i d r inside is) ∙ so_far.is_rest in cc)
+
+-- one item more
+pub one_more : {I : Type 0} (g : I → Result Tree Reason) (items : List I) (i : ℕ) (d : I) (old now
+    new : Buffer) (f : Facts) (all : Result (List Tree) Reason) (next : Result Tree Reason)
+    → g (get_or items i d) ≡ next → i < length items
+    → SoFar old now f all (list_of (map g (drop i items))) → PutsItem now new next f
+    → SoFar old new f all (list_of (map g (drop (i + 1) items)))
+one_more g items i d old now new f all (Ok t) is inside so_far step =
+    let parts = parts_of t _ so_far.rest (sym (next_there g items i d t inside is) ∙ so_far.is_rest) in
+    let a = tree_outcome t f in
+    let b = trees_outcome (trees parts.0) f in
+    let e : trees_outcome (trees so_far.rest) f ≡ record { bytes = a.bytes ++ b.bytes; refusal = b.refusal }
+    = ap (λ ts. trees_outcome (trees ts) f) parts.2 ∙ join_done a b step.0 in
+    let width : trees_width (trees so_far.rest) ≡ tree_width t + trees_width (trees parts.0) =
+    ap (λ ts. trees_width (trees ts)) parts.2 in
+    record {
+      every = so_far.every;
+      rest = parts.0;
+      is_every = so_far.is_every;
+      is_rest = parts.1;
+      text = so_far.text ++ a.bytes;
+      width = so_far.width + tree_width t;
+      puts = puts_then so_far.puts step.1;
+      bytes = so_far.bytes ∙ ap (λ (o : Outcome). so_far.text ++ o.bytes) e
+          ∙ sym (append_assoc so_far.text a.bytes b.bytes);
+      refusal = so_far.refusal ∙ ap (λ (o : Outcome). o.refusal) e;
+      widths = omega (arith, so_far.widths, width);
+      room = so_far.room;
+    }
+one_more g items i d old now new f all (Err r) is inside so_far step = absurd step
+
+-- all items
+pub all_put : {I : Type 0} (g : I → Result Tree Reason) (items : List I) (i : ℕ) (old now : Buffer)
+    (f : Facts) (all : Result (List Tree) Reason) → length items ≤ i
+    → SoFar old now f all (list_of (map g (drop i items))) → PutsAll old now all f
+all_put g items i old now f all past so_far =
+    let none : list_of (map g (drop i items)) ≡ Ok [] = at_drop_all (λ rest. list_of (map g rest))
+    items i past in
+    let rest : so_far.rest ≡ [] = let e = sym so_far.is_rest ∙ none in cc in
+    let left : trees_outcome (trees so_far.rest) f ≡ record { bytes = []; refusal = None } =
+    ap (λ ts. trees_outcome (trees ts) f) rest in
+    let bytes : (trees_outcome (trees so_far.every) f).bytes ≡ so_far.text =
+    so_far.bytes ∙ ap (λ (o : Outcome). so_far.text ++ o.bytes) left ∙ append-nil so_far.text in
+    let p = so_far.puts in
+    rw so_far.is_every (
+      so_far.refusal ∙ ap (λ (o : Outcome). o.refusal) left,
+      rw bytes (record {
+        put = p.put;
+        grown = p.grown;
+        capacity = p.capacity;
+        rest = p.rest;
+        lender = p.lender;
+      }),
+    )
