@@ -50,11 +50,11 @@ fn each_format_fills_its_width(rt: HostRuntime) -> Result<(), Fail> {
 }
 
 /// Appends the parts, and proves the capacity for each by the widths of the configuration.
-fn append_parts(
+pub(crate) fn append_parts(
     config: &Config,
     output: &mut Vec<u8>,
     value: &OffsetDateTime,
-) -> Result<usize, Format> {
+) -> Result<(usize, usize, usize), Format> {
     let mut state = DateState::default();
     let width = config.date_width() + config.time_width() + config.offset_width();
     if output.reserve(width).is_err() {
@@ -63,7 +63,7 @@ fn append_parts(
     let date = format_date(config, output, value, &mut state)?;
     let time = format_time(config, output, value, &mut state)?;
     let offset = format_offset(config, output, value, &mut state)?;
-    Ok(date + time + offset)
+    Ok((date, time, offset))
 }
 
 /// The configuration fills its width, with separators and without, and so do its parts together.
@@ -74,8 +74,8 @@ fn assert_config_fills(rt: &impl Abort, alloc: Global, config: Config) -> Result
         let width = config.date_width() + config.time_width() + config.offset_width();
         let mut output = Vec::with_capacity(alloc, width)?;
         let answer = append_parts(&config, &mut output, &longest(rt));
-        assert_that(rt, matches!(&answer, Ok(count) if *count == width));
-        assert_same(rt, output.capacity(), width);
+        assert_that(rt, answer.is_ok());
+        assert_same(rt, (output.len(), output.capacity()), (width, width));
     }
     Ok(())
 }

@@ -1,7 +1,6 @@
 //! The recipes of `docs/RECIPES.md`, which shows each of them word for word.
 ghost use Rattle.std.specs.Prelude.{◌≡◌, vec_capacity};
 
-#[cfg(test)]
 mod tests;
 
 use std::alloc::Global;

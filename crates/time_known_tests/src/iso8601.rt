@@ -1,5 +1,6 @@
 //! ISO 8601 by a configuration. Each row is tried with both decimal signs.
-use crate::texts::{self, assert_same, assert_that, refusal_name};
+use crate::exact_room::append_parts;
+use crate::texts::{self, append, assert_same, assert_that, refusal_name};
 use crate::values::Unit::{Hour, Minute, Second};
 use crate::values::{
     Unit, date_at, moment, offset_at, precision, time_at, timestamp_at, wednesday,
@@ -9,7 +10,7 @@ use std::default::Default;
 use std::process::Abort;
 use std::test::Fail;
 use time_below::UtcDateTime;
-use time_fmt::{ComponentProvider, ComputeMetadata, Formattable};
+use time_fmt::{ComponentProvider, ComputeMetadata};
 use time_known::Iso8601;
 use time_known::iso8601::DateKind::{Calendar, Ordinal, Week};
 use time_known::iso8601::{
@@ -56,20 +57,22 @@ fn with_parts(parts: Parts) -> Config {
     Config::default().set_formatted_components(parts)
 }
 
-/// The format with a point and with a comma, and the text with either sign.
-fn by_each_sign(
-    rt: &impl Abort,
-    alloc: Global,
-    format: &Iso8601,
-    text: &str,
-) -> [(Iso8601, String); 2] {
-    let config = format.config();
-    let point = Iso8601::new(config.set_decimal_sign(DecimalSign::Point));
-    let comma = Iso8601::new(config.set_decimal_sign(DecimalSign::Comma));
-    let (Ok(by_point), Ok(by_comma)) = (text.to_string(alloc), text.replace(alloc, ".", ",")) else {
+const SIGNS: &[DecimalSign] = &[DecimalSign::Point, DecimalSign::Comma];
+
+fn with_sign(format: &Iso8601, sign: DecimalSign) -> Iso8601 {
+    Iso8601::new(format.config().set_decimal_sign(sign))
+}
+
+/// The text that has a point, with this sign.
+fn signed(rt: &impl Abort, alloc: Global, text: &str, sign: DecimalSign) -> String {
+    let mark = match sign {
+        DecimalSign::Point => ".",
+        DecimalSign::Comma => ",",
+    };
+    let Ok(text) = text.replace(alloc, ".", mark) else {
         panic!(rt; "no memory");
     };
-    [(point, by_point), (comma, by_comma)]
+    text
 }
 
 /// Compares the text, the count and the width by either decimal sign.
@@ -84,8 +87,16 @@ fn assert_text<V: ComponentProvider>(
 where
     V::State: Drop,
 {
-    for (format, text) in by_each_sign(rt, alloc, format, text) {
-        texts::assert_text(rt, alloc, &format, value, text.as_str(), width);
+    for &sign in SIGNS {
+        let text = signed(rt, alloc, text, sign);
+        texts::assert_text(
+            rt,
+            alloc,
+            &with_sign(format, sign),
+            value,
+            text.as_str(),
+            width,
+        );
     }
 }
 
@@ -114,8 +125,8 @@ fn assert_refused<V: ComponentProvider>(
 where
     V::State: Drop,
 {
-    for (format, _) in by_each_sign(rt, alloc, format, "") {
-        texts::assert_refused(rt, alloc, &format, value, name);
+    for &sign in SIGNS {
+        texts::assert_refused(rt, alloc, &with_sign(format, sign), value, name);
     }
 }
 
@@ -131,11 +142,11 @@ fn assert_refused_after<V: ComponentProvider>(
 where
     V::State: Drop,
 {
-    for (format, text) in by_each_sign(rt, alloc, format, text) {
+    for &sign in SIGNS {
         let mut output = Vec::new(alloc);
-        let mut state = V::State::default();
-        let answer = format.format_into(&mut output, value, &mut state);
+        let (answer, _) = append(alloc, &mut output, &with_sign(format, sign), value);
         assert_same(rt, refusal_name(&answer), name);
+        let text = signed(rt, alloc, text, sign);
         assert_same(rt, output.as_slice(), text.as_bytes());
     }
 }
@@ -214,14 +225,10 @@ const COMMAS: &[((u8, u8, u8, u32), Choices, &str)] = rows! { Time:
     (9, 55, 6, 0) => { precision: (Second, 0) } "09:55:06",
 };
 
-fn with_comma(format: Iso8601) -> Iso8601 {
-    Iso8601::new(format.config().set_decimal_sign(DecimalSign::Comma))
-}
-
 #[test]
 fn a_comma_stands_where_it_is_chosen(rt: HostRuntime) {
     for &(time, choices, text) in COMMAS {
-        let format = with_comma(format_by(&choices));
+        let format = with_sign(&format_by(&choices), DecimalSign::Comma);
         texts::assert_text(
             &rt,
             rt.alloc(),
@@ -232,7 +239,7 @@ fn a_comma_stands_where_it_is_chosen(rt: HostRuntime) {
         );
     }
     let text = "1997-11-12T09:55:06,000000000-06:00";
-    let format = with_comma(Iso8601::default());
+    let format = with_sign(&Iso8601::default(), DecimalSign::Comma);
     texts::assert_text(&rt, rt.alloc(), &format, &wednesday(&rt, 0), text, 35);
 }
 
@@ -254,7 +261,7 @@ const DECIMALS: &[Decimals] = &[
     ((0, 0, 0, 1), Second, ("00:00:00.", "000000001", b'0')),
 ];
 
-/// Formats the time, with separators and by either decimal sign, and compares this many decimals.
+/// Formats the time by either decimal sign, with separators, and compares this many decimals.
 fn assert_decimals(
     rt: &impl Abort,
     alloc: Global,
@@ -262,25 +269,27 @@ fn assert_decimals(
     count: u8,
 ) {
     let format = Iso8601::new(with_parts(Parts::Time).set_time_precision(precision(unit, count)));
-    for (format, whole) in by_each_sign(rt, alloc, &format, whole) {
+    for &sign in SIGNS {
+        let (whole, format) = (signed(rt, alloc, whole, sign), with_sign(&format, sign));
         let mut output = Vec::new(alloc);
-        let answer = format.format_into(&mut output, &time_at(rt, time), &mut ());
+        let (answer, _) = append(alloc, &mut output, &format, &time_at(rt, time));
         assert_that(rt, matches!(&answer, Ok(length) if *length == output.len()));
         assert_same(rt, format.compute_metadata().max_bytes_needed, output.len());
         let Some((text, decimals)) = output.as_slice().split_at_checked(whole.len()) else {
             panic!(rt; "short: {whole}");
         };
         assert_same(rt, text, whole.as_str().as_bytes());
-        assert_digits(rt, decimals, (first, others), count);
+        assert_same(rt, decimals.len(), count as usize);
+        assert_digits(rt, decimals, first.as_bytes(), others);
     }
 }
 
-/// Compares the number of digits, the first of them, and all others.
-fn assert_digits(rt: &impl Abort, digits: &[u8], (first, others): (&str, u8), count: u8) {
-    assert_same(rt, digits.len(), count as usize);
-    for (place, digit) in digits.iter().enumerate() {
-        let known = first.as_bytes().get(place).copied();
-        assert_same(rt, *digit, known.unwrap_or(others));
+/// Compares the first digits, and all others.
+fn assert_digits(rt: &impl Abort, digits: &[u8], first: &[u8], others: u8) {
+    let known = digits.len().min(first.len());
+    assert_same(rt, &digits[..known], &first[..known]);
+    for digit in &digits[known..] {
+        assert_same(rt, *digit, others);
     }
 }
 
@@ -434,29 +443,20 @@ fn each_type_of_value_with_all_groups_is_formatted(rt: HostRuntime) {
 }
 
 /// Compares the three parts of the example, one after another, by a configuration that formats none.
-fn assert_parts(rt: &impl Abort, alloc: Global, sign: DecimalSign, text: &str) -> Result<(), Fail> {
-    let value = wednesday(rt, 0);
-    let nothing = Config::default()
-        .set_formatted_components(Parts::None)
-        .set_decimal_sign(sign);
-    let mut state = DateState::default();
-    let mut output = Vec::with_capacity(alloc, 34)?;
-    let date = format_date(&nothing, &mut output, &value, &mut state);
-    assert_that(rt, matches!(&date, Ok(10)));
-    let time = format_time(&nothing, &mut output, &value, &mut state);
-    assert_that(rt, matches!(&time, Ok(18)));
-    let offset = format_offset(&nothing, &mut output, &value, &mut state);
-    assert_that(rt, matches!(&offset, Ok(6)));
+fn assert_parts(rt: &impl Abort, alloc: Global, sign: DecimalSign, text: &str) {
+    let nothing = with_parts(Parts::None).set_decimal_sign(sign);
+    let mut output = Vec::new(alloc);
+    let answer = append_parts(&nothing, &mut output, &wednesday(rt, 0));
+    assert_that(rt, matches!(&answer, Ok((10, 18, 6))));
     assert_same(rt, output.as_slice(), text.as_bytes());
-    Ok(())
 }
 
 #[test]
-fn each_part_is_written_by_itself(rt: HostRuntime) -> Result<(), Fail> {
+fn each_part_is_written_by_itself(rt: HostRuntime) {
     let by_point = "1997-11-1209:55:06.000000000-06:00";
-    assert_parts(&rt, rt.alloc(), DecimalSign::Point, by_point)?;
+    assert_parts(&rt, rt.alloc(), DecimalSign::Point, by_point);
     let by_comma = "1997-11-1209:55:06,000000000-06:00";
-    assert_parts(&rt, rt.alloc(), DecimalSign::Comma, by_comma)
+    assert_parts(&rt, rt.alloc(), DecimalSign::Comma, by_comma);
 }
 
 #[test]

@@ -5,7 +5,8 @@
 
 #[cfg(test)]
 mod exact_room;
-pub mod front_page;
+#[cfg(test)]
+mod front_page;
 #[cfg(test)]
 mod iso8601;
 #[cfg(test)]

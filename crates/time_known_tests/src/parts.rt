@@ -1,23 +1,32 @@
 //! Well-known formats as parts of a text.
 use crate::texts::{assert_refused, assert_text};
 use crate::values::{moment, time_at};
+use std::alloc::Global;
 use std::default::Default;
+use std::process::Abort;
 use time_fmt::parts::*;
 use time_known::{Iso8601, Rfc2822, Rfc3339};
 
+/// Compares the text of 1997-11-12 9:55:06.123456789 -06:30 between literals, before the day.
+fn assert_between<D: Formattable + Drop>(
+    rt: &impl Abort,
+    alloc: Global,
+    format: D,
+    text: &str,
+    width: usize,
+) {
+    let value = moment(rt, (1997, 11, 12), (9, 55, 6, 123_456_789), (-6, -30, 0));
+    let parts = text!(b"[", format, b"] ", DAY);
+    assert_text(rt, alloc, &parts, &value, text, width);
+}
+
 #[test]
 fn a_well_known_format_is_a_part(rt: HostRuntime) {
-    let alloc = rt.alloc();
-    let date = (1997, 11, 12);
-    let value = moment(&rt, date, (9, 55, 6, 123_456_789), (-6, -30, 0));
     let text = "[1997-11-12T09:55:06.123456789-06:30] 12";
-    let parts = text!(b"[", Rfc3339, b"] ", DAY);
-    assert_text(&rt, alloc, &parts, &value, text, 40);
-    let parts = text!(b"[", Iso8601::default(), b"] ", DAY);
-    assert_text(&rt, alloc, &parts, &value, text, 40);
-    let parts = text!(b"[", Rfc2822, b"] ", DAY);
+    assert_between(&rt, rt.alloc(), Rfc3339, text, 40);
+    assert_between(&rt, rt.alloc(), Iso8601::default(), text, 40);
     let text = "[Wed, 12 Nov 1997 09:55:06 -0630] 12";
-    assert_text(&rt, alloc, &parts, &value, text, 36);
+    assert_between(&rt, rt.alloc(), Rfc2822, text, 36);
 }
 
 #[test]

@@ -1,12 +1,12 @@
 //! RFC 3339 and RFC 2822.
-use crate::texts::{assert_refused, assert_same, assert_text, assert_that};
+use crate::texts::{append, assert_refused, assert_same, assert_text, assert_that};
 use crate::values::{moment, timestamp_at, wednesday};
 use std::alloc::Global;
 use std::process::Abort;
-use time_below::{PlainDateTime, UtcDateTime};
+use std::test::Fail;
+use time_below::{OffsetDateTime, PlainDateTime, UtcDateTime};
 use time_fmt::Formattable;
 use time_known::{Rfc2822, Rfc3339};
-use time_provide::DateState;
 
 /// Rows of a local date, a time of day, an offset and the text.
 macro_rules! moments {
@@ -95,21 +95,25 @@ fn assert_each_type<D: Formattable>(
     (text, width): (&str, usize),
 ) {
     let whole = moment(rt, (1970, 1, 1), (0, 0, 0, 0), (0, 0, 0));
-    let (date, time) = (whole.date(), whole.time());
+    let utc = UtcDateTime::new(whole.date(), whole.time());
     assert_text(rt, alloc, format, &whole, text, width);
-    assert_text(
-        rt,
-        alloc,
-        format,
-        &UtcDateTime::new(date, time),
-        text,
-        width,
-    );
+    assert_text(rt, alloc, format, &utc, text, width);
     assert_text(rt, alloc, format, &timestamp_at(rt, (0, 0)), text, width);
+    assert_insufficient(rt, alloc, format, &whole);
+}
+
+/// Compares the refusals of what has not all groups of this moment.
+fn assert_insufficient<D: Formattable>(
+    rt: &impl Abort,
+    alloc: Global,
+    format: &D,
+    whole: &OffsetDateTime,
+) {
+    let (date, time) = (whole.date(), whole.time());
+    let plain = PlainDateTime::new(date, time);
     assert_refused(rt, alloc, format, &date, "insufficient");
     assert_refused(rt, alloc, format, &time, "insufficient");
     assert_refused(rt, alloc, format, &whole.offset(), "insufficient");
-    let plain = PlainDateTime::new(date, time);
     assert_refused(rt, alloc, format, &plain, "insufficient");
 }
 
@@ -124,30 +128,30 @@ fn each_type_of_value_with_all_groups_is_formatted(rt: HostRuntime) {
 #[test]
 fn refuses_a_missing_group_first(rt: HostRuntime) {
     let far = moment(&rt, (10_000, 1, 1), (0, 0, 0, 0), (24, 0, 1));
-    let plain = PlainDateTime::new(far.date(), far.time());
-    let alloc = rt.alloc();
-    assert_refused(&rt, alloc, &Rfc3339, &plain, "insufficient");
-    assert_refused(&rt, alloc, &Rfc2822, &plain, "insufficient");
-    assert_refused(&rt, alloc, &Rfc3339, &far.offset(), "insufficient");
-    assert_refused(&rt, alloc, &Rfc2822, &far.offset(), "insufficient");
+    assert_insufficient(&rt, rt.alloc(), &Rfc3339, &far);
+    assert_insufficient(&rt, rt.alloc(), &Rfc2822, &far);
+}
+
+/// Appends the text, and compares the count.
+fn assert_count<D: Formattable>(
+    rt: &impl Abort,
+    alloc: Global,
+    output: &mut Vec<u8>,
+    format: &D,
+    count: usize,
+) {
+    let (appended, _) = append(alloc, output, format, &wednesday(rt, 0));
+    assert_that(rt, matches!(&appended, Ok(found) if *found == count));
 }
 
 #[test]
-fn room_for_the_width_is_used(rt: HostRuntime) {
-    let value = wednesday(&rt, 0);
-    let Ok(mut output) = Vec::with_capacity(rt.alloc(), 70) else {
-        panic!(rt; "no memory");
-    };
+fn room_for_the_width_is_used(rt: HostRuntime) -> Result<(), Fail> {
+    let mut output = Vec::with_capacity(rt.alloc(), 70)?;
     let capacity = output.capacity();
-    let mut state = DateState::default();
-    let count = Rfc3339.format_into(&mut output, &value, &mut state);
-    assert_that(&rt, matches!(&count, Ok(25)));
-    let count = Rfc2822.format_into(&mut output, &value, &mut state);
-    assert_that(&rt, matches!(&count, Ok(31)));
+    assert_count(&rt, rt.alloc(), &mut output, &Rfc3339, 25);
+    assert_count(&rt, rt.alloc(), &mut output, &Rfc2822, 31);
     assert_same(&rt, output.capacity(), capacity);
-    assert_same(
-        &rt,
-        output.as_slice(),
-        b"1997-11-12T09:55:06-06:00Wed, 12 Nov 1997 09:55:06 -0600".as_slice(),
-    );
+    let text = b"1997-11-12T09:55:06-06:00Wed, 12 Nov 1997 09:55:06 -0600";
+    assert_same(&rt, output.as_slice(), text.as_slice());
+    Ok(())
 }

@@ -44,11 +44,21 @@ fn utc(rt: &impl Abort, (date, time): Parts) -> UtcDateTime {
     UtcDateTime::new(value.date(), value.time())
 }
 
+/// Appends the stamp. No clause is handed on, so that a test proves no more than it compares.
+fn append_stamp(rt: &impl Abort, output: &mut Vec<u8>, parts: Parts) -> Result<usize, Format> {
+    stamp_into(output, &utc(rt, parts))
+}
+
 fn stamp(rt: &impl Abort, alloc: Global, parts: Parts) -> Vec<u8> {
     let mut output = Vec::new(alloc);
-    let answer = stamp_into(&mut output, &utc(rt, parts));
+    let answer = append_stamp(rt, &mut output, parts);
     assert_that(rt, matches!(&answer, Ok(30)));
     output
+}
+
+/// Compares the stamp.
+fn assert_stamp(rt: &impl Abort, alloc: Global, parts: Parts, text: &[u8]) {
+    assert_same(rt, stamp(rt, alloc, parts).as_slice(), text);
 }
 
 /// The stamps of two moments, which are in the order of the moments: what a caller learns from
@@ -96,11 +106,7 @@ const TEXTS: &[(Parts, &str)] = stamps! {
 #[test]
 fn a_stamp_has_nine_decimals(rt: HostRuntime) {
     for &(parts, text) in TEXTS {
-        assert_same(
-            &rt,
-            stamp(&rt, rt.alloc(), parts).as_slice(),
-            text.as_bytes(),
-        );
+        assert_stamp(&rt, rt.alloc(), parts, text.as_bytes());
     }
 }
 
@@ -111,43 +117,50 @@ const FAR_DATES: &[(i32, u8, u8)] = &[
     (65_536, 1, 1),
 ];
 
+const EPOCH: Parts = ((1970, 1, 1), (0, 0, 0, 0));
+
+/// The stamp of this date is refused, and nothing is appended.
+fn assert_far(rt: &impl Abort, output: &mut Vec<u8>, date: (i32, u8, u8)) {
+    let answer = append_stamp(rt, output, (date, (0, 0, 0, 0)));
+    assert_same(rt, refusal_name(&answer), "year");
+    assert_same(rt, output.as_slice(), b"x".as_slice());
+}
+
 #[test]
 fn refuses_a_year_past_9999_or_below_0(rt: HostRuntime) -> Result<(), Fail> {
-    let mut output = Vec::with_capacity(rt.alloc(), 36)?;
-    output.push(b'x')?;
+    let mut output = vec![in rt.alloc(); b'x'; 1]?;
     for &date in FAR_DATES {
-        let answer = stamp_into(&mut output, &utc(&rt, (date, (0, 0, 0, 0))));
-        assert_same(&rt, refusal_name(&answer), "year");
-        assert_same(&rt, output.as_slice(), b"x".as_slice());
+        assert_far(&rt, &mut output, date);
     }
-    let good = utc(&rt, ((1970, 1, 1), (0, 0, 0, 0)));
-    assert_that(&rt, matches!(stamp_into(&mut output, &good), Ok(30)));
-    assert_same(
-        &rt,
-        output.as_slice(),
-        b"x1970-01-01T00:00:00.000000000Z".as_slice(),
-    );
+    let answer = append_stamp(&rt, &mut output, EPOCH);
+    assert_that(&rt, matches!(&answer, Ok(30)));
+    let text = b"x1970-01-01T00:00:00.000000000Z";
+    assert_same(&rt, output.as_slice(), text.as_slice());
     Ok(())
 }
 
 /// Spare capacity of 35 bytes is kept, and the output grows once if it is missing.
 #[test]
 fn a_stamp_keeps_room_for_35_bytes(rt: HostRuntime) -> Result<(), Fail> {
-    let good = utc(&rt, ((1970, 1, 1), (0, 0, 0, 0)));
     let mut output = Vec::with_capacity(rt.alloc(), 35)?;
     let capacity = output.capacity();
-    assert_that(&rt, matches!(stamp_into(&mut output, &good), Ok(30)));
+    let first = append_stamp(&rt, &mut output, EPOCH);
+    assert_that(&rt, matches!(&first, Ok(30)));
     assert_same(&rt, output.capacity(), capacity);
-    let answer = stamp_into(&mut output, &good);
-    if matches!(&answer, Err(Format::OutOfMemory)) {
-        assert_same(&rt, output.len(), 30);
-        assert_same(&rt, output.capacity(), capacity);
+    let second = append_stamp(&rt, &mut output, EPOCH);
+    if matches!(&second, Err(Format::OutOfMemory)) {
+        assert_same(&rt, (output.len(), output.capacity()), (30, capacity));
     } else {
-        assert_that(&rt, matches!(&answer, Ok(30)));
-        assert_same(&rt, output.len(), 60);
-        assert_that(&rt, 70 <= output.capacity());
+        assert_that(&rt, matches!(&second, Ok(30)));
+        assert_that(&rt, output.len() == 60 && 70 <= output.capacity());
     }
     Ok(())
+}
+
+/// The seconds and the nanosecond of a moment.
+fn order_of(rt: &impl Abort, parts: Parts) -> (i64, u32) {
+    let value = utc(rt, parts);
+    (value.unix_timestamp(), value.time().as_hms_nano().3)
 }
 
 /// The texts, sorted, are in the order of the moments.
@@ -160,15 +173,10 @@ fn the_order_of_stamps_is_that_of_moments(rt: HostRuntime) -> Result<(), Fail> {
     texts.sort()?;
     let mut before = None;
     for (parts, text) in MOMENTS.iter().zip(texts.iter()) {
-        let value = utc(&rt, *parts);
-        let moment = Some((value.unix_timestamp(), value.time().as_hms_nano().3));
+        let moment = Some(order_of(&rt, *parts));
         assert_that(&rt, before < moment);
         before = moment;
-        assert_same(
-            &rt,
-            text.as_slice(),
-            stamp(&rt, rt.alloc(), *parts).as_slice(),
-        );
+        assert_stamp(&rt, rt.alloc(), *parts, text.as_slice());
     }
     Ok(())
 }

@@ -15,6 +15,22 @@ pub(crate) fn assert_that(rt: &impl Abort, is_so: bool) {
     assert!(rt; is_so);
 }
 
+/// Appends the text by a fresh state, and makes it once more by the same. No clause is handed on, so that a
+/// test proves no more than it compares.
+pub(crate) fn append<D: Formattable, V: ComponentProvider>(
+    alloc: Global,
+    output: &mut Vec<u8>,
+    format: &D,
+    value: &V,
+) -> (Result<usize, Format>, Result<String, Format>)
+where
+    V::State: Drop,
+{
+    let mut state = V::State::default();
+    let appended = format.format_into(output, value, &mut state);
+    (appended, format.format(alloc, value, &mut state))
+}
+
 /// Formats the value with a fresh state into an empty vector, and as a text, and compares the texts,
 /// the count and the width, and that the text is sure to be UTF-8.
 pub(crate) fn assert_text<D: Formattable, V: ComponentProvider>(
@@ -32,15 +48,11 @@ where
     assert_that(rt, metadata.guaranteed_utf8);
     assert_same(rt, metadata.max_bytes_needed, width);
     let mut output = Vec::new(alloc);
-    let mut state = V::State::default();
-    let Ok(count) = format.format_into(&mut output, value, &mut state) else {
+    let (Ok(count), Ok(formatted)) = append(alloc, &mut output, format, value) else {
         panic!(rt; "refused: {text}");
     };
     assert_same(rt, output.as_slice(), text.as_bytes());
     assert_same(rt, count, text.len());
-    let Ok(formatted) = format.format(alloc, value, &mut state) else {
-        panic!(rt; "no text: {text}");
-    };
     assert_same(rt, formatted.as_str(), text);
 }
 
@@ -57,14 +69,11 @@ where
     V::State: Drop,
 {
     let mut output = Vec::new(alloc);
-    let pushed = output.push(b'x');
-    assert_that(rt, pushed.is_ok());
-    let mut state = V::State::default();
-    let answer = format.format_into(&mut output, value, &mut state);
-    assert_same(rt, refusal_name(&answer), name);
+    assert_that(rt, output.push(b'x').is_ok());
+    let (appended, made) = append(alloc, &mut output, format, value);
+    assert_same(rt, refusal_name(&appended), name);
     assert_same(rt, output.as_slice(), b"x".as_slice());
-    let answer = format.format(alloc, value, &mut state);
-    assert_same(rt, refusal_name(&answer), name);
+    assert_same(rt, refusal_name(&made), name);
 }
 
 /// The name of the component that is refused, or why else there is no text. Formats here refuse no

@@ -11,32 +11,16 @@ use time_digits::{
     write_two_digits, zeros_to_drop,
 };
 
-fn digit(rt: &impl Abort, n: u8) -> ru8<0, 9> {
-    ru8::new(n).expect(rt, "a digit")
+fn byte<const MIN: u8, const MAX: u8>(rt: &impl Abort, n: u8) -> ru8<MIN, MAX> {
+    ru8::new(n).expect(rt, "in range")
 }
 
-fn pair(rt: &impl Abort, n: u8) -> ru8<0, 99> {
-    ru8::new(n).expect(rt, "two digits")
+fn pair<const MIN: u16, const MAX: u16>(rt: &impl Abort, n: u16) -> ru16<MIN, MAX> {
+    ru16::new(n).expect(rt, "in range")
 }
 
-fn three(rt: &impl Abort, n: u16) -> ru16<0, 999> {
-    ru16::new(n).expect(rt, "three digits")
-}
-
-fn four(rt: &impl Abort, n: u16) -> ru16<0, 9_999> {
-    ru16::new(n).expect(rt, "four digits")
-}
-
-fn five(rt: &impl Abort, n: u32) -> ru32<0, 99_999> {
-    ru32::new(n).expect(rt, "five digits")
-}
-
-fn six(rt: &impl Abort, n: u32) -> ru32<0, 999_999> {
-    ru32::new(n).expect(rt, "six digits")
-}
-
-fn nine(rt: &impl Abort, n: u32) -> ru32<0, 999_999_999> {
-    ru32::new(n).expect(rt, "nine digits")
+fn word<const MIN: u32, const MAX: u32>(rt: &impl Abort, n: u32) -> ru32<MIN, MAX> {
+    ru32::new(n).expect(rt, "in range")
 }
 
 const QUOTIENTS: &[(u16, u8, u8)] = &[
@@ -50,7 +34,7 @@ const QUOTIENTS: &[(u16, u8, u8)] = &[
 #[test]
 fn a_quotient_by_100_and_its_rest(rt: HostRuntime) {
     for &(n, high, low) in QUOTIENTS {
-        let [found_high, found_low] = div_100(four(&rt, n));
+        let [found_high, found_low] = div_100(pair(&rt, n));
         assert_same(&rt, (found_high.get(), found_low.get()), (high, low));
     }
 }
@@ -58,7 +42,7 @@ fn a_quotient_by_100_and_its_rest(rt: HostRuntime) {
 #[test]
 fn quotients_of_all_numbers_are_right(rt: HostRuntime) {
     for n in 0..10_000u16 {
-        let [high, low] = div_100(four(&rt, n));
+        let [high, low] = div_100(pair(&rt, n));
         assert_same(&rt, u16::from(high.get()), n / 100);
         assert_same(&rt, u16::from(low.get()), n % 100);
     }
@@ -78,13 +62,13 @@ fn each_pair_stands_in_its_table(rt: HostRuntime) {
     assert_same(&rt, SPACE_PADDED_PAIRS.len(), 200);
     for n in 0..100u8 {
         let place = 2 * n as usize;
-        let zeros = two_digits_zero_padded(pair(&rt, n));
+        let zeros = two_digits_zero_padded(byte(&rt, n));
         assert_same(
             &rt,
             zeros.as_bytes(),
             &ZERO_PADDED_PAIRS.as_bytes()[place..place + 2],
         );
-        let spaces = two_digits_space_padded(pair(&rt, n));
+        let spaces = two_digits_space_padded(byte(&rt, n));
         assert_same(
             &rt,
             spaces.as_bytes(),
@@ -107,12 +91,12 @@ const PAIRS: &[(u8, &str, &str, &str)] = &[
 #[test]
 fn one_and_two_digits_are_filled_as_asked_for(rt: HostRuntime) {
     for &(n, want) in DIGITS {
-        assert_same(&rt, single_digit(digit(&rt, n)), want);
+        assert_same(&rt, single_digit(byte(&rt, n)), want);
     }
     for &(n, plain, zeros, spaces) in PAIRS {
-        assert_same(&rt, one_to_two_digits_no_padding(pair(&rt, n)), plain);
-        assert_same(&rt, two_digits_zero_padded(pair(&rt, n)), zeros);
-        assert_same(&rt, two_digits_space_padded(pair(&rt, n)), spaces);
+        assert_same(&rt, one_to_two_digits_no_padding(byte(&rt, n)), plain);
+        assert_same(&rt, two_digits_zero_padded(byte(&rt, n)), zeros);
+        assert_same(&rt, two_digits_space_padded(byte(&rt, n)), spaces);
     }
 }
 
@@ -132,9 +116,9 @@ const THREE: &[TwoPieces] = &[
 #[test]
 fn three_digits_are_filled_as_asked_for(rt: HostRuntime) {
     for &(n, plain, zeros, spaces) in THREE {
-        assert_same(&rt, one_to_three_digits_no_padding(three(&rt, n)), plain);
-        assert_same(&rt, three_digits_zero_padded(three(&rt, n)), zeros);
-        assert_same(&rt, three_digits_space_padded(three(&rt, n)), spaces);
+        assert_same(&rt, one_to_three_digits_no_padding(pair(&rt, n)), plain);
+        assert_same(&rt, three_digits_zero_padded(pair(&rt, n)), zeros);
+        assert_same(&rt, three_digits_space_padded(pair(&rt, n)), spaces);
     }
 }
 
@@ -151,9 +135,9 @@ const FOUR: &[TwoPieces] = &[
 #[test]
 fn four_digits_are_filled_as_asked_for(rt: HostRuntime) {
     for &(n, plain, zeros, spaces) in FOUR {
-        assert_same(&rt, one_to_four_digits_no_padding(four(&rt, n)), plain);
-        assert_same(&rt, four_digits_zero_padded(four(&rt, n)), zeros);
-        assert_same(&rt, four_digits_space_padded(four(&rt, n)), spaces);
+        assert_same(&rt, one_to_four_digits_no_padding(pair(&rt, n)), plain);
+        assert_same(&rt, four_digits_zero_padded(pair(&rt, n)), zeros);
+        assert_same(&rt, four_digits_space_padded(pair(&rt, n)), spaces);
     }
 }
 
@@ -170,7 +154,7 @@ const FOUR_TO_SIX: &[(u32, [&str; 3])] = &[
 #[test]
 fn four_to_six_digits_have_no_zeros_before_them(rt: HostRuntime) {
     for &(n, want) in FOUR_TO_SIX {
-        assert_same(&rt, four_to_six_digits(six(&rt, n)), want);
+        assert_same(&rt, four_to_six_digits(word(&rt, n)), want);
     }
 }
 
@@ -191,10 +175,10 @@ const SIX: &[(u32, [&str; 3])] = &[
 #[test]
 fn five_and_six_digits_are_filled_with_zeros(rt: HostRuntime) {
     for &(n, want) in FIVE {
-        assert_same(&rt, five_digits_zero_padded(five(&rt, n)), want);
+        assert_same(&rt, five_digits_zero_padded(word(&rt, n)), want);
     }
     for &(n, want) in SIX {
-        assert_same(&rt, six_digits_zero_padded(six(&rt, n)), want);
+        assert_same(&rt, six_digits_zero_padded(word(&rt, n)), want);
     }
 }
 
@@ -209,7 +193,7 @@ const NANOSECONDS: &[(u32, [&str; 5])] = &[
 #[test]
 fn nanoseconds_have_nine_digits(rt: HostRuntime) {
     for &(n, want) in NANOSECONDS {
-        assert_same(&rt, subsecond_from_nanos(nine(&rt, n)), want);
+        assert_same(&rt, subsecond_from_nanos(word(&rt, n)), want);
     }
 }
 
@@ -247,7 +231,7 @@ const TRIMMED: &[(u32, &str)] = &[
 #[test]
 fn a_fraction_ends_at_its_last_digit(rt: HostRuntime) {
     for &(n, want) in TRIMMED {
-        let text = truncated_subsecond_from_nanos(nine(&rt, n));
+        let text = truncated_subsecond_from_nanos(word(&rt, n));
         assert_same(&rt, text.as_str(), want);
         assert_same(&rt, text.len(), want.len());
     }
@@ -280,10 +264,10 @@ fn whole_numbers_have_no_more_than_their_digits(rt: HostRuntime) {
 #[test]
 fn digits_are_written_in_their_place(rt: HostRuntime) {
     let mut buf = *b"......";
-    write_two_digits(&mut buf, 2, pair(&rt, 7));
+    write_two_digits(&mut buf, 2, byte(&rt, 7));
     assert_same(&rt, buf, *b"..07..");
-    write_one_digit(&mut buf, 5, digit(&rt, 9));
+    write_one_digit(&mut buf, 5, byte(&rt, 9));
     assert_same(&rt, buf, *b"..07.9");
-    write_two_digits(&mut buf, 0, pair(&rt, 42));
+    write_two_digits(&mut buf, 0, byte(&rt, 42));
     assert_same(&rt, buf, *b"4207.9");
 }

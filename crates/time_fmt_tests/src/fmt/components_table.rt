@@ -1,11 +1,8 @@
 //! The rows of `docs/COMPONENTS.md`: each component by the choices of its row, with its example and width. Tests
 //! of other modules go through the same rows. Behind them stands each constant of `time_fmt::parts` as a part.
 use crate::fmt::parts::{Values, assert_part};
-use crate::texts::assert_component;
-use crate::values::{moment, wednesday};
-use std::alloc::Global;
-use std::process::Abort;
-use time_below::OffsetDateTime;
+use crate::texts::assert_components;
+use crate::values::{Value, WEDNESDAY};
 use time_below::format_description::modifier::Padding::{Space, Zero};
 use time_below::format_description::modifier::{
     MonthRepr, Padding, SubsecondDigits, TrailingInput, UnixTimestampPrecision, WeekNumberRepr,
@@ -19,18 +16,6 @@ macro_rules! components {
     ($($name:ident { $($choice:ident: $chosen:expr),* } $text:literal $width:literal,)+) => {
         &[$((Component::$name(modifier::$name { $($choice: $chosen),* }), $text, $width)),+]
     };
-}
-
-/// Formats the value by each component.
-fn assert_components(
-    rt: &impl Abort,
-    alloc: Global,
-    value: &OffsetDateTime,
-    rows: &[(Component, &str, usize)],
-) {
-    for &(component, text, width) in rows {
-        assert_component(rt, alloc, component, value, text, width);
-    }
 }
 
 /// What the tables show of components that are not deprecated, of 1997-11-12 9:55:06.12 -06:00.
@@ -106,14 +91,14 @@ const OTHER_CHOICES: &[(Component, &str, usize)] = components! {
 
 #[test]
 fn each_component_has_the_text_and_the_width_of_the_table(rt: HostRuntime) {
-    let value = moment(&rt, (1997, 11, 12), (9, 55, 6, 120_000_000), (-6, 0, 0));
-    assert_components(&rt, rt.alloc(), &value, COMPONENTS);
-    assert_components(&rt, rt.alloc(), &value, DEPRECATED);
+    let value = Value::Moment((1997, 11, 12), (9, 55, 6, 120_000_000), (-6, 0, 0));
+    assert_components(&rt, rt.alloc(), value, COMPONENTS);
+    assert_components(&rt, rt.alloc(), value, DEPRECATED);
 }
 
 #[test]
 fn other_choices_have_the_same_width(rt: HostRuntime) {
-    assert_components(&rt, rt.alloc(), &wednesday(&rt), OTHER_CHOICES);
+    assert_components(&rt, rt.alloc(), WEDNESDAY, OTHER_CHOICES);
 }
 
 /// Each of these components, by its name and its choices, with its text between the literals.

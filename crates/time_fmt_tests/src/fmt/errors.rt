@@ -9,26 +9,17 @@ use time_below::{ComponentRange, DifferentVariant};
 use time_fmt::{Error, Format};
 
 /// Compares a printed text.
-fn assert_printed<T: Display>(
-    rt: &impl Abort,
-    alloc: Global,
-    value: &T,
-    text: &str,
-) -> Result<(), Fail> {
-    let printed = format!(in alloc; "{value}")?;
+fn assert_printed<T: Display>(rt: &impl Abort, alloc: Global, value: &T, text: &str) {
+    let Ok(printed) = value.to_string(alloc) else {
+        panic!(rt; "no memory");
+    };
     assert_same(rt, printed.as_str(), text);
-    Ok(())
 }
 
 /// Compares the printed text of an error alone, and inside the outer one.
-fn assert_both_printed(
-    rt: &impl Abort,
-    alloc: Global,
-    error: Format,
-    text: &str,
-) -> Result<(), Fail> {
-    assert_printed(rt, alloc, &error, text)?;
-    assert_printed(rt, alloc, &Error::from(error), text)
+fn assert_both_printed(rt: &impl Abort, alloc: Global, error: Format, text: &str) {
+    assert_printed(rt, alloc, &error, text);
+    assert_printed(rt, alloc, &Error::from(error), text);
 }
 
 const UNCONDITIONAL: &str = "The hour component is out of range.";
@@ -40,34 +31,26 @@ const INSUFFICIENT: &str =
     component.";
 
 #[test]
-fn an_error_is_printed_the_same_inside_the_outer_one(rt: HostRuntime) -> Result<(), Fail> {
+fn an_error_is_printed_the_same_inside_the_outer_one(rt: HostRuntime) {
     let alloc = rt.alloc();
-    assert_both_printed(
-        &rt,
-        alloc,
-        Format::InsufficientTypeInformation,
-        INSUFFICIENT,
-    )?;
+    let insufficient = Format::InsufficientTypeInformation;
+    assert_both_printed(&rt, alloc, insufficient, INSUFFICIENT);
     let text = "The year component cannot be formatted into the requested format.";
-    assert_both_printed(&rt, alloc, Format::InvalidComponent("year"), text)?;
+    assert_both_printed(&rt, alloc, Format::InvalidComponent("year"), text);
     let hour = Format::ComponentRange(ComponentRange::unconditional("hour"));
-    assert_both_printed(&rt, alloc, hour, UNCONDITIONAL)?;
+    assert_both_printed(&rt, alloc, hour, UNCONDITIONAL);
     let day = Format::ComponentRange(ComponentRange::conditional("day"));
-    assert_both_printed(&rt, alloc, day, CONDITIONAL)?;
-    assert_both_printed(
-        &rt,
-        alloc,
-        Format::OutOfMemory,
-        "Memory could not be reserved.",
-    )
+    assert_both_printed(&rt, alloc, day, CONDITIONAL);
+    let text = "Memory could not be reserved.";
+    assert_both_printed(&rt, alloc, Format::OutOfMemory, text);
 }
 
 #[test]
-fn other_errors_are_printed(rt: HostRuntime) -> Result<(), Fail> {
+fn other_errors_are_printed(rt: HostRuntime) {
     let range = Error::ComponentRange(ComponentRange::conditional("day"));
-    assert_printed(&rt, rt.alloc(), &range, CONDITIONAL)?;
+    assert_printed(&rt, rt.alloc(), &range, CONDITIONAL);
     let text = "The error is of a different variant.";
-    assert_printed(&rt, rt.alloc(), &DifferentVariant, text)
+    assert_printed(&rt, rt.alloc(), &DifferentVariant, text);
 }
 
 /// Compares a text for debugging.

@@ -1,8 +1,7 @@
 //! Refusals in the midst of a tree, and literals that are no text by themselves.
-use crate::texts::{DAY, assert_refused_after, assert_same};
-use crate::values::{date_at, time_at};
+use crate::texts::{DAY, append, assert_refused_after, assert_same};
+use crate::values::time_at;
 use time_below::format_description::{BorrowedFormatItem as Item, Component};
-use time_fmt::Formattable;
 use time_fmt::parts::{HOUR, YEAR_STANDARD};
 
 const INNER: &[Item<'static>] = &[
@@ -19,9 +18,8 @@ const OUTER: &[Item<'static>] = &[
 
 #[test]
 fn a_missing_group_ends_the_text_in_the_midst_of_a_tree(rt: HostRuntime) {
-    let value = date_at(&rt, (1997, 11, 12));
-    let texts = ("xab", "insufficient", "xab12");
-    assert_refused_after(&rt, rt.alloc(), &Item::Compound(OUTER), &value, texts);
+    let (item, texts) = (Item::Compound(OUTER), ("xab", "insufficient", "xab12"));
+    assert_refused_after(&rt, rt.alloc(), &item, (1997, 11, 12), texts);
 }
 
 const DAY_AND_YEAR: &[Item<'static>] = &[
@@ -33,9 +31,8 @@ const DAY_AND_YEAR: &[Item<'static>] = &[
 
 #[test]
 fn a_refused_year_ends_the_text_in_the_midst_of_a_list(rt: HostRuntime) {
-    let (late, item) = (date_at(&rt, (10_000, 1, 1)), Item::Compound(DAY_AND_YEAR));
-    let texts = ("x01/", "year", "x01/01");
-    assert_refused_after(&rt, rt.alloc(), &item, &late, texts);
+    let (item, texts) = (Item::Compound(DAY_AND_YEAR), ("x01/", "year", "x01/01"));
+    assert_refused_after(&rt, rt.alloc(), &item, (10_000, 1, 1), texts);
 }
 
 /// Literals, and the text that they are read as.
@@ -69,7 +66,7 @@ const LITERALS: &[(Item<'static>, &str)] = &[
 fn a_letter_is_read_over_the_literals_that_it_stands_in(rt: HostRuntime) {
     let value = time_at(&rt, (0, 0, 0, 0));
     for (item, text) in LITERALS {
-        let Ok(formatted) = item.format(rt.alloc(), &value, &mut ()) else {
+        let (_, Ok(formatted)) = append(rt.alloc(), &mut Vec::new(rt.alloc()), item, &value) else {
             panic!(rt; "refused: {text}");
         };
         assert_same(&rt, formatted.as_str(), *text);

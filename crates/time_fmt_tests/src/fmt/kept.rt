@@ -56,19 +56,20 @@ fn state_with(value: &OffsetDateTime, kept: Kept) -> DateState {
     state
 }
 
+/// Appends the text of the Wednesday, and compares what is kept.
+fn appended<D: Formattable>(rt: &impl Abort, alloc: Global, item: &D, kept: Kept) -> Vec<u8> {
+    let (value, mut state) = (wednesday(rt), DateState::default());
+    let mut output = Vec::new(alloc);
+    let is_written = item.format_into(&mut output, &value, &mut state).is_ok();
+    assert_that(rt, is_written && state == state_with(&value, kept));
+    output
+}
+
 /// The component is written, this is kept, and the third version writes the same.
 fn assert_kept(rt: &impl Abort, alloc: Global, component: Component, kept: Kept) {
-    let value = wednesday(rt);
-    let wanted = state_with(&value, kept);
-    let (mut written, mut third) = (Vec::new(alloc), Vec::new(alloc));
-    let mut state = DateState::default();
-    let item = BorrowedFormatItem::Component(component);
-    let is_written = item.format_into(&mut written, &value, &mut state).is_ok();
-    assert_that(rt, is_written && state == wanted);
-    let mut state = DateState::default();
-    let item = FormatDescriptionV3::new(FormatDescriptionV3Inner::from(component));
-    let is_written = item.format_into(&mut third, &value, &mut state).is_ok();
-    assert_that(rt, is_written && state == wanted);
+    let written = appended(rt, alloc, &BorrowedFormatItem::Component(component), kept);
+    let third = FormatDescriptionV3::new(FormatDescriptionV3Inner::from(component));
+    let third = appended(rt, alloc, &third, kept);
     assert_same(rt, third.as_slice(), written.as_slice());
 }
 

@@ -1,5 +1,5 @@
 //! Allocations that fail, and allocations that succeed.
-use crate::texts::{DAY, assert_same, assert_that, refusal_name};
+use crate::texts::{DAY, assert_same, assert_that, measured, refusal_name};
 use crate::values::wednesday;
 use std::alloc::{AllocError, Global};
 use std::process::Abort;
@@ -7,7 +7,7 @@ use std::test::Fail;
 use time_below::format_description::{
     BorrowedFormatItem, Component, FormatDescriptionV3, FormatDescriptionV3Inner, OwnedFormatItem,
 };
-use time_fmt::{BorrowedItems, ComputeMetadata, Formattable, Metadata, OwnedItems};
+use time_fmt::{BorrowedItems, Format, Formattable, Metadata, OwnedItems};
 use time_provide::DateState;
 
 type Lent = &'static [BorrowedFormatItem<'static>];
@@ -68,40 +68,45 @@ pub(super) fn all_that_is_left(alloc: Global) -> Result<Vec<Vec<u8>>, AllocError
     Ok(taken)
 }
 
-/// Asserts that a failed allocation changes nothing, and that the next call writes its text. No
-/// block as large as the width is left meanwhile.
-fn assert_refused<D: Formattable>(
+/// Appends the text of the Wednesday, makes it once more, and returns both answers and the state.
+fn append_kept<D: Formattable>(
     rt: &impl Abort,
     alloc: Global,
     item: &D,
-) -> Result<(), AllocError> {
-    assert_same(rt, item.compute_metadata().max_bytes_needed, WIDTH);
-    let value = wednesday(rt).date();
-    let mut state = DateState::default();
+    output: &mut Vec<u8>,
+) -> (Result<usize, Format>, Result<String, Format>, DateState) {
+    let (value, mut state) = (wednesday(rt).date(), DateState::default());
+    let appended = item.format_into(output, &value, &mut state);
+    let made = item.format(alloc, &value, &mut state);
+    (appended, made, state)
+}
+
+/// Asserts that a failed allocation changes nothing, and that the next call writes its text. No
+/// block as large as the width is left meanwhile.
+fn assert_refused<D: Formattable>(rt: &impl Abort, alloc: Global, item: &D) {
+    assert_same(rt, measured(item), WIDTH);
     let mut output = Vec::new(alloc);
-    output.extend_from_slice(b"before")?;
+    assert_that(rt, output.extend_from_slice(b"before").is_ok());
     let capacity = output.capacity();
-    let taken = all_that_is_left(alloc)?;
-    let refused = item.format_into(&mut output, &value, &mut state);
-    let text = item.format(alloc, &value, &mut state);
+    let taken = all_that_is_left(alloc);
+    assert_that(rt, taken.is_ok());
+    let (refused, made, state) = append_kept(rt, alloc, item, &mut output);
     drop(taken);
     assert_same(rt, refusal_name(&refused), "memory");
-    assert_same(rt, refusal_name(&text), "memory");
+    assert_same(rt, refusal_name(&made), "memory");
     assert_same(rt, output.as_slice(), b"before".as_slice());
     assert_same(rt, output.capacity(), capacity);
     assert_that(rt, state == DateState::default());
-    let day = BorrowedFormatItem::Component(DAY);
-    let written = day.format_into(&mut output, &value, &mut state);
+    let (written, _, _) = append_kept(rt, alloc, &BorrowedFormatItem::Component(DAY), &mut output);
     assert_that(rt, matches!(&written, Ok(2)));
     assert_same(rt, output.as_slice(), b"before12".as_slice());
-    Ok(())
 }
 
 #[test]
 fn a_refused_reservation_of_a_borrowed_tree_changes_nothing(rt: HostRuntime) -> Result<(), Fail> {
     let items = too_wide(rt.alloc())?;
-    assert_refused(&rt, rt.alloc(), &BorrowedFormatItem::Compound(items))?;
-    assert_refused(&rt, rt.alloc(), &BorrowedItems(items))?;
+    assert_refused(&rt, rt.alloc(), &BorrowedFormatItem::Compound(items));
+    assert_refused(&rt, rt.alloc(), &BorrowedItems(items));
     Ok(())
 }
 
@@ -109,7 +114,7 @@ fn a_refused_reservation_of_a_borrowed_tree_changes_nothing(rt: HostRuntime) -> 
 fn a_refused_reservation_of_the_third_version_changes_nothing(rt: HostRuntime) -> Result<(), Fail> {
     let items = too_wide_v3(rt.alloc())?;
     let tree = FormatDescriptionV3::new(FormatDescriptionV3Inner::BorrowedCompound(items));
-    assert_refused(&rt, rt.alloc(), &tree)?;
+    assert_refused(&rt, rt.alloc(), &tree);
     Ok(())
 }
 
@@ -117,8 +122,8 @@ fn a_refused_reservation_of_the_third_version_changes_nothing(rt: HostRuntime) -
 fn a_refused_reservation_of_an_owned_tree_changes_nothing(rt: HostRuntime) -> Result<(), Fail> {
     let bytes = vec![in rt.alloc(); b'x'; WIDTH]?;
     let items = vec![in rt.alloc(); OwnedFormatItem::Literal(bytes)]?;
-    assert_refused(&rt, rt.alloc(), &OwnedItems(items.as_slice()))?;
-    assert_refused(&rt, rt.alloc(), &OwnedFormatItem::Compound(items))?;
+    assert_refused(&rt, rt.alloc(), &OwnedItems(items.as_slice()));
+    assert_refused(&rt, rt.alloc(), &OwnedFormatItem::Compound(items));
     Ok(())
 }
 

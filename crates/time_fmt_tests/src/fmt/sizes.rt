@@ -1,14 +1,13 @@
 //! Long texts, long outputs, long lists and deep trees. Memory is available, so no call is out of memory.
-use crate::texts::{DAY, assert_same, assert_text, assert_that};
-use crate::values::wednesday;
+use crate::texts::{DAY, append, assert_same, assert_that, assert_value, measured};
+use crate::values::{WEDNESDAY, wednesday};
 use std::alloc::{AllocError, Global};
 use std::process::Abort;
 use std::test::Fail;
 use time_below::format_description::{
     BorrowedFormatItem, FormatDescriptionV3, FormatDescriptionV3Inner, OwnedFormatItem,
 };
-use time_fmt::{BorrowedItems, ComputeMetadata, Formattable};
-use time_provide::DateState;
+use time_fmt::{BorrowedItems, Formattable};
 
 /// How many bytes the longest literals have.
 const LONG: usize = 100_000;
@@ -20,16 +19,15 @@ const BEYOND: usize = 1_500_000;
 fn a_text_of_a_hundred_thousand_bytes_is_written(rt: HostRuntime) -> Result<(), Fail> {
     let text = String::from_utf8(vec![in rt.alloc(); b'x'; LONG]?)?;
     let item = BorrowedFormatItem::StringLiteral(text.as_str());
-    assert_text(&rt, rt.alloc(), &item, &wednesday(&rt), text.as_str(), LONG);
+    assert_value(&rt, rt.alloc(), &item, WEDNESDAY, (text.as_str(), LONG));
     Ok(())
 }
 
 #[test]
 fn a_text_stands_behind_a_megabyte(rt: HostRuntime) -> Result<(), Fail> {
-    let value = wednesday(&rt);
     let mut output = vec![in rt.alloc(); b'x'; BEYOND]?;
     let item = BorrowedFormatItem::Component(DAY);
-    let answer = item.format_into(&mut output, &value, &mut DateState::default());
+    let (answer, _) = append(rt.alloc(), &mut output, &item, &wednesday(&rt));
     assert_that(&rt, matches!(&answer, Ok(2)));
     assert_same(&rt, output.len(), BEYOND + 2);
     assert_that(&rt, output.as_slice().ends_with(b"x12".as_slice()));
@@ -51,7 +49,8 @@ fn assert_repeated(rt: &impl Abort, bytes: &[u8], letter: &[u8], count: usize) {
 fn each_byte_that_is_no_text_is_read_as_no_letter(rt: HostRuntime) -> Result<(), Fail> {
     let bytes = vec![in rt.alloc(); 0xff; LONG]?;
     let item = BorrowedFormatItem::Literal(bytes.as_slice());
-    let Ok(text) = item.format(rt.alloc(), &wednesday(&rt), &mut DateState::default()) else {
+    let mut output = Vec::new(rt.alloc());
+    let (_, Ok(text)) = append(rt.alloc(), &mut output, &item, &wednesday(&rt)) else {
         panic!(rt; "no text");
     };
     assert_repeated(&rt, text.as_str().as_bytes(), b"\xef\xbf\xbd", LONG);
@@ -65,9 +64,9 @@ fn a_list_of_ten_thousand_days_is_written(rt: HostRuntime) -> Result<(), Fail> {
         items.push(BorrowedFormatItem::Component(DAY))?;
     }
     let list = BorrowedItems(items.as_slice());
-    assert_same(&rt, list.compute_metadata().max_bytes_needed, 20_000);
+    assert_same(&rt, measured(&list), 20_000);
     let mut output = Vec::new(rt.alloc());
-    let count = list.format_into(&mut output, &wednesday(&rt), &mut DateState::default());
+    let (count, _) = append(rt.alloc(), &mut output, &list, &wednesday(&rt));
     assert_that(&rt, matches!(&count, Ok(20_000)));
     assert_repeated(&rt, output.as_slice(), b"12", 10_000);
     Ok(())
@@ -155,20 +154,28 @@ fn borrowed_v3(alloc: Global, level: Level, depth: usize) -> Result<Inner, Alloc
     Ok(item)
 }
 
-/// Compares the text of a tree, which is the day.
-fn assert_day<D: Formattable>(rt: &impl Abort, alloc: Global, item: &D) {
-    assert_text(rt, alloc, item, &wednesday(rt), "12", 2);
+/// Compares the text of a tree that could be made, which is the day.
+fn assert_day<D: Formattable + Drop>(rt: &impl Abort, alloc: Global, made: Result<D, AllocError>) {
+    let Ok(item) = made else {
+        panic!(rt; "no memory");
+    };
+    assert_value(rt, alloc, &item, WEDNESDAY, ("12", 2));
 }
 
 #[test]
-fn trees_of_a_thousand_levels_are_written(rt: HostRuntime) -> Result<(), Fail> {
+fn trees_of_a_thousand_levels_are_written(rt: HostRuntime) {
     for &(level, depth) in TREES {
-        assert_day(&rt, rt.alloc(), &borrowed(rt.alloc(), level, depth)?);
-        assert_day(&rt, rt.alloc(), &owned(rt.alloc(), level, depth)?);
-        let item = FormatDescriptionV3::new(owned_v3(rt.alloc(), level, depth)?);
-        assert_day(&rt, rt.alloc(), &item);
-        let item = FormatDescriptionV3::new(borrowed_v3(rt.alloc(), level, depth)?);
-        assert_day(&rt, rt.alloc(), &item);
+        assert_day(&rt, rt.alloc(), borrowed(rt.alloc(), level, depth));
+        assert_day(&rt, rt.alloc(), owned(rt.alloc(), level, depth));
     }
-    Ok(())
+}
+
+#[test]
+fn trees_of_the_third_version_have_a_thousand_levels(rt: HostRuntime) {
+    for &(level, depth) in TREES {
+        let item = owned_v3(rt.alloc(), level, depth);
+        assert_day(&rt, rt.alloc(), item.map(FormatDescriptionV3::new));
+        let item = borrowed_v3(rt.alloc(), level, depth);
+        assert_day(&rt, rt.alloc(), item.map(FormatDescriptionV3::new));
+    }
 }

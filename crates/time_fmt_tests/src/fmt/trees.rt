@@ -1,6 +1,6 @@
 //! Descriptions of each kind, deprecated components, and metadata.
-use crate::texts::{DAY, assert_refused, assert_same, assert_text, assert_that};
-use crate::values::{date_at, time_at, wednesday};
+use crate::texts::{DAY, assert_refused, assert_same, assert_that, assert_value, measured};
+use crate::values::{WEDNESDAY, date_at, time_at};
 use std::alloc::Global;
 use std::process::Abort;
 use std::test::Fail;
@@ -19,7 +19,7 @@ const MONTH: Component = Component::MonthNumerical(time_fmt::parts::MONTH);
 
 /// Compares the text and the width of an owned item, for the Wednesday.
 fn assert_owned(rt: &impl Abort, alloc: Global, item: Owned, text: &str, width: usize) {
-    assert_text(rt, alloc, &item, &wednesday(rt), text, width);
+    assert_value(rt, alloc, &item, WEDNESDAY, (text, width));
 }
 
 const DATE: &[Borrowed<'static>] = &[
@@ -30,27 +30,21 @@ const DATE: &[Borrowed<'static>] = &[
 
 #[test]
 fn borrowed_lists_are_written_in_order(rt: HostRuntime) {
-    let (alloc, value) = (rt.alloc(), wednesday(&rt));
-    assert_text(&rt, alloc, &BorrowedItems(DATE), &value, "12/11", 5);
-    assert_text(&rt, alloc, &Borrowed::Compound(DATE), &value, "12/11", 5);
+    let date = ("12/11", 5);
+    assert_value(&rt, rt.alloc(), &BorrowedItems(DATE), WEDNESDAY, date);
+    assert_value(&rt, rt.alloc(), &Borrowed::Compound(DATE), WEDNESDAY, date);
 }
 
 #[test]
 fn owned_lists_are_written_in_order(rt: HostRuntime) -> Result<(), Fail> {
-    let (alloc, value) = (rt.alloc(), wednesday(&rt));
+    let alloc = rt.alloc();
     let items = vec![in alloc;
         Owned::Component(DAY),
         Owned::StringLiteral(String::from_str(alloc, "/")?),
         Owned::Component(MONTH),
     ]?;
-    assert_text(
-        &rt,
-        alloc,
-        &OwnedItems(items.as_slice()),
-        &value,
-        "12/11",
-        5,
-    );
+    let list = OwnedItems(items.as_slice());
+    assert_value(&rt, alloc, &list, WEDNESDAY, ("12/11", 5));
     assert_owned(&rt, alloc, Owned::Compound(items), "12/11", 5);
     Ok(())
 }
@@ -76,7 +70,7 @@ const LONG_LINE: &[Borrowed<'static>] = &[
 fn a_text_may_have_more_than_64_bytes(rt: HostRuntime) {
     let text = "The gate was opened at nine, and the last of the visitors had left it by 12";
     let list = BorrowedItems(LONG_LINE);
-    assert_text(&rt, rt.alloc(), &list, &wednesday(&rt), text, 75);
+    assert_value(&rt, rt.alloc(), &list, WEDNESDAY, (text, 75));
 }
 
 /// Lists, and whether they are sure to be text.
@@ -126,7 +120,7 @@ fn a_deprecated_year_may_be_out_of_range(rt: HostRuntime) {
         iso_week_based: false,
         sign_is_mandatory: false,
     }));
-    assert_same(&rt, item.compute_metadata().max_bytes_needed, 5);
+    assert_same(&rt, measured(&item), 5);
     assert_refused(&rt, rt.alloc(), &item, &value, "year");
 }
 

@@ -1,7 +1,7 @@
 //! Descriptions of the third version: their texts, widths and stored widths.
-use crate::texts::{DAY, assert_same, assert_text, assert_that};
-use crate::values::wednesday;
-use std::alloc::Global;
+use crate::texts::{DAY, assert_same, assert_that, assert_value};
+use crate::values::WEDNESDAY;
+use std::alloc::{AllocError, Global};
 use std::process::Abort;
 use std::test::Fail;
 use time_below::format_description::{
@@ -10,72 +10,126 @@ use time_below::format_description::{
 use time_fmt::parts::{MONTH, MONTH_LONG};
 
 /// Compares the text and the widths of what is no component, for the Wednesday.
-fn assert_v3(rt: &impl Abort, alloc: Global, item: Inner<'_>, text: &str, width: usize) {
+fn assert_v3(rt: &impl Abort, alloc: Global, item: Inner<'_>, (text, width): (&str, usize)) {
     let item = FormatDescriptionV3::new(item);
     assert_same(rt, item.max_bytes_needed(), width);
     assert_that(rt, !matches!(item.inner().layer(), Layer::Component(_)));
-    assert_text(rt, alloc, &item, &wednesday(rt), text, width);
+    assert_value(rt, alloc, &item, WEDNESDAY, (text, width));
 }
 
-/// A list of the day, a slash and the month.
-fn date(alloc: Global, slash: Inner<'static>) -> Result<Vec<Inner<'static>>, Fail> {
-    let (day, month) = (Inner::from(DAY), Inner::MonthNumerical(MONTH));
-    Ok(vec![in alloc; day, slash, month]?)
+type Items = Vec<Inner<'static>>;
+
+/// A list of two items.
+fn two(alloc: Global, first: Inner<'static>, second: Inner<'static>) -> Result<Items, AllocError> {
+    Ok(vec![in alloc; first, second]?)
+}
+
+/// A list of two items and the day.
+fn with_day(
+    alloc: Global,
+    first: Inner<'static>,
+    second: Inner<'static>,
+) -> Result<Items, AllocError> {
+    let mut items = two(alloc, first, second)?;
+    items.push(Inner::from(DAY))?;
+    Ok(items)
+}
+
+/// A literal that is owned.
+fn literal(alloc: Global, text: &str) -> Result<Inner<'static>, AllocError> {
+    Ok(Inner::OwnedLiteral(String::from_str(alloc, text)?))
+}
+
+const NUMBER: Inner<'static> = Inner::MonthNumerical(MONTH);
+
+const NAME: Inner<'static> = Inner::MonthLong(MONTH_LONG);
+
+#[test]
+fn an_owned_list_is_written_in_order(rt: HostRuntime) -> Result<(), Fail> {
+    let items = with_day(rt.alloc(), NUMBER, literal(rt.alloc(), "/")?)?;
+    assert_v3(&rt, rt.alloc(), Inner::OwnedCompound(items), ("11/12", 5));
+    Ok(())
 }
 
 // A description borrows its parts for their whole life, so they are leaked here.
 #[test]
-fn a_list_is_written_in_order_and_of_a_first_the_first(rt: HostRuntime) -> Result<(), Fail> {
-    let alloc = rt.alloc();
-    let slash = Inner::OwnedLiteral(String::from_str(alloc, "/")?);
+fn a_borrowed_list_is_written_in_order_and_of_a_first_the_first(
+    rt: HostRuntime,
+) -> Result<(), Fail> {
+    let items = with_day(rt.alloc(), NUMBER, Inner::BorrowedLiteral("/"))?;
+    let items: &'static [Inner<'static>] = items.leak();
     assert_v3(
         &rt,
-        alloc,
-        Inner::OwnedCompound(date(alloc, slash)?),
-        "12/11",
-        5,
+        rt.alloc(),
+        Inner::BorrowedCompound(items),
+        ("11/12", 5),
     );
-    let items: &'static [Inner<'static>] = date(alloc, Inner::BorrowedLiteral("/"))?.leak();
-    assert_v3(&rt, alloc, Inner::BorrowedCompound(items), "12/11", 5);
-    assert_v3(&rt, alloc, Inner::BorrowedFirst(items), "12", 2);
-    assert_v3(&rt, alloc, Inner::BorrowedFirst(&[]), "", 0);
-    let months = vec![in alloc; Inner::MonthNumerical(MONTH), Inner::from(DAY)]?;
-    assert_v3(&rt, alloc, Inner::OwnedFirst(months), "11", 2);
+    assert_v3(&rt, rt.alloc(), Inner::BorrowedFirst(items), ("11", 2));
+    assert_v3(&rt, rt.alloc(), Inner::BorrowedFirst(&[]), ("", 0));
     Ok(())
 }
 
 #[test]
-fn a_first_may_stand_in_a_list(rt: HostRuntime) -> Result<(), Fail> {
-    let alloc = rt.alloc();
-    let name = Inner::MonthLong(MONTH_LONG);
-    let first = Inner::OwnedFirst(vec![in alloc; name, Inner::from(DAY)]?);
-    let text = Inner::OwnedLiteral(String::from_str(alloc, "on ")?);
-    let items = vec![in alloc; text, first, Inner::from(DAY)]?;
-    assert_v3(&rt, alloc, Inner::OwnedCompound(items), "on November12", 14);
-    let items = vec![in alloc; Inner::BorrowedLiteral("on "), Inner::from(DAY)]?;
+fn of_an_owned_first_the_first_is_written(rt: HostRuntime) -> Result<(), Fail> {
+    let months = two(rt.alloc(), NUMBER, Inner::from(DAY))?;
+    assert_v3(&rt, rt.alloc(), Inner::OwnedFirst(months), ("11", 2));
+    Ok(())
+}
+
+#[test]
+fn an_owned_first_may_stand_in_a_list(rt: HostRuntime) -> Result<(), Fail> {
+    let first = Inner::OwnedFirst(two(rt.alloc(), NAME, Inner::from(DAY))?);
+    let items = with_day(rt.alloc(), literal(rt.alloc(), "on ")?, first)?;
+    let list = Inner::OwnedCompound(items);
+    assert_v3(&rt, rt.alloc(), list, ("on November12", 14));
+    Ok(())
+}
+
+#[test]
+fn a_literal_is_the_first_of_a_list(rt: HostRuntime) -> Result<(), Fail> {
+    let items = two(rt.alloc(), Inner::BorrowedLiteral("on "), Inner::from(DAY))?;
     let items: &'static [Inner<'static>] = items.leak();
-    assert_v3(&rt, alloc, Inner::BorrowedCompound(items), "on 12", 5);
-    assert_v3(&rt, alloc, Inner::BorrowedFirst(items), "on ", 3);
+    assert_v3(
+        &rt,
+        rt.alloc(),
+        Inner::BorrowedCompound(items),
+        ("on 12", 5),
+    );
+    assert_v3(&rt, rt.alloc(), Inner::BorrowedFirst(items), ("on ", 3));
+    Ok(())
+}
+
+/// Compares the text of an optional item, which is leaked.
+fn assert_optional(
+    rt: &impl Abort,
+    alloc: Global,
+    item: Inner<'static>,
+    format: bool,
+    texts: (&str, usize),
+) -> Result<(), AllocError> {
+    let lent: &'static Inner<'static> = Box::leak(Box::new(alloc, item)?);
+    let optional = Inner::BorrowedOptional { format, item: lent };
+    assert_v3(rt, alloc, optional, texts);
     Ok(())
 }
 
 #[test]
-fn an_optional_item_is_written_where_its_flag_says_so(rt: HostRuntime) -> Result<(), Fail> {
-    let alloc = rt.alloc();
-    let day: &'static Inner<'static> = Box::leak(Box::new(alloc, Inner::from(DAY))?);
-    let name = Box::new(alloc, Inner::MonthLong(MONTH_LONG))?;
-    let month: &'static Inner<'static> = Box::leak(name);
-    for (format, number, name, width) in [(false, "", "", 0), (true, "12", "November", 9)] {
-        let optional = Inner::BorrowedOptional { format, item: day };
-        assert_v3(&rt, alloc, optional, number, number.len());
-        let optional = Inner::BorrowedOptional {
-            format,
-            item: month,
-        };
-        assert_v3(&rt, alloc, optional, name, width);
-        let item = Box::new(alloc, Inner::MonthLong(MONTH_LONG))?;
-        let optional = Inner::OwnedOptional { format, item };
-        assert_v3(&rt, alloc, optional, name, width);
+fn a_borrowed_optional_is_written_where_its_flag_says_so(rt: HostRuntime) -> Result<(), Fail> {
+    for (format, number, name) in [
+        (false, ("", 0), ("", 0)),
+        (true, ("12", 2), ("November", 9)),
+    ] {
+        assert_optional(&rt, rt.alloc(), Inner::from(DAY), format, number)?;
+        assert_optional(&rt, rt.alloc(), NAME, format, name)?;
+    }
+    Ok(())
+}
+
+#[test]
+fn an_owned_optional_is_written_where_its_flag_says_so(rt: HostRuntime) -> Result<(), Fail> {
+    for (format, name) in [(false, ("", 0)), (true, ("November", 9))] {
+        let item = Box::new(rt.alloc(), NAME)?;
+        assert_v3(&rt, rt.alloc(), Inner::OwnedOptional { format, item }, name);
     }
     Ok(())
 }

@@ -1,8 +1,7 @@
 //! The run when allocations fail.
 ghost use Rattle.std.specs.Prelude.{◌≤◌};
 
-use super::assert_same;
-use crate::run::run;
+use crate::tests::{assert_ends, assert_same};
 use std::alloc::{AllocError, Global};
 use std::io;
 use std::io::Write;
@@ -38,7 +37,7 @@ fn goes_on_after_a_refusal(rt: HostRuntime) {
         bytes: [0; 128],
         len: 0,
     };
-    assert_same(&rt, run(rt.alloc(), &mut source, &mut page), Ok(()));
+    assert_ends(&rt, rt.alloc(), &mut source, &mut page, Ok(()));
     let written = &page.bytes[..page.len];
     let all: [&[u8]; 4] = [
         b"ok 10 18 01:00:00.0\nbad line\nok 10 18 02:00:00.0\nok 10 18 03:00:00.0\n",
@@ -70,8 +69,8 @@ fn assert_answer(rt: &impl Abort, alloc: Global, answer: &[u8]) {
         bytes: [0; 128],
         len: 0,
     };
-    assert_same(&rt, run(alloc, &mut source, &mut page), Ok(()));
-    assert_same(&rt, &page.bytes[..page.len], answer);
+    assert_ends(rt, alloc, &mut source, &mut page, Ok(()));
+    assert_same(rt, &page.bytes[..page.len], answer);
 }
 
 /// The value is refused when no memory is left. One of the smallest vectors given back is enough

@@ -1,7 +1,7 @@
 //! A writer that never fails: no number of bytes that wait makes a run give up.
-use super::assert_same;
 use crate::output::{OUTPUT_LIMIT, OutputBuffer};
 use crate::reply::Reply;
+use crate::tests::assert_same;
 use std::io;
 use std::io::Write;
 use std::process::Abort;
