@@ -1,7 +1,8 @@
 #!/usr/bin/env python3
 """Runs `rt ci` with N jobs for each proof that other proofs wait for: ci_by_jobs.py N.
 
-These proofs are a chain, beside which processors idle. What is proved, and how it is judged, is as by `rt ci`.
+These proofs are a chain, beside which processors idle. What is proved, and how it is judged, is as by `rt ci`. The proof
+of a static library leaves its record in out/checked, by which `rattle build` makes the archive with no second proof.
 """
 import importlib.machinery
 import importlib.util
@@ -13,7 +14,7 @@ sys.dont_write_bytecode = True
 loader = importlib.machinery.SourceFileLoader("rt", os.path.realpath(shutil.which("rt")))
 rt = importlib.util.module_from_spec(importlib.util.spec_from_loader("rt", loader))
 loader.exec_module(rt)
-in_lanes = rt.in_lanes
+in_lanes, ci = rt.in_lanes, rt.Crate.ci
 
 
 def in_lanes_by_jobs(tasks):
@@ -24,6 +25,12 @@ def in_lanes_by_jobs(tasks):
     return in_lanes(tasks)
 
 
+def ci_with_record(crate, flags, tests):
+    if crate.is_static and not tests:
+        return crate.prove(["check", *crate.words(flags, keeps=False), "-o", "out/checked"])
+    return ci(crate, flags, tests)
+
+
 if __name__ == "__main__":
-    rt.in_lanes = in_lanes_by_jobs
+    rt.in_lanes, rt.Crate.ci = in_lanes_by_jobs, ci_with_record
     sys.exit(rt.main(["ci"]))
