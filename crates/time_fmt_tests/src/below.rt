@@ -8,7 +8,6 @@ mod moments;
 
 use crate::texts::{assert_same, assert_that};
 use crate::values::time_at;
-use std::test::Fail;
 use time_below::{ComponentRange, Time};
 
 #[test]
@@ -33,23 +32,6 @@ fn refuses_a_time_by_its_first_part_out_of_range(rt: HostRuntime) {
         };
         assert_same(&rt, refusal, ComponentRange::unconditional(name));
     }
-}
-
-#[test]
-fn a_refusal_is_shown_with_its_condition(rt: HostRuntime) -> Result<(), Fail> {
-    let hour = ComponentRange::unconditional("hour");
-    assert_same(
-        &rt,
-        hour.to_string(rt.alloc())?.as_str(),
-        "The hour component is out of range.",
-    );
-    let day = ComponentRange::conditional("day");
-    assert_same(
-        &rt,
-        day.to_string(rt.alloc())?.as_str(),
-        "The day component is out of range, given the other components.",
-    );
-    Ok(())
 }
 
 #[test]

@@ -1,3 +1,3 @@
 //! The components of each type, and what a state keeps, by the methods of `ComponentProvider`.
 mod components;
-mod states;
+pub(crate) mod states;

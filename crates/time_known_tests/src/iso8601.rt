@@ -1,5 +1,4 @@
 //! ISO 8601 by a configuration. Each row is tried with both decimal signs.
-use crate::exact_room::append_parts;
 use crate::texts::{self, append, assert_same, assert_that, refusal_name};
 use crate::values::Unit::{Hour, Minute, Second};
 use crate::values::{
@@ -9,8 +8,8 @@ use std::alloc::Global;
 use std::default::Default;
 use std::process::Abort;
 use std::test::Fail;
-use time_below::UtcDateTime;
-use time_fmt::{ComponentProvider, ComputeMetadata};
+use time_below::{OffsetDateTime, UtcDateTime};
+use time_fmt::{ComponentProvider, ComputeMetadata, Format};
 use time_known::Iso8601;
 use time_known::iso8601::DateKind::{Calendar, Ordinal, Week};
 use time_known::iso8601::{
@@ -442,6 +441,23 @@ fn each_type_of_value_with_all_groups_is_formatted(rt: HostRuntime) {
     assert_text(&rt, alloc, &Iso8601::time_offset(), &utc, midnight, 24);
 }
 
+/// Appends the parts, and proves the capacity for each by the widths of the configuration.
+fn append_parts(
+    config: &Config,
+    output: &mut Vec<u8>,
+    value: &OffsetDateTime,
+) -> Result<(usize, usize, usize), Format> {
+    let mut state = DateState::default();
+    let width = config.date_width() + config.time_width() + config.offset_width();
+    if output.reserve(width).is_err() {
+        return Err(Format::OutOfMemory);
+    }
+    let date = format_date(config, output, value, &mut state)?;
+    let time = format_time(config, output, value, &mut state)?;
+    let offset = format_offset(config, output, value, &mut state)?;
+    Ok((date, time, offset))
+}
+
 /// Compares the three parts of the example, one after another, by a configuration that formats none.
 fn assert_parts(rt: &impl Abort, alloc: Global, sign: DecimalSign, text: &str) {
     let nothing = with_parts(Parts::None).set_decimal_sign(sign);
@@ -462,7 +478,7 @@ fn each_part_is_written_by_itself(rt: HostRuntime) {
 #[test]
 fn refuses_each_part_by_itself(rt: HostRuntime) -> Result<(), Fail> {
     let value = moment(&rt, (10_000, 1, 1), (0, 0, 0, 0), (0, 0, 1));
-    let time_alone = Config::default().set_formatted_components(Parts::Time);
+    let time_alone = with_parts(Parts::Time);
     let mut state = DateState::default();
     let mut output = Vec::with_capacity(rt.alloc(), 16)?;
     let date = format_date(&time_alone, &mut output, &value, &mut state);

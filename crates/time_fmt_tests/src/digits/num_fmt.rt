@@ -23,22 +23,6 @@ fn word<const MIN: u32, const MAX: u32>(rt: &impl Abort, n: u32) -> ru32<MIN, MA
     ru32::new(n).expect(rt, "in range")
 }
 
-const QUOTIENTS: &[(u16, u8, u8)] = &[
-    (0, 0, 0),
-    (99, 0, 99),
-    (100, 1, 0),
-    (1234, 12, 34),
-    (9999, 99, 99),
-];
-
-#[test]
-fn a_quotient_by_100_and_its_rest(rt: HostRuntime) {
-    for &(n, high, low) in QUOTIENTS {
-        let [found_high, found_low] = div_100(pair(&rt, n));
-        assert_same(&rt, (found_high.get(), found_low.get()), (high, low));
-    }
-}
-
 #[test]
 fn quotients_of_all_numbers_are_right(rt: HostRuntime) {
     for n in 0..10_000u16 {

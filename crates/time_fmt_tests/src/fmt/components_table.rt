@@ -113,89 +113,47 @@ macro_rules! between_literals {
 }
 
 #[test]
-fn calendar_years_are_parts(rt: HostRuntime) {
+fn years_and_centuries_are_parts(rt: HostRuntime) {
     between_literals!(rt;
         YEAR CalendarYearFullExtendedRange "<1997>",
         YEAR_STANDARD CalendarYearFullStandardRange "<1997>",
         YEAR_LAST_TWO CalendarYearLastTwo "<97>",
-    );
-}
-
-#[test]
-fn years_of_the_week_calendar_are_parts(rt: HostRuntime) {
-    between_literals!(rt;
+        YEAR_CENTURY CalendarYearCenturyExtendedRange "<19>",
+        YEAR_CENTURY_STANDARD CalendarYearCenturyStandardRange "<19>",
         ISO_YEAR IsoYearFullExtendedRange "<1997>",
         ISO_YEAR_STANDARD IsoYearFullStandardRange "<1997>",
         ISO_YEAR_LAST_TWO IsoYearLastTwo "<97>",
-    );
-}
-
-#[test]
-fn calendar_centuries_are_parts(rt: HostRuntime) {
-    between_literals!(rt;
-        YEAR_CENTURY CalendarYearCenturyExtendedRange "<19>",
-        YEAR_CENTURY_STANDARD CalendarYearCenturyStandardRange "<19>",
-    );
-}
-
-#[test]
-fn centuries_of_the_week_calendar_are_parts(rt: HostRuntime) {
-    between_literals!(rt;
         ISO_YEAR_CENTURY IsoYearCenturyExtendedRange "<19>",
         ISO_YEAR_CENTURY_STANDARD IsoYearCenturyStandardRange "<19>",
     );
 }
 
 #[test]
-fn months_and_days_are_parts(rt: HostRuntime) {
+fn months_weeks_and_days_are_parts(rt: HostRuntime) {
     between_literals!(rt;
         MONTH MonthNumerical "<11>",
         MONTH_LONG MonthLong "<November>",
         MONTH_SHORT MonthShort "<Nov>",
         DAY Day "<12>",
-    );
-}
-
-#[test]
-fn weekdays_are_parts(rt: HostRuntime) {
-    between_literals!(rt;
+        ORDINAL Ordinal "<316>",
         WEEKDAY WeekdayLong "<Wednesday>",
         WEEKDAY_SHORT WeekdayShort "<Wed>",
         WEEKDAY_SUNDAY WeekdaySunday "<4>",
         WEEKDAY_MONDAY WeekdayMonday "<3>",
-    );
-}
-
-#[test]
-fn weeks_and_the_day_of_the_year_are_parts(rt: HostRuntime) {
-    between_literals!(rt;
         WEEK_NUMBER WeekNumberIso "<46>",
         WEEK_NUMBER_SUNDAY WeekNumberSunday "<45>",
         WEEK_NUMBER_MONDAY WeekNumberMonday "<45>",
-        ORDINAL Ordinal "<316>",
     );
 }
 
 #[test]
-fn hours_are_parts(rt: HostRuntime) {
+fn times_of_day_are_parts(rt: HostRuntime) {
     between_literals!(rt;
         HOUR Hour24 "<09>",
         HOUR_12 Hour12 "<09>",
         PERIOD Period "<AM>",
-    );
-}
-
-#[test]
-fn minutes_and_seconds_are_parts(rt: HostRuntime) {
-    between_literals!(rt;
         MINUTE Minute "<55>",
         SECOND Second "<06>",
-    );
-}
-
-#[test]
-fn decimals_are_parts(rt: HostRuntime) {
-    between_literals!(rt;
         SUBSECOND Subsecond "<123456789>",
         THREE_DECIMALS Subsecond "<123>",
         SIX_DECIMALS Subsecond "<123456>",
@@ -204,18 +162,12 @@ fn decimals_are_parts(rt: HostRuntime) {
 }
 
 #[test]
-fn offsets_are_parts(rt: HostRuntime) {
+fn offsets_and_timestamps_are_parts(rt: HostRuntime) {
     between_literals!(rt;
         OFFSET_HOUR OffsetHour "<-06>",
         SIGNED_OFFSET_HOUR OffsetHour "<-06>",
         OFFSET_MINUTE OffsetMinute "<30>",
         OFFSET_SECOND OffsetSecond "<00>",
-    );
-}
-
-#[test]
-fn timestamps_are_parts(rt: HostRuntime) {
-    between_literals!(rt;
         UNIX_TIMESTAMP UnixTimestampSecond "<879351906>",
         UNIX_TIMESTAMP_MILLISECOND UnixTimestampMillisecond "<879351906123>",
     );

@@ -1,11 +1,8 @@
 //! Dates.
-use crate::texts::{
-    DAY, Rows, assert_items, assert_refused_after, assert_rows, assert_same, measured,
-};
+use crate::texts::{Rows, assert_rows};
 use crate::values::Value::Date;
 use time_below::format_description::modifier::Padding;
-use time_below::format_description::{BorrowedFormatItem as Item, Component, modifier};
-use time_fmt::parts::{HOUR, MONTH_LONG, YEAR_CENTURY_STANDARD, YEAR_STANDARD};
+use time_below::format_description::{Component, modifier};
 
 const PADDED: Rows = padded! {
     Date(2005, 2, 3) => Day "03" " 3" "3",
@@ -114,47 +111,4 @@ const NAMES: Rows = rows! {
 #[test]
 fn all_months_and_weekdays_have_their_names(rt: HostRuntime) {
     assert_rows(&rt, rt.alloc(), NAMES);
-}
-
-const STANDARD: &[Component] = &[
-    Component::CalendarYearFullStandardRange(YEAR_STANDARD),
-    Component::CalendarYearCenturyStandardRange(YEAR_CENTURY_STANDARD),
-];
-
-#[test]
-fn standard_ranges_refuse_the_year_10000(rt: HostRuntime) {
-    for &component in STANDARD {
-        let (item, texts) = (Item::Component(component), ("x", "year", "x01"));
-        assert_refused_after(&rt, rt.alloc(), &item, (10_000, 1, 1), texts);
-    }
-}
-
-const ON_AND_AT: &[Item<'static>] = &[
-    Item::StringLiteral("on "),
-    Item::Component(DAY),
-    Item::StringLiteral(" at "),
-    Item::Component(Component::Hour24(HOUR)),
-];
-
-#[test]
-fn bytes_before_a_refusal_stay(rt: HostRuntime) {
-    let item = Item::Compound(ON_AND_AT);
-    assert_same(&rt, measured(&item), 11);
-    let texts = ("xon 12 at ", "insufficient", "xon 12 at 12");
-    assert_refused_after(&rt, rt.alloc(), &item, (1997, 11, 12), texts);
-}
-
-const DAY_AND_MONTH: &[Item<'static>] = &[
-    Item::Component(DAY),
-    Item::Component(Component::MonthLong(MONTH_LONG)),
-];
-
-const TREES: &[(Item<'static>, &str, usize)] = &[
-    (Item::Optional(&Item::Component(DAY)), "12", 2),
-    (Item::First(DAY_AND_MONTH), "12", 2),
-];
-
-#[test]
-fn an_optional_and_a_first_of_a_date_are_written(rt: HostRuntime) {
-    assert_items(&rt, rt.alloc(), Date(1997, 11, 12), TREES);
 }

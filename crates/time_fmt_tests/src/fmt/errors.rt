@@ -27,8 +27,7 @@ const UNCONDITIONAL: &str = "The hour component is out of range.";
 const CONDITIONAL: &str = "The day component is out of range, given the other components.";
 
 const INSUFFICIENT: &str =
-    "The type being formatted does not contain sufficient information to format a \
-    component.";
+    "The type being formatted does not contain sufficient information to format a component.";
 
 #[test]
 fn an_error_is_printed_the_same_inside_the_outer_one(rt: HostRuntime) {
@@ -47,8 +46,9 @@ fn an_error_is_printed_the_same_inside_the_outer_one(rt: HostRuntime) {
 
 #[test]
 fn other_errors_are_printed(rt: HostRuntime) {
-    let range = Error::ComponentRange(ComponentRange::conditional("day"));
-    assert_printed(&rt, rt.alloc(), &range, CONDITIONAL);
+    let day = ComponentRange::conditional("day");
+    assert_printed(&rt, rt.alloc(), &day, CONDITIONAL);
+    assert_printed(&rt, rt.alloc(), &Error::ComponentRange(day), CONDITIONAL);
     let text = "The error is of a different variant.";
     assert_printed(&rt, rt.alloc(), &DifferentVariant, text);
 }

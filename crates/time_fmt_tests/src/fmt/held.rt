@@ -5,20 +5,12 @@ use crate::values::wednesday;
 use std::alloc::{AllocError, Global};
 use std::process::Abort;
 use std::test::Fail;
-use time_below::format_description::modifier::{Hour24, MonthLong, Padding};
 use time_below::format_description::{
     BorrowedFormatItem, Component, FormatDescriptionV3, FormatDescriptionV3Inner, OwnedFormatItem,
 };
+use time_fmt::parts::{HOUR, MONTH_LONG};
 use time_fmt::{BorrowedItems, Formattable};
 use time_provide::DateState;
-
-const HOUR: Component = Component::Hour24(Hour24 {
-    padding: Padding::Zero,
-});
-
-const MONTH: Component = Component::MonthLong(MonthLong {
-    case_sensitive: true,
-});
 
 /// The smallest block that is taken where all memory is.
 const BLOCK: usize = 4_194_304;
@@ -72,7 +64,7 @@ fn a_refused_text_gives_its_memory_back(rt: HostRuntime) -> Result<(), Fail> {
     let text = long_text(rt.alloc())?;
     let items = [
         BorrowedFormatItem::StringLiteral(text.as_str()),
-        BorrowedFormatItem::Component(HOUR),
+        BorrowedFormatItem::Component(Component::Hour24(HOUR)),
     ];
     let value = wednesday(&rt).date();
     let taken = all_but_a_block(rt.alloc())?;
@@ -109,7 +101,10 @@ fn a_text_holds_no_more_than_its_width(rt: HostRuntime) -> Result<(), Fail> {
     let long = long_text(rt.alloc())?;
     let rows: [(BorrowedFormatItem<'_>, usize); 3] = [
         (BorrowedFormatItem::Component(DAY), 2),
-        (BorrowedFormatItem::Component(MONTH), 9),
+        (
+            BorrowedFormatItem::Component(Component::MonthLong(MONTH_LONG)),
+            9,
+        ),
         (BorrowedFormatItem::StringLiteral(long.as_str()), LONG),
     ];
     let value = wednesday(&rt);

@@ -2,7 +2,11 @@
 use crate::texts::{DAY, append, assert_refused_after, assert_same};
 use crate::values::time_at;
 use time_below::format_description::{BorrowedFormatItem as Item, Component};
-use time_fmt::parts::{HOUR, YEAR_STANDARD};
+use time_fmt::parts::{HOUR, YEAR_CENTURY_STANDARD, YEAR_STANDARD};
+
+const C3: Item<'static> = Item::Literal(b"\xc3");
+
+const SLASH: Item<'static> = Item::StringLiteral("/");
 
 const INNER: &[Item<'static>] = &[
     Item::StringLiteral("b"),
@@ -10,57 +14,54 @@ const INNER: &[Item<'static>] = &[
     Item::StringLiteral("c"),
 ];
 
-const OUTER: &[Item<'static>] = &[
-    Item::StringLiteral("a"),
-    Item::Compound(INNER),
-    Item::StringLiteral("d"),
-];
+const YEAR: Item<'static> = Item::Component(Component::CalendarYearFullStandardRange(
+    YEAR_STANDARD,
+));
 
-#[test]
-fn a_missing_group_ends_the_text_in_the_midst_of_a_tree(rt: HostRuntime) {
-    let (item, texts) = (Item::Compound(OUTER), ("xab", "insufficient", "xab12"));
-    assert_refused_after(&rt, rt.alloc(), &item, (1997, 11, 12), texts);
+const CENTURY: Item<'static> = Item::Component(Component::CalendarYearCenturyStandardRange(
+    YEAR_CENTURY_STANDARD,
+));
+
+/// Rows of a date, a list of which an item is refused, the bytes before that item, its name, and the bytes once
+/// the day is written behind them.
+macro_rules! refused {
+    ($($date:tt => [$($item:expr),+] $before:literal $name:literal $after:literal,)+) => {
+        &[$(($date, Item::Compound(&[$($item),+]), ($before, $name, $after))),+]
+    };
 }
 
-const DAY_AND_YEAR: &[Item<'static>] = &[
-    Item::Component(DAY),
-    Item::StringLiteral("/"),
-    Item::Component(Component::CalendarYearFullStandardRange(YEAR_STANDARD)),
-    Item::StringLiteral("/"),
-];
+type Texts = (&'static str, &'static str, &'static str);
+
+const REFUSED: &[((i32, u8, u8), Item<'static>, Texts)] = refused! {
+    (10_000, 1, 1) => [YEAR] "x" "year" "x01",
+    (10_000, 1, 1) => [CENTURY] "x" "year" "x01",
+    (10_000, 1, 1) => [Item::Component(DAY), SLASH, YEAR, SLASH] "x01/" "year" "x01/01",
+    (1997, 11, 12) => [Item::StringLiteral("a"), Item::Compound(INNER), Item::StringLiteral("d")] "xab" "insufficient" "xab12",
+};
 
 #[test]
-fn a_refused_year_ends_the_text_in_the_midst_of_a_list(rt: HostRuntime) {
-    let (item, texts) = (Item::Compound(DAY_AND_YEAR), ("x01/", "year", "x01/01"));
-    assert_refused_after(&rt, rt.alloc(), &item, (10_000, 1, 1), texts);
+fn bytes_before_a_refusal_stay(rt: HostRuntime) {
+    for (date, item, texts) in REFUSED {
+        assert_refused_after(&rt, rt.alloc(), item, *date, *texts);
+    }
 }
 
-/// Literals, and the text that they are read as.
-const LITERALS: &[(Item<'static>, &str)] = &[
-    (
-        Item::Compound(&[Item::Literal(b"\xc3"), Item::Literal(b"\xa9")]),
-        "\u{e9}",
-    ),
-    (
-        Item::Compound(&[
-            Item::Literal(b"\xe2"),
-            Item::Compound(&[Item::Literal(b"\x82"), Item::Literal(b"\xac")]),
-        ]),
-        "\u{20ac}",
-    ),
-    (Item::Literal(b"\xc3"), "\u{fffd}"),
-    (
-        Item::Compound(&[
-            Item::Literal(b"\xc3"),
-            Item::StringLiteral("x"),
-            Item::Literal(b"\xa9"),
-        ]),
-        "\u{fffd}x\u{fffd}",
-    ),
-    (Item::Literal(b"\xe2\x82"), "\u{fffd}"),
-    (Item::Compound(&[]), ""),
-    (Item::First(&[]), ""),
-];
+/// Rows of literals in order, and the text that they are read as.
+macro_rules! literals {
+    ($([$($item:expr),*] $text:literal,)+) => {
+        &[$((Item::Compound(&[$($item),*]), $text)),+]
+    };
+}
+
+const LITERALS: &[(Item<'static>, &str)] = literals! {
+    [C3, Item::Literal(b"\xa9")] "\u{e9}",
+    [Item::Literal(b"\xe2"), Item::Compound(&[Item::Literal(b"\x82"), Item::Literal(b"\xac")])] "\u{20ac}",
+    [C3] "\u{fffd}",
+    [C3, Item::StringLiteral("x"), Item::Literal(b"\xa9")] "\u{fffd}x\u{fffd}",
+    [Item::Literal(b"\xe2\x82")] "\u{fffd}",
+    [Item::First(&[])] "",
+    [] "",
+};
 
 #[test]
 fn a_letter_is_read_over_the_literals_that_it_stands_in(rt: HostRuntime) {

@@ -1,26 +1,15 @@
 //! What each component keeps in the state of a value, and its text by the third version.
 use crate::fmt::components_table::{COMPONENTS, DEPRECATED};
+use crate::provide::states::{Kept, state_with};
 use crate::texts::{assert_same, assert_that};
 use crate::values::wednesday;
 use std::alloc::Global;
 use std::process::Abort;
-use time_below::OffsetDateTime;
 use time_below::format_description::{
     BorrowedFormatItem, Component, FormatDescriptionV3, FormatDescriptionV3Inner,
 };
-use time_fmt::{ComponentProvider, Formattable};
+use time_fmt::Formattable;
 use time_provide::DateState;
-
-/// What is kept.
-#[derive(Clone, Copy)]
-enum Kept {
-    Nothing,
-    /// The day of the month, with the month.
-    Day,
-    Month,
-    /// The week of the week calendar, with its year.
-    Week,
-}
 
 /// What a component keeps that is not deprecated. The number of a month is computed with the day, and both
 /// are kept.
@@ -38,30 +27,15 @@ fn what_is_kept(component: Component) -> Kept {
     }
 }
 
-/// A state of the value in which this is kept.
-fn state_with(value: &OffsetDateTime, kept: Kept) -> DateState {
-    let mut state = DateState::default();
-    match kept {
-        Kept::Nothing => {}
-        Kept::Day => {
-            let _day = value.day(&mut state);
-        }
-        Kept::Month => {
-            let _month = value.month(&mut state);
-        }
-        Kept::Week => {
-            let _week = value.iso_week_number(&mut state);
-        }
-    }
-    state
-}
-
 /// Appends the text of the Wednesday, and compares what is kept.
 fn appended<D: Formattable>(rt: &impl Abort, alloc: Global, item: &D, kept: Kept) -> Vec<u8> {
     let (value, mut state) = (wednesday(rt), DateState::default());
     let mut output = Vec::new(alloc);
     let is_written = item.format_into(&mut output, &value, &mut state).is_ok();
-    assert_that(rt, is_written && state == state_with(&value, kept));
+    assert_that(
+        rt,
+        is_written && state == state_with(&value.date(), kept, kept, kept),
+    );
     output
 }
 

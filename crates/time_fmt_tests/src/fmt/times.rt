@@ -47,16 +47,8 @@ macro_rules! decimals {
 }
 
 const DECIMALS: &[(Component, &str, usize)] = decimals! {
-    One "1" 1,
-    Two "12" 2,
-    Three "120" 3,
-    Four "1200" 4,
-    Five "12000" 5,
-    Six "120000" 6,
-    Seven "1200000" 7,
-    Eight "12000000" 8,
-    Nine "120000000" 9,
-    OneOrMore "12" 9,
+    One "1" 1, Two "12" 2, Three "120" 3, Four "1200" 4, Five "12000" 5, Six "120000" 6,
+    Seven "1200000" 7, Eight "12000000" 8, Nine "120000000" 9, OneOrMore "12" 9,
 };
 
 #[test]

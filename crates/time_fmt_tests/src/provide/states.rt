@@ -1,7 +1,5 @@
 //! Which entries a state holds after the methods of each type. A state shows them by its `Debug` text, and two
 //! states of dates are equal if they hold the same.
-ghost use Rattle.std.specs.Prelude.{IsTrue};
-
 use crate::texts::{assert_same, assert_that};
 use crate::values::{date_at, moment, offset_at, time_at, timestamp_at};
 use std::alloc::Global;
@@ -38,7 +36,7 @@ enum Method {
 
 /// What a state of a date keeps after one method.
 #[derive(Clone, Copy)]
-enum Kept {
+pub(crate) enum Kept {
     Nothing,
     Month,
     /// The day of the month, with the month.
@@ -54,8 +52,10 @@ const DATE: [bool; 2] = [true, false];
 
 const TIME: [bool; 2] = [false, true];
 
-/// What a fresh state of a date keeps after each method, and what one of a moment keeps beside it.
-const METHODS: &[(Method, Kept, [bool; 2])] = &[
+/// A method, what a fresh state of a date keeps after it, and what one of a moment keeps beside it.
+type Row = (Method, Kept, [bool; 2]);
+
+const METHODS: &[Row] = &[
     (Method::Day, Kept::Day, DATE),
     (Method::Month, Kept::Month, DATE),
     (Method::Ordinal, Kept::Nothing, DATE),
@@ -79,77 +79,41 @@ const METHODS: &[(Method, Kept, [bool; 2])] = &[
     (Method::UnixTimestampMilliseconds, Kept::Nothing, NEITHER),
 ];
 
-/// Calls the method where the value supplies its group. Where it does not, a clause of the method
-// says that the state is kept.
+/// Calls the method of this name where the value supplies its group, and else nothing.
+macro_rules! call_of {
+    ($value:ident $state:ident $method:ident; $($group:ident { $($name:ident $call:ident,)+ })+) => {
+        match $method {
+            $($(Method::$name if V::$group => {
+                let _answer = $value.$call($state);
+            })+)+
+            _ => {}
+        }
+    };
+}
+
+/// Calls the method where the value supplies its group. Where it does not, a clause of the method says that
+/// the state is kept.
 fn call<V: ComponentProvider>(value: &V, state: &mut V::State, method: Method)
     requires { V.agrees state.old value.now }
     ensures { V.agrees state.new value.now }
 {
-    match method {
-        Method::Day if V::SUPPLIES_DATE => {
-            let _day = value.day(state);
+    call_of! { value state method;
+        SUPPLIES_DATE {
+            Day day, Month month, Ordinal ordinal, Weekday weekday, IsoWeekNumber iso_week_number,
+            MondayBasedWeek monday_based_week, SundayBasedWeek sunday_based_week,
+            CalendarYear calendar_year, IsoYear iso_year,
         }
-        Method::Month if V::SUPPLIES_DATE => {
-            let _month = value.month(state);
+        SUPPLIES_TIME {
+            Hour hour, Minute minute, Period period, Second second, Nanosecond nanosecond,
         }
-        Method::Ordinal if V::SUPPLIES_DATE => {
-            let _ordinal = value.ordinal(state);
+        SUPPLIES_OFFSET {
+            OffsetIsNegative offset_is_negative, OffsetIsUtc offset_is_utc, OffsetHour offset_hour,
+            OffsetMinute offset_minute, OffsetSecond offset_second,
         }
-        Method::Weekday if V::SUPPLIES_DATE => {
-            let _weekday = value.weekday(state);
+        SUPPLIES_TIMESTAMP {
+            UnixTimestampSeconds unix_timestamp_seconds,
+            UnixTimestampMilliseconds unix_timestamp_milliseconds,
         }
-        Method::IsoWeekNumber if V::SUPPLIES_DATE => {
-            let _week = value.iso_week_number(state);
-        }
-        Method::MondayBasedWeek if V::SUPPLIES_DATE => {
-            let _week = value.monday_based_week(state);
-        }
-        Method::SundayBasedWeek if V::SUPPLIES_DATE => {
-            let _week = value.sunday_based_week(state);
-        }
-        Method::CalendarYear if V::SUPPLIES_DATE => {
-            let _year = value.calendar_year(state);
-        }
-        Method::IsoYear if V::SUPPLIES_DATE => {
-            let _year = value.iso_year(state);
-        }
-        Method::Hour if V::SUPPLIES_TIME => {
-            let _hour = value.hour(state);
-        }
-        Method::Minute if V::SUPPLIES_TIME => {
-            let _minute = value.minute(state);
-        }
-        Method::Period if V::SUPPLIES_TIME => {
-            let _period = value.period(state);
-        }
-        Method::Second if V::SUPPLIES_TIME => {
-            let _second = value.second(state);
-        }
-        Method::Nanosecond if V::SUPPLIES_TIME => {
-            let _nanosecond = value.nanosecond(state);
-        }
-        Method::OffsetIsNegative if V::SUPPLIES_OFFSET => {
-            let _is_negative = value.offset_is_negative(state);
-        }
-        Method::OffsetIsUtc if V::SUPPLIES_OFFSET => {
-            let _is_utc = value.offset_is_utc(state);
-        }
-        Method::OffsetHour if V::SUPPLIES_OFFSET => {
-            let _hour = value.offset_hour(state);
-        }
-        Method::OffsetMinute if V::SUPPLIES_OFFSET => {
-            let _minute = value.offset_minute(state);
-        }
-        Method::OffsetSecond if V::SUPPLIES_OFFSET => {
-            let _second = value.offset_second(state);
-        }
-        Method::UnixTimestampSeconds if V::SUPPLIES_TIMESTAMP => {
-            let _seconds = value.unix_timestamp_seconds(state);
-        }
-        Method::UnixTimestampMilliseconds if V::SUPPLIES_TIMESTAMP => {
-            let _milliseconds = value.unix_timestamp_milliseconds(state);
-        }
-        _ => {}
     }
 }
 
@@ -171,26 +135,19 @@ fn state_after<V: ComponentProvider>(
 
 /// Has the state keep this of the value.
 fn keep<V: ComponentProvider>(value: &V, state: &mut V::State, kept: Kept)
-    requires supplied { IsTrue V.SUPPLIES_DATE }
-    requires agrees { V.agrees state.old value.now }
+    requires { V.agrees state.old value.now }
     ensures { V.agrees state.new value.now }
 {
     match kept {
         Kept::Nothing => {}
-        Kept::Month => {
-            let _month = value.month(state);
-        }
-        Kept::Day => {
-            let _day = value.day(state);
-        }
-        Kept::Week => {
-            let _week = value.iso_week_number(state);
-        }
+        Kept::Month => call(value, state, Method::Month),
+        Kept::Day => call(value, state, Method::Day),
+        Kept::Week => call(value, state, Method::IsoWeekNumber),
     }
 }
 
 /// The state of the date that keeps all of these.
-fn state_with(date: &Date, first: Kept, second: Kept, third: Kept) -> DateState {
+pub(crate) fn state_with(date: &Date, first: Kept, second: Kept, third: Kept) -> DateState {
     let mut state = DateState::default();
     keep(date, &mut state, first);
     keep(date, &mut state, second);
@@ -247,26 +204,15 @@ fn assert_shown(rt: &impl Abort, alloc: Global, date: Date) {
     }
 }
 
-/// The state holds the entries of two methods after they were called in turn.
-fn assert_pairs<V: ComponentProvider<State = DateState>>(rt: &impl Abort, value: &V, date: Date) {
-    for &(first, of_first, _) in METHODS {
-        for &(second, of_second, _) in METHODS {
-            let state = state_after(value, first, second, second);
-            let wanted = state_with(&date, of_first, of_second, of_second);
-            assert!(rt; state == wanted, "after {first:?} and {second:?}");
-        }
-    }
-}
-
-/// The state also holds its entries after a third method.
+/// The state holds the entries of two methods, and of each of these as the third, after they were called in turn.
 fn assert_thirds<V: ComponentProvider<State = DateState>>(
     rt: &impl Abort,
     value: &V,
     date: Date,
-    (first, of_first): (Method, Kept),
-    (second, of_second): (Method, Kept),
+    [(first, of_first, _), (second, of_second, _)]: [Row; 2],
+    thirds: &[Row],
 ) {
-    for &(third, of_third, _) in METHODS {
+    for &(third, of_third, _) in thirds {
         let state = state_after(value, first, second, third);
         let wanted = state_with(&date, of_first, of_second, of_third);
         assert!(rt;
@@ -276,10 +222,20 @@ fn assert_thirds<V: ComponentProvider<State = DateState>>(
     }
 }
 
+/// The state holds the entries of any two methods, of which the second is called twice.
+fn assert_pairs<V: ComponentProvider<State = DateState>>(rt: &impl Abort, value: &V, date: Date) {
+    for &first in METHODS {
+        for &second in METHODS {
+            assert_thirds(rt, value, date, [first, second], &[second]);
+        }
+    }
+}
+
+/// The state holds the entries of any three methods.
 fn assert_triples<V: ComponentProvider<State = DateState>>(rt: &impl Abort, value: &V, date: Date) {
-    for &(first, of_first, _) in METHODS {
-        for &(second, of_second, _) in METHODS {
-            assert_thirds(rt, value, date, (first, of_first), (second, of_second));
+    for &first in METHODS {
+        for &second in METHODS {
+            assert_thirds(rt, value, date, [first, second], METHODS);
         }
     }
 }
