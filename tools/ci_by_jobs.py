@@ -32,5 +32,6 @@ def ci_with_record(crate, flags, tests):
 
 
 if __name__ == "__main__":
+    rt.rtlib.RATTLE = os.environ.get("RATTLE", rt.rtlib.RATTLE)
     rt.in_lanes, rt.Crate.ci = in_lanes_by_jobs, ci_with_record
     sys.exit(rt.main(["ci"]))

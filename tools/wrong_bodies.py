@@ -129,10 +129,10 @@ def main():
     words = argparse.ArgumentParser(description="At the top of a repository whose libraries stand in crates/*/out:")
     words.add_argument("--edits", default=".", help="the top of the repository that has must-fail/, where it is another")
     words.add_argument("--log", help="the log of the `rt ci` that proves the libraries now")
-    words.add_argument("--lanes", type=int, default=1, help="how many checks run side by side")
+    words.add_argument("--lanes", type=lambda it: threading.BoundedSemaphore(int(it)), default="1", help="how many checks run side by side")
     words.add_argument("crates", nargs="*")
     given = words.parse_args()
-    given.lanes = threading.BoundedSemaphore(given.lanes)
+    rt.rtlib.RATTLE = os.environ.get("RATTLE", rt.rtlib.RATTLE)
     rt.rtlib.guarded()
     crates, passed, failed = rt.rtlib.crates_below(os.getcwd()), 0, 0
     with concurrent.futures.ThreadPoolExecutor(len(crates)) as pool:
