@@ -32,7 +32,7 @@ const QUOTIENTS: &[(u16, u8, u8)] = &[
 ];
 
 #[test]
-fn a_quotient_by_100_and_its_rest(rt: HostRuntime) {
+fn a_number_is_split_into_quotient_and_remainder(rt: HostRuntime) {
     for &(n, high, low) in QUOTIENTS {
         let [found_high, found_low] = div_100(pair(&rt, n));
         assert_same(&rt, (found_high.get(), found_low.get()), (high, low));

@@ -55,7 +55,7 @@ fn assert_goes_out(rt: &impl Abort, answers: &mut OutputBuffer, text: &[u8], len
 }
 
 #[test]
-fn each_number_of_bytes_that_wait(rt: HostRuntime) -> Result<(), Fail> {
+fn any_number_of_waiting_bytes_goes_out(rt: HostRuntime) -> Result<(), Fail> {
     let text = vec![in rt.alloc(); b'x'; OUTPUT_LIMIT - FRAME]?;
     let mut answers = OutputBuffer::new();
     for len in 0..=text.len() {
