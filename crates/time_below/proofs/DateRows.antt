@@ -59,7 +59,7 @@ on_2009_12_31 : HasComponents (pos 2009) 365 12 31 3 (pos 2009) 53 52 52
 unfolding days_of_months last_begun date_at
 on_2009_12_31 = refl
 
--- a Sunday in the last week of that year
+-- a Sunday in the last week of 2009
 on_2010_01_03 : HasComponents (pos 2010) 3 1 3 6 (pos 2009) 53 0 1
 unfolding days_of_months last_begun date_at
 on_2010_01_03 = refl

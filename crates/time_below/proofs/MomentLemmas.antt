@@ -89,21 +89,21 @@ unix_seconds-utc m h =
 -- a date and a time in UTC have one moment
 
 -- whole days and the second of a day, taken apart again
-parts_of : (k p : ℕ) → p < day_seconds
+day_and_second_taken_apart : (k p : ℕ) → p < day_seconds
     → ((k * day_seconds + p) / day_seconds ≡ k) × ((k * day_seconds + p) % day_seconds ≡ p)
-parts_of k p h = (omega arith, omega arith)
+day_and_second_taken_apart k p h = (omega arith, omega arith)
 
 -- equal parts make equal times
-same_time : (h a m b s c n : ℕ) → h ≡ a → m ≡ b → s ≡ c
+equal_parts_make_equal_times : (h a m b s c n : ℕ) → h ≡ a → m ≡ b → s ≡ c
     → ◌≡◌ {A = TimeOfDay} (record { hour = h; minute = m; second = s; nanosecond = n })
     (record { hour = a; minute = b; second = c; nanosecond = n })
-same_time h a m b s c n hours minutes seconds = rw (hours, minutes, seconds) refl
+equal_parts_make_equal_times h a m b s c n hours minutes seconds = rw (hours, minutes, seconds) refl
 
 -- a time is the one this many seconds after midnight
 time_at-seconds_from_midnight : (t : TimeOfDay) → IsTimeOfDay t
     → time_at (seconds_from_midnight t) t.nanosecond ≡ t
 time_at-seconds_from_midnight t h =
-    same_time _ t.hour _ t.minute _ t.second t.nanosecond (omega arith) (omega arith) (omega arith)
+    equal_parts_make_equal_times _ t.hour _ t.minute _ t.second t.nanosecond (omega arith) (omega arith) (omega arith)
 
 -- a time of day ends within its day
 within_day : (t : TimeOfDay) → IsTimeOfDay t → seconds_from_midnight t < day_seconds
@@ -132,9 +132,9 @@ IsTimestampSecond-unix_seconds t h r =
     (within_day t.time r)
 
 -- one count from the start is one day
-same_day : (z d : ℤ) (n k : ℕ) → pos n -ℤ pos days_before ≡ z → n ≡ k
+one_count_is_one_day : (z d : ℤ) (n k : ℕ) → pos n -ℤ pos days_before ≡ z → n ≡ k
     → d +ℤ pos days_before ≡ pos k → z ≡ d
-same_day z d n k e same f = omega (arith, ints)
+one_count_is_one_day z d n k e same f = omega (arith, ints)
 
 -- the day and the second of the day of a date and a time
 day_back : (t : DateAndTime) → IsDate t.date → IsTimeOfDay t.time
@@ -145,9 +145,10 @@ day_back t h r =
     let e = days_from_start d (IsDayNumber-day_number t.date h) in
     let p = seconds_from_midnight t.time in
     let shifted = unix_shifted d k p e in
-    let parts = parts_of k p (within_day t.time r) in
+    let parts = day_and_second_taken_apart k p (within_day t.time r) in
     let same =
-    same_day (day_of_second (unix_seconds t)) d _ k (utc_day (unix_seconds t) (k * day_seconds + p) shifted) parts.0 e
+    one_count_is_one_day (day_of_second (unix_seconds t)) d _ k
+    (utc_day (unix_seconds t) (k * day_seconds + p) shifted) parts.0 e
     in (
       ap date_at same ∙ date_at-day_number t.date h,
       second_from_start (unix_seconds t) (k * day_seconds + p) shifted

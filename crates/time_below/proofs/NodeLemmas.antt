@@ -40,7 +40,7 @@ pub and_assoc : (a b c : Bool) → ((a && b) && c) ≡ (a && (b && c))
 and_assoc true b c = refl
 and_assoc false b c = refl
 
--- one more
+-- the sum with the metadata of the next node is that of one node more
 pub summed_more : {all_size left_size rest_size : ℕ} (all left rest : Trees) (t : Tree) (sum item added new : Metadata)
     → Summed sum all left all_size left_size → left ≡ more t rest → rest_size ≤ left_size
     → item ≡ tree_metadata t → added ≡ of_both sum item → new ≡ added → Summed new all rest all_size rest_size

@@ -22,8 +22,8 @@ like_zero : (lead x : ℤ) → lead ≡ pos 0 → signed_like lead x ≡ x
 like_zero lead x e = rw e refl
 
 -- two parts that are not below zero have one sign
-both_above : (y z : ℤ) (a b : ℕ) → y ≡ pos a → z ≡ pos b → HasNoOtherSign y z
-both_above y z a b e f = (λ h. omega (arith, ints), λ h. absurd (omega (arith, ints)))
+parts_above_zero_have_one_sign : (y z : ℤ) (a b : ℕ) → y ≡ pos a → z ≡ pos b → HasNoOtherSign y z
+parts_above_zero_have_one_sign y z a b e f = (λ h. omega (arith, ints), λ h. absurd (omega (arith, ints)))
 
 -- a size below zero, or zero
 negated_is_not_above : (n : ℕ) → neg_ℤ (pos n) ≤ℤ pos 0
@@ -31,14 +31,14 @@ negated_is_not_above zero = omega (arith, ints)
 negated_is_not_above (suc n) = omega (arith, ints)
 
 -- two parts that are not above zero have one sign
-both_below : (y z : ℤ) (a b : ℕ) → y ≡ neg_ℤ (pos a) → z ≡ neg_ℤ (pos b) → HasNoOtherSign y z
-both_below y z a b e f =
+parts_below_zero_have_one_sign : (y z : ℤ) (a b : ℕ) → y ≡ neg_ℤ (pos a) → z ≡ neg_ℤ (pos b) → HasNoOtherSign y z
+parts_below_zero_have_one_sign y z a b e f =
     (λ h. absurd (omega (arith, ints, negated_is_not_above a)), λ h. omega (arith, ints, negated_is_not_above b))
 
 -- what holds for each sign of a part holds
-by_sign : (P : Type 0) (lead : ℤ) → (pos 0 <ℤ lead → P) → (lead <ℤ pos 0 → P)
+for_each_sign : (P : Type 0) (lead : ℤ) → (pos 0 <ℤ lead → P) → (lead <ℤ pos 0 → P)
     → (lead ≡ pos 0 → P) → P
-by_sign P lead above below at_zero =
+for_each_sign P lead above below at_zero =
     by_lt_z (pos 0) lead above
     (λ h. by_lt_z lead (pos 0) below (λ k. at_zero (omega (arith, ints))))
 
@@ -58,10 +58,10 @@ no_other_sign lead x = (
 no_other_sign_among : (h m s : ℤ)
     → HasNoOtherSign (signed_like h m) (signed_like h (signed_like m s))
 no_other_sign_among h m s =
-    by_sign (HasNoOtherSign (signed_like h m) (signed_like h (signed_like m s))) h
-    (λ k. both_above _ _ (unsigned_abs m) (unsigned_abs (signed_like m s)) (like_positive h m k)
+    for_each_sign (HasNoOtherSign (signed_like h m) (signed_like h (signed_like m s))) h
+    (λ k. parts_above_zero_have_one_sign _ _ (unsigned_abs m) (unsigned_abs (signed_like m s)) (like_positive h m k)
     (like_positive h (signed_like m s) k))
-    (λ k. both_below _ _ (unsigned_abs m) (unsigned_abs (signed_like m s)) (like_negative h m k)
+    (λ k. parts_below_zero_have_one_sign _ _ (unsigned_abs m) (unsigned_abs (signed_like m s)) (like_negative h m k)
     (like_negative h (signed_like m s) k))
     (λ k. rw k (no_other_sign m s))
 
@@ -73,7 +73,7 @@ size_negated (suc n) = refl
 -- a part that takes the sign of another keeps its size
 size_kept : (lead x : ℤ) → unsigned_abs (signed_like lead x) ≡ unsigned_abs x
 size_kept lead x =
-    by_sign (unsigned_abs (signed_like lead x) ≡ unsigned_abs x) lead
+    for_each_sign (unsigned_abs (signed_like lead x) ≡ unsigned_abs x) lead
     (λ h. ap unsigned_abs (like_positive lead x h))
     (λ h. ap unsigned_abs (like_negative lead x h) ∙ size_negated (unsigned_abs x))
     (λ h. ap unsigned_abs (like_zero lead x h))
@@ -109,21 +109,21 @@ Settles-settled h m s = record {
 }
 
 -- a number that is not below zero is its size
-above_is : (y : ℤ) (n : ℕ) → pos 0 ≤ℤ y → unsigned_abs y ≡ n → y ≡ pos n
-above_is y n h size = omega (arith, ints)
+above_zero_is_its_size : (y : ℤ) (n : ℕ) → pos 0 ≤ℤ y → unsigned_abs y ≡ n → y ≡ pos n
+above_zero_is_its_size y n h size = omega (arith, ints)
 
 -- a part that is not above zero is its size below zero
-below_is : (y : ℤ) (n : ℕ) → y ≤ℤ pos 0 → unsigned_abs y ≡ n → y ≡ neg_ℤ (pos n)
-below_is y zero h size = omega (arith, ints)
-below_is y (suc n) h size = omega (arith, ints)
+below_zero_is_its_size : (y : ℤ) (n : ℕ) → y ≤ℤ pos 0 → unsigned_abs y ≡ n → y ≡ neg_ℤ (pos n)
+below_zero_is_its_size y zero h size = omega (arith, ints)
+below_zero_is_its_size y (suc n) h size = omega (arith, ints)
 
 -- a part of the size of x that has not the other sign, and is x where the lead is zero, takes the sign of the lead
 takes_sign_of_lead : (lead x y : ℤ) → HasNoOtherSign lead y → unsigned_abs y ≡ unsigned_abs x
     → (lead ≡ pos 0 → y ≡ x) → y ≡ signed_like lead x
 takes_sign_of_lead lead x y sign size at_zero =
-    by_sign (y ≡ signed_like lead x) lead
-    (λ h. above_is y (unsigned_abs x) (sign.0 h) size ∙ sym (like_positive lead x h))
-    (λ h. below_is y (unsigned_abs x) (sign.1 h) size ∙ sym (like_negative lead x h))
+    for_each_sign (y ≡ signed_like lead x) lead
+    (λ h. above_zero_is_its_size y (unsigned_abs x) (sign.0 h) size ∙ sym (like_positive lead x h))
+    (λ h. below_zero_is_its_size y (unsigned_abs x) (sign.1 h) size ∙ sym (like_negative lead x h))
     (λ h. at_zero h ∙ sym (like_zero lead x h))
 
 -- equal parts make equal offsets
@@ -172,10 +172,10 @@ own_sign (negsuc a) (pos zero) h = (refl, refl)
 own_sign (negsuc a) (pos (suc b)) h = absurd (omega (arith, ints))
 own_sign (negsuc a) (negsuc b) h = (refl, refl)
 
--- which is that of its hours or its minutes, where it has no seconds
-negative_of : (o : Offset) → o.seconds ≡ pos 0
+-- an offset without seconds has the sign of its hours or its minutes
+negative_without_seconds : (o : Offset) → o.seconds ≡ pos 0
     → is_negative o ≡ int_lt o.hours (pos 0) || int_lt o.minutes (pos 0) || false
-negative_of o e = ap (λ s. int_lt o.hours (pos 0) || int_lt o.minutes (pos 0) || int_lt s (pos 0)) e
+negative_without_seconds o e = ap (λ s. int_lt o.hours (pos 0) || int_lt o.minutes (pos 0) || int_lt s (pos 0)) e
 
 -- an offset without seconds is its sign, its hours and its minutes
 pub offset_is : (o : Offset) → IsOffset o → unsigned_abs o.seconds ≡ 0
@@ -183,7 +183,7 @@ pub offset_is : (o : Offset) → IsOffset o → unsigned_abs o.seconds ≡ 0
 offset_is o h e =
     let zero = size_zero o.seconds e in
     let own = own_sign o.hours o.minutes h.1 in
-    let n = negative_of o zero in
+    let n = negative_without_seconds o zero in
     same_parts _ _ _ o.hours o.minutes o.seconds (sym (ap (λ b. signed b (unsigned_abs o.hours)) n ∙ own.0))
     (sym (ap (λ b. signed b (unsigned_abs o.minutes)) n ∙ own.1)) zero
 
@@ -195,21 +195,25 @@ is_negative-signed_offset true zero (suc m) some = refl
 is_negative-signed_offset true (suc h) m some = refl
 
 -- two parts of one sign
-one_sign : (b : Bool) (x y : ℕ) → HasNoOtherSign (signed b x) (signed b y)
-one_sign false x y = both_above _ _ x y refl refl
-one_sign true x y = both_below _ _ x y refl refl
+parts_of_one_sign : (b : Bool) (x y : ℕ) → HasNoOtherSign (signed b x) (signed b y)
+parts_of_one_sign false x y = parts_above_zero_have_one_sign _ _ x y refl refl
+parts_of_one_sign true x y = parts_below_zero_have_one_sign _ _ x y refl refl
 
 -- a part that is zero has no opposite sign
-zero_sign : (b : Bool) (x : ℕ) → HasNoOtherSign (signed b x) (pos 0)
-zero_sign false x = both_above _ _ x 0 refl refl
-zero_sign true x = both_below _ _ x 0 refl refl
+zero_has_no_sign : (b : Bool) (x : ℕ) → HasNoOtherSign (signed b x) (pos 0)
+zero_has_no_sign false x = parts_above_zero_have_one_sign _ _ x 0 refl refl
+zero_has_no_sign true x = parts_below_zero_have_one_sign _ _ x 0 refl refl
 
 -- an offset made with a sign is in its ranges
 pub IsOffset-signed_offset : (b : Bool) (h m : ℕ) → h ≤ 25 → m < 60 → IsOffset (signed_offset b h m)
 IsOffset-signed_offset b h m p q =
     let hours = abs_signed b h in
-    let minutes = abs_signed b m in
-    ((omega (arith, hours), omega (arith, minutes), omega arith), one_sign b h m, zero_sign b h, zero_sign b m)
+    let minutes = abs_signed b m in (
+      (omega (arith, hours), omega (arith, minutes), omega arith),
+      parts_of_one_sign b h m,
+      zero_has_no_sign b h,
+      zero_has_no_sign b m,
+    )
 
 -- an offset without seconds has hours or minutes, or is zero
 pub some_or_zero : (o : Offset) → unsigned_abs o.seconds ≡ 0
@@ -221,7 +225,7 @@ some_or_zero o e =
     (size_zero o.minutes (omega arith)) (size_zero o.seconds e)))
     (cases_lt 0 (unsigned_abs o.hours + unsigned_abs o.minutes))
 
--- one with hours or minutes is not zero
+-- an offset with hours or minutes is not the offset zero
 pub not_utc : (o : Offset) → 0 < unsigned_abs o.hours + unsigned_abs o.minutes → o ≡ utc → ⊥
 not_utc o some e =
     let z : unsigned_abs o.hours + unsigned_abs o.minutes ≡ 0 =

@@ -24,7 +24,7 @@ then_assoc Less p q = refl
 then_assoc Equal p q = refl
 then_assoc Greater p q = refl
 
--- nothing follows
+-- a comparison that an equal one follows is itself
 pub then_equal : (o : Ordering) → ordering_then o Equal ≡ o
 then_equal Less = refl
 then_equal Equal = refl
@@ -38,7 +38,7 @@ cmp_less a b h = grind (arith, nat_tests)
 pub cmp_equal : (a b : ℕ) → a ≡ b → nat_cmp a b ≡ Equal
 cmp_equal a b h = grind (arith, nat_tests)
 
--- a greater one as greater
+-- a greater number compares as greater
 pub cmp_greater : (a b : ℕ) → b < a → nat_cmp a b ≡ Greater
 cmp_greater a b h = grind (arith, nat_tests)
 
@@ -265,7 +265,7 @@ parts_total v w h k =
     (seconds_from_midnight w.time) rest (omega (arith, h.time.0, h.time.1, h.time.2))
     (omega (arith, k.time.0, k.time.1, k.time.2))
 
--- less in two numbers
+-- a pair of numbers is less in its first number, or in its second where the first are equal
 abbrev IsPairLess : ℕ → ℕ → ℕ → ℕ → Type 0
 IsPairLess a b m n = (a < b) ⊎ ((a ≡ b) × (m < n))
 
@@ -286,7 +286,7 @@ equal_not e = cc
 abbrev pair_cmp : ℕ → ℕ → ℕ → ℕ → Ordering
 pair_cmp a b m n = ordering_then (nat_cmp a b) (ordering_then (nat_cmp m n) Equal)
 
--- they compare as less exactly if they are less
+-- two pairs of numbers compare as less exactly if the first pair is less
 pair_less : (a b m n : ℕ) → pair_cmp a b m n ≡ Less ↔ IsPairLess a b m n
 pair_less a b m n = by (trichotomy a b) (trichotomy m n) where
   by : Trichotomy a b → Trichotomy m n → pair_cmp a b m n ≡ Less ↔ IsPairLess a b m n

@@ -11,7 +11,7 @@ use Rattle.time_below.proofs.YearLemmas.{years_from_start}
 abbrev sevenths_after : ℕ → ℕ → ℕ
 sevenths_after place n = (n + 6 - (place + n + 6) % 7) / 7
 
--- one more day
+-- one day more counts if seven divides its place
 sevenths-more : (place n : ℕ) → sevenths_after place n + (if (place + n) % 7 == 0 then 1 else 0) ≡ sevenths_after place (suc n)
 sevenths-more place n = grind (arith, nat_tests)
 

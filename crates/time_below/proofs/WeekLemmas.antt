@@ -52,13 +52,13 @@ same_week : (m n o p a b : ℕ) → m ≡ n → (o - 1) / 7 + 1 ≡ (p - 1) / 7 
 same_week m n o p a b year week one two day first second = omega (arith, ap days_of_years year)
 
 -- one count from the start is one day number
-same_number : (y z : ℤ) (a b : ℕ) → y +ℤ pos days_before ≡ pos a → z +ℤ pos days_before ≡ pos b
+one_count_is_one_day_number : (y z : ℤ) (a b : ℕ) → y +ℤ pos days_before ≡ pos a → z +ℤ pos days_before ≡ pos b
     → a ≡ b → y ≡ z
-same_number y z a b p q e = omega (arith, ints)
+one_count_is_one_day_number y z a b p q e = omega (arith, ints)
 
 -- equal numbers as integers are equal
-same_pos : (a b : ℕ) → pos a ≡ pos b → a ≡ b
-same_pos a b e = ap unsigned_abs e
+equal_as_integers : (a b : ℕ) → pos a ≡ pos b → a ≡ b
+equal_as_integers a b e = ap unsigned_abs e
 
 -- the Thursday of a day, counted from the start both ways
 thursday_counted : (d : OrdinalDate) (n m : ℕ) → IsDate d
@@ -68,7 +68,7 @@ thursday_counted d n m h e y =
     let back =
     day_number_back (thursday_number (day_number d)) (thursday_within (day_number d) (IsDayNumber-day_number d h)) in
     let there = day_number_from_start (thursday_of d) m y (IsDate-thursday_of d h).1.0 in
-    same_pos _ _
+    equal_as_integers _ _
     (sym (thursday_shifted (day_number d) n e) ∙ sym (ap (λ z. z +ℤ pos days_before) back) ∙ there)
 
 -- one year, week and weekday of the week calendar is one date
@@ -95,4 +95,4 @@ same_week_day d e h k year week day =
     rests
     (thursday_counted d a m h p u)
     (thursday_counted e b n k q v) in
-    same_day_number d e h k (same_number (day_number d) (day_number e) a b p q same)
+    same_day_number d e h k (one_count_is_one_day_number (day_number d) (day_number e) a b p q same)

@@ -54,7 +54,7 @@ unended_is_trimmed {n} text f unended =
           (λ (h : length text ≤ length other). h) (cases_lt (length other) (length text));
     })
 
--- one zero less
+-- a text without one zero at its end is the same fraction
 fraction_one_zero_less : {n : ℕ} (front : List ℕ) → 1 ≤ length front → IsFraction (front ++ codes "0") n → IsFraction front n
 fraction_one_zero_less front some f =
     let long : length (front ++ codes "0") ≡ length front + 1 = length-append front (codes "0") in

@@ -36,7 +36,7 @@ zeros_are (d ∷ ds) e =
 
 -- ---- texts without the zeros at their end
 
--- zeros all go
+-- zeros alone have nothing left without their last zeros
 pub zeros_none : (d : ℕ) (ds : List ℕ) → are_zeros (d ∷ ds) ≡ true → without_last_zeros (d ∷ ds) ≡ []
 zeros_none d ds e = rw e refl
 
@@ -55,7 +55,7 @@ without_last_zeros-append : (ds : List ℕ) (k : ℕ) → without_last_zeros (ds
 without_last_zeros-append [] k = without_last_zeros-replicate k
 without_last_zeros-append (d ∷ ds) k = rw (are_zeros-append (d ∷ ds) k, without_last_zeros-append ds k) refl
 
--- filled with zeros again, it is the text
+-- a text without its last zeros, filled with zeros again, is the text
 zeros_filled_again : (ds : List ℕ) → without_last_zeros ds ++ replicate (length ds - length (without_last_zeros ds)) 48 ≡ ds
 zeros_filled_again [] = refl
 zeros_filled_again (d ∷ ds) =
@@ -73,14 +73,14 @@ digits_front : (ds rest : List ℕ) → AllDigits 10 (ds ++ rest) → AllDigits 
 digits_front [] rest h = tt
 digits_front (d ∷ ds) rest h = (h.0, digits_front ds rest h.1)
 
--- ---- and with the first digit kept
+-- ---- texts that keep their first digit, without the zeros at their end
 
 -- more zeros at the end change nothing
 trimmed-append : (ds : List ℕ) (k : ℕ) → 1 ≤ length ds → trimmed (ds ++ replicate k 48) ≡ trimmed ds
 trimmed-append [] k some = absurd (omega arith)
 trimmed-append (d ∷ ds) k some = ap (λ bs. d ∷ bs) (without_last_zeros-append ds k)
 
--- filled with zeros again, it is the text
+-- a trimmed text, filled with zeros again, is the text
 trimmed_filled : (ds : List ℕ) → trimmed ds ++ replicate (length ds - length (trimmed ds)) 48 ≡ ds
 trimmed_filled [] = refl
 trimmed_filled (d ∷ ds) =
@@ -127,7 +127,7 @@ only_trimmed_fraction n = (
       (trimmed_fraction_is n),
 )
 
--- its bytes are digits, so ASCII
+-- the bytes of a trimmed fraction are digits, so ASCII
 pub IsAscii-trimmed_fraction : (n : ℕ) → IsAscii (trimmed_fraction n)
 IsAscii-trimmed_fraction n = IsAscii-from_digits (trimmed_fraction n) (trimmed_fraction_is n).fraction.digits
 

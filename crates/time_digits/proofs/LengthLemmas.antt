@@ -99,7 +99,7 @@ length-decimal_at k n low high fits =
     let p : 10 ^ suc k ≡ 10 ^ k * 10 = pow-suc 10 k in
     omega (arith, length-decimal k n low (omega arith) fits)
 
--- zero, which has no logarithm
+-- zero has one digit and no logarithm
 pub length-decimal_zero : (n : ℕ) → n ≡ 0 → length (decimal n) ≡ 1
 length-decimal_zero n none = length-digit n (omega arith)
 
@@ -117,7 +117,7 @@ length-padded fill k n fits =
       length-replicate (k - length (decimal n)) fill,
     )
 
--- it is no longer than the longer of the places and the digits
+-- a padded text is no longer than the longer of its places and its digits
 pub length-padded-le : (fill k n most : ℕ) → k ≤ most → length (decimal n) ≤ most → length (padded fill k n) ≤ most
 unfolding padded
 length-padded-le fill k n most places digits =
@@ -147,7 +147,7 @@ pub IsAscii-number : (n : ℕ) → IsAscii (decimal n)
 unfolding digits
 IsAscii-number n = IsAscii-onto 64 n [] IsAscii-nil
 
--- padded by an ASCII byte, too
+-- the text of a number padded by an ASCII byte is ASCII
 pub IsAscii-padded : (fill k n : ℕ) → fill < 128 → IsAscii (padded fill k n)
 unfolding padded
 IsAscii-padded fill k n low =
@@ -165,12 +165,12 @@ length-without_last_zeros (d ∷ ds) =
     (λ (e : are_zeros (d ∷ ds) ≡ false). rw e (omega (arith, length-without_last_zeros ds)))
     (cases_Bool (are_zeros (d ∷ ds)))
 
--- it has no more last zeros than bytes
+-- a text has no more last zeros than bytes
 pub last_zeros-le : (ds : List ℕ) → last_zeros ds ≤ length ds
 unfolding last_zeros
 last_zeros-le ds = omega arith
 
--- trimmed, a text is no longer, and is empty only if it was
+-- a trimmed text is no longer, and is empty only if the text was
 pub length-trimmed : (ds : List ℕ) → length (trimmed ds) ≤ length ds
 length-trimmed [] = omega arith
 length-trimmed (d ∷ ds) = omega (arith, length-without_last_zeros ds)

@@ -117,54 +117,57 @@ pub ruleset four_places = (
 -- ---- five places and more, the last four of them in two pieces
 
 -- the remainder by 10,000 in four places has the last four digits
-pub four_last : (n : ℕ) → n < 2 ^ 64 → zero_padded 4 (n % 10_000) ≡ fixed 4 n
-four_last n h = last_zero_padded 3 n h
+pub last_four_digits : (n : ℕ) → n < 2 ^ 64 → zero_padded 4 (n % 10_000) ≡ fixed 4 n
+last_four_digits n h = last_zero_padded 3 n h
 
--- which are the whole of a number below 10,000 in four places
-pub zero_four : (n : ℕ) → n < 10_000 → fixed 4 n ≡ zero_padded 4 n
-zero_four n h = sym (zero_padded_is 3 n h (omega arith))
+-- the last four digits of a number below 10,000 are the whole of it in four places
+pub four_digits_are_the_whole : (n : ℕ) → n < 10_000 → fixed 4 n ≡ zero_padded 4 n
+four_digits_are_the_whole n h = sym (zero_padded_is 3 n h (omega arith))
 
 -- the text is that of the quotient and the last four digits, from 10,000 on
-pub five_or_six : (n : ℕ) → 10_000 ≤ n → n < 2 ^ 64 → decimal (n / 10_000) ++ fixed 4 n ≡ zero_padded 4 n
-five_or_six n low h = sym (decimal-split 4 n low h)
+pub five_or_six_digits : (n : ℕ) → 10_000 ≤ n → n < 2 ^ 64 → decimal (n / 10_000) ++ fixed 4 n ≡ zero_padded 4 n
+five_or_six_digits n low h = sym (decimal-split 4 n low h)
     ∙ sym (padded_whole 48 4 n (omega (arith, decimal_longer 4 n low h)))
 
--- a number below 100,000 with zeros: its first digit, and they
+-- a number below 100,000 with zeros: its first digit, and the last four
 pub five_zero_padded : (n : ℕ) → n < 100_000 → decimal (n / 10_000) ++ fixed 4 n ≡ zero_padded 5 n
 five_zero_padded n h =
-    rw (four_last n (omega arith), one_place 48 (n / 10_000) (omega arith)) at
+    rw (last_four_digits n (omega arith), one_place 48 (n / 10_000) (omega arith)) at
     (zero_pieces 0 3 n (omega arith) h (omega arith))
 
--- a number below 1,000,000 with zeros: its first pair, and they
+-- a number below 1,000,000 with zeros: its first pair, and the last four digits
 pub six_zero_padded : (n : ℕ) → n < 1_000_000 → zero_padded 2 (n / 10_000) ++ fixed 4 n ≡ zero_padded 6 n
-six_zero_padded n h = rw (four_last n (omega arith)) at (zero_pieces 1 3 n (omega arith) h (omega arith))
+six_zero_padded n h = rw (last_four_digits n (omega arith)) at (zero_pieces 1 3 n (omega arith) h (omega arith))
 
--- nine fixed digits: five places with zeros, and they
+-- nine fixed digits: five places with zeros, and the last four digits
 pub nine_fixed : (n : ℕ) → n < 1_000_000_000 → zero_padded 5 (n / 10_000) ++ fixed 4 n ≡ fixed 9 n
 nine_fixed n h = rw (zero_padded_is 4 (n / 10_000) (omega arith) (omega arith)) (sym (fixed-append 5 4 n))
 
 -- ---- pieces that are taken over from another list of pieces
 
 -- two pieces of another list of two are all of it
-pub two_of : (last : List (Bor (List ℕ))) (d : Bor (List ℕ)) → piece_lengths last ≡ 2 ∷ 2 ∷ [] → (get_or last 0 d).now
+pub two_pieces_taken_over : (last : List (Bor (List ℕ))) (d : Bor (List ℕ)) → piece_lengths last ≡ 2 ∷ 2 ∷ []
+    → (get_or last 0 d).now
     ++ ((get_or last 1 d).now ++ []) ≡ joined last
-two_of [] d e = cc
-two_of (x ∷ []) d e = cc
-two_of (x ∷ y ∷ []) d e = refl
-two_of (x ∷ y ∷ z ∷ more) d e = cc
+two_pieces_taken_over [] d e = cc
+two_pieces_taken_over (x ∷ []) d e = cc
+two_pieces_taken_over (x ∷ y ∷ []) d e = refl
+two_pieces_taken_over (x ∷ y ∷ z ∷ more) d e = cc
 
 -- three of one list and two of another are both lists
-pub five_of : (first last : List (Bor (List ℕ))) (d : Bor (List ℕ)) → piece_lengths first ≡ 1 ∷ 2 ∷ 2 ∷ []
+pub five_pieces_taken_over : (first last : List (Bor (List ℕ))) (d : Bor (List ℕ))
+    → piece_lengths first ≡ 1 ∷ 2 ∷ 2 ∷ []
     → piece_lengths last ≡ 2 ∷ 2 ∷ []
     → (get_or first 0 d).now
     ++ ((get_or first 1 d).now
     ++ ((get_or first 2 d).now ++ ((get_or last 0 d).now ++ ((get_or last 1 d).now ++ [])))) ≡ joined first
     ++ joined last
-five_of [] last d e f = cc
-five_of (x ∷ []) last d e f = cc
-five_of (x ∷ y ∷ []) last d e f = cc
-five_of (x ∷ y ∷ z ∷ []) last d e f = rw (two_of last d f, append-nil, append_assoc, append_assoc) refl
-five_of (x ∷ y ∷ z ∷ w ∷ more) last d e f = cc
+five_pieces_taken_over [] last d e f = cc
+five_pieces_taken_over (x ∷ []) last d e f = cc
+five_pieces_taken_over (x ∷ y ∷ []) last d e f = cc
+five_pieces_taken_over (x ∷ y ∷ z ∷ []) last d e f =
+    rw (two_pieces_taken_over last d f, append-nil, append_assoc, append_assoc) refl
+five_pieces_taken_over (x ∷ y ∷ z ∷ w ∷ more) last d e f = cc
 
 -- a piece before such two keeps its own length
 pub lengths_before : (front n : ℕ) (last : List (Bor (List ℕ))) (d : Bor (List ℕ)) → piece_lengths last ≡ 2 ∷ 2 ∷ []
@@ -177,12 +180,12 @@ lengths_before front n (x ∷ y ∷ z ∷ more) d e f = cc
 
 -- lemmas for the calls of more places
 pub ruleset six_places = (
-  two_of,
-  five_of,
+  two_pieces_taken_over,
+  five_pieces_taken_over,
   lengths_before,
-  four_last,
-  zero_four,
-  five_or_six,
+  last_four_digits,
+  four_digits_are_the_whole,
+  five_or_six_digits,
   five_zero_padded,
   six_zero_padded,
   nine_fixed,

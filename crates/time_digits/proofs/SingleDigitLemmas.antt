@@ -7,12 +7,13 @@ use Rattle.time_digits.proofs.TableLemmas.{same_below}
 use Rattle.time_digits.specs.declared.tables.TheConstants.{SINGLE_DIGITS}
 
 -- each digit is at its own place
-digits_are : map (λ n. take 1 (drop n SINGLE_DIGITS.now)) (range_with_len 0 10) ≡ map decimal (range_with_len 0 10)
+each_single_digit : map (λ n. take 1 (drop n SINGLE_DIGITS.now)) (range_with_len 0 10)
+    ≡ map decimal (range_with_len 0 10)
 unfolding digits
-digits_are = refl
+each_single_digit = refl
 
-pub digit_at : (n : ℕ) → n < 10 → take 1 (drop n SINGLE_DIGITS.now) ≡ decimal n
-digit_at n h = same_below (λ k. take 1 (drop k SINGLE_DIGITS.now)) decimal 10 digits_are n h
+pub single_digit_at : (n : ℕ) → n < 10 → take 1 (drop n SINGLE_DIGITS.now) ≡ decimal n
+single_digit_at n h = same_below (λ k. take 1 (drop k SINGLE_DIGITS.now)) decimal 10 each_single_digit n h
 
 -- lemmas for the calls that borrow from the table
-pub ruleset digit_facts = (digit_at, length-digit)
+pub ruleset digit_facts = (single_digit_at, length-digit)

@@ -8,13 +8,14 @@ use Rattle.time_digits.proofs.TableLemmas.{same_below}
 use Rattle.time_digits.specs.declared.tables.TheConstants.{SPACE_PADDED_PAIRS}
 
 -- each pair with spaces is at twice its number
-spaced_are : map (λ n. take 2 (drop (2 * n) SPACE_PADDED_PAIRS.now)) (range_with_len 0 100)
+each_space_padded_pair : map (λ n. take 2 (drop (2 * n) SPACE_PADDED_PAIRS.now)) (range_with_len 0 100)
     ≡ map (space_padded 2) (range_with_len 0 100)
 unfolding digits padded
-spaced_are = refl
+each_space_padded_pair = refl
 
-pub spaced_at : (n : ℕ) → n < 100 → take 2 (drop (2 * n) SPACE_PADDED_PAIRS.now) ≡ space_padded 2 n
-spaced_at n h = same_below (λ k. take 2 (drop (2 * k) SPACE_PADDED_PAIRS.now)) (space_padded 2) 100 spaced_are n h
+pub space_padded_pair_at : (n : ℕ) → n < 100 → take 2 (drop (2 * n) SPACE_PADDED_PAIRS.now) ≡ space_padded 2 n
+space_padded_pair_at n h =
+    same_below (λ k. take 2 (drop (2 * k) SPACE_PADDED_PAIRS.now)) (space_padded 2) 100 each_space_padded_pair n h
 
 -- lemmas for the calls that borrow from the table
-pub ruleset space_facts = (spaced_at, length-decimal_two, length-padded)
+pub ruleset space_facts = (space_padded_pair_at, length-decimal_two, length-padded)

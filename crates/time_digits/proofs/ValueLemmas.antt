@@ -12,7 +12,7 @@ use Rattle.std.proofs.Math.Nat.{pow-suc}
 use Rattle.time_digits.specs.Digits.{fixed}
 use Rattle.time_digits.proofs.DigitLemmas.{fixed_step}
 
--- one more digit
+-- ten times a value and a digit have one fixed digit more
 one_more_digit : (k v d : ℕ) (front : List ℕ) → d < 10 → fixed k v ≡ front
     → fixed (suc k) (v * 10 + d) ≡ front ++ (48 + d) ∷ []
 one_more_digit k v d front h e =

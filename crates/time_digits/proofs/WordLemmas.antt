@@ -150,7 +150,7 @@ pub ruleset word_facts = (last_zeros_by_word, last_zeros-le)
 
 -- ---- a word that was read from eight digits of a number
 
--- its bytes are the digits again
+-- the bytes of a word that was read from eight digits are these digits
 pub digits_of_word : (bs : List ℕ) (n word : ℕ) → bs ≡ fixed 8 n → word ≡ from_le_bytes w64 bs → to_le_bytes w64 word
     ≡ fixed 8 n
 digits_of_word bs n word digits read =

@@ -10,7 +10,7 @@ pub(crate) fn assert_same<T: PartialEq + Debug + Copy>(rt: &impl Abort, found: T
     assert_eq!(rt; found, wanted);
 }
 
-/// What a test wants to be so.
+/// Asserts a condition, by one function for all tests.
 pub(crate) fn assert_that(rt: &impl Abort, is_so: bool) {
     assert!(rt; is_so);
 }

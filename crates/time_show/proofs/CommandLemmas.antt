@@ -19,61 +19,65 @@ use Rattle.time_show.specs.declared.command.Name.TheVariants as name
 use Rattle.time_show.proofs.FieldsLemmas.{is_space, parts-none}
 use Rattle.time_show.specs.Fields.{space, fields_of, Lacks, number_of, onto_numbers, numbers_of}
 
--- fewer than four numbers are no time of day, and more are none
-pub no_time_of_day : (numbers : Option (List ℤ)) → Lacks 4 numbers → time_numbers numbers ≡ None
-no_time_of_day (Some (a ∷ b ∷ c ∷ d ∷ xs)) lacks = absurd (omega (arith, lacks (a ∷ b ∷ c ∷ d ∷ xs) refl))
-no_time_of_day numbers lacks = refl
+-- fewer than four numbers are no time of day
+pub too_few_for_time_of_day : (numbers : Option (List ℤ)) → Lacks 4 numbers → time_numbers numbers ≡ None
+too_few_for_time_of_day (Some (a ∷ b ∷ c ∷ d ∷ xs)) lacks = absurd (omega (arith, lacks (a ∷ b ∷ c ∷ d ∷ xs) refl))
+too_few_for_time_of_day numbers lacks = refl
 
--- one number more than none
-after_number : (n : Option ℤ) (numbers : Option (List ℤ)) (time : TimeNumbers)
+-- a number after a time of day makes no time of day
+number_after_time_of_day : (n : Option ℤ) (numbers : Option (List ℤ)) (time : TimeNumbers)
     → time_numbers (onto_time time (onto_numbers n numbers)) ≡ None
-after_number None numbers time = refl
-after_number (Some n) None time = refl
-after_number (Some n) (Some xs) time = refl
+number_after_time_of_day None numbers time = refl
+number_after_time_of_day (Some n) None time = refl
+number_after_time_of_day (Some n) (Some xs) time = refl
 
-pub after_time_of_day : (fields : List (List ℕ)) (time : TimeNumbers) → fields ≢ []
+pub fields_after_time_of_day : (fields : List (List ℕ)) (time : TimeNumbers) → fields ≢ []
     → time_numbers (onto_time time (numbers_of fields)) ≡ None
-after_time_of_day [] time some = absurd (some refl)
-after_time_of_day (field ∷ fields) time some = after_number (number_of field) (numbers_of fields) time
+fields_after_time_of_day [] time some = absurd (some refl)
+fields_after_time_of_day (field ∷ fields) time some =
+    number_after_time_of_day (number_of field) (numbers_of fields) time
 
 -- fewer than three numbers are no date and time in UTC
-pub no_utc_date : (numbers : Option (List ℤ)) → Lacks 3 numbers → utc_numbers numbers ≡ None
-no_utc_date (Some (a ∷ b ∷ c ∷ xs)) lacks = absurd (omega (arith, lacks (a ∷ b ∷ c ∷ xs) refl))
-no_utc_date numbers lacks = refl
+pub too_few_for_utc_date_time : (numbers : Option (List ℤ)) → Lacks 3 numbers → utc_numbers numbers ≡ None
+too_few_for_utc_date_time (Some (a ∷ b ∷ c ∷ xs)) lacks = absurd (omega (arith, lacks (a ∷ b ∷ c ∷ xs) refl))
+too_few_for_utc_date_time numbers lacks = refl
 
 -- fewer than three numbers are no date and time
-pub no_date : (numbers : Option (List ℤ)) → Lacks 3 numbers → date_time_numbers numbers ≡ None
-no_date (Some (a ∷ b ∷ c ∷ xs)) lacks = absurd (omega (arith, lacks (a ∷ b ∷ c ∷ xs) refl))
-no_date numbers lacks = refl
+pub too_few_for_date_time : (numbers : Option (List ℤ)) → Lacks 3 numbers → date_time_numbers numbers ≡ None
+too_few_for_date_time (Some (a ∷ b ∷ c ∷ xs)) lacks = absurd (omega (arith, lacks (a ∷ b ∷ c ∷ xs) refl))
+too_few_for_date_time numbers lacks = refl
 
--- nor are fewer than four after a date
-pub no_time : (date : DateNumbers) (numbers : Option (List ℤ)) → Lacks 4 numbers
+-- fewer than four numbers after a date are no date and time
+pub too_few_after_date : (date : DateNumbers) (numbers : Option (List ℤ)) → Lacks 4 numbers
     → date_time_numbers (onto_date date numbers) ≡ None
-no_time date (Some (a ∷ b ∷ c ∷ d ∷ xs)) lacks = absurd (omega (arith, lacks (a ∷ b ∷ c ∷ d ∷ xs) refl))
-no_time date numbers lacks = refl
+too_few_after_date date (Some (a ∷ b ∷ c ∷ d ∷ xs)) lacks = absurd (omega (arith, lacks (a ∷ b ∷ c ∷ d ∷ xs) refl))
+too_few_after_date date numbers lacks = refl
 
--- nor fewer than three after a time of day
-pub no_offset : (date : DateNumbers) (time : TimeNumbers) (numbers : Option (List ℤ)) → Lacks 3 numbers
+-- fewer than three numbers after a date and a time of day are no date and time
+pub too_few_after_time : (date : DateNumbers) (time : TimeNumbers) (numbers : Option (List ℤ)) → Lacks 3 numbers
     → date_time_numbers (onto_date date (onto_time time numbers)) ≡ None
-no_offset date time (Some (a ∷ b ∷ c ∷ xs)) lacks = absurd (omega (arith, lacks (a ∷ b ∷ c ∷ xs) refl))
-no_offset date time numbers lacks = refl
+too_few_after_time date time (Some (a ∷ b ∷ c ∷ xs)) lacks = absurd (omega (arith, lacks (a ∷ b ∷ c ∷ xs) refl))
+too_few_after_time date time numbers lacks = refl
 
--- nor is anything after an offset
-after_ten : (n : Option ℤ) (numbers : Option (List ℤ)) (date : DateNumbers) (time : TimeNumbers) (offset : OffsetNumbers)
+-- a number after an offset makes no date and time
+number_after_offset : (n : Option ℤ) (numbers : Option (List ℤ)) (date : DateNumbers) (time : TimeNumbers)
+    (offset : OffsetNumbers)
     → date_time_numbers (onto_date date (onto_time time (onto_offset offset (onto_numbers n numbers)))) ≡ None
-after_ten None numbers date time offset = refl
-after_ten (Some n) None date time offset = refl
-after_ten (Some n) (Some xs) date time offset = refl
+number_after_offset None numbers date time offset = refl
+number_after_offset (Some n) None date time offset = refl
+number_after_offset (Some n) (Some xs) date time offset = refl
 
-pub after_offset : (fields : List (List ℕ)) (date : DateNumbers) (time : TimeNumbers) (offset : OffsetNumbers) → fields ≢ []
+pub fields_after_offset : (fields : List (List ℕ)) (date : DateNumbers) (time : TimeNumbers) (offset : OffsetNumbers)
+    → fields ≢ []
     → date_time_numbers (onto_date date (onto_time time (onto_offset offset (numbers_of fields)))) ≡ None
-after_offset [] date time offset some = absurd (some refl)
-after_offset (field ∷ fields) date time offset some = after_ten (number_of field) (numbers_of fields) date time offset
+fields_after_offset [] date time offset some = absurd (some refl)
+fields_after_offset (field ∷ fields) date time offset some =
+    number_after_offset (number_of field) (numbers_of fields) date time offset
 
 -- the first field is not this name, if the line does not begin with the name and a space
-not_named : (name field rest line : List ℕ) → line ≡ field ++ space ∷ rest
+other_name_than_the_first_field : (name field rest line : List ℕ) → line ≡ field ++ space ∷ rest
     → ((others : List ℕ) → line ≢ name ++ space ∷ others) → bytes_eq field name ≡ false
-not_named name field rest line e other =
+other_name_than_the_first_field name field rest line e other =
     elim (bytes_eq field name) as (λ b. bytes_eq field name ≡ b → b ≡ false) [
       | true ↦ λ same. absurd (other rest (e ∙ ap (λ f. f ++ space ∷ rest) ((bytes_eq-Decides field name).0 same)))
       | false ↦ λ _. refl
@@ -88,21 +92,21 @@ splits_at_space line i lt here =
     ∙ ap (λ rest. take i line ++ rest) (drop-cons line i 0 lt ∙ rw (is, add-one) refl)
 
 -- a name alone is no command
-no_numbers : (found : Option Name) → option_and_then (λ name. with_numbers name (numbers_of [])) found ≡ None
-no_numbers None = refl
-no_numbers (Some name.Time) = refl
-no_numbers (Some name.Rfc3339) = refl
-no_numbers (Some name.Rfc2822) = refl
-no_numbers (Some name.Iso) = refl
-no_numbers (Some name.IsoComma) = refl
-no_numbers (Some name.Stamp) = refl
+name_without_numbers : (found : Option Name) → option_and_then (λ name. with_numbers name (numbers_of [])) found ≡ None
+name_without_numbers None = refl
+name_without_numbers (Some name.Time) = refl
+name_without_numbers (Some name.Rfc3339) = refl
+name_without_numbers (Some name.Rfc2822) = refl
+name_without_numbers (Some name.Iso) = refl
+name_without_numbers (Some name.IsoComma) = refl
+name_without_numbers (Some name.Stamp) = refl
 
 -- a line that begins with no name and a space is no command
-pub no_name : (line : List ℕ) → ((rest : List ℕ) → line ≢ codes "time " ++ rest)
+pub line_without_name : (line : List ℕ) → ((rest : List ℕ) → line ≢ codes "time " ++ rest)
     → ((rest : List ℕ) → line ≢ codes "rfc3339 " ++ rest) → ((rest : List ℕ) → line ≢ codes "rfc2822 " ++ rest)
     → ((rest : List ℕ) → line ≢ codes "iso " ++ rest) → ((rest : List ℕ) → line ≢ codes "iso-comma " ++ rest)
     → ((rest : List ℕ) → line ≢ codes "stamp " ++ rest) → command_of_fields (fields_of line) ≡ None
-no_name line time rfc3339 rfc2822 iso iso_comma stamp =
+line_without_name line time rfc3339 rfc2822 iso iso_comma stamp =
     let end = position_or_len is_space line in
     let field = take end line in
     let rest = drop (end + 1) line in
@@ -112,12 +116,12 @@ no_name line time rfc3339 rfc2822 iso iso_comma stamp =
     let first : fields_of line ≡ field ∷ fields_of rest = slice_split_first is_space line 0 inside in
     rw (
       first,
-      not_named (codes "time") field rest line whole time,
-      not_named (codes "rfc3339") field rest line whole rfc3339,
-      not_named (codes "rfc2822") field rest line whole rfc2822,
-      not_named (codes "iso") field rest line whole iso,
-      not_named (codes "iso-comma") field rest line whole iso_comma,
-      not_named (codes "stamp") field rest line whole stamp,
+      other_name_than_the_first_field (codes "time") field rest line whole time,
+      other_name_than_the_first_field (codes "rfc3339") field rest line whole rfc3339,
+      other_name_than_the_first_field (codes "rfc2822") field rest line whole rfc2822,
+      other_name_than_the_first_field (codes "iso") field rest line whole iso,
+      other_name_than_the_first_field (codes "iso-comma") field rest line whole iso_comma,
+      other_name_than_the_first_field (codes "stamp") field rest line whole stamp,
     ) refl)
-    (λ past. rw (parts-none is_space line past) (no_numbers (named line)))
+    (λ past. rw (parts-none is_space line past) (name_without_numbers (named line)))
     (cases_lt end (length line))

@@ -62,7 +62,7 @@ pub natural-when : (ds : List ℕ) → 0 < length ds → length ds ≤ 9 → lis
     → is_natural ds ≡ true
 natural-when ds some short all = grind arith
 
--- they spell their value
+-- one to nine digits spell their value
 pub natural-whole : (ds : List ℕ) → 0 < length ds → length ds ≤ 9 → list_all is_ascii_digit ds ≡ true →
     natural_of ds ≡ Some (digits_value 10 ds)
 natural-whole ds some short all = rw (natural-when ds some short all) refl
@@ -118,7 +118,7 @@ natural_of_digits text value count read some =
     (natural-whole (take count text) (omega (arith, read.inside, length-take count text))
     (omega (arith, read.short, length-take count text)) read.digits)
 
--- digits up to the end of the text
+-- digits up to the end of the text are its first number, and nothing is left
 pub natural_last : (text : List ℕ) (value count : ℕ) → LeadingDigits text value count → 0 < count → count ≡ length text
     →
     FirstNatural text (Some (value, []))
@@ -130,7 +130,7 @@ natural_last text value count read some end =
       natural_of_digits text value count read some,
     )
 
--- digits up to a space
+-- digits up to a space are the first number of the text, and the fields after the space are left
 pub natural_before : (text : List ℕ) (value count : ℕ) → LeadingDigits text value count → 0 < count
     → count < length text →
     get_or text count 0 ≡ space → FirstNatural text (Some (value, fields_of (drop (count + 1) text)))
@@ -153,18 +153,18 @@ no_natural_before text value count read lt =
     omega (arith, length-take k text, prefix_len-le-length (λ x. not (is_space x)) text) in
     no_natural (take k text) count inside (rw (get_or-take k text count 0 lt) read.ended)
 
--- a space is at the first one
-at_space : (text : List ℕ) → position_or_len is_space text < length text
+-- the byte at the place of the first space is a space
+space_at_its_place : (text : List ℕ) → position_or_len is_space text < length text
     → is_space (get_or text (position_or_len is_space text) 0) ≡ false → ⊥
-at_space text lt other = absurd (cc (passes_at_first is_space text 0 lt, other))
+space_at_its_place text lt other = absurd (cc (passes_at_first is_space text 0 lt, other))
 
 -- the first space is after the first digits
 no_space_before : (text : List ℕ) (value count : ℕ) → LeadingDigits text value count → count < length text →
     is_space (get_or text count 0) ≡ false → position_or_len is_space text ≤ count → ⊥
 no_space_before text value count read inside other le =
     ⊎_elim
-    (λ lt. at_space text (omega arith) (no_space text count _ read.digits read.inside lt))
-    (λ ge. at_space text (omega arith) (let same : position_or_len is_space text ≡ count = omega arith in
+    (λ lt. space_at_its_place text (omega arith) (no_space text count _ read.digits read.inside lt))
+    (λ ge. space_at_its_place text (omega arith) (let same : position_or_len is_space text ≡ count = omega arith in
     rw same other))
     (cases_lt (position_or_len is_space text) count)
 

@@ -71,12 +71,12 @@ pub whole_lines_of-one : (line : List ℕ) → IsOneLine line → whole_lines_of
 whole_lines_of-one [] p = refl
 whole_lines_of-one (b ∷ line) p = grind (arith, whole_lines_of-one line p.1, p.0)
 
--- they are the bytes after the last line feed
+-- bytes with no line feed are those after the last line feed
 pub unended_of-one : (line : List ℕ) → IsOneLine line → unended_of line ≡ line
 unended_of-one [] p = refl
 unended_of-one (b ∷ line) p = grind (arith, whole_lines_of-one line p.1, unended_of-one line p.1, p.0)
 
--- they are one line, if there are any
+-- bytes with no line feed are one line, if there are any
 pub lines_of-one : (line : List ℕ) → IsOneLine line → lines_of line ≡ last_line_of line
 lines_of-one [] p = refl
 lines_of-one (b ∷ []) p = grind (arith, p.0)
@@ -126,7 +126,7 @@ whole_lines_of-ended : (line : List ℕ) → IsOneLine line → whole_lines_of (
 whole_lines_of-ended [] p = refl
 whole_lines_of-ended (b ∷ line) p = grind (arith, whole_lines_of-ended line p.1, p.0)
 
--- nothing comes after its line feed
+-- nothing comes after the line feed of one line
 unended_of-ended : (line : List ℕ) → IsOneLine line → unended_of (line ++ line_feed ∷ []) ≡ []
 unended_of-ended [] p = refl
 unended_of-ended (b ∷ line) p = grind (arith, whole_lines_of-ended line p.1, unended_of-ended line p.1, p.0)
@@ -147,7 +147,7 @@ whole_lines_of-fed bytes line p =
     )
     (ap (λ lines. whole_lines_of bytes ++ lines) (whole_lines_of-ended (unended_of bytes ++ line) one))
 
--- nothing comes after that line feed
+-- nothing comes after the line feed that completes a line
 pub unended_of-fed : (bytes line : List ℕ) → IsOneLine line → unended_of (bytes ++ (line ++ line_feed ∷ [])) ≡ []
 unended_of-fed bytes line p =
     let one : IsOneLine (unended_of bytes ++ line) = IsOneLine-append (unended_of bytes) line (unended_of-is_one bytes)
@@ -155,7 +155,7 @@ unended_of-fed bytes line p =
     unended_of-append bytes (line ++ line_feed ∷ [])
     ∙ rw (← append_assoc (unended_of bytes) line (line_feed ∷ [])) (unended_of-ended (unended_of bytes ++ line) one)
 
--- one more, in the two forms
+-- one more than n is the successor of n
 one_more : (n : ℕ) → 1 + n ≡ suc n
 one_more n = omega arith
 
@@ -219,7 +219,7 @@ whole_lines_of-more bytes more p =
     whole_lines_of-append bytes more
     ∙ rw (whole_lines_of-one (unended_of bytes ++ more) one) (append-nil (whole_lines_of bytes))
 
--- they come after its last line feed
+-- bytes with no line feed, after a text, come after its last line feed
 pub unended_of-more : (bytes more : List ℕ) → IsOneLine more → unended_of (bytes ++ more) ≡ unended_of bytes ++ more
 unended_of-more bytes more p =
     unended_of-append bytes more

@@ -25,7 +25,7 @@ pub enum Command {
     Stamp(UtcNumbers),
 }
 
-/// What a command is called.
+/// The name of a command.
 #[derive(Clone, Copy)]
 pub enum Name {
     /// `time`.

@@ -12,7 +12,7 @@ use time_digits::{ri8, ri16, ri32, ru8, ru16, ru32};
 use time_provide::laws::{date_state_equality, values_supply_their_components};
 
 #[test]
-fn other_numbers_are_not_equal(rt: HostRuntime) {
+fn different_numbers_are_not_equal(rt: HostRuntime) {
     assert_that(&rt, ru8::<0, 9>::new(1) != ru8::<0, 9>::new(2));
     assert_that(&rt, ru16::<0, 9>::new(1) != ru16::<0, 9>::new(2));
     assert_that(&rt, ru32::<0, 9>::new(1) != ru32::<0, 9>::new(2));
@@ -31,7 +31,7 @@ fn a_clone_of_a_date_is_that_date(rt: HostRuntime) {
 }
 
 #[test]
-fn laws_of_equality(_rt: HostRuntime) {
+fn each_law_of_equality_is_called(_rt: HostRuntime) {
     month_equality(Month::March, Month::May);
     weekday_equality(Weekday::Tuesday, Weekday::Thursday);
     period_equality(Period::Am, Period::Pm);
@@ -43,7 +43,7 @@ fn laws_of_equality(_rt: HostRuntime) {
 }
 
 #[test]
-fn laws_of_the_calendar(_rt: HostRuntime) {
+fn each_law_of_the_calendar_is_called(_rt: HostRuntime) {
     one_date_for_each_day();
     days_follow_one_another();
     one_date_for_each_day_of_month();

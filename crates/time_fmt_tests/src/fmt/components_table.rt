@@ -58,7 +58,7 @@ pub(super) const COMPONENTS: &[(Component, &str, usize)] = components! {
     End { trailing_input: TrailingInput::Prohibit } "" 0,
 };
 
-/// What the table shows of those that are.
+/// What the table of deprecated components shows.
 pub(super) const DEPRECATED: &[(Component, &str, usize)] = components! {
     Month { padding: Zero, repr: MonthRepr::Numerical, case_sensitive: true } "11" 2,
     Month { padding: Zero, repr: MonthRepr::Long, case_sensitive: true } "November" 9,

@@ -45,7 +45,7 @@ fn an_error_is_printed_the_same_inside_the_outer_one(rt: HostRuntime) {
 }
 
 #[test]
-fn other_errors_are_printed(rt: HostRuntime) {
+fn a_range_and_a_conversion_that_failed_are_printed(rt: HostRuntime) {
     let day = ComponentRange::conditional("day");
     assert_printed(&rt, rt.alloc(), &day, CONDITIONAL);
     assert_printed(&rt, rt.alloc(), &Error::ComponentRange(day), CONDITIONAL);
@@ -66,7 +66,7 @@ fn assert_debug<T: Debug>(
 }
 
 #[test]
-fn debug_texts(rt: HostRuntime) -> Result<(), Fail> {
+fn each_error_is_printed_as_its_variant(rt: HostRuntime) -> Result<(), Fail> {
     let alloc = rt.alloc();
     let insufficient = Format::InsufficientTypeInformation;
     assert_debug(&rt, alloc, &insufficient, "InsufficientTypeInformation")?;

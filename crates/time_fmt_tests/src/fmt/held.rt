@@ -15,13 +15,13 @@ use time_provide::DateState;
 /// The smallest block that is taken where all memory is.
 const BLOCK: usize = 4_194_304;
 
-/// More than half of such a block.
+/// The length of a long text: more than half of the smallest block.
 const LONG: usize = 3_000_000;
 
-/// More texts of that length than there are blocks.
+/// How many long texts are made: more than there are blocks.
 const TURNS: usize = 10;
 
-/// A text of that length.
+/// A text that takes more than half of a block.
 fn long_text(alloc: Global) -> Result<String, Fail> {
     Ok(String::from_utf8(vec![in alloc; b'x'; LONG]?)?)
 }

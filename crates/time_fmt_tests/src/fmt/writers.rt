@@ -218,7 +218,7 @@ fn up_to_255_decimals_are_written(rt: HostRuntime) -> Result<(), Fail> {
     let digits = ru8::new(255).expect(&rt, "the most digits");
     let count = format_decimals(&mut output, 3_599_999_999_999, 3_600_000_000_000, digits);
     assert_same(&rt, count, 255);
-    // the slices below rest on this length
+    // The slices below are proved in range by this length.
     assert_eq!(rt; output.len(), 255);
     assert_same(&rt, &output[..13], b"9999999999997".as_slice());
     assert_that(&rt, output[13..].iter().all(|&digit| digit == b'2'));

@@ -240,10 +240,11 @@ fn assert_triples<V: ComponentProvider<State = DateState>>(rt: &impl Abort, valu
     }
 }
 
-/// Years at the ends of the range, of each sign, and of each turn of the leap rule.
-const YEARS: &[i32] = &[
-    -999_999, -10_000, -400, -4, -1, 0, 1, 1900, 1970, 2000, 2023, 2024, 9_999, 10_000, 999_999,
-];
+/// Years from the first one on, of each sign and of each turn of the leap rule.
+const YEARS_BEFORE_1970: &[i32] = &[-999_999, -10_000, -400, -4, -1, 0, 1, 1900];
+
+/// Years up to the last one, of each turn of the leap rule and of each number of digits.
+const YEARS_FROM_1970: &[i32] = &[1970, 2000, 2023, 2024, 9_999, 10_000, 999_999];
 
 /// Days of the year at the ends of years and of months.
 const ORDINALS: &[u16] = &[
@@ -251,7 +252,7 @@ const ORDINALS: &[u16] = &[
 ];
 
 /// An hour of the day, and hours of an offset.
-const HOURS: &[(u8, i8)] = &[(0, 0), (9, -6), (12, 1), (23, 25)];
+const HOURS: &[(u8, i8)] = &[(0, 0), (9, -6), (23, 25)];
 
 /// The entries of each value on the date, at each hour.
 fn assert_date(rt: &impl Abort, alloc: Global, date: Date) {
@@ -266,15 +267,24 @@ fn assert_date(rt: &impl Abort, alloc: Global, date: Date) {
     }
 }
 
-#[test]
-fn a_state_holds_what_two_methods_keep_on_many_dates(rt: HostRuntime) {
-    for &year in YEARS {
+fn assert_years(rt: &impl Abort, alloc: Global, years: &[i32]) {
+    for &year in years {
         for &ordinal in ORDINALS {
             if let Ok(date) = Date::from_ordinal_date(year, ordinal) {
-                assert_date(&rt, rt.alloc(), date);
+                assert_date(rt, alloc, date);
             }
         }
     }
+}
+
+#[test]
+fn a_state_holds_what_two_methods_keep_on_dates_before_1970(rt: HostRuntime) {
+    assert_years(&rt, rt.alloc(), YEARS_BEFORE_1970);
+}
+
+#[test]
+fn a_state_holds_what_two_methods_keep_on_dates_from_1970(rt: HostRuntime) {
+    assert_years(&rt, rt.alloc(), YEARS_FROM_1970);
 }
 
 #[test]
@@ -304,13 +314,18 @@ fn assert_moment(
     }
 }
 
-/// The first and the last moment, one of a leap day, one of a negative year, and one just before 1970.
+/// The first and the last moment, ends of years, a leap day, and days whose week is of another year.
 const MOMENTS: &[(i64, u32)] = &[
     (-31_619_087_596_800, 0),
     (31_494_784_780_799, 999_999_999),
     (951_825_600, 0),
     (-62_167_219_201, 500_000_000),
     (-1, 999_500_000),
+    (0, 0),
+    (946_684_799, 999_999_999),
+    (1_230_508_800, 0),
+    (1_262_520_000, 1),
+    (253_402_300_800, 0),
 ];
 
 #[test]
@@ -323,14 +338,30 @@ fn a_state_of_a_moment_also_holds_its_date_and_time(rt: HostRuntime) {
     }
 }
 
+/// What the state of a moment holds after this method and any two.
+fn assert_moment_after(rt: &impl Abort, alloc: Global, first: (Method, [bool; 6])) {
+    for &(second, of_second, beside_second) in METHODS {
+        let of_second = (second, entries(of_second, beside_second));
+        assert_moment(rt, alloc, (879_350_106, 120_000_000), first, of_second);
+    }
+}
+
 #[test]
-fn a_state_of_a_moment_holds_what_three_methods_keep(rt: HostRuntime) {
-    let parts = (879_350_106, 120_000_000);
+fn a_state_of_a_moment_holds_what_a_method_of_its_date_and_two_others_keep(rt: HostRuntime) {
     for &(first, of_first, beside_first) in METHODS {
-        for &(second, of_second, beside_second) in METHODS {
+        if beside_first == DATE {
             let of_first = (first, entries(of_first, beside_first));
-            let of_second = (second, entries(of_second, beside_second));
-            assert_moment(&rt, rt.alloc(), parts, of_first, of_second);
+            assert_moment_after(&rt, rt.alloc(), of_first);
+        }
+    }
+}
+
+#[test]
+fn a_state_of_a_moment_holds_what_any_other_three_methods_keep(rt: HostRuntime) {
+    for &(first, of_first, beside_first) in METHODS {
+        if beside_first != DATE {
+            let of_first = (first, entries(of_first, beside_first));
+            assert_moment_after(&rt, rt.alloc(), of_first);
         }
     }
 }

@@ -109,7 +109,7 @@ const LONG_LINES: &[(&[u8], usize, &[u8])] = &[
 ];
 
 #[test]
-fn long_lines_are_answered(rt: HostRuntime) {
+fn answers_the_longest_commands(rt: HostRuntime) {
     for &(line, length, answer) in LONG_LINES {
         assert_same(&rt, line.len(), length);
         assert_answers(&rt, rt.alloc(), line, answer);
@@ -137,13 +137,13 @@ fn answer_all(alloc: Global, input: &[u8]) -> Result<Vec<u8>, ShowError>
 }
 
 #[test]
-fn answers_known_bytes(rt: HostRuntime) -> Result<(), Fail> {
+fn answers_a_last_line_without_a_line_feed(rt: HostRuntime) -> Result<(), Fail> {
     let count = answer_all(rt.alloc(), b"time 0 0 0 0").map(|text| text.len());
     assert_same(&rt, count, Ok(20));
     Ok(())
 }
 
 #[test]
-fn laws_hold() {
+fn each_law_of_lines_is_called() {
     lines_spell_their_text();
 }

@@ -1,5 +1,5 @@
-//! Readers that give little, writers that take little, and such as fail once and would work after: the run
-//! ends, and calls neither again.
+//! Readers that give few bytes, writers that take few, and ones that fail once: a run ends there, and makes
+//! no further call.
 use crate::run::ShowError;
 use crate::tests::{Sink, Source, assert_answers, assert_ends, assert_same, repeated};
 use std::alloc::{AllocError, Global};
@@ -13,7 +13,7 @@ rfc3339 1997 11 12 9 55 6 0 -6 0 0\nrfc2822 1997 11 12 9 55 6 0 -6 0 0\n\
 rfc2822 1899 12 31 0 0 0 0 0 0 0\niso 1997 11 12 9 55 6 0 -6 0 0\niso 2000 1 1 0 0 0 0 1 0 1\n\
 iso-comma 1997 11 12 9 55 6 0 -6 0 0\nstamp 1997 11 12 15 55 6 0";
 
-/// Its answers, one after another.
+/// The answers to the stored run, one after another.
 const ANSWERS: &[&[u8]] = &[
     b"ok 11 18 09:55:06.12\n",
     b"ok 10 18 00:00:00.0\n",
@@ -207,7 +207,7 @@ const WRITES: &[(&[(&[u8], usize)], &[usize])] = &[
     (&[(NINE, 1776), (TWENTY, 20)], &[16_384]),
     // One more goes out after a full buffer.
     (&[(NINE, 1776), (TWENTY, 21)], &[16_384, 20]),
-    // One of 21 bytes does not fit into the 10 that are left, and is not torn.
+    // One of 21 bytes does not fit into the 10 that are left, and is not split.
     (
         &[(NINE, 1786), (TWENTY, 15), (TWENTY_ONE, 1)],
         &[16_374, 21],

@@ -34,7 +34,7 @@ const EDGES: &[([i32; 10], [i32; 10])] = &[
         [-999_999, 1, 1, 0, 0, 0, 0, -25, -59, -59],
         [-1_000_000, 0, 0, -1, -1, -1, -1, -26, -60, -60],
     ),
-    // Far out, and such as would be in range if they were cut to a byte.
+    // Numbers far outside, and numbers that would be in range if they were cut to a byte.
     (
         [2000, 1, 1, 0, 0, 0, 0, 0, 0, 0],
         [

@@ -1,4 +1,4 @@
-//! A writer that never fails: no number of bytes that wait makes a run give up.
+//! A writer that never fails: any number of waiting bytes goes out.
 use crate::output::{OUTPUT_LIMIT, OutputBuffer};
 use crate::reply::Reply;
 use crate::tests::assert_same;
@@ -55,7 +55,7 @@ fn assert_goes_out(rt: &impl Abort, answers: &mut OutputBuffer, text: &[u8], len
 }
 
 #[test]
-fn each_number_of_bytes_that_wait(rt: HostRuntime) -> Result<(), Fail> {
+fn any_number_of_waiting_bytes_goes_out(rt: HostRuntime) -> Result<(), Fail> {
     let text = vec![in rt.alloc(); b'x'; OUTPUT_LIMIT - FRAME]?;
     let mut answers = OutputBuffer::new();
     for len in 0..=text.len() {

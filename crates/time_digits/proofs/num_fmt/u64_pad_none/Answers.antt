@@ -2,7 +2,7 @@ use Rattle.std.proofs.Common.{◌≡◌, ℕ, ◌≤◌, ◌/◌, ◌∙◌, sub
 use Rattle.std.proofs.lemmas.Fmt.{IsAscii-decimal, decimal_nonempty}
 use Rattle.std.proofs.lemmas.Grind.{common_steps}
 use Rattle.time_digits.proofs.TurnLemmas.{IsPending, nothing_written, places_left, more_written, last_place}
-use Rattle.time_digits.proofs.TurnLemmas.{all_written, none_left}
+use Rattle.time_digits.proofs.TurnLemmas.{all_written, no_digit_left}
 use Rattle.time_digits.proofs.num_fmt.u64_pad_none.Goals as goal
 use Rattle.time_digits.proofs.num_fmt.u64_pad_none.Goals.{Joined-rest-gt9, Joined-rest-ne0, then-rest-gt9}
 use Rattle.time_digits.proofs.num_fmt.u64_pad_none.Goals.{else-rest-gt9, then-rest-ne0, else-rest-ne0+else-value-eq0}
@@ -46,10 +46,10 @@ overflow_sub-start-then-rest-ne0 c =
     last_place c.args.value c.if-rest-gt9.rest c.if-rest-gt9.start c.if-rest-gt9.bytes left.0 left.1
     c.then-rest-ne0.either
 
--- all is written with the first digit, if there is one
-written : (c : Joined-rest-ne0) → (drop c.if-rest-ne0.start c.if-rest-ne0.bytes ≡ decimal c.args.value)
+-- all digits are written with the first one, if there is one
+all_digits_written : (c : Joined-rest-ne0) → (drop c.if-rest-ne0.start c.if-rest-ne0.bytes ≡ decimal c.args.value)
     × (c.if-rest-ne0.start ≤ 20)
-written c =
+all_digits_written c =
     let j = c.if-rest-gt9 in
     let left = one_left c.before in
     let within = left.0.within in
@@ -61,7 +61,7 @@ written c =
       )
       | else-rest-ne0+else-value-eq0 w ↦
           let P : ℕ → Type 0 = λ r. IsPending c.args.value r j.start j.bytes in (
-            rw (w.bytes-is, w.start-is) (none_left c.args.value j.start j.bytes (subst P w.if-rest-ne0.false left.0)
+            rw (w.bytes-is, w.start-is) (no_digit_left c.args.value j.start j.bytes (subst P w.if-rest-ne0.false left.0)
                 (omega arith)),
             omega arith,
           )
@@ -69,17 +69,17 @@ written c =
 
 pub new-requires : goal.new-requires
 new-requires c =
-    let all = written (goal.at.new-requires c).Joined-rest-ne0 in
+    let all = all_digits_written (goal.at.new-requires c).Joined-rest-ne0 in
     let ascii : IsAscii (drop c.if-rest-ne0.start c.if-rest-ne0.bytes) =
     rw all.0 (IsAscii-decimal c.args.value c.ranges.value.fits) in
     (omega arith, (omega arith, (all.1, ascii)))
 
 pub returns-clause-text : goal.returns-clause-text
 returns-clause-text c =
-    let all = written (goal.at.returns-clause-text c).Joined-rest-ne0 in
+    let all = all_digits_written (goal.at.returns-clause-text c).Joined-rest-ne0 in
     c.new.ensures ∙ all.0
 
 pub returns-clause-some : goal.returns-clause-some
 returns-clause-some c =
-    let all = written (goal.at.returns-clause-some c).Joined-rest-ne0 in
+    let all = all_digits_written (goal.at.returns-clause-some c).Joined-rest-ne0 in
     omega (arith, ap length (c.new.ensures ∙ all.0), decimal_nonempty c.args.value c.ranges.value.fits)
