@@ -9,6 +9,7 @@ numbers and the choices of each, and `component.rt` of time_below documents each
 import pathlib
 import re
 import sys
+import textwrap
 
 HERE = pathlib.Path(__file__).resolve().parent
 CRATES = HERE.parent / "crates"
@@ -44,27 +45,33 @@ def short(name):
     return name
 
 
+def docs():
+    """What is said of each component, as lines of the code."""
+    return {name: doc for doc, name in re.findall(r"((?:    ///[^\n]*\n)+)    (\w+)\(", COMPONENT.read_text())}
+
+
+def comment(said, choices=()):
+    """A comment in lines of at most 100 columns. The choices stay on one line, and so does the end."""
+    joined = lambda words: words.replace(" ", "\0")
+    words = f"{said} [{joined('; '.join(choices))}]" if choices else said
+    lines = textwrap.fill(f"/* {words}\0*/", 100, initial_indent="    ", subsequent_indent="     * ")
+    return lines.replace("\0", " ")
+
+
 def in_header():
-    """The enum, where comments in a run of lines stand below one another."""
-    rows = [("TEXT", 0, "len bytes of the texts, from start on")]
-    rows += [(re.sub(r"(?<=[a-z])(?=[A-Z0-9])", "_", short(name)).upper(), number, ", ".join(choices))
-             for number, name, choices in kinds()]
-    codes = [f"    MOVALIREN_{name} = {number}{',' if number < rows[-1][1] else ''}" for name, number, _ in rows]
-    lines, run = [], []
-    for code, (_, _, comment) in [*zip(codes, rows), ("", ("", 0, ""))]:
-        if comment:
-            run.append((code, comment))
-            continue
-        width = max((len(before) for before, _ in run), default=0)
-        lines += [f"{before:{width}} /* {choices} */" for before, choices in run] + [code]
-        run = []
-    return "enum movaliren_kind {\n" + "\n".join(lines) + "};"
+    """The enum, with what is said of each component and its choices."""
+    said = {name: re.sub(r"\s*///\s*", " ", doc).strip() for name, doc in docs().items()}
+    lines = [comment("len bytes of the texts, from start on"), "    MOVALIREN_TEXT = 0,"]
+    for number, name, choices in kinds():
+        kind = re.sub(r"(?<=[a-z])(?=[A-Z0-9])", "_", short(name)).upper()
+        lines += [comment(said[name], choices), f"    MOVALIREN_{kind} = {number},"]
+    return "enum movaliren_kind {\n" + "\n".join(lines).rstrip(",") + "\n};"
 
 
 def in_rust():
     """The enum with what is said of each component."""
-    docs = {name: doc for doc, name in re.findall(r"((?:    ///[^\n]*\n)+)    (\w+)\(", COMPONENT.read_text())}
-    rows = [f"{docs[name]}    {short(name)} = {number},\n" for number, name, _ in kinds()]
+    said = docs()
+    rows = [f"{said[name]}    {short(name)} = {number},\n" for number, name, _ in kinds()]
     return "pub enum Kind {\n" + "".join(rows) + "}"
 
 

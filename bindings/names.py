@@ -3,8 +3,9 @@
 
 Numbers of reasons, of kinds and of choices; the texts of reasons; the greatest lengths of texts; fields of structs, in
 order, with their types; functions, with their parameters in order and the types of these and of the result; and the
-version. Also whether the header declares each name that it, the C programs and the documents use, and whether
-`bindings/counts` counts each function. Prints each difference, and ends with status 1 if there is one.
+version. Also whether the header declares each name that it, the C programs and the documents use, whether the rows and
+the test of memory call each function, and whether `bindings/counts` counts each function from C and from Rust, under
+its name, and each method of the formats. Prints each difference, and ends with status 1 if there is one.
 
     names.py --drifts      makes one change at a time in the names, numbers, texts and types, and ends with status 1 if
                            a change makes no difference
@@ -16,6 +17,9 @@ import pathlib
 import re
 import sys
 
+sys.dont_write_bytecode = True
+import drifts
+
 HERE = pathlib.Path(__file__).resolve().parent
 TOP = HERE.parent
 CRATE = TOP / "crates/movaliren_c"
@@ -23,10 +27,14 @@ HEADER = HERE / "c/movaliren.h"
 RUST = HERE / "rust/src"
 CARGO = HERE / "rust/Cargo.toml"
 COUNTED = HERE / "c/clock.cpp"
+SPEED = HERE / "rust-time/examples/speed"
+METHODS = [RUST / "format.rs", RUST / "batch.rs"]
+MEMORY = HERE / "c/memory.c"
+ROWS = [HERE / "c/rows.c", HERE / "c/descriptions.c"]
 
 COMMENTS = {
-    ".h": r"/\*.*?\*/", ".cpp": r"//[^\n]*", ".rs": r"//[^\n]*", ".rt": r"//[^\n]*", ".antt": r"--[^\n]*",
-    ".toml": r"#[^\n]*",
+    ".h": r"/\*.*?\*/", ".c": r"/\*.*?\*/", ".cpp": r"//[^\n]*", ".rs": r"//[^\n]*", ".rt": r"//[^\n]*",
+    ".antt": r"--[^\n]*", ".toml": r"#[^\n]*",
 }
 TYPES = {
     "int8_t": "i8", "uint8_t": "u8", "int32_t": "i32", "uint32_t": "u32", "int64_t": "i64",
@@ -61,6 +69,7 @@ def read():
     """The texts that are compared, by their paths."""
     paths = [
         HEADER, CARGO, HERE / "c/expect.h", *HERE.glob("c/*.c"), *HERE.glob("c/*.cpp"), *RUST.glob("*.rs"),
+        *SPEED.glob("*.rs"),
         *CRATE.glob("src/**/*.rt"), *CRATE.glob("specs/*.antt"), TOP / "README.md", *TOP.glob("docs/*.md"),
         *(TOP / f"crates/time_known/specs/{name}.antt" for name in ("Rfc3339", "Rfc2822", "Stamps")),
     ]
@@ -155,12 +164,16 @@ def rust_functions(*texts):
 
 class Interfaces:
     def __init__(self, texts):
-        of = {suffix: [] for suffix in (*COMMENTS, ".c", ".md")}
+        of = {suffix: [] for suffix in (*COMMENTS, ".md")}
         for path, text in texts.items():
-            of[path.suffix].append(code(text, path.suffix) if path.suffix in (".rt", ".antt", ".rs") else text)
+            if path.parent != SPEED:
+                of[path.suffix].append(code(text, path.suffix) if path.suffix in (".rt", ".antt", ".rs") else text)
         self.rattle, self.specs, self.rust = of[".rt"], of[".antt"], of[".rs"]
         self.users = of[".h"] + of[".c"] + of[".cpp"] + of[".md"]
         self.c, self.cargo, self.counted = (code(texts[path], path.suffix) for path in (HEADER, CARGO, COUNTED))
+        self.speed = code("\n".join(texts[path] for path in sorted(texts) if path.parent == SPEED), ".rs")
+        self.methods = [texts[path] for path in METHODS]
+        self.memory, self.rows = texts[MEMORY], [texts[path] for path in ROWS]
         self.differences = []
 
     def same(self, what, *interfaces):
@@ -284,15 +297,50 @@ class Interfaces:
         used = set(findall(r"\b(?:MOVALIREN|movaliren)_\w*[A-Za-z0-9]\b", *self.users))
         self.same("what is not in the header", set(), used - {"".join(names) for names in declared} - NOT_IN_HEADER)
 
+    def tests(self):
+        functions = sorted(c_functions(self.c))
+        self.same("what the test of memory calls", functions, sorted(set(findall(r"(movaliren_\w+)\(", self.memory))))
+        called = set(findall(r"(movaliren_\w+)\(", *self.rows))
+        for name in findall(r"^ALONE_AND_AS_BATCH\((\w+),", *self.rows):
+            called |= {f"movaliren_{name}", f"movaliren_{name}_batch"}
+        self.same("what has no row", set(), set(functions) - called)
+
     def counts(self):
-        calls = set(findall(r"movaliren_\w+(?=\()", self.counted))
-        self.same("what bindings/counts counts", [], sorted(set(c_functions(self.c)) - calls))
+        """A row begins with the name of the function that it calls. One of another library has a slash."""
+        functions = {name.removeprefix("movaliren_") for name in c_functions(self.c)}
+        table = self.counted.partition("ways[]")[2]
+        rows = findall(r'\{ "([^"]+)",(.*?)\},$', table)
+        names = {row for row, _ in rows if "/" not in row}
+        beside = {row.partition("/")[0] for row, _ in rows if "/" in row}
+        beside |= set(findall(r'^    [A-Z_]+\("([^"]+)"', table))
+        self.same("what is counted for other libraries alone", set(), beside - names)
+        for row, way in rows:
+            wanted = functions & {self.function(row)} if "/" not in row else set()
+            called = functions & set(findall(r"movaliren_(\w+)\(", way))
+            self.same(f"what the row {row} of bindings/counts calls", wanted, called)
+        self.same("what bindings/counts does not count from C", set(), functions - set(map(self.function, names)))
+        methods = findall(r"^    fn (\w+)", *self.methods)
+        rust = {row.partition("/")[0] for row in self.rust_rows()}
+        calls = {f"{name}:{method}" for name in functions for method in [*methods, name]}
+        self.same("a row of Rust alone", set(), rust - names - calls)
+        self.same("what bindings/counts does not count from Rust", set(), functions - set(map(self.function, rust)))
+        self.same("a method that is not counted", set(), set(methods) - set(findall(r"\.(\w+)\(", self.speed)))
+
+    @staticmethod
+    def function(row):
+        return re.match(r"\w+", row)[0]
+
+    def rust_rows(self):
+        """What stands first in a pair or in a `by!`, whose names have the words of its `concat!` before them."""
+        rows = findall(r'(?<!!)\(\s*"([a-z][^"]+)",', self.speed)
+        before = set(findall(r'concat!\("([^"]+)"', self.speed))
+        return rows + [first + row for row in findall(r'by!\(\s*"([^"]+)"', self.speed) for first in before]
 
     def compared(self, stops=False):
         """All differences, or those of the first check that has one."""
         checks = (
             self.functions, self.uses, self.structs, self.kinds, self.choices, self.reasons, self.texts, self.lengths,
-            self.version, self.counts,
+            self.version, self.tests, self.counts,
         )
         for check in checks:
             try:
@@ -304,80 +352,10 @@ class Interfaces:
         return self.differences
 
 
-TYPE = r"\b(?:[iu]\d+|[iu]size)\b"
-EXPORTS = r'extern "C" fn movaliren_\w+\(.*?\)\s*->\s*\w+'
-STRUCT = r"#\[repr\(C\)\].*?\n\}"
-ENUM = r"^pub enum .*?\n\}"
-# What follows in the header is there alone.
-SHARED = r"^struct movaliren_moment .*^struct movaliren_description "
-# The places of changes: a file, the parts of it, and what is changed there.
-PLACES = [
-    ("movaliren.h", r".*", r"\b(?:MOVALIREN|movaliren)_\w+(?<!MOVALIREN_H)"),
-    ("movaliren.h", r".*", r'(?<=return )"[^"]+"|(?<=\? )"[^"]+"|(?<=VERSION )"[^"]+"'),
-    ("movaliren.h", r".*", r"\bMOVALIREN_\w+ = -?\d+"),
-    ("movaliren.h", SHARED, r"(?<=_t )\w+(?=[;,)])|(?<=\*)\w+(?=[;,)])|\b\w+_t(?= \w+[;,)(])|\bconst "),
-    ("clock.cpp", r".*", r"movaliren_format_date(?=\()"),
-    ("Cargo.toml", r".*", r'(?<=^version = )"[^"]+"'),
-    ("error.rs", r".*", r'-\d+(?= =>)|(?<=Error::)\w+(?= =>|,$)|(?<!= )"[^"]+"'),
-    ("description.rs", ENUM, r"^    [A-Z]\w+(?= = )|(?<= = )\d+(?=,$)"),
-    ("config.rs", ENUM, r"^    [A-Z]\w+(?= = )|(?<= = )\d+(?=,$)"),
-    ("config.rs", r".*", r"\d+(?= \+ self\.0\.decimals)"),
-    ("known.rs", r".*", r"\d+(?= bytes;)|(?<=\[u8; )\d+"),
-    ("moment.rs", STRUCT, rf"\w+(?=: )|{TYPE}"),
-    ("raw.rs", STRUCT, rf"\w+(?=: )|{TYPE}"),
-    ("raw.rs", r"fn movaliren_\w+\(.*?;", rf"movaliren_\w+|\w+(?=: )|{TYPE}|\b[A-Z]\w+"),
-    ("reason.rt", r".*", r"(?<=Reason::)\w+(?= => -)|-\d+(?=,$)"),
-    ("item.rt", r".*", r"\d+(?= => Ok)|(?<=Ok\()(?:Component|Padding|SubsecondDigits)::\w+|(?<=Ok\()(?:true|false)"),
-    ("config.rt", r".*", r"\d+(?= => Ok)|(?<=Ok\()(?:\w+::\w+|true|false)"),
-    ("*.rt", STRUCT, rf"\w+(?=: )|{TYPE}"),
-    ("*.rt", EXPORTS, rf"movaliren_\w+|\b(?!alloc\b)\w+(?=: )|{TYPE}|\bmut |(?<=[&\[])[A-Z]\w+|Progress"),
-    ("Answer.antt", r"^reason_number [^\n]*", r"(?<=reason\.)\w+|\d+(?=\)$)"),
-    ("Items.antt", r".*", r"\d+(?= then Ok \(component)|(?<=Ok \(component\.)\w+|(?<=i\.kind == )\d+"),
-    ("*.antt", rf"^(?:{'|'.join(WIDTHS)}) = .*?$", r"\d+$"),
-]
-
-
-def changed(word):
-    """Another name, number or text; or nothing, in the place of a word with the space after it."""
-    if word.endswith(" "):
-        return ""
-    return f'{word[:-1]}7"' if word.endswith('"') else f"{word}7"
-
-
-def changes(texts):
-    """Each change: the path, where it is made, and what stands there then."""
-    for name, part, pattern in PLACES:
-        count = 0
-        for path, text in texts.items():
-            if not path.match(name):
-                continue
-            plain = code(text, path.suffix)
-            for region in re.finditer(part, plain, re.S | re.M):
-                for found in re.compile(pattern, re.M).finditer(plain, *region.span()):
-                    yield path, found.span(), changed(found[0])
-                    count += 1
-        if count == 0:
-            raise SystemExit(f"names.py: {name} has nothing of the form {pattern}")
-
-
-def try_drifts(texts):
-    seen = missed = 0
-    for path, (start, end), new in changes(texts):
-        text = texts[path]
-        if Interfaces({**texts, path: text[:start] + new + text[end:]}).compared(stops=True):
-            seen += 1
-        else:
-            missed += 1
-            line = text.count("\n", 0, start) + 1
-            print(f"{path.name}:{line}: {text[start:end]!r} as {new!r} makes no difference")
-    print(f"names: {seen} of {seen + missed} changes make a difference")
-    return missed
-
-
 def main():
     texts = read()
     if sys.argv[1:] == ["--drifts"]:
-        return try_drifts(texts) != 0
+        return drifts.missed(texts, code, lambda changed: Interfaces(changed).compared(stops=True)) != 0
     if sys.argv[1:] == ["--functions"]:
         print("\n".join(sorted(c_functions(code(texts[HEADER], ".h")))))
         return 0

@@ -1,5 +1,6 @@
-// clock NAME COUNT: this many texts by the call of that name, each from seconds since 1970 and a nanosecond,
-// over 1,000 random moments of the years 1970 to 9999. clock --names names the calls. For bindings/counts.
+// clock NAME COUNT: this many texts by the way of that name, each from seconds since 1970 and a nanosecond, over 1,000
+// random moments of the years 1970 to 9999. clock --names prints the names: those of the calls of the header, and after
+// a slash another library that writes the same text. For bindings/counts.
 #include <cstdio>
 #include <cstdlib>
 #include <cstring>
@@ -8,18 +9,34 @@
 #include <fmt/compile.h>
 #include <movaliren.h>
 
-enum { VALUES = 1000, LINE = 64 };
+enum { VALUES = 1000, LINE = 64, EAST = 3600 };
 
 static movaliren_utc_moment moments[VALUES];
 static movaliren_moment values[VALUES];
 static char room[VALUES * LINE];
 
+// Each in the order of the fields of a configuration.
 static const movaliren_iso_config milliseconds = MOVALIREN_ISO_DECIMALS(3);
 static const movaliren_iso_config microseconds = MOVALIREN_ISO_DECIMALS(6);
 static const movaliren_iso_config nanoseconds = MOVALIREN_ISO_DEFAULT;
-static movaliren_item items[11];
-static char texts[5];
+static const movaliren_iso_config seconds = MOVALIREN_ISO_DECIMALS(0);
+static const movaliren_iso_config with_comma = { 5, 0, 2, 3, 1, 1, 0, 1 };
+static const movaliren_iso_config without_separators = { 5, 0, 2, 3, 1, 0, 0, 0 };
+static const movaliren_iso_config six_digit_year = { 5, 0, 2, 3, 1, 1, 1, 0 };
+static const movaliren_iso_config date = { 1, 0, 2, 3, 1, 1, 0, 0 };
+static const movaliren_iso_config week_date = { 1, 1, 2, 3, 1, 1, 0, 0 };
+static const movaliren_iso_config ordinal_date = { 1, 2, 2, 3, 1, 1, 0, 0 };
+static const movaliren_iso_config time_of_day = { 2, 0, 2, 3, 1, 1, 0, 0 };
+static const movaliren_iso_config parts_of_minute = { 2, 0, 1, 3, 1, 1, 0, 0 };
+static const movaliren_iso_config parts_of_hour = { 2, 0, 0, 3, 1, 1, 0, 0 };
+static const movaliren_iso_config date_and_time = { 4, 0, 2, 3, 1, 1, 0, 0 };
+static const movaliren_iso_config time_and_offset = { 6, 0, 2, 3, 1, 1, 0, 0 };
+static const movaliren_iso_config offset_alone = { 3, 0, 2, 3, 1, 1, 0, 0 };
+
+static movaliren_item items[11], names[7];
+static char texts[5], name_texts[8];
 static movaliren_description line = MOVALIREN_DESCRIPTION(items, texts);
+static movaliren_description day = MOVALIREN_DESCRIPTION(names, name_texts);
 
 static uint64_t next()
 {
@@ -30,27 +47,55 @@ static uint64_t next()
     return state;
 }
 
+// Eleven items, as 2026-11-22 09:55:06.
+static void build(movaliren_description &description)
+{
+    const uint32_t kinds[] = { MOVALIREN_YEAR, MOVALIREN_MONTH, MOVALIREN_DAY, MOVALIREN_HOUR,
+        MOVALIREN_MINUTE, MOVALIREN_SECOND };
+    const char *separators[] = { "-", "-", " ", ":", ":" };
+    description.items_len = description.texts_len = 0;
+    for (int i = 0; i < 6; i++) {
+        movaliren_add(&description, kinds[i], MOVALIREN_ZERO, 0, 0);
+        if (i < 5)
+            movaliren_add_text(&description, separators[i]);
+    }
+}
+
 static void fill()
 {
     for (auto &moment : moments) {
         moment.seconds = int64_t(next() % 253402300800u);
         moment.nanosecond = uint32_t(next() % 100000000 * 10 + 1 + next() % 9);
     }
-    const uint32_t kinds[] = { MOVALIREN_YEAR, MOVALIREN_MONTH, MOVALIREN_DAY, MOVALIREN_HOUR,
-        MOVALIREN_MINUTE, MOVALIREN_SECOND };
-    const char *separators[] = { "-", "-", " ", ":", ":" };
-    for (int i = 0; i < 6; i++) {
-        movaliren_add(&line, kinds[i], MOVALIREN_ZERO, 0, 0);
-        if (i < 5)
-            movaliren_add_text(&line, separators[i]);
-    }
+    build(line);
+    // Sunday, 22 November 2026
+    movaliren_add(&day, MOVALIREN_WEEKDAY_LONG, MOVALIREN_ZERO, 0, 0);
+    movaliren_add_text(&day, ", ");
+    movaliren_add(&day, MOVALIREN_DAY, MOVALIREN_ZERO, 0, 0);
+    movaliren_add_text(&day, " ");
+    movaliren_add(&day, MOVALIREN_MONTH_LONG, MOVALIREN_ZERO, 0, 0);
+    movaliren_add_text(&day, " ");
+    movaliren_add(&day, MOVALIREN_YEAR, MOVALIREN_ZERO, 0, 0);
 }
 
-static tm parts_of(const movaliren_utc_moment &moment)
+// The number of the items, of which each second one is a literal.
+static size_t build_long(size_t count)
+{
+    static movaliren_item long_items[16000];
+    static char long_texts[16000];
+    movaliren_description description = MOVALIREN_DESCRIPTION(long_items, long_texts);
+    while (description.items_len < count) {
+        movaliren_add(&description, MOVALIREN_DAY, MOVALIREN_ZERO, 0, 0);
+        movaliren_add_text(&description, ", ");
+    }
+    return description.items_len;
+}
+
+static tm parts_of(const movaliren_utc_moment &moment, int64_t east = 0)
 {
     tm parts;
-    const time_t seconds = moment.seconds;
-    gmtime_r(&seconds, &parts);
+    const time_t local = moment.seconds + east;
+    gmtime_r(&local, &parts);
     return parts;
 }
 
@@ -76,126 +121,221 @@ static const movaliren_moment *all_values()
     return values;
 }
 
-typedef long one(const movaliren_utc_moment &moment);
-typedef movaliren_progress many();
+// ---- other libraries
 
-#define NOW moment.seconds, moment.nanosecond
-#define PARTS &values[&moment - moments]
-#define ONE(call) [](const movaliren_utc_moment &moment) -> long { return long(call); }
-#define MANY(call) []() -> movaliren_progress { return call; }
-#define ALL(values) values, VALUES, '\n', room, sizeof room
-
-// The text of the time, and this many decimals after it.
-static long strftime_decimals(const movaliren_utc_moment &moment, const char *format, const char *decimals, int divisor)
+// The text of the time, and then the decimals, if there is a divisor.
+static long by_strftime(
+    const movaliren_utc_moment &moment, int64_t east, const char *time, const char *rest, int divisor)
 {
-    const tm parts = parts_of(moment);
-    const size_t n = strftime(room, LINE, format, &parts);
-    return long(n) + snprintf(room + n, LINE - n, decimals, moment.nanosecond / divisor);
+    const tm parts = parts_of(moment, east);
+    const size_t n = strftime(room, LINE, time, &parts);
+    return long(n) + (divisor ? snprintf(room + n, LINE - n, rest, moment.nanosecond / divisor) : 0);
 }
 
-static long snprintf_parts(const movaliren_utc_moment &moment, const char *format, int divisor)
+static long by_snprintf(const movaliren_utc_moment &moment, int64_t east, const char *format, int divisor)
 {
-    const tm p = parts_of(moment);
+    const tm p = parts_of(moment, east);
     return snprintf(room, LINE, format, p.tm_year + 1900, p.tm_mon + 1, p.tm_mday, p.tm_hour, p.tm_min, p.tm_sec,
         moment.nanosecond / divisor);
 }
 
+static long time_by_snprintf(const movaliren_utc_moment &moment, const char *format)
+{
+    const tm p = parts_of(moment);
+    return snprintf(room, LINE, format, p.tm_hour, p.tm_min, p.tm_sec, moment.nanosecond / 1000000);
+}
+
+static const char *const weekdays[] = { "Sunday", "Monday", "Tuesday", "Wednesday", "Thursday", "Friday", "Saturday" };
+static const char *const months[] = { "January", "February", "March", "April", "May", "June", "July", "August",
+    "September", "October", "November", "December" };
+
+static long mail_by_snprintf(const movaliren_utc_moment &moment, int64_t east, const char *offset)
+{
+    const tm p = parts_of(moment, east);
+    return snprintf(room, LINE, "%.3s, %02d %.3s %d %02d:%02d:%02d %s", weekdays[p.tm_wday], p.tm_mday,
+        months[p.tm_mon], p.tm_year + 1900, p.tm_hour, p.tm_min, p.tm_sec, offset);
+}
+
+static long names_by_snprintf(const movaliren_utc_moment &moment)
+{
+    const tm p = parts_of(moment);
+    return snprintf(
+        room, LINE, "%s, %02d %s %d", weekdays[p.tm_wday], p.tm_mday, months[p.tm_mon], p.tm_year + 1900);
+}
+
+// ---- the ways
+
+typedef long one(const movaliren_utc_moment &moment);
+typedef movaliren_progress many();
+
+#define NOW moment.seconds, moment.nanosecond
+#define ONE(call) [](const movaliren_utc_moment &moment) -> long { return long(call); }
+#define MANY(call) []() -> movaliren_progress { return call; }
+#define OUT room, LINE
+#define ALL_UTC moments, VALUES
+#define ALL_PARTS all_values(), VALUES
+#define ALL_OUT '\n', room, sizeof room
+
+// By the parts that gmtime_r gives.
+#define BY_PARTS(call)                                                                                                 \
+    [](const movaliren_utc_moment &moment) -> long {                                                                   \
+        const movaliren_moment value = value_of(moment);                                                               \
+        return long(call);                                                                                             \
+    }
+
 #define FMT_SIZE(...) (fmt::format_to(room, __VA_ARGS__) - room)
-#define MAIL "%a, %d %b %Y %H:%M:%S +0000"
-#define CLOCK "%Y-%m-%dT%H:%M:%S"
-#define SPACED "%Y-%m-%d %H:%M:%S"
+
+// The same text by strftime, and by {fmt}: of a moment so far east, a date and time and nothing after it.
+#define NO_DECIMALS(row, east, time)                                                                                   \
+    { row "/strftime", ONE(by_strftime(moment, east, time, "", 0)), 0 },                                               \
+        { row "/fmt", ONE(FMT_SIZE(FMT_COMPILE("{:" time "}"), fmt::gmtime(moment.seconds + east))), 0 }
+
+// A time, and after it decimals of these digits and a divisor, with the sign before and the offset behind.
+#define DECIMALS(row, east, time, sign, digits, divisor, offset)                                                       \
+    { row "/strftime", ONE(by_strftime(moment, east, time, sign "%" digits "u" offset, divisor)), 0 },                 \
+        { row "/fmt", ONE(FMT_SIZE(FMT_COMPILE("{:" time "}" sign "{:" digits "}" offset),                             \
+                          fmt::gmtime(moment.seconds + east), moment.nanosecond / divisor)), 0 }
+
+// The same, and snprintf of the parts of gmtime_r.
+#define DATE_AND_DECIMALS(row, east, time, printed, sign, digits, divisor, offset)                                     \
+    DECIMALS(row, east, time, sign, digits, divisor, offset),                                                          \
+        { row "/snprintf", ONE(by_snprintf(moment, east, printed sign "%" digits "u" offset, divisor)), 0 }
+
+#define DATE "%Y-%m-%d"
+#define CLOCK "%H:%M:%S"
+#define BOTH DATE "T" CLOCK
+#define PRINTED "%d-%02d-%02dT%02d:%02d:%02d"
+#define PRINTED_CLOCK "%02d:%02d:%02d"
+#define MAIL "%a, %d %b %Y " CLOCK
+#define NINE(row, east, offset) DATE_AND_DECIMALS(row, east, BOTH, PRINTED, ".", "09", 1, offset)
+#define THREE(row) DATE_AND_DECIMALS(row, 0, BOTH, PRINTED, ".", "03", 1000000, "Z")
 
 static const struct {
     const char *name;
     one *write;
     many *batch;
-} calls[] = {
+} ways[] = {
     { "none", ONE(moment.nanosecond), 0 },
-    { "rfc3339", ONE(movaliren_rfc3339_utc(NOW, room, LINE)), 0 },
-    { "rfc3339_local", ONE(movaliren_rfc3339_local(NOW, 3600, room, LINE)), 0 },
-    { "rfc3339_batch", 0, MANY(movaliren_rfc3339_utc_batch(ALL(moments))) },
-    { "rfc3339_local batch", 0, MANY(movaliren_rfc3339_local_batch(moments, VALUES, 3600, '\n', room, sizeof room)) },
-    { "rfc3339_gmtime batch", 0, MANY(movaliren_rfc3339_batch(ALL(all_values()))) },
-    { "rfc3339_gmtime", [](const movaliren_utc_moment &moment) -> long {
-        const movaliren_moment value = value_of(moment);
-        return movaliren_rfc3339(&value, room, LINE); }, 0 },
-    { "rfc3339_strftime", ONE(strftime_decimals(moment, CLOCK, ".%09uZ", 1)), 0 },
-    { "rfc3339_snprintf", ONE(snprintf_parts(moment, "%d-%02d-%02dT%02d:%02d:%02d.%09uZ", 1)), 0 },
-    { "rfc3339_fmt", ONE(FMT_SIZE(FMT_COMPILE("{:" CLOCK "}.{:09}Z"), fmt::gmtime(moment.seconds), moment.nanosecond)), 0 },
-    { "rfc2822", ONE(movaliren_rfc2822_utc(NOW, room, LINE)), 0 },
-    { "rfc2822_local", ONE(movaliren_rfc2822_local(NOW, 3600, room, LINE)), 0 },
-    { "rfc2822_batch", 0, MANY(movaliren_rfc2822_utc_batch(ALL(moments))) },
-    { "rfc2822_local batch", 0, MANY(movaliren_rfc2822_local_batch(moments, VALUES, 3600, '\n', room, sizeof room)) },
-    { "rfc2822_gmtime batch", 0, MANY(movaliren_rfc2822_batch(ALL(all_values()))) },
-    { "rfc2822_gmtime", [](const movaliren_utc_moment &moment) -> long {
-        const movaliren_moment value = value_of(moment);
-        return movaliren_rfc2822(&value, room, LINE); }, 0 },
-    { "rfc2822_strftime", [](const movaliren_utc_moment &moment) -> long {
-        const tm parts = parts_of(moment);
-        return long(strftime(room, LINE, MAIL, &parts)); }, 0 },
-    { "rfc2822_fmt", ONE(FMT_SIZE(FMT_COMPILE("{:" MAIL "}"), fmt::gmtime(moment.seconds))), 0 },
-    { "iso8601", ONE(movaliren_iso8601_utc(NOW, room, LINE)), 0 },
-    { "iso8601_parts", ONE(movaliren_iso8601(PARTS, room, LINE)), 0 },
-    { "iso8601_batch", 0, MANY(movaliren_iso8601_utc_batch(ALL(moments))) },
-    { "iso8601_gmtime batch", 0, MANY(movaliren_iso8601_batch(ALL(all_values()))) },
-    { "iso8601_gmtime", [](const movaliren_utc_moment &moment) -> long {
-        const movaliren_moment value = value_of(moment);
-        return movaliren_iso8601(&value, room, LINE); }, 0 },
-    { "stamp", ONE(movaliren_stamp(NOW, room, LINE)), 0 },
-    { "stamp_batch", 0, MANY(movaliren_stamp_batch(ALL(moments))) },
-    { "milliseconds", ONE(movaliren_iso8601_by_utc(&milliseconds, NOW, room, LINE)), 0 },
-    { "microseconds", ONE(movaliren_iso8601_by_utc(&microseconds, NOW, room, LINE)), 0 },
-    { "nanoseconds", ONE(movaliren_iso8601_by_utc(&nanoseconds, NOW, room, LINE)), 0 },
-    { "nanoseconds_parts", ONE(movaliren_iso8601_by(&nanoseconds, PARTS, room, LINE)), 0 },
-    { "milliseconds_parts", ONE(movaliren_iso8601_by(&milliseconds, PARTS, room, LINE)), 0 },
-    { "milliseconds_batch", 0,
-        MANY(movaliren_iso8601_by_utc_batch(&milliseconds, ALL(moments))) },
-    { "milliseconds_gmtime batch", 0, MANY(movaliren_iso8601_by_batch(&milliseconds, ALL(all_values()))) },
-    { "milliseconds_gmtime", [](const movaliren_utc_moment &moment) -> long {
-        const movaliren_moment value = value_of(moment);
-        return movaliren_iso8601_by(&milliseconds, &value, room, LINE); }, 0 },
-    { "milliseconds_strftime", ONE(strftime_decimals(moment, CLOCK, ".%03uZ", 1000000)), 0 },
-    { "milliseconds_snprintf", ONE(snprintf_parts(moment, "%d-%02d-%02dT%02d:%02d:%02d.%03uZ", 1000000)), 0 },
-    { "milliseconds_fmt", ONE(FMT_SIZE(FMT_COMPILE("{:" CLOCK "}.{:03}Z"), fmt::gmtime(moment.seconds),
-        moment.nanosecond / 1000000)), 0 },
-    { "description", ONE(movaliren_format_utc(items, 11, texts, 5, NOW, room, LINE)), 0 },
-    { "description_gmtime", [](const movaliren_utc_moment &moment) -> long {
-        const movaliren_moment value = value_of(moment);
-        return movaliren_format(items, 11, texts, 5, &value, room, LINE); }, 0 },
-    { "description_strftime", [](const movaliren_utc_moment &moment) -> long {
-        const tm parts = parts_of(moment);
-        return long(strftime(room, LINE, SPACED, &parts)); }, 0 },
-    { "description_snprintf", ONE(snprintf_parts(moment, "%d-%02d-%02d %02d:%02d:%02d", 1)), 0 },
-    { "description_fmt", ONE(FMT_SIZE(FMT_COMPILE("{:" SPACED "}"), fmt::gmtime(moment.seconds))), 0 },
-    { "date_gmtime", [](const movaliren_utc_moment &moment) -> long {
-        const tm p = parts_of(moment);
-        return movaliren_format_date(
-            items, 5, texts, 5, p.tm_year + 1900, uint8_t(p.tm_mon + 1), uint8_t(p.tm_mday), room, LINE); }, 0 },
-    { "date_strftime", [](const movaliren_utc_moment &moment) -> long {
-        const tm parts = parts_of(moment);
-        return long(strftime(room, LINE, "%Y-%m-%d", &parts)); }, 0 },
-    { "date_snprintf", ONE(snprintf_parts(moment, "%d-%02d-%02d", 1)), 0 },
-    { "date_fmt", ONE(FMT_SIZE(FMT_COMPILE("{:%Y-%m-%d}"), fmt::gmtime(moment.seconds))), 0 },
-    { "width", ONE(movaliren_width(items, 11, texts, 5)), 0 },
+    { "gmtime_r", ONE(parts_of(moment).tm_sec), 0 },
+
+    { "rfc3339_utc", ONE(movaliren_rfc3339_utc(NOW, OUT)), 0 },
+    NINE("rfc3339_utc", 0, "Z"),
+    { "rfc3339_local", ONE(movaliren_rfc3339_local(NOW, EAST, OUT)), 0 },
+    NINE("rfc3339_local", EAST, "+01:00"),
+    { "rfc3339", BY_PARTS(movaliren_rfc3339(&value, OUT)), 0 },
+    NINE("rfc3339", 0, "Z"),
+    { "rfc3339_utc_batch", 0, MANY(movaliren_rfc3339_utc_batch(ALL_UTC, ALL_OUT)) },
+    { "rfc3339_local_batch", 0, MANY(movaliren_rfc3339_local_batch(ALL_UTC, EAST, ALL_OUT)) },
+    { "rfc3339_batch", 0, MANY(movaliren_rfc3339_batch(ALL_PARTS, ALL_OUT)) },
+
+    { "rfc2822_utc", ONE(movaliren_rfc2822_utc(NOW, OUT)), 0 },
+    NO_DECIMALS("rfc2822_utc", 0, MAIL " +0000"),
+    { "rfc2822_utc/snprintf", ONE(mail_by_snprintf(moment, 0, "+0000")), 0 },
+    { "rfc2822_local", ONE(movaliren_rfc2822_local(NOW, EAST, OUT)), 0 },
+    NO_DECIMALS("rfc2822_local", EAST, MAIL " +0100"),
+    { "rfc2822_local/snprintf", ONE(mail_by_snprintf(moment, EAST, "+0100")), 0 },
+    { "rfc2822", BY_PARTS(movaliren_rfc2822(&value, OUT)), 0 },
+    NO_DECIMALS("rfc2822", 0, MAIL " +0000"),
+    { "rfc2822/snprintf", ONE(mail_by_snprintf(moment, 0, "+0000")), 0 },
+    { "rfc2822_utc_batch", 0, MANY(movaliren_rfc2822_utc_batch(ALL_UTC, ALL_OUT)) },
+    { "rfc2822_local_batch", 0, MANY(movaliren_rfc2822_local_batch(ALL_UTC, EAST, ALL_OUT)) },
+    { "rfc2822_batch", 0, MANY(movaliren_rfc2822_batch(ALL_PARTS, ALL_OUT)) },
+
+    { "stamp", ONE(movaliren_stamp(NOW, OUT)), 0 },
+    NINE("stamp", 0, "Z"),
+    { "stamp_batch", 0, MANY(movaliren_stamp_batch(ALL_UTC, ALL_OUT)) },
+    { "iso8601_utc", ONE(movaliren_iso8601_utc(NOW, OUT)), 0 },
+    NINE("iso8601_utc", 0, "Z"),
+    { "iso8601", BY_PARTS(movaliren_iso8601(&value, OUT)), 0 },
+    NINE("iso8601", 0, "Z"),
+    { "iso8601_utc_batch", 0, MANY(movaliren_iso8601_utc_batch(ALL_UTC, ALL_OUT)) },
+    { "iso8601_batch", 0, MANY(movaliren_iso8601_batch(ALL_PARTS, ALL_OUT)) },
+
+    { "iso8601_by_utc:three-decimals", ONE(movaliren_iso8601_by_utc(&milliseconds, NOW, OUT)), 0 },
+    THREE("iso8601_by_utc:three-decimals"),
+    { "iso8601_by_utc:six-decimals", ONE(movaliren_iso8601_by_utc(&microseconds, NOW, OUT)), 0 },
+    DATE_AND_DECIMALS("iso8601_by_utc:six-decimals", 0, BOTH, PRINTED, ".", "06", 1000, "Z"),
+    { "iso8601_by_utc:nine-decimals", ONE(movaliren_iso8601_by_utc(&nanoseconds, NOW, OUT)), 0 },
+    NINE("iso8601_by_utc:nine-decimals", 0, "Z"),
+    { "iso8601_by_utc:no-decimals", ONE(movaliren_iso8601_by_utc(&seconds, NOW, OUT)), 0 },
+    NO_DECIMALS("iso8601_by_utc:no-decimals", 0, BOTH "Z"),
+    { "iso8601_by_utc:no-decimals/snprintf", ONE(by_snprintf(moment, 0, PRINTED "Z", 1)), 0 },
+    { "iso8601_by_utc:comma", ONE(movaliren_iso8601_by_utc(&with_comma, NOW, OUT)), 0 },
+    DATE_AND_DECIMALS("iso8601_by_utc:comma", 0, BOTH, PRINTED, ",", "03", 1000000, "Z"),
+    { "iso8601_by_utc:no-separators", ONE(movaliren_iso8601_by_utc(&without_separators, NOW, OUT)), 0 },
+    DATE_AND_DECIMALS("iso8601_by_utc:no-separators", 0, "%Y%m%dT%H%M%S", "%d%02d%02dT%02d%02d%02d", ".", "03",
+        1000000, "Z"),
+    { "iso8601_by_utc:six-digit-year", ONE(movaliren_iso8601_by_utc(&six_digit_year, NOW, OUT)), 0 },
+    DATE_AND_DECIMALS("iso8601_by_utc:six-digit-year", 0, "+00" BOTH, "+00" PRINTED, ".", "03", 1000000, "Z"),
+    { "iso8601_by_utc:date", ONE(movaliren_iso8601_by_utc(&date, NOW, OUT)), 0 },
+    NO_DECIMALS("iso8601_by_utc:date", 0, DATE),
+    { "iso8601_by_utc:date/snprintf", ONE(by_snprintf(moment, 0, "%d-%02d-%02d", 1)), 0 },
+    { "iso8601_by_utc:week-date", ONE(movaliren_iso8601_by_utc(&week_date, NOW, OUT)), 0 },
+    NO_DECIMALS("iso8601_by_utc:week-date", 0, "%G-W%V-%u"),
+    { "iso8601_by_utc:day-of-year", ONE(movaliren_iso8601_by_utc(&ordinal_date, NOW, OUT)), 0 },
+    NO_DECIMALS("iso8601_by_utc:day-of-year", 0, "%Y-%j"),
+    { "iso8601_by_utc:time", ONE(movaliren_iso8601_by_utc(&time_of_day, NOW, OUT)), 0 },
+    DECIMALS("iso8601_by_utc:time", 0, CLOCK, ".", "03", 1000000, ""),
+    { "iso8601_by_utc:time/snprintf", ONE(time_by_snprintf(moment, PRINTED_CLOCK ".%03u")), 0 },
+    { "iso8601_by_utc:minutes", ONE(movaliren_iso8601_by_utc(&parts_of_minute, NOW, OUT)), 0 },
+    { "iso8601_by_utc:hours", ONE(movaliren_iso8601_by_utc(&parts_of_hour, NOW, OUT)), 0 },
+    { "iso8601_by_utc:date-time", ONE(movaliren_iso8601_by_utc(&date_and_time, NOW, OUT)), 0 },
+    DATE_AND_DECIMALS("iso8601_by_utc:date-time", 0, BOTH, PRINTED, ".", "03", 1000000, ""),
+    { "iso8601_by_utc:time-offset", ONE(movaliren_iso8601_by_utc(&time_and_offset, NOW, OUT)), 0 },
+    DECIMALS("iso8601_by_utc:time-offset", 0, CLOCK, ".", "03", 1000000, "Z"),
+    { "iso8601_by_utc:time-offset/snprintf", ONE(time_by_snprintf(moment, PRINTED_CLOCK ".%03uZ")), 0 },
+    { "iso8601_by_utc:offset", ONE(movaliren_iso8601_by_utc(&offset_alone, NOW, OUT)), 0 },
+    { "iso8601_by:three-decimals", BY_PARTS(movaliren_iso8601_by(&milliseconds, &value, OUT)), 0 },
+    THREE("iso8601_by:three-decimals"),
+    { "iso8601_by_utc_batch:three-decimals", 0,
+        MANY(movaliren_iso8601_by_utc_batch(&milliseconds, ALL_UTC, ALL_OUT)) },
+    { "iso8601_by_batch:three-decimals", 0, MANY(movaliren_iso8601_by_batch(&milliseconds, ALL_PARTS, ALL_OUT)) },
+
+    { "format_utc:11-items", ONE(movaliren_format_utc(items, 11, texts, 5, NOW, OUT)), 0 },
+    NO_DECIMALS("format_utc:11-items", 0, DATE " " CLOCK),
+    { "format_utc:11-items/snprintf", ONE(by_snprintf(moment, 0, "%d-%02d-%02d " PRINTED_CLOCK, 1)), 0 },
+    { "format:11-items", BY_PARTS(movaliren_format(items, 11, texts, 5, &value, OUT)), 0 },
+    NO_DECIMALS("format:11-items", 0, DATE " " CLOCK),
+    { "format:11-items/snprintf", ONE(by_snprintf(moment, 0, "%d-%02d-%02d " PRINTED_CLOCK, 1)), 0 },
+    { "format_date:5-items",
+        BY_PARTS(movaliren_format_date(items, 5, texts, 5, value.year, value.month, value.day, OUT)), 0 },
+    NO_DECIMALS("format_date:5-items", 0, DATE),
+    { "format_date:5-items/snprintf", ONE(by_snprintf(moment, 0, "%d-%02d-%02d", 1)), 0 },
+    { "format_utc:names", ONE(movaliren_format_utc(names, 7, name_texts, 4, NOW, OUT)), 0 },
+    NO_DECIMALS("format_utc:names", 0, "%A, %d %B %Y"),
+    { "format_utc:names/snprintf", ONE(names_by_snprintf(moment)), 0 },
+    { "format:names", BY_PARTS(movaliren_format(names, 7, name_texts, 4, &value, OUT)), 0 },
+    NO_DECIMALS("format:names", 0, "%A, %d %B %Y"),
+    { "format:names/snprintf", ONE(names_by_snprintf(moment)), 0 },
+    { "format_date:names",
+        BY_PARTS(movaliren_format_date(names, 7, name_texts, 4, value.year, value.month, value.day, OUT)), 0 },
+    NO_DECIMALS("format_date:names", 0, "%A, %d %B %Y"),
+    { "format_date:names/snprintf", ONE(names_by_snprintf(moment)), 0 },
+    { "width:11-items", ONE(movaliren_width(items, 11, texts, 5)), 0 },
+    { "width:names", ONE(movaliren_width(names, 7, name_texts, 4)), 0 },
+    { "building:11-items", ONE((build(line), moment.nanosecond)), 0 },
+    { "building:8000-items", ONE(build_long(8000)), 0 },
+    { "building:16000-items", ONE(build_long(16000)), 0 },
 };
 
 int main(int argc, char **argv)
 {
     if (argc == 2 && !strcmp(argv[1], "--names"))
-        for (const auto &call : calls)
-            puts(call.name);
+        for (const auto &way : ways)
+            puts(way.name);
     if (argc < 3)
         return argc != 2;
     fill();
     all_values();
     long sum = 0, count = atol(argv[2]);
-    for (const auto &call : calls)
-        if (!strcmp(argv[1], call.name)) {
-            for (long i = 0; call.write && i < count; i++)
-                sum += call.write(moments[i % VALUES]);
-            for (long i = 0; call.batch && i < count; i += VALUES)
-                sum += long(call.batch().bytes);
+    for (const auto &way : ways)
+        if (!strcmp(argv[1], way.name)) {
+            for (long i = 0; way.write && i < count; i++)
+                sum += way.write(moments[i % VALUES]);
+            for (long i = 0; way.batch && i < count; i += VALUES)
+                sum += long(way.batch().bytes);
         }
-    printf("%s: %ld bytes, the last %.*s\n", argv[1], sum, 40, room);
+    // Of COUNT 1 this is the text.
+    printf("%s: %ld bytes, the last %.*s\n", argv[1], sum, int(strcspn(room, "\n")), room);
     return 0;
 }

@@ -258,6 +258,31 @@ static void try_building(void)
             }
 }
 
+enum { MANY = 16000 };
+
+/* Each item of a long description is written, and so is the width of all of them. */
+static void try_many_items(void)
+{
+    static struct movaliren_item items[MANY];
+    static char texts[MANY], room[2 * MANY];
+    struct movaliren_description line = MOVALIREN_DESCRIPTION(items, texts);
+    for (int i = 0; i < MANY / 2; i++) {
+        movaliren_add(&line, i % 2 ? MOVALIREN_DAY : MOVALIREN_MONTH, MOVALIREN_ZERO, 0, 0);
+        movaliren_add_text(&line, i % 2 ? ", " : "/");
+    }
+    const size_t len = MANY / 4 * strlen("11/02, ");
+    int is_right = !line.reason && line.items_len == MANY && line.texts_len == MANY / 4 * 3
+        && movaliren_width(items, MANY, texts, line.texts_len) == (ptrdiff_t)len
+        && movaliren_format_date(items, MANY, texts, line.texts_len, 1997, 11, 2, room, len)
+            == (ptrdiff_t)len;
+    for (size_t at = 0; at < len; at += strlen("11/02, "))
+        is_right = is_right && !memcmp(room + at, "11/02, ", strlen("11/02, "));
+    if (!is_right) {
+        failures++;
+        puts("a description of many items is wrong");
+    }
+}
+
 /* Each choice of an item that is added is its own. */
 static void try_choices(void)
 {
@@ -295,6 +320,7 @@ int main(void)
     try_the_empty_description();
     try_widths();
     try_building();
+    try_many_items();
     try_choices();
     try_error_texts();
     printf("descriptions: %d wrong\n", failures);

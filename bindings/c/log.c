@@ -6,20 +6,16 @@
 #include <stdio.h>
 #include <time.h>
 
-static const struct movaliren_iso_config milliseconds = MOVALIREN_ISO_DECIMALS(3);
-
 static void *work(void *name)
 {
-    char stamp[MOVALIREN_ISO8601_ROOM];
-    for (int line = 0; line < 3; line++) {
-        struct timespec now;
-        clock_gettime(CLOCK_REALTIME, &now);
+    static const struct movaliren_iso_config milliseconds = MOVALIREN_ISO_DECIMALS(3);
+    char stamp[MOVALIREN_ISO8601_ROOM + 1];
+    struct timespec now;
+    for (int line = 0; line < 3 && clock_gettime(CLOCK_REALTIME, &now) == 0; line++) {
         ptrdiff_t n = movaliren_iso8601_by_utc(
-            &milliseconds, now.tv_sec, now.tv_nsec, stamp, sizeof stamp);
-        if (n < 0)
-            fprintf(stderr, "%s\n", movaliren_error_text(n));
-        else
-            printf("%.*s %s line %d\n", (int)n, stamp, (const char *)name, line);
+            &milliseconds, now.tv_sec, now.tv_nsec, stamp, MOVALIREN_ISO8601_ROOM);
+        stamp[n < 0 ? 0 : n] = 0;
+        printf("%s %s line %d\n", n < 0 ? movaliren_error_text(n) : stamp, (char *)name, line);
     }
     return 0;
 }
@@ -33,5 +29,4 @@ int main(void)
             return 1;
     for (int i = 0; i < 8; i++)
         pthread_join(threads[i], 0);
-    return 0;
 }

@@ -3,23 +3,18 @@
 #include <chrono>
 #include <iostream>
 #include <movaliren.h>
-#include <sstream>
-#include <stdexcept>
 #include <string>
 #include <thread>
 #include <vector>
 
 static std::string stamp(std::chrono::system_clock::time_point now)
 {
-    using namespace std::chrono;
-    static const movaliren_iso_config milliseconds_of = MOVALIREN_ISO_DECIMALS(3);
-    const auto since = duration_cast<nanoseconds>(now.time_since_epoch()).count();
+    static const movaliren_iso_config milliseconds = MOVALIREN_ISO_DECIMALS(3);
+    const std::chrono::nanoseconds since = now.time_since_epoch();
+    const auto seconds = since.count() / 1000000000, nanosecond = since.count() % 1000000000;
     char text[MOVALIREN_ISO8601_ROOM];
-    const auto n = movaliren_iso8601_by_utc(
-        &milliseconds_of, since / 1000000000, since % 1000000000, text, sizeof text);
-    if (n < 0)
-        throw std::runtime_error(movaliren_error_text(n));
-    return std::string(text, n);
+    const auto n = movaliren_iso8601_by_utc(&milliseconds, seconds, nanosecond, text, sizeof text);
+    return n < 0 ? movaliren_error_text(n) : std::string(text, n);
 }
 
 int main()
@@ -27,11 +22,8 @@ int main()
     std::vector<std::thread> threads;
     for (char name = 'a'; name <= 'h'; name++)
         threads.emplace_back([name] {
-            for (int line = 0; line < 3; line++) {
-                std::ostringstream text;
-                text << stamp(std::chrono::system_clock::now()) << ' ' << name << " line " << line << '\n';
-                std::cout << text.str();
-            }
+            for (char line = '0'; line < '3'; line++)
+                std::cout << stamp(std::chrono::system_clock::now()) + ' ' + name + " line " + line + '\n';
         });
     for (auto &thread : threads)
         thread.join();

@@ -1,5 +1,6 @@
 /* Moments as text, by Movaliren's proved formatter. For Linux on x86-64 processors of the level
- * x86-64-v2 or above.
+ * x86-64-v2 or above. pkg-config --cflags --libs movaliren prints the flags of an installed library.
+ * Between -Wl,-Bstatic and -Wl,-Bdynamic they link the static one.
  *
  *     char line[MOVALIREN_RFC3339_ROOM + 1];
  *     ptrdiff_t n = movaliren_rfc3339_utc(now.tv_sec, now.tv_nsec, line, MOVALIREN_RFC3339_ROOM);
@@ -10,14 +11,15 @@
  *
  * Each call returns the number of bytes that it wrote to the start of the buffer `room`. These are the
  * whole text, without a zero at the end; the bytes after them are unchanged. Or it returns a negative
- * movaliren_error, and the buffer is unchanged. A call reads its arguments, keeps nothing and prints
- * nothing. Calls of different threads need no lock.
+ * movaliren_error, and the buffer is unchanged. A number out of its range is an error, and is never
+ * changed to one in range. A call reads its arguments, keeps nothing and prints nothing. Threads may
+ * call at the same time without a lock.
  *
- * Only movaliren_format, movaliren_format_utc and movaliren_format_date allocate: once, freed before
- * they return. They may not be called from a signal handler, nor in the forked child of a process with
- * threads. They allocate through two symbols, which the library defines by malloc and free. A program
- * that links the static library may define both itself. is_there is 1, or 0 if out of memory, and block
- * is never null:
+ * Only movaliren_format, movaliren_format_utc and movaliren_format_date allocate: at most once, freed
+ * before they return. They may not be called from a signal handler, nor in the forked child of a
+ * process with threads. They allocate through two symbols, which the library defines by malloc and
+ * free. A program that links the static library may define both itself. is_there is 1, or 0 if out of
+ * memory, and block is never null:
  *
  *     struct { uint64_t is_there; void *block; } rattle_alloc(size_t size, size_t alignment);
  *     void rattle_dealloc(void *block);
@@ -118,8 +120,8 @@ static inline const char *movaliren_error_text(ptrdiff_t reason)
     }
 }
 
-/* A buffer of this many bytes is large enough for any configuration. One byte more has space for a
- * zero after the text. */
+/* A buffer of this many bytes is large enough for any value and any configuration. One byte more has
+ * space for a zero after the text. */
 enum {
     MOVALIREN_RFC3339_ROOM = 35,
     MOVALIREN_RFC2822_ROOM = 31,
@@ -133,29 +135,41 @@ enum {
 /* A local date and time, and its offset from UTC. Where the signs of the offset's parts differ, the
  * largest part that is not zero decides. Parts are tested in the order date, time, offset. */
 struct movaliren_moment {
-    int32_t year;
-    uint32_t nanosecond;
-    uint8_t month; /* 1 to 12 */
-    uint8_t day;   /* 1 to 31 */
-    uint8_t hour;
-    uint8_t minute;
-    uint8_t second;
-    int8_t offset_hours;
-    int8_t offset_minutes;
-    int8_t offset_seconds;
+    int32_t year;          /* -999999 to 999999 */
+    uint32_t nanosecond;   /* 0 to 999999999 */
+    uint8_t month;         /* 1 to 12 */
+    uint8_t day;           /* 1 to the last day of the month */
+    uint8_t hour;          /* 0 to 23 */
+    uint8_t minute;        /* 0 to 59 */
+    uint8_t second;        /* 0 to 59: a leap second is an error */
+    int8_t offset_hours;   /* -25 to 25 */
+    int8_t offset_minutes; /* -59 to 59 */
+    int8_t offset_seconds; /* -59 to 59 */
 };
 
-/* The seconds since 1970-01-01T00:00:00 UTC, and the nanosecond counted forward from there. */
+/* The seconds since 1970-01-01T00:00:00 UTC without leap seconds, of the years -999999 to 999999, and
+ * the nanosecond, 0 to 999999999, counted forward from there: half a second before 1970 is -1 and
+ * 500000000. */
 struct movaliren_utc_moment {
     int64_t seconds;
     uint32_t nanosecond;
 };
 
-/* RFC 3339, as 1985-04-12T23:20:50.52Z. */
+/* A format represents these moments. Of any other the first that it cannot represent is the error:
+ * MOVALIREN_ERROR_NO_PLACE_FOR_YEAR, _OFFSET_HOUR or _OFFSET_SECOND, in this order.
+ *
+ *               years           offsets
+ *     RFC 3339  0 to 9999       whole minutes, less than 24 hours either way
+ *     RFC 2822  1900 to 9999    whole minutes
+ *     ISO 8601  0 to 9999       whole minutes (by default)
+ *     a stamp   0 to 9999       UTC alone */
+
+/* RFC 3339, as 1985-04-12T23:20:50.52Z. The decimals are as many as are needed, and none for a whole
+ * second. */
 ptrdiff_t movaliren_rfc3339(
     const struct movaliren_moment *moment, void *room, size_t room_len);
 
-/* RFC 2822, as Fri, 21 Nov 1997 09:55:06 -0600. */
+/* RFC 2822, as Fri, 21 Nov 1997 09:55:06 -0600. The nanosecond is not written. */
 ptrdiff_t movaliren_rfc2822(
     const struct movaliren_moment *moment, void *room, size_t room_len);
 
@@ -190,15 +204,16 @@ enum movaliren_precision {
     MOVALIREN_ISO_SECOND = 2
 };
 
+/* Another number than these is MOVALIREN_ERROR_BAD_CONFIG. */
 struct movaliren_iso_config {
     uint8_t components;         /* movaliren_components */
     uint8_t date_kind;          /* movaliren_date_kind */
-    uint8_t time_precision;     /* movaliren_precision */
-    uint8_t decimals;           /* of the last part of the time: 0 for none, or 1 to 255 */
-    uint8_t offset_precision;   /* MOVALIREN_ISO_HOUR or MOVALIREN_ISO_MINUTE */
-    uint8_t use_separators;     /* 0 or 1, as the two below */
-    uint8_t year_is_six_digits; /* with a sign */
-    uint8_t comma;              /* before the decimals, in place of a point */
+    uint8_t time_precision;     /* movaliren_precision: the last part of the time */
+    uint8_t decimals;           /* of that part, not rounded: 0 for none, or 1 to 255 */
+    uint8_t offset_precision;   /* MOVALIREN_ISO_MINUTE, or MOVALIREN_ISO_HOUR for whole hours alone */
+    uint8_t use_separators;     /* 0 or 1 */
+    uint8_t year_is_six_digits; /* 0 for the years 0 to 9999, 1 for a sign and six digits */
+    uint8_t comma;              /* before the decimals: 0 for a point, 1 for a comma */
 };
 
 /* The configuration of movaliren_iso8601 with another number of decimals, as an initialiser: with 3 it
@@ -277,59 +292,112 @@ struct movaliren_progress movaliren_rfc2822_local_batch(const struct movaliren_u
 
 /* ---- descriptions */
 
+/* What an item writes. The choices that its kind uses stand in brackets. */
 enum movaliren_kind {
-    MOVALIREN_TEXT = 0, /* len bytes of the texts, from start on */
-    MOVALIREN_DAY = 1,  /* padding */
+    /* len bytes of the texts, from start on */
+    MOVALIREN_TEXT = 0,
+    /* The day of the month, 1 to 31, in two places. [padding] */
+    MOVALIREN_DAY = 1,
+    /* The first three letters of the month's English name. */
     MOVALIREN_MONTH_SHORT = 2,
+    /* The month's English name, at most nine letters. */
     MOVALIREN_MONTH_LONG = 3,
-    MOVALIREN_MONTH = 4,   /* padding */
-    MOVALIREN_ORDINAL = 5, /* padding */
+    /* The month, 1 to 12, in two places. [padding] */
+    MOVALIREN_MONTH = 4,
+    /* The day of the year, 1 to 366, in three places (ISO 8601-1:2019, ordinal date). [padding] */
+    MOVALIREN_ORDINAL = 5,
+    /* The first three letters of the weekday's English name. */
     MOVALIREN_WEEKDAY_SHORT = 6,
+    /* The weekday's English name, at most nine letters. */
     MOVALIREN_WEEKDAY_LONG = 7,
-    MOVALIREN_WEEKDAY_FROM_SUNDAY = 8,   /* flag: counted from 1 */
-    MOVALIREN_WEEKDAY_FROM_MONDAY = 9,   /* flag: counted from 1 */
-    MOVALIREN_WEEK_ISO = 10,             /* padding */
-    MOVALIREN_WEEK_SUNDAY = 11,          /* padding */
-    MOVALIREN_WEEK_MONDAY = 12,          /* padding */
-    MOVALIREN_YEAR_EXTENDED = 13,        /* padding, flag: always a sign */
-    MOVALIREN_YEAR = 14,                 /* padding, flag: always a sign */
-    MOVALIREN_CENTURY_EXTENDED = 15,     /* padding, flag: always a sign */
-    MOVALIREN_CENTURY = 16,              /* padding, flag: always a sign */
-    MOVALIREN_YEAR_LAST_TWO = 17,        /* padding */
-    MOVALIREN_ISO_YEAR_EXTENDED = 18,    /* padding, flag: always a sign */
-    MOVALIREN_ISO_YEAR = 19,             /* padding, flag: always a sign */
-    MOVALIREN_ISO_CENTURY_EXTENDED = 20, /* padding, flag: always a sign */
-    MOVALIREN_ISO_CENTURY = 21,          /* padding, flag: always a sign */
-    MOVALIREN_ISO_YEAR_LAST_TWO = 22,    /* padding */
-    MOVALIREN_HOUR_12 = 23,              /* padding */
-    MOVALIREN_HOUR = 24,                 /* padding */
-    MOVALIREN_MINUTE = 25,               /* padding */
-    MOVALIREN_PERIOD = 26,               /* flag: upper case */
-    MOVALIREN_SECOND = 27,               /* padding */
-    MOVALIREN_SUBSECOND = 28,            /* digits */
-    MOVALIREN_OFFSET_HOUR = 29,          /* padding, flag: always a sign */
-    MOVALIREN_OFFSET_MINUTE = 30,        /* padding */
-    MOVALIREN_OFFSET_SECOND = 31,        /* padding */
-    MOVALIREN_UNIX_SECOND = 32,          /* flag: always a sign */
-    MOVALIREN_UNIX_MILLISECOND = 33      /* flag: always a sign */
+    /* The weekday by one digit from Sunday on, 0 to 6 or 1 to 7. [flag: counted from 1] */
+    MOVALIREN_WEEKDAY_FROM_SUNDAY = 8,
+    /* The weekday by one digit from Monday on, 0 to 6 or 1 to 7. [flag: counted from 1] */
+    MOVALIREN_WEEKDAY_FROM_MONDAY = 9,
+    /* The week of the week calendar, 1 to 53, in two places (ISO 8601-1:2019, week date).
+     * [padding] */
+    MOVALIREN_WEEK_ISO = 10,
+    /* The week of the year, 0 to 53, in two places, where week 1 begins on the first Sunday.
+     * [padding] */
+    MOVALIREN_WEEK_SUNDAY = 11,
+    /* The week of the year, 0 to 53, in two places, where week 1 begins on the first Monday.
+     * [padding] */
+    MOVALIREN_WEEK_MONDAY = 12,
+    /* The year, -999,999 to 999,999, in four places, or a sign and all its digits.
+     * [padding; flag: always a sign] */
+    MOVALIREN_YEAR_EXTENDED = 13,
+    /* The year, -9,999 to 9,999, in four places. Every other year is refused.
+     * [padding; flag: always a sign] */
+    MOVALIREN_YEAR = 14,
+    /* The year without its last two digits, -9,999 to 9,999, in two places, or a sign and all its
+     * digits. [padding; flag: always a sign] */
+    MOVALIREN_CENTURY_EXTENDED = 15,
+    /* The year without its last two digits, -99 to 99, in two places. Every other one is refused.
+     * [padding; flag: always a sign] */
+    MOVALIREN_CENTURY = 16,
+    /* The last two digits of the year, 0 to 99, in two places, unsigned. [padding] */
+    MOVALIREN_YEAR_LAST_TWO = 17,
+    /* The year of the week calendar, -999,999 to 999,999, in four places, or a sign and all its
+     * digits (ISO 8601-1:2019, week date). [padding; flag: always a sign] */
+    MOVALIREN_ISO_YEAR_EXTENDED = 18,
+    /* The year of the week calendar, -9,999 to 9,999, in four places. Every other year is refused.
+     * [padding; flag: always a sign] */
+    MOVALIREN_ISO_YEAR = 19,
+    /* The year of the week calendar without its last two digits, -9,999 to 9,999, in two places, or
+     * a sign and all its digits. [padding; flag: always a sign] */
+    MOVALIREN_ISO_CENTURY_EXTENDED = 20,
+    /* The year of the week calendar without its last two digits, -99 to 99, in two places. Every
+     * other one is refused. [padding; flag: always a sign] */
+    MOVALIREN_ISO_CENTURY = 21,
+    /* The last two digits of the year of the week calendar, 0 to 99, in two places, unsigned.
+     * [padding] */
+    MOVALIREN_ISO_YEAR_LAST_TWO = 22,
+    /* The hour of the 12-hour clock, 1 to 12, in two places. [padding] */
+    MOVALIREN_HOUR_12 = 23,
+    /* The hour of the day, 0 to 23, in two places. [padding] */
+    MOVALIREN_HOUR = 24,
+    /* The minute of the hour, 0 to 59, in two places. [padding] */
+    MOVALIREN_MINUTE = 25,
+    /* The half of the day by two letters: before noon, or from noon on. [flag: upper case] */
+    MOVALIREN_PERIOD = 26,
+    /* The second of the minute, 0 to 59, in two places. [padding] */
+    MOVALIREN_SECOND = 27,
+    /* The decimals of the second, one to nine digits, not rounded. [digits] */
+    MOVALIREN_SUBSECOND = 28,
+    /* The hour of the offset from UTC, 0 to 25, in two places, after the sign of the whole offset.
+     * [padding; flag: always a sign] */
+    MOVALIREN_OFFSET_HOUR = 29,
+    /* The minute of the offset from UTC, 0 to 59, in two places, without a sign. [padding] */
+    MOVALIREN_OFFSET_MINUTE = 30,
+    /* The second of the offset from UTC, 0 to 59, in two places, without a sign. [padding] */
+    MOVALIREN_OFFSET_SECOND = 31,
+    /* The seconds since 1970-01-01T00:00:00 UTC, rounded down, at most 14 digits.
+     * [flag: always a sign] */
+    MOVALIREN_UNIX_SECOND = 32,
+    /* The milliseconds since 1970-01-01T00:00:00 UTC, rounded toward zero, at most 17 digits.
+     * [flag: always a sign] */
+    MOVALIREN_UNIX_MILLISECOND = 33
 };
 
+/* What fills the places before a number. */
 enum movaliren_padding { MOVALIREN_ZERO = 0, MOVALIREN_SPACE = 1, MOVALIREN_NO_PADDING = 2 };
 
-/* An item of a description. padding, flag and digits of a component must be valid, even if its kind
- * does not use them. */
+/* An item of a description. Another number than these, or a text that is not within the texts, is
+ * MOVALIREN_ERROR_BAD_ITEM. padding, flag and digits of a component are tested even if its kind does
+ * not use them. */
 struct movaliren_item {
     uint32_t kind;   /* movaliren_kind */
     uint8_t padding; /* movaliren_padding */
     uint8_t flag;    /* 0 or 1 */
     uint8_t digits;  /* of a second: 0 for as many as are needed, or 1 to 9 */
-    uint8_t unused;
-    size_t start; /* of a text */
+    uint8_t unused;  /* any number */
+    size_t start;    /* of a text */
     size_t len;
 };
 
 /* A text by the items in order, whose literals are cut from one array of bytes. The items are tested
- * before the value. */
+ * before the value. A year that its kind refuses is MOVALIREN_ERROR_OUT_OF_RANGE. A date has no time,
+ * no offset and no seconds since 1970: an item of these is MOVALIREN_ERROR_INSUFFICIENT. */
 ptrdiff_t movaliren_format(const struct movaliren_item *items, size_t items_len,
     const void *texts, size_t texts_len, const struct movaliren_moment *moment, void *room,
     size_t room_len);

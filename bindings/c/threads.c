@@ -1,11 +1,14 @@
-/* Four threads of 16 KiB of stack, each with 50,000 calls of each kind. */
+/* Four threads of 16 KiB of stack, each with 50,000 calls of each kind, or as many as the argument says. */
 #include "movaliren.h"
 
 #include <pthread.h>
 #include <stdio.h>
+#include <stdlib.h>
 #include <string.h>
 
-enum { THREADS = 4, CALLS = 50000, STACK = 16384 };
+enum { THREADS = 4, STACK = 16384 };
+
+static long calls = 50000;
 
 static int is_text(ptrdiff_t count, const uint8_t *room, const char *text)
 {
@@ -21,7 +24,7 @@ static void *work(void *argument)
         { .kind = MOVALIREN_MONTH_LONG }, { .len = 1 }, { .kind = MOVALIREN_UNIX_MILLISECOND } };
     uint8_t room[64];
     long *wrong = argument;
-    for (int i = 0; i < CALLS; i++) {
+    for (long i = 0; i < calls; i++) {
         *wrong += !is_text(movaliren_rfc3339(&moment, room, sizeof room), room,
             "2026-11-22T00:00:00.000000001Z");
         *wrong += !is_text(movaliren_rfc2822(&moment, room, sizeof room), room,
@@ -36,8 +39,10 @@ static void *work(void *argument)
     return 0;
 }
 
-int main(void)
+int main(int argc, char **argv)
 {
+    if (argc > 1)
+        calls = atol(argv[1]);
     pthread_t threads[THREADS];
     pthread_attr_t attributes;
     long wrong[THREADS] = { 0 }, all = 0;

@@ -189,7 +189,11 @@ impl Description {
         })
     }
 
-    /// Adds the decimals of the second.
+    /// Adds the decimals of the second. A number of decimals that no text has does not compile:
+    ///
+    /// ```compile_fail,E0308
+    /// movaliren::Description::new().subsecond(Some(0));
+    /// ```
     #[must_use]
     pub fn subsecond(self, digits: SubsecondDigits) -> Self {
         self.then(Item {

@@ -21,7 +21,11 @@
 //! The crate has no dependencies. `unsafe` is in two modules, the calls and the text in place. The
 //! library is built for Linux on `x86-64-v2`.
 #![no_std]
-#![deny(unsafe_code, unsafe_op_in_unsafe_fn)]
+#![deny(
+    unsafe_code,
+    unsafe_op_in_unsafe_fn,
+    clippy::undocumented_unsafe_blocks
+)]
 #![warn(missing_docs)]
 
 extern crate alloc;

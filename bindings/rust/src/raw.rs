@@ -2,7 +2,8 @@
 //!
 //! A call passes slices, whose pointers are never null and whose lengths are below `isize::MAX`.
 //! The buffer is borrowed mutably, so it overlaps nothing else. Each struct that crosses is
-//! `#[repr(C)]`, with the fields of the header in its order. The library keeps no pointer.
+//! `#[repr(C)]`, with the fields of the header in its order. The library keeps no pointer. It writes
+//! bytes of a buffer or leaves them as they were, so none becomes uninitialized.
 use crate::known::{Iso8601, Rfc2822, Rfc2822Local, Rfc3339, Rfc3339Local, Stamp};
 use crate::{Date, Description, Error, Iso8601By, Moment, Progress, UtcMoment};
 use alloc::string::String;

@@ -242,6 +242,16 @@ fn descriptions() {
 }
 
 #[test]
+fn a_description_of_many_items() {
+    let line = (0..8_000).fold(Description::new(), |line, _| {
+        line.component(Kind::Day).literal("/")
+    });
+    assert_eq!(line.width(), 24_000);
+    let text = line.format(&EXAMPLE);
+    assert_eq!(text, Ok("12/".repeat(8_000)));
+}
+
+#[test]
 fn batches() {
     let moments = [
         EXAMPLE,
