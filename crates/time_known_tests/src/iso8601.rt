@@ -478,7 +478,7 @@ fn each_part_is_written_by_itself(rt: HostRuntime) {
 #[test]
 fn refuses_each_part_by_itself(rt: HostRuntime) -> Result<(), Fail> {
     let value = moment(&rt, (10_000, 1, 1), (0, 0, 0, 0), (0, 0, 1));
-    let time_alone = with_parts(Parts::Time);
+    let time_alone = Config::default().set_formatted_components(Parts::Time);
     let mut state = DateState::default();
     let mut output = Vec::with_capacity(rt.alloc(), 16)?;
     let date = format_date(&time_alone, &mut output, &value, &mut state);
