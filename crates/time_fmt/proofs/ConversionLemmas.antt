@@ -79,6 +79,3 @@ of_component c = (refl, omega arith)
 
 pub current_is_kept : (c : Component) → current_component (current_component c) ≡ current_component c
 current_is_kept c = (of_component c).0
-
-pub width_of_current : (c : Component) → component_width (current_component c) ≤ component_width c
-width_of_current c = (of_component c).1
