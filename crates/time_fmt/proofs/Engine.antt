@@ -102,7 +102,7 @@ pub written_along : {agrees agrees_after : Type 0} {sum count all_size left_size
     Along agrees old mid sum f all left all_size left_size → left ≡ more t others → rest_size ≤ left_size
     → AppendsUpTo (tree_width t) mid new (Ok count) (tree_outcome t f) → agrees_after
     → IsTextIf (is_guaranteed_text t) (tree_outcome t f)
-    → Along agrees_after old new (vec_len new - vec_len old) f all others all_size rest_size
+    → Along agrees_after old new (sum + count) f all others all_size rest_size
 written_along old mid new f all left others t along next smaller up_to agrees first =
     let step = up_to.appends in
     let a = tree_outcome t f in
@@ -121,13 +121,22 @@ written_along old mid new f all left others t along next smaller up_to agrees fi
           along.bytes ∙ ap (λ bs. mid.items ++ bs) bytes ∙ sym (append_assoc mid.items a.bytes b.bytes)
           ∙ ap (λ bs. bs ++ b.bytes) (sym step.appended);
       refusal = along.refusal ∙ ap (λ (o : Outcome). o.refusal) e;
-      count = omega (arith, along.count, length, along.grown, step.grown);
-      grown = omega (arith, along.grown, step.grown);
+      count = omega (arith, along.count, length, step.counted.1);
+      grown = omega (arith, along.grown, step.grown, step.counted.1);
       room = omega (arith, along.room, width, step.capacity, up_to.within);
       within = omega (arith, along.within, width, up_to.within);
       capacity = step.capacity ∙ along.capacity;
       text = λ rest. along.text (subst P (sym next) (text_more t others f first rest));
     }
+
+-- the number of the bytes is the difference of the lengths
+pub by_lengths : {agrees : Type 0} {sum all_size left_size : ℕ} (old now : Vec ℕ Global) (f : Facts) (all left : Trees)
+    → Along agrees old now sum f all left all_size left_size
+    → Along agrees old now (vec_len now - vec_len old) f all left all_size left_size
+by_lengths {agrees} {sum} {all_size} {left_size} old now f all left along =
+    let P : ℕ → Type 0 = λ s. Along agrees old now s f all left all_size left_size in
+    let same : sum ≡ vec_len now - vec_len old = omega (arith, along.grown) in
+    subst P same along
 
 -- the end of a list leaves nothing, so that all of it is written
 pub all_along : {A agrees : Type 0} {sum all_size left_size : ℕ} (tree : A → Tree) (nodes : List A) (i : ℕ)

@@ -5,7 +5,7 @@ use Rattle.std.proofs.lemmas.Fmt.{length-decimal-le}
 use Rattle.time_below.specs.declared.format_description.modifier.Padding.{Padding}
 use Rattle.time_digits.specs.Digits.{fixed, zero_padded}
 use Rattle.time_digits.proofs.DigitLemmas.{decimal-split, fixed-append, fixed-mod, length-fixed, zero_padded_is}
-use Rattle.time_digits.proofs.LengthLemmas.{length-decimal_word}
+use Rattle.time_digits.proofs.LengthLemmas.{length-decimal_word, length-decimal_quotient}
 use Rattle.time_fmt.specs.Text.{padded_text}
 use Rattle.time_fmt.proofs.TextLemmas.{places_of, length-padded_text, two_places, length-sign_text}
 
@@ -61,10 +61,7 @@ before_eight n low high =
 -- it has eight more than they have
 pub longer_by_eight : (n : ℕ) → 100_000_000 ≤ n → n < 2 ^ 64
     → length (decimal n) ≡ length (decimal (n / 100_000_000)) + 8
-longer_by_eight n low high =
-    let rest = fixed 8 (n % 100_000_000) in
-    ap length (sym (before_eight n low high)) ∙ length-append (decimal (n / 100_000_000)) rest
-    ∙ ap (λ k. length (decimal (n / 100_000_000)) + k) (length-fixed 8 (n % 100_000_000))
+longer_by_eight = length-decimal_quotient 8
 
 pub ruleset eight_digits = (four_and_four, four_zeros, length-append, append_assoc)
 

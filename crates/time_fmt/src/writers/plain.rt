@@ -62,8 +62,7 @@ pub(crate) fn write_literal(output: &mut Vec<u8>, bytes: &[u8]) -> usize
     ensures writes { Writes output.old output.new result bytes.now }
 {
     if bytes.len() == 1 {
-        let only = bytes[0];
-        output.push_reserved(only);
+        output.push_reserved(bytes[0]);
         return 1;
     }
     if bytes.len() == 2 {

@@ -1,7 +1,7 @@
 use Rattle.std.proofs.Common.{sym, ◌∙◌}
 use Rattle.time_below.proofs.NodeLemmas.{next_of, smaller_rest}
 use Rattle.time_fmt.proofs.Engine.{along_from_the_start, room_for_next, all_along}
-use Rattle.time_fmt.proofs.Engine.{list_refused, written_along, first_appends}
+use Rattle.time_fmt.proofs.Engine.{by_lengths, list_refused, written_along, first_appends}
 use Rattle.time_fmt.proofs.formattable.engine.+engine.Goals as goal
 use Rattle.time_fmt.proofs.formattable.engine.+engine.Goals.{write_nodes-in-Some, write_nodes-in-None+in-Some-write_seldom, write_nodes-in-None+in-None-write_seldom+in-Ok}
 
@@ -26,22 +26,25 @@ write_nodes-loop-node-preserved g t c =
       | write_nodes-in-Some w ↦
           let step = w.in-Some.ensures in
           rw (w.taken-is, w.state-is)
+          (by_lengths {agrees = g.V.ComponentProvider.agrees c.write_leaf.new.state c.args.value.now} _ _ _ _ _
           (written_along {agrees_after = g.V.ComponentProvider.agrees c.write_leaf.new.state c.args.value.now}
           c.args.output.now c.loop-node.taken c.write_leaf.new.output _ _ _ _ _ c.loop-node.invariant next smaller
-          step.appends.appends step.agrees step.appends.text)
+          step.appends.appends step.agrees step.appends.text))
       | write_nodes-in-None+in-Some-write_seldom w ↦
           let step = w.in-Some-write_seldom.ensures in
           rw (w.taken-is, w.state-is)
+          (by_lengths {agrees = g.V.ComponentProvider.agrees w.write_seldom.new.state c.args.value.now} _ _ _ _ _
           (written_along {agrees_after = g.V.ComponentProvider.agrees w.write_seldom.new.state c.args.value.now}
           c.args.output.now c.loop-node.taken w.write_seldom.new.output _ _ _ _ _ c.loop-node.invariant next smaller
-          (rw w.in-None.ensures.appends at step.appends.appends) step.agrees step.appends.text)
+          (rw w.in-None.ensures.appends at step.appends.appends) step.agrees step.appends.text))
       | write_nodes-in-None+in-None-write_seldom+in-Ok w ↦
           let step = w.in-Ok.ensures in
           let same = w.put_back.ensures.put ∙ w.in-None-write_seldom.ensures.appends ∙ w.in-None.ensures.appends in
           rw (w.taken-is, w.state-is, w.take_out-taken-in-Ok.ensures.taken)
+          (by_lengths {agrees = g.V.ComponentProvider.agrees w.write_node.new.state c.args.value.now} _ _ _ _ _
           (written_along {agrees_after = g.V.ComponentProvider.agrees w.write_node.new.state c.args.value.now}
           c.args.output.now c.loop-node.taken w.write_node.new.output _ _ _ _ _ c.loop-node.invariant next smaller
-          (rw same at step.appends.appends) step.agrees step.appends.text)
+          (rw same at step.appends.appends) step.agrees step.appends.text))
     ]
 
 pub write_nodes-returns-in-Err : goal.write_nodes-returns-in-Err
