@@ -1,8 +1,7 @@
--- The current component is not deprecated, and is no wider than the deprecated one.
-use Rattle.std.proofs.Common.{◌≡◌, ℕ, ◌≤◌, Bool, true, false, refl, arith}
+-- The current component is not deprecated.
+use Rattle.std.proofs.Common.{◌≡◌, Bool, true, false, refl}
 use Rattle.time_below.specs.Conversion.{current_component, current_month, current_weekday, current_week_number}
 use Rattle.time_below.specs.Conversion.{current_hour, current_unix_timestamp, current_year}
-use Rattle.time_below.specs.Width.{component_width, month_width, weekday_width, unix_timestamp_width, year_width}
 use Rattle.time_below.specs.declared.format_description.component.Component.{Component}
 use Rattle.time_below.specs.declared.format_description.component.Component.TheVariants as component
 use Rattle.time_below.specs.declared.format_description.modifier.Month.{Month}
@@ -24,61 +23,51 @@ use Rattle.time_below.specs.declared.format_description.modifier.YearRepr.TheVar
 use Rattle.time_below.specs.declared.format_description.modifier.YearRange.{YearRange}
 use Rattle.time_below.specs.declared.format_description.modifier.YearRange.TheVariants as range
 
--- a component that is converted once more stays, and is no wider than so much
-abbrev pub IsCurrentWithin : ℕ → Component → Type 0
-IsCurrentWithin width c = (current_component c ≡ c) × (component_width c ≤ width)
+-- a current component that replaces a deprecated one stays
+of_month : (r : MonthRepr) (m : Month) → current_component (current_month r m) ≡ current_month r m
+of_month month.Numerical m = refl
+of_month month.Long m = refl
+of_month month.Short m = refl
 
--- a current component that replaces a deprecated month is within its width
-of_month : (r : MonthRepr) (m : Month) → IsCurrentWithin (month_width r) (current_month r m)
-of_month month.Numerical m = (refl, omega arith)
-of_month month.Long m = (refl, omega arith)
-of_month month.Short m = (refl, omega arith)
+of_weekday : (r : WeekdayRepr) (m : Weekday) → current_component (current_weekday r m) ≡ current_weekday r m
+of_weekday weekday.Short m = refl
+of_weekday weekday.Long m = refl
+of_weekday weekday.Sunday m = refl
+of_weekday weekday.Monday m = refl
 
-of_weekday : (r : WeekdayRepr) (m : Weekday) → IsCurrentWithin (weekday_width r) (current_weekday r m)
-of_weekday weekday.Short m = (refl, omega arith)
-of_weekday weekday.Long m = (refl, omega arith)
-of_weekday weekday.Sunday m = (refl, omega arith)
-of_weekday weekday.Monday m = (refl, omega arith)
+of_week_number : (r : WeekNumberRepr) (m : WeekNumber)
+    → current_component (current_week_number r m) ≡ current_week_number r m
+of_week_number week.Iso m = refl
+of_week_number week.Sunday m = refl
+of_week_number week.Monday m = refl
 
-of_week_number : (r : WeekNumberRepr) (m : WeekNumber) → IsCurrentWithin 2 (current_week_number r m)
-of_week_number week.Iso m = (refl, omega arith)
-of_week_number week.Sunday m = (refl, omega arith)
-of_week_number week.Monday m = (refl, omega arith)
-
-of_hour : (is_12_hour_clock : Bool) (m : Hour) → IsCurrentWithin 2 (current_hour is_12_hour_clock m)
-of_hour true m = (refl, omega arith)
-of_hour false m = (refl, omega arith)
+of_hour : (twelve : Bool) (m : Hour) → current_component (current_hour twelve m) ≡ current_hour twelve m
+of_hour true m = refl
+of_hour false m = refl
 
 of_unix_timestamp : (p : UnixTimestampPrecision) (m : UnixTimestamp)
-    → IsCurrentWithin (unix_timestamp_width p) (current_unix_timestamp p m)
-of_unix_timestamp precision.Second m = (refl, omega arith)
-of_unix_timestamp precision.Millisecond m = (refl, omega arith)
+    → current_component (current_unix_timestamp p m) ≡ current_unix_timestamp p m
+of_unix_timestamp precision.Second m = refl
+of_unix_timestamp precision.Millisecond m = refl
 
 of_year : (week_based : Bool) (r : YearRepr) (size : YearRange) (m : Year)
-    → IsCurrentWithin (year_width r) (current_year week_based r size m)
-of_year true year.Full range.Extended m = (refl, omega arith)
-of_year true year.Full range.Standard m = (refl, omega arith)
-of_year true year.Century range.Extended m = (refl, omega arith)
-of_year true year.Century range.Standard m = (refl, omega arith)
-of_year true year.LastTwo size m = (refl, omega arith)
-of_year false year.Full range.Extended m = (refl, omega arith)
-of_year false year.Full range.Standard m = (refl, omega arith)
-of_year false year.Century range.Extended m = (refl, omega arith)
-of_year false year.Century range.Standard m = (refl, omega arith)
-of_year false year.LastTwo size m = (refl, omega arith)
-
--- a current component that replaces any other one is within its width
-of_component : (c : Component) → IsCurrentWithin (component_width c) (current_component c)
-of_component (component.Month m) = of_month m.repr m
-of_component (component.Weekday m) = of_weekday m.repr m
-of_component (component.WeekNumber m) = of_week_number m.repr m
-of_component (component.Hour m) = of_hour m.is_12_hour_clock m
-of_component (component.UnixTimestamp m) = of_unix_timestamp m.precision m
-of_component (component.Year m) = of_year m.iso_week_based m.repr m.range m
-of_component c = (refl, omega arith)
+    → current_component (current_year week_based r size m) ≡ current_year week_based r size m
+of_year true year.Full range.Extended m = refl
+of_year true year.Full range.Standard m = refl
+of_year true year.Century range.Extended m = refl
+of_year true year.Century range.Standard m = refl
+of_year true year.LastTwo size m = refl
+of_year false year.Full range.Extended m = refl
+of_year false year.Full range.Standard m = refl
+of_year false year.Century range.Extended m = refl
+of_year false year.Century range.Standard m = refl
+of_year false year.LastTwo size m = refl
 
 pub current_is_kept : (c : Component) → current_component (current_component c) ≡ current_component c
-current_is_kept c = (of_component c).0
-
-pub width_of_current : (c : Component) → component_width (current_component c) ≤ component_width c
-width_of_current c = (of_component c).1
+current_is_kept (component.Month m) = of_month m.repr m
+current_is_kept (component.Weekday m) = of_weekday m.repr m
+current_is_kept (component.WeekNumber m) = of_week_number m.repr m
+current_is_kept (component.Hour m) = of_hour m.is_12_hour_clock m
+current_is_kept (component.UnixTimestamp m) = of_unix_timestamp m.precision m
+current_is_kept (component.Year m) = of_year m.iso_week_based m.repr m.range m
+current_is_kept c = refl

@@ -112,15 +112,7 @@ seven_parts n h =
     ap (λ xs. xs ++ zero_padded 6 (n % 1_000_000)) first ∙ ap (λ ys. fixed 1 (n / 1_000_000) ++ ys) last
     ∙ sym (fixed-append 1 6 n)
 
--- eight digits are the first two and the last six
-pub eight_parts : (n : ℕ) → n < 100_000_000 → zero_padded 2 (n / 1_000_000) ++ zero_padded 6 (n % 1_000_000) ≡ fixed 8 n
-eight_parts n h =
-    let first = zero_padded_is 1 (n / 1_000_000) (omega arith) (omega arith) in
-    let last = zero_padded_is 5 (n % 1_000_000) (omega arith) (omega arith) ∙ fixed-mod 6 n in
-    ap (λ xs. xs ++ zero_padded 6 (n % 1_000_000)) first ∙ ap (λ ys. fixed 2 (n / 1_000_000) ++ ys) last
-    ∙ sym (fixed-append 2 6 n)
-
-pub ruleset two_parts = (seven_parts, eight_parts, length-digit, two_zeros, six_zeros, length-append, append_assoc)
+pub ruleset two_parts = (seven_parts, length-digit, six_zeros, length-append, append_assoc)
 
 -- the decimals have no more bytes than their width
 pub length-subsecond_text : (d : SubsecondDigits) (n : ℕ) → length (subsecond_text d n) ≤ subsecond_width d

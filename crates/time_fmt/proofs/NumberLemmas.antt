@@ -1,9 +1,11 @@
 -- How long the texts of numbers of a known size are.
-use Rattle.std.proofs.Common.{◌≡◌, ℕ, ◌<◌, ◌≤◌, length, decimal, arith}
+use Rattle.std.proofs.Common.{◌≡◌, ◌∙◌, ℕ, ◌+◌, ◌/◌, ◌%◌, ◌^◌, ◌<◌, ◌≤◌, ◌++◌, length, decimal, ap, ap₂, sym, arith}
+use Rattle.std.proofs.Common.{length-append, append_assoc}
 use Rattle.std.proofs.lemmas.Fmt.{length-decimal-le}
 use Rattle.time_below.specs.declared.format_description.modifier.Padding.{Padding}
-use Rattle.time_digits.specs.Digits.{zero_padded}
-use Rattle.time_digits.proofs.LengthLemmas.{length-decimal_word}
+use Rattle.time_digits.specs.Digits.{fixed, zero_padded}
+use Rattle.time_digits.proofs.DigitLemmas.{decimal-split, fixed-append, fixed-mod, length-fixed, zero_padded_is}
+use Rattle.time_digits.proofs.LengthLemmas.{length-decimal_word, length-decimal_quotient}
 use Rattle.time_fmt.specs.Text.{padded_text}
 use Rattle.time_fmt.proofs.TextLemmas.{places_of, length-padded_text, two_places, length-sign_text}
 
@@ -42,3 +44,25 @@ pub ruleset number_lengths = (
   length-decimal_word,
   length-sign_text,
 )
+
+-- eight digits are four and four
+pub four_and_four : (n : ℕ) → n < 100_000_000 → zero_padded 4 (n / 10_000) ++ zero_padded 4 (n % 10_000) ≡ fixed 8 n
+four_and_four n h =
+    let first = zero_padded_is 3 (n / 10_000) (omega arith) (omega arith) in
+    let last = zero_padded_is 3 (n % 10_000) (omega arith) (omega arith) ∙ fixed-mod 4 n in
+    ap₂ (λ xs ys. xs ++ ys) first last ∙ sym (fixed-append 4 4 n)
+
+-- a number by its first digits and its last eight
+pub before_eight : (n : ℕ) → 100_000_000 ≤ n → n < 2 ^ 64
+    → decimal (n / 100_000_000) ++ fixed 8 (n % 100_000_000) ≡ decimal n
+before_eight n low high =
+    ap (λ xs. decimal (n / 100_000_000) ++ xs) (fixed-mod 8 n) ∙ sym (decimal-split 8 n low high)
+
+-- it has eight more than they have
+pub longer_by_eight : (n : ℕ) → 100_000_000 ≤ n → n < 2 ^ 64
+    → length (decimal n) ≡ length (decimal (n / 100_000_000)) + 8
+longer_by_eight = length-decimal_quotient 8
+
+pub ruleset eight_digits = (four_and_four, four_zeros, length-append, append_assoc)
+
+pub ruleset eight_after = (before_eight, longer_by_eight, length-fixed, length-append, append_assoc)

@@ -8,7 +8,7 @@ use Rattle.std.specs.Prelude.{codes, nat_le}
 use Rattle.time_below.specs.ComponentRange.{conditional_range}
 use Rattle.time_fmt.specs.declared.error.Format.{Format}
 use Rattle.time_fmt.specs.Kind.{in_standard_range}
-use Rattle.time_fmt.specs.Outcome.{Outcome, Refusal, Names, Appends, AppendsUpTo, AppendsWhole, Adds, done, refused}
+use Rattle.time_fmt.specs.Outcome.{Outcome, Refusal, Names, Appends, AppendsWhole, Adds, done, refused}
 use Rattle.time_fmt.specs.Outcome.{join, out_of_range}
 use Rattle.time_fmt.specs.Room.{Writes, WritesUpTo}
 
@@ -27,25 +27,6 @@ pub appends_text : {old new : Vec ℕ Global} {n : ℕ} {text : List ℕ} → Wr
     → Appends old new (Ok n) (done text)
 appends_text w =
     record { appended = w.appended; counted = (refl, w.counted); named = tt; grown = w.grown; capacity = w.capacity }
-
--- a text that is written is within its length
-pub text_up_to : {old new : Vec ℕ Global} {n : ℕ} {text : List ℕ} → Writes old new n text
-    → AppendsUpTo (length text) old new (Ok n) (done text)
-text_up_to w = record { appends = appends_text w; within = omega (arith, w.grown) }
-
--- nothing is appended where nothing is written
-pub nothing_up_to : (output : Vec ℕ Global) → AppendsUpTo 0 output output (Ok 0) (done [])
-nothing_up_to output =
-    record {
-      appends = record {
-        appended = sym (append-nil output.items);
-        counted = (refl, refl);
-        named = tt;
-        grown = omega arith;
-        capacity = refl;
-      };
-      within = omega arith;
-    }
 
 -- a text that is written within a width is appended
 pub appends_up_to : {width : ℕ} {old new : Vec ℕ Global} {n : ℕ} {text : List ℕ} → WritesUpTo width old new n text

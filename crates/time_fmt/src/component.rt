@@ -8,16 +8,47 @@ ghost use Rattle.time_fmt.specs.Room.{HasRoom};
 
 use crate::error::Format;
 use crate::modifier::{Modifier, supplies};
-use crate::writers::{put_back, take_out};
 use time_below::ComponentRange;
 use time_below::format_description::Component;
 use time_provide::ComponentProvider;
 
+/// Appends the text of a component that is met often, whose writer becomes part of the loop over a list,
+/// and returns the number of bytes. Of any other component, and of one that is refused, writes nothing
+/// and returns `None`.
+#[inline(always)]
+pub(crate) fn write_often<V: ComponentProvider>(
+    component: Component,
+    output: &mut Vec<u8>,
+    value: &V,
+    state: &mut V::State,
+) -> Option<usize>
+    requires room { HasRoom output.old (component_width component) }
+    requires agrees { V.agrees state.old value.now }
+    ensures appends { MatchOption result (output.new ≡ output.old)
+        (λ count. AppendsUpTo (component_width component) output.old output.new (Ok count)
+        (component_outcome component (V.facts value.now))) }
+    ensures agrees { V.agrees state.new value.now }
+{
+    match component {
+        Component::Day(part) => write_here(part, output, value, state),
+        Component::MonthShort(part) => write_here(part, output, value, state),
+        Component::MonthNumerical(part) => write_here(part, output, value, state),
+        Component::WeekdayShort(part) => write_here(part, output, value, state),
+        Component::CalendarYearFullExtendedRange(part) => write_here(part, output, value, state),
+        Component::Hour12(part) => write_here(part, output, value, state),
+        Component::Hour24(part) => write_here(part, output, value, state),
+        Component::Minute(part) => write_here(part, output, value, state),
+        Component::Period(part) => write_here(part, output, value, state),
+        Component::Second(part) => write_here(part, output, value, state),
+        Component::Subsecond(part) => write_here(part, output, value, state),
+        Component::OffsetHour(part) => write_here(part, output, value, state),
+        Component::OffsetMinute(part) => write_here(part, output, value, state),
+        _ => None,
+    }
+}
+
 /// Appends the text of a component that is not deprecated, and returns the number of bytes. If it is
 /// refused, or deprecated, writes nothing and returns `None`.
-///
-/// The writers of components that are met often become part of the loop over a list. Each other one is a
-/// call.
 #[inline(always)]
 pub(crate) fn write_component<V: ComponentProvider>(
     component: Component,
@@ -35,10 +66,10 @@ pub(crate) fn write_component<V: ComponentProvider>(
     ensures agrees { V.agrees state.new value.now }
 {
     match component {
-        Component::Day(part) => write_unless_refused(part, output, value, state),
+        Component::Day(part) => write_apart(part, output, value, state),
         Component::MonthShort(part) => write_apart(part, output, value, state),
         Component::MonthLong(part) => write_apart(part, output, value, state),
-        Component::MonthNumerical(part) => write_unless_refused(part, output, value, state),
+        Component::MonthNumerical(part) => write_apart(part, output, value, state),
         Component::Ordinal(part) => write_apart(part, output, value, state),
         Component::WeekdayShort(part) => write_apart(part, output, value, state),
         Component::WeekdayLong(part) => write_apart(part, output, value, state),
@@ -47,9 +78,7 @@ pub(crate) fn write_component<V: ComponentProvider>(
         Component::WeekNumberIso(part) => write_apart(part, output, value, state),
         Component::WeekNumberSunday(part) => write_apart(part, output, value, state),
         Component::WeekNumberMonday(part) => write_apart(part, output, value, state),
-        Component::CalendarYearFullExtendedRange(part) => {
-            write_unless_refused(part, output, value, state)
-        }
+        Component::CalendarYearFullExtendedRange(part) => write_apart(part, output, value, state),
         Component::CalendarYearFullStandardRange(part) => write_apart(part, output, value, state),
         Component::CalendarYearCenturyExtendedRange(part) => {
             write_apart(part, output, value, state)
@@ -64,10 +93,10 @@ pub(crate) fn write_component<V: ComponentProvider>(
         Component::IsoYearCenturyStandardRange(part) => write_apart(part, output, value, state),
         Component::IsoYearLastTwo(part) => write_apart(part, output, value, state),
         Component::Hour12(part) => write_apart(part, output, value, state),
-        Component::Hour24(part) => write_unless_refused(part, output, value, state),
-        Component::Minute(part) => write_unless_refused(part, output, value, state),
+        Component::Hour24(part) => write_apart(part, output, value, state),
+        Component::Minute(part) => write_apart(part, output, value, state),
         Component::Period(part) => write_apart(part, output, value, state),
-        Component::Second(part) => write_unless_refused(part, output, value, state),
+        Component::Second(part) => write_apart(part, output, value, state),
         Component::Subsecond(part) => write_apart(part, output, value, state),
         Component::OffsetHour(part) => write_apart(part, output, value, state),
         Component::OffsetMinute(part) => write_apart(part, output, value, state),
@@ -84,9 +113,8 @@ pub(crate) fn write_component<V: ComponentProvider>(
     }
 }
 
-// Writes a component whose writer is long. The writer is not inlined, and gets a vector that is
-// taken out.
-#[inline(always)]
+// Writes a component that is seldom met, by a call.
+#[inline(never)]
 fn write_apart<M: Modifier, V: ComponentProvider>(
     part: M,
     output: &mut Vec<u8>,
@@ -99,32 +127,12 @@ fn write_apart<M: Modifier, V: ComponentProvider>(
         output.old output.new result (component_outcome (M.component_of part) (V.facts value.now)) }
     ensures agrees { V.agrees state.new value.now }
 {
-    let mut taken = take_out(output);
-    let count = write_taken_out(part, &mut taken, value, state);
-    put_back(output, taken);
-    count
-}
-
-// Writes a component to a vector that was taken out. This is not inlined.
-#[inline(never)]
-fn write_taken_out<M: Modifier, V: ComponentProvider>(
-    part: M,
-    output: &mut Vec<u8>,
-    value: &V,
-    state: &mut V::State,
-) -> Option<usize>
-    requires room { HasRoom output.old (component_width (M.component_of part)) }
-    requires agrees { V.agrees state.old value.now }
-    ensures appends { AppendsUnlessRefused (component_width (M.component_of part))
-        output.old output.new result (component_outcome (M.component_of part) (V.facts value.now)) }
-    ensures agrees { V.agrees state.new value.now }
-{
-    write_unless_refused(part, output, value, state)
+    write_here(part, output, value, state)
 }
 
 // Writes any component that is not deprecated, by its own choices, and nothing if it is refused.
 #[inline(always)]
-fn write_unless_refused<M: Modifier, V: ComponentProvider>(
+fn write_here<M: Modifier, V: ComponentProvider>(
     part: M,
     output: &mut Vec<u8>,
     value: &V,

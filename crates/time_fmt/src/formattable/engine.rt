@@ -5,7 +5,7 @@ ghost use Rattle.time_below.specs.Width.{tree_width, trees_width};
 ghost use Rattle.time_fmt.specs.Guarantee.{AppendsTree};
 ghost use Rattle.time_fmt.specs.Room.{HasRoom};
 
-use crate::component::{component_write_into, write_component};
+use crate::component::{component_write_into, write_component, write_often};
 use crate::error::Format;
 use crate::writers::{put_back, take_out, write, write_bytes, write_literal};
 use time_below::format_description::{Layer, Node};
@@ -33,10 +33,16 @@ pub(super) fn write_nodes<T: Node, V: ComponentProvider>(
         match write_leaf(node, &mut taken, value, state) {
             Some(_) => {}
             None => {
-                put_back(output, taken);
-                match write_node(node, output, value, state) {
-                    Ok(_) => taken = take_out(output),
-                    Err(refusal) => return Err(refusal),
+                let mut apart = taken;
+                match write_seldom(node, &mut apart, value, state) {
+                    Some(_) => taken = apart,
+                    None => {
+                        put_back(output, apart);
+                        match write_node(node, output, value, state) {
+                            Ok(_) => taken = take_out(output),
+                            Err(refusal) => return Err(refusal),
+                        }
+                    }
                 }
             }
         }
@@ -46,9 +52,9 @@ pub(super) fn write_nodes<T: Node, V: ComponentProvider>(
     Ok(count)
 }
 
-/// Writes a literal, or a component that is neither deprecated nor refused, and returns the number of
-/// bytes. Of any other node it writes nothing, and returns `None`. It becomes part of the loop over a
-/// list, which so holds no error on the way that most nodes take.
+/// Writes a literal, or a component that is met often, and returns the number of bytes. Of any other
+/// node it writes nothing, and returns `None`. It becomes part of the loop over a list, which so holds
+/// no error on the way that most nodes take.
 #[inline(always)]
 fn write_leaf<T: Node, V: ComponentProvider>(
     node: &T,
@@ -65,6 +71,27 @@ fn write_leaf<T: Node, V: ComponentProvider>(
     match node.layer() {
         Layer::Bytes(bytes) => Some(write_literal(output, bytes)),
         Layer::Text(text) => Some(write_literal(output, text.as_bytes())),
+        Layer::Component(component) => write_often(component, output, value, state),
+        _ => None,
+    }
+}
+
+/// Writes a component that is neither deprecated nor refused, and returns the number of bytes. Of any
+/// other node it writes nothing, and returns `None`.
+#[inline(always)]
+fn write_seldom<T: Node, V: ComponentProvider>(
+    node: &T,
+    output: &mut Vec<u8>,
+    value: &V,
+    state: &mut V::State,
+) -> Option<usize>
+    requires room { HasRoom output.old (tree_width (T.tree node.now)) }
+    requires agrees { V.agrees state.old value.now }
+    ensures appends { MatchOption result (output.new ≡ output.old)
+        (λ count. AppendsTree (T.tree node.now) (V.facts value.now) output.old output.new (Ok count)) }
+    ensures agrees { V.agrees state.new value.now }
+{
+    match node.layer() {
         Layer::Component(component) => write_component(component, output, value, state),
         _ => None,
     }

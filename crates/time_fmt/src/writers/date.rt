@@ -10,7 +10,7 @@ ghost use Rattle.time_fmt.specs.Text.{padded_text};
 use crate::error::Format;
 use crate::modifier::Modifier;
 use crate::writers::digits::{format_three_digits, format_two_digits};
-use crate::writers::plain::{write_each, write_three};
+use crate::writers::plain::{put_back, take_out, write_each, write_three};
 use time_below::Month;
 use time_below::format_description::{Group, modifier};
 use time_digits::ru8;
@@ -53,7 +53,7 @@ impl Modifier for modifier::Day {
 }
 
 /// Appends the first three letters of the month's English name.
-#[inline]
+#[inline(always)]
 pub fn fmt_month_short(output: &mut Vec<u8>, month: Month, modifier: modifier::MonthShort) -> usize
     requires room { HasRoom output.old (length (short_name (month_name (month_number month)))) }
     ensures writes { Writes output.old output.new result
@@ -96,20 +96,23 @@ pub fn fmt_month_long(output: &mut Vec<u8>, month: Month, modifier: modifier::Mo
     ensures writes { Writes output.old output.new result (month_name (month_number month)) }
 {
     let _ = modifier;
-    match month {
-        Month::January => write_each(output, b"January"),
-        Month::February => write_each(output, b"February"),
-        Month::March => write_each(output, b"March"),
-        Month::April => write_each(output, b"April"),
-        Month::May => write_each(output, b"May"),
-        Month::June => write_each(output, b"June"),
-        Month::July => write_each(output, b"July"),
-        Month::August => write_each(output, b"August"),
-        Month::September => write_each(output, b"September"),
-        Month::October => write_each(output, b"October"),
-        Month::November => write_each(output, b"November"),
-        Month::December => write_each(output, b"December"),
-    }
+    let mut taken = take_out(output);
+    let count = match month {
+        Month::January => write_each(&mut taken, b"January"),
+        Month::February => write_each(&mut taken, b"February"),
+        Month::March => write_each(&mut taken, b"March"),
+        Month::April => write_each(&mut taken, b"April"),
+        Month::May => write_each(&mut taken, b"May"),
+        Month::June => write_each(&mut taken, b"June"),
+        Month::July => write_each(&mut taken, b"July"),
+        Month::August => write_each(&mut taken, b"August"),
+        Month::September => write_each(&mut taken, b"September"),
+        Month::October => write_each(&mut taken, b"October"),
+        Month::November => write_each(&mut taken, b"November"),
+        Month::December => write_each(&mut taken, b"December"),
+    };
+    put_back(output, taken);
+    count
 }
 
 impl Modifier for modifier::MonthLong {

@@ -1,6 +1,6 @@
 //! Numbers, and the signs before them.
-ghost use Rattle.std.specs.Prelude.{◌≤◌, length, decimal, replicate};
-ghost use Rattle.time_digits.specs.Digits.{zero_padded};
+ghost use Rattle.std.specs.Prelude.{◌<◌, ◌≤◌, length, decimal, replicate};
+ghost use Rattle.time_digits.specs.Digits.{fixed, zero_padded};
 ghost use Rattle.time_fmt.specs.Room.{HasRoom, Writes};
 ghost use Rattle.time_fmt.specs.Text.{padded_text, sign_text};
 
@@ -160,13 +160,37 @@ pub fn format_six_digits_pad_zero(output: &mut Vec<u8>, value: ru32<0, 999_999>)
     write_many(output, &six_digits_zero_padded(value))
 }
 
-/// Appends all digits of a number, and nothing before them.
+/// Appends all digits of a number, and nothing before them. Of nine to twelve the last eight have a
+/// length that is known.
 #[inline]
+#[tactic(auto, using(crate::proofs::NumberLemmas::eight_after))]
 pub fn format_u64_pad_none(output: &mut Vec<u8>, value: u64) -> usize
     requires room { HasRoom output.old (length (decimal value)) }
     ensures writes { Writes output.old output.new result (decimal value) }
 {
-    write(output, u64_pad_none(value).as_str())
+    if value < 100_000_000 || value > 999_999_999_999 {
+        return write(output, u64_pad_none(value).as_str());
+    }
+    let mut taken = take_out(output);
+    let first = ru16::within((value / 100_000_000) as u16);
+    let count = write_many(&mut taken, &one_to_four_digits_no_padding(first));
+    let last = write_eight_digits(&mut taken, (value % 100_000_000) as u32);
+    put_back(output, taken);
+    count + last
+}
+
+/// Appends a number in eight places, with zeros in front.
+#[inline(always)]
+#[tactic(auto, using(crate::proofs::NumberLemmas::eight_digits))]
+pub(super) fn write_eight_digits(output: &mut Vec<u8>, value: u32) -> usize
+    requires digits { value < 100_000_000 }
+    requires room { HasRoom output.old 8 }
+    ensures writes { Writes output.old output.new result (fixed 8 value) }
+{
+    let first = ru16::within((value / 10_000) as u16);
+    let last = ru16::within((value % 10_000) as u16);
+    let count = format_four_digits_pad_zero(output, first);
+    count + format_four_digits_pad_zero(output, last)
 }
 
 /// Appends a number in `width` places, with zeros in front, where it has no more digits than that.

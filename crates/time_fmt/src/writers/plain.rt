@@ -61,18 +61,17 @@ pub(crate) fn write_literal(output: &mut Vec<u8>, bytes: &[u8]) -> usize
     requires room { HasRoom output.old (length bytes.now) }
     ensures writes { Writes output.old output.new result bytes.now }
 {
-    match bytes {
-        [a] => {
-            output.push_reserved(*a);
-            1
-        }
-        [a, b] => {
-            output.push_reserved(*a);
-            output.push_reserved(*b);
-            2
-        }
-        _ => write_long_literal(output, bytes),
+    if bytes.len() == 1 {
+        output.push_reserved(bytes[0]);
+        return 1;
     }
+    if bytes.len() == 2 {
+        let (first, second) = (bytes[0], bytes[1]);
+        output.push_reserved(first);
+        output.push_reserved(second);
+        return 2;
+    }
+    write_long_literal(output, bytes)
 }
 
 // Appends a literal of any length to a vector that is taken out.

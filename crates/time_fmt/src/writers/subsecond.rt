@@ -12,7 +12,7 @@ use crate::error::Format;
 use crate::modifier::Modifier;
 use crate::writers::digits::{
     format_five_digits_pad_zero, format_four_digits_pad_zero, format_single_digit,
-    format_six_digits_pad_zero, format_two_digits,
+    format_six_digits_pad_zero, format_two_digits, write_eight_digits,
 };
 use crate::writers::plain::{put_back, take_out, write, write_pair};
 use time_below::format_description::modifier::{Padding, SubsecondDigits};
@@ -23,7 +23,8 @@ use time_provide::ComponentProvider;
 use time_provide::ranges::Nanoseconds;
 
 /// Appends the first decimals of the second, one to nine, or as many as are needed, at least one.
-#[inline]
+#[cold]
+#[inline(never)]
 #[tactic(auto, using(crate::proofs::DecimalLemmas::first_decimals))]
 pub fn fmt_subsecond(
     output: &mut Vec<u8>,
@@ -52,7 +53,7 @@ pub fn fmt_subsecond(
         }
         SubsecondDigits::Six => write_six_decimals(output, nanosecond),
         SubsecondDigits::Seven => format_seven_digits(output, number / 100),
-        SubsecondDigits::Eight => format_eight_digits(output, number / 10),
+        SubsecondDigits::Eight => write_eight_digits(output, number / 10),
         SubsecondDigits::Nine => write_nine_digits(output, nanosecond),
         SubsecondDigits::OneOrMore => write_fraction(output, nanosecond),
     }
@@ -103,19 +104,9 @@ fn write_rare_decimals(
     ensures writes { Writes output.old output.new result (subsecond_text digits nanosecond) }
 {
     let mut taken = take_out(output);
-    let count = write_decimals(&mut taken, nanosecond, digits);
+    let count = fmt_subsecond(&mut taken, nanosecond, modifier::Subsecond { digits });
     put_back(output, taken);
     count
-}
-
-// Appends decimals of the second to a vector that was taken out.
-#[cold]
-#[inline(never)]
-fn write_decimals(output: &mut Vec<u8>, nanosecond: Nanoseconds, digits: SubsecondDigits) -> usize
-    requires room { HasRoom output.old (length (subsecond_text digits nanosecond)) }
-    ensures writes { Writes output.old output.new result (subsecond_text digits nanosecond) }
-{
-    fmt_subsecond(output, nanosecond, modifier::Subsecond { digits })
 }
 
 /// Appends the first three of the nine digits. Allocates nothing and refuses nothing.
@@ -235,16 +226,4 @@ fn format_seven_digits(output: &mut Vec<u8>, number: u32) -> usize
 {
     let first = format_single_digit(output, ru8::new((number / 1_000_000) as u8).unwrap());
     first + format_six_digits_pad_zero(output, ru32::new(number % 1_000_000).unwrap())
-}
-
-// Appends a number in eight places, with zeros in front.
-#[tactic(auto, using(crate::proofs::DecimalLemmas::two_parts))]
-fn format_eight_digits(output: &mut Vec<u8>, number: u32) -> usize
-    requires digits { number < 100_000_000 }
-    requires room { HasRoom output.old 8 }
-    ensures writes { Writes output.old output.new result (fixed 8 number) }
-{
-    let first = ru8::new((number / 1_000_000) as u8).unwrap();
-    let count = format_two_digits(output, first, Padding::Zero);
-    count + format_six_digits_pad_zero(output, ru32::new(number % 1_000_000).unwrap())
 }

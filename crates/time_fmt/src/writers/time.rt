@@ -16,7 +16,7 @@ use time_provide::ComponentProvider;
 use time_provide::ranges::{Hours, Minutes, Seconds};
 
 /// Appends the hour of the 12-hour clock, 1 to 12, in two places.
-#[inline]
+#[inline(always)]
 pub fn fmt_hour_12(output: &mut Vec<u8>, hour: Hours, modifier: modifier::Hour12) -> usize
     requires room { HasRoom output.old (length (padded_text modifier.padding 2 (hour_12 hour))) }
     ensures writes { Writes output.old output.new result
@@ -123,7 +123,7 @@ impl Modifier for modifier::Minute {
 }
 
 /// Appends `am` or `pm`, in capitals if they are wanted.
-#[inline]
+#[inline(always)]
 pub fn fmt_period(output: &mut Vec<u8>, period: Period, modifier: modifier::Period) -> usize
     requires room { HasRoom output.old (length (period_text period modifier.is_uppercase)) }
     ensures writes { Writes output.old output.new result

@@ -11,7 +11,7 @@ ghost use Rattle.time_fmt.specs.Text.{padded_text};
 use crate::error::Format;
 use crate::modifier::Modifier;
 use crate::writers::digits::{format_single_digit, format_two_digits};
-use crate::writers::plain::{write_each, write_three};
+use crate::writers::plain::{put_back, take_out, write_each, write_three};
 use time_below::Weekday;
 use time_below::format_description::{Group, modifier};
 use time_digits::ru8;
@@ -19,7 +19,7 @@ use time_provide::ComponentProvider;
 use time_provide::ranges::{IsoWeekNumber, MondayBasedWeek, SundayBasedWeek};
 
 /// Appends the first three letters of the weekday's English name.
-#[inline]
+#[inline(always)]
 pub fn fmt_weekday_short(
     output: &mut Vec<u8>,
     weekday: Weekday,
@@ -71,15 +71,18 @@ pub fn fmt_weekday_long(
     ensures writes { Writes output.old output.new result (weekday_name (days_from_monday weekday)) }
 {
     let _ = modifier;
-    match weekday {
-        Weekday::Monday => write_each(output, b"Monday"),
-        Weekday::Tuesday => write_each(output, b"Tuesday"),
-        Weekday::Wednesday => write_each(output, b"Wednesday"),
-        Weekday::Thursday => write_each(output, b"Thursday"),
-        Weekday::Friday => write_each(output, b"Friday"),
-        Weekday::Saturday => write_each(output, b"Saturday"),
-        Weekday::Sunday => write_each(output, b"Sunday"),
-    }
+    let mut taken = take_out(output);
+    let count = match weekday {
+        Weekday::Monday => write_each(&mut taken, b"Monday"),
+        Weekday::Tuesday => write_each(&mut taken, b"Tuesday"),
+        Weekday::Wednesday => write_each(&mut taken, b"Wednesday"),
+        Weekday::Thursday => write_each(&mut taken, b"Thursday"),
+        Weekday::Friday => write_each(&mut taken, b"Friday"),
+        Weekday::Saturday => write_each(&mut taken, b"Saturday"),
+        Weekday::Sunday => write_each(&mut taken, b"Sunday"),
+    };
+    put_back(output, taken);
+    count
 }
 
 impl Modifier for modifier::WeekdayLong {

@@ -3,7 +3,7 @@ use Rattle.time_below.proofs.NodeLemmas.{next_of, smaller_rest}
 use Rattle.time_fmt.proofs.Engine.{along_from_the_start, room_for_next, all_along}
 use Rattle.time_fmt.proofs.Engine.{by_lengths, list_refused, written_along, first_appends}
 use Rattle.time_fmt.proofs.formattable.engine.+engine.Goals as goal
-use Rattle.time_fmt.proofs.formattable.engine.+engine.Goals.{write_nodes-in-Some, write_nodes-in-None+in-Ok}
+use Rattle.time_fmt.proofs.formattable.engine.+engine.Goals.{write_nodes-in-Some, write_nodes-in-None+in-Some-write_seldom, write_nodes-in-None+in-None-write_seldom+in-Ok}
 
 pub write_nodes-loop-node-init : goal.write_nodes-loop-node-init
 write_nodes-loop-node-init g t c =
@@ -30,9 +30,16 @@ write_nodes-loop-node-preserved g t c =
           (written_along {agrees_after = g.V.ComponentProvider.agrees c.write_leaf.new.state c.args.value.now}
           c.args.output.now c.loop-node.taken c.write_leaf.new.output _ _ _ _ _ c.loop-node.invariant next smaller
           step.appends.appends step.agrees step.appends.text))
-      | write_nodes-in-None+in-Ok w ↦
+      | write_nodes-in-None+in-Some-write_seldom w ↦
+          let step = w.in-Some-write_seldom.ensures in
+          rw (w.taken-is, w.state-is)
+          (by_lengths {agrees = g.V.ComponentProvider.agrees w.write_seldom.new.state c.args.value.now} _ _ _ _ _
+          (written_along {agrees_after = g.V.ComponentProvider.agrees w.write_seldom.new.state c.args.value.now}
+          c.args.output.now c.loop-node.taken w.write_seldom.new.output _ _ _ _ _ c.loop-node.invariant next smaller
+          (rw w.in-None.ensures.appends at step.appends.appends) step.agrees step.appends.text))
+      | write_nodes-in-None+in-None-write_seldom+in-Ok w ↦
           let step = w.in-Ok.ensures in
-          let same = w.put_back.ensures.put ∙ w.in-None.ensures.appends in
+          let same = w.put_back.ensures.put ∙ w.in-None-write_seldom.ensures.appends ∙ w.in-None.ensures.appends in
           rw (w.taken-is, w.state-is, w.take_out-taken-in-Ok.ensures.taken)
           (by_lengths {agrees = g.V.ComponentProvider.agrees w.write_node.new.state c.args.value.now} _ _ _ _ _
           (written_along {agrees_after = g.V.ComponentProvider.agrees w.write_node.new.state c.args.value.now}
@@ -46,7 +53,9 @@ write_nodes-returns-in-Err g t c =
     c.node-item.is in
     record {
       appends = list_refused c.args.output.now c.loop-node.taken c.write_node.new.output c.in-Err.refusal _ _ _ _ _
-          c.loop-node.invariant next (rw (c.put_back.ensures.put, c.in-None.ensures.appends) at c.in-Err.ensures.appends);
+          c.loop-node.invariant next
+          (rw (c.put_back.ensures.put, c.in-None-write_seldom.ensures.appends, c.in-None.ensures.appends)
+          at c.in-Err.ensures.appends);
       agrees = c.in-Err.ensures.agrees;
     }
 
