@@ -29,7 +29,7 @@ use Rattle.time_digits.specs.Digits.{zero_padded}
 use Rattle.time_known.specs.Fields.{hours_of_fields, offset_fields}
 use Rattle.time_known.specs.declared.fields.OffsetFields.{OffsetFields}
 use Rattle.time_known.specs.Sink.{Buffer, Fits, PutsJust, PutsUpTo}
-use Rattle.time_known.proofs.SinkLemmas.{just, puts_then, puts_up_to_more}
+use Rattle.time_known.proofs.SinkLemmas.{just_puts_up_to, puts_then, puts_up_to_more}
 
 -- ---- an item
 
@@ -49,7 +49,7 @@ offset_put texts i has_time v o old new kind usual same put =
     let puts = rw same at put in
     let parts = and_parts has_time (has_choices 1 0 i) (rw kind at usual) in
     let is = choices_of 1 0 i parts.1 in
-    rw (kind, is.0, is.1, is.2, parts.0) (refl, just puts)
+    rw (kind, is.0, is.1, is.2, parts.0) (refl, just_puts_up_to puts)
 
 -- a year without a sign
 year_tests : (y : ℤ) → pos 0 ≤ℤ y → y ≤ℤ pos 9_999
@@ -67,7 +67,7 @@ extended_year_put texts i has_time v n old new kind usual year same put =
     let puts = rw same at put in
     let is = choices_of 0 0 i (rw kind at usual) in
     let tests = year_tests v.date.year year.0 year.1 in
-    rw (kind, is.0, is.1, is.2, tests.0, tests.1) (refl, puts_up_to_more (just puts) (omega arith))
+    rw (kind, is.0, is.1, is.2, tests.0, tests.1) (refl, puts_up_to_more (just_puts_up_to puts) (omega arith))
 
 pub year_put : (texts : List ℕ) (i : Item) (has_time : Bool) (v : OffsetDateAndTime) (n :
     ℕ) (old new : Buffer) → i.kind ≡ 14 → IsTrue (is_usual has_time i) → IsShortYear v
@@ -77,7 +77,7 @@ year_put texts i has_time v n old new kind usual year same put =
     let puts = rw same at put in
     let is = choices_of 0 0 i (rw kind at usual) in
     let tests = year_tests v.date.year year.0 year.1 in
-    rw (kind, is.0, is.1, is.2, tests.0, tests.2) (refl, puts_up_to_more (just puts) (omega arith))
+    rw (kind, is.0, is.1, is.2, tests.0, tests.2) (refl, puts_up_to_more (just_puts_up_to puts) (omega arith))
 
 -- ---- a description and its value
 

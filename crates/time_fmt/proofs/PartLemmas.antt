@@ -10,7 +10,7 @@ use Rattle.time_fmt.specs.Description.{tree_outcome, trees_outcome}
 use Rattle.time_fmt.specs.Outcome.{Outcome, Refusal, done, join}
 use Rattle.time_fmt.specs.Parts.{both_lists, PairMeansBothLists, ItemMeansItsList}
 
--- which are put together first does not matter
+-- joining outcomes is associative
 joins_regrouped : (x : List ℕ) (r : Option Refusal) (y : List ℕ) (s : Option Refusal) (c : Outcome)
     → join (join (record { bytes = x; refusal = r }) (record { bytes = y; refusal = s })) c
     ≡ join (record { bytes = x; refusal = r }) (join (record { bytes = y; refusal = s }) c)

@@ -170,10 +170,29 @@ fn make_room(output: &mut Vec<u8>, width: usize) -> Result<(), AllocError>
         → max (2 * vec_capacity output.old) (vec_len output.old + width)
         ≤ vec_capacity output.new) }
 {
-    let (len, capacity) = (output.len(), output.capacity());
-    if width <= capacity - len {
+    if width <= output.capacity() - output.len() {
         return Ok(());
     }
+    grow(output, width)
+}
+
+/// Reserves spare capacity for this many bytes, of which some are missing. A call of its own keeps the
+/// fast path free of what this one needs.
+#[cold]
+#[inline(never)]
+fn grow(output: &mut Vec<u8>, width: usize) -> Result<(), AllocError>
+    requires missing { vec_capacity output.old < vec_len output.old + width }
+    ensures items { output.new.items ≡ output.old.items }
+    ensures len { vec_len output.new ≡ vec_len output.old }
+    ensures room { OnOk result (HasRoom output.new width) }
+    ensures grown { vec_capacity output.old ≤ vec_capacity output.new }
+    ensures bounded { vec_capacity output.new ≤ max (2 * vec_capacity output.old)
+        (vec_len output.old + width) }
+    ensures refused { OnErr result (vec_capacity output.new ≡ vec_capacity output.old) }
+    ensures doubled { OnOk result (max (2 * vec_capacity output.old) (vec_len output.old + width)
+        ≤ vec_capacity output.new) }
+{
+    let (len, capacity) = (output.len(), output.capacity());
     output.reserve_exact(width.max(capacity.saturating_add(capacity - len)))
 }
 

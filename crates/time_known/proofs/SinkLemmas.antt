@@ -20,8 +20,8 @@ puts_up_to_length p = record {
 }
 
 -- a text of just this many bytes has at most this many
-pub just : {a : ℕ} {old new : Buffer} {text : List ℕ} → PutsJust a old new text → PutsUpTo a old new text
-just p = record {
+pub just_puts_up_to : {a : ℕ} {old new : Buffer} {text : List ℕ} → PutsJust a old new text → PutsUpTo a old new text
+just_puts_up_to p = record {
   put = p.put;
   grown = omega (arith, p.grown, p.long);
   capacity = p.capacity;

@@ -44,7 +44,7 @@ parts_by components kind f = record {
 abbrev pub chosen_parts : Choices → Facts → Parts
 chosen_parts c f = parts_by c.formatted_components c.date_kind f
 
--- the same by the numbers of the month and the day
+-- what follows the year, with the numbers of the month and the day in place of a day of a leap year
 abbrev pub shown_rest : RestOfDate → RestOfDate
 shown_rest (rest.MonthAndDay d) = rest.MonthAndDay (day.OfMonth (month_and_day d).month (month_and_day d).day)
 shown_rest (rest.WeekAndWeekday week weekday) = rest.WeekAndWeekday week weekday

@@ -61,6 +61,24 @@ const DAYS: &str = "\
 1217 Dec1218 Dec1219 Dec1220 Dec1221 Dec1222 Dec1223 Dec1224 Dec\
 1225 Dec1226 Dec1227 Dec1228 Dec1229 Dec1230 Dec1231 Dec";
 
+// Three digits of each day of a year.
+const ORDINALS: &str = "\
+001002003004005006007008009010011012013014015016017018019020021022023024025026\
+027028029030031032033034035036037038039040041042043044045046047048049050051052\
+053054055056057058059060061062063064065066067068069070071072073074075076077078\
+079080081082083084085086087088089090091092093094095096097098099100101102103104\
+105106107108109110111112113114115116117118119120121122123124125126127128129130\
+131132133134135136137138139140141142143144145146147148149150151152153154155156\
+157158159160161162163164165166167168169170171172173174175176177178179180181182\
+183184185186187188189190191192193194195196197198199200201202203204205206207208\
+209210211212213214215216217218219220221222223224225226227228229230231232233234\
+235236237238239240241242243244245246247248249250251252253254255256257258259260\
+261262263264265266267268269270271272273274275276277278279280281282283284285286\
+287288289290291292293294295296297298299300301302303304305306307308309310311312\
+313314315316317318319320321322323324325326327328329330331332333334335336337338\
+339340341342343344345346347348349350351352353354355356357358359360361362363364\
+365366";
+
 /// The month and the day of a date, by what is at hand.
 #[derive(Clone, Copy)]
 pub enum CalendarDay {
@@ -124,6 +142,34 @@ impl CalendarDay {
             CalendarDay::OfMonth { month, day: _ } => month_letters(month),
         }
     }
+}
+
+// The first of three digits of a day of the year, and the next two.
+#[inline]
+#[tactic(auto, using(crate::proofs::DayLemmas::digits_of_ordinals))]
+pub(crate) fn ordinal_digits(day: Ordinal) -> (&'static str, &'static str)
+    ensures digits { result.0.now ++ result.1.now ≡ zero_padded 3 day }
+    ensures first { length result.0.now ≡ 1 }
+    ensures rest { length result.1.now ≡ 2 }
+{
+    (
+        piece_of_ordinal(ORDINALS, day, 0, 1),
+        piece_of_ordinal(ORDINALS, day, 1, 2),
+    )
+}
+
+// This many bytes of the row of a day, from one on, of a table whose rows are three bytes.
+#[inline]
+#[tactic(auto, using(crate::proofs::DayLemmas::row_boundary))]
+fn piece_of_ordinal(table: &'static str, day: Ordinal, from: usize, len: usize) -> &'static str
+    requires ascii { IsTrue (is_ascii table.now) }
+    requires rows { length table.now ≡ 1_098 }
+    requires within { from + len ≤ 3 }
+    ensures piece { result.now ≡ take len (drop (3 * (day - 1) + from) table.now) }
+    ensures length { length result.now ≡ len }
+{
+    let start = 3 * (day.get() as usize - 1) + from;
+    &table[start..start + len]
 }
 
 // Whether a year is a leap year.

@@ -74,9 +74,9 @@ date_width_is c d = ap (λ (n : ℕ). year_width c.year_is_six_digits + n) (rest
 
 -- ---- all of them
 
--- nothing behind an outcome leaves it as it is
-alone : (o : Outcome) → join o (done []) ≡ o
-alone o = at o.bytes o.refusal where
+-- an empty text after an outcome changes nothing
+join_with_nothing : (o : Outcome) → join o (done []) ≡ o
+join_with_nothing o = at o.bytes o.refusal where
   at : (bytes : List ℕ) (refusal : Option Refusal)
       → join (record { bytes = bytes; refusal = refusal }) (done []) ≡ record { bytes = bytes; refusal = refusal }
   at bytes None = ap done (append-nil bytes)
@@ -87,7 +87,7 @@ text_by : (parts : FormattedComponents) (c : Choices) (f : Facts) → has_groups
 text_by components.None c f h some = absurd (some refl)
 text_by components.Date c f h some =
     let needed = has_needed (groups_of components.Date) f h in
-    of_the_date f _ (needed.date refl) ∙ sym (date_is c (the_date f)) ∙ sym (alone _)
+    of_the_date f _ (needed.date refl) ∙ sym (date_is c (the_date f)) ∙ sym (join_with_nothing _)
 text_by components.Time c f h some =
     let needed = has_needed (groups_of components.Time) f h in
     of_the_time f _ (needed.time refl) ∙ ap done (sym (append-nil (iso_time_text c (the_time f))))

@@ -2,6 +2,7 @@
 ghost use Rattle.std.specs.Prelude.{◌≡◌, ◌↔◌, IfSome, IsTrue, true};
 ghost use Rattle.time_known.specs.Config.{default_choices, separator, decimal_sign_text, has_time_letter, has_date, has_time, has_offset, groups_of};
 ghost use Rattle.time_known.specs.UsualText.{IsUsual, usual_choices, usual_of};
+ghost use Rattle.time_known.specs.Ways.{FitsWay, way_of, way_of_date};
 
 use crate::groups::Groups;
 use std::default::Default;
@@ -78,6 +79,26 @@ pub struct Usual {
     pub decimal_digits: Option<ru8<1, 255>>,
     /// The sign before them.
     pub decimal_sign: DecimalSign,
+}
+
+/// The function by which a text is written, so far as a configuration decides it. Each of them but the last
+/// tests nothing that is decided, and writes where nothing of the value is refused.
+#[derive(Clone, Copy)]
+pub(super) enum Way {
+    /// All parts, with what is left to choose.
+    Usual(Usual),
+    /// The date alone by month and day, after four digits of the year.
+    CalendarDate,
+    /// The date alone by week and weekday.
+    WeekDate,
+    /// The date alone by the day of the year.
+    OrdinalDate,
+    /// The time alone to the second, with these decimals of it.
+    Time(Option<ru8<1, 255>>),
+    /// The date by month and day, and the time to the second.
+    DateTime(Option<ru8<1, 255>>),
+    /// Any other text.
+    Other,
 }
 
 impl Model for Config {
@@ -279,6 +300,34 @@ impl Config {
         }
     }
 
+    // The function by which a text is written.
+    #[inline(always)]
+    pub(super) fn way(&self) -> Way
+        ensures way { result ≡ way_of self.now }
+        ensures fits { FitsWay self.now result }
+    {
+        match self.formatted_components {
+            FormattedComponents::Date if !self.year_is_six_digits => self.date_kind.way(),
+            FormattedComponents::Time => match self.time_precision {
+                TimePrecision::Second { decimal_digits } => Way::Time(decimal_digits),
+                _ => Way::Other,
+            },
+            FormattedComponents::DateTime if !self.year_is_six_digits => {
+                match (self.date_kind, self.time_precision) {
+                    (DateKind::Calendar, TimePrecision::Second { decimal_digits }) => {
+                        Way::DateTime(decimal_digits)
+                    }
+                    _ => Way::Other,
+                }
+            }
+            FormattedComponents::DateTimeOffset => match self.usual() {
+                Some(usual) => Way::Usual(usual),
+                None => Way::Other,
+            },
+            _ => Way::Other,
+        }
+    }
+
     /// What is left to choose, where it is usual and has separators.
     #[inline(always)]
     pub fn separated(&self) -> Option<Usual>
@@ -336,6 +385,19 @@ impl Config {
         ensures { result ≡ has_time self.now.formatted_components }
     {
         self.formatted_components.has_time()
+    }
+}
+
+impl DateKind {
+    // The function by which such a date is written alone, after four digits of the year.
+    fn way(self) -> Way
+        ensures { result ≡ way_of_date self }
+    {
+        match self {
+            DateKind::Calendar => Way::CalendarDate,
+            DateKind::Week => Way::WeekDate,
+            DateKind::Ordinal => Way::OrdinalDate,
+        }
     }
 }
 

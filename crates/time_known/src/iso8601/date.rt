@@ -14,16 +14,17 @@ ghost use Rattle.time_known.specs.Iso8601Width.{iso_date_width, year_width};
 ghost use Rattle.time_known.specs.Sink.{Fits, PutsJust, PutsUpTo};
 
 use crate::accepted::OutOfRange;
+use crate::days::ordinal_digits;
 use crate::iso8601::config::{Config, DateKind};
 use crate::iso8601::parts::{DateParts, Parts, RestOfDate, append_parts, date_of};
 use crate::pieces::{put_back, take_out};
-use crate::put::{put_four_digits, put_month_and_day, put_pair, put_three_digits};
+use crate::put::{put_four_digits, put_month_and_day, put_pair};
 use crate::sink::Sink;
 use time_digits::num_fmt::six_digits_zero_padded;
 use time_digits::{ru8, ru16, single_digit};
 use time_fmt::Format;
 use time_provide::ComponentProvider;
-use time_provide::ranges::Year;
+use time_provide::ranges::{Ordinal, Year};
 
 /// Appends the date, whether or not the configuration formats dates. The output needs spare
 /// capacity for its width. Allocates nothing.
@@ -54,31 +55,8 @@ pub fn format_date<V: ComponentProvider>(
     }
 }
 
-// Appends the date, where four digits hold its year; else it appends nothing.
-#[inline(always)]
-pub(super) fn write_short_date<V: ComponentProvider>(
-    config: &Config,
-    output: &mut Vec<u8>,
-    value: &V,
-    state: &mut V::State,
-) -> Option<usize>
-    requires short { config.now.year_is_six_digits ≡ false }
-    requires supplied { IsTrue V.SUPPLIES_DATE }
-    requires room { HasRoom output.old (iso_date_width config.now) }
-    requires agrees { V.agrees state.old value.now }
-    ensures appends { MatchOption result (output.new ≡ output.old)
-        (λ n. AppendsUpTo (iso_date_width config.now) output.old output.new (Ok n)
-        (iso_date config.now (the_date (V.facts value.now)))) }
-    ensures agrees { AgreesOnDate (V.agrees state.new value.now) (V.facts value.now) }
-{
-    match config.date_kind() {
-        DateKind::Calendar => write_date_by(config, DateKind::Calendar, output, value, state),
-        DateKind::Week => write_date_by(config, DateKind::Week, output, value, state),
-        DateKind::Ordinal => write_date_by(config, DateKind::Ordinal, output, value, state),
-    }
-}
-
-// The same by a kind that the compiler sees, so that no other is tested.
+// Appends the date, where four digits hold its year; else it appends nothing. The compiler sees the
+// kind, so that no other is tested.
 #[inline(always)]
 pub(super) fn write_date_by<V: ComponentProvider>(
     config: &Config,
@@ -98,6 +76,27 @@ pub(super) fn write_date_by<V: ComponentProvider>(
     ensures agrees { AgreesOnDate (V.agrees state.new value.now) (V.facts value.now) }
 {
     append_short(config, output, date_of(kind, value, state))
+}
+
+// Appends the date by week and weekday. A call of its own keeps the other dates small.
+#[inline(never)]
+pub(super) fn write_week_date<V: ComponentProvider>(
+    config: &Config,
+    output: &mut Vec<u8>,
+    value: &V,
+    state: &mut V::State,
+) -> Option<usize>
+    requires kind { config.now.date_kind ≡ DateKind.Week }
+    requires short { config.now.year_is_six_digits ≡ false }
+    requires supplied { IsTrue V.SUPPLIES_DATE }
+    requires room { HasRoom output.old (iso_date_width config.now) }
+    requires agrees { V.agrees state.old value.now }
+    ensures appends { MatchOption result (output.new ≡ output.old)
+        (λ n. AppendsUpTo (iso_date_width config.now) output.old output.new (Ok n)
+        (iso_date config.now (the_date (V.facts value.now)))) }
+    ensures agrees { AgreesOnDate (V.agrees state.new value.now) (V.facts value.now) }
+{
+    write_date_by(config, DateKind::Week, output, value, state)
 }
 
 // Appends a date, where four digits hold its year.
@@ -225,7 +224,7 @@ fn put_rest<S: Sink>(output: &mut S, rest: &RestOfDate, dash: &str)
             week.expand(),
             weekday.expand(),
         ),
-        RestOfDate::DayOfYear { day } => put_day_of_year(output, dash, day.expand()),
+        RestOfDate::DayOfYear { day } => put_day_of_year(output, dash, day),
     }
 }
 
@@ -259,11 +258,13 @@ fn put_digit<S: Sink>(output: &mut S, number: ru8<0, 9>)
 // Puts the separator and three digits of the day of the year.
 #[inline(always)]
 #[tactic(auto, using(crate::proofs::LengthLemmas::joined_lengths))]
-fn put_day_of_year<S: Sink>(output: &mut S, separator: &str, day: ru16<0, 999>)
+fn put_day_of_year<S: Sink>(output: &mut S, separator: &str, day: Ordinal)
     requires room { Fits (3 + length separator.now) (S.buffer output.old) }
     ensures puts { PutsUpTo (3 + length separator.now)
         (S.buffer output.old) (S.buffer output.new) (separator.now ++ zero_padded 3 day) }
 {
     output.put(separator);
-    put_three_digits(output, day);
+    let (first, rest) = ordinal_digits(day);
+    output.put(first);
+    output.put(rest);
 }

@@ -1,5 +1,5 @@
 //! The parts of a value that a text is made of, one after another.
-ghost use Rattle.std.specs.Prelude.{◌≡◌, ◌≢◌, ◌+◌, IsTrue, MatchOption, Ok, OnOk, OnSome};
+ghost use Rattle.std.specs.Prelude.{◌≡◌, ◌≢◌, ◌+◌, IsTrue, MatchOption, Ok, OnOk, OnSome, false};
 ghost use Rattle.time_below.specs.Facts.{the_date, the_time};
 ghost use Rattle.time_fmt.specs.Outcome.{AppendsUpTo, join};
 ghost use Rattle.time_fmt.specs.Room.{HasRoom};
@@ -11,13 +11,13 @@ ghost use Rattle.time_known.specs.Iso8601Parts.{chosen_parts, date_parts, parts_
 ghost use Rattle.time_known.specs.Iso8601Width.{iso8601_width, iso_date_width, iso_time_width};
 ghost use Rattle.time_known.specs.Sink.{Fits};
 ghost use Rattle.time_known.specs.Accepted.{AppendsOrRefuses, PutsOutcome};
-ghost use Rattle.time_known.specs.UsualText.{IsUsual};
+ghost use Rattle.time_known.specs.Ways.{FitsWay};
 
 use crate::accepted::OutOfRange;
 use crate::days::CalendarDay;
 use crate::fields::{OffsetFields, TimeFields, offset_of, time_of};
-use crate::iso8601::config::{Config, DateKind, FormattedComponents, TimePrecision, Usual};
-use crate::iso8601::date::{put_date_part, write_date_by, write_short_date};
+use crate::iso8601::config::{Config, DateKind, FormattedComponents, TimePrecision, Way};
+use crate::iso8601::date::{put_date_part, write_date_by, write_week_date};
 use crate::iso8601::offset::put_offset_part;
 use crate::iso8601::time::{put_time_part, put_time_to_second, write_to_second};
 use crate::iso8601::usual_text::write_usual;
@@ -211,17 +211,16 @@ fn parts_of<V: ComponentProvider>(config: &Config, value: &V, state: &mut V::Sta
 }
 
 // Appends the parts that are formatted, of a value that supplies their groups. A configuration that
-// formats nothing is refused. The usual configurations have a fast path, unless something of the
-// value is refused.
+// formats nothing is refused.
 #[inline(always)]
 pub(super) fn write_parts<V: ComponentProvider>(
     config: &Config,
-    usual: &Option<Usual>,
+    way: &Way,
     output: &mut Vec<u8>,
     value: &V,
     state: &mut V::State,
 ) -> Result<usize, Format>
-    requires usual { IsUsual config.now usual.now }
+    requires way { FitsWay config.now way.now }
     requires supplied { IsTrue (are_supplied (groups_of config.now.formatted_components)
         V.SUPPLIES_DATE V.SUPPLIES_TIME V.SUPPLIES_OFFSET) }
     requires room { HasRoom output.old (iso8601_width config.now) }
@@ -233,11 +232,7 @@ pub(super) fn write_parts<V: ComponentProvider>(
         → AreReal (V.facts value.now)) }
     ensures agrees { V.agrees state.new value.now }
 {
-    if let Some(usual) = usual {
-        if let Some(count) = write_usual(config, usual, output, value, state) {
-            return Ok(count);
-        }
-    } else if let Some(count) = write_frequent(config, output, value, state) {
+    if let Some(count) = write_by_way(config, way, output, value, state) {
         return Ok(count);
     }
     if config.formats_nothing() {
@@ -280,15 +275,18 @@ fn write_each<V: ComponentProvider>(
     }
 }
 
-// Appends a date, a time to the second, or both, each in a straight line, where nothing of it is refused;
-// else, and by other configurations, it appends nothing.
+// Appends by the function that the configuration decided, where nothing of the value is refused; else it
+// appends nothing.
 #[inline(always)]
-fn write_frequent<V: ComponentProvider>(
+#[tactic(auto, using(crate::proofs::iso8601::GroupLemmas::by_choice))]
+fn write_by_way<V: ComponentProvider>(
     config: &Config,
+    way: &Way,
     output: &mut Vec<u8>,
     value: &V,
     state: &mut V::State,
 ) -> Option<usize>
+    requires way { FitsWay config.now way.now }
     requires supplied { IsTrue (are_supplied (groups_of config.now.formatted_components)
         V.SUPPLIES_DATE V.SUPPLIES_TIME V.SUPPLIES_OFFSET) }
     requires room { HasRoom output.old (iso8601_width config.now) }
@@ -296,25 +294,19 @@ fn write_frequent<V: ComponentProvider>(
     ensures appends { MatchOption result (output.new ≡ output.old)
         (λ n. AppendsUpTo (iso8601_width config.now) output.old output.new (Ok n)
         (iso8601_outcome config.now (V.facts value.now))) }
-    ensures parts { OnSome result
-        (config.now.formatted_components ≢ FormattedComponents.DateTimeOffset) }
+    ensures real { OnSome result
+        (config.now.formatted_components ≡ FormattedComponents.DateTimeOffset
+        → AreReal (V.facts value.now)) }
     ensures agrees { V.agrees state.new value.now }
 {
-    match config.formatted_components() {
-        FormattedComponents::Date => {
-            if config.year_is_six_digits() {
-                return None;
-            }
-            write_short_date(config, output, value, state)
-        }
-        FormattedComponents::Time => match config.time_precision() {
-            TimePrecision::Second { decimal_digits } => {
-                Some(write_to_second(config, decimal_digits, output, value, state))
-            }
-            _ => None,
-        },
-        FormattedComponents::DateTime => write_date_time(config, output, value, state),
-        _ => None,
+    match way {
+        Way::Usual(usual) => write_usual(config, usual, output, value, state),
+        Way::CalendarDate => write_date_by(config, DateKind::Calendar, output, value, state),
+        Way::WeekDate => write_week_date(config, output, value, state),
+        Way::OrdinalDate => write_date_by(config, DateKind::Ordinal, output, value, state),
+        Way::Time(digits) => Some(write_to_second(config, *digits, output, value, state)),
+        Way::DateTime(digits) => write_date_time(config, *digits, output, value, state),
+        Way::Other => None,
     }
 }
 
@@ -323,10 +315,14 @@ fn write_frequent<V: ComponentProvider>(
 #[tactic(auto, using(time_fmt::proofs::WriteLemmas::appends_both))]
 fn write_date_time<V: ComponentProvider>(
     config: &Config,
+    digits: Option<ru8<1, 255>>,
     output: &mut Vec<u8>,
     value: &V,
     state: &mut V::State,
 ) -> Option<usize>
+    requires short { config.now.year_is_six_digits ≡ false }
+    requires kind { config.now.date_kind ≡ DateKind.Calendar }
+    requires precision { config.now.time_precision ≡ TimePrecision.Second digits }
     requires date { IsTrue V.SUPPLIES_DATE }
     requires time { IsTrue V.SUPPLIES_TIME }
     requires room { HasRoom output.old (iso_date_width config.now + iso_time_width config.now) }
@@ -337,14 +333,6 @@ fn write_date_time<V: ComponentProvider>(
         (iso_time config.now (the_time (V.facts value.now))))) }
     ensures agrees { V.agrees state.new value.now }
 {
-    if config.year_is_six_digits() {
-        return None;
-    }
-    match (config.date_kind(), config.time_precision()) {
-        (DateKind::Calendar, TimePrecision::Second { decimal_digits }) => {
-            let date = write_date_by(config, DateKind::Calendar, output, value, state)?;
-            Some(date + write_to_second(config, decimal_digits, output, value, state))
-        }
-        _ => None,
-    }
+    let date = write_date_by(config, DateKind::Calendar, output, value, state)?;
+    Some(date + write_to_second(config, digits, output, value, state))
 }

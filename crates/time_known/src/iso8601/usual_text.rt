@@ -1,11 +1,10 @@
 //! The texts of the usual configurations, in pieces that are inlined.
-ghost use Rattle.std.specs.Prelude.{◌≡◌, ◌≤◌, ◌+◌, ◌*◌, ◌++◌, length, take, IsTrue, Some, OnSome, MatchOption, Ok, true};
+ghost use Rattle.std.specs.Prelude.{◌≡◌, ◌≤◌, ◌+◌, ◌*◌, ◌++◌, length, take, IsTrue, OnSome, MatchOption, Ok, true};
 ghost use Rattle.time_digits.specs.Digits.{is_ascii};
 ghost use Rattle.time_fmt.specs.Decimals.{decimals};
 ghost use Rattle.time_fmt.specs.Outcome.{AppendsUpTo};
 ghost use Rattle.time_fmt.specs.Room.{HasRoom};
 ghost use Rattle.time_provide.specs.Real.{AreReal};
-ghost use Rattle.time_known.specs.Config.{default_choices};
 ghost use Rattle.time_known.specs.Fields.{date_of_fields, offset_of_fields, shown, time_of_day};
 ghost use Rattle.time_known.specs.Groups.{AreAllSupplied, at_groups};
 ghost use Rattle.time_known.specs.Iso8601.{decimal_part, iso_of_groups};
@@ -99,29 +98,6 @@ impl Text for SeparatedText {
     #[inline(always)]
     fn put_into<S: Sink>(&self, output: &mut S) {
         put_usual(output, &self.usual, &self.fields, "-", ":");
-    }
-}
-
-/// The text by the default configuration, of fields of which nothing is refused.
-#[derive(Clone, Copy)]
-pub struct DefaultText {
-    /// The fields.
-    pub fields: Fields,
-}
-
-impl Text for DefaultText {
-    ghost width = { λ _. 35 };
-
-    ghost text = { λ t. usual_of_fields default_choices (Some 9) (shown t.fields) };
-
-    #[inline(always)]
-    fn put_into<S: Sink>(&self, output: &mut S) {
-        let usual = Usual {
-            has_separators: true,
-            decimal_digits: ru8::new(9),
-            decimal_sign: DecimalSign::Point,
-        };
-        put_usual(output, &usual, &self.fields, "-", ":");
     }
 }
 

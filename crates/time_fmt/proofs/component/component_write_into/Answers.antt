@@ -14,7 +14,7 @@ use Rattle.time_fmt.proofs.GuaranteeLemmas.{text_of_component}
 use Rattle.time_fmt.proofs.WriteLemmas.{appends_nothing}
 use Rattle.time_fmt.proofs.component.component_write_into.Goals as goal
 
--- a kind of text that is refused is that of a year beyond its range
+-- only a kind of a year is refused, beyond its range
 kind_refused : (k : Kind) → IsSome (kind_outcome k).refusal
     → kind_outcome k ≡ refused (out_of_range (conditional_range (codes "year")))
 kind_refused (kind.limited greatest n k) h =
