@@ -36,6 +36,10 @@ pub struct Iso8601;
 impl Format for Iso8601 {
     type Text = SeparatedText;
 
+    ghost WIDTH = { 35 };
+
+    const WIDTH: usize = 35;
+
     ghost outcome = { λ _. iso8601_of default_choices };
 
     #[inline(always)]

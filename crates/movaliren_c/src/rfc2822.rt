@@ -25,6 +25,10 @@ pub struct Rfc2822;
 impl Format for Rfc2822 {
     type Text = Rfc2822Text;
 
+    ghost WIDTH = { 31 };
+
+    const WIDTH: usize = 31;
+
     ghost outcome = { λ _. rfc2822_of };
 
     #[inline(always)]

@@ -21,6 +21,10 @@ pub struct Rfc3339;
 impl Format for Rfc3339 {
     type Text = Rfc3339Text;
 
+    ghost WIDTH = { 35 };
+
+    const WIDTH: usize = 35;
+
     ghost outcome = { λ _. rfc3339_of };
 
     #[inline(always)]

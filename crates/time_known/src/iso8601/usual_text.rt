@@ -1,16 +1,16 @@
 //! The texts of the usual configurations, in pieces that are inlined.
-ghost use Rattle.std.specs.Prelude.{◌≡◌, ◌≤◌, ◌+◌, ◌*◌, ◌++◌, length, take, IsTrue, Some, OnSome, MatchOption, Ok, true};
+ghost use Rattle.std.specs.Prelude.{◌≡◌, ◌≤◌, ◌+◌, ◌*◌, ◌++◌, length, take, IsTrue, OnSome, MatchOption, Ok, true};
 ghost use Rattle.time_digits.specs.Digits.{is_ascii};
 ghost use Rattle.time_fmt.specs.Decimals.{decimals};
 ghost use Rattle.time_fmt.specs.Outcome.{AppendsUpTo};
 ghost use Rattle.time_fmt.specs.Room.{HasRoom};
 ghost use Rattle.time_provide.specs.Real.{AreReal};
-ghost use Rattle.time_known.specs.Config.{default_choices};
 ghost use Rattle.time_known.specs.Fields.{date_of_fields, offset_of_fields, shown, time_of_day};
 ghost use Rattle.time_known.specs.Groups.{AreAllSupplied, at_groups};
 ghost use Rattle.time_known.specs.Iso8601.{decimal_part, iso_of_groups};
 ghost use Rattle.time_known.specs.Iso8601Width.{decimal_part_width, iso8601_width};
 ghost use Rattle.time_known.specs.Sink.{Fits, Puts, PutsUpTo};
+ghost use Rattle.time_known.specs.Stamps.{stamp_length, stamp_of_fields};
 ghost use Rattle.time_known.specs.UsualText.{usual_choices, usual_of_fields, usual_time_text};
 
 use crate::accepted::accepted_year_of;
@@ -102,26 +102,28 @@ impl Text for SeparatedText {
     }
 }
 
-/// The text by the default configuration, of fields of which nothing is refused.
+/// The stamp of a date and a time of day in UTC, by fields of which nothing is refused.
 #[derive(Clone, Copy)]
-pub struct DefaultText {
-    /// The fields.
+pub struct StampText {
+    /// The fields, of which the offset is not shown.
     pub fields: Fields,
 }
 
-impl Text for DefaultText {
-    ghost width = { λ _. 35 };
+impl Text for StampText {
+    ghost width = { λ _. stamp_length };
 
-    ghost text = { λ t. usual_of_fields default_choices (Some 9) (shown t.fields) };
+    ghost text = { λ t. stamp_of_fields (shown t.fields) };
 
     #[inline(always)]
     fn put_into<S: Sink>(&self, output: &mut S) {
         let usual = Usual {
             has_separators: true,
-            decimal_digits: ru8::new(9),
+            decimal_digits: Some(ru8::within(9)),
             decimal_sign: DecimalSign::Point,
         };
-        put_usual(output, &usual, &self.fields, "-", ":");
+        put_date(output, &self.fields, "-");
+        put_usual_time(output, &usual, &self.fields.time, ":");
+        output.put("Z");
     }
 }
 
