@@ -1,6 +1,6 @@
 //! Formats of moments, whose texts are written without an allocation.
 ghost use Rattle.std.specs.Prelude.{◌≡◌, ◌≤◌, ◌++◌, ℕ, IfOk, IfErr, drop, length};
-ghost use Rattle.movaliren_c.specs.Answer.{Answers, IsRefusedFor, IsText, IsWritten, gives};
+ghost use Rattle.movaliren_c.specs.Answer.{IsAnswer, IsRefusedFor, IsText, IsWritten, gives};
 ghost use Rattle.time_below.specs.Moment.{OffsetDateAndTime};
 ghost use Rattle.time_fmt.specs.Outcome.{Outcome, done};
 
@@ -139,9 +139,8 @@ pub fn answer_at<W: Writer<Item = UtcMoment>>(
     nanosecond: u32,
     room: &mut [u8],
 ) -> isize
-    ensures { Answers result (λ answer.
-        IsText (W.asked writer.now (record { seconds = seconds; nanosecond = nanosecond }))
-        answer room.old room.new) }
+    ensures { IsAnswer (W.asked writer.now (record { seconds = seconds; nanosecond = nanosecond }))
+        result room.old room.new }
 {
     let moment = UtcMoment {
         seconds,

@@ -1,6 +1,6 @@
 //! Stamps: texts of moments in UTC whose bytes are in the order of the moments.
-ghost use Rattle.movaliren_c.specs.Answer.{Answers, IsText, gives};
-ghost use Rattle.movaliren_c.specs.Batch.{IsBatch, ended};
+ghost use Rattle.movaliren_c.specs.Answer.{IsAnswer, gives};
+ghost use Rattle.movaliren_c.specs.Batch.{IsBatch};
 ghost use Rattle.movaliren_c.specs.Value.{stamp_value};
 ghost use Rattle.time_known.specs.Stamps.{stamp_length, stamp_of};
 
@@ -53,8 +53,7 @@ impl Writer for Stamp {
 /// The stamp of a moment.
 #[unsafe(no_mangle)]
 pub extern "C" fn movaliren_stamp(seconds: i64, nanosecond: u32, room: &mut [u8]) -> isize
-    ensures { Answers result (λ answer.
-        IsText (gives (stamp_value seconds nanosecond) stamp_of) answer room.old room.new) }
+    ensures { IsAnswer (gives (stamp_value seconds nanosecond) stamp_of) result room.old room.new }
 {
     answer_at(&Stamp, seconds, nanosecond, room)
 }
@@ -62,8 +61,7 @@ pub extern "C" fn movaliren_stamp(seconds: i64, nanosecond: u32, room: &mut [u8]
 /// The stamps of the moments, one after another, each ended by this byte.
 #[unsafe(no_mangle)]
 pub extern "C" fn movaliren_stamp_batch(moments: &[UtcMoment], end: u8, room: &mut [u8]) -> Progress
-    ensures { IsBatch moments.now
-        (λ moment. ended end (gives (stamp_value moment.seconds moment.nanosecond) stamp_of))
+    ensures { IsBatch moments.now end (λ m. gives (stamp_value m.seconds m.nanosecond) stamp_of)
         result room.old room.new }
 {
     write_lines(&Stamp, moments, end, room)
