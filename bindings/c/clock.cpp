@@ -171,9 +171,12 @@ typedef movaliren_progress many();
 #define NOW moment.seconds, moment.nanosecond
 #define ONE(call) [](const movaliren_utc_moment &moment) -> long { return long(call); }
 #define MANY(call) []() -> movaliren_progress { return call; }
-#define OUT room, LINE
 #define ALL_UTC moments, VALUES
 #define ALL_PARTS all_values(), VALUES
+// A buffer of the bytes that the header names for a format, or by a configuration or a description a line.
+#define ROOM(format) room, MOVALIREN_##format##_ROOM
+#define OUT room, LINE
+#define ALL_ROOM(format) '\n', room, VALUES * (MOVALIREN_##format##_ROOM + 1)
 #define ALL_OUT '\n', room, sizeof room
 
 // By the parts that gmtime_r gives.
@@ -218,38 +221,38 @@ static const struct {
     { "none", ONE(moment.nanosecond), 0 },
     { "gmtime_r", ONE(parts_of(moment).tm_sec), 0 },
 
-    { "rfc3339_utc", ONE(movaliren_rfc3339_utc(NOW, OUT)), 0 },
+    { "rfc3339_utc", ONE(movaliren_rfc3339_utc(NOW, ROOM(RFC3339))), 0 },
     NINE("rfc3339_utc", 0, "Z"),
-    { "rfc3339_local", ONE(movaliren_rfc3339_local(NOW, EAST, OUT)), 0 },
+    { "rfc3339_local", ONE(movaliren_rfc3339_local(NOW, EAST, ROOM(RFC3339))), 0 },
     NINE("rfc3339_local", EAST, "+01:00"),
-    { "rfc3339", BY_PARTS(movaliren_rfc3339(&value, OUT)), 0 },
+    { "rfc3339", BY_PARTS(movaliren_rfc3339(&value, ROOM(RFC3339))), 0 },
     NINE("rfc3339", 0, "Z"),
-    { "rfc3339_utc_batch", 0, MANY(movaliren_rfc3339_utc_batch(ALL_UTC, ALL_OUT)) },
-    { "rfc3339_local_batch", 0, MANY(movaliren_rfc3339_local_batch(ALL_UTC, EAST, ALL_OUT)) },
-    { "rfc3339_batch", 0, MANY(movaliren_rfc3339_batch(ALL_PARTS, ALL_OUT)) },
+    { "rfc3339_utc_batch", 0, MANY(movaliren_rfc3339_utc_batch(ALL_UTC, ALL_ROOM(RFC3339))) },
+    { "rfc3339_local_batch", 0, MANY(movaliren_rfc3339_local_batch(ALL_UTC, EAST, ALL_ROOM(RFC3339))) },
+    { "rfc3339_batch", 0, MANY(movaliren_rfc3339_batch(ALL_PARTS, ALL_ROOM(RFC3339))) },
 
-    { "rfc2822_utc", ONE(movaliren_rfc2822_utc(NOW, OUT)), 0 },
+    { "rfc2822_utc", ONE(movaliren_rfc2822_utc(NOW, ROOM(RFC2822))), 0 },
     NO_DECIMALS("rfc2822_utc", 0, MAIL " +0000"),
     { "rfc2822_utc/snprintf", ONE(mail_by_snprintf(moment, 0, "+0000")), 0 },
-    { "rfc2822_local", ONE(movaliren_rfc2822_local(NOW, EAST, OUT)), 0 },
+    { "rfc2822_local", ONE(movaliren_rfc2822_local(NOW, EAST, ROOM(RFC2822))), 0 },
     NO_DECIMALS("rfc2822_local", EAST, MAIL " +0100"),
     { "rfc2822_local/snprintf", ONE(mail_by_snprintf(moment, EAST, "+0100")), 0 },
-    { "rfc2822", BY_PARTS(movaliren_rfc2822(&value, OUT)), 0 },
+    { "rfc2822", BY_PARTS(movaliren_rfc2822(&value, ROOM(RFC2822))), 0 },
     NO_DECIMALS("rfc2822", 0, MAIL " +0000"),
     { "rfc2822/snprintf", ONE(mail_by_snprintf(moment, 0, "+0000")), 0 },
-    { "rfc2822_utc_batch", 0, MANY(movaliren_rfc2822_utc_batch(ALL_UTC, ALL_OUT)) },
-    { "rfc2822_local_batch", 0, MANY(movaliren_rfc2822_local_batch(ALL_UTC, EAST, ALL_OUT)) },
-    { "rfc2822_batch", 0, MANY(movaliren_rfc2822_batch(ALL_PARTS, ALL_OUT)) },
+    { "rfc2822_utc_batch", 0, MANY(movaliren_rfc2822_utc_batch(ALL_UTC, ALL_ROOM(RFC2822))) },
+    { "rfc2822_local_batch", 0, MANY(movaliren_rfc2822_local_batch(ALL_UTC, EAST, ALL_ROOM(RFC2822))) },
+    { "rfc2822_batch", 0, MANY(movaliren_rfc2822_batch(ALL_PARTS, ALL_ROOM(RFC2822))) },
 
-    { "stamp", ONE(movaliren_stamp(NOW, OUT)), 0 },
+    { "stamp", ONE(movaliren_stamp(NOW, ROOM(STAMP))), 0 },
     NINE("stamp", 0, "Z"),
-    { "stamp_batch", 0, MANY(movaliren_stamp_batch(ALL_UTC, ALL_OUT)) },
-    { "iso8601_utc", ONE(movaliren_iso8601_utc(NOW, OUT)), 0 },
+    { "stamp_batch", 0, MANY(movaliren_stamp_batch(ALL_UTC, ALL_ROOM(STAMP))) },
+    { "iso8601_utc", ONE(movaliren_iso8601_utc(NOW, ROOM(ISO8601))), 0 },
     NINE("iso8601_utc", 0, "Z"),
-    { "iso8601", BY_PARTS(movaliren_iso8601(&value, OUT)), 0 },
+    { "iso8601", BY_PARTS(movaliren_iso8601(&value, ROOM(ISO8601))), 0 },
     NINE("iso8601", 0, "Z"),
-    { "iso8601_utc_batch", 0, MANY(movaliren_iso8601_utc_batch(ALL_UTC, ALL_OUT)) },
-    { "iso8601_batch", 0, MANY(movaliren_iso8601_batch(ALL_PARTS, ALL_OUT)) },
+    { "iso8601_utc_batch", 0, MANY(movaliren_iso8601_utc_batch(ALL_UTC, ALL_ROOM(ISO8601))) },
+    { "iso8601_batch", 0, MANY(movaliren_iso8601_batch(ALL_PARTS, ALL_ROOM(ISO8601))) },
 
     { "iso8601_by_utc:three-decimals", ONE(movaliren_iso8601_by_utc(&milliseconds, NOW, OUT)), 0 },
     THREE("iso8601_by_utc:three-decimals"),

@@ -56,7 +56,7 @@ fn assert_error<V>(format: &impl Format<V>, value: &V, error: Error) {
 }
 
 #[test]
-fn texts() {
+fn each_way_gives_the_text_of_the_standard() {
     assert_text(&Rfc3339, &EXAMPLE, "1997-11-12T09:55:06.12-06:00");
     assert_text(
         &Rfc3339,
@@ -131,7 +131,7 @@ fn refuses_seconds_that_have_no_text() {
 }
 
 #[test]
-fn configurations() {
+fn a_configuration_changes_the_text() {
     let config = Iso8601By::default();
     let date = config.parts(Parts::Date);
     assert_text(&date.date_kind(DateKind::Week), &EXAMPLE, "1997-W46-3");
@@ -170,7 +170,7 @@ fn configurations() {
 }
 
 #[test]
-fn reasons() {
+fn the_first_part_that_is_out_of_range_is_the_error() {
     let new_year = Moment::new(2000, 1, 1);
     for (moment, error) in [
         (Moment::new(1_000_000, 13, 1), Error::Year),
@@ -202,7 +202,7 @@ fn reasons() {
 }
 
 #[test]
-fn descriptions() {
+fn a_description_writes_its_items_of_each_kind_of_value() {
     let date = Date {
         year: 1997,
         month: 11,
@@ -252,7 +252,7 @@ fn a_description_of_many_items() {
 }
 
 #[test]
-fn batches() {
+fn a_batch_stops_at_the_first_moment_that_has_no_text() {
     let moments = [
         EXAMPLE,
         Moment::new(2026, 11, 22),
@@ -336,7 +336,7 @@ fn a_text_in_place_has_at_most_64_bytes() {
 }
 
 #[test]
-fn decimals_of_a_second() {
+fn a_second_has_as_many_decimals_as_were_chosen() {
     use SubsecondDigits::*;
     let moment = EXAMPLE.at(9, 55, 6, 120_345_670);
     for (digits, text) in [

@@ -1,37 +1,21 @@
 -- A batch, item by item.
-use Rattle.std.proofs.Common.{◌≡◌, ◌<◌, ◌≤◌, ◌+◌, ◌-◌, ℕ, All, List, [], ◌∷◌, ◌++◌, length, take, drop, get_or, set}
-use Rattle.std.proofs.Common.{None, Result, Ok, Err, refl, sym, ap, ◌∙◌, ⊎_elim, inl, inr, arith, length-append, subst}
-use Rattle.std.proofs.lemmas.List.{take-append-drop, append-nil, take_more}
-use Rattle.std.proofs.lemmas.List.Elements.{All-push}
-use Rattle.std.proofs.lemmas.Grind.{common_steps, flat_map-append}
+use Rattle.std.proofs.Common.{◌≡◌, ◌<◌, ◌≤◌, ◌+◌, ◌-◌, ℕ, List, [], ◌∷◌, ◌++◌, length, take, drop, get_or, set}
+use Rattle.std.proofs.Common.{None, Some, Result, Ok, Err, refl, sym, ap, ◌∙◌, ⊎_elim, inl, inr, arith, length-append, subst}
+use Rattle.std.proofs.lemmas.List.{take-append-drop}
+use Rattle.std.proofs.lemmas.Grind.{common_steps}
 use Rattle.std.proofs.lemmas.Option.{slice_get-get_or}
 use Rattle.movaliren_c.specs.Answer.{Explains, IsRefusedFor, IsText}
-use Rattle.movaliren_c.specs.Batch.{bytes_of, ended, IsWhole, Stand, Stops, StopsAt, lines}
+use Rattle.movaliren_c.specs.Batch.{ended, Stand, Stops, StopsAt, lines}
 use Rattle.movaliren_c.specs.declared.reason.Reason.{Reason}
 use Rattle.movaliren_c.specs.declared.reason.Reason.TheVariants as reason
 use Rattle.movaliren_c.proofs.PushLemmas.{join_done, refused_first}
 use Rattle.time_fmt.specs.Outcome.{Outcome, join, done}
-
--- what a count says of a line
-whole_line : (v : Result Outcome Reason) (n : ℕ) (before after : List ℕ)
-    → IsText v (Ok n) before after
-    → IsWhole v × (n ≡ length (bytes_of v)) × (after ≡ bytes_of v ++ drop n before)
-whole_line (Ok o) n before after h = h
-whole_line (Err r) n before after h = absurd (let e = h.0 in cc)
 
 -- what a reason says of it
 stopped_line : (v : Result Outcome Reason) (r : Reason) (before after : List ℕ)
     → IsText v (Err r) before after → Stops r v (length before) × (after ≡ before)
 stopped_line (Ok o) r before after h = (h.1, h.0)
 stopped_line (Err e) r before after h = (let same = h.0 in cc, h.1)
-
--- a text that is written after the front of a buffer extends that front
-placed_after_front : (front init room later t : List ℕ) (b n : ℕ) → b ≡ length front
-    → room ≡ front ++ drop b init → n ≡ length t → take b later ≡ take b room
-    → drop b later ≡ t ++ drop n (drop b room) → later ≡ (front ++ t) ++ drop (b + n) init
-placed_after_front front init room later t b n eb er en et ed =
-    let whole = sym (take-append-drop b later) in
-    grind (arith, common_steps)
 
 -- a buffer is unchanged if its front and the rest are
 same_room : (room later : List ℕ) (b : ℕ) → take b later ≡ take b room → drop b later ≡ drop b room
@@ -44,52 +28,7 @@ bytes_after_front : (front init room : List ℕ) (b : ℕ) → b ≡ length fron
     → drop b room ≡ drop b init
 bytes_after_front front init room b eb er = grind (arith, common_steps)
 
-lines_more : {A : Type 0} (line : A → Result Outcome Reason) (items : List A) (n : ℕ) (d : A)
-    → n < length items
-    → lines line (take (n + 1) items) ≡ lines line (take n items) ++ bytes_of (line (get_or items n
-    d))
-lines_more line items n d inside =
-    ap (lines line) (take_more items n d inside) ∙ flat_map-append (λ item. bytes_of (line item))
-    (take n items) (get_or items n d ∷ []) ∙ ap (λ x. lines line (take n items) ++ x)
-    (append-nil (bytes_of (line (get_or items n d))))
-
--- one item more
-pub stand_more : {A : Type 0} (n : ℕ) (items : List A) (line : A → Result Outcome Reason) (bytes :
-    ℕ) (before room later : List ℕ) (d : A) (count : ℕ)
-    → n < length items → Stand n items line bytes before room
-    → IsText (line (get_or items n d)) (Ok count) (drop bytes room) (drop bytes later)
-    → take bytes later ≡ take bytes room → Stand (n + 1) items line (bytes + count) before later
-stand_more {A} n items line bytes before room later d count inside s h same =
-    let k = whole_line (line (get_or items n d)) count (drop bytes room) (drop bytes later) h in
-    let front = lines line (take n items) in
-    let t = bytes_of (line (get_or items n d)) in
-    let grown = lines_more line items n d inside in
-    let P : A → Type 0 = λ item. IsWhole (line item) in
-    record {
-      whole = subst (All P) (sym (take_more items n d inside)) (All-push P (take n items) (get_or
-          items n d) s.whole k.0);
-      counted = omega (arith, ap length grown, length-append front t, s.counted, k.1);
-      written = placed_after_front front before room later t bytes count s.counted s.written k.1 same k.2 ∙ ap
-          (λ x. x ++ drop (bytes + count) before) (sym grown);
-    }
-
 -- the next item stops
-pub stops_at : {A : Type 0} (n : ℕ) (items : List A) (line : A → Result Outcome Reason) (bytes : ℕ)
-    (before room later : List ℕ) (d : A) (r : Reason)
-    → n < length items → Stand n items line bytes before room
-    → IsText (line (get_or items n d)) (Err r) (drop bytes room) (drop bytes later)
-    → take bytes later ≡ take bytes room
-    → Stand n items line bytes before later × StopsAt r n items line (length (drop bytes before))
-stops_at n items line bytes before room later d r inside s h same =
-    let k = stopped_line (line (get_or items n d)) r (drop bytes room) (drop bytes later) h in
-    let e = same_room room later bytes same k.1 in
-    let b = bytes_after_front (lines line (take n items)) before room bytes s.counted s.written in (
-      rw e s,
-      rw (slice_get-get_or items n d inside) (subst (λ rest. Stops r (line (get_or items n
-          d)) (length rest)) b k.0),
-    )
-
--- the batch stops at an item that is known by its place
 pub stops_at_item : {A : Type 0} (n : ℕ) (items : List A) (line : A → Result Outcome Reason) (bytes
     : ℕ) (before room later : List ℕ) (item : A) (r : Reason)
     → n < length items → item ≡ get_or items n item → Stand n items line bytes before room
@@ -97,8 +36,12 @@ pub stops_at_item : {A : Type 0} (n : ℕ) (items : List A) (line : A → Result
     → take bytes later ≡ take bytes room
     → Stand n items line bytes before later × StopsAt r n items line (length (drop bytes before))
 stops_at_item n items line bytes before room later item r inside is s h same =
-    stops_at n items line bytes before room later item r inside s (subst (λ x. IsText (line x) (Err
-    r) (drop bytes room) (drop bytes later)) is h) same
+    let k = stopped_line (line item) r (drop bytes room) (drop bytes later) h in
+    let e = same_room room later bytes same k.1 in
+    let b = bytes_after_front (lines line (take n items)) before room bytes s.counted s.written in (
+      rw e s,
+      rw (slice_get-get_or items n item inside ∙ ap Some (sym is)) (subst (λ rest. Stops r (line item) (length rest)) b k.0),
+    )
 
 -- ---- the byte that ends a text
 

@@ -1,16 +1,16 @@
 -- Descriptions, item by item.
-use Rattle.std.proofs.Common.{◌≡◌, ◌≤◌, ◌<◌, ◌+◌, ℕ, min, List, [], ◌∷◌, length, drop, get_or, map, Result, Ok, Err}
-use Rattle.std.proofs.Common.{refl, sym, ap, ◌∙◌, arith, subst, rules, Vec, vec_len, vec_capacity}
-use Rattle.std.proofs.lemmas.List.{at_drop_more, at_drop_all}
+use Rattle.std.proofs.Common.{◌≡◌, ◌≤◌, ◌<◌, ◌+◌, ℕ, min, List, ◌∷◌, length, drop, get_or, map, Result, Ok, Err}
+use Rattle.std.proofs.Common.{refl, sym, ap, ◌∙◌, arith, Vec, vec_len}
+use Rattle.std.proofs.lemmas.List.{at_drop_more}
 use Rattle.std.specs.Global.{Global}
-use Rattle.movaliren_c.specs.Items.{HasRoomFor, IsAppended, list_of}
+use Rattle.movaliren_c.specs.Items.{IsAppended, list_of}
 use Rattle.movaliren_c.specs.ShortLine.{HasWidth}
 use Rattle.movaliren_c.specs.Value.{with_value}
 use Rattle.movaliren_c.specs.declared.reason.Reason.{Reason}
 use Rattle.time_below.specs.Facts.{Facts}
-use Rattle.time_below.specs.Tree.{Tree, Trees, trees, end}
+use Rattle.time_below.specs.Tree.{Tree, trees}
 use Rattle.time_below.specs.Width.{tree_width, trees_width, is_guaranteed_text}
-use Rattle.time_fmt.specs.Description.{tree_outcome, trees_outcome}
+use Rattle.time_fmt.specs.Description.{tree_outcome}
 use Rattle.time_fmt.specs.Guarantee.{IsTextIf}
 use Rattle.time_fmt.specs.Outcome.{Appends}
 use Rattle.time_fmt.specs.Room.{HasRoom}
@@ -95,38 +95,6 @@ summed_width f items i d (Ok t) greatest first sum width all inside is has withi
 summed_width f items i d (Err r) greatest first sum width all inside is has within summed = absurd
     has
 
--- an item that is none
-pub summed_stops : {I : Type 0} (f : I → Result Tree Reason) (items : List I) (i : ℕ) (d : I) (r :
-    Reason) (greatest first sum : ℕ) (all : Result (List Tree) Reason)
-    → i < length items → f (get_or items i d) ≡ Err r
-    → Summed greatest first sum all (list_of (map f (drop i items)))
-    → Err r ≡ with_value all (λ ts. Ok (min (first + trees_width (trees ts)) greatest))
-summed_stops f items i d r greatest first sum all inside none summed =
-    let step = next_not_there f items i d r inside none in
-    sym (summed.same ∙ ap (λ left. with_value left (λ ts. Ok (min (sum + trees_width (trees ts))
-    greatest))) step)
-
--- all items
-pub summed_all : {I : Type 0} (f : I → Result Tree Reason) (items : List I) (i : ℕ) (greatest first sum :
-    ℕ) (all : Result (List Tree) Reason)
-    → length items ≤ i → Summed greatest first sum all (list_of (map f (drop i items)))
-    → Ok sum ≡ with_value all (λ ts. Ok (min (first + trees_width (trees ts)) greatest))
-summed_all f items i greatest first sum all past summed =
-    let none : list_of (map f (drop i items)) ≡ Ok [] = at_drop_all (λ rest. list_of (map f rest))
-    items i past in
-    let e : min (sum + 0) greatest ≡ sum = omega (arith, summed.fits) in
-    sym (summed.same ∙ ap (λ left. with_value left (λ ts. Ok (min (sum + trees_width (trees ts))
-    greatest))) none ∙ ap Ok e)
-
--- a vector with capacity for a width below the greatest holds the texts
-pub room_for : (greatest width : ℕ) (all : Result (List Tree) Reason) (output : Vec ℕ Global)
-    → with_value all (λ ts. Ok (min (0 + trees_width (trees ts)) greatest)) ≡ Ok width
-    → width < greatest → vec_len output ≡ 0 → width ≤ vec_capacity output → HasRoomFor output all
-room_for greatest width (Ok ts) output is less none room =
-    let e : min (0 + trees_width (trees ts)) greatest ≡ width = let h = is in cc in
-    omega arith
-room_for greatest width (Err r) output is less none room = absurd (let h = is in cc)
-
 -- ---- texts
 
 -- the items before these were written without a refusal
@@ -137,30 +105,6 @@ pub record AlongItems (agrees : Type 0) (old now : Vec ℕ Global) (sum : ℕ) (
   pub is_every : all ≡ Ok every
   pub is_rest : left ≡ Ok rest
   pub along : Along agrees old now sum f (trees every) (trees rest) 0 0
-
-pub along_begins : {agrees : Type 0} (output : Vec ℕ Global) (f : Facts) (all : Result (List Tree)
-    Reason)
-    → HasRoomFor output all → agrees → AlongItems agrees output output 0 f all all
-along_begins output f (Ok ts) room state =
-    record {
-      every = ts;
-      rest = ts;
-      is_every = refl;
-      is_rest = refl;
-      along = record {
-        state = state;
-        size = omega arith;
-        bytes = refl;
-        refusal = refl;
-        count = omega arith;
-        grown = omega arith;
-        room = room;
-        within = omega arith;
-        capacity = refl;
-        text = λ text. text;
-      };
-    }
-along_begins output f (Err r) room state = absurd room
 
 -- the next item is there
 pub next_item : {agrees : Type 0} {I : Type 0} (g : I → Result Tree Reason) (items : List I) (i : ℕ)
@@ -173,16 +117,6 @@ pub next_item : {agrees : Type 0} {I : Type 0} (g : I → Result Tree Reason) (i
 next_item g items i d t old now sum f all inside there along =
     let step = sym (next_there g items i d t inside there) ∙ along.is_rest in
     parts_of t (list_of (map g (drop (i + 1) items))) along.rest step
-
--- no item that was written is invalid
-pub no_item_missing : {agrees : Type 0} {I : Type 0} (g : I → Result Tree Reason) (items : List I)
-    (i : ℕ) (d : I) (r : Reason) (old now : Vec ℕ Global) (sum : ℕ) (f : Facts) (all : Result (List
-    Tree) Reason)
-    → i < length items → g (get_or items i d) ≡ Err r
-    → AlongItems agrees old now sum f all (list_of (map g (drop i items))) → ⊥
-no_item_missing g items i d r old now sum f all inside none along =
-    let e = sym (next_not_there g items i d r inside none) ∙ along.is_rest in
-    absurd (let h = e in cc)
 
 -- the next item fits the capacity
 pub room_for_item : {agrees : Type 0} {I : Type 0} (g : I → Result Tree Reason) (items : List I) (i
@@ -230,21 +164,3 @@ along_refused g items i d t old now new sum e f all inside there along step with
     let refused = refused_along old now new e f (trees along.every) (trees along.rest) (trees next.0) t along.along
     (ap trees next.2) (record { appends = step; within = within }) in
     rw along.is_every refused.appends
-
--- the end of a list leaves nothing to write
-ended_along : {agrees : Type 0} (old now : Vec ℕ Global) (sum : ℕ) (f : Facts) (all : Trees)
-    → Along agrees old now sum f all end 0 0 → Appends old now (Ok sum) (trees_outcome all f)
-ended_along old now sum f all along = search (rules, arith)
-
--- all items
-pub along_ends : {agrees : Type 0} {I : Type 0} (g : I → Result Tree Reason) (items : List I) (i :
-    ℕ) (old now : Vec ℕ Global) (sum : ℕ) (f : Facts) (all : Result (List Tree) Reason)
-    → length items ≤ i → AlongItems agrees old now sum f all (list_of (map g (drop i items)))
-    → IsAppended old now (Ok sum) all f
-along_ends {agrees} g items i old now sum f all past along =
-    let none : list_of (map g (drop i items)) ≡ Ok [] = at_drop_all (λ rest. list_of (map g rest))
-    items i past in
-    let rest : along.rest ≡ [] = let e = sym along.is_rest ∙ none in cc in
-    let P : List Tree → Type 0 = λ ts. Along agrees old now sum f (trees along.every) (trees ts) 0 0
-    in
-    rw along.is_every (ended_along old now sum f (trees along.every) (subst P rest along.along))

@@ -1,5 +1,5 @@
 -- What a local date and time means.
-use Rattle.std.proofs.Common.{◌≡◌, ℕ, zero, suc, ◌+◌, ◌*◌, ◌/◌, ◌%◌, ◌<◌, ◌≤◌, ℤ, pos, neg_ℤ, ◌≤ℤ◌, ◌⊎◌, inl, inr, ◌+ℤ◌, ◌-ℤ◌, ◌*ℤ◌, unsigned_abs, Bool, true, false}
+use Rattle.std.proofs.Common.{◌≡◌, ℕ, ◌+◌, ◌*◌, ◌/◌, ◌%◌, ◌<◌, ◌≤◌, ℤ, pos, neg_ℤ, ◌≤ℤ◌, ◌⊎◌, inl, inr, ◌+ℤ◌, ◌-ℤ◌, ◌*ℤ◌, unsigned_abs, Bool, true, false}
 use Rattle.std.proofs.Common.{Result, Ok, Err, refl, sym, ap, ◌∙◌, subst, arith}
 use Rattle.std.specs.Prelude.{int_lt, int_le, nat_lt}
 use Rattle.std.proofs.lemmas.Bool.{and_parts}
@@ -7,26 +7,26 @@ use Rattle.std.proofs.lemmas.Bool.Decides.{nat_tests}
 use Rattle.std.proofs.lemmas.Int.{ints, by_lt_z}
 use Rattle.movaliren_c.proofs.OffsetLemmas.{settled_signed}
 use Rattle.movaliren_c.specs.Utc.{Means, value_at, with_offset, utc_value, offset_of_seconds, east_value, moved_east, local_value}
-use Rattle.movaliren_c.specs.Value.{checked, with_value, timestamp_value, stamp_value}
+use Rattle.movaliren_c.specs.Value.{checked, last_second, with_value, timestamp_value, stamp_value}
 use Rattle.movaliren_c.specs.declared.reason.Reason.{Reason}
 use Rattle.time_below.specs.Moment.{Moment, DateAndTime, OffsetDateAndTime, IsMoment, seconds_before, unix_seconds, utc_date_and_time}
 use Rattle.time_below.specs.Calendar.{OrdinalDate}
 use Rattle.time_below.specs.TimeOfDay.{TimeOfDay}
 use Rattle.time_below.specs.Offset.{Offset, AreOffsetParts, IsOffset, offset_seconds, signed, utc}
 use Rattle.time_below.proofs.MomentLemmas.{IsDate-utc_date, IsTimeOfDay-utc_time, unix_seconds-utc, only_utc}
-use Rattle.time_below.proofs.OffsetLemmas.{IsOffset-parts, signed_size}
+use Rattle.time_below.proofs.OffsetLemmas.{abs_signed, IsOffset-parts, signed_size}
 
 -- ---- what a value that there is comes of
 
-given : {A B : Type 0} (value : Result A Reason) (next : A → Result B Reason) (b : B)
+value_of_given : {A B : Type 0} (value : Result A Reason) (next : A → Result B Reason) (b : B)
     → with_value value next ≡ Ok b → (a : A) × (value ≡ Ok a) × (next a ≡ Ok b)
-given (Ok a) next b h = (a, refl, h)
-given (Err r) next b h = absurd (let e = h in cc)
+value_of_given (Ok a) next b h = (a, refl, h)
+value_of_given (Err r) next b h = absurd (let e = h in cc)
 
-passed : {A : Type 0} (test : Bool) (r : Reason) (rest : Result A Reason) (a : A)
+test_that_passed : {A : Type 0} (test : Bool) (r : Reason) (rest : Result A Reason) (a : A)
     → checked test r rest ≡ Ok a → (test ≡ true) × (rest ≡ Ok a)
-passed true r rest a h = (refl, h)
-passed false r rest a h = absurd (let e = h in cc)
+test_that_passed true r rest a h = (refl, h)
+test_that_passed false r rest a h = absurd (let e = h in cc)
 
 same_value : {A : Type 0} (a b : A) → ◌≡◌ {A = Result A Reason} (Ok a) (Ok b) → a ≡ b
 same_value a b h = let e = h in cc
@@ -36,12 +36,12 @@ same_value a b h = let e = h in cc
 is_moment : (s : ℤ) (n : ℕ) (m : Moment) → timestamp_value s n ≡ Ok m
     → IsMoment m × (m.seconds ≡ s) × (m.nanosecond ≡ n)
 is_moment s n m h =
-    let first = passed _ _ _ m h in
-    let second = passed _ _ _ m first.1 in
+    let first = test_that_passed _ _ _ m h in
+    let second = test_that_passed _ _ _ m first.1 in
     let same = same_value (record { seconds = s; nanosecond = n }) m second.1 in
     let range = and_parts _ _ first.0 in
     let low : int_le (neg_ℤ (pos seconds_before)) s ≡ true = range.0 in
-    let high : int_le s (pos 31_494_784_780_799) ≡ true = range.1 in
+    let high : int_le s (pos last_second) ≡ true = range.1 in
     let below : nat_lt n 1_000_000_000 ≡ true = second.0 in
     let real : IsMoment (record { seconds = s; nanosecond = n }) = ((omega (arith, ints), omega (arith, ints)), grind (arith, nat_tests)) in
     (subst IsMoment same real, sym (ap (λ (x : Moment). x.seconds) same), sym (ap (λ (x : Moment). x.nanosecond) same))
@@ -51,8 +51,8 @@ at_offset : (s : ℤ) (n : ℕ) (o : Offset) (t : OffsetDateAndTime) → value_a
     → (m : Moment) × IsMoment m × (m.seconds ≡ s) × (m.nanosecond ≡ n) × (t ≡ with_offset o (utc_date_and_time m))
 unfolding value_at
 at_offset s n o t h =
-    let outer = given (stamp_value s n) (λ v. Ok (with_offset o v)) t h in
-    let inner = given (timestamp_value s n) (λ m. Ok (utc_date_and_time m)) outer.0 outer.1 in
+    let outer = value_of_given (stamp_value s n) (λ v. Ok (with_offset o v)) t h in
+    let inner = value_of_given (timestamp_value s n) (λ m. Ok (utc_date_and_time m)) outer.0 outer.1 in
     let m = is_moment s n inner.0 inner.1 in
     let v = same_value (utc_date_and_time inner.0) outer.0 inner.2 in
     (inner.0, m.0, m.1, m.2, sym (same_value (with_offset o outer.0) t outer.2) ∙ ap (with_offset o) (sym v))
@@ -72,22 +72,17 @@ offset_back east =
     let n = unsigned_abs east in
     sum_of (int_lt east (pos 0)) (n / 3600) (n % 3600 / 60) (n % 60) n (parts_of n) ∙ sym (signed_size east)
 
-size_of : (b : Bool) (n : ℕ) → unsigned_abs (signed b n) ≡ n
-size_of false n = refl
-size_of true zero = refl
-size_of true (suc n) = refl
-
 real_offset : (b : Bool) (h m s : ℕ) → h ≤ 25 → m ≤ 59 → s ≤ 59
     → IsOffset (record { hours = signed b h; minutes = signed b m; seconds = signed b s })
 real_offset b h m s x y z =
     subst IsOffset (settled_signed b h m s)
     (IsOffset-parts (signed b h) (signed b m) (signed b s) _ _ refl refl
-    (omega (arith, x, size_of b h), omega (arith, y, size_of b m), omega (arith, z, size_of b s)))
+    (omega (arith, x, abs_signed b h), omega (arith, y, abs_signed b m), omega (arith, z, abs_signed b s)))
 
 -- the offset of so many seconds is one, and has so many seconds
 offset_of : (east : ℤ) (o : Offset) → east_value east ≡ Ok o → IsOffset o × (offset_seconds o ≡ east)
 offset_of east o h =
-    let test = passed _ _ _ o h in
+    let test = test_that_passed _ _ _ o h in
     let n = unsigned_abs east in
     let below : nat_lt n 93_600 ≡ true = test.0 in
     let within : n < 93_600 = grind (arith, nat_tests) in
@@ -121,10 +116,10 @@ means_at s moved n east o t h sum real ahead =
 
 pub local_means : (s : ℤ) (n : ℕ) (east : ℤ) (t : OffsetDateAndTime) → local_value s n east ≡ Ok t → Means s n east t
 local_means s n east t h =
-    let first = given (timestamp_value s n) (λ m. moved_east m east) t h in
+    let first = value_of_given (timestamp_value s n) (λ m. moved_east m east) t h in
     let m = first.0 in
     let is = is_moment s n m first.1 in
-    let second = given (east_value east) (λ o. value_at (m.seconds +ℤ east) m.nanosecond o) t first.2 in
+    let second = value_of_given (east_value east) (λ o. value_at (m.seconds +ℤ east) m.nanosecond o) t first.2 in
     let o = offset_of east second.0 second.1 in
     let means = means_at m.seconds (m.seconds +ℤ east) m.nanosecond east second.0 t second.2 refl o.0 o.1 in
     subst (λ x. Means x n east t) is.1 (subst (λ x. Means m.seconds x east t) is.2 means)

@@ -1,7 +1,7 @@
 -- The texts of usual items, one after another.
-use Rattle.std.proofs.Common.{◌≡◌, ◌<◌, ◌≤◌, ◌+◌, ℕ, min, ℤ, pos, negsuc, ◌≤ℤ◌, ◌-ℤ◌, unsigned_abs, Bool, true, false, List, [], ◌++◌, length, drop, take, get_or, map, Result, Ok, Err, Some, None}
+use Rattle.std.proofs.Common.{◌≡◌, ◌<◌, ◌≤◌, ◌+◌, ℕ, min, ℤ, pos, negsuc, ◌≤ℤ◌, ◌-ℤ◌, unsigned_abs, Bool, true, false, List, ◌++◌, length, drop, take, get_or, map, Result, Ok, Err, Some}
 use Rattle.std.proofs.Common.{refl, sym, ap, ◌∙◌, arith, append_assoc, subst}
-use Rattle.std.proofs.lemmas.List.{append-nil, at_drop_all, take_all}
+use Rattle.std.proofs.lemmas.List.{take_all}
 use Rattle.std.proofs.lemmas.List.Elements.{All-same}
 use Rattle.std.specs.List.{All}
 use Rattle.std.proofs.lemmas.Bool.{and_parts, eqb-true}
@@ -9,7 +9,7 @@ use Rattle.std.proofs.lemmas.Bool.Decides.{nat_tests}
 use Rattle.std.proofs.lemmas.Int.{ints}
 use Rattle.std.specs.Prelude.{IsTrue, int_lt, nat_le}
 use Rattle.movaliren_c.specs.Items.{item_tree, list_of}
-use Rattle.movaliren_c.specs.ShortLine.{AllFit, FitsAll, FitsItem, IsShortYear, PutsAll, PutsItem, facts_of_local, has_choices, is_usual}
+use Rattle.movaliren_c.specs.ShortLine.{AllFit, FitsItem, IsShortYear, PutsItem, facts_of_local, has_choices, is_usual}
 use Rattle.movaliren_c.specs.declared.item.Item.{Item}
 use Rattle.movaliren_c.specs.declared.reason.Reason.{Reason}
 use Rattle.movaliren_c.proofs.DescribedLemmas.{parts_of, next_there, next_not_there}
@@ -79,6 +79,8 @@ year_put texts i has_time v n old new kind usual year same put =
     let tests = year_tests v.date.year year.0 year.1 in
     rw (kind, is.0, is.1, is.2, tests.0, tests.2) (refl, puts_up_to_more (just_puts_up_to puts) (omega arith))
 
+pub ruleset usual_texts = (offset_put, extended_year_put, year_put)
+
 -- ---- a description and its value
 
 -- the usual items at the start are all items
@@ -94,10 +96,8 @@ all_usual before after n items same all usual =
 pub all_fit : (greatest width most : ℕ) (all : Result (List Tree) Reason)
     → with_value all (λ ts. Ok (min (0 + trees_width (trees ts)) greatest)) ≡ Ok width
     → width < greatest → width ≤ most → AllFit most all
-all_fit greatest width most (Ok ts) is less fits =
-    let e : min (0 + trees_width (trees ts)) greatest ≡ width = let h = is in cc in
-    omega arith
-all_fit greatest width most (Err r) is less fits = absurd (let h = is in cc)
+all_fit greatest width most (Ok ts) is less fits = grind arith
+all_fit greatest width most (Err r) is less fits = grind arith
 
 minus_none : (s e : ℤ) → e ≡ pos 0 → s -ℤ e ≡ s
 minus_none s e h = omega (arith, ints)
@@ -133,31 +133,6 @@ pub record SoFar (old now : Buffer) (f : Facts) (all left : Result (List Tree) R
   pub refusal : (trees_outcome (trees every) f).refusal ≡ (trees_outcome (trees rest) f).refusal
   pub widths : trees_width (trees every) ≡ width + trees_width (trees rest)
   pub room : Fits (trees_width (trees every)) old
-
-pub none_so_far : (sink : Buffer) (f : Facts) (all : Result (List Tree) Reason) → FitsAll sink all
-    → SoFar sink sink f all all
-none_so_far sink f (Ok ts) room =
-    record {
-      every = ts;
-      rest = ts;
-      is_every = refl;
-      is_rest = refl;
-      text = [];
-      width = 0;
-      puts = record {
-        put = sym (append-nil sink.bytes);
-        grown = omega arith;
-        capacity = refl;
-        rest = refl;
-        lender = refl;
-        within = omega arith;
-      };
-      bytes = refl;
-      refusal = refl;
-      widths = omega arith;
-      room = room;
-    }
-none_so_far sink f (Err r) room = absurd room
 
 -- the next item is there and fits
 pub next_fits : {I : Type 0} (g : I → Result Tree Reason) (items : List I) (i : ℕ) (d : I) (old now :
@@ -209,27 +184,3 @@ one_more g items i d old now new f all (Ok t) is inside so_far step =
       room = so_far.room;
     }
 one_more g items i d old now new f all (Err r) is inside so_far step = absurd step
-
--- all items
-pub all_put : {I : Type 0} (g : I → Result Tree Reason) (items : List I) (i : ℕ) (old now : Buffer)
-    (f : Facts) (all : Result (List Tree) Reason) → length items ≤ i
-    → SoFar old now f all (list_of (map g (drop i items))) → PutsAll old now all f
-all_put g items i old now f all past so_far =
-    let none : list_of (map g (drop i items)) ≡ Ok [] = at_drop_all (λ rest. list_of (map g rest))
-    items i past in
-    let rest : so_far.rest ≡ [] = let e = sym so_far.is_rest ∙ none in cc in
-    let left : trees_outcome (trees so_far.rest) f ≡ record { bytes = []; refusal = None } =
-    ap (λ ts. trees_outcome (trees ts) f) rest in
-    let bytes : (trees_outcome (trees so_far.every) f).bytes ≡ so_far.text =
-    so_far.bytes ∙ ap (λ (o : Outcome). so_far.text ++ o.bytes) left ∙ append-nil so_far.text in
-    let p = so_far.puts in
-    rw so_far.is_every (
-      so_far.refusal ∙ ap (λ (o : Outcome). o.refusal) left,
-      rw bytes (record {
-        put = p.put;
-        grown = p.grown;
-        capacity = p.capacity;
-        rest = p.rest;
-        lender = p.lender;
-      }),
-    )

@@ -97,6 +97,10 @@ abbrev pub IsText : Result Outcome Reason → Result ℕ Reason → List ℕ →
 IsText (Ok o) answer before after = IsWritten answer o before after
 IsText (Err r) answer before after = (answer ≡ Err r) × (after ≡ before)
 
+-- the number is that of such a result
+abbrev pub IsAnswer : Result Outcome Reason → ℤ → List ℕ → List ℕ → Type 0
+IsAnswer asked number before after = Answers number (λ answer. IsText asked answer before after)
+
 -- the text of an outcome is written; or the reason for no text, or out of memory, is returned, and the buffer is
 -- unchanged
 abbrev pub IsTextInMemory : Result Outcome Reason → Result ℕ Reason → List ℕ → List ℕ → Type 0

@@ -43,10 +43,11 @@ pub record Stand {A : Type 0} (n : ℕ) (items : List A) (line : A → Result Ou
 abbrev pub StopsAt : {A : Type 0} → Reason → ℕ → List A → (A → Result Outcome Reason) → ℕ → Type 0
 StopsAt r n items line room = IfSome (slice_get items n) (λ item. Stops r (line item) room)
 
--- The lines written are those of all items, or the next one has none for the reason that is returned.
-pub record IsBatch {A : Type 0} (items : List A) (line : A → Result Outcome Reason) (p : Progress)
+-- The texts written, each ended by this byte, are those of all items, or the next one has none for the reason that is
+-- returned.
+pub record IsBatch {A : Type 0} (items : List A) (end_byte : ℕ) (asked : A → Result Outcome Reason) (p : Progress)
     (before after : List ℕ) : Type 0 where
-  pub stand : Stand p.moments items line p.bytes before after
+  pub stand : Stand p.moments items (λ item. ended end_byte (asked item)) p.bytes before after
   pub stopped : ((p.reason ≡ pos 0) × (p.moments ≡ length items))
       ⊎ ((r : Reason) × (p.reason ≡ reason_number r) × (p.moments < length items)
-      × StopsAt r p.moments items line (length (drop p.bytes before)))
+      × StopsAt r p.moments items (λ item. ended end_byte (asked item)) (length (drop p.bytes before)))

@@ -1,6 +1,6 @@
 -- What a description that crosses as data means: a tree for each item, or the reason why there is
 -- none.
-use Rattle.std.specs.Prelude.{ℕ, min, ◌+◌, ◌-◌, Bool, true, false, ◌==◌, ◌&&◌, nat_le, nat_lt, List, [], ◌∷◌, map}
+use Rattle.std.specs.Prelude.{ℕ, ◌≡◌, min, ◌+◌, ◌-◌, Bool, true, false, ◌==◌, ◌&&◌, nat_le, nat_lt, List, [], ◌∷◌, map}
 use Rattle.std.specs.Prelude.{length, slice_range, Result, Ok, Err, Vec, if◌then◌else◌}
 use Rattle.movaliren_c.specs.Value.{with_value}
 use Rattle.movaliren_c.specs.declared.item.Item.{Item}
@@ -16,7 +16,7 @@ use Rattle.std.specs.Global.{Global}
 use Rattle.time_below.specs.Facts.{Facts}
 use Rattle.time_below.specs.Width.{trees_width}
 use Rattle.time_fmt.specs.Description.{trees_outcome}
-use Rattle.movaliren_c.specs.Answer.{gives}
+use Rattle.movaliren_c.specs.Answer.{IsText, IsTextInMemory, gives}
 use Rattle.time_fmt.specs.Outcome.{Outcome}
 use Rattle.time_below.specs.declared.format_description.component.Component.{Component}
 use Rattle.time_below.specs.declared.format_description.component.Component.TheVariants as component
@@ -177,6 +177,14 @@ width_after before description = with_value description (λ ts. Ok (min (before 
 -- the width of a description, or the reason
 abbrev pub width_answer : Result (List Tree) Reason → Result ℕ Reason
 width_answer description = width_after 0 description
+
+-- The text of a description is written, or the reason for no text is returned and the buffer is unchanged. No memory
+-- is needed where the width is 0.
+pub record IsDescribed {V : Type 0} (description : Result (List Tree) Reason) (value : Result V Reason) (facts : V → Facts)
+    (answer : Result ℕ Reason) (before after : List ℕ) : Type 0 where
+  pub text : IsTextInMemory (described description value facts) answer before after
+  pub nothing_needed : width_answer description ≡ Ok 0
+      → IsText (described description value facts) answer before after
 
 -- the description is valid, and the vector has capacity for its texts
 abbrev pub HasRoomFor : Vec ℕ Global → Result (List Tree) Reason → Type 0

@@ -59,11 +59,14 @@ moment_value m =
     with_value (offset_value m) (λ offset.
     Ok (record { date = date; time = time; offset = offset }))))
 
+-- the last second of the years -999,999 to 999,999
+abbrev pub last_second : ℕ
+last_second = 31_494_784_780_799
+
 -- the moment of this many seconds since 1970 and a nanosecond
 abbrev pub timestamp_value : ℤ → ℕ → Result moments.Moment Reason
 timestamp_value seconds nanosecond =
-    checked (int_le (neg_ℤ (pos seconds_before)) seconds && int_le seconds (pos 31_494_784_780_799))
-    reason.MomentSeconds
+    checked (int_le (neg_ℤ (pos seconds_before)) seconds && int_le seconds (pos last_second)) reason.MomentSeconds
     (checked (nat_lt nanosecond 1_000_000_000) reason.Nanosecond
     (Ok (record { seconds = seconds; nanosecond = nanosecond })))
 

@@ -19,8 +19,7 @@ pub struct Progress {
 
 /// The texts of the items, one after another, each ended by this byte.
 pub fn write_lines<W: Writer>(writer: &W, items: &[W::Item], end: u8, room: &mut [u8]) -> Progress
-    ensures { IsBatch items.now (λ item. ended end (W.asked writer.now item))
-        result room.old room.new }
+    ensures { IsBatch items.now end (W.asked writer.now) result room.old room.new }
 {
     let mut bytes = 0usize;
     let mut done = 0usize;
@@ -65,6 +64,7 @@ fn write_line_after<W: Writer>(
 
 /// Writes the text of the item and its end byte to the start of the buffer. The text may use all
 /// but the last byte. An empty buffer has no such byte, so an empty text does not fit it either.
+#[tactic(auto, using(crate::proofs::BatchLemmas::ended_text, crate::proofs::BatchLemmas::ended_stops, crate::proofs::BatchLemmas::ended_nowhere))]
 fn write_line<W: Writer>(
     writer: &W,
     item: &W::Item,

@@ -115,6 +115,7 @@ impl CalendarDate {
     }
 
     /// The month, 1 to 12.
+    #[tactic(auto, using(crate::proofs::DateLemmas::parts_of_date))]
     pub fn month(self) -> u8
         ensures value { result ≡ month_of self }
         ensures range { IsInRange 1 12 result }
@@ -123,6 +124,7 @@ impl CalendarDate {
     }
 
     /// The day of the month, 1 to 31.
+    #[tactic(auto, using(crate::proofs::DateLemmas::parts_of_date))]
     pub fn day(self) -> u8
         ensures value { result ≡ day_of self }
         ensures range { IsInRange 1 31 result }

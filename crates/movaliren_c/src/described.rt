@@ -2,7 +2,7 @@
 ghost use Rattle.std.specs.List.{All};
 ghost use Rattle.std.specs.Prelude.{◌≡◌, ◌+◌, ◌≤◌, IsTrue, MatchOption, Ok, drop, length, vec_len};
 ghost use Rattle.movaliren_c.specs.Answer.{Answers, IsText, IsTextInMemory};
-ghost use Rattle.movaliren_c.specs.Items.{HasRoomFor, IsAppended, described, part_tree, trees_of, width_after, width_answer};
+ghost use Rattle.movaliren_c.specs.Items.{HasRoomFor, IsAppended, IsDescribed, described, part_tree, trees_of, width_after, width_answer};
 ghost use Rattle.movaliren_c.specs.ShortLine.{is_usual};
 ghost use Rattle.movaliren_c.specs.Value.{date_value, moment_value, timestamp_value};
 ghost use Rattle.time_below.specs.Facts.{facts_of_date, facts_of_offset_date_time, facts_of_timestamp};
@@ -38,13 +38,8 @@ pub extern "C" fn movaliren_format(
     moment: &Moment,
     room: &mut [u8],
 ) -> isize
-    ensures text { Answers result (λ answer. IsTextInMemory
-        (described (trees_of texts.now items.now) (moment_value moment.now)
-        facts_of_offset_date_time) answer room.old room.new) }
-    ensures nothing_needed { width_answer (trees_of texts.now items.now) ≡ Ok 0
-        → Answers result (λ answer. IsText
-        (described (trees_of texts.now items.now) (moment_value moment.now)
-        facts_of_offset_date_time) answer room.old room.new) }
+    ensures { Answers result (λ answer. IsDescribed (trees_of texts.now items.now)
+        (moment_value moment.now) facts_of_offset_date_time answer room.old room.new) }
 {
     answer_number(write_value_described(alloc, items, texts, moment_value(moment), room))
 }
@@ -59,13 +54,8 @@ pub extern "C" fn movaliren_format_utc(
     nanosecond: u32,
     room: &mut [u8],
 ) -> isize
-    ensures text { Answers result (λ answer. IsTextInMemory
-        (described (trees_of texts.now items.now) (timestamp_value seconds nanosecond)
-        facts_of_timestamp) answer room.old room.new) }
-    ensures nothing_needed { width_answer (trees_of texts.now items.now) ≡ Ok 0
-        → Answers result (λ answer. IsText
-        (described (trees_of texts.now items.now) (timestamp_value seconds nanosecond)
-        facts_of_timestamp) answer room.old room.new) }
+    ensures { Answers result (λ answer. IsDescribed (trees_of texts.now items.now)
+        (timestamp_value seconds nanosecond) facts_of_timestamp answer room.old room.new) }
 {
     let value = timestamp_value(seconds, nanosecond);
     answer_number(write_value_described(alloc, items, texts, value, room))
@@ -82,13 +72,8 @@ pub extern "C" fn movaliren_format_date(
     day: u8,
     room: &mut [u8],
 ) -> isize
-    ensures text { Answers result (λ answer. IsTextInMemory
-        (described (trees_of texts.now items.now) (date_value year month day)
-        facts_of_date) answer room.old room.new) }
-    ensures nothing_needed { width_answer (trees_of texts.now items.now) ≡ Ok 0
-        → Answers result (λ answer. IsText
-        (described (trees_of texts.now items.now) (date_value year month day)
-        facts_of_date) answer room.old room.new) }
+    ensures { Answers result (λ answer. IsDescribed (trees_of texts.now items.now)
+        (date_value year month day) facts_of_date answer room.old room.new) }
 {
     let value = CalendarDate::new(year, month, day);
     answer_number(write_value_described(alloc, items, texts, value, room))
@@ -112,10 +97,7 @@ fn write_value_described<V: ComponentProvider + Drop, T: DescribedValue<V> + Dro
 ) -> Result<usize, Reason>
 where
     V::State: Drop,
-    ensures text { IsTextInMemory (described (trees_of texts.now items.now) value T.facts)
-        result room.old room.new }
-    ensures nothing_needed { width_answer (trees_of texts.now items.now) ≡ Ok 0
-        → IsText (described (trees_of texts.now items.now) value T.facts) result room.old room.new }
+    ensures { IsDescribed (trees_of texts.now items.now) value T.facts result room.old room.new }
 {
     let start = usual_start(items, texts, T::HAS_TIME);
     match width(items, texts, start) {
@@ -146,10 +128,7 @@ where
     requires width { width_answer (trees_of texts.now items.now) ≡ Ok width }
     requires usual { IsTrue all_usual → All (λ item. IsTrue (is_usual T.HAS_TIME item)) items.now }
     requires short { IsTrue all_usual → width ≤ 0xffff_ffff }
-    ensures text { IsTextInMemory (described (trees_of texts.now items.now) (Ok value.now) T.facts)
-        result room.old room.new }
-    ensures nothing_needed { width ≡ 0
-        → IsText (described (trees_of texts.now items.now) (Ok value.now) T.facts)
+    ensures { IsDescribed (trees_of texts.now items.now) (Ok value.now) T.facts
         result room.old room.new }
 {
     if all_usual {
@@ -233,6 +212,7 @@ fn width(items: &[Item], texts: &[u8], start: UsualStart) -> Result<usize, Reaso
 }
 
 /// The width of the items and of what is before them.
+#[tactic(auto, using(crate::proofs::DescribedLemmas::summed_more))]
 fn width_after(items: &[Item], texts: &[u8], before: usize) -> Result<usize, Reason>
     requires { before ≤ 0xffff_ffff }
     ensures { result ≡ width_after before (trees_of texts.now items.now) }
@@ -258,6 +238,7 @@ fn part_width(part: Part<'_>) -> usize
 }
 
 /// Appends the texts of the items, each of which there is, up to the first that is refused.
+#[tactic(auto, using(crate::proofs::DescribedLemmas::along_more))]
 fn write_items<V: ComponentProvider>(
     items: &[Item],
     texts: &[u8],

@@ -51,6 +51,7 @@ impl DescribedValue<Timestamp> for Timestamp {
 
     const HAS_TIME: bool = true;
 
+    #[tactic(auto, using(crate::proofs::ShortLineLemmas::facts_in_utc))]
     fn local(&self) -> LocalMoment {
         let _in_range = self.as_seconds();
         LocalMoment::with_offset(

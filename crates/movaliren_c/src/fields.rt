@@ -35,14 +35,8 @@ pub fn accepted_year_of(
         ≡ refused_for component) }
     ensures hours { unsigned_abs value.now.offset.hours ≤ 25 }
 {
-    let offset = value.offset();
-    accepted_year(
-        first,
-        greatest_hour,
-        value.date().year(),
-        offset.hours_size(),
-        offset.seconds_size(),
-    )
+    let (hours, _, seconds) = value.offset().sizes();
+    accepted_year(first, greatest_hour, value.date().year(), hours, seconds)
 }
 
 /// The fields of a value of this year.
@@ -59,9 +53,9 @@ pub fn fields_of(year: ru16<0, 9_999>, value: &LocalMoment) -> Fields
     }
 }
 
-// The month and the day of a date.
+/// The month and the day of a date.
 #[inline(always)]
-fn calendar_day(date: CalendarDate) -> CalendarDay
+pub fn calendar_day(date: CalendarDate) -> CalendarDay
     ensures { result ≡ CalendarDay.OfMonth (month_of date) (day_of date) }
 {
     CalendarDay::OfMonth {
@@ -89,12 +83,14 @@ pub fn time_of(time: Time) -> TimeFields
 pub fn offset_of(offset: &KeptOffset) -> OffsetFields
     ensures { result ≡ offset_fields offset.now }
 {
+    let (is_utc, is_negative) = (offset.is_utc(), offset.is_negative());
+    let (hours, minutes, seconds) = offset.sizes();
     OffsetFields {
-        is_utc: offset.is_utc(),
-        is_negative: offset.is_negative(),
-        hours: ru8::within(offset.hours_size()),
-        minutes: ru8::within(offset.minutes_size()),
-        seconds: ru8::within(offset.seconds_size()),
+        is_utc,
+        is_negative,
+        hours: ru8::within(hours),
+        minutes: ru8::within(minutes),
+        seconds: ru8::within(seconds),
     }
 }
 

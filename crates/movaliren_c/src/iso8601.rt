@@ -1,7 +1,7 @@
 //! ISO 8601-1:2019, by its default configuration and by any other.
 ghost use Rattle.std.specs.Prelude.{◌≡◌, ◌≤◌, IfErr, IfOk, Ok, length, true};
-ghost use Rattle.movaliren_c.specs.Answer.{Answers, IsRefusedFor, IsText, IsWritten, gives};
-ghost use Rattle.movaliren_c.specs.Batch.{IsBatch, ended};
+ghost use Rattle.movaliren_c.specs.Answer.{IsAnswer, IsRefusedFor, IsText, IsWritten, gives};
+ghost use Rattle.movaliren_c.specs.Batch.{IsBatch};
 ghost use Rattle.movaliren_c.specs.Chosen.{choices_at, iso8601_by};
 ghost use Rattle.movaliren_c.specs.Utc.{utc_value};
 ghost use Rattle.movaliren_c.specs.Value.{moment_value};
@@ -35,6 +35,10 @@ pub struct Iso8601;
 
 impl Format for Iso8601 {
     type Text = SeparatedText;
+
+    ghost WIDTH = { 35 };
+
+    const WIDTH: usize = 35;
 
     ghost outcome = { λ _. iso8601_of default_choices };
 
@@ -72,9 +76,8 @@ fn separated_text(usual: &Usual, value: &LocalMoment) -> Result<SeparatedText, R
 /// The text of ISO 8601 by the default configuration.
 #[unsafe(no_mangle)]
 pub extern "C" fn movaliren_iso8601(moment: &Moment, room: &mut [u8]) -> isize
-    ensures { Answers result (λ answer.
-        IsText (gives (moment_value moment.now) (iso8601_of default_choices))
-        answer room.old room.new) }
+    ensures { IsAnswer (gives (moment_value moment.now) (iso8601_of default_choices))
+        result room.old room.new }
 {
     answer_number(texts_of(Iso8601, ByParts).write(moment, room))
 }
@@ -82,9 +85,8 @@ pub extern "C" fn movaliren_iso8601(moment: &Moment, room: &mut [u8]) -> isize
 /// The text of ISO 8601 of a moment in UTC, by the default configuration.
 #[unsafe(no_mangle)]
 pub extern "C" fn movaliren_iso8601_utc(seconds: i64, nanosecond: u32, room: &mut [u8]) -> isize
-    ensures { Answers result (λ answer.
-        IsText (gives (utc_value seconds nanosecond) (iso8601_of default_choices))
-        answer room.old room.new) }
+    ensures { IsAnswer (gives (utc_value seconds nanosecond) (iso8601_of default_choices))
+        result room.old room.new }
 {
     answer_at(&texts_of(Iso8601, InUtc), seconds, nanosecond, room)
 }
@@ -93,8 +95,7 @@ pub extern "C" fn movaliren_iso8601_utc(seconds: i64, nanosecond: u32, room: &mu
 /// by this byte.
 #[unsafe(no_mangle)]
 pub extern "C" fn movaliren_iso8601_batch(moments: &[Moment], end: u8, room: &mut [u8]) -> Progress
-    ensures { IsBatch moments.now
-        (λ moment. ended end (gives (moment_value moment) (iso8601_of default_choices)))
+    ensures { IsBatch moments.now end (λ m. gives (moment_value m) (iso8601_of default_choices))
         result room.old room.new }
 {
     write_lines(&texts_of(Iso8601, ByParts), moments, end, room)
@@ -108,8 +109,8 @@ pub extern "C" fn movaliren_iso8601_utc_batch(
     end: u8,
     room: &mut [u8],
 ) -> Progress
-    ensures { IsBatch moments.now
-        (λ m. ended end (gives (utc_value m.seconds m.nanosecond) (iso8601_of default_choices)))
+    ensures { IsBatch moments.now end
+        (λ m. gives (utc_value m.seconds m.nanosecond) (iso8601_of default_choices))
         result room.old room.new }
 {
     write_lines(&texts_of(Iso8601, InUtc), moments, end, room)
@@ -154,8 +155,7 @@ pub extern "C" fn movaliren_iso8601_by(
     moment: &Moment,
     room: &mut [u8],
 ) -> isize
-    ensures { Answers result (λ answer.
-        IsText (iso8601_by config.now (moment_value moment.now)) answer room.old room.new) }
+    ensures { IsAnswer (iso8601_by config.now (moment_value moment.now)) result room.old room.new }
 {
     answer_number(iso8601_by(config, ByParts).write(moment, room))
 }
@@ -169,9 +169,8 @@ pub extern "C" fn movaliren_iso8601_by_utc(
     nanosecond: u32,
     room: &mut [u8],
 ) -> isize
-    ensures { Answers result (λ answer.
-        IsText (iso8601_by config.now (utc_value seconds nanosecond))
-        answer room.old room.new) }
+    ensures { IsAnswer (iso8601_by config.now (utc_value seconds nanosecond))
+        result room.old room.new }
 {
     answer_at(&iso8601_by(config, InUtc), seconds, nanosecond, room)
 }
@@ -185,8 +184,7 @@ pub extern "C" fn movaliren_iso8601_by_batch(
     end: u8,
     room: &mut [u8],
 ) -> Progress
-    ensures { IsBatch moments.now
-        (λ moment. ended end (iso8601_by config.now (moment_value moment)))
+    ensures { IsBatch moments.now end (λ m. iso8601_by config.now (moment_value m))
         result room.old room.new }
 {
     write_lines(&iso8601_by(config, ByParts), moments, end, room)
@@ -201,8 +199,8 @@ pub extern "C" fn movaliren_iso8601_by_utc_batch(
     end: u8,
     room: &mut [u8],
 ) -> Progress
-    ensures { IsBatch moments.now
-        (λ m. ended end (iso8601_by config.now (utc_value m.seconds m.nanosecond)))
+    ensures { IsBatch moments.now end
+        (λ m. iso8601_by config.now (utc_value m.seconds m.nanosecond))
         result room.old room.new }
 {
     write_lines(&iso8601_by(config, InUtc), moments, end, room)
@@ -273,6 +271,7 @@ fn write_by<S: Source>(by: &Iso8601By<S>, item: &S::Item, room: &mut [u8]) -> Re
 
 /// Writes the text to an array first, since a part may be refused after others.
 #[inline(never)]
+#[tactic(auto, using(time_known::proofs::iso8601::PartsLemmas::chosen_text, time_known::proofs::iso8601::PartsLemmas::chosen_width))]
 fn copy_by(config: &Config, value: &LocalMoment, room: &mut [u8]) -> Result<usize, Reason>
     ensures { IsWritten result (iso8601_of config.now value.now) room.old room.new }
 {

@@ -99,34 +99,20 @@ impl KeptOffset {
         }
     }
 
-    /// The size of the hours, at most 25.
+    /// The sizes of the hours, at most 25, and of the minutes and the seconds, at most 59.
     #[inline(always)]
     #[tactic(auto, using(crate::proofs::OffsetLemmas::settled_sizes))]
-    pub fn hours_size(&self) -> u8
-        ensures value { result ≡ unsigned_abs self.now.hours }
-        ensures range { result ≤ 25 }
+    pub fn sizes(&self) -> (u8, u8, u8)
+        ensures hours { result.0 ≡ unsigned_abs self.now.hours }
+        ensures minutes { result.1 ≡ unsigned_abs self.now.minutes }
+        ensures seconds { result.2 ≡ unsigned_abs self.now.seconds }
+        ensures ranges { (result.0 ≤ 25) × (result.1 ≤ 59) × (result.2 ≤ 59) }
     {
-        self.hours.unsigned_abs()
-    }
-
-    /// The size of the minutes, at most 59.
-    #[inline(always)]
-    #[tactic(auto, using(crate::proofs::OffsetLemmas::settled_sizes))]
-    pub fn minutes_size(&self) -> u8
-        ensures value { result ≡ unsigned_abs self.now.minutes }
-        ensures range { result ≤ 59 }
-    {
-        self.minutes.unsigned_abs()
-    }
-
-    /// The size of the seconds, at most 59.
-    #[inline(always)]
-    #[tactic(auto, using(crate::proofs::OffsetLemmas::settled_sizes))]
-    pub fn seconds_size(&self) -> u8
-        ensures value { result ≡ unsigned_abs self.now.seconds }
-        ensures range { result ≤ 59 }
-    {
-        self.seconds.unsigned_abs()
+        (
+            self.hours.unsigned_abs(),
+            self.minutes.unsigned_abs(),
+            self.seconds.unsigned_abs(),
+        )
     }
 
     /// Whether all parts are zero.

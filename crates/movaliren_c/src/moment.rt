@@ -154,12 +154,15 @@ pub fn moment_value(moment: &Moment) -> Result<LocalMoment, Reason>
 pub fn timestamp_value(seconds: i64, nanosecond: u32) -> Result<Timestamp, Reason>
     ensures { result ≡ timestamp_value seconds nanosecond }
 {
-    if seconds < -31_619_087_596_800 || seconds > 31_494_784_780_799 {
-        return Err(Reason::MomentSeconds);
-    }
     match Timestamp::new(seconds, nanosecond) {
         Ok(moment) => Ok(moment),
-        Err(_) => Err(Reason::Nanosecond),
+        Err(_) => {
+            if Timestamp::new(seconds, 0).is_ok() {
+                Err(Reason::Nanosecond)
+            } else {
+                Err(Reason::MomentSeconds)
+            }
+        }
     }
 }
 

@@ -1,6 +1,6 @@
 //! Formats of moments, whose texts are written without an allocation.
-ghost use Rattle.std.specs.Prelude.{◌≡◌, ◌≤◌, ◌++◌, IfOk, IfErr, drop, length};
-ghost use Rattle.movaliren_c.specs.Answer.{Answers, IsRefusedFor, IsText, IsWritten, gives};
+ghost use Rattle.std.specs.Prelude.{◌≡◌, ◌≤◌, ◌++◌, ℕ, IfOk, IfErr, drop, length};
+ghost use Rattle.movaliren_c.specs.Answer.{IsAnswer, IsRefusedFor, IsText, IsWritten, gives};
 ghost use Rattle.time_below.specs.Moment.{OffsetDateAndTime};
 ghost use Rattle.time_fmt.specs.Outcome.{Outcome, done};
 
@@ -17,13 +17,19 @@ pub trait Format: Copy {
     /// A text, of a value of which nothing is refused.
     type Text: Text + Copy;
 
+    ghost WIDTH: { ℕ };
+
+    /// The most bytes of a text.
+    const WIDTH: usize;
+
     /// What the format gives.
     ghost outcome: { Self → OffsetDateAndTime → Outcome };
 
     /// The text of the value, or the reason why it has none.
     fn text(self, value: &LocalMoment) -> Result<Self::Text, Reason>
         ensures text { IfOk result (λ t. outcome self value.now ≡ done (Self.Text.text t)) }
-        ensures width { IfOk result (λ t. Self.Text.width t ≤ 35) }
+        ensures width { IfOk result (λ t. Self.Text.width t ≤ WIDTH) }
+        ensures short { WIDTH ≤ 35 }
         ensures refused { IfErr result (λ r. IsRefusedFor r (outcome self value.now)) };
 }
 
@@ -47,7 +53,7 @@ impl<F: Format, S: Source> Writer for Texts<F, S> {
     ghost asked = { λ texts item. gives (S.given texts.source item) (F.outcome texts.format) };
 
     fn write(&self, item: &S::Item, room: &mut [u8]) -> Result<usize, Reason> {
-        if room.len() < 35 {
+        if room.len() < F::WIDTH {
             return self.copy(item, room);
         }
         match self.source.value(item) {
@@ -62,7 +68,7 @@ impl<F: Format, S: Source> Texts<F, S> {
     /// has one call of a function of its own, so that the compiler can inline it.
     #[inline]
     fn put(&self, value: &LocalMoment, room: &mut [u8]) -> Result<usize, Reason>
-        requires room { 35 ≤ length room.old }
+        requires room { F.WIDTH ≤ length room.old }
         ensures { IsWritten result (F.outcome self.now.format value.now) room.old room.new }
     {
         match self.format.text(value) {
@@ -133,9 +139,8 @@ pub fn answer_at<W: Writer<Item = UtcMoment>>(
     nanosecond: u32,
     room: &mut [u8],
 ) -> isize
-    ensures { Answers result (λ answer.
-        IsText (W.asked writer.now (record { seconds = seconds; nanosecond = nanosecond }))
-        answer room.old room.new) }
+    ensures { IsAnswer (W.asked writer.now (record { seconds = seconds; nanosecond = nanosecond }))
+        result room.old room.new }
 {
     let moment = UtcMoment {
         seconds,

@@ -1,7 +1,7 @@
 //! RFC 2822, section 3.3.
 ghost use Rattle.std.specs.Prelude.{◌≡◌};
-ghost use Rattle.movaliren_c.specs.Answer.{Answers, IsText, gives};
-ghost use Rattle.movaliren_c.specs.Batch.{IsBatch, ended};
+ghost use Rattle.movaliren_c.specs.Answer.{IsAnswer, gives};
+ghost use Rattle.movaliren_c.specs.Batch.{IsBatch};
 ghost use Rattle.movaliren_c.specs.Utc.{local_value, utc_value};
 ghost use Rattle.movaliren_c.specs.Value.{moment_value};
 ghost use Rattle.time_below.specs.Facts.{date_facts};
@@ -25,9 +25,14 @@ pub struct Rfc2822;
 impl Format for Rfc2822 {
     type Text = Rfc2822Text;
 
+    ghost WIDTH = { 31 };
+
+    const WIDTH: usize = 31;
+
     ghost outcome = { λ _. rfc2822_of };
 
     #[inline(always)]
+    #[tactic(auto, using(time_known::proofs::AcceptedLemmas::any_hour))]
     fn text(self, value: &LocalMoment) -> Result<Rfc2822Text, Reason> {
         match accepted_year_of(1900, 25, value) {
             Ok(year) => {
@@ -43,8 +48,7 @@ impl Format for Rfc2822 {
 /// The text of RFC 2822.
 #[unsafe(no_mangle)]
 pub extern "C" fn movaliren_rfc2822(moment: &Moment, room: &mut [u8]) -> isize
-    ensures { Answers result (λ answer.
-        IsText (gives (moment_value moment.now) rfc2822_of) answer room.old room.new) }
+    ensures { IsAnswer (gives (moment_value moment.now) rfc2822_of) result room.old room.new }
 {
     answer_number(texts_of(Rfc2822, ByParts).write(moment, room))
 }
@@ -52,8 +56,7 @@ pub extern "C" fn movaliren_rfc2822(moment: &Moment, room: &mut [u8]) -> isize
 /// The text of RFC 2822 of a moment in UTC.
 #[unsafe(no_mangle)]
 pub extern "C" fn movaliren_rfc2822_utc(seconds: i64, nanosecond: u32, room: &mut [u8]) -> isize
-    ensures { Answers result (λ answer.
-        IsText (gives (utc_value seconds nanosecond) rfc2822_of) answer room.old room.new) }
+    ensures { IsAnswer (gives (utc_value seconds nanosecond) rfc2822_of) result room.old room.new }
 {
     answer_at(&texts_of(Rfc2822, InUtc), seconds, nanosecond, room)
 }
@@ -66,9 +69,8 @@ pub extern "C" fn movaliren_rfc2822_local(
     offset: i64,
     room: &mut [u8],
 ) -> isize
-    ensures { Answers result (λ answer.
-        IsText (gives (local_value seconds nanosecond offset) rfc2822_of)
-        answer room.old room.new) }
+    ensures { IsAnswer (gives (local_value seconds nanosecond offset) rfc2822_of)
+        result room.old room.new }
 {
     let texts = texts_of(Rfc2822, AtOffset { east: offset });
     answer_at(&texts, seconds, nanosecond, room)
@@ -77,7 +79,7 @@ pub extern "C" fn movaliren_rfc2822_local(
 /// The texts of RFC 2822 of the moments, one after another, each ended by this byte.
 #[unsafe(no_mangle)]
 pub extern "C" fn movaliren_rfc2822_batch(moments: &[Moment], end: u8, room: &mut [u8]) -> Progress
-    ensures { IsBatch moments.now (λ moment. ended end (gives (moment_value moment) rfc2822_of))
+    ensures { IsBatch moments.now end (λ m. gives (moment_value m) rfc2822_of)
         result room.old room.new }
 {
     write_lines(&texts_of(Rfc2822, ByParts), moments, end, room)
@@ -90,8 +92,7 @@ pub extern "C" fn movaliren_rfc2822_utc_batch(
     end: u8,
     room: &mut [u8],
 ) -> Progress
-    ensures { IsBatch moments.now
-        (λ m. ended end (gives (utc_value m.seconds m.nanosecond) rfc2822_of))
+    ensures { IsBatch moments.now end (λ m. gives (utc_value m.seconds m.nanosecond) rfc2822_of)
         result room.old room.new }
 {
     write_lines(&texts_of(Rfc2822, InUtc), moments, end, room)
@@ -106,8 +107,8 @@ pub extern "C" fn movaliren_rfc2822_local_batch(
     end: u8,
     room: &mut [u8],
 ) -> Progress
-    ensures { IsBatch moments.now
-        (λ m. ended end (gives (local_value m.seconds m.nanosecond offset) rfc2822_of))
+    ensures { IsBatch moments.now end
+        (λ m. gives (local_value m.seconds m.nanosecond offset) rfc2822_of)
         result room.old room.new }
 {
     let texts = texts_of(Rfc2822, AtOffset { east: offset });

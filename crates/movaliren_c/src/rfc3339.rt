@@ -1,6 +1,6 @@
 //! RFC 3339, section 5.6.
-ghost use Rattle.movaliren_c.specs.Answer.{Answers, IsText, gives};
-ghost use Rattle.movaliren_c.specs.Batch.{IsBatch, ended};
+ghost use Rattle.movaliren_c.specs.Answer.{IsAnswer, gives};
+ghost use Rattle.movaliren_c.specs.Batch.{IsBatch};
 ghost use Rattle.movaliren_c.specs.Utc.{local_value, utc_value};
 ghost use Rattle.movaliren_c.specs.Value.{moment_value};
 ghost use Rattle.time_known.specs.Rfc3339.{rfc3339_of};
@@ -21,6 +21,10 @@ pub struct Rfc3339;
 impl Format for Rfc3339 {
     type Text = Rfc3339Text;
 
+    ghost WIDTH = { 35 };
+
+    const WIDTH: usize = 35;
+
     ghost outcome = { λ _. rfc3339_of };
 
     #[inline(always)]
@@ -38,8 +42,7 @@ impl Format for Rfc3339 {
 /// The text of RFC 3339.
 #[unsafe(no_mangle)]
 pub extern "C" fn movaliren_rfc3339(moment: &Moment, room: &mut [u8]) -> isize
-    ensures { Answers result (λ answer.
-        IsText (gives (moment_value moment.now) rfc3339_of) answer room.old room.new) }
+    ensures { IsAnswer (gives (moment_value moment.now) rfc3339_of) result room.old room.new }
 {
     answer_number(texts_of(Rfc3339, ByParts).write(moment, room))
 }
@@ -47,8 +50,7 @@ pub extern "C" fn movaliren_rfc3339(moment: &Moment, room: &mut [u8]) -> isize
 /// The text of RFC 3339 of a moment in UTC.
 #[unsafe(no_mangle)]
 pub extern "C" fn movaliren_rfc3339_utc(seconds: i64, nanosecond: u32, room: &mut [u8]) -> isize
-    ensures { Answers result (λ answer.
-        IsText (gives (utc_value seconds nanosecond) rfc3339_of) answer room.old room.new) }
+    ensures { IsAnswer (gives (utc_value seconds nanosecond) rfc3339_of) result room.old room.new }
 {
     answer_at(&texts_of(Rfc3339, InUtc), seconds, nanosecond, room)
 }
@@ -61,9 +63,8 @@ pub extern "C" fn movaliren_rfc3339_local(
     offset: i64,
     room: &mut [u8],
 ) -> isize
-    ensures { Answers result (λ answer.
-        IsText (gives (local_value seconds nanosecond offset) rfc3339_of)
-        answer room.old room.new) }
+    ensures { IsAnswer (gives (local_value seconds nanosecond offset) rfc3339_of)
+        result room.old room.new }
 {
     let texts = texts_of(Rfc3339, AtOffset { east: offset });
     answer_at(&texts, seconds, nanosecond, room)
@@ -72,7 +73,7 @@ pub extern "C" fn movaliren_rfc3339_local(
 /// The texts of RFC 3339 of the moments, one after another, each ended by this byte.
 #[unsafe(no_mangle)]
 pub extern "C" fn movaliren_rfc3339_batch(moments: &[Moment], end: u8, room: &mut [u8]) -> Progress
-    ensures { IsBatch moments.now (λ moment. ended end (gives (moment_value moment) rfc3339_of))
+    ensures { IsBatch moments.now end (λ m. gives (moment_value m) rfc3339_of)
         result room.old room.new }
 {
     write_lines(&texts_of(Rfc3339, ByParts), moments, end, room)
@@ -85,8 +86,7 @@ pub extern "C" fn movaliren_rfc3339_utc_batch(
     end: u8,
     room: &mut [u8],
 ) -> Progress
-    ensures { IsBatch moments.now
-        (λ m. ended end (gives (utc_value m.seconds m.nanosecond) rfc3339_of))
+    ensures { IsBatch moments.now end (λ m. gives (utc_value m.seconds m.nanosecond) rfc3339_of)
         result room.old room.new }
 {
     write_lines(&texts_of(Rfc3339, InUtc), moments, end, room)
@@ -101,8 +101,8 @@ pub extern "C" fn movaliren_rfc3339_local_batch(
     end: u8,
     room: &mut [u8],
 ) -> Progress
-    ensures { IsBatch moments.now
-        (λ m. ended end (gives (local_value m.seconds m.nanosecond offset) rfc3339_of))
+    ensures { IsBatch moments.now end
+        (λ m. gives (local_value m.seconds m.nanosecond offset) rfc3339_of)
         result room.old room.new }
 {
     let texts = texts_of(Rfc3339, AtOffset { east: offset });

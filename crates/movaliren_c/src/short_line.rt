@@ -4,19 +4,16 @@ ghost use Rattle.std.specs.List.{All};
 ghost use Rattle.movaliren_c.specs.Answer.{IsText};
 ghost use Rattle.movaliren_c.specs.Items.{described, item_tree, trees_of, width_after, width_answer};
 ghost use Rattle.movaliren_c.specs.ShortLine.{AllFit, FitsAll, FitsItem, HasWidth, IsShortYear, PutsAll, PutsItem, facts_of_local, has_choices, is_frequent, is_usual};
-ghost use Rattle.time_below.specs.Calendar.{day_of, month_of};
 ghost use Rattle.time_digits.specs.Digits.{fixed};
-ghost use Rattle.time_known.specs.Days.{month_and_day};
 ghost use Rattle.time_known.specs.Sink.{Fits, PutsJust};
 
-use crate::fields::{offset_of, time_of};
+use crate::fields::{calendar_day, offset_of, time_of};
 use crate::item::Item;
 use crate::moment::LocalMoment;
 use crate::reason::Reason;
 use crate::room::copy_text;
 use crate::sinks::{ByteSink, RoomSink};
 use time_digits::{ru8, ru16};
-use time_known::days::CalendarDay;
 use time_known::put::{
     put_four_digits, put_month_name, put_nine_digits, put_offset_hours, put_pair, put_six_decimals,
     put_three_decimals,
@@ -144,6 +141,7 @@ pub fn has_short_year(value: &LocalMoment) -> bool
 }
 
 /// Writes the text of usual items to the start of the buffer.
+#[tactic(auto, using(crate::proofs::ShortLineLemmas::all_fit))]
 pub fn write_line(
     items: &[Item],
     texts: &[u8],
@@ -221,6 +219,7 @@ fn put_into_empty(sink: &mut RoomSink<'_>, items: &[Item], texts: &[u8], value: 
 
 /// Puts the texts of usual items one after another.
 #[inline(always)]
+#[tactic(auto, using(crate::proofs::ShortLineLemmas::one_more))]
 fn put_items<S: ByteSink>(output: &mut S, items: &[Item], texts: &[u8], value: &LocalMoment)
     ghost has_time: { Bool }
     requires usual { All (λ item. IsTrue (is_usual has_time item)) items.now }
@@ -236,6 +235,7 @@ fn put_items<S: ByteSink>(output: &mut S, items: &[Item], texts: &[u8], value: &
 
 /// Puts the text of a usual item.
 #[inline(always)]
+#[tactic(auto, using(crate::proofs::ShortLineLemmas::usual_texts))]
 fn put_item<S: ByteSink>(output: &mut S, item: &Item, texts: &[u8], value: &LocalMoment)
     ghost has_time: { Bool }
     requires usual { IsTrue (is_usual has_time item.now) }
@@ -247,7 +247,7 @@ fn put_item<S: ByteSink>(output: &mut S, item: &Item, texts: &[u8], value: &Loca
     match item.kind {
         0 => output.put_bytes(&texts[item.start..item.start + item.len]),
         1 => put_pair(output, ru8::within(value.date().day())),
-        2 => put_month_name(output, calendar_day(value)),
+        2 => put_month_name(output, calendar_day(value.date())),
         4 => put_pair(output, ru8::within(value.date().month())),
         24 => put_pair(output, time_of(value.time()).hour.expand()),
         25 => put_pair(output, time_of(value.time()).minute.expand()),
@@ -273,18 +273,6 @@ fn put_decimals<S: ByteSink>(output: &mut S, digits: u8, nanosecond: Nanoseconds
         3 => put_three_decimals(output, nanosecond),
         6 => put_six_decimals(output, nanosecond),
         _ => put_nine_digits(output, nanosecond),
-    }
-}
-
-/// The month and the day of the value.
-#[inline(always)]
-fn calendar_day(value: &LocalMoment) -> CalendarDay
-    ensures { month_and_day result
-        ≡ record { month = month_of value.now.date; day = day_of value.now.date } }
-{
-    CalendarDay::OfMonth {
-        month: ru8::within(value.date().month()),
-        day: ru8::within(value.date().day()),
     }
 }
 

@@ -70,6 +70,7 @@ impl<const N: usize> Sink for ArraySink<N> {
 }
 
 /// Appends the first decimals of the rest over the unit, not rounded, by long division.
+#[tactic(auto, using(crate::proofs::SinkLemmas::long_division))]
 fn push_decimals<const N: usize>(line: &mut ArrayString<N>, rest: u64, unit: u64, count: u8)
     requires part { rest < unit }
     requires unit { unit ≤ 3_600_000_000_000 }

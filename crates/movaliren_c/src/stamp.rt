@@ -1,35 +1,59 @@
 //! Stamps: texts of moments in UTC whose bytes are in the order of the moments.
-ghost use Rattle.movaliren_c.specs.Answer.{Answers, IsText, gives};
-ghost use Rattle.movaliren_c.specs.Batch.{IsBatch, ended};
+ghost use Rattle.movaliren_c.specs.Answer.{IsAnswer, gives};
+ghost use Rattle.movaliren_c.specs.Batch.{IsBatch};
 ghost use Rattle.movaliren_c.specs.Value.{stamp_value};
-ghost use Rattle.time_known.specs.Stamps.{stamp_of};
+ghost use Rattle.time_known.specs.Stamps.{stamp_length, stamp_of};
 
 use crate::batch::{Progress, write_lines};
-use crate::iso8601::Iso8601;
-use crate::moment::UtcMoment;
-use crate::moment_text::{answer_at, texts_of};
-use crate::reason::Reason;
+use crate::fields::fields_of;
+use crate::moment::{LocalMoment, UtcMoment};
+use crate::moment_text::{Format, answer_at, texts_of};
+use crate::reason::{Reason, reason_for};
 use crate::source::InUtc;
 use crate::writer::Writer;
+use time_known::accepted::accepted_year;
+use time_known::iso8601::StampText;
 
 /// Stamps of moments in UTC.
+#[derive(Clone, Copy)]
 struct Stamp;
+
+impl Format for Stamp {
+    type Text = StampText;
+
+    ghost WIDTH = { stamp_length };
+
+    const WIDTH: usize = 30;
+
+    ghost outcome = { λ _ v. stamp_of (record { date = v.date; time = v.time }) };
+
+    #[inline(always)]
+    fn text(self, value: &LocalMoment) -> Result<StampText, Reason> {
+        match accepted_year(0, 25, value.date().year(), 0, 0) {
+            Ok(year) => {
+                let fields = fields_of(year, value);
+                Ok(StampText { fields })
+            }
+            Err(component) => Err(reason_for(component)),
+        }
+    }
+}
 
 impl Writer for Stamp {
     type Item = UtcMoment;
 
     ghost asked = { λ _ moment. gives (stamp_value moment.seconds moment.nanosecond) stamp_of };
 
+    #[tactic(auto, unfolding(crate::specs::Utc::value_at))]
     fn write(&self, moment: &UtcMoment, room: &mut [u8]) -> Result<usize, Reason> {
-        texts_of(Iso8601, InUtc).write(moment, room)
+        texts_of(*self, InUtc).write(moment, room)
     }
 }
 
 /// The stamp of a moment.
 #[unsafe(no_mangle)]
 pub extern "C" fn movaliren_stamp(seconds: i64, nanosecond: u32, room: &mut [u8]) -> isize
-    ensures { Answers result (λ answer.
-        IsText (gives (stamp_value seconds nanosecond) stamp_of) answer room.old room.new) }
+    ensures { IsAnswer (gives (stamp_value seconds nanosecond) stamp_of) result room.old room.new }
 {
     answer_at(&Stamp, seconds, nanosecond, room)
 }
@@ -37,8 +61,7 @@ pub extern "C" fn movaliren_stamp(seconds: i64, nanosecond: u32, room: &mut [u8]
 /// The stamps of the moments, one after another, each ended by this byte.
 #[unsafe(no_mangle)]
 pub extern "C" fn movaliren_stamp_batch(moments: &[UtcMoment], end: u8, room: &mut [u8]) -> Progress
-    ensures { IsBatch moments.now
-        (λ moment. ended end (gives (stamp_value moment.seconds moment.nanosecond) stamp_of))
+    ensures { IsBatch moments.now end (λ m. gives (stamp_value m.seconds m.nanosecond) stamp_of)
         result room.old room.new }
 {
     write_lines(&Stamp, moments, end, room)

@@ -2,9 +2,9 @@
 //! of the library that a call of the Rust crate ends in, and after a slash another crate that writes the same text.
 //!
 //! Each text is made from seconds since 1970 and a nanosecond, of 1,000 random moments of the years 1970 to 9999. Each
-//! call clears a vector and appends the text, the fastest way that its crate has for these numbers; a batch appends the
-//! texts of all moments. Calls by the parts of a date and time take them from `time::OffsetDateTime`. For callgrind and
-//! for a clock.
+//! call clears a vector and appends the text, the fastest way that its crate has for these numbers. The vector has the
+//! capacity that the first calls reserved. A batch appends the texts of all moments. Calls by the parts of a date and time
+//! take them from `time::OffsetDateTime`. For callgrind and for a clock.
 mod ways;
 
 use chrono::format::{Item, StrftimeItems};
@@ -189,11 +189,13 @@ fn measured(length: impl Fn(&UtcMoment) -> usize + 'static) -> Call {
 
 fn run(name: &str, call: &Call, count: usize) {
     let moments = moments();
-    let mut output = Vec::with_capacity(64 * VALUES);
+    let (mut line, mut lines) = (Vec::new(), Vec::with_capacity(64 * VALUES));
+    let is_batch = name.contains("_batch");
+    let output = if is_batch { &mut lines } else { &mut line };
     let mut bytes = 0;
     let begin = Instant::now();
     for done in (0..count).step_by(VALUES) {
-        bytes += call(&moments[..VALUES.min(count - done)], &mut output);
+        bytes += call(&moments[..VALUES.min(count - done)], output);
     }
     let nanoseconds = begin.elapsed().as_nanos() as f64 / count as f64;
     let last = output.split(|byte| *byte == b'\n').next().unwrap_or(b"");

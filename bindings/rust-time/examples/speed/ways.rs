@@ -237,7 +237,7 @@ fn descriptions() -> Ways {
 /// The other calls of the Rust crate, each of which ends in one function of the library.
 fn other_calls() -> Ways {
     let built = eleven();
-    let line = RefCell::new(String::with_capacity(64));
+    let line = RefCell::new(String::new());
     let in_string = move |moment: &UtcMoment| {
         let mut line = line.borrow_mut();
         line.clear();

@@ -135,7 +135,7 @@ pub fn separated_config_at(numbers: &IsoConfig) -> Option<Usual>
     }
 }
 
-/// The same, by each choice.
+/// What the numbers choose of a text with separators, told by the configuration that they make.
 #[inline(never)]
 fn separated_by_choices(numbers: &IsoConfig) -> Option<Usual>
     ensures chosen { IfSome result (λ u. choices_at numbers.now

@@ -10,6 +10,7 @@ ghost use Rattle.time_known.specs.Groups.{AreAllSupplied, at_groups};
 ghost use Rattle.time_known.specs.Iso8601.{decimal_part, iso_of_groups};
 ghost use Rattle.time_known.specs.Iso8601Width.{decimal_part_width, iso8601_width};
 ghost use Rattle.time_known.specs.Sink.{Fits, Puts, PutsUpTo};
+ghost use Rattle.time_known.specs.Stamps.{stamp_length, stamp_of_fields};
 ghost use Rattle.time_known.specs.UsualText.{usual_choices, usual_of_fields, usual_time_text};
 
 use crate::accepted::accepted_year_of;
@@ -98,6 +99,31 @@ impl Text for SeparatedText {
     #[inline(always)]
     fn put_into<S: Sink>(&self, output: &mut S) {
         put_usual(output, &self.usual, &self.fields, "-", ":");
+    }
+}
+
+/// The stamp of a date and a time of day in UTC, by fields of which nothing is refused.
+#[derive(Clone, Copy)]
+pub struct StampText {
+    /// The fields, of which the offset is not shown.
+    pub fields: Fields,
+}
+
+impl Text for StampText {
+    ghost width = { λ _. stamp_length };
+
+    ghost text = { λ t. stamp_of_fields (shown t.fields) };
+
+    #[inline(always)]
+    fn put_into<S: Sink>(&self, output: &mut S) {
+        let usual = Usual {
+            has_separators: true,
+            decimal_digits: Some(ru8::within(9)),
+            decimal_sign: DecimalSign::Point,
+        };
+        put_date(output, &self.fields, "-");
+        put_usual_time(output, &usual, &self.fields.time, ":");
+        output.put("Z");
     }
 }
 

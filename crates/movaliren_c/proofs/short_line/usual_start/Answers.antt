@@ -1,22 +1,21 @@
-use Rattle.std.proofs.Common.{◌≡◌, arith, refl, subst, IsTrue, length, take}
+use Rattle.std.proofs.Common.{◌≡◌, ◌<◌, arith, length, refl, subst, take, IsTrue}
 use Rattle.std.specs.List.{All}
 use Rattle.std.proofs.lemmas.List.Elements.{All-more}
-use Rattle.movaliren_c.specs.Items.{item_tree, trees_of}
+use Rattle.movaliren_c.specs.Items.{trees_of}
 use Rattle.movaliren_c.specs.ShortLine.{is_usual}
 use Rattle.movaliren_c.proofs.DescribedLemmas.{summed_width}
 use Rattle.movaliren_c.proofs.short_line.usual_start.Goals as goal
 
 pub loop-count-preserved : goal.loop-count-preserved
 loop-count-preserved c =
+    let inside : c.loop-count.count < length c.args.items.now = omega (arith, c.loop-count-test.true) in
+    let before = c.loop-count.invariant in
+    let next = c.in-Some.ensures in
     record {
-      short = omega (arith, c.loop-count.invariant.short, c.in-Some.ensures.short);
-      usual = All-more (λ item. IsTrue (is_usual c.args.has_time item)) c.args.items.now
-          c.loop-count.count _ (omega (arith, c.loop-count-test.true)) c.loop-count.invariant.usual
-          c.in-Some.ensures.usual;
-      summed = summed_width (item_tree c.args.texts.now) c.args.items.now c.loop-count.count _ _
-          0x7fff_ffff_ffff_ffff 0 c.loop-count.width c.in-Some.more (trees_of c.args.texts.now
-          c.args.items.now) (omega (arith, c.loop-count-test.true)) refl c.in-Some.ensures.width
-          (omega (arith, c.loop-count.invariant.short, c.in-Some.ensures.short)) c.loop-count.invariant.summed;
+      short = omega (arith, before.short, next.short);
+      usual = All-more (λ item. IsTrue (is_usual c.args.has_time item)) c.args.items.now _ _ inside before.usual next.usual;
+      summed = summed_width _ _ _ _ _ _ _ _ _ (trees_of c.args.texts.now c.args.items.now) inside refl next.width
+          (omega (arith, before.short, next.short)) before.summed;
     }
 
 pub returns-clause-usual : goal.returns-clause-usual
