@@ -1,6 +1,6 @@
 -- Texts of components are ASCII, and texts one after another are UTF-8 where each of them is.
 use Rattle.std.proofs.Common.{◌≡◌, ℕ, ◌+◌, ◌-◌, ◌<◌, ◌≤◌, Bool, true, false, ◌&&◌, nat_lt, List, [], ◌∷◌, length}
-use Rattle.std.proofs.Common.{IsAscii, IsUtf8, IsTrue, MatchOption, Option, Some, None, if◌then◌else◌, refl, arith, Result, Ok}
+use Rattle.std.proofs.Common.{IsAscii, IsUtf8, IsTrue, MatchOption, Option, Some, None, if◌then◌else◌, refl, sym, arith, Result, Ok}
 use Rattle.std.proofs.Common.{Vec, vec_len}
 use Rattle.std.specs.Global.{Global}
 use Rattle.std.specs.Prelude.{codes, nat_le}
@@ -30,11 +30,13 @@ use Rattle.time_digits.proofs.LengthLemmas.{IsAscii-padded, IsAscii-number}
 use Rattle.time_fmt.specs.DateText.{month_names, month_name, weekday_names, weekday_name, indexed}
 use Rattle.time_fmt.specs.Description.{has_group, kind_of, supplied_outcome, current_outcome, component_outcome}
 use Rattle.time_fmt.specs.Description.{tree_outcome, trees_outcome}
+use Rattle.time_fmt.specs.Ending.{Ends}
 use Rattle.time_fmt.specs.Guarantee.{IsTextIf, AppendsTree}
 use Rattle.time_fmt.specs.Kind as kind
 use Rattle.time_fmt.specs.Kind.{Kind, kind_text, kind_outcome}
-use Rattle.time_fmt.specs.Outcome.{Outcome, AppendsUpTo, Adds, done, refused, join, insufficient, out_of_range}
+use Rattle.time_fmt.specs.Outcome.{Outcome, AppendsUpTo, AppendsUnlessRefused, Adds, done, refused, join, insufficient, out_of_range}
 use Rattle.time_fmt.specs.Text.{padded_text, sign_text, period_text, subsecond_text}
+use Rattle.time_fmt.specs.declared.ending.Ending.TheVariants as ending
 use Rattle.time_fmt.specs.declared.error.Format.{Format}
 use Rattle.time_fmt.proofs.TextLemmas.{passes_at}
 use Rattle.time_fmt.proofs.WriteLemmas.{added_alone}
@@ -127,13 +129,24 @@ empty_utf8 = IsUtf8-from_ascii [] IsAscii-nil
 pub text_of_component : (c : Component) (f : Facts) → IsUtf8 (component_outcome c f).bytes
 text_of_component c f = IsUtf8-from_ascii (component_outcome c f).bytes (ascii_current (current_component c) f)
 
+-- what is appended without a refusal ends complete
+pub ends_complete : {width count : ℕ} {o : Outcome} {old new : Vec ℕ Global} → AppendsUpTo width old new (Ok count) o
+    → Ends width old new ending.Complete o
+ends_complete up_to = record {
+  appended = up_to.appends.appended;
+  refusal = sym up_to.appends.counted.0;
+  grown = up_to.appends.grown;
+  capacity = up_to.appends.capacity;
+  within = up_to.within;
+}
+
 -- a component that was written is that of its tree
 pub tree_of_written : (written : Option ℕ) (c : Component) (f : Facts) (old new : Vec ℕ Global)
-    → MatchOption written (new ≡ old)
-    (λ count. AppendsUpTo (component_width c) old new (Ok count) (component_outcome c f))
-    → MatchOption written (new ≡ old) (λ count. AppendsTree (of_component c) f old new (Ok count))
-tree_of_written None c f old new nothing = nothing
-tree_of_written (Some n) c f old new appends = record { appends = appends; text = λ _. text_of_component c f }
+    → AppendsUnlessRefused (component_width c) old new written (component_outcome c f)
+    → MatchOption written (new ≡ old) (λ _. AppendsTree (of_component c) f old new ending.Complete)
+tree_of_written None c f old new unchanged = unchanged.0
+tree_of_written (Some n) c f old new appends =
+    record { ends = ends_complete appends; text = λ _. text_of_component c f }
 
 -- a list has a text if its first tree has one, and so have the others
 pub text_more : (t : Tree) (ts : Trees) (f : Facts) → IsTextIf (is_guaranteed_text t) (tree_outcome t f)

@@ -5,14 +5,14 @@ use Rattle.time_below.specs.Tree.{Tree, Trees, byte_literal, text_literal, of_co
 use Rattle.time_below.specs.Tree.{more, unmarked, all_unmarked}
 use Rattle.time_fmt.specs.Description.{tree_outcome, trees_outcome, current_outcome}
 use Rattle.time_fmt.specs.Outcome.{join}
-use Rattle.time_fmt.proofs.ConversionLemmas.{current_is_kept}
+use Rattle.time_fmt.proofs.ConversionLemmas.{current_is_current}
 
 -- the outcome of a tree is that of its unmarked tree
 mutual
   pub outcome-unmarked : (t : Tree) (f : Facts) → tree_outcome (unmarked t) f ≡ tree_outcome t f
   outcome-unmarked (byte_literal bytes) f = refl
   outcome-unmarked (text_literal text) f = refl
-  outcome-unmarked (of_component c) f = ap (λ d. current_outcome d f) (current_is_kept c)
+  outcome-unmarked (of_component c) f = ap (λ d. current_outcome d f) (current_is_current c)
   outcome-unmarked (all_of ts) f = outcomes-unmarked ts f
   outcome-unmarked (first_of end) f = refl
   outcome-unmarked (first_of (more t ts)) f = outcome-unmarked t f

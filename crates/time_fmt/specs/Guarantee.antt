@@ -1,18 +1,19 @@
 -- The guarantee that the bytes of an outcome are UTF-8.
 use Rattle.std.specs.Global.{Global}
-use Rattle.std.specs.Prelude.{ℕ, Bool, IsTrue, IsUtf8, Result, Vec}
+use Rattle.std.specs.Prelude.{ℕ, Bool, IsTrue, IsUtf8, Vec}
 use Rattle.time_below.specs.Facts.{Facts}
 use Rattle.time_below.specs.Tree.{Tree}
 use Rattle.time_below.specs.Width.{tree_width, is_guaranteed_text}
 use Rattle.time_fmt.specs.Description.{tree_outcome}
-use Rattle.time_fmt.specs.Outcome.{Outcome, AppendsUpTo}
-use Rattle.time_fmt.specs.declared.error.Format.{Format}
+use Rattle.time_fmt.specs.Ending.{Ends}
+use Rattle.time_fmt.specs.Outcome.{Outcome}
+use Rattle.time_fmt.specs.declared.ending.Ending.{Ending}
 
 -- all bytes are UTF-8 under the guarantee, also those before a refusal
 abbrev pub IsTextIf : Bool → Outcome → Type 0
 IsTextIf is_guaranteed o = IsTrue is_guaranteed → IsUtf8 o.bytes
 
 -- what a tree gives is appended within its width, and is UTF-8 under its guarantee
-pub record AppendsTree (t : Tree) (f : Facts) (old new : Vec ℕ Global) (answer : Result ℕ Format) : Type 0 where
-  pub appends : AppendsUpTo (tree_width t) old new answer (tree_outcome t f)
+pub record AppendsTree (t : Tree) (f : Facts) (old new : Vec ℕ Global) (e : Ending) : Type 0 where
+  pub ends : Ends (tree_width t) old new e (tree_outcome t f)
   pub text : IsTextIf (is_guaranteed_text t) (tree_outcome t f)

@@ -1,6 +1,7 @@
 pub mod DateText
 pub mod Decimals
 pub mod Description
+pub mod Ending
 pub mod Errors
 pub mod Guarantee
 pub mod Kind

@@ -1,14 +1,15 @@
 //! The engine for one component.
-ghost use Rattle.std.specs.Prelude.{◌≡◌, ◌+◌, ◌≤◌, IfNone, IsSome, IsTrue, IsUtf8, MatchOption, vec_len};
+ghost use Rattle.std.specs.Prelude.{◌≡◌, ◌+◌, ◌≤◌, IfNone, IsSome, IsTrue, IsUtf8, MatchOption, OnSome, vec_len};
 ghost use Rattle.time_below.specs.Conversion.{is_current};
 ghost use Rattle.time_below.specs.Width.{component_width};
-ghost use Rattle.time_fmt.specs.Description.{component_outcome};
+ghost use Rattle.time_fmt.specs.Description.{component_outcome, current_outcome};
+ghost use Rattle.time_fmt.specs.Ending.{Ends};
 ghost use Rattle.time_fmt.specs.Outcome.{Appends, AppendsUpTo, AppendsUnlessRefused};
 ghost use Rattle.time_fmt.specs.Room.{HasRoom};
 
+use crate::ending::Ending;
 use crate::error::Format;
 use crate::modifier::{Modifier, supplies};
-use time_below::ComponentRange;
 use time_below::format_description::Component;
 use time_provide::ComponentProvider;
 
@@ -30,27 +31,49 @@ pub(crate) fn write_often<V: ComponentProvider>(
     ensures agrees { V.agrees state.new value.now }
 {
     match component {
-        Component::Day(part) => write_here(part, output, value, state),
-        Component::MonthShort(part) => write_here(part, output, value, state),
-        Component::MonthNumerical(part) => write_here(part, output, value, state),
-        Component::WeekdayShort(part) => write_here(part, output, value, state),
-        Component::CalendarYearFullExtendedRange(part) => write_here(part, output, value, state),
-        Component::Hour12(part) => write_here(part, output, value, state),
-        Component::Hour24(part) => write_here(part, output, value, state),
-        Component::Minute(part) => write_here(part, output, value, state),
-        Component::Period(part) => write_here(part, output, value, state),
-        Component::Second(part) => write_here(part, output, value, state),
-        Component::Subsecond(part) => write_here(part, output, value, state),
-        Component::OffsetHour(part) => write_here(part, output, value, state),
-        Component::OffsetMinute(part) => write_here(part, output, value, state),
+        Component::Day(part) => part.write(output, value, state),
+        Component::MonthShort(part) => part.write(output, value, state),
+        Component::MonthNumerical(part) => part.write(output, value, state),
+        Component::WeekdayShort(part) => part.write(output, value, state),
+        Component::CalendarYearFullExtendedRange(part) => part.write(output, value, state),
+        Component::Hour12(part) => part.write(output, value, state),
+        Component::Hour24(part) => part.write(output, value, state),
+        Component::Minute(part) => part.write(output, value, state),
+        Component::Period(part) => part.write(output, value, state),
+        Component::Second(part) => part.write(output, value, state),
+        Component::Subsecond(part) => part.write(output, value, state),
+        Component::OffsetHour(part) => part.write(output, value, state),
+        Component::OffsetMinute(part) => part.write(output, value, state),
         _ => None,
     }
 }
 
-/// Appends the text of a component that is not deprecated, and returns the number of bytes. If it is
-/// refused, or deprecated, writes nothing and returns `None`.
+/// Appends the text of a component, and returns the number of bytes. If it is refused, writes nothing and
+/// returns `None`.
 #[inline(always)]
+#[tactic(auto, using(crate::proofs::ConversionLemmas::current_is_kept))]
 pub(crate) fn write_component<V: ComponentProvider>(
+    component: Component,
+    output: &mut Vec<u8>,
+    value: &V,
+    state: &mut V::State,
+) -> Option<usize>
+    requires room { HasRoom output.old (component_width component) }
+    requires agrees { V.agrees state.old value.now }
+    ensures appends { AppendsUnlessRefused (component_width component) output.old output.new result
+        (component_outcome component (V.facts value.now)) }
+    ensures agrees { V.agrees state.new value.now }
+{
+    match write_current(component, output, value, state) {
+        Some(count) => Some(count),
+        None => write_deprecated(&component, output, value, state),
+    }
+}
+
+// Appends the text of a component that is not deprecated, and returns the number of bytes. If it is
+// refused, or deprecated, writes nothing and returns `None`.
+#[inline(always)]
+fn write_current<V: ComponentProvider>(
     component: Component,
     output: &mut Vec<u8>,
     value: &V,
@@ -60,9 +83,10 @@ pub(crate) fn write_component<V: ComponentProvider>(
     requires agrees { V.agrees state.old value.now }
     ensures appends { MatchOption result (output.new ≡ output.old)
         (λ count. AppendsUpTo (component_width component) output.old output.new (Ok count)
-        (component_outcome component (V.facts value.now))) }
+        (current_outcome component (V.facts value.now))) }
+    ensures current { OnSome result (IsTrue (is_current component)) }
     ensures refused { IsTrue (is_current component)
-        → IfNone result (IsSome (component_outcome component (V.facts value.now)).refusal) }
+        → IfNone result (IsSome (current_outcome component (V.facts value.now)).refusal) }
     ensures agrees { V.agrees state.new value.now }
 {
     match component {
@@ -113,6 +137,24 @@ pub(crate) fn write_component<V: ComponentProvider>(
     }
 }
 
+// Writes a deprecated component as the current one in its place, by a call.
+#[inline(never)]
+fn write_deprecated<V: ComponentProvider>(
+    component: &Component,
+    output: &mut Vec<u8>,
+    value: &V,
+    state: &mut V::State,
+) -> Option<usize>
+    requires room { HasRoom output.old (component_width component.now) }
+    requires agrees { V.agrees state.old value.now }
+    ensures appends { AppendsUnlessRefused (component_width component.now) output.old output.new
+        result (component_outcome component.now (V.facts value.now)) }
+    ensures agrees { V.agrees state.new value.now }
+{
+    let current = component.current();
+    write_current(current, output, value, state)
+}
+
 // Writes a component that is seldom met, by a call.
 #[inline(never)]
 fn write_apart<M: Modifier, V: ComponentProvider>(
@@ -127,26 +169,27 @@ fn write_apart<M: Modifier, V: ComponentProvider>(
         output.old output.new result (component_outcome (M.component_of part) (V.facts value.now)) }
     ensures agrees { V.agrees state.new value.now }
 {
-    write_here(part, output, value, state)
+    part.write(output, value, state)
 }
 
-// Writes any component that is not deprecated, by its own choices, and nothing if it is refused.
-#[inline(always)]
-fn write_here<M: Modifier, V: ComponentProvider>(
-    part: M,
+/// Appends the text of any component, or nothing if it is refused, and returns how the text ends.
+#[inline]
+pub(crate) fn end_component<V: ComponentProvider>(
+    component: Component,
     output: &mut Vec<u8>,
     value: &V,
     state: &mut V::State,
-) -> Option<usize>
-    requires room { HasRoom output.old (component_width (M.component_of part)) }
+) -> Ending
+    requires room { HasRoom output.old (component_width component) }
     requires agrees { V.agrees state.old value.now }
-    ensures appends { AppendsUnlessRefused (component_width (M.component_of part))
-        output.old output.new result (component_outcome (M.component_of part) (V.facts value.now)) }
+    ensures ends { Ends (component_width component) output.old output.new result
+        (component_outcome component (V.facts value.now)) }
     ensures agrees { V.agrees state.new value.now }
 {
-    match part.write(output, value, state) {
-        Ok(count) => Some(count),
-        Err(_) => None,
+    match write_component(component, output, value, state) {
+        Some(_) => Ending::Complete,
+        None if supplies::<V>(component.current().group()) => Ending::YearOutOfRange,
+        None => Ending::Unsupplied,
     }
 }
 
@@ -156,6 +199,7 @@ fn write_here<M: Modifier, V: ComponentProvider>(
 /// A deprecated component has the text of the current one. Returns the number of bytes appended, or
 /// the refusal of the component, which has no bytes.
 #[inline]
+#[tactic(auto, using(crate::proofs::Engine::answered))]
 pub fn component_write_into<V: ComponentProvider>(
     component: &Component,
     output: &mut Vec<u8>,
@@ -170,12 +214,6 @@ pub fn component_write_into<V: ComponentProvider>(
     ensures text { IsUtf8 (component_outcome component.now (V.facts value.now)).bytes }
     ensures agrees { V.agrees state.new value.now }
 {
-    let current = component.current();
-    match write_component(current, output, value, state) {
-        Some(count) => Ok(count),
-        None if supplies::<V>(current.group()) => {
-            Err(Format::ComponentRange(ComponentRange::conditional("year")))
-        }
-        None => Err(Format::InsufficientTypeInformation),
-    }
+    let begin = output.len();
+    end_component(*component, output, value, state).answer(output.len() - begin)
 }

@@ -2,6 +2,7 @@
 #![tactic(auto)]
 
 mod component;
+mod ending;
 mod error;
 mod formattable;
 pub mod laws;

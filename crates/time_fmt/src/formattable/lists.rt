@@ -30,6 +30,7 @@ impl ComputeMetadata for BorrowedItems<'_> {
 impl Formattable for BorrowedItems<'_> {
     ghost outcome_of = { λ items. trees_outcome (trees (map borrowed_tree items.0.now)) };
 
+    #[tactic(auto, using(crate::proofs::Engine::answered))]
     fn write_into<V: ComponentProvider>(
         &self,
         output: &mut Vec<u8>,
@@ -37,7 +38,8 @@ impl Formattable for BorrowedItems<'_> {
         state: &mut V::State,
     ) -> Result<usize, Format> {
         let BorrowedItems(items) = *self;
-        write_nodes(items, output, value, state)
+        let begin = output.len();
+        write_nodes(items, output, value, state).answer(output.len() - begin)
     }
 
     fn fits_plainly(&self, room: usize) -> bool {
@@ -62,6 +64,7 @@ impl ComputeMetadata for OwnedItems<'_> {
 impl Formattable for OwnedItems<'_> {
     ghost outcome_of = { λ items. trees_outcome (trees (map owned_tree items.0.now)) };
 
+    #[tactic(auto, using(crate::proofs::Engine::answered))]
     fn write_into<V: ComponentProvider>(
         &self,
         output: &mut Vec<u8>,
@@ -69,7 +72,8 @@ impl Formattable for OwnedItems<'_> {
         state: &mut V::State,
     ) -> Result<usize, Format> {
         let OwnedItems(items) = *self;
-        write_nodes(items, output, value, state)
+        let begin = output.len();
+        write_nodes(items, output, value, state).answer(output.len() - begin)
     }
 
     fn fits_plainly(&self, room: usize) -> bool {

@@ -12,6 +12,7 @@ use crate::formattable::{Formattable, make_room};
 use crate::metadata::ComputeMetadata;
 use crate::modifier::{Modifier, supplies};
 use crate::writers::{put_back, take_out, write_each};
+use time_below::ComponentRange;
 use time_below::format_description::Metadata;
 use time_provide::ComponentProvider;
 
@@ -137,6 +138,9 @@ impl<M: Modifier> Formattable for M {
         if !supplies::<V>(M::GROUP) {
             return Err(Format::InsufficientTypeInformation);
         }
-        self.write_supplied(output, value, state)
+        match self.write_supplied(output, value, state) {
+            Some(count) => Ok(count),
+            None => Err(Format::ComponentRange(ComponentRange::conditional("year"))),
+        }
     }
 }

@@ -30,13 +30,15 @@ impl ComputeMetadata for BorrowedFormatItem<'_> {
 impl Formattable for BorrowedFormatItem<'_> {
     ghost outcome_of = { λ item. tree_outcome (borrowed_tree item) };
 
+    #[tactic(auto, using(crate::proofs::Engine::answered))]
     fn write_into<V: ComponentProvider>(
         &self,
         output: &mut Vec<u8>,
         value: &V,
         state: &mut V::State,
     ) -> Result<usize, Format> {
-        write_node(self, output, value, state)
+        let begin = output.len();
+        write_node(self, output, value, state).answer(output.len() - begin)
     }
 }
 
@@ -53,13 +55,15 @@ impl ComputeMetadata for OwnedFormatItem {
 impl Formattable for OwnedFormatItem {
     ghost outcome_of = { λ item. tree_outcome (owned_tree item) };
 
+    #[tactic(auto, using(crate::proofs::Engine::answered))]
     fn write_into<V: ComponentProvider>(
         &self,
         output: &mut Vec<u8>,
         value: &V,
         state: &mut V::State,
     ) -> Result<usize, Format> {
-        write_node(self, output, value, state)
+        let begin = output.len();
+        write_node(self, output, value, state).answer(output.len() - begin)
     }
 }
 
@@ -91,6 +95,7 @@ impl Formattable for FormatDescriptionV3<'_> {
 ///
 /// Returns the number of bytes appended, or the refusal that ends the text.
 #[inline]
+#[tactic(auto, using(crate::proofs::Engine::answered))]
 pub fn v3_write_into<V: ComponentProvider>(
     item: &FormatDescriptionV3Inner<'_>,
     output: &mut Vec<u8>,
@@ -106,5 +111,6 @@ pub fn v3_write_into<V: ComponentProvider>(
         (tree_outcome (v3_tree item.now) (V.facts value.now)) }
     ensures agrees { V.agrees state.new value.now }
 {
-    write_node(item, output, value, state)
+    let begin = output.len();
+    write_node(item, output, value, state).answer(output.len() - begin)
 }

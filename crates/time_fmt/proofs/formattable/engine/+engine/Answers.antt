@@ -1,9 +1,9 @@
-use Rattle.std.proofs.Common.{sym, ◌∙◌}
+use Rattle.std.proofs.Common.{refl, sym, ◌∙◌}
 use Rattle.time_below.proofs.NodeLemmas.{next_of, smaller_rest}
-use Rattle.time_fmt.proofs.Engine.{along_from_the_start, room_for_next, all_along}
-use Rattle.time_fmt.proofs.Engine.{by_lengths, list_refused, written_along, first_appends}
+use Rattle.time_fmt.proofs.GuaranteeLemmas.{text_of_component}
+use Rattle.time_fmt.proofs.Engine.{along_from_the_start, room_for_next, all_along, list_refused, written_along, first_appends}
 use Rattle.time_fmt.proofs.formattable.engine.+engine.Goals as goal
-use Rattle.time_fmt.proofs.formattable.engine.+engine.Goals.{write_nodes-in-Some, write_nodes-in-None+in-Some-write_seldom, write_nodes-in-None+in-None-write_seldom+in-Ok}
+use Rattle.time_fmt.proofs.formattable.engine.+engine.Goals.{write_nodes-in-Some, write_nodes-in-None+in-Complete}
 
 pub write_nodes-loop-node-init : goal.write_nodes-loop-node-init
 write_nodes-loop-node-init g t c =
@@ -26,44 +26,38 @@ write_nodes-loop-node-preserved g t c =
       | write_nodes-in-Some w ↦
           let step = w.in-Some.ensures in
           rw (w.taken-is, w.state-is)
-          (by_lengths {agrees = g.V.ComponentProvider.agrees c.write_leaf.new.state c.args.value.now} _ _ _ _ _
           (written_along {agrees_after = g.V.ComponentProvider.agrees c.write_leaf.new.state c.args.value.now}
           c.args.output.now c.loop-node.taken c.write_leaf.new.output _ _ _ _ _ c.loop-node.invariant next smaller
-          step.appends.appends step.agrees step.appends.text))
-      | write_nodes-in-None+in-Some-write_seldom w ↦
-          let step = w.in-Some-write_seldom.ensures in
-          rw (w.taken-is, w.state-is)
-          (by_lengths {agrees = g.V.ComponentProvider.agrees w.write_seldom.new.state c.args.value.now} _ _ _ _ _
-          (written_along {agrees_after = g.V.ComponentProvider.agrees w.write_seldom.new.state c.args.value.now}
-          c.args.output.now c.loop-node.taken w.write_seldom.new.output _ _ _ _ _ c.loop-node.invariant next smaller
-          (rw w.in-None.ensures.appends at step.appends.appends) step.agrees step.appends.text))
-      | write_nodes-in-None+in-None-write_seldom+in-Ok w ↦
-          let step = w.in-Ok.ensures in
-          let same = w.put_back.ensures.put ∙ w.in-None-write_seldom.ensures.appends ∙ w.in-None.ensures.appends in
-          rw (w.taken-is, w.state-is, w.take_out-taken-in-Ok.ensures.taken)
-          (by_lengths {agrees = g.V.ComponentProvider.agrees w.write_node.new.state c.args.value.now} _ _ _ _ _
+          step.appends step.agrees)
+      | write_nodes-in-None+in-Complete w ↦
+          let step = w.in-Complete.ensures in
+          let same = w.put_back.ensures.put ∙ w.in-None.ensures.appends in
+          rw (w.taken-is, w.state-is, w.take_out-taken-in-Complete.ensures.taken)
           (written_along {agrees_after = g.V.ComponentProvider.agrees w.write_node.new.state c.args.value.now}
           c.args.output.now c.loop-node.taken w.write_node.new.output _ _ _ _ _ c.loop-node.invariant next smaller
-          (rw same at step.appends.appends) step.agrees step.appends.text))
+          (rw same at step.appends) step.agrees)
     ]
 
-pub write_nodes-returns-in-Err : goal.write_nodes-returns-in-Err
-write_nodes-returns-in-Err g t c =
+-- a node that is refused ends the list
+pub write_nodes-returns-in-Unsupplied-clause-appends : goal.write_nodes-returns-in-Unsupplied-clause-appends
+write_nodes-returns-in-Unsupplied-clause-appends g t c =
     let next = next_of g.T.Node.tree c.args.nodes.now c.loop-node.node-index c.node-item.result c.loop-node-test.true
     c.node-item.is in
-    record {
-      appends = list_refused c.args.output.now c.loop-node.taken c.write_node.new.output c.in-Err.refusal _ _ _ _ _
-          c.loop-node.invariant next
-          (rw (c.put_back.ensures.put, c.in-None-write_seldom.ensures.appends, c.in-None.ensures.appends)
-          at c.in-Err.ensures.appends);
-      agrees = c.in-Err.ensures.agrees;
-    }
+    list_refused _ c.args.output.now c.loop-node.taken c.write_node.new.output _ _ _ _ _ c.loop-node.invariant next refl
+    (rw (c.put_back.ensures.put, c.in-None.ensures.appends) at c.in-Unsupplied.ensures.appends)
+
+pub write_nodes-returns-in-YearOutOfRange-clause-appends : goal.write_nodes-returns-in-YearOutOfRange-clause-appends
+write_nodes-returns-in-YearOutOfRange-clause-appends g t c =
+    let next = next_of g.T.Node.tree c.args.nodes.now c.loop-node.node-index c.node-item.result c.loop-node-test.true
+    c.node-item.is in
+    list_refused _ c.args.output.now c.loop-node.taken c.write_node.new.output _ _ _ _ _ c.loop-node.invariant next refl
+    (rw (c.put_back.ensures.put, c.in-None.ensures.appends) at c.in-YearOutOfRange.ensures.appends)
 
 -- the end of the loop leaves nothing
 pub write_nodes-returns : goal.write_nodes-returns
 write_nodes-returns g t c =
     record {
-      appends = rw (c.put_back-2.ensures.put, c.len.ensures, c.len-begin.ensures, c.take_out-taken.ensures.taken)
+      appends = rw (c.put_back-2.ensures.put)
           (all_along g.T.Node.tree c.args.nodes.now _ c.args.output.now c.loop-node.taken
           (g.V.ComponentProvider.facts c.args.value.now) c.loop-node-test.false c.loop-node.invariant);
       agrees = c.loop-node.invariant.state;
@@ -75,6 +69,13 @@ write_node-write_bytes-requires g t c = record { room = rw (← c.in-Bytes.ensur
 
 pub write_node-write-requires : goal.write_node-write-requires
 write_node-write-requires g t c = record { room = rw (← c.in-Text.ensures.tree) at c.requires.room }
+
+pub write_node-returns-in-Component-clause-appends : goal.write_node-returns-in-Component-clause-appends
+write_node-returns-in-Component-clause-appends g t c =
+    rw (← c.in-Component.ensures.tree) (record {
+      ends = c.end_component.ensures.ends;
+      text = λ _. text_of_component c.in-Component.component (g.V.ComponentProvider.facts c.args.value.now);
+    })
 
 pub write_node-returns-in-Some-clause-appends : goal.write_node-returns-in-Some-clause-appends
 write_node-returns-in-Some-clause-appends g t c =

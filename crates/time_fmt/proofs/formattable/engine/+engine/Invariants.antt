@@ -1,4 +1,4 @@
-use Rattle.std.proofs.Common.{◌-◌, map, drop, vec_len}
+use Rattle.std.proofs.Common.{map, drop}
 use Rattle.time_below.specs.Size.{sizes}
 use Rattle.time_below.specs.Tree.{trees}
 use Rattle.time_fmt.proofs.Engine.{Along}
@@ -15,6 +15,5 @@ invariant-write_nodes-loop-node g l =
     let rest = drop l.node-index l.nodes in
     let all = trees (map g.T.Node.tree l.nodes) in
     let left = trees (map g.T.Node.tree rest) in
-    Along (g.V.ComponentProvider.agrees l.state l.value) l.fn.output l.taken (vec_len l.taken - vec_len l.fn.output)
-    (g.V.ComponentProvider.facts l.value) all left
+    Along (g.V.ComponentProvider.agrees l.state l.value) l.fn.output l.taken (g.V.ComponentProvider.facts l.value) all left
     (sizes (map g.T.Node.size l.nodes)) (sizes (map g.T.Node.size rest))

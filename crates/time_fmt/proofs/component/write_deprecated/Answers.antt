@@ -1,0 +1,11 @@
+use Rattle.time_fmt.proofs.ConversionLemmas.{current_fits}
+use Rattle.time_fmt.proofs.WriteLemmas.{within_greater}
+use Rattle.time_fmt.proofs.component.write_deprecated.Goals as goal
+
+pub returns-clause-appends : goal.returns-clause-appends
+returns-clause-appends g c =
+    let current = c.current-current.ensures in
+    let written = c.write_current.ensures in
+    rw (← current.converted)
+    (within_greater _ c.write_current.result c.args.output.now c.write_current.new.output written.appends
+    (written.refused current.current) (rw (← current.converted) at (current_fits c.args.component.now)))
