@@ -146,12 +146,12 @@ ascii_units_text _ c t = search (ascii_text_lemmas, ascii_decimal_part) depth 10
 ascii_iso_time : (c : Choices) (t : TimeOfDay) → Ascii (iso_time c t).bytes
 ascii_iso_time c t = search (ascii_text_lemmas, ascii_units_text)
 
-ascii_iso_minutes : (p : OffsetPrecision) (c : Choices) (o : Offset) → Ascii (iso_minutes p c o).bytes
-ascii_iso_minutes offset_precision.Minute c o = search ascii_text_lemmas
-ascii_iso_minutes _ c o = search (ascii_refused_if, ascii_text_lemmas)
+ascii_minutes : (p : OffsetPrecision) (c : Choices) (minutes : ℕ) → Ascii (iso_minutes p c minutes).bytes
+ascii_minutes offset_precision.Minute c minutes = search ascii_text_lemmas
+ascii_minutes _ c minutes = search (ascii_refused_if, ascii_text_lemmas)
 
 ascii_iso_offset : (c : Choices) (o : Offset) → Ascii (iso_offset c o).bytes
-ascii_iso_offset c o = search (ascii_either_outcome, ascii_refused_if, ascii_join, ascii_text_lemmas, ascii_iso_minutes)
+ascii_iso_offset c o = search (ascii_either_outcome, ascii_refused_if, ascii_join, ascii_text_lemmas, ascii_minutes)
 
 -- the parts that are written, one after another
 ruleset ascii_outcome_lemmas = (ascii_empty, ascii_of_group, ascii_join, ascii_iso_date, ascii_iso_time, ascii_iso_offset)

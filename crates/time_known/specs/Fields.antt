@@ -1,6 +1,7 @@
 -- The fields of a date, a time of day and an offset, and the texts of a date and an offset by them.
 use Rattle.std.specs.Prelude.{ℕ, List, ◌++◌, codes, true, unsigned_abs, if◌then◌else◌}
-use Rattle.time_below.specs.Facts.{DateFacts}
+use Rattle.time_below.specs.Facts.{DateFacts, date_facts}
+use Rattle.time_below.specs.Moment.{OffsetDateAndTime}
 use Rattle.time_below.specs.Offset.{Offset, is_negative, is_utc}
 use Rattle.time_below.specs.TimeOfDay.{TimeOfDay}
 use Rattle.time_digits.specs.Digits.{zero_padded}
@@ -50,6 +51,9 @@ fields d t o = record {
   time = time_fields t;
   offset = offset_fields o;
 }
+
+abbrev pub value_fields : OffsetDateAndTime → Shown
+value_fields v = fields (date_facts v.date) v.time v.offset
 
 -- the time of day with these fields
 abbrev pub time_of_day : TimeFields → TimeOfDay

@@ -86,22 +86,12 @@ impl Text for Rfc2822Text {
 
     #[inline(always)]
     fn put_into<S: Sink>(&self, output: &mut S) {
-        put_rfc2822(output, self.weekday, &self.fields);
+        put_named_date(output, self.weekday, &self.fields);
+        output.put(" ");
+        put_clock(output, &self.fields.time, ":");
+        output.put(" ");
+        put_signed_offset(output, &self.fields.offset, "");
     }
-}
-
-// Puts `date-time`.
-#[inline(always)]
-fn put_rfc2822<S: Sink>(output: &mut S, weekday: Weekday, fields: &Fields)
-    requires room { Fits rfc2822_width (S.buffer output.old) }
-    ensures puts { PutsUpTo rfc2822_width (S.buffer output.old) (S.buffer output.new)
-        (rfc2822_of_fields (days_from_monday weekday) (shown fields.now)) }
-{
-    put_named_date(output, weekday, fields);
-    output.put(" ");
-    put_clock(output, &fields.time, ":");
-    output.put(" ");
-    put_signed_offset(output, &fields.offset, "");
 }
 
 // Puts `day-of-week "," date`.

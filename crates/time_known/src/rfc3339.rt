@@ -83,22 +83,12 @@ impl Text for Rfc3339Text {
 
     #[inline(always)]
     fn put_into<S: Sink>(&self, output: &mut S) {
-        put_rfc3339(output, &self.fields);
+        put_date(output, &self.fields, "-");
+        output.put("T");
+        put_clock(output, &self.fields.time, ":");
+        put_time_secfrac(output, self.fields.time.nanosecond);
+        put_offset(output, &self.fields.offset, ":");
     }
-}
-
-// Puts `date-time`.
-#[inline(always)]
-fn put_rfc3339<S: Sink>(output: &mut S, fields: &Fields)
-    requires room { Fits rfc3339_width (S.buffer output.old) }
-    ensures puts { PutsUpTo rfc3339_width (S.buffer output.old) (S.buffer output.new)
-        (rfc3339_of_fields (shown fields.now)) }
-{
-    put_date(output, fields, "-");
-    output.put("T");
-    put_clock(output, &fields.time, ":");
-    put_time_secfrac(output, fields.time.nanosecond);
-    put_offset(output, &fields.offset, ":");
 }
 
 // Puts `time-secfrac`, if there is a fraction of a second.

@@ -2,9 +2,9 @@ use Rattle.std.proofs.Common.{ap, sym, ◌∙◌, ℕ, unsigned_abs}
 use Rattle.time_below.specs.Facts.{the_date, the_offset}
 use Rattle.time_fmt.specs.Outcome.{Outcome}
 use Rattle.time_fmt.proofs.WriteLemmas.{appends_nothing, appends_up_to}
-use Rattle.time_known.specs.Fields.{shown}
+use Rattle.time_known.specs.Fields.{fields, shown}
 use Rattle.time_known.specs.Groups.{at_groups}
-use Rattle.time_known.specs.Rfc2822.{rfc2822_of_fields, rfc2822_of_groups, rfc2822_text}
+use Rattle.time_known.specs.Rfc2822.{rfc2822_of_fields, rfc2822_of_groups}
 use Rattle.time_known.proofs.AcceptedLemmas.{any_hour}
 use Rattle.time_known.proofs.GroupLemmas.{has_all, outcome_of_all}
 use Rattle.time_known.proofs.LawLemmas.{completed_are_canonical}
@@ -18,7 +18,7 @@ returns-in-Ok-clause-appends g c =
     let value = c.args.value.now in
     let f = g.V.ComponentProvider.facts value in
     let all = has_all f (c.are_supplied_by.ensures.there value ∙ c.if-not-are_supplied_by.false) in
-    let text = at_groups rfc2822_text f in
+    let text = rfc2822_of_fields (the_date f).weekday (at_groups fields f) in
     let hours = any_hour 1900 (the_date f).year (unsigned_abs (the_offset f).hours)
     (unsigned_abs (the_offset f).seconds) text c.accepted_year_of.ensures.offset.0.0 in
     rw (outcome_of_all f all rfc2822_of_groups ∙ sym hours ∙ c.in-Ok.ensures.accepted text)
@@ -31,7 +31,7 @@ returns-in-Ok-clause-spelled g c =
     let value = c.args.value.now in
     let f = g.V.ComponentProvider.facts value in
     let all = has_all f (c.are_supplied_by.ensures.there value ∙ c.if-not-are_supplied_by.false) in
-    let text = at_groups rfc2822_text f in
+    let text = rfc2822_of_fields (the_date f).weekday (at_groups fields f) in
     let hours = any_hour 1900 (the_date f).year (unsigned_abs (the_offset f).hours)
     (unsigned_abs (the_offset f).seconds) text c.accepted_year_of.ensures.offset.0.0 in
     let completed = outcome_of_all f all rfc2822_of_groups ∙ sym hours ∙ c.in-Ok.ensures.accepted text in
@@ -44,7 +44,7 @@ returns-in-Err-clause-appends g c =
     let value = c.args.value.now in
     let f = g.V.ComponentProvider.facts value in
     let all = has_all f (c.are_supplied_by.ensures.there value ∙ c.if-not-are_supplied_by.false) in
-    let text = at_groups rfc2822_text f in
+    let text = rfc2822_of_fields (the_date f).weekday (at_groups fields f) in
     let hours = any_hour 1900 (the_date f).year (unsigned_abs (the_offset f).hours)
     (unsigned_abs (the_offset f).seconds) text c.accepted_year_of.ensures.offset.0.0 in
     rw (outcome_of_all f all rfc2822_of_groups ∙ sym hours ∙ c.in-Err.ensures.refused text)
