@@ -4,20 +4,18 @@ use Rattle.std.proofs.Common.{nat_lt, Option, Some, None}
 use Rattle.std.proofs.lemmas.Bool.Decides.{nat_tests}
 use Rattle.std.proofs.lemmas.Grind.{common_steps}
 use Rattle.std.specs.Prelude.{codes, if◌then◌else◌}
-use Rattle.time_below.specs.Facts.{DateFacts}
-use Rattle.time_below.specs.Offset.{Offset, is_utc}
-use Rattle.time_below.specs.TimeOfDay.{TimeOfDay}
+use Rattle.time_below.specs.Offset.{is_utc}
 use Rattle.time_digits.specs.Digits.{zero_padded}
 use Rattle.time_fmt.specs.Outcome.{Outcome, done, refused, join, invalid_component}
 use Rattle.time_known.specs.Accepted.{checked_text, component_name, refused_for}
-use Rattle.time_known.specs.Config.{Choices, separator}
+use Rattle.time_known.specs.Config.{Choices, separator, DecimalSign}
 use Rattle.time_known.specs.Fields.{fields, hours_of_fields, offset_fields}
 use Rattle.time_known.specs.Iso8601.{iso_of_groups, iso_time_text, text_after_year}
 use Rattle.time_known.specs.UsualText.{usual_choices, usual_of_fields}
+use Rattle.time_known.specs.Values.{DateFacts, Offset, TimeOfDay}
 use Rattle.time_known.specs.WellKnown.{refused_if, is_outside}
 use Rattle.time_known.specs.declared.accepted.OutOfRange.{OutOfRange}
 use Rattle.time_known.specs.declared.iso8601.config.DateKind.TheVariants as kind
-use Rattle.time_known.specs.declared.iso8601.config.DecimalSign.{DecimalSign}
 use Rattle.time_known.proofs.OutcomeLemmas.{above_not, test_is_passed}
 
 -- no offset has more than 25 hours

@@ -3,7 +3,7 @@ use Rattle.std.proofs.Common.{◌≡◌, ℕ, Bool, true, refl, ap, subst, Optio
 use Rattle.std.specs.Cmp.{booleans_Decides}
 use Rattle.std.proofs.lemmas.Bool.{and_parts, eqb-true}
 use denote.Enum.Bare.{same_true}
-use Rattle.time_known.specs.Config.{Choices}
+use Rattle.time_known.specs.Config.{Choices, DateKind, DecimalSign, FormattedComponents, OffsetPrecision, TimePrecision}
 use Rattle.time_known.specs.contracts.iso8601.config.ConfigEq.TheImpl.Laws.{laws-law}
 use Rattle.time_known.specs.contracts.iso8601.config.ConfigPartialEq.TheImpl as of_config
 use Rattle.time_known.specs.contracts.iso8601.config.DateKind as date_kind
@@ -11,11 +11,6 @@ use Rattle.time_known.specs.contracts.iso8601.config.DecimalSign as decimal_sign
 use Rattle.time_known.specs.contracts.iso8601.config.FormattedComponents as formatted_components
 use Rattle.time_known.specs.contracts.iso8601.config.OffsetPrecision as offset_precision
 use Rattle.time_known.specs.contracts.iso8601.config.TimePrecisionPartialEq.TheImpl as of_time_precision
-use Rattle.time_known.specs.declared.iso8601.config.DateKind.{DateKind}
-use Rattle.time_known.specs.declared.iso8601.config.DecimalSign.{DecimalSign}
-use Rattle.time_known.specs.declared.iso8601.config.FormattedComponents.{FormattedComponents}
-use Rattle.time_known.specs.declared.iso8601.config.OffsetPrecision.{OffsetPrecision}
-use Rattle.time_known.specs.declared.iso8601.config.TimePrecision.{TimePrecision}
 use Rattle.time_known.specs.declared.iso8601.config.TimePrecision.TheVariants as precision
 
 -- ---- precisions of a time

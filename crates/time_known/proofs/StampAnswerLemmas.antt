@@ -4,16 +4,15 @@ use Rattle.std.proofs.Common.{subst, ◌∙◌, ⊎_elim, Option, Some, None, Re
 use Rattle.std.specs.Prelude.{◌↔◌, codes, IfOk, IfErr, OnErr, IsOk, IsSomeAnd}
 use Rattle.std.specs.Global.{Global}
 use Rattle.std.proofs.lemmas.Bool.{cases_Bool}
-use Rattle.time_below.specs.Calendar.{OrdinalDate, IsDate}
-use Rattle.time_below.specs.Facts.{DateFacts, date_facts, facts_of_utc_date_time}
+use Rattle.time_below.specs.Facts.{facts_of_utc_date_time}
 use Rattle.time_below.specs.Moment.{DateAndTime}
-use Rattle.time_below.specs.TimeOfDay.{IsTimeOfDay}
 use Rattle.time_fmt.specs.Outcome.{Outcome, Refusal, Adds, Names, refused, invalid_component}
 use Rattle.time_fmt.specs.declared.error.Format.{Format}
 use Rattle.time_fmt.specs.declared.error.Format.TheVariants as error
 use Rattle.time_known.specs.Config.{default_choices}
 use Rattle.time_known.specs.Iso8601Grammar.{iso8601_reads_as}
 use Rattle.time_known.specs.Stamps.{stamp_of, stamp_text, stamp_length, IsStampYear, HasStamp}
+use Rattle.time_known.specs.Values.{OrdinalDate, IsDate, DateFacts, date_facts, IsTimeOfDay}
 use Rattle.time_known.specs.WellKnown.{is_outside}
 use Rattle.time_known.proofs.OutcomeLemmas.{IsYearWithin, year_is_within}
 use Rattle.time_known.proofs.StampLemmas.{year_within, stamp_year, stamp_done, default_is_whole, stamps_are_completed}

@@ -1,16 +1,14 @@
 -- The text of ISO 8601 by the fields of the parts that are written.
 use Rattle.std.specs.Prelude.{ℕ, ◌+◌, ◌*◌, length, List, [], codes, Option, Some, None, if◌then◌else◌}
-use Rattle.time_below.specs.Facts.{Facts, DateFacts, the_date, the_time, the_offset}
 use Rattle.time_fmt.specs.Outcome.{Outcome, done, join}
-use Rattle.time_known.specs.Config.{Choices, has_date, has_time, has_offset, separator}
+use Rattle.time_known.specs.Config.{Choices, has_date, has_time, has_offset, separator, DateKind, FormattedComponents}
 use Rattle.time_known.specs.Days.{month_and_day}
 use Rattle.time_known.specs.Fields.{offset_fields, time_fields, time_of_day}
 use Rattle.time_known.specs.Iso8601.{iso_time_text, iso_year, year_of_kind, rest_of_kind, rest_text, iso_offset_of_fields}
 use Rattle.time_known.specs.Iso8601Width.{iso_offset_width, iso_time_width, year_width}
+use Rattle.time_known.specs.Values.{Facts, DateFacts, the_date, the_time, the_offset}
 use Rattle.time_known.specs.declared.days.CalendarDay.TheVariants as day
 use Rattle.time_known.specs.declared.fields.TimeFields.{TimeFields}
-use Rattle.time_known.specs.declared.iso8601.config.DateKind.{DateKind}
-use Rattle.time_known.specs.declared.iso8601.config.FormattedComponents.{FormattedComponents}
 use Rattle.time_known.specs.declared.iso8601.parts.DateParts.{DateParts}
 use Rattle.time_known.specs.declared.iso8601.parts.Parts.{Parts}
 use Rattle.time_known.specs.declared.iso8601.parts.RestOfDate.{RestOfDate}

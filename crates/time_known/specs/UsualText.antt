@@ -1,18 +1,14 @@
 -- The text of ISO 8601 by the usual configurations, of a value of which nothing is refused.
 use Rattle.std.specs.Prelude.{ℕ, ◌≡◌, ◌++◌, Bool, false, List, codes, Option, Some, None, IfSome}
-use Rattle.time_below.specs.TimeOfDay.{TimeOfDay}
-use Rattle.time_known.specs.Config.{Choices, separator}
+use Rattle.time_known.specs.Config.{Choices, separator, DateKind, DecimalSign, FormattedComponents, OffsetPrecision}
+use Rattle.time_known.specs.Config.{TimePrecision}
 use Rattle.time_known.specs.Fields.{Shown, date_of_fields, offset_of_fields, time_of_day}
 use Rattle.time_known.specs.Iso8601.{decimal_part}
+use Rattle.time_known.specs.Values.{TimeOfDay}
 use Rattle.time_known.specs.WellKnown.{clock_text}
-use Rattle.time_known.specs.declared.iso8601.config.DateKind.{DateKind}
 use Rattle.time_known.specs.declared.iso8601.config.DateKind.TheVariants as kind
-use Rattle.time_known.specs.declared.iso8601.config.DecimalSign.{DecimalSign}
-use Rattle.time_known.specs.declared.iso8601.config.FormattedComponents.{FormattedComponents}
 use Rattle.time_known.specs.declared.iso8601.config.FormattedComponents.TheVariants as components
-use Rattle.time_known.specs.declared.iso8601.config.OffsetPrecision.{OffsetPrecision}
 use Rattle.time_known.specs.declared.iso8601.config.OffsetPrecision.TheVariants as offset_precision
-use Rattle.time_known.specs.declared.iso8601.config.TimePrecision.{TimePrecision}
 use Rattle.time_known.specs.declared.iso8601.config.TimePrecision.TheVariants as precision
 use Rattle.time_known.specs.declared.iso8601.config.Usual.{Usual}
 

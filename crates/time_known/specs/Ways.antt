@@ -1,12 +1,9 @@
 -- By which function a text of ISO 8601 is written, so far as its configuration decides it.
 use Rattle.std.specs.Prelude.{◌≡◌, Bool, false, Option, Some}
-use Rattle.time_known.specs.Config.{Choices}
+use Rattle.time_known.specs.Config.{Choices, DateKind, FormattedComponents, TimePrecision}
 use Rattle.time_known.specs.UsualText.{IsUsual, usual_of}
-use Rattle.time_known.specs.declared.iso8601.config.DateKind.{DateKind}
 use Rattle.time_known.specs.declared.iso8601.config.DateKind.TheVariants as kind
-use Rattle.time_known.specs.declared.iso8601.config.FormattedComponents.{FormattedComponents}
 use Rattle.time_known.specs.declared.iso8601.config.FormattedComponents.TheVariants as components
-use Rattle.time_known.specs.declared.iso8601.config.TimePrecision.{TimePrecision}
 use Rattle.time_known.specs.declared.iso8601.config.TimePrecision.TheVariants as precision
 use Rattle.time_known.specs.declared.iso8601.config.Usual.{Usual}
 use Rattle.time_known.specs.declared.iso8601.config.Way.{Way}

@@ -8,8 +8,7 @@ ghost use Rattle.time_known.specs.Rfc3339.{time_secfrac_text, time_secfrac_width
 ghost use Rattle.time_known.specs.Rfc3339Grammar.{Rfc3339Spells, IsCanonicalRfc3339};
 ghost use Rattle.time_known.specs.Sink.{Fits, PutsUpTo};
 
-use crate::accepted::accepted_year_of;
-use crate::fields::{Fields, fields_of};
+use crate::fields::{Fields, accepted_fields};
 use crate::groups::Groups;
 use crate::put::{put_clock, put_date, put_fraction, put_offset};
 use crate::sink::{Sink, Text, append};
@@ -59,11 +58,8 @@ impl Formattable for Rfc3339 {
         if !Groups::ALL.are_supplied_by::<V>() {
             return Err(Format::InsufficientTypeInformation);
         }
-        match accepted_year_of(0, 23, value, state) {
-            Ok(year) => {
-                let fields = fields_of(year, value, state);
-                Ok(append(output, &Rfc3339Text { fields }))
-            }
+        match accepted_fields(0, 23, value, state) {
+            Ok(fields) => Ok(append(output, &Rfc3339Text { fields })),
             Err(component) => Err(Format::InvalidComponent(component.name())),
         }
     }

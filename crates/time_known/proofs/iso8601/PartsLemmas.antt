@@ -2,10 +2,8 @@
 use Rattle.std.proofs.Common.{◌≡◌, ◌≢◌, ℕ, ◌+◌, true, length, List, [], refl, sym, ap, subst, ◌∙◌, arith, Option, Some, None}
 use Rattle.std.specs.Prelude.{codes}
 use Rattle.std.proofs.lemmas.List.{append-nil}
-use Rattle.time_below.specs.Facts.{Facts, DateFacts, the_date, the_time}
-use Rattle.time_below.specs.Offset.{Offset}
 use Rattle.time_fmt.specs.Outcome.{Outcome, Refusal, done, join}
-use Rattle.time_known.specs.Config.{Choices, groups_of, separator}
+use Rattle.time_known.specs.Config.{Choices, groups_of, separator, DateKind, FormattedComponents}
 use Rattle.time_known.specs.Groups.{has_groups}
 use Rattle.time_known.specs.Iso8601.{iso8601_outcome, iso8601_outcome_of, iso_date, iso_offset_of_fields, rest_of_kind, rest_text}
 use Rattle.time_known.specs.Iso8601.{iso_time_text, iso_year}
@@ -15,9 +13,8 @@ use Rattle.time_known.specs.Iso8601Parts.{part_text, part_width, rest_width, sho
 use Rattle.time_known.specs.Iso8601Parts.{shown_rest, time_part_text}
 use Rattle.time_known.specs.Iso8601Width.{iso8601_width, iso8601_width_of, iso_date_width, iso_offset_width, iso_time_width}
 use Rattle.time_known.specs.Iso8601Width.{width_after_year, year_width}
-use Rattle.time_known.specs.declared.iso8601.config.DateKind.{DateKind}
+use Rattle.time_known.specs.Values.{Facts, DateFacts, the_date, the_time}
 use Rattle.time_known.specs.declared.iso8601.config.DateKind.TheVariants as kind
-use Rattle.time_known.specs.declared.iso8601.config.FormattedComponents.{FormattedComponents}
 use Rattle.time_known.specs.declared.iso8601.config.FormattedComponents.TheVariants as components
 use Rattle.time_known.specs.declared.iso8601.parts.DateParts.{DateParts}
 use Rattle.time_known.specs.declared.iso8601.parts.Parts.{Parts}

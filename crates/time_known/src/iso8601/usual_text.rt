@@ -12,8 +12,7 @@ ghost use Rattle.time_known.specs.Sink.{Fits, Puts, PutsUpTo};
 ghost use Rattle.time_known.specs.Stamps.{stamp_length, stamp_of_fields};
 ghost use Rattle.time_known.specs.UsualText.{usual_choices, usual_of_fields, usual_time_text};
 
-use crate::accepted::accepted_year_of;
-use crate::fields::{Fields, TimeFields, fields_of};
+use crate::fields::{Fields, TimeFields, accepted_fields};
 use crate::iso8601::config::{Config, DecimalSign, Usual};
 use crate::iso8601::time::{NANOSECONDS_PER_SECOND, put_to_second};
 use crate::pieces::piece;
@@ -43,9 +42,8 @@ pub(super) fn write_usual<V: ComponentProvider>(
     ensures real { OnSome result (AreReal (V.facts value.now)) }
     ensures agrees { V.agrees state.new value.now }
 {
-    match accepted_year_of(0, 25, value, state) {
-        Ok(year) => {
-            let fields = fields_of(year, value, state);
+    match accepted_fields(0, 25, value, state) {
+        Ok(fields) => {
             let usual = *usual;
             Some(append(output, &UsualText { usual, fields }))
         }

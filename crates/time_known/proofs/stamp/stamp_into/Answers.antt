@@ -1,4 +1,4 @@
-use Rattle.time_known.proofs.StampAnswerLemmas.{Answered, IsStamped, is_stamped}
+use Rattle.time_known.proofs.StampAnswerLemmas.{IsStamped, is_stamped}
 use Rattle.time_known.proofs.stamp.stamp_into.Goals as goal
 use Rattle.time_known.proofs.stamp.stamp_into.Goals.{After-format_into}
 

@@ -17,7 +17,7 @@ returns-in-Ok-clause-appends g c =
     let f = g.V.ComponentProvider.facts value in
     let all = has_all f (c.are_supplied_by.ensures.there value ∙ c.if-not-are_supplied_by.false) in
     rw (outcome_of_all f all rfc3339_of_groups ∙ c.in-Ok.ensures.accepted (rfc3339_of_fields (at_groups fields f)))
-    (appends_up_to (written_as rfc3339_of_fields c.fields_of-fields.ensures.fields c.append.ensures.writes))
+    (appends_up_to (written_as rfc3339_of_fields c.in-Ok.ensures.fields c.append.ensures.writes))
 
 pub returns-in-Ok-clause-spelled : goal.returns-in-Ok-clause-spelled
 returns-in-Ok-clause-spelled g c =
@@ -25,8 +25,7 @@ returns-in-Ok-clause-spelled g c =
     let f = g.V.ComponentProvider.facts value in
     let all = has_all f (c.are_supplied_by.ensures.there value ∙ c.if-not-are_supplied_by.false) in
     let completed = outcome_of_all f all rfc3339_of_groups ∙ c.in-Ok.ensures.accepted (rfc3339_of_fields (at_groups fields f)) in
-    reads_as rfc3339_of_groups (completed_are_canonical rfc3339_is_written) f all c.accepted_year_of.ensures.date
-    c.fields_of-fields.ensures.agrees.real c.accepted_year_of.ensures.offset
+    reads_as rfc3339_of_groups (completed_are_canonical rfc3339_is_written) f all c.in-Ok.ensures.real
     (ap (λ (o : Outcome). o.refusal) completed)
 
 pub returns-in-Err-clause-appends : goal.returns-in-Err-clause-appends
