@@ -4,19 +4,18 @@ use Rattle.std.proofs.Common.{nat_lt, Option, Some, None}
 use Rattle.std.proofs.lemmas.Bool.Decides.{nat_tests}
 use Rattle.std.proofs.lemmas.Grind.{common_steps}
 use Rattle.std.specs.Prelude.{codes, if◌then◌else◌}
-use Rattle.time_below.specs.Facts.{DateFacts}
-use Rattle.time_below.specs.Offset.{Offset, is_utc}
-use Rattle.time_below.specs.TimeOfDay.{TimeOfDay}
+use Rattle.time_below.specs.Offset.{is_utc}
 use Rattle.time_digits.specs.Digits.{zero_padded}
 use Rattle.time_fmt.specs.Outcome.{Outcome, done, refused, join, invalid_component}
 use Rattle.time_known.specs.Accepted.{checked_text, component_name, refused_for}
-use Rattle.time_known.specs.Config.{Choices, separator}
+use Rattle.time_known.specs.Config.{Choices, separator, DecimalSign}
+use Rattle.time_known.specs.Fields.{fields, hours_of_fields, offset_fields}
 use Rattle.time_known.specs.Iso8601.{iso_of_groups, iso_time_text, text_after_year}
-use Rattle.time_known.specs.UsualText.{usual_choices, usual_text}
-use Rattle.time_known.specs.WellKnown.{refused_if, is_outside, offset_hours_text, offset_minutes_text}
+use Rattle.time_known.specs.UsualText.{usual_choices, usual_of_fields}
+use Rattle.time_known.specs.Values.{DateFacts, Offset, TimeOfDay}
+use Rattle.time_known.specs.WellKnown.{refused_if, is_outside}
 use Rattle.time_known.specs.declared.accepted.OutOfRange.{OutOfRange}
 use Rattle.time_known.specs.declared.iso8601.config.DateKind.TheVariants as kind
-use Rattle.time_known.specs.declared.iso8601.config.DecimalSign.{DecimalSign}
 use Rattle.time_known.proofs.OutcomeLemmas.{above_not, test_is_passed}
 
 -- no offset has more than 25 hours
@@ -30,14 +29,14 @@ any_hour first year hour second text h = rw (above_not 25 hour h) refl
 usual_passes : (c : Choices) (has_separators : Bool) (digits : Option ℕ) (sign : DecimalSign) (d : DateFacts)
     (t : TimeOfDay) (o : Offset) → c ≡ usual_choices has_separators digits sign
     → is_outside 0 9_999 d.year ≡ false → nat_lt 0 (unsigned_abs o.seconds) ≡ false
-    → iso_of_groups c d t o ≡ done (usual_text c digits d t o)
+    → iso_of_groups c d t o ≡ done (usual_of_fields c digits (fields d t o))
 usual_passes c has_separators digits sign d t o e year seconds = grind (arith, common_steps)
 
 -- an accepted year and offset complete the text of these choices
 pub usual_accepted : (c : Choices) (has_separators : Bool) (digits : Option ℕ) (sign : DecimalSign) (d : DateFacts)
     (t : TimeOfDay) (o : Offset) (text : List ℕ) → c ≡ usual_choices has_separators digits sign
     → checked_text 0 25 d.year (unsigned_abs o.hours) (unsigned_abs o.seconds) text ≡ done text
-    → iso_of_groups c d t o ≡ done (usual_text c digits d t o)
+    → iso_of_groups c d t o ≡ done (usual_of_fields c digits (fields d t o))
 usual_accepted c has_separators digits sign d t o text e accepted =
     let year = test_is_passed _ _ _ text accepted in
     let hours = test_is_passed _ _ _ text year.done in
@@ -76,5 +75,5 @@ usual_refused digits sign d t o text component hour e =
     let c = usual_choices true digits sign in
     refusal_is (is_outside 0 9_999 d.year) (is_utc o) (nat_lt 0 (unsigned_abs o.seconds))
     (zero_padded 4 (unsigned_abs d.year)) (text_after_year kind.Calendar c d) (iso_time_text c t) (codes "Z")
-    (offset_hours_text o) (separator c (codes ":") ++ offset_minutes_text o) text (component_name component)
+    (hours_of_fields (offset_fields o)) (separator c (codes ":") ++ zero_padded 2 (unsigned_abs o.minutes)) text (component_name component)
     (no_seconds o) (rw (any_hour 0 d.year (unsigned_abs o.hours) (unsigned_abs o.seconds) text hour) at e)

@@ -1,20 +1,16 @@
 -- Configurations of ISO 8601 are equal exactly if all their fields are.
 use Rattle.std.proofs.Common.{◌≡◌, ℕ, Bool, true, refl, ap, subst, Option, Some, None}
 use Rattle.std.specs.Cmp.{booleans_Decides}
-use Rattle.std.proofs.lemmas.Bool.{and_parts, eqb-true, eq-eqb}
-use denote.Enum.Bare.{same_true, true_same}
-use Rattle.time_known.specs.Config.{Choices}
+use Rattle.std.proofs.lemmas.Bool.{and_parts, eqb-true}
+use denote.Enum.Bare.{same_true}
+use Rattle.time_known.specs.Config.{Choices, DateKind, DecimalSign, FormattedComponents, OffsetPrecision, TimePrecision}
+use Rattle.time_known.specs.contracts.iso8601.config.ConfigEq.TheImpl.Laws.{laws-law}
 use Rattle.time_known.specs.contracts.iso8601.config.ConfigPartialEq.TheImpl as of_config
 use Rattle.time_known.specs.contracts.iso8601.config.DateKind as date_kind
 use Rattle.time_known.specs.contracts.iso8601.config.DecimalSign as decimal_sign
 use Rattle.time_known.specs.contracts.iso8601.config.FormattedComponents as formatted_components
 use Rattle.time_known.specs.contracts.iso8601.config.OffsetPrecision as offset_precision
 use Rattle.time_known.specs.contracts.iso8601.config.TimePrecisionPartialEq.TheImpl as of_time_precision
-use Rattle.time_known.specs.declared.iso8601.config.DateKind.{DateKind}
-use Rattle.time_known.specs.declared.iso8601.config.DecimalSign.{DecimalSign}
-use Rattle.time_known.specs.declared.iso8601.config.FormattedComponents.{FormattedComponents}
-use Rattle.time_known.specs.declared.iso8601.config.OffsetPrecision.{OffsetPrecision}
-use Rattle.time_known.specs.declared.iso8601.config.TimePrecision.{TimePrecision}
 use Rattle.time_known.specs.declared.iso8601.config.TimePrecision.TheVariants as precision
 
 -- ---- precisions of a time
@@ -25,23 +21,12 @@ same_decimals None None h = refl
 same_decimals (Some d) (Some e) h = ap Some (eqb-true d e h)
 same_decimals _ _ h = cc
 
--- decimals are found equal to themselves
-equal_decimals : (d : Option ℕ) → of_time_precision.ghosts.eq (precision.Hour d) (precision.Hour d) ≡ true
-equal_decimals None = refl
-equal_decimals (Some d) = eq-eqb d d refl
-
 -- precisions that are found equal have the same unit and decimals
 same_precision : (a b : TimePrecision) → of_time_precision.ghosts.eq a b ≡ true → a ≡ b
 same_precision (precision.Hour d) (precision.Hour e) h = ap precision.Hour (same_decimals d e h)
 same_precision (precision.Minute d) (precision.Minute e) h = ap precision.Minute (same_decimals d e h)
 same_precision (precision.Second d) (precision.Second e) h = ap precision.Second (same_decimals d e h)
 same_precision _ _ h = cc
-
--- each precision compares as equal to itself
-equal_precision : (a : TimePrecision) → of_time_precision.ghosts.eq a a ≡ true
-equal_precision (precision.Hour d) = equal_decimals d
-equal_precision (precision.Minute d) = equal_decimals d
-equal_precision (precision.Second d) = equal_decimals d
 
 -- ---- configurations
 
@@ -81,13 +66,4 @@ same_choices a b h =
 
 -- equal configurations compare as equal
 pub equal_choices : (a b : Choices) → a ≡ b → of_config.ghosts.eq a b ≡ true
-equal_choices a b e = subst (λ (c : Choices). of_config.ghosts.eq a c ≡ true) e
-    (rw (
-      true_same formatted_components.the_type a.formatted_components a.formatted_components refl,
-      (booleans_Decides a.use_separators a.use_separators).1 refl,
-      (booleans_Decides a.year_is_six_digits a.year_is_six_digits).1 refl,
-      true_same date_kind.the_type a.date_kind a.date_kind refl,
-      equal_precision a.time_precision,
-      true_same offset_precision.the_type a.offset_precision a.offset_precision refl,
-      true_same decimal_sign.the_type a.decimal_sign a.decimal_sign refl,
-    ) refl)
+equal_choices a b e = subst (λ (c : Choices). of_config.ghosts.eq a c ≡ true) e (laws-law.refl a)

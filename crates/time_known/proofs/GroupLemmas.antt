@@ -1,11 +1,10 @@
 -- Facts that have the groups that are needed, and the outcome that these give.
 use Rattle.std.proofs.Common.{◌≡◌, Bool, true, false, refl, ◌∙◌, Option, Some, None}
 use Rattle.std.specs.Prelude.{◌&&◌, ◌||◌, not, is_some}
-use Rattle.time_below.specs.Facts.{Facts, DateFacts, group_or, the_date, the_time, the_offset}
-use Rattle.time_below.specs.Offset.{Offset}
-use Rattle.time_below.specs.TimeOfDay.{TimeOfDay}
+use Rattle.time_below.specs.Facts.{group_or}
 use Rattle.time_fmt.specs.Description.{of_group}
 use Rattle.time_fmt.specs.Outcome.{Outcome, refused, insufficient}
+use Rattle.time_known.specs.Values.{Facts, DateFacts, the_date, the_time, the_offset, Offset, TimeOfDay}
 use Rattle.time_known.specs.declared.groups.Groups.{Groups}
 use Rattle.time_known.specs.Groups.{has_groups, at_groups}
 use Rattle.time_known.specs.WellKnown.{of_all_groups}

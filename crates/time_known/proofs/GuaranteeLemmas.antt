@@ -6,9 +6,7 @@ use Rattle.time_digits.specs.Digits.{fixed, zero_padded}
 use Rattle.std.specs.Prelude.{nat_lt}
 use Rattle.std.proofs.lemmas.Str.{IsAscii-append, IsAscii-take, IsUtf8-from_ascii}
 use Rattle.std.proofs.lemmas.Str.Ascii.{IsAscii-nil}
-use Rattle.time_below.specs.Facts.{Facts, DateFacts}
-use Rattle.time_below.specs.Offset.{Offset, is_negative}
-use Rattle.time_below.specs.TimeOfDay.{TimeOfDay}
+use Rattle.time_below.specs.Offset.{is_negative}
 use Rattle.time_digits.proofs.DigitLemmas.{IsAscii-fixed}
 use Rattle.time_digits.proofs.FractionLemmas.{IsAscii-trimmed_fraction}
 use Rattle.time_digits.proofs.LengthLemmas.{IsAscii-padded}
@@ -18,16 +16,12 @@ use Rattle.time_fmt.specs.DateText.{month_name, weekday_name, short_name}
 use Rattle.time_fmt.specs.Description.{of_group}
 use Rattle.time_fmt.specs.Outcome.{Outcome, refused, join, invalid_component}
 use Rattle.time_fmt.proofs.GuaranteeLemmas.{IsAscii-sign_text, IsAscii-month_name, IsAscii-weekday_name}
-use Rattle.time_known.specs.Config.{Choices}
-use Rattle.time_known.specs.declared.iso8601.config.DateKind.{DateKind}
+use Rattle.time_known.specs.Config.{Choices, DateKind, DecimalSign, FormattedComponents, OffsetPrecision, TimePrecision}
+use Rattle.time_known.specs.Values.{Facts, DateFacts, Offset, TimeOfDay}
 use Rattle.time_known.specs.declared.iso8601.config.DateKind.TheVariants as kind
-use Rattle.time_known.specs.declared.iso8601.config.DecimalSign.{DecimalSign}
 use Rattle.time_known.specs.declared.iso8601.config.DecimalSign.TheVariants as sign_of
-use Rattle.time_known.specs.declared.iso8601.config.FormattedComponents.{FormattedComponents}
 use Rattle.time_known.specs.declared.iso8601.config.FormattedComponents.TheVariants as components
-use Rattle.time_known.specs.declared.iso8601.config.OffsetPrecision.{OffsetPrecision}
 use Rattle.time_known.specs.declared.iso8601.config.OffsetPrecision.TheVariants as offset_precision
-use Rattle.time_known.specs.declared.iso8601.config.TimePrecision.{TimePrecision}
 use Rattle.time_known.specs.declared.iso8601.config.TimePrecision.TheVariants as precision
 use Rattle.time_known.specs.Iso8601.{iso8601_outcome, iso8601_outcome_of, iso_date, iso_time, iso_offset, iso_year}
 use Rattle.time_known.specs.Iso8601.{text_after_year, units_text, decimal_part, iso_minutes}
@@ -146,12 +140,12 @@ ascii_units_text _ c t = search (ascii_text_lemmas, ascii_decimal_part) depth 10
 ascii_iso_time : (c : Choices) (t : TimeOfDay) → Ascii (iso_time c t).bytes
 ascii_iso_time c t = search (ascii_text_lemmas, ascii_units_text)
 
-ascii_iso_minutes : (p : OffsetPrecision) (c : Choices) (o : Offset) → Ascii (iso_minutes p c o).bytes
-ascii_iso_minutes offset_precision.Minute c o = search ascii_text_lemmas
-ascii_iso_minutes _ c o = search (ascii_refused_if, ascii_text_lemmas)
+ascii_minutes : (p : OffsetPrecision) (c : Choices) (minutes : ℕ) → Ascii (iso_minutes p c minutes).bytes
+ascii_minutes offset_precision.Minute c minutes = search ascii_text_lemmas
+ascii_minutes _ c minutes = search (ascii_refused_if, ascii_text_lemmas)
 
 ascii_iso_offset : (c : Choices) (o : Offset) → Ascii (iso_offset c o).bytes
-ascii_iso_offset c o = search (ascii_either_outcome, ascii_refused_if, ascii_join, ascii_text_lemmas, ascii_iso_minutes)
+ascii_iso_offset c o = search (ascii_either_outcome, ascii_refused_if, ascii_join, ascii_text_lemmas, ascii_minutes)
 
 -- the parts that are written, one after another
 ruleset ascii_outcome_lemmas = (ascii_empty, ascii_of_group, ascii_join, ascii_iso_date, ascii_iso_time, ascii_iso_offset)

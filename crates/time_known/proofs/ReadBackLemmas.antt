@@ -1,14 +1,12 @@
 -- A completed text spells the value whose groups were formatted.
 use Rattle.std.proofs.Common.{◌≡◌, sym, ap, ◌∙◌, Some, None, Option}
-use Rattle.time_below.specs.Facts.{Facts, DateFacts, date_facts, the_date, the_time, the_offset}
-use Rattle.time_below.specs.Moment.{OffsetDateAndTime}
-use Rattle.time_below.specs.Offset.{Offset, IsOffset}
-use Rattle.time_below.specs.TimeOfDay.{TimeOfDay, IsTimeOfDay}
 use Rattle.time_fmt.specs.Outcome.{Outcome, Refusal, done}
-use Rattle.time_provide.specs.Real.{AreFactsOfDate, date_in}
+use Rattle.time_provide.specs.Real.{AreReal, date_in}
 use Rattle.time_known.specs.Laws.{IsValue, CompletedAreCanonical}
 use Rattle.time_known.specs.ReadBack.{ReadsAs}
 use Rattle.time_known.specs.Rules.{Rule}
+use Rattle.time_known.specs.Values.{Facts, DateFacts, date_facts, the_date, the_time, the_offset, OffsetDateAndTime}
+use Rattle.time_known.specs.Values.{Offset, TimeOfDay}
 use Rattle.time_known.specs.WellKnown.{of_all_groups}
 use Rattle.time_known.proofs.GroupLemmas.{HasAll, some_group_or, outcome_of_all}
 
@@ -22,20 +20,20 @@ completed_by_bytes o e =
 pub reads_as : {kept : OffsetDateAndTime → OffsetDateAndTime} {Spells Canonical : OffsetDateAndTime → Rule}
     (of_groups : DateFacts → TimeOfDay → Offset → Outcome)
     → CompletedAreCanonical IsValue (λ v. of_groups (date_facts v.date) v.time v.offset) kept Spells Canonical
-    → (f : Facts) → HasAll f → AreFactsOfDate (the_date f) → IsTimeOfDay (the_time f) → IsOffset (the_offset f)
+    → (f : Facts) → HasAll f → AreReal f
     → (of_all_groups f of_groups).refusal ≡ None
     → ReadsAs kept Spells Canonical f (of_all_groups f of_groups).bytes
-reads_as of_groups law f all real_date real_time real_offset complete =
+reads_as of_groups law f all real complete =
     let outcome = of_all_groups f of_groups in
     let value : OffsetDateAndTime = record { date = date_in (the_date f); time = the_time f; offset = the_offset f } in
-    let fits : IsValue value = record { date = real_date.date; time = real_time; offset = real_offset } in
+    let fits : IsValue value = record { date = real.date.date; time = real.time; offset = real.offset } in
     let same : of_groups (date_facts value.date) value.time value.offset ≡ outcome =
-    ap (λ d. of_groups d value.time value.offset) (sym real_date.components) ∙ sym (outcome_of_all f all of_groups) in
+    ap (λ d. of_groups d value.time value.offset) (sym real.date.components) ∙ sym (outcome_of_all f all of_groups) in
     let read = law.completed outcome.bytes value fits (same ∙ completed_by_bytes outcome complete) in
     record {
       value = value;
       fits = fits;
-      date = some_group_or _ f.date all.date ∙ ap Some real_date.components;
+      date = some_group_or _ f.date all.date ∙ ap Some real.date.components;
       time = some_group_or _ f.time all.time;
       offset = some_group_or _ f.offset all.offset;
       spelled = read.0;

@@ -4,16 +4,15 @@ use Rattle.std.proofs.Common.{subst, ◌∙◌, ⊎_elim, Option, Some, None, Re
 use Rattle.std.specs.Prelude.{◌↔◌, codes, IfOk, IfErr, OnErr, IsOk, IsSomeAnd}
 use Rattle.std.specs.Global.{Global}
 use Rattle.std.proofs.lemmas.Bool.{cases_Bool}
-use Rattle.time_below.specs.Calendar.{OrdinalDate, IsDate}
-use Rattle.time_below.specs.Facts.{DateFacts, date_facts, facts_of_utc_date_time}
+use Rattle.time_below.specs.Facts.{facts_of_utc_date_time}
 use Rattle.time_below.specs.Moment.{DateAndTime}
-use Rattle.time_below.specs.TimeOfDay.{IsTimeOfDay}
 use Rattle.time_fmt.specs.Outcome.{Outcome, Refusal, Adds, Names, refused, invalid_component}
 use Rattle.time_fmt.specs.declared.error.Format.{Format}
 use Rattle.time_fmt.specs.declared.error.Format.TheVariants as error
 use Rattle.time_known.specs.Config.{default_choices}
 use Rattle.time_known.specs.Iso8601Grammar.{iso8601_reads_as}
 use Rattle.time_known.specs.Stamps.{stamp_of, stamp_text, stamp_length, IsStampYear, HasStamp}
+use Rattle.time_known.specs.Values.{OrdinalDate, IsDate, DateFacts, date_facts, IsTimeOfDay}
 use Rattle.time_known.specs.WellKnown.{is_outside}
 use Rattle.time_known.proofs.OutcomeLemmas.{IsYearWithin, year_is_within}
 use Rattle.time_known.proofs.StampLemmas.{year_within, stamp_year, stamp_done, default_is_whole, stamps_are_completed}
@@ -68,40 +67,9 @@ not_refused v h = ap (λ (o : Outcome). o.refusal) (stamp_done v (year_within v.
 
 -- ---- answers
 
--- a completed call has a stamp
-pub completed_has_stamp : {old new : Vec ℕ Global} (answer : Result ℕ Format) {v : DateAndTime}
-    → Answered old new answer v → IfOk answer (λ _. HasStamp v)
-completed_has_stamp (Ok n) {v = v} a = has_stamp v (a.appends (λ e. cc)).counted.0 a.spelled
-completed_has_stamp (Err e) a = tt
-
--- a completed call returns 30
-pub completed_length : {old new : Vec ℕ Global} (answer : Result ℕ Format) {v : DateAndTime}
-    → Answered old new answer v → IfOk answer (λ count. count ≡ stamp_length)
-completed_length (Ok n) {v = v} a =
-    let adds = a.appends (λ e. cc) in
-    adds.counted.1 ∙ (stamps_are_completed v (completed_has_stamp (Ok n) a)).has_length
-completed_length (Err e) a = tt
-
--- a completed call makes the output 30 bytes longer
-pub completed_longer : {old new : Vec ℕ Global} (answer : Result ℕ Format) {v : DateAndTime}
-    → Answered old new answer v → IfOk answer (λ _. vec_len new ≡ vec_len old + stamp_length)
-completed_longer {old} {new} (Ok n) {v = v} a =
-    let adds = a.appends (λ e. cc) in
-    adds.grown ∙ ap (λ k. vec_len old + k) (stamps_are_completed v (completed_has_stamp (Ok n) a)).has_length
-completed_longer (Err e) a = tt
-
 -- no refusal is named where there is none
 named_none : (o : Outcome) (e : Format) → o.refusal ≡ None → IsSomeAnd o.refusal (Names e) → ⊥
 named_none o e none named = subst (λ (r : Option Refusal). IsSomeAnd r (Names e)) none named
-
--- a call that is not out of memory is completed exactly for a year of four digits
-pub completed_years : {old new : Vec ℕ Global} (answer : Result ℕ Format) {v : DateAndTime}
-    → Answered old new answer v → answer ≢ no_memory → IsOk answer ↔ IsStampYear v.date.year
-completed_years (Ok n) a some = (λ _. (completed_has_stamp (Ok n) a).year, λ _. refl)
-completed_years (Err e) {v = v} a some = (
-  λ none. absurd (let never : false ≡ true = none in cc),
-  λ year. absurd (named_none (stamp_of v) e (not_refused v year) (a.appends some).named),
-)
 
 -- an error other than `OutOfMemory` names the year, and adds no byte
 refused_by_year : (old new : Vec ℕ Global) (v : DateAndTime) (e : Format) → Adds old new (Err e) (stamp_of v)
@@ -115,21 +83,49 @@ refused_by_year old new v e adds = at (either_year v) where
   )
   at (inr h) = absurd (named_none (stamp_of v) e (not_refused v (stamp_year v.date.year h)) adds.named)
 
--- any error but one is not `OutOfMemory`
-not_memory : {e : Format} → e ≢ error.OutOfMemory → ◌≢◌ {A = Result ℕ Format} (Err e) no_memory
-not_memory {e} other same = other cc
+-- A completed call has a stamp, of 30 bytes. Another one that is not out of memory names the year, which has none; and
+-- an error appends nothing.
+pub record IsStamped (old new : Vec ℕ Global) (answer : Result ℕ Format) (v : DateAndTime) : Type 0 where
+  pub is_stamp : IfOk answer (λ _. HasStamp v)
+  pub length : IfOk answer (λ count. count ≡ stamp_length)
+  pub longer : IfOk answer (λ _. vec_len new ≡ vec_len old + stamp_length)
+  pub year : answer ≢ no_memory → IsOk answer ↔ IsStampYear v.date.year
+  pub named : IfErr answer (λ e. e ≢ error.OutOfMemory → Names e (invalid_component (codes "year")))
+  pub unchanged : OnErr answer (new.items ≡ old.items)
 
--- an error that is not out of memory names the year
-pub year_named : {old new : Vec ℕ Global} (answer : Result ℕ Format) {v : DateAndTime}
-    → Answered old new answer v
-    → IfErr answer (λ e. e ≢ error.OutOfMemory → Names e (invalid_component (codes "year")))
-year_named (Ok n) a = tt
-year_named {old} {new} (Err e) {v = v} a =
-    λ other. (refused_by_year old new v e (a.appends (not_memory other))).0
-
--- a call that returns an error appends nothing
-pub refused_unchanged : {old new : Vec ℕ Global} (answer : Result ℕ Format) {v : DateAndTime}
-    → Answered old new answer v → OnErr answer (new.items ≡ old.items)
-refused_unchanged (Ok n) a = tt
-refused_unchanged (Err error.OutOfMemory) a = a.unchanged refl
-refused_unchanged {old} {new} (Err e) {v = v} a = (refused_by_year old new v e (a.appends (λ same. cc))).1
+pub is_stamped : {old new : Vec ℕ Global} (answer : Result ℕ Format) {v : DateAndTime} → Answered old new answer v
+    → IsStamped old new answer v
+is_stamped {old} (Ok n) {v = v} a =
+    let adds = a.appends (λ e. cc) in
+    let has = has_stamp v adds.counted.0 a.spelled in
+    let size = (stamps_are_completed v has).has_length in
+    record {
+      is_stamp = has;
+      length = adds.counted.1 ∙ size;
+      longer = adds.grown ∙ ap (λ k. vec_len old + k) size;
+      year = λ some. (λ _. has.year, λ _. refl);
+      named = tt;
+      unchanged = tt;
+    }
+is_stamped (Err error.OutOfMemory) a = record {
+  is_stamp = tt;
+  length = tt;
+  longer = tt;
+  year = λ some. absurd (some refl);
+  named = λ other. absurd (other refl);
+  unchanged = a.unchanged refl;
+}
+is_stamped {old} {new} (Err e) {v = v} a =
+    let adds = a.appends (λ same. cc) in
+    let refusal = refused_by_year old new v e adds in
+    record {
+      is_stamp = tt;
+      length = tt;
+      longer = tt;
+      year = λ some. (
+        λ none. absurd (let never : false ≡ true = none in cc),
+        λ year. absurd (named_none (stamp_of v) e (not_refused v year) adds.named),
+      );
+      named = λ other. refusal.0;
+      unchanged = refusal.1;
+    }

@@ -1,11 +1,6 @@
 -- Changes of a configuration of ISO 8601, one field at a time.
 use Rattle.std.specs.Prelude.{◌≡◌, ◌≢◌, Bool}
-use Rattle.time_known.specs.Config.{Choices}
-use Rattle.time_known.specs.declared.iso8601.config.DateKind.{DateKind}
-use Rattle.time_known.specs.declared.iso8601.config.DecimalSign.{DecimalSign}
-use Rattle.time_known.specs.declared.iso8601.config.FormattedComponents.{FormattedComponents}
-use Rattle.time_known.specs.declared.iso8601.config.OffsetPrecision.{OffsetPrecision}
-use Rattle.time_known.specs.declared.iso8601.config.TimePrecision.{TimePrecision}
+use Rattle.time_known.specs.Config.{Choices, DateKind, DecimalSign, FormattedComponents, OffsetPrecision, TimePrecision}
 
 pub data Field : Type 0 where
   the_components : Field

@@ -1,11 +1,10 @@
 -- The fields of a date, a time of day and an offset, and the texts of a date and an offset by them.
 use Rattle.std.specs.Prelude.{ℕ, List, ◌++◌, codes, true, unsigned_abs, if◌then◌else◌}
-use Rattle.time_below.specs.Facts.{DateFacts}
-use Rattle.time_below.specs.Offset.{Offset, is_negative, is_utc}
-use Rattle.time_below.specs.TimeOfDay.{TimeOfDay}
+use Rattle.time_below.specs.Offset.{is_negative, is_utc}
 use Rattle.time_digits.specs.Digits.{zero_padded}
 use Rattle.time_fmt.specs.Text.{sign_text}
 use Rattle.time_known.specs.Days.{month_and_day}
+use Rattle.time_known.specs.Values.{DateFacts, date_facts, OffsetDateAndTime, Offset, TimeOfDay}
 use Rattle.time_known.specs.declared.fields.Fields.{Fields}
 use Rattle.time_known.specs.declared.fields.OffsetFields.{OffsetFields}
 use Rattle.time_known.specs.declared.fields.TimeFields.{TimeFields}
@@ -50,6 +49,9 @@ fields d t o = record {
   time = time_fields t;
   offset = offset_fields o;
 }
+
+abbrev pub value_fields : OffsetDateAndTime → Shown
+value_fields v = fields (date_facts v.date) v.time v.offset
 
 -- the time of day with these fields
 abbrev pub time_of_day : TimeFields → TimeOfDay

@@ -1,8 +1,6 @@
 -- The groups of a value that a text is made of.
 use Rattle.std.specs.Prelude.{Bool, ◌&&◌, ◌||◌, not, is_some, IsTrue}
-use Rattle.time_below.specs.Facts.{Facts, DateFacts, the_date, the_time, the_offset}
-use Rattle.time_below.specs.Offset.{Offset}
-use Rattle.time_below.specs.TimeOfDay.{TimeOfDay}
+use Rattle.time_known.specs.Values.{Facts, DateFacts, the_date, the_time, the_offset, Offset, TimeOfDay}
 use Rattle.time_known.specs.declared.groups.Groups.{Groups}
 
 -- whether each group that is needed is among those that a value has

@@ -1,34 +1,20 @@
 -- The text of ISO 8601 by the fields of the parts that are written.
-use Rattle.std.specs.Prelude.{ℕ, ◌+◌, ◌*◌, ◌++◌, length, ◌&&◌, List, [], codes, nat_lt, Option, Some, None, if◌then◌else◌}
-use Rattle.time_below.specs.Facts.{Facts, DateFacts, the_date, the_time, the_offset}
-use Rattle.time_digits.specs.Digits.{zero_padded}
+use Rattle.std.specs.Prelude.{ℕ, ◌+◌, ◌*◌, length, List, [], codes, Option, Some, None, if◌then◌else◌}
 use Rattle.time_fmt.specs.Outcome.{Outcome, done, join}
-use Rattle.time_known.specs.Config.{Choices, has_date, has_time, has_offset, separator}
+use Rattle.time_known.specs.Config.{Choices, has_date, has_time, has_offset, separator, DateKind, FormattedComponents}
 use Rattle.time_known.specs.Days.{month_and_day}
-use Rattle.time_known.specs.Fields.{hours_of_fields, offset_fields, time_fields, time_of_day}
-use Rattle.time_known.specs.Iso8601.{iso_time_text, iso_year, year_of_kind}
+use Rattle.time_known.specs.Fields.{offset_fields, time_fields, time_of_day}
+use Rattle.time_known.specs.Iso8601.{iso_time_text, iso_year, year_of_kind, rest_of_kind, rest_text, iso_offset_of_fields}
 use Rattle.time_known.specs.Iso8601Width.{iso_offset_width, iso_time_width, year_width}
-use Rattle.time_known.specs.WellKnown.{refused_if}
+use Rattle.time_known.specs.Values.{Facts, DateFacts, the_date, the_time, the_offset}
 use Rattle.time_known.specs.declared.days.CalendarDay.TheVariants as day
-use Rattle.time_known.specs.declared.fields.OffsetFields.{OffsetFields}
 use Rattle.time_known.specs.declared.fields.TimeFields.{TimeFields}
-use Rattle.time_known.specs.declared.iso8601.config.DateKind.{DateKind}
-use Rattle.time_known.specs.declared.iso8601.config.DateKind.TheVariants as kind
-use Rattle.time_known.specs.declared.iso8601.config.FormattedComponents.{FormattedComponents}
-use Rattle.time_known.specs.declared.iso8601.config.OffsetPrecision.{OffsetPrecision}
-use Rattle.time_known.specs.declared.iso8601.config.OffsetPrecision.TheVariants as offset_precision
 use Rattle.time_known.specs.declared.iso8601.parts.DateParts.{DateParts}
 use Rattle.time_known.specs.declared.iso8601.parts.Parts.{Parts}
 use Rattle.time_known.specs.declared.iso8601.parts.RestOfDate.{RestOfDate}
 use Rattle.time_known.specs.declared.iso8601.parts.RestOfDate.TheVariants as rest
 
 -- ---- the parts of values
-
--- what follows the year in a date of the kind
-abbrev pub rest_of_kind : DateKind → DateFacts → RestOfDate
-rest_of_kind kind.Calendar d = rest.MonthAndDay (day.OfMonth d.month d.day)
-rest_of_kind kind.Week d = rest.WeekAndWeekday d.iso_week (d.weekday + 1)
-rest_of_kind kind.Ordinal d = rest.DayOfYear d.ordinal
 
 abbrev pub date_parts : DateKind → DateFacts → DateParts
 date_parts k d = record { year = year_of_kind k d; rest = rest_of_kind k d }
@@ -62,27 +48,8 @@ shown_parts p = record { date = shown_part p.date; time = p.time; offset = p.off
 
 -- ---- their texts
 
--- what follows the year, each after the separator
-abbrev pub rest_text : List ℕ → RestOfDate → List ℕ
-rest_text separator (rest.MonthAndDay d) =
-    separator ++ zero_padded 2 (month_and_day d).month ++ separator ++ zero_padded 2 (month_and_day d).day
-rest_text separator (rest.WeekAndWeekday week weekday) =
-    separator ++ codes "W" ++ zero_padded 2 week ++ separator ++ zero_padded 1 weekday
-rest_text separator (rest.DayOfYear day) = separator ++ zero_padded 3 day
-
 abbrev pub date_of_parts : Choices → DateParts → Outcome
 date_of_parts c d = join (iso_year c.year_is_six_digits d.year) (done (rest_text (separator c (codes "-")) d.rest))
-
--- the minutes, where the configuration has them; else they are refused unless zero
-abbrev pub minutes_of_fields : OffsetPrecision → Choices → OffsetFields → Outcome
-minutes_of_fields offset_precision.Minute c o = done (separator c (codes ":") ++ zero_padded 2 o.minutes)
-minutes_of_fields offset_precision.Hour c o = refused_if (nat_lt 0 o.minutes) (codes "offset_minute") (done [])
-
-abbrev pub iso_offset_of_fields : Choices → OffsetFields → Outcome
-iso_offset_of_fields c o =
-    if has_time c.formatted_components && o.is_utc then done (codes "Z")
-    else refused_if (nat_lt 0 o.seconds) (codes "offset_second")
-    (join (done (hours_of_fields o)) (minutes_of_fields c.offset_precision c o))
 
 -- the text of a part, if it is there
 abbrev pub part_text : {A : Type 0} → (A → Outcome) → Option A → Outcome

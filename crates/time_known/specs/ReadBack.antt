@@ -1,9 +1,8 @@
 -- What a completed text of a well-known format says of the value that was formatted.
 use Rattle.std.specs.Prelude.{◌≡◌, ℕ, List, Some}
-use Rattle.time_below.specs.Facts.{Facts, date_facts}
-use Rattle.time_below.specs.Moment.{OffsetDateAndTime}
 use Rattle.time_known.specs.Laws.{IsValue}
 use Rattle.time_known.specs.Rules.{Rule}
+use Rattle.time_known.specs.Values.{Facts, date_facts, OffsetDateAndTime}
 
 -- The facts are those of a local date, a time and an offset, all in their ranges; the text spells what
 -- is kept of them, and it is the canonical text.

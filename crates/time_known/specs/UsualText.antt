@@ -1,21 +1,14 @@
 -- The text of ISO 8601 by the usual configurations, of a value of which nothing is refused.
-use Rattle.std.specs.Prelude.{ℕ, ◌≡◌, ◌++◌, Bool, false, List, codes, Option, Some, None, IfSome, unsigned_abs, if◌then◌else◌}
-use Rattle.time_below.specs.Facts.{DateFacts}
-use Rattle.time_below.specs.Offset.{Offset, is_utc}
-use Rattle.time_below.specs.TimeOfDay.{TimeOfDay}
-use Rattle.time_digits.specs.Digits.{zero_padded}
-use Rattle.time_known.specs.Config.{Choices, separator}
+use Rattle.std.specs.Prelude.{ℕ, ◌≡◌, ◌++◌, Bool, false, List, codes, Option, Some, None, IfSome}
+use Rattle.time_known.specs.Config.{Choices, separator, DateKind, DecimalSign, FormattedComponents, OffsetPrecision}
+use Rattle.time_known.specs.Config.{TimePrecision}
 use Rattle.time_known.specs.Fields.{Shown, date_of_fields, offset_of_fields, time_of_day}
 use Rattle.time_known.specs.Iso8601.{decimal_part}
-use Rattle.time_known.specs.WellKnown.{month_and_day_text, clock_text, offset_text}
-use Rattle.time_known.specs.declared.iso8601.config.DateKind.{DateKind}
+use Rattle.time_known.specs.Values.{TimeOfDay}
+use Rattle.time_known.specs.WellKnown.{clock_text}
 use Rattle.time_known.specs.declared.iso8601.config.DateKind.TheVariants as kind
-use Rattle.time_known.specs.declared.iso8601.config.DecimalSign.{DecimalSign}
-use Rattle.time_known.specs.declared.iso8601.config.FormattedComponents.{FormattedComponents}
 use Rattle.time_known.specs.declared.iso8601.config.FormattedComponents.TheVariants as components
-use Rattle.time_known.specs.declared.iso8601.config.OffsetPrecision.{OffsetPrecision}
 use Rattle.time_known.specs.declared.iso8601.config.OffsetPrecision.TheVariants as offset_precision
-use Rattle.time_known.specs.declared.iso8601.config.TimePrecision.{TimePrecision}
 use Rattle.time_known.specs.declared.iso8601.config.TimePrecision.TheVariants as precision
 use Rattle.time_known.specs.declared.iso8601.config.Usual.{Usual}
 
@@ -48,22 +41,10 @@ usual_of c =
 abbrev pub IsUsual : Choices → Option Usual → Type 0
 IsUsual c usual = IfSome usual (λ u. c ≡ usual_choices u.has_separators u.decimal_digits u.decimal_sign)
 
--- the parts of such a text
-abbrev pub usual_date_text : List ℕ → DateFacts → List ℕ
-usual_date_text separator d = zero_padded 4 (unsigned_abs d.year) ++ month_and_day_text separator d
-
+-- the time of such a text
 abbrev pub usual_time_text : List ℕ → DecimalSign → Option ℕ → TimeOfDay → List ℕ
 usual_time_text separator sign digits t =
     codes "T" ++ (clock_text separator t ++ decimal_part sign digits t.nanosecond 1_000_000_000)
-
-abbrev pub usual_offset_text : List ℕ → Offset → List ℕ
-usual_offset_text separator o = if is_utc o then codes "Z" else offset_text separator o
-
-abbrev pub usual_text : Choices → Option ℕ → DateFacts → TimeOfDay → Offset → List ℕ
-usual_text c digits d t o =
-    usual_date_text (separator c (codes "-")) d
-    ++ usual_time_text (separator c (codes ":")) c.decimal_sign digits t
-    ++ usual_offset_text (separator c (codes ":")) o
 
 -- the text by the fields of the value
 abbrev pub usual_of_fields : Choices → Option ℕ → Shown → List ℕ

@@ -1,45 +1,28 @@
 -- By which function a text of ISO 8601 is written, so far as its configuration decides it.
-use Rattle.std.specs.Prelude.{◌≡◌, false, Option, Some, None, if◌then◌else◌}
-use Rattle.time_known.specs.Config.{Choices}
+use Rattle.std.specs.Prelude.{◌≡◌, Bool, false, Option, Some}
+use Rattle.time_known.specs.Config.{Choices, DateKind, FormattedComponents, TimePrecision}
 use Rattle.time_known.specs.UsualText.{IsUsual, usual_of}
-use Rattle.time_known.specs.declared.iso8601.config.DateKind.{DateKind}
 use Rattle.time_known.specs.declared.iso8601.config.DateKind.TheVariants as kind
-use Rattle.time_known.specs.declared.iso8601.config.FormattedComponents.{FormattedComponents}
 use Rattle.time_known.specs.declared.iso8601.config.FormattedComponents.TheVariants as components
-use Rattle.time_known.specs.declared.iso8601.config.TimePrecision.{TimePrecision}
 use Rattle.time_known.specs.declared.iso8601.config.TimePrecision.TheVariants as precision
 use Rattle.time_known.specs.declared.iso8601.config.Usual.{Usual}
 use Rattle.time_known.specs.declared.iso8601.config.Way.{Way}
 use Rattle.time_known.specs.declared.iso8601.config.Way.TheVariants as way
 
--- a date alone after four digits of the year
-abbrev pub way_of_date : DateKind → Way
-way_of_date kind.Calendar = way.CalendarDate
-way_of_date kind.Week = way.WeekDate
-way_of_date kind.Ordinal = way.OrdinalDate
+-- by the parts, the kind of date, the precision of the time, whether the year has six digits, and what is left of the
+-- usual choices
+abbrev pub way_by : FormattedComponents → DateKind → TimePrecision → Bool → Option Usual → Way
+way_by components.Date kind.Calendar p false u = way.CalendarDate
+way_by components.Date kind.Week p false u = way.WeekDate
+way_by components.Date kind.Ordinal p false u = way.OrdinalDate
+way_by components.Time k (precision.Second digits) six u = way.Time digits
+way_by components.DateTime kind.Calendar (precision.Second digits) false u = way.DateTime digits
+way_by components.DateTimeOffset k p six (Some usual) = way.Usual usual
+way_by _ _ _ _ _ = way.Other
 
--- date and time, where the year has four digits
-abbrev pub way_of_both : DateKind → TimePrecision → Way
-way_of_both kind.Calendar (precision.Second digits) = way.DateTime digits
-way_of_both _ _ = way.Other
-
-abbrev pub way_of_time : TimePrecision → Way
-way_of_time (precision.Second digits) = way.Time digits
-way_of_time _ = way.Other
-
-abbrev pub way_of_usual : Option Usual → Way
-way_of_usual (Some usual) = way.Usual usual
-way_of_usual None = way.Other
-
-abbrev pub way_of_parts : FormattedComponents → Choices → Way
-way_of_parts components.Date c = if c.year_is_six_digits then way.Other else way_of_date c.date_kind
-way_of_parts components.Time c = way_of_time c.time_precision
-way_of_parts components.DateTime c = if c.year_is_six_digits then way.Other else way_of_both c.date_kind c.time_precision
-way_of_parts components.DateTimeOffset c = way_of_usual (usual_of c)
-way_of_parts _ c = way.Other
-
+-- the function that the choices decide
 abbrev pub way_of : Choices → Way
-way_of c = way_of_parts c.formatted_components c
+way_of c = way_by c.formatted_components c.date_kind c.time_precision c.year_is_six_digits (usual_of c)
 
 -- a date of this kind alone, after four digits of the year
 abbrev pub IsShortDate : Choices → DateKind → Type 0

@@ -1,14 +1,9 @@
 //! What of a value a format has no place for.
 ghost use Rattle.std.specs.Prelude.{◌≡◌, ℕ, List, IfOk, IfErr, unsigned_abs};
-ghost use Rattle.time_below.specs.Facts.{the_date, the_offset};
-ghost use Rattle.time_below.specs.Offset.{IsOffset};
 ghost use Rattle.time_fmt.specs.Outcome.{done};
-ghost use Rattle.time_provide.specs.Real.{AreFactsOfDate};
 ghost use Rattle.time_known.specs.Accepted.{checked_text, component_name, refused_for};
-ghost use Rattle.time_known.specs.Groups.{AreAllSupplied};
 
 use time_digits::ru16;
-use time_provide::ComponentProvider;
 
 /// A component of a value that a format refuses.
 #[derive(Debug, Clone, Copy)]
@@ -64,33 +59,4 @@ pub fn accepted_year(
         return Err(OutOfRange::OffsetSecond);
     }
     Ok(ru16::within(year.unsigned_abs() as u16))
-}
-
-// Returns the accepted year of a value, by its date and its offset, or what is refused first.
-#[inline]
-pub(crate) fn accepted_year_of<V: ComponentProvider>(
-    first: u16,
-    greatest_hour: u8,
-    value: &V,
-    state: &mut V::State,
-) -> Result<ru16<0, 9_999>, OutOfRange>
-    requires supplied { AreAllSupplied V.SUPPLIES_DATE V.SUPPLIES_TIME V.SUPPLIES_OFFSET }
-    requires agrees { V.agrees state.old value.now }
-    ensures accepted { IfOk result (λ _. (text : List ℕ)
-        → checked_text first greatest_hour (the_date (V.facts value.now)).year
-        (unsigned_abs (the_offset (V.facts value.now)).hours)
-        (unsigned_abs (the_offset (V.facts value.now)).seconds) text ≡ done text) }
-    ensures year { IfOk result (λ y. y ≡ unsigned_abs (the_date (V.facts value.now)).year) }
-    ensures refused { IfErr result (λ out. (text : List ℕ)
-        → checked_text first greatest_hour (the_date (V.facts value.now)).year
-        (unsigned_abs (the_offset (V.facts value.now)).hours)
-        (unsigned_abs (the_offset (V.facts value.now)).seconds) text ≡ refused_for out) }
-    ensures date { AreFactsOfDate (the_date (V.facts value.now)) }
-    ensures offset { IsOffset (the_offset (V.facts value.now)) }
-    ensures agrees { V.agrees state.new value.now }
-{
-    let year = value.calendar_year(state).get();
-    let hour = value.offset_hour(state).abs().get();
-    let second = value.offset_second(state).abs().get();
-    accepted_year(first, greatest_hour, year, hour, second)
 }

@@ -1,11 +1,12 @@
 //! The days of a year, by their month and the day of that month.
-ghost use Rattle.std.specs.Prelude.{◌≡◌, ◌+◌, ◌-◌, ◌*◌, ◌≤◌, ◌++◌, IsTrue, drop, if◌then◌else◌, length, take};
+ghost use Rattle.std.specs.Prelude.{◌≡◌, ◌+◌, ◌++◌, if◌then◌else◌, length};
 ghost use Rattle.std.specs.Int.{IsInRange};
 ghost use Rattle.time_below.specs.Calendar.{days_in_year, is_leap_year};
-ghost use Rattle.time_digits.specs.Digits.{is_ascii, zero_padded};
+ghost use Rattle.time_digits.specs.Digits.{zero_padded};
 ghost use Rattle.time_fmt.specs.DateText.{month_name, short_name};
-ghost use Rattle.time_known.specs.Days.{day_of_leap_year, month_and_day, month_and_day_in};
+ghost use Rattle.time_known.specs.Days.{dash, day_of_leap_year, month_and_day, month_and_day_in};
 
+use crate::pieces::piece;
 use time_digits::{ru8, ru16, two_digits_zero_padded};
 use time_provide::ranges::{Day, Ordinal, Year};
 
@@ -61,23 +62,27 @@ const DAYS: &str = "\
 1217 Dec1218 Dec1219 Dec1220 Dec1221 Dec1222 Dec1223 Dec1224 Dec\
 1225 Dec1226 Dec1227 Dec1228 Dec1229 Dec1230 Dec1231 Dec";
 
-// Three digits of each day of a year.
+// A dash and three digits of each day of a year: four bytes a day.
 const ORDINALS: &str = "\
-001002003004005006007008009010011012013014015016017018019020021022023024025026\
-027028029030031032033034035036037038039040041042043044045046047048049050051052\
-053054055056057058059060061062063064065066067068069070071072073074075076077078\
-079080081082083084085086087088089090091092093094095096097098099100101102103104\
-105106107108109110111112113114115116117118119120121122123124125126127128129130\
-131132133134135136137138139140141142143144145146147148149150151152153154155156\
-157158159160161162163164165166167168169170171172173174175176177178179180181182\
-183184185186187188189190191192193194195196197198199200201202203204205206207208\
-209210211212213214215216217218219220221222223224225226227228229230231232233234\
-235236237238239240241242243244245246247248249250251252253254255256257258259260\
-261262263264265266267268269270271272273274275276277278279280281282283284285286\
-287288289290291292293294295296297298299300301302303304305306307308309310311312\
-313314315316317318319320321322323324325326327328329330331332333334335336337338\
-339340341342343344345346347348349350351352353354355356357358359360361362363364\
-365366";
+-001-002-003-004-005-006-007-008-009-010-011-012-013-014-015-016-017-018-019-020\
+-021-022-023-024-025-026-027-028-029-030-031-032-033-034-035-036-037-038-039-040\
+-041-042-043-044-045-046-047-048-049-050-051-052-053-054-055-056-057-058-059-060\
+-061-062-063-064-065-066-067-068-069-070-071-072-073-074-075-076-077-078-079-080\
+-081-082-083-084-085-086-087-088-089-090-091-092-093-094-095-096-097-098-099-100\
+-101-102-103-104-105-106-107-108-109-110-111-112-113-114-115-116-117-118-119-120\
+-121-122-123-124-125-126-127-128-129-130-131-132-133-134-135-136-137-138-139-140\
+-141-142-143-144-145-146-147-148-149-150-151-152-153-154-155-156-157-158-159-160\
+-161-162-163-164-165-166-167-168-169-170-171-172-173-174-175-176-177-178-179-180\
+-181-182-183-184-185-186-187-188-189-190-191-192-193-194-195-196-197-198-199-200\
+-201-202-203-204-205-206-207-208-209-210-211-212-213-214-215-216-217-218-219-220\
+-221-222-223-224-225-226-227-228-229-230-231-232-233-234-235-236-237-238-239-240\
+-241-242-243-244-245-246-247-248-249-250-251-252-253-254-255-256-257-258-259-260\
+-261-262-263-264-265-266-267-268-269-270-271-272-273-274-275-276-277-278-279-280\
+-281-282-283-284-285-286-287-288-289-290-291-292-293-294-295-296-297-298-299-300\
+-301-302-303-304-305-306-307-308-309-310-311-312-313-314-315-316-317-318-319-320\
+-321-322-323-324-325-326-327-328-329-330-331-332-333-334-335-336-337-338-339-340\
+-341-342-343-344-345-346-347-348-349-350-351-352-353-354-355-356-357-358-359-360\
+-361-362-363-364-365-366";
 
 /// The month and the day of a date, by what is at hand.
 #[derive(Clone, Copy)]
@@ -114,10 +119,10 @@ impl CalendarDay {
         ensures day_length { length result.1.now ≡ 2 }
     {
         match self {
-            CalendarDay::OfLeapYear(day) => (
-                piece_of_row(DAYS, day, 0, 2),
-                piece_of_row(DAYS, day, 2, 2),
-            ),
+            CalendarDay::OfLeapYear(day) => {
+                let row = 8 * (day.get() as usize - 1);
+                (piece(DAYS, row, 2), piece(DAYS, row + 2, 2))
+            }
             CalendarDay::OfMonth { month, day } => (
                 two_digits_zero_padded(month.expand()),
                 two_digits_zero_padded(day.expand()),
@@ -135,41 +140,29 @@ impl CalendarDay {
         ensures rest { length result.1.now ≡ 2 }
     {
         match self {
-            CalendarDay::OfLeapYear(day) => (
-                piece_of_row(DAYS, day, 5, 1),
-                piece_of_row(DAYS, day, 6, 2),
-            ),
+            CalendarDay::OfLeapYear(day) => {
+                let row = 8 * (day.get() as usize - 1);
+                (piece(DAYS, row + 5, 1), piece(DAYS, row + 6, 2))
+            }
             CalendarDay::OfMonth { month, day: _ } => month_letters(month),
         }
     }
 }
 
-// The first of three digits of a day of the year, and the next two.
+// Three digits of a day of the year, after a dash if it is wanted, in two pieces.
 #[inline]
 #[tactic(auto, using(crate::proofs::DayLemmas::digits_of_ordinals))]
-pub(crate) fn ordinal_digits(day: Ordinal) -> (&'static str, &'static str)
-    ensures digits { result.0.now ++ result.1.now ≡ zero_padded 3 day }
-    ensures first { length result.0.now ≡ 1 }
+pub(crate) fn ordinal_digits(day: Ordinal, has_dash: bool) -> (&'static str, &'static str)
+    ensures digits { result.0.now ++ result.1.now ≡ dash has_dash ++ zero_padded 3 day }
+    ensures first { length result.0.now ≡ 1 + length (dash has_dash) }
     ensures rest { length result.1.now ≡ 2 }
 {
-    (
-        piece_of_ordinal(ORDINALS, day, 0, 1),
-        piece_of_ordinal(ORDINALS, day, 1, 2),
-    )
-}
-
-// This many bytes of the row of a day, from one on, of a table whose rows are three bytes.
-#[inline]
-#[tactic(auto, using(crate::proofs::DayLemmas::row_boundary))]
-fn piece_of_ordinal(table: &'static str, day: Ordinal, from: usize, len: usize) -> &'static str
-    requires ascii { IsTrue (is_ascii table.now) }
-    requires rows { length table.now ≡ 1_098 }
-    requires within { from + len ≤ 3 }
-    ensures piece { result.now ≡ take len (drop (3 * (day - 1) + from) table.now) }
-    ensures length { length result.now ≡ len }
-{
-    let start = 3 * (day.get() as usize - 1) + from;
-    &table[start..start + len]
+    let row = 4 * (day.get() as usize - 1);
+    if has_dash {
+        (piece(ORDINALS, row, 2), piece(ORDINALS, row + 2, 2))
+    } else {
+        (piece(ORDINALS, row + 1, 1), piece(ORDINALS, row + 2, 2))
+    }
 }
 
 // Whether a year is a leap year.
@@ -196,20 +189,6 @@ fn day_of_leap_year(is_leap: bool, ordinal: Ordinal) -> Ordinal
     } else {
         ru16::within(number + 1)
     }
-}
-
-// This many bytes of the row of a day, from one on.
-#[inline]
-#[tactic(auto, using(crate::proofs::DayLemmas::row_boundary))]
-fn piece_of_row(table: &'static str, day: Ordinal, from: usize, len: usize) -> &'static str
-    requires ascii { IsTrue (is_ascii table.now) }
-    requires rows { length table.now ≡ 2_928 }
-    requires within { from + len ≤ 8 }
-    ensures piece { result.now ≡ take len (drop (8 * (day - 1) + from) table.now) }
-    ensures length { length result.now ≡ len }
-{
-    let start = 8 * (day.get() as usize - 1) + from;
-    &table[start..start + len]
 }
 
 // The first letter of the month's English name, and the next two.

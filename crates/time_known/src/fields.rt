@@ -1,10 +1,14 @@
 //! The fields of a date, a time of day and an offset, from which the texts of moments are written.
-ghost use Rattle.std.specs.Prelude.{◌≡◌, IsTrue, unsigned_abs};
+ghost use Rattle.std.specs.Prelude.{◌≡◌, ℕ, List, IfOk, IfErr, OnOk, IsTrue, unsigned_abs};
 ghost use Rattle.time_below.specs.Facts.{the_date, the_time, the_offset};
-ghost use Rattle.time_provide.specs.Real.{AgreesOnOffset, AgreesOnTime};
+ghost use Rattle.time_below.specs.Offset.{IsOffset};
+ghost use Rattle.time_fmt.specs.Outcome.{done};
+ghost use Rattle.time_provide.specs.Real.{AgreesOnOffset, AgreesOnTime, AreReal};
+ghost use Rattle.time_known.specs.Accepted.{checked_text, refused_for};
 ghost use Rattle.time_known.specs.Fields.{fields, offset_fields, shown, time_fields};
 ghost use Rattle.time_known.specs.Groups.{AreAllSupplied, at_groups};
 
+use crate::accepted::{OutOfRange, accepted_year};
 use crate::days::CalendarDay;
 use time_digits::{ri32, ru8, ru16};
 use time_provide::ComponentProvider;
@@ -51,27 +55,47 @@ pub struct Fields {
     pub offset: OffsetFields,
 }
 
-// The fields of the value's date, which is of this year, its time and its offset.
+// The fields of a value whose year is from the first to 9,999, and whose offset has at most this many hours and no
+// seconds. Else the first of them that is refused.
 #[inline(always)]
-pub(crate) fn fields_of<V: ComponentProvider>(
-    year: ru16<0, 9_999>,
+pub(crate) fn accepted_fields<V: ComponentProvider>(
+    first: u16,
+    greatest_hour: u8,
     value: &V,
     state: &mut V::State,
-) -> Fields
+) -> Result<Fields, OutOfRange>
     requires supplied { AreAllSupplied V.SUPPLIES_DATE V.SUPPLIES_TIME V.SUPPLIES_OFFSET }
-    requires year { year ≡ unsigned_abs (the_date (V.facts value.now)).year }
     requires agrees { V.agrees state.old value.now }
-    ensures fields { shown result ≡ at_groups fields (V.facts value.now) }
-    ensures agrees { AgreesOnTime (V.agrees state.new value.now) (V.facts value.now) }
+    ensures accepted { IfOk result (λ _. (text : List ℕ)
+        → checked_text first greatest_hour (the_date (V.facts value.now)).year
+        (unsigned_abs (the_offset (V.facts value.now)).hours)
+        (unsigned_abs (the_offset (V.facts value.now)).seconds) text ≡ done text) }
+    ensures fields { IfOk result (λ f. shown f ≡ at_groups fields (V.facts value.now)) }
+    ensures refused { IfErr result (λ out. (text : List ℕ)
+        → checked_text first greatest_hour (the_date (V.facts value.now)).year
+        (unsigned_abs (the_offset (V.facts value.now)).hours)
+        (unsigned_abs (the_offset (V.facts value.now)).seconds) text ≡ refused_for out) }
+    ensures real { OnOk result (AreReal (V.facts value.now)) }
+    ensures offset { IsOffset (the_offset (V.facts value.now)) }
+    ensures agrees { V.agrees state.new value.now }
 {
-    let date = CalendarDay::in_year(ri32::within(i32::from(year.get())), value.ordinal(state));
-    let offset = offset_of(value, state);
-    let time = time_of(value, state);
-    Fields {
-        year,
-        date,
-        time,
-        offset,
+    let year = value.calendar_year(state).get();
+    let hour = value.offset_hour(state).abs().get();
+    let second = value.offset_second(state).abs().get();
+    match accepted_year(first, greatest_hour, year, hour, second) {
+        Ok(year) => {
+            let number = ri32::within(i32::from(year.get()));
+            let date = CalendarDay::in_year(number, value.ordinal(state));
+            let offset = offset_of(value, state);
+            let time = time_of(value, state);
+            Ok(Fields {
+                year,
+                date,
+                time,
+                offset,
+            })
+        }
+        Err(component) => Err(component),
     }
 }
 

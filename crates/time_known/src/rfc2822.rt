@@ -9,8 +9,7 @@ ghost use Rattle.time_known.specs.Rfc2822.{rfc2822_width, named_date_width, date
 ghost use Rattle.time_known.specs.Rfc2822Grammar.{Rfc2822Spells, to_whole_second};
 ghost use Rattle.time_known.specs.Sink.{Fits, PutsUpTo};
 
-use crate::accepted::accepted_year_of;
-use crate::fields::{Fields, fields_of};
+use crate::fields::{Fields, accepted_fields};
 use crate::groups::Groups;
 use crate::put::{put_clock, put_four_digits, put_month_name, put_signed_offset, put_weekday_name};
 use crate::sink::{Sink, Text, append};
@@ -59,10 +58,9 @@ impl Formattable for Rfc2822 {
         if !Groups::ALL.are_supplied_by::<V>() {
             return Err(Format::InsufficientTypeInformation);
         }
-        match accepted_year_of(1900, 25, value, state) {
-            Ok(year) => {
+        match accepted_fields(1900, 25, value, state) {
+            Ok(fields) => {
                 let weekday = value.weekday(state);
-                let fields = fields_of(year, value, state);
                 Ok(append(output, &Rfc2822Text { weekday, fields }))
             }
             Err(component) => Err(Format::InvalidComponent(component.name())),
@@ -86,22 +84,12 @@ impl Text for Rfc2822Text {
 
     #[inline(always)]
     fn put_into<S: Sink>(&self, output: &mut S) {
-        put_rfc2822(output, self.weekday, &self.fields);
+        put_named_date(output, self.weekday, &self.fields);
+        output.put(" ");
+        put_clock(output, &self.fields.time, ":");
+        output.put(" ");
+        put_signed_offset(output, &self.fields.offset, "");
     }
-}
-
-// Puts `date-time`.
-#[inline(always)]
-fn put_rfc2822<S: Sink>(output: &mut S, weekday: Weekday, fields: &Fields)
-    requires room { Fits rfc2822_width (S.buffer output.old) }
-    ensures puts { PutsUpTo rfc2822_width (S.buffer output.old) (S.buffer output.new)
-        (rfc2822_of_fields (days_from_monday weekday) (shown fields.now)) }
-{
-    put_named_date(output, weekday, fields);
-    output.put(" ");
-    put_clock(output, &fields.time, ":");
-    output.put(" ");
-    put_signed_offset(output, &fields.offset, "");
 }
 
 // Puts `day-of-week "," date`.

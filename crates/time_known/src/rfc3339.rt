@@ -8,8 +8,7 @@ ghost use Rattle.time_known.specs.Rfc3339.{time_secfrac_text, time_secfrac_width
 ghost use Rattle.time_known.specs.Rfc3339Grammar.{Rfc3339Spells, IsCanonicalRfc3339};
 ghost use Rattle.time_known.specs.Sink.{Fits, PutsUpTo};
 
-use crate::accepted::accepted_year_of;
-use crate::fields::{Fields, fields_of};
+use crate::fields::{Fields, accepted_fields};
 use crate::groups::Groups;
 use crate::put::{put_clock, put_date, put_fraction, put_offset};
 use crate::sink::{Sink, Text, append};
@@ -59,11 +58,8 @@ impl Formattable for Rfc3339 {
         if !Groups::ALL.are_supplied_by::<V>() {
             return Err(Format::InsufficientTypeInformation);
         }
-        match accepted_year_of(0, 23, value, state) {
-            Ok(year) => {
-                let fields = fields_of(year, value, state);
-                Ok(append(output, &Rfc3339Text { fields }))
-            }
+        match accepted_fields(0, 23, value, state) {
+            Ok(fields) => Ok(append(output, &Rfc3339Text { fields })),
             Err(component) => Err(Format::InvalidComponent(component.name())),
         }
     }
@@ -83,22 +79,12 @@ impl Text for Rfc3339Text {
 
     #[inline(always)]
     fn put_into<S: Sink>(&self, output: &mut S) {
-        put_rfc3339(output, &self.fields);
+        put_date(output, &self.fields, "-");
+        output.put("T");
+        put_clock(output, &self.fields.time, ":");
+        put_time_secfrac(output, self.fields.time.nanosecond);
+        put_offset(output, &self.fields.offset, ":");
     }
-}
-
-// Puts `date-time`.
-#[inline(always)]
-fn put_rfc3339<S: Sink>(output: &mut S, fields: &Fields)
-    requires room { Fits rfc3339_width (S.buffer output.old) }
-    ensures puts { PutsUpTo rfc3339_width (S.buffer output.old) (S.buffer output.new)
-        (rfc3339_of_fields (shown fields.now)) }
-{
-    put_date(output, fields, "-");
-    output.put("T");
-    put_clock(output, &fields.time, ":");
-    put_time_secfrac(output, fields.time.nanosecond);
-    put_offset(output, &fields.offset, ":");
 }
 
 // Puts `time-secfrac`, if there is a fraction of a second.

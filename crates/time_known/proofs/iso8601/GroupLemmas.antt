@@ -1,18 +1,17 @@
 -- Which groups of a value a text of ISO 8601 is made of.
-use Rattle.std.proofs.Common.{◌≡◌, ℕ, true, false, refl, sym, ap, subst, ◌∙◌, arith, Result, Vec}
+use Rattle.std.proofs.Common.{◌≡◌, ℕ, false, refl, sym, ap, subst, ◌∙◌, arith, Result, Vec}
 use Rattle.std.specs.Global.{Global}
 use Rattle.std.proofs.lemmas.Grind.{common_steps}
-use Rattle.time_below.specs.Facts.{Facts}
 use Rattle.time_fmt.specs.declared.error.Format.{Format}
 use Rattle.time_fmt.specs.Outcome.{AppendsUpTo, refused, insufficient}
-use Rattle.time_known.specs.Config.{Choices, groups_of}
+use Rattle.time_known.specs.Config.{Choices, groups_of, FormattedComponents}
+use Rattle.time_known.specs.Values.{Facts}
 use Rattle.time_known.specs.declared.groups.Groups.{Groups}
-use Rattle.time_known.specs.declared.iso8601.config.FormattedComponents.{FormattedComponents}
 use Rattle.time_known.specs.declared.iso8601.config.FormattedComponents.TheVariants as components
-use Rattle.time_known.specs.Groups.{has_groups, at_groups}
-use Rattle.time_known.specs.Iso8601.{iso_of_groups, iso8601_outcome, iso8601_outcome_of}
+use Rattle.time_known.specs.Groups.{has_groups}
+use Rattle.time_known.specs.Iso8601.{iso8601_outcome, iso8601_outcome_of}
 use Rattle.time_known.specs.Iso8601Width.{iso8601_width, iso8601_width_of}
-use Rattle.time_known.proofs.GroupLemmas.{of_unsupplied_group, has_all, outcome_of_all}
+use Rattle.time_known.proofs.GroupLemmas.{of_unsupplied_group}
 
 -- facts that lack a group which is formatted are refused
 lacking_of : (parts : FormattedComponents) (c : Choices) (f : Facts) → has_groups (groups_of parts) f ≡ false
@@ -27,13 +26,6 @@ pub missing_group_refused : (c read : Choices) (f : Facts) (needed : Groups) →
 missing_group_refused c read f needed e groups h =
     ap (λ (choices : Choices). iso8601_outcome choices f) (sym e)
     ∙ lacking_of read.formatted_components read f (ap (λ (g : Groups). has_groups g f) (sym groups) ∙ h)
-
--- the date, the time and the offset of facts that have all three
-pub all_parts : (c : Choices) (f : Facts) → c.formatted_components ≡ components.DateTimeOffset
-    → has_groups (groups_of c.formatted_components) f ≡ true
-    → iso8601_outcome_of components.DateTimeOffset c f ≡ at_groups (iso_of_groups c) f
-all_parts c f e h =
-    outcome_of_all f (has_all f (ap (λ parts. has_groups (groups_of parts) f) (sym e) ∙ h)) (iso_of_groups c)
 
 -- what is appended by the parts that are chosen is appended by the choices
 pub by_choice : {old new : Vec ℕ Global} {answer : Result ℕ Format} (c : Choices) (f : Facts)

@@ -8,8 +8,7 @@ use Rattle.time_digits.proofs.DigitLemmas.{decimal_one, length-fixed, padded_who
 use Rattle.time_digits.proofs.LengthLemmas.{length-padded, length-digit}
 use Rattle.time_fmt.specs.Decimals.{decimals}
 use Rattle.time_fmt.proofs.DecimalLemmas.{three_of_second, six_of_second}
-use Rattle.time_known.specs.Config.{decimal_sign_text}
-use Rattle.time_known.specs.declared.iso8601.config.DecimalSign.{DecimalSign}
+use Rattle.time_known.specs.Config.{decimal_sign_text, DecimalSign}
 use Rattle.time_known.specs.declared.iso8601.config.DecimalSign.TheVariants.{Point, Comma}
 use Rattle.time_known.specs.declared.iso8601.usual_text.TheConstants.{ZEROS}
 

@@ -1,29 +1,21 @@
 -- The text and the width of the parts that are written are those of the choices.
-use Rattle.std.proofs.Common.{◌≡◌, ◌≢◌, ℕ, ◌+◌, ◌*◌, ◌++◌, Bool, true, false, length, List, [], refl, sym, ap, subst, ◌∙◌, arith, Option, Some, None}
-use Rattle.std.proofs.Common.{unsigned_abs, nat_lt}
-use Rattle.std.specs.Prelude.{◌&&◌, codes, if◌then◌else◌}
+use Rattle.std.proofs.Common.{◌≡◌, ◌≢◌, ℕ, ◌+◌, true, length, List, [], refl, sym, ap, subst, ◌∙◌, arith, Option, Some, None}
+use Rattle.std.specs.Prelude.{codes}
 use Rattle.std.proofs.lemmas.List.{append-nil}
-use Rattle.time_below.specs.Facts.{Facts, DateFacts, the_date, the_time, the_offset}
-use Rattle.time_below.specs.Offset.{Offset, is_utc}
 use Rattle.time_fmt.specs.Outcome.{Outcome, Refusal, done, join}
-use Rattle.time_known.specs.Config.{Choices, groups_of, has_time, separator}
-use Rattle.time_known.specs.Fields.{offset_fields}
+use Rattle.time_known.specs.Config.{Choices, groups_of, separator, DateKind, FormattedComponents}
 use Rattle.time_known.specs.Groups.{has_groups}
-use Rattle.time_known.specs.Iso8601.{iso8601_outcome, iso8601_outcome_of, iso_date, iso_minutes, iso_offset, iso_time}
-use Rattle.time_known.specs.Iso8601.{iso_time_text, iso_year, text_after_year, year_of_kind}
+use Rattle.time_known.specs.Iso8601.{iso8601_outcome, iso8601_outcome_of, iso_date, iso_offset_of_fields, rest_of_kind, rest_text}
+use Rattle.time_known.specs.Iso8601.{iso_time_text, iso_year}
 use Rattle.time_known.specs.Iso8601Parts.{chosen_parts, date_of_parts, date_parts, date_parts_width}
-use Rattle.time_known.specs.Iso8601Parts.{iso_offset_of_fields, minutes_of_fields, parts_by, parts_text, parts_width}
-use Rattle.time_known.specs.Iso8601Parts.{part_text, part_width, rest_of_kind, rest_text, rest_width, shown_part, shown_parts}
+use Rattle.time_known.specs.Iso8601Parts.{parts_by, parts_text, parts_width}
+use Rattle.time_known.specs.Iso8601Parts.{part_text, part_width, rest_width, shown_part, shown_parts}
 use Rattle.time_known.specs.Iso8601Parts.{shown_rest, time_part_text}
 use Rattle.time_known.specs.Iso8601Width.{iso8601_width, iso8601_width_of, iso_date_width, iso_offset_width, iso_time_width}
 use Rattle.time_known.specs.Iso8601Width.{width_after_year, year_width}
-use Rattle.time_known.specs.WellKnown.{offset_hours_text, refused_if}
-use Rattle.time_known.specs.declared.iso8601.config.DateKind.{DateKind}
+use Rattle.time_known.specs.Values.{Facts, DateFacts, the_date, the_time}
 use Rattle.time_known.specs.declared.iso8601.config.DateKind.TheVariants as kind
-use Rattle.time_known.specs.declared.iso8601.config.FormattedComponents.{FormattedComponents}
 use Rattle.time_known.specs.declared.iso8601.config.FormattedComponents.TheVariants as components
-use Rattle.time_known.specs.declared.iso8601.config.OffsetPrecision.{OffsetPrecision}
-use Rattle.time_known.specs.declared.iso8601.config.OffsetPrecision.TheVariants as offset_precision
 use Rattle.time_known.specs.declared.iso8601.parts.DateParts.{DateParts}
 use Rattle.time_known.specs.declared.iso8601.parts.Parts.{Parts}
 use Rattle.time_known.specs.declared.iso8601.parts.RestOfDate.{RestOfDate}
@@ -32,42 +24,11 @@ use Rattle.time_known.proofs.GroupLemmas.{has_needed, of_the_date, of_the_time, 
 
 -- ---- the parts
 
-rest_is : (k : DateKind) (c : Choices) (d : DateFacts)
-    → rest_text (separator c (codes "-")) (rest_of_kind k d) ≡ text_after_year k c d
-rest_is kind.Calendar c d = refl
-rest_is kind.Week c d = refl
-rest_is kind.Ordinal c d = refl
-
-date_is : (c : Choices) (d : DateFacts) → date_of_parts c (date_parts c.date_kind d) ≡ iso_date c d
-date_is c d =
-    ap (λ (rest : List ℕ). join (iso_year c.year_is_six_digits (year_of_kind c.date_kind d)) (done rest))
-    (rest_is c.date_kind c d)
-
-minutes_are : (p : OffsetPrecision) (c : Choices) (o : Offset)
-    → minutes_of_fields p c (offset_fields o) ≡ iso_minutes p c o
-minutes_are offset_precision.Hour c o = refl
-minutes_are offset_precision.Minute c o = refl
-
-offset_is : (c : Choices) (o : Offset) → iso_offset_of_fields c (offset_fields o) ≡ iso_offset c o
-offset_is c o =
-    ap (λ (minutes : Outcome). if has_time c.formatted_components && is_utc o then done (codes "Z")
-    else refused_if (nat_lt 0 (unsigned_abs o.seconds)) (codes "offset_second")
-    (join (done (offset_hours_text o)) minutes))
-    (minutes_are c.offset_precision c o)
-
-two_dashes : (b : Bool) → 4 + 2 * length (if b then codes "-" else []) ≡ (if b then 6 else 4)
-two_dashes true = refl
-two_dashes false = refl
-
-one_dash : (b : Bool) → 3 + length (if b then codes "-" else []) ≡ (if b then 4 else 3)
-one_dash true = refl
-one_dash false = refl
-
 rest_width_is : (k : DateKind) (c : Choices) (d : DateFacts)
     → rest_width (length (separator c (codes "-"))) (rest_of_kind k d) ≡ width_after_year k c
-rest_width_is kind.Calendar c d = two_dashes c.use_separators
-rest_width_is kind.Week c d = two_dashes c.use_separators
-rest_width_is kind.Ordinal c d = one_dash c.use_separators
+rest_width_is kind.Calendar c d = refl
+rest_width_is kind.Week c d = refl
+rest_width_is kind.Ordinal c d = refl
 
 date_width_is : (c : Choices) (d : DateFacts) → date_parts_width c (date_parts c.date_kind d) ≡ iso_date_width c
 date_width_is c d = ap (λ (n : ℕ). year_width c.year_is_six_digits + n) (rest_width_is c.date_kind c d)
@@ -82,35 +43,29 @@ join_with_nothing o = at o.bytes o.refusal where
   at bytes None = ap done (append-nil bytes)
   at bytes (Some r) = refl
 
+-- the outcome of a value with the groups that are needed joins its parts
 text_by : (parts : FormattedComponents) (c : Choices) (f : Facts) → has_groups (groups_of parts) f ≡ true
     → parts ≢ components.None → iso8601_outcome_of parts c f ≡ parts_text c (parts_by parts c.date_kind f)
 text_by components.None c f h some = absurd (some refl)
 text_by components.Date c f h some =
     let needed = has_needed (groups_of components.Date) f h in
-    of_the_date f _ (needed.date refl) ∙ sym (date_is c (the_date f)) ∙ sym (join_with_nothing _)
+    of_the_date f _ (needed.date refl) ∙ sym (join_with_nothing (iso_date c (the_date f)))
 text_by components.Time c f h some =
     let needed = has_needed (groups_of components.Time) f h in
     of_the_time f _ (needed.time refl) ∙ ap done (sym (append-nil (iso_time_text c (the_time f))))
 text_by components.Offset c f h some =
-    let needed = has_needed (groups_of components.Offset) f h in
-    of_the_offset f _ (needed.offset refl) ∙ sym (offset_is c (the_offset f))
+    let needed = has_needed (groups_of components.Offset) f h in of_the_offset f _ (needed.offset refl)
 text_by components.DateTime c f h some =
     let needed = has_needed (groups_of components.DateTime) f h in
     of_the_date f _ (needed.date refl) ∙ of_the_time f _ (needed.time refl)
     ∙ ap (λ (text : List ℕ). join (iso_date c (the_date f)) (done text))
     (sym (append-nil (iso_time_text c (the_time f))))
-    ∙ ap (λ (date : Outcome). join date (done (iso_time_text c (the_time f) ++ []))) (sym (date_is c (the_date f)))
 text_by components.DateTimeOffset c f h some =
     let needed = has_needed (groups_of components.DateTimeOffset) f h in
     of_the_date f _ (needed.date refl) ∙ of_the_time f _ (needed.time refl) ∙ of_the_offset f _ (needed.offset refl)
-    ∙ ap (λ (date : Outcome). join date (join (iso_time c (the_time f)) (iso_offset c (the_offset f))))
-    (sym (date_is c (the_date f)))
-    ∙ ap (λ (offset : Outcome). join (date_of_parts c (date_parts c.date_kind (the_date f)))
-    (join (iso_time c (the_time f)) offset)) (sym (offset_is c (the_offset f)))
 text_by components.TimeOffset c f h some =
     let needed = has_needed (groups_of components.TimeOffset) f h in
     of_the_time f _ (needed.time refl) ∙ of_the_offset f _ (needed.offset refl)
-    ∙ ap (λ (offset : Outcome). join (iso_time c (the_time f)) offset) (sym (offset_is c (the_offset f)))
 
 width_by : (parts : FormattedComponents) (c : Choices) (f : Facts) → parts ≢ components.None
     → parts_width c (parts_by parts c.date_kind f) ≡ iso8601_width_of parts c

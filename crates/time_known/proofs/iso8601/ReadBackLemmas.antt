@@ -2,11 +2,11 @@
 use Rattle.std.proofs.Common.{◌≡◌, ℕ, true, sym, ap, subst, ◌∙◌, Ok, Err, None, Result, Vec}
 use Rattle.std.specs.Prelude.{IfOk, OnOk}
 use Rattle.std.specs.Global.{Global}
-use Rattle.time_below.specs.Facts.{Facts, date_facts}
 use Rattle.time_fmt.specs.declared.error.Format.{Format}
 use Rattle.time_fmt.specs.Outcome.{Outcome, Appends}
 use Rattle.time_provide.specs.Real.{AreReal}
 use Rattle.time_known.specs.Config.{Choices, IsWhole, groups_of}
+use Rattle.time_known.specs.Values.{Facts, date_facts}
 use Rattle.time_known.specs.declared.iso8601.config.FormattedComponents.TheVariants as components
 use Rattle.time_known.specs.Groups.{has_groups}
 use Rattle.time_known.specs.Iso8601.{iso_of_groups, iso8601_outcome, iso8601_outcome_of}
@@ -39,10 +39,9 @@ iso8601_reads : (c : Choices) (f : Facts) → has_groups (groups_of c.formatted_
     → iso8601_reads_as c f (iso8601_outcome c f).bytes
 iso8601_reads c f there real complete w =
     let all = has_all f (ap (λ parts. has_groups (groups_of parts) f) (sym w.components) ∙ there) in
-    let are_real = real w.components in
     let same : iso8601_outcome c f ≡ of_all_groups f (iso_of_groups c) =
     ap (λ parts. iso8601_outcome_of parts c f) w.components in
-    let read = reads_as (iso_of_groups c) (joined_are_canonical c w) f all are_real.date are_real.time are_real.offset
+    let read = reads_as (iso_of_groups c) (joined_are_canonical c w) f all (real w.components)
     (sym (ap (λ (x : Outcome). x.refusal) same) ∙ complete) in
     subst (λ (x : Outcome). ReadsAs (λ v. v) (Iso8601Spells c) (IsCanonicalIso8601 c) f x.bytes) (sym same) read
 

@@ -2,7 +2,7 @@
 ghost use Rattle.std.specs.Prelude.{◌≡◌, ◌↔◌, IfSome, IsTrue, true};
 ghost use Rattle.time_known.specs.Config.{default_choices, separator, decimal_sign_text, has_time_letter, has_date, has_time, has_offset, groups_of};
 ghost use Rattle.time_known.specs.UsualText.{IsUsual, usual_choices, usual_of};
-ghost use Rattle.time_known.specs.Ways.{FitsWay, way_of, way_of_date};
+ghost use Rattle.time_known.specs.Ways.{FitsWay, way_of};
 
 use crate::groups::Groups;
 use std::default::Default;
@@ -276,7 +276,7 @@ impl Config {
     pub(super) fn has_time_letter(&self) -> bool
         ensures { result ≡ has_time_letter self.now }
     {
-        !self.use_separators || self.formatted_components.has_date()
+        !self.use_separators || self.has_date()
     }
 
     /// What is left to choose, where the rest is chosen as by most callers.
@@ -307,7 +307,11 @@ impl Config {
         ensures fits { FitsWay self.now result }
     {
         match self.formatted_components {
-            FormattedComponents::Date if !self.year_is_six_digits => self.date_kind.way(),
+            FormattedComponents::Date if !self.year_is_six_digits => match self.date_kind {
+                DateKind::Calendar => Way::CalendarDate,
+                DateKind::Week => Way::WeekDate,
+                DateKind::Ordinal => Way::OrdinalDate,
+            },
             FormattedComponents::Time => match self.time_precision {
                 TimePrecision::Second { decimal_digits } => Way::Time(decimal_digits),
                 _ => Way::Other,
@@ -358,11 +362,10 @@ impl Config {
     pub(super) fn groups(&self) -> Groups
         ensures { result ≡ groups_of self.now.formatted_components }
     {
-        let components = self.formatted_components;
         Groups {
-            date: components.has_date(),
-            time: components.has_time(),
-            offset: components.has_offset(),
+            date: self.has_date(),
+            time: self.has_time(),
+            offset: self.has_offset(),
         }
     }
 
@@ -370,34 +373,37 @@ impl Config {
     pub fn has_date(&self) -> bool
         ensures { result ≡ has_date self.now.formatted_components }
     {
-        self.formatted_components.has_date()
+        matches!(
+            self.formatted_components,
+            FormattedComponents::Date
+                | FormattedComponents::DateTime
+                | FormattedComponents::DateTimeOffset
+        )
     }
 
     /// Whether the offset is formatted.
     pub fn has_offset(&self) -> bool
         ensures { result ≡ has_offset self.now.formatted_components }
     {
-        self.formatted_components.has_offset()
+        matches!(
+            self.formatted_components,
+            FormattedComponents::Offset
+                | FormattedComponents::DateTimeOffset
+                | FormattedComponents::TimeOffset
+        )
     }
 
     /// Whether the time is formatted.
     pub fn has_time(&self) -> bool
         ensures { result ≡ has_time self.now.formatted_components }
     {
-        self.formatted_components.has_time()
-    }
-}
-
-impl DateKind {
-    // The function by which such a date is written alone, after four digits of the year.
-    fn way(self) -> Way
-        ensures { result ≡ way_of_date self }
-    {
-        match self {
-            DateKind::Calendar => Way::CalendarDate,
-            DateKind::Week => Way::WeekDate,
-            DateKind::Ordinal => Way::OrdinalDate,
-        }
+        matches!(
+            self.formatted_components,
+            FormattedComponents::Time
+                | FormattedComponents::DateTime
+                | FormattedComponents::DateTimeOffset
+                | FormattedComponents::TimeOffset
+        )
     }
 }
 
@@ -409,41 +415,5 @@ impl DecimalSign {
             DecimalSign::Point => ".",
             DecimalSign::Comma => ",",
         }
-    }
-}
-
-impl FormattedComponents {
-    fn has_date(self) -> bool
-        ensures { result ≡ has_date self }
-    {
-        matches!(
-            self,
-            FormattedComponents::Date
-                | FormattedComponents::DateTime
-                | FormattedComponents::DateTimeOffset
-        )
-    }
-
-    fn has_time(self) -> bool
-        ensures { result ≡ has_time self }
-    {
-        matches!(
-            self,
-            FormattedComponents::Time
-                | FormattedComponents::DateTime
-                | FormattedComponents::DateTimeOffset
-                | FormattedComponents::TimeOffset
-        )
-    }
-
-    fn has_offset(self) -> bool
-        ensures { result ≡ has_offset self }
-    {
-        matches!(
-            self,
-            FormattedComponents::Offset
-                | FormattedComponents::DateTimeOffset
-                | FormattedComponents::TimeOffset
-        )
     }
 }

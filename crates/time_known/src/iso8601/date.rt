@@ -8,8 +8,9 @@ ghost use Rattle.time_fmt.specs.Text.{sign_text};
 ghost use Rattle.time_provide.specs.Real.{AgreesOnDate};
 ghost use Rattle.time_known.specs.Accepted.{PutsOutcome};
 ghost use Rattle.time_known.specs.Config.{separator};
-ghost use Rattle.time_known.specs.Iso8601.{iso_date, iso_year};
-ghost use Rattle.time_known.specs.Iso8601Parts.{date_of_parts, date_parts_width, part_text, part_width, rest_text, rest_width};
+ghost use Rattle.time_known.specs.Days.{dash};
+ghost use Rattle.time_known.specs.Iso8601.{iso_date, iso_year, rest_text};
+ghost use Rattle.time_known.specs.Iso8601Parts.{date_of_parts, date_parts_width, part_text, part_width, rest_width};
 ghost use Rattle.time_known.specs.Iso8601Width.{iso_date_width, year_width};
 ghost use Rattle.time_known.specs.Sink.{Fits, PutsJust, PutsUpTo};
 
@@ -118,9 +119,9 @@ fn append_short(config: &Config, output: &mut Vec<u8>, date: DateParts) -> Optio
     let mut taken = take_out(output);
     let begin = taken.len();
     if has_separators {
-        put_short(&mut taken, year, &date.rest, "-");
+        put_short(&mut taken, year, &date.rest, true);
     } else {
-        put_short(&mut taken, year, &date.rest, "");
+        put_short(&mut taken, year, &date.rest, false);
     }
     let count = taken.len() - begin;
     put_back(output, taken);
@@ -130,14 +131,14 @@ fn append_short(config: &Config, output: &mut Vec<u8>, date: DateParts) -> Optio
 // Puts four digits of the year, and what follows it.
 #[inline(always)]
 #[tactic(auto, using(crate::proofs::LengthLemmas::joined_lengths))]
-fn put_short<S: Sink>(output: &mut S, year: ru16<0, 9_999>, rest: &RestOfDate, dash: &str)
-    requires room { Fits (4 + rest_width (length dash.now) rest.now) (S.buffer output.old) }
-    ensures puts { PutsUpTo (4 + rest_width (length dash.now) rest.now)
+fn put_short<S: Sink>(output: &mut S, year: ru16<0, 9_999>, rest: &RestOfDate, has_dash: bool)
+    requires room { Fits (4 + rest_width (length (dash has_dash)) rest.now) (S.buffer output.old) }
+    ensures puts { PutsUpTo (4 + rest_width (length (dash has_dash)) rest.now)
         (S.buffer output.old) (S.buffer output.new)
-        (zero_padded 4 year ++ rest_text dash.now rest.now) }
+        (zero_padded 4 year ++ rest_text (dash has_dash) rest.now) }
 {
     put_four_digits(output, year);
-    put_rest(output, rest, dash);
+    put_rest(output, rest, has_dash);
 }
 
 // Puts the date, if there is one.
@@ -167,9 +168,9 @@ fn put_date<S: Sink>(output: &mut S, config: &Config, date: &DateParts) -> Resul
 {
     put_year(output, date.year, config.year_is_six_digits())?;
     if config.use_separators() {
-        put_rest(output, &date.rest, "-");
+        put_rest(output, &date.rest, true);
     } else {
-        put_rest(output, &date.rest, "");
+        put_rest(output, &date.rest, false);
     }
     Ok(())
 }
@@ -211,21 +212,29 @@ fn put_six_digits<S: Sink>(output: &mut S, year: Year)
 // Puts what follows the year.
 #[inline(always)]
 #[tactic(auto, using(crate::proofs::LengthLemmas::joined_lengths))]
-fn put_rest<S: Sink>(output: &mut S, rest: &RestOfDate, dash: &str)
-    requires room { Fits (rest_width (length dash.now) rest.now) (S.buffer output.old) }
-    ensures puts { PutsUpTo (rest_width (length dash.now) rest.now)
-        (S.buffer output.old) (S.buffer output.new) (rest_text dash.now rest.now) }
+fn put_rest<S: Sink>(output: &mut S, rest: &RestOfDate, has_dash: bool)
+    requires room { Fits (rest_width (length (dash has_dash)) rest.now) (S.buffer output.old) }
+    ensures puts { PutsUpTo (rest_width (length (dash has_dash)) rest.now)
+        (S.buffer output.old) (S.buffer output.new) (rest_text (dash has_dash) rest.now) }
 {
     match *rest {
-        RestOfDate::MonthAndDay(day) => put_month_and_day(output, day, dash),
+        RestOfDate::MonthAndDay(day) => put_month_and_day(output, day, dash(has_dash)),
         RestOfDate::WeekAndWeekday { week, weekday } => put_week(
             output,
-            dash,
+            dash(has_dash),
             week.expand(),
             weekday.expand(),
         ),
-        RestOfDate::DayOfYear { day } => put_day_of_year(output, dash, day),
+        RestOfDate::DayOfYear { day } => put_day_of_year(output, day, has_dash),
     }
+}
+
+// A dash, if it is wanted.
+#[inline(always)]
+fn dash(is_wanted: bool) -> &'static str
+    ensures { result.now ≡ dash is_wanted }
+{
+    if is_wanted { "-" } else { "" }
 }
 
 // Puts the letter `W` with two digits of the week, and the weekday, and the separator before each of
@@ -255,16 +264,15 @@ fn put_digit<S: Sink>(output: &mut S, number: ru8<0, 9>)
     output.put(single_digit(number));
 }
 
-// Puts the separator and three digits of the day of the year.
+// Puts three digits of the day of the year, after a dash if it is wanted.
 #[inline(always)]
 #[tactic(auto, using(crate::proofs::LengthLemmas::joined_lengths))]
-fn put_day_of_year<S: Sink>(output: &mut S, separator: &str, day: Ordinal)
-    requires room { Fits (3 + length separator.now) (S.buffer output.old) }
-    ensures puts { PutsUpTo (3 + length separator.now)
-        (S.buffer output.old) (S.buffer output.new) (separator.now ++ zero_padded 3 day) }
+fn put_day_of_year<S: Sink>(output: &mut S, day: Ordinal, has_dash: bool)
+    requires room { Fits (3 + length (dash has_dash)) (S.buffer output.old) }
+    ensures puts { PutsUpTo (3 + length (dash has_dash))
+        (S.buffer output.old) (S.buffer output.new) (dash has_dash ++ zero_padded 3 day) }
 {
-    output.put(separator);
-    let (first, rest) = ordinal_digits(day);
+    let (first, rest) = ordinal_digits(day, has_dash);
     output.put(first);
     output.put(rest);
 }

@@ -5,8 +5,8 @@ ghost use Rattle.time_fmt.specs.Outcome.{AppendsUpTo};
 ghost use Rattle.time_fmt.specs.Room.{HasRoom};
 ghost use Rattle.time_provide.specs.Real.{AgreesOnOffset};
 ghost use Rattle.time_known.specs.Accepted.{PutsOutcome};
-ghost use Rattle.time_known.specs.Iso8601.{iso_offset};
-ghost use Rattle.time_known.specs.Iso8601Parts.{minutes_of_fields, iso_offset_of_fields, part_text, part_width};
+ghost use Rattle.time_known.specs.Iso8601.{iso_offset, iso_offset_of_fields, iso_minutes};
+ghost use Rattle.time_known.specs.Iso8601Parts.{part_text, part_width};
 ghost use Rattle.time_known.specs.Iso8601Width.{minutes_width, iso_offset_width};
 ghost use Rattle.time_known.specs.Sink.{Fits};
 
@@ -102,7 +102,7 @@ fn put_minutes<S: Sink>(
         (S.buffer output.old) }
     ensures puts { PutsOutcome (minutes_width config.now.offset_precision config.now)
         (S.buffer output.old) (S.buffer output.new) result
-        (minutes_of_fields config.now.offset_precision config.now offset.now) }
+        (iso_minutes config.now.offset_precision config.now offset.now.minutes) }
 {
     match config.offset_precision() {
         OffsetPrecision::Minute => {

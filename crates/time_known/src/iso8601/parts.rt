@@ -19,7 +19,7 @@ use crate::fields::{OffsetFields, TimeFields, offset_of, time_of};
 use crate::iso8601::config::{Config, DateKind, FormattedComponents, TimePrecision, Way};
 use crate::iso8601::date::{put_date_part, write_date_by, write_week_date};
 use crate::iso8601::offset::put_offset_part;
-use crate::iso8601::time::{put_time_part, put_time_to_second, write_to_second};
+use crate::iso8601::time::{put_time_part, write_to_second};
 use crate::iso8601::usual_text::write_usual;
 use crate::pieces::{put_back, take_out};
 use crate::sink::Sink;
@@ -77,7 +77,7 @@ pub fn put_parts<S: Sink>(output: &mut S, config: &Config, parts: &Parts) -> Res
 }
 
 // Appends the parts, or the bytes before a refusal. Takes no memory.
-#[inline(never)]
+#[inline(always)]
 pub(super) fn append_parts(
     config: &Config,
     output: &mut Vec<u8>,
@@ -96,48 +96,6 @@ pub(super) fn append_parts(
         Ok(()) => Ok(count),
         Err(component) => Err(component),
     }
-}
-
-// Appends the parts, of which the time is to the second: no other precision is tested.
-#[inline(always)]
-fn append_to_second(
-    config: &Config,
-    digits: Option<ru8<1, 255>>,
-    output: &mut Vec<u8>,
-    parts: &Parts,
-) -> Result<usize, OutOfRange>
-    requires precision { config.now.time_precision ≡ TimePrecision.Second digits }
-    requires room { HasRoom output.old (parts_width config.now parts.now) }
-    ensures appends { AppendsOrRefuses (parts_width config.now parts.now) output.old output.new
-        result (parts_text config.now parts.now) }
-{
-    let mut taken = take_out(output);
-    let begin = taken.len();
-    let answer = put_to_second(&mut taken, config, digits, parts);
-    let count = taken.len() - begin;
-    put_back(output, taken);
-    match answer {
-        Ok(()) => Ok(count),
-        Err(component) => Err(component),
-    }
-}
-
-// Puts the parts, of which the time is to the second.
-#[inline(always)]
-fn put_to_second<S: Sink>(
-    output: &mut S,
-    config: &Config,
-    digits: Option<ru8<1, 255>>,
-    parts: &Parts,
-) -> Result<(), OutOfRange>
-    requires precision { config.now.time_precision ≡ TimePrecision.Second digits }
-    requires room { Fits (parts_width config.now parts.now) (S.buffer output.old) }
-    ensures puts { PutsOutcome (parts_width config.now parts.now)
-        (S.buffer output.old) (S.buffer output.new) result (parts_text config.now parts.now) }
-{
-    put_date_part(output, config, &parts.date)?;
-    put_time_to_second(output, config, digits, &parts.time);
-    put_offset_part(output, config, &parts.offset)
 }
 
 // The fields of the value's date by this kind.
@@ -263,16 +221,8 @@ fn write_each<V: ComponentProvider>(
         → AreReal (V.facts value.now) }
     ensures agrees { V.agrees state.new value.now }
 {
-    match config.time_precision() {
-        TimePrecision::Second { decimal_digits } => {
-            let parts = parts_of(config, value, state);
-            append_to_second(config, decimal_digits, output, &parts)
-        }
-        _ => {
-            let parts = parts_of(config, value, state);
-            append_parts(config, output, &parts)
-        }
-    }
+    let parts = parts_of(config, value, state);
+    append_parts(config, output, &parts)
 }
 
 // Appends by the function that the configuration decided, where nothing of the value is refused; else it

@@ -46,18 +46,38 @@ pub fn format_time<V: ComponentProvider>(
         (iso_time config.now (the_time (V.facts value.now))) }
     ensures agrees { AgreesOnTime (V.agrees state.new value.now) (V.facts value.now) }
 {
+    let precision = config.time_precision();
+    Ok(write_time_by(config, precision, output, value, state))
+}
+
+// Appends the time by this precision, which the compiler may know.
+#[inline(always)]
+fn write_time_by<V: ComponentProvider>(
+    config: &Config,
+    precision: TimePrecision,
+    output: &mut Vec<u8>,
+    value: &V,
+    state: &mut V::State,
+) -> usize
+    requires precision { config.now.time_precision ≡ precision }
+    requires supplied { IsTrue V.SUPPLIES_TIME }
+    requires room { HasRoom output.old (iso_time_width config.now) }
+    requires agrees { V.agrees state.old value.now }
+    ensures appends { AppendsUpTo (iso_time_width config.now) output.old output.new (Ok result)
+        (iso_time config.now (the_time (V.facts value.now))) }
+    ensures agrees { AgreesOnTime (V.agrees state.new value.now) (V.facts value.now) }
+{
     let time = time_of(value, state);
     let mut taken = take_out(output);
     let begin = taken.len();
-    put_time(&mut taken, config, &time);
+    put_time(&mut taken, config, precision, &time);
     let count = taken.len() - begin;
     put_back(output, taken);
-    Ok(count)
+    count
 }
 
 // Appends the time to the second.
 #[inline(never)]
-#[tactic(auto, using(crate::proofs::LengthLemmas::joined_lengths))]
 pub(super) fn write_to_second<V: ComponentProvider>(
     config: &Config,
     digits: Option<ru8<1, 255>>,
@@ -73,22 +93,10 @@ pub(super) fn write_to_second<V: ComponentProvider>(
         (iso_time config.now (the_time (V.facts value.now))) }
     ensures agrees { AgreesOnTime (V.agrees state.new value.now) (V.facts value.now) }
 {
-    let time = time_of(value, state);
-    let (sign, has_separators) = (config.decimal_sign(), config.use_separators());
-    let has_letter = config.has_time_letter();
-    let mut taken = take_out(output);
-    let begin = taken.len();
-    if has_letter {
-        taken.put("T");
-    }
-    if has_separators {
-        put_to_second(&mut taken, &time, ":", sign, digits);
-    } else {
-        put_to_second(&mut taken, &time, "", sign, digits);
-    }
-    let count = taken.len() - begin;
-    put_back(output, taken);
-    count
+    let precision = TimePrecision::Second {
+        decimal_digits: digits,
+    };
+    write_time_by(config, precision, output, value, state)
 }
 
 // Puts the time, if there is one.
@@ -100,14 +108,15 @@ pub(super) fn put_time_part<S: Sink>(output: &mut S, config: &Config, time: &Opt
         (S.buffer output.old) (S.buffer output.new) (time_part_text config.now time.now) }
 {
     if let Some(time) = time {
-        put_time(output, config, time);
+        put_time(output, config, config.time_precision(), time);
     }
 }
 
 // Puts the letter, where there is one, and the units.
 #[inline(always)]
 #[tactic(auto, using(crate::proofs::LengthLemmas::joined_lengths))]
-fn put_time<S: Sink>(output: &mut S, config: &Config, time: &TimeFields)
+fn put_time<S: Sink>(output: &mut S, config: &Config, precision: TimePrecision, time: &TimeFields)
+    requires precision { config.now.time_precision ≡ precision }
     requires room { Fits (iso_time_width config.now) (S.buffer output.old) }
     ensures puts { PutsUpTo (iso_time_width config.now) (S.buffer output.old)
         (S.buffer output.new) (iso_time_text config.now (time_of_day time.now)) }
@@ -115,72 +124,31 @@ fn put_time<S: Sink>(output: &mut S, config: &Config, time: &TimeFields)
     if config.has_time_letter() {
         output.put("T");
     }
-    put_units(output, config, time);
+    put_units(output, config, precision, time);
 }
 
-// Puts the whole units down to the precision, and decimals of the last one.
+// Puts the whole units down to the precision, and decimals of the last one. Of a second the compiler knows the
+// separators.
 #[inline(always)]
-fn put_units<S: Sink>(output: &mut S, config: &Config, time: &TimeFields)
-    requires room { Fits (units_width config.now.time_precision config.now)
-        (S.buffer output.old) }
-    ensures puts { PutsUpTo (units_width config.now.time_precision config.now)
+fn put_units<S: Sink>(output: &mut S, config: &Config, precision: TimePrecision, time: &TimeFields)
+    requires room { Fits (units_width precision config.now) (S.buffer output.old) }
+    ensures puts { PutsUpTo (units_width precision config.now)
         (S.buffer output.old) (S.buffer output.new)
-        (units_text config.now.time_precision config.now (time_of_day time.now)) }
-{
-    let (colon, sign) = (config.separator(":"), config.decimal_sign());
-    match config.time_precision() {
-        TimePrecision::Hour { decimal_digits } => put_to_hour(output, time, sign, decimal_digits),
-        TimePrecision::Minute { decimal_digits } => {
-            put_to_minute(output, time, colon, sign, decimal_digits)
-        }
-        TimePrecision::Second { decimal_digits } => {
-            put_to_second(output, time, colon, sign, decimal_digits)
-        }
-    }
-}
-
-// Puts the hour, the minute and the second by separators that the compiler knows, and decimals of the second.
-#[inline(always)]
-fn put_second<S: Sink>(
-    output: &mut S,
-    config: &Config,
-    time: &TimeFields,
-    digits: Option<ru8<1, 255>>,
-)
-    requires room { Fits (units_width (TimePrecision.Second digits) config.now)
-        (S.buffer output.old) }
-    ensures puts { PutsUpTo (units_width (TimePrecision.Second digits) config.now)
-        (S.buffer output.old) (S.buffer output.new)
-        (units_text (TimePrecision.Second digits) config.now (time_of_day time.now)) }
+        (units_text precision config.now (time_of_day time.now)) }
 {
     let sign = config.decimal_sign();
-    if config.use_separators() {
-        put_to_second(output, time, ":", sign, digits);
-    } else {
-        put_to_second(output, time, "", sign, digits);
-    }
-}
-
-// Puts the time to the second, if there is one.
-#[inline(always)]
-#[tactic(auto, using(crate::proofs::LengthLemmas::joined_lengths))]
-pub(super) fn put_time_to_second<S: Sink>(
-    output: &mut S,
-    config: &Config,
-    digits: Option<ru8<1, 255>>,
-    time: &Option<TimeFields>,
-)
-    requires precision { config.now.time_precision ≡ TimePrecision.Second digits }
-    requires room { Fits (part_width (λ _. iso_time_width config.now) time.now)
-        (S.buffer output.old) }
-    ensures puts { PutsUpTo (part_width (λ _. iso_time_width config.now) time.now)
-        (S.buffer output.old) (S.buffer output.new) (time_part_text config.now time.now) }
-{
-    if let Some(time) = time {
-        if config.has_time_letter() {
-            output.put("T");
+    match precision {
+        TimePrecision::Hour { decimal_digits } => put_to_hour(output, time, sign, decimal_digits),
+        TimePrecision::Minute { decimal_digits } => {
+            put_to_minute(output, time, config.separator(":"), sign, decimal_digits)
         }
-        put_second(output, config, time, digits);
+        TimePrecision::Second { decimal_digits } => {
+            if config.use_separators() {
+                put_to_second(output, time, ":", sign, decimal_digits);
+            } else {
+                put_to_second(output, time, "", sign, decimal_digits);
+            }
+        }
     }
 }
 

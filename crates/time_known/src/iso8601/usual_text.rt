@@ -1,6 +1,5 @@
 //! The texts of the usual configurations, in pieces that are inlined.
-ghost use Rattle.std.specs.Prelude.{◌≡◌, ◌≤◌, ◌+◌, ◌*◌, ◌++◌, length, take, IsTrue, OnSome, MatchOption, Ok, true};
-ghost use Rattle.time_digits.specs.Digits.{is_ascii};
+ghost use Rattle.std.specs.Prelude.{◌≡◌, ◌≤◌, ◌+◌, ◌*◌, ◌++◌, length, OnSome, MatchOption, Ok, true};
 ghost use Rattle.time_fmt.specs.Decimals.{decimals};
 ghost use Rattle.time_fmt.specs.Outcome.{AppendsUpTo};
 ghost use Rattle.time_fmt.specs.Room.{HasRoom};
@@ -13,10 +12,10 @@ ghost use Rattle.time_known.specs.Sink.{Fits, Puts, PutsUpTo};
 ghost use Rattle.time_known.specs.Stamps.{stamp_length, stamp_of_fields};
 ghost use Rattle.time_known.specs.UsualText.{usual_choices, usual_of_fields, usual_time_text};
 
-use crate::accepted::accepted_year_of;
-use crate::fields::{Fields, TimeFields, fields_of};
+use crate::fields::{Fields, TimeFields, accepted_fields};
 use crate::iso8601::config::{Config, DecimalSign, Usual};
 use crate::iso8601::time::{NANOSECONDS_PER_SECOND, put_to_second};
+use crate::pieces::piece;
 use crate::put::{put_date, put_nine_digits, put_offset, put_six_decimals, put_three_decimals};
 use crate::sink::{Sink, Text, append};
 use time_digits::{ru8, single_digit};
@@ -43,9 +42,8 @@ pub(super) fn write_usual<V: ComponentProvider>(
     ensures real { OnSome result (AreReal (V.facts value.now)) }
     ensures agrees { V.agrees state.new value.now }
 {
-    match accepted_year_of(0, 25, value, state) {
-        Ok(year) => {
-            let fields = fields_of(year, value, state);
+    match accepted_fields(0, 25, value, state) {
+        Ok(fields) => {
             let usual = *usual;
             Some(append(output, &UsualText { usual, fields }))
         }
@@ -226,7 +224,7 @@ fn put_nine_and_more<S: Sink>(output: &mut S, nanosecond: Nanoseconds, digits: u
 {
     put_nine_digits(output, nanosecond);
     if digits > 9 {
-        output.put_seldom(first_bytes(ZEROS, digits as usize - 9));
+        output.put_seldom(piece(ZEROS, 0, digits as usize - 9));
     }
 }
 
@@ -239,16 +237,4 @@ fn put_one_decimal<S: Sink>(output: &mut S, nanosecond: Nanoseconds)
         (decimals nanosecond NANOSECONDS_PER_SECOND 1) }
 {
     output.put(single_digit(ru8::within((nanosecond.get() / 100_000_000) as u8)));
-}
-
-// This many bytes of a table.
-#[inline]
-#[tactic(auto, using(crate::proofs::DayLemmas::row_boundary))]
-fn first_bytes(table: &'static str, count: usize) -> &'static str
-    requires ascii { IsTrue (is_ascii table.now) }
-    requires within { count ≤ length table.now }
-    ensures text { result.now ≡ take count table.now }
-    ensures length { length result.now ≡ count }
-{
-    &table[..count]
 }

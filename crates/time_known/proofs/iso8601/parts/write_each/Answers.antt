@@ -5,30 +5,19 @@ use Rattle.time_known.specs.Groups.{has_groups}
 use Rattle.time_known.proofs.iso8601.PartsLemmas.{by_parts, by_parts_width}
 use Rattle.time_known.proofs.iso8601.parts.write_each.Goals as goal
 
-pub returns-in-Second-clause-appends : goal.returns-in-Second-clause-appends
-returns-in-Second-clause-appends g c =
+pub append_parts-requires : goal.append_parts-requires
+append_parts-requires g c =
+    let width = by_parts_width c.args.config.now (g.V.ComponentProvider.facts c.args.value.now) c.parts_of-parts.result
+    c.requires.some c.parts_of-parts.ensures.parts in
+    record { room = rw width c.requires.room }
+
+pub returns-clause-appends : goal.returns-clause-appends
+returns-clause-appends g c =
     let value = c.args.value.now in
     let choices = c.args.config.now in
     let law = g.met.V.ComponentProvider in
     let there : has_groups (groups_of choices.formatted_components) (g.V.ComponentProvider.facts value) ≡ true =
     rw (law.supplies_date value, law.supplies_time value, law.supplies_offset value) c.requires.supplied in
     by_parts choices (g.V.ComponentProvider.facts value) c.parts_of-parts.result
-    (λ width outcome. AppendsOrRefuses width c.args.output.now c.append_to_second.new.output c.append_to_second.result outcome)
-    there c.requires.some c.parts_of-parts.ensures.parts c.append_to_second.ensures.appends
-
-pub append_parts-requires : goal.append_parts-requires
-append_parts-requires g c =
-    let width = by_parts_width c.args.config.now (g.V.ComponentProvider.facts c.args.value.now) c.parts_of-parts-in_default.result
-    c.requires.some c.parts_of-parts-in_default.ensures.parts in
-    record { room = rw width c.requires.room }
-
-pub returns-in_default-clause-appends : goal.returns-in_default-clause-appends
-returns-in_default-clause-appends g c =
-    let value = c.args.value.now in
-    let choices = c.args.config.now in
-    let law = g.met.V.ComponentProvider in
-    let there : has_groups (groups_of choices.formatted_components) (g.V.ComponentProvider.facts value) ≡ true =
-    rw (law.supplies_date value, law.supplies_time value, law.supplies_offset value) c.requires.supplied in
-    by_parts choices (g.V.ComponentProvider.facts value) c.parts_of-parts-in_default.result
     (λ width outcome. AppendsOrRefuses width c.args.output.now c.append_parts.new.output c.append_parts.result outcome)
-    there c.requires.some c.parts_of-parts-in_default.ensures.parts c.append_parts.ensures.appends
+    there c.requires.some c.parts_of-parts.ensures.parts c.append_parts.ensures.appends

@@ -10,7 +10,7 @@ pub returns-then-digits-gt9 : goal.returns-then-digits-gt9
 returns-then-digits-gt9 g c =
     let n = c.args.nanosecond in
     let d = c.args.digits in
-    let zeros = c.first_bytes.ensures.text ∙ first_zeros (d - 9) (omega (arith, c.ranges.digits)) in
+    let zeros = c.piece.ensures.piece ∙ first_zeros (d - 9) (omega (arith, c.ranges.digits)) in
     record {
       puts = puts_text (puts_then (just_puts_up_to c.put_nine_digits.ensures.puts) (puts_up_to_length c.put_seldom.ensures.puts))
           (ap (λ (text : List ℕ). fixed 9 n ++ text) zeros ∙ sym (nine_places n d c.requires.many));

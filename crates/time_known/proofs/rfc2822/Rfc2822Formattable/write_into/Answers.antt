@@ -1,10 +1,10 @@
 use Rattle.std.proofs.Common.{ap, sym, ◌∙◌, ℕ, unsigned_abs}
-use Rattle.time_below.specs.Facts.{the_date, the_offset}
 use Rattle.time_fmt.specs.Outcome.{Outcome}
 use Rattle.time_fmt.proofs.WriteLemmas.{appends_nothing, appends_up_to}
-use Rattle.time_known.specs.Fields.{shown}
+use Rattle.time_known.specs.Fields.{fields, shown}
 use Rattle.time_known.specs.Groups.{at_groups}
-use Rattle.time_known.specs.Rfc2822.{rfc2822_of_fields, rfc2822_of_groups, rfc2822_text}
+use Rattle.time_known.specs.Rfc2822.{rfc2822_of_fields, rfc2822_of_groups}
+use Rattle.time_known.specs.Values.{the_date, the_offset}
 use Rattle.time_known.proofs.AcceptedLemmas.{any_hour}
 use Rattle.time_known.proofs.GroupLemmas.{has_all, outcome_of_all}
 use Rattle.time_known.proofs.LawLemmas.{completed_are_canonical}
@@ -18,12 +18,12 @@ returns-in-Ok-clause-appends g c =
     let value = c.args.value.now in
     let f = g.V.ComponentProvider.facts value in
     let all = has_all f (c.are_supplied_by.ensures.there value ∙ c.if-not-are_supplied_by.false) in
-    let text = at_groups rfc2822_text f in
+    let text = rfc2822_of_fields (the_date f).weekday (at_groups fields f) in
     let hours = any_hour 1900 (the_date f).year (unsigned_abs (the_offset f).hours)
-    (unsigned_abs (the_offset f).seconds) text c.accepted_year_of.ensures.offset.0.0 in
+    (unsigned_abs (the_offset f).seconds) text c.accepted_fields.ensures.offset.0.0 in
     rw (outcome_of_all f all rfc2822_of_groups ∙ sym hours ∙ c.in-Ok.ensures.accepted text)
-    (appends_up_to (written_as (rfc2822_of_fields (the_date f).weekday) c.fields_of-fields.ensures.fields
-    (written_as (λ (weekday : ℕ). rfc2822_of_fields weekday (shown c.fields_of-fields.result))
+    (appends_up_to (written_as (rfc2822_of_fields (the_date f).weekday) c.in-Ok.ensures.fields
+    (written_as (λ (weekday : ℕ). rfc2822_of_fields weekday (shown c.in-Ok.fields))
     c.weekday-weekday.ensures.value c.append.ensures.writes)))
 
 pub returns-in-Ok-clause-spelled : goal.returns-in-Ok-clause-spelled
@@ -31,12 +31,11 @@ returns-in-Ok-clause-spelled g c =
     let value = c.args.value.now in
     let f = g.V.ComponentProvider.facts value in
     let all = has_all f (c.are_supplied_by.ensures.there value ∙ c.if-not-are_supplied_by.false) in
-    let text = at_groups rfc2822_text f in
+    let text = rfc2822_of_fields (the_date f).weekday (at_groups fields f) in
     let hours = any_hour 1900 (the_date f).year (unsigned_abs (the_offset f).hours)
-    (unsigned_abs (the_offset f).seconds) text c.accepted_year_of.ensures.offset.0.0 in
+    (unsigned_abs (the_offset f).seconds) text c.accepted_fields.ensures.offset.0.0 in
     let completed = outcome_of_all f all rfc2822_of_groups ∙ sym hours ∙ c.in-Ok.ensures.accepted text in
-    reads_as rfc2822_of_groups (completed_are_canonical rfc2822_is_written) f all c.accepted_year_of.ensures.date
-    c.fields_of-fields.ensures.agrees.real c.accepted_year_of.ensures.offset
+    reads_as rfc2822_of_groups (completed_are_canonical rfc2822_is_written) f all c.in-Ok.ensures.real
     (ap (λ (o : Outcome). o.refusal) completed)
 
 pub returns-in-Err-clause-appends : goal.returns-in-Err-clause-appends
@@ -44,8 +43,8 @@ returns-in-Err-clause-appends g c =
     let value = c.args.value.now in
     let f = g.V.ComponentProvider.facts value in
     let all = has_all f (c.are_supplied_by.ensures.there value ∙ c.if-not-are_supplied_by.false) in
-    let text = at_groups rfc2822_text f in
+    let text = rfc2822_of_fields (the_date f).weekday (at_groups fields f) in
     let hours = any_hour 1900 (the_date f).year (unsigned_abs (the_offset f).hours)
-    (unsigned_abs (the_offset f).seconds) text c.accepted_year_of.ensures.offset.0.0 in
+    (unsigned_abs (the_offset f).seconds) text c.accepted_fields.ensures.offset.0.0 in
     rw (outcome_of_all f all rfc2822_of_groups ∙ sym hours ∙ c.in-Err.ensures.refused text)
     (appends_nothing _ _ _ c.name.ensures)

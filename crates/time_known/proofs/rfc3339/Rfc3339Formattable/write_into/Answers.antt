@@ -1,8 +1,9 @@
 use Rattle.std.proofs.Common.{ap, ◌∙◌}
 use Rattle.time_fmt.specs.Outcome.{Outcome}
 use Rattle.time_fmt.proofs.WriteLemmas.{appends_nothing, appends_up_to}
+use Rattle.time_known.specs.Fields.{fields}
 use Rattle.time_known.specs.Groups.{at_groups}
-use Rattle.time_known.specs.Rfc3339.{rfc3339_of_fields, rfc3339_of_groups, rfc3339_text}
+use Rattle.time_known.specs.Rfc3339.{rfc3339_of_fields, rfc3339_of_groups}
 use Rattle.time_known.proofs.GroupLemmas.{has_all, outcome_of_all}
 use Rattle.time_known.proofs.LawLemmas.{completed_are_canonical}
 use Rattle.time_known.proofs.ReadBackLemmas.{reads_as}
@@ -15,17 +16,16 @@ returns-in-Ok-clause-appends g c =
     let value = c.args.value.now in
     let f = g.V.ComponentProvider.facts value in
     let all = has_all f (c.are_supplied_by.ensures.there value ∙ c.if-not-are_supplied_by.false) in
-    rw (outcome_of_all f all rfc3339_of_groups ∙ c.in-Ok.ensures.accepted (at_groups rfc3339_text f))
-    (appends_up_to (written_as rfc3339_of_fields c.fields_of-fields.ensures.fields c.append.ensures.writes))
+    rw (outcome_of_all f all rfc3339_of_groups ∙ c.in-Ok.ensures.accepted (rfc3339_of_fields (at_groups fields f)))
+    (appends_up_to (written_as rfc3339_of_fields c.in-Ok.ensures.fields c.append.ensures.writes))
 
 pub returns-in-Ok-clause-spelled : goal.returns-in-Ok-clause-spelled
 returns-in-Ok-clause-spelled g c =
     let value = c.args.value.now in
     let f = g.V.ComponentProvider.facts value in
     let all = has_all f (c.are_supplied_by.ensures.there value ∙ c.if-not-are_supplied_by.false) in
-    let completed = outcome_of_all f all rfc3339_of_groups ∙ c.in-Ok.ensures.accepted (at_groups rfc3339_text f) in
-    reads_as rfc3339_of_groups (completed_are_canonical rfc3339_is_written) f all c.accepted_year_of.ensures.date
-    c.fields_of-fields.ensures.agrees.real c.accepted_year_of.ensures.offset
+    let completed = outcome_of_all f all rfc3339_of_groups ∙ c.in-Ok.ensures.accepted (rfc3339_of_fields (at_groups fields f)) in
+    reads_as rfc3339_of_groups (completed_are_canonical rfc3339_is_written) f all c.in-Ok.ensures.real
     (ap (λ (o : Outcome). o.refusal) completed)
 
 pub returns-in-Err-clause-appends : goal.returns-in-Err-clause-appends
@@ -33,5 +33,5 @@ returns-in-Err-clause-appends g c =
     let value = c.args.value.now in
     let f = g.V.ComponentProvider.facts value in
     let all = has_all f (c.are_supplied_by.ensures.there value ∙ c.if-not-are_supplied_by.false) in
-    rw (outcome_of_all f all rfc3339_of_groups ∙ c.in-Err.ensures.refused (at_groups rfc3339_text f))
+    rw (outcome_of_all f all rfc3339_of_groups ∙ c.in-Err.ensures.refused (rfc3339_of_fields (at_groups fields f)))
     (appends_nothing _ _ _ c.name.ensures)

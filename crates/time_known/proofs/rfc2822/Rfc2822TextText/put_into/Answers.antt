@@ -1,5 +1,5 @@
 use Rattle.time_known.proofs.SinkLemmas.{puts_then, puts_up_to_length}
-use Rattle.time_known.proofs.rfc2822.put_rfc2822.Goals as goal
+use Rattle.time_known.proofs.rfc2822.Rfc2822TextText.put_into.Goals as goal
 
 pub returns : goal.returns
 returns g c = record {

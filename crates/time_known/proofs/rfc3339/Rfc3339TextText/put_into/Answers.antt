@@ -1,5 +1,5 @@
 use Rattle.time_known.proofs.SinkLemmas.{puts_then, puts_up_to_length}
-use Rattle.time_known.proofs.rfc3339.put_rfc3339.Goals as goal
+use Rattle.time_known.proofs.rfc3339.Rfc3339TextText.put_into.Goals as goal
 
 pub returns : goal.returns
 returns g c = record {
