@@ -12,10 +12,12 @@ use Rattle.time_below.specs.Tree.{Tree, trees}
 use Rattle.time_below.specs.Width.{tree_width, trees_width, is_guaranteed_text}
 use Rattle.time_fmt.specs.Description.{tree_outcome}
 use Rattle.time_fmt.specs.Guarantee.{IsTextIf}
-use Rattle.time_fmt.specs.Outcome.{Appends}
+use Rattle.time_fmt.specs.Outcome.{Appends, Names}
 use Rattle.time_fmt.specs.Room.{HasRoom}
 use Rattle.time_fmt.specs.declared.error.Format.{Format}
-use Rattle.time_fmt.proofs.Engine.{Along, written_along, refused_along}
+use Rattle.time_fmt.proofs.Engine.{Along, written_along, stops_along}
+use Rattle.time_fmt.proofs.GuaranteeLemmas.{ends_complete}
+use Rattle.time_fmt.proofs.WriteLemmas.{some_of}
 
 -- ---- lists of which each member is there, or not
 
@@ -104,7 +106,8 @@ pub record AlongItems (agrees : Type 0) (old now : Vec ℕ Global) (sum : ℕ) (
   pub rest : List Tree
   pub is_every : all ≡ Ok every
   pub is_rest : left ≡ Ok rest
-  pub along : Along agrees old now sum f (trees every) (trees rest) 0 0
+  pub counted : vec_len old + sum ≡ vec_len now
+  pub along : Along agrees old now f (trees every) (trees rest) 0 0
 
 -- the next item is there
 pub next_item : {agrees : Type 0} {I : Type 0} (g : I → Result Tree Reason) (items : List I) (i : ℕ)
@@ -147,8 +150,10 @@ along_more g items i d t old now new sum count f all inside there along step wit
       rest = next.0;
       is_every = along.is_every;
       is_rest = next.1;
-      along = written_along old now new f (trees along.every) (trees along.rest) (trees next.0) t
-          along.along (ap trees next.2) (omega arith) (record { appends = step; within = within }) state text;
+      counted = omega (arith, along.counted, step.grown, step.counted.1);
+      along = written_along old now new f (trees along.every) (trees along.rest) (trees next.0) t along.along
+          (ap trees next.2) (omega arith)
+          (record { ends = ends_complete (record { appends = step; within = within }); text = text }) state;
     }
 
 -- an item that is refused
@@ -157,10 +162,16 @@ pub along_refused : {agrees : Type 0} {I : Type 0} (g : I → Result Tree Reason
     Result (List Tree) Reason)
     → i < length items → g (get_or items i d) ≡ Ok t
     → AlongItems agrees old now sum f all (list_of (map g (drop i items)))
-    → Appends now new (Err e) (tree_outcome t f) → vec_len new ≤ vec_len now + tree_width t
-    → IsAppended old new (Err e) all f
-along_refused g items i d t old now new sum e f all inside there along step within =
+    → Appends now new (Err e) (tree_outcome t f) → IsAppended old new (Err e) all f
+along_refused g items i d t old now new sum e f all inside there along step =
     let next = next_item g items i d t old now sum f all inside there along in
-    let refused = refused_along old now new e f (trees along.every) (trees along.rest) (trees next.0) t along.along
-    (ap trees next.2) (record { appends = step; within = within }) in
-    rw along.is_every refused.appends
+    let refused = some_of (Names e) (tree_outcome t f).refusal step.named in
+    let stops = stops_along refused.0 old now f (trees along.every) (trees along.rest) (trees next.0) t along.along
+    (ap trees next.2) refused.1 in
+    rw along.is_every (record {
+      appended = step.appended ∙ sym stops.bytes;
+      counted = tt;
+      named = rw stops.refusal step.named;
+      grown = omega (arith, step.grown, stops.grown);
+      capacity = step.capacity ∙ along.along.capacity;
+    })

@@ -16,5 +16,5 @@ returns-in-Err-write_part g c =
     let step = c.in-Err-write_part.ensures in
     record {
       appends = along_refused _ _ _ _ _ _ _ _ _ _ _ (trees_of c.args.texts.now c.args.items.now) inside there
-          c.loop-item.invariant step.appends step.within;
+          c.loop-item.invariant step.appends;
     }
