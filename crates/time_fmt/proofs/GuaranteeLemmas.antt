@@ -31,7 +31,7 @@ use Rattle.time_fmt.specs.DateText.{month_names, month_name, weekday_names, week
 use Rattle.time_fmt.specs.Description.{has_group, kind_of, supplied_outcome, current_outcome, component_outcome}
 use Rattle.time_fmt.specs.Description.{tree_outcome, trees_outcome}
 use Rattle.time_fmt.specs.Ending.{Ends}
-use Rattle.time_fmt.specs.Guarantee.{IsTextIf, AppendsTree}
+use Rattle.time_fmt.specs.Guarantee.{IsTextIf, AppendsLeaf}
 use Rattle.time_fmt.specs.Kind as kind
 use Rattle.time_fmt.specs.Kind.{Kind, kind_text, kind_outcome}
 use Rattle.time_fmt.specs.Outcome.{Outcome, AppendsUpTo, AppendsUnlessRefused, Adds, done, refused, join, insufficient, out_of_range}
@@ -141,12 +141,19 @@ ends_complete up_to = record {
 }
 
 -- a component that was written is that of its tree
-pub tree_of_written : (written : Option ℕ) (c : Component) (f : Facts) (old new : Vec ℕ Global)
-    → AppendsUnlessRefused (component_width c) old new written (component_outcome c f)
-    → MatchOption written (new ≡ old) (λ _. AppendsTree (of_component c) f old new ending.Complete)
-tree_of_written None c f old new unchanged = unchanged.0
-tree_of_written (Some n) c f old new appends =
+pub leaf_of_written : (written : Option ℕ) (c : Component) (f : Facts) (old new : Vec ℕ Global)
+    → MatchOption written (new ≡ old)
+    (λ n. AppendsUpTo (component_width c) old new (Ok n) (component_outcome c f))
+    → AppendsLeaf (of_component c) f old new written
+leaf_of_written None c f old new unchanged = unchanged
+leaf_of_written (Some n) c f old new appends =
     record { ends = ends_complete appends; text = λ _. text_of_component c f }
+
+pub leaf_unless_refused : (written : Option ℕ) (c : Component) (f : Facts) (old new : Vec ℕ Global)
+    → AppendsUnlessRefused (component_width c) old new written (component_outcome c f)
+    → AppendsLeaf (of_component c) f old new written
+leaf_unless_refused None c f old new unchanged = unchanged.0
+leaf_unless_refused (Some n) c f old new appends = leaf_of_written (Some n) c f old new appends
 
 -- a list has a text if its first tree has one, and so have the others
 pub text_more : (t : Tree) (ts : Trees) (f : Facts) → IsTextIf (is_guaranteed_text t) (tree_outcome t f)

@@ -1,16 +1,14 @@
 //! The engine: one recursion for each kind of tree.
-ghost use Rattle.std.specs.Prelude.{◌≡◌, map, MatchOption};
+ghost use Rattle.std.specs.Prelude.{map};
 ghost use Rattle.time_below.specs.Tree.{all_of, trees};
-ghost use Rattle.time_below.specs.Width.{component_width, tree_width, trees_width};
-ghost use Rattle.time_fmt.specs.Description.{component_outcome};
-ghost use Rattle.time_fmt.specs.Guarantee.{AppendsTree};
-ghost use Rattle.time_fmt.specs.Outcome.{AppendsUnlessRefused};
+ghost use Rattle.time_below.specs.Width.{tree_width, trees_width};
+ghost use Rattle.time_fmt.specs.Guarantee.{AppendsLeaf, AppendsTree};
 ghost use Rattle.time_fmt.specs.Room.{HasRoom};
 
 use crate::component::{end_component, write_component, write_often};
 use crate::ending::Ending;
 use crate::writers::{put_back, take_out, write, write_bytes, write_literal};
-use time_below::format_description::{Component, Layer, Node};
+use time_below::format_description::{Layer, Node};
 use time_provide::ComponentProvider;
 
 /// Writes the nodes in order, up to the first that is refused. The vector is taken out of its borrow
@@ -34,11 +32,17 @@ pub(super) fn write_nodes<T: Node, V: ComponentProvider>(
         match write_leaf(node, &mut taken, value, state) {
             Some(_) => {}
             None => {
-                put_back(output, taken);
-                match write_node(node, output, value, state) {
-                    Ending::Complete => taken = take_out(output),
-                    Ending::Unsupplied => return Ending::Unsupplied,
-                    Ending::YearOutOfRange => return Ending::YearOutOfRange,
+                let mut apart = taken;
+                match write_seldom(node, &mut apart, value, state) {
+                    Some(_) => taken = apart,
+                    None => {
+                        put_back(output, apart);
+                        match write_node(node, output, value, state) {
+                            Ending::Complete => taken = take_out(output),
+                            Ending::Unsupplied => return Ending::Unsupplied,
+                            Ending::YearOutOfRange => return Ending::YearOutOfRange,
+                        }
+                    }
                 }
             }
         }
@@ -47,7 +51,7 @@ pub(super) fn write_nodes<T: Node, V: ComponentProvider>(
     Ending::Complete
 }
 
-/// Writes a literal, or a component that is not refused, and returns the number of bytes. Of any other
+/// Writes a literal, or a component that is met often, and returns the number of bytes. Of any other
 /// node it writes nothing, and returns `None`. It becomes part of the loop over a list.
 #[inline(always)]
 fn write_leaf<T: Node, V: ComponentProvider>(
@@ -58,41 +62,36 @@ fn write_leaf<T: Node, V: ComponentProvider>(
 ) -> Option<usize>
     requires room { HasRoom output.old (tree_width (T.tree node.now)) }
     requires agrees { V.agrees state.old value.now }
-    ensures appends { MatchOption result (output.new ≡ output.old) (λ _. AppendsTree
-        (T.tree node.now) (V.facts value.now) output.old output.new Ending.Complete) }
+    ensures appends { AppendsLeaf (T.tree node.now) (V.facts value.now)
+        output.old output.new result }
     ensures agrees { V.agrees state.new value.now }
 {
     match node.layer() {
         Layer::Bytes(bytes) => Some(write_literal(output, bytes)),
         Layer::Text(text) => Some(write_literal(output, text.as_bytes())),
-        Layer::Component(component) => write_in_loop(component, output, value, state),
+        Layer::Component(component) => write_often(component, output, value, state),
         _ => None,
     }
 }
 
-/// Writes a component, and nothing if it is refused. One that is seldom met is written to the vector taken
-/// out once more.
+/// Writes any component that is not refused, and returns the number of bytes. Of any other node it
+/// writes nothing, and returns `None`.
 #[inline(always)]
-fn write_in_loop<V: ComponentProvider>(
-    component: Component,
+fn write_seldom<T: Node, V: ComponentProvider>(
+    node: &T,
     output: &mut Vec<u8>,
     value: &V,
     state: &mut V::State,
 ) -> Option<usize>
-    requires room { HasRoom output.old (component_width component) }
+    requires room { HasRoom output.old (tree_width (T.tree node.now)) }
     requires agrees { V.agrees state.old value.now }
-    ensures appends { AppendsUnlessRefused (component_width component) output.old output.new result
-        (component_outcome component (V.facts value.now)) }
+    ensures appends { AppendsLeaf (T.tree node.now) (V.facts value.now)
+        output.old output.new result }
     ensures agrees { V.agrees state.new value.now }
 {
-    match write_often(component, output, value, state) {
-        Some(count) => Some(count),
-        None => {
-            let mut taken = take_out(output);
-            let written = write_component(component, &mut taken, value, state);
-            put_back(output, taken);
-            written
-        }
+    match node.layer() {
+        Layer::Component(component) => write_component(component, output, value, state),
+        _ => None,
     }
 }
 

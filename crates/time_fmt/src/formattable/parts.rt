@@ -7,12 +7,12 @@ ghost use Rattle.time_below.specs.Width.{component_width};
 ghost use Rattle.time_fmt.specs.Description.{component_outcome};
 ghost use Rattle.time_fmt.specs.Outcome.{done, join};
 
+use crate::ending::year_out_of_range;
 use crate::error::Format;
 use crate::formattable::{Formattable, make_room};
 use crate::metadata::ComputeMetadata;
 use crate::modifier::{Modifier, supplies};
 use crate::writers::{put_back, take_out, write_each};
-use time_below::ComponentRange;
 use time_below::format_description::Metadata;
 use time_provide::ComponentProvider;
 
@@ -140,7 +140,7 @@ impl<M: Modifier> Formattable for M {
         }
         match self.write_supplied(output, value, state) {
             Some(count) => Ok(count),
-            None => Err(Format::ComponentRange(ComponentRange::conditional("year"))),
+            None => Err(year_out_of_range()),
         }
     }
 }

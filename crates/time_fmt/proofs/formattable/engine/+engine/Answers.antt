@@ -3,7 +3,7 @@ use Rattle.time_below.proofs.NodeLemmas.{next_of, smaller_rest}
 use Rattle.time_fmt.proofs.GuaranteeLemmas.{text_of_component}
 use Rattle.time_fmt.proofs.Engine.{along_from_the_start, room_for_next, all_along, list_refused, written_along, first_appends}
 use Rattle.time_fmt.proofs.formattable.engine.+engine.Goals as goal
-use Rattle.time_fmt.proofs.formattable.engine.+engine.Goals.{write_nodes-in-Some, write_nodes-in-None+in-Complete}
+use Rattle.time_fmt.proofs.formattable.engine.+engine.Goals.{write_nodes-in-Some, write_nodes-in-None+in-Some-write_seldom, write_nodes-in-None+in-None-write_seldom+in-Complete}
 
 pub write_nodes-loop-node-init : goal.write_nodes-loop-node-init
 write_nodes-loop-node-init g t c =
@@ -29,9 +29,15 @@ write_nodes-loop-node-preserved g t c =
           (written_along {agrees_after = g.V.ComponentProvider.agrees c.write_leaf.new.state c.args.value.now}
           c.args.output.now c.loop-node.taken c.write_leaf.new.output _ _ _ _ _ c.loop-node.invariant next smaller
           step.appends step.agrees)
-      | write_nodes-in-None+in-Complete w ↦
+      | write_nodes-in-None+in-Some-write_seldom w ↦
+          let step = w.in-Some-write_seldom.ensures in
+          rw (w.taken-is, w.state-is)
+          (written_along {agrees_after = g.V.ComponentProvider.agrees w.write_seldom.new.state c.args.value.now}
+          c.args.output.now c.loop-node.taken w.write_seldom.new.output _ _ _ _ _ c.loop-node.invariant next smaller
+          (rw w.in-None.ensures.appends at step.appends) step.agrees)
+      | write_nodes-in-None+in-None-write_seldom+in-Complete w ↦
           let step = w.in-Complete.ensures in
-          let same = w.put_back.ensures.put ∙ w.in-None.ensures.appends in
+          let same = w.put_back.ensures.put ∙ w.in-None-write_seldom.ensures.appends ∙ w.in-None.ensures.appends in
           rw (w.taken-is, w.state-is, w.take_out-taken-in-Complete.ensures.taken)
           (written_along {agrees_after = g.V.ComponentProvider.agrees w.write_node.new.state c.args.value.now}
           c.args.output.now c.loop-node.taken w.write_node.new.output _ _ _ _ _ c.loop-node.invariant next smaller
@@ -44,14 +50,14 @@ write_nodes-returns-in-Unsupplied-clause-appends g t c =
     let next = next_of g.T.Node.tree c.args.nodes.now c.loop-node.node-index c.node-item.result c.loop-node-test.true
     c.node-item.is in
     list_refused _ c.args.output.now c.loop-node.taken c.write_node.new.output _ _ _ _ _ c.loop-node.invariant next refl
-    (rw (c.put_back.ensures.put, c.in-None.ensures.appends) at c.in-Unsupplied.ensures.appends)
+    (rw (c.put_back.ensures.put, c.in-None-write_seldom.ensures.appends, c.in-None.ensures.appends) at c.in-Unsupplied.ensures.appends)
 
 pub write_nodes-returns-in-YearOutOfRange-clause-appends : goal.write_nodes-returns-in-YearOutOfRange-clause-appends
 write_nodes-returns-in-YearOutOfRange-clause-appends g t c =
     let next = next_of g.T.Node.tree c.args.nodes.now c.loop-node.node-index c.node-item.result c.loop-node-test.true
     c.node-item.is in
     list_refused _ c.args.output.now c.loop-node.taken c.write_node.new.output _ _ _ _ _ c.loop-node.invariant next refl
-    (rw (c.put_back.ensures.put, c.in-None.ensures.appends) at c.in-YearOutOfRange.ensures.appends)
+    (rw (c.put_back.ensures.put, c.in-None-write_seldom.ensures.appends, c.in-None.ensures.appends) at c.in-YearOutOfRange.ensures.appends)
 
 -- the end of the loop leaves nothing
 pub write_nodes-returns : goal.write_nodes-returns
