@@ -138,16 +138,38 @@ fn put_units<S: Sink>(output: &mut S, config: &Config, precision: TimePrecision,
 {
     let sign = config.decimal_sign();
     match precision {
-        TimePrecision::Hour { decimal_digits } => put_to_hour(output, time, sign, decimal_digits),
-        TimePrecision::Minute { decimal_digits } => {
-            put_to_minute(output, time, config.separator(":"), sign, decimal_digits)
-        }
         TimePrecision::Second { decimal_digits } => {
             if config.use_separators() {
                 put_to_second(output, time, ":", sign, decimal_digits);
             } else {
                 put_to_second(output, time, "", sign, decimal_digits);
             }
+        }
+        _ => put_seldom_units(output, config, precision, time),
+    }
+}
+
+// Puts them by a call, as few texts need: a larger function would not be inlined.
+#[inline(never)]
+fn put_seldom_units<S: Sink>(
+    output: &mut S,
+    config: &Config,
+    precision: TimePrecision,
+    time: &TimeFields,
+)
+    requires room { Fits (units_width precision config.now) (S.buffer output.old) }
+    ensures puts { PutsUpTo (units_width precision config.now)
+        (S.buffer output.old) (S.buffer output.new)
+        (units_text precision config.now (time_of_day time.now)) }
+{
+    let (colon, sign) = (config.separator(":"), config.decimal_sign());
+    match precision {
+        TimePrecision::Hour { decimal_digits } => put_to_hour(output, time, sign, decimal_digits),
+        TimePrecision::Minute { decimal_digits } => {
+            put_to_minute(output, time, colon, sign, decimal_digits)
+        }
+        TimePrecision::Second { decimal_digits } => {
+            put_to_second(output, time, colon, sign, decimal_digits)
         }
     }
 }
