@@ -1,9 +1,9 @@
 -- Configurations of ISO 8601 are equal exactly if all their fields are.
-use Rattle.std.proofs.Common.{◌≡◌, ℕ, Bool, true, refl, ap, subst, Option, Some, None}
+use Rattle.std.proofs.Common.{◌≡◌, ℕ, true, refl, ap, subst, Option, Some, None}
 use Rattle.std.specs.Cmp.{booleans_Decides}
 use Rattle.std.proofs.lemmas.Bool.{and_parts, eqb-true}
 use denote.Enum.Bare.{same_true}
-use Rattle.time_known.specs.Config.{Choices, DateKind, DecimalSign, FormattedComponents, OffsetPrecision, TimePrecision}
+use Rattle.time_known.specs.Config.{Choices, TimePrecision}
 use Rattle.time_known.specs.contracts.iso8601.config.ConfigEq.TheImpl.Laws.{laws-law}
 use Rattle.time_known.specs.contracts.iso8601.config.ConfigPartialEq.TheImpl as of_config
 use Rattle.time_known.specs.contracts.iso8601.config.DateKind as date_kind
@@ -30,25 +30,6 @@ same_precision _ _ h = cc
 
 -- ---- configurations
 
--- choices are equal where each field is
-abbrev choices_of_fields : FormattedComponents → Bool → Bool → DateKind → TimePrecision → OffsetPrecision → DecimalSign → Choices
-choices_of_fields parts separators six_digits kind time offset sign = record {
-  formatted_components = parts;
-  use_separators = separators;
-  year_is_six_digits = six_digits;
-  date_kind = kind;
-  time_precision = time;
-  offset_precision = offset;
-  decimal_sign = sign;
-}
-
-same_fields : {parts parts' : FormattedComponents} {separators separators' six six' : Bool} {kind kind' : DateKind}
-    {time time' : TimePrecision} {offset offset' : OffsetPrecision} {sign sign' : DecimalSign}
-    → parts ≡ parts' → separators ≡ separators' → six ≡ six' → kind ≡ kind' → time ≡ time' → offset ≡ offset'
-    → sign ≡ sign'
-    → choices_of_fields parts separators six kind time offset sign ≡ choices_of_fields parts' separators' six' kind' time' offset' sign'
-same_fields p q r s t u v = cc
-
 -- configurations that are found equal have the same choices
 pub same_choices : (a b : Choices) → of_config.ghosts.eq a b ≡ true → a ≡ b
 same_choices a b h =
@@ -58,11 +39,15 @@ same_choices a b h =
     let kind = and_parts _ _ six_digits.1 in
     let time = and_parts _ _ kind.1 in
     let offset = and_parts _ _ time.1 in
-    same_fields (same_true formatted_components.the_type tt _ _ parts.0)
-    ((booleans_Decides _ _).0 separators.0) ((booleans_Decides _ _).0 six_digits.0)
-    (same_true date_kind.the_type tt _ _ kind.0)
-    (same_precision _ _ time.0) (same_true offset_precision.the_type tt _ _ offset.0)
-    (same_true decimal_sign.the_type tt _ _ offset.1)
+    λ i. record {
+      formatted_components = same_true formatted_components.the_type tt a.formatted_components b.formatted_components parts.0 i;
+      use_separators = (booleans_Decides a.use_separators b.use_separators).0 separators.0 i;
+      year_is_six_digits = (booleans_Decides a.year_is_six_digits b.year_is_six_digits).0 six_digits.0 i;
+      date_kind = same_true date_kind.the_type tt a.date_kind b.date_kind kind.0 i;
+      time_precision = same_precision a.time_precision b.time_precision time.0 i;
+      offset_precision = same_true offset_precision.the_type tt a.offset_precision b.offset_precision offset.0 i;
+      decimal_sign = same_true decimal_sign.the_type tt a.decimal_sign b.decimal_sign offset.1 i;
+    }
 
 -- equal configurations compare as equal
 pub equal_choices : (a b : Choices) → a ≡ b → of_config.ghosts.eq a b ≡ true

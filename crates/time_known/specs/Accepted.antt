@@ -1,6 +1,6 @@
 -- What of a value a format has no place for.
 use Rattle.std.specs.Prelude.{ℕ, ℤ, ◌≡◌, ◌+◌, ◌≤◌, ◌++◌, List, length, codes, nat_lt, Option, Some, None, Result, Ok, Err}
-use Rattle.std.specs.Prelude.{IfOk, IfErr, Vec, vec_len, vec_capacity}
+use Rattle.std.specs.Prelude.{Vec, vec_len, vec_capacity}
 use Rattle.std.specs.Global.{Global}
 use Rattle.time_fmt.specs.Outcome.{Outcome, Refusal, done, refused, invalid_component}
 use Rattle.time_known.specs.Sink.{Buffer, PutsUpTo}
@@ -31,11 +31,10 @@ abbrev pub refusal_of : Result Unit OutOfRange → Option Refusal
 refusal_of (Ok u) = None
 refusal_of (Err component) = Some (invalid_component (component_name component))
 
--- the bytes of the outcome were appended, and the answer is their number, or what has no place
-pub record AppendsOrRefuses (width : ℕ) (old new : Vec ℕ Global) (answer : Result ℕ OutOfRange) (o : Outcome) : Type 0 where
+-- the bytes of the outcome were appended, and the answer is its refusal
+pub record AppendsOrRefuses (width : ℕ) (old new : Vec ℕ Global) (answer : Result Unit OutOfRange) (o : Outcome) : Type 0 where
   pub appended : new.items ≡ old.items ++ o.bytes
-  pub counted : IfOk answer (λ n. (o.refusal ≡ None) × (n ≡ length o.bytes))
-  pub refusal : IfErr answer (λ component. o.refusal ≡ Some (invalid_component (component_name component)))
+  pub refusal : o.refusal ≡ refusal_of answer
   pub grown : vec_len new ≡ vec_len old + length o.bytes
   pub capacity : vec_capacity new ≡ vec_capacity old
   pub within : vec_len new ≤ vec_len old + width

@@ -1,17 +1,16 @@
 -- The text and the width of the parts that are written are those of the choices.
-use Rattle.std.proofs.Common.{◌≡◌, ◌≢◌, ℕ, ◌+◌, true, length, List, [], refl, sym, ap, subst, ◌∙◌, arith, Option, Some, None}
+use Rattle.std.proofs.Common.{◌≡◌, ◌≢◌, ℕ, ◌+◌, ℤ, true, length, List, [], refl, sym, ap, subst, ◌∙◌, arith, Option, Some, None}
 use Rattle.std.specs.Prelude.{codes}
 use Rattle.std.proofs.lemmas.List.{append-nil}
 use Rattle.time_fmt.specs.Outcome.{Outcome, Refusal, done, join}
 use Rattle.time_known.specs.Config.{Choices, groups_of, separator, DateKind, FormattedComponents}
 use Rattle.time_known.specs.Groups.{has_groups}
-use Rattle.time_known.specs.Iso8601.{iso8601_outcome, iso8601_outcome_of, iso_date, iso_offset_of_fields, rest_of_kind, rest_text}
-use Rattle.time_known.specs.Iso8601.{iso_time_text, iso_year}
-use Rattle.time_known.specs.Iso8601Parts.{chosen_parts, date_of_parts, date_parts, date_parts_width}
+use Rattle.time_known.specs.Iso8601.{iso8601_outcome, iso8601_outcome_of, iso_date, rest_of_kind}
+use Rattle.time_known.specs.Iso8601.{iso_time_text}
+use Rattle.time_known.specs.Iso8601Parts.{chosen_parts, date_parts, date_parts_width}
 use Rattle.time_known.specs.Iso8601Parts.{parts_by, parts_text, parts_width}
-use Rattle.time_known.specs.Iso8601Parts.{part_text, part_width, rest_width, shown_part, shown_parts}
-use Rattle.time_known.specs.Iso8601Parts.{shown_rest, time_part_text}
-use Rattle.time_known.specs.Iso8601Width.{iso8601_width, iso8601_width_of, iso_date_width, iso_offset_width, iso_time_width}
+use Rattle.time_known.specs.Iso8601Parts.{rest_width, shown_parts}
+use Rattle.time_known.specs.Iso8601Width.{iso8601_width, iso8601_width_of, iso_date_width}
 use Rattle.time_known.specs.Iso8601Width.{width_after_year, year_width}
 use Rattle.time_known.specs.Values.{Facts, DateFacts, the_date, the_time}
 use Rattle.time_known.specs.declared.iso8601.config.DateKind.TheVariants as kind
@@ -88,36 +87,25 @@ pub chosen_width : (c : Choices) (f : Facts) → c.formatted_components ≢ comp
 chosen_width c f some = width_by c.formatted_components c f some
 
 -- the numbers of the month and the day give the same text and width
-same_rest : (separator : List ℕ) (r : RestOfDate) → rest_text separator (shown_rest r) ≡ rest_text separator r
-same_rest separator (rest.MonthAndDay d) = refl
-same_rest separator (rest.WeekAndWeekday week weekday) = refl
-same_rest separator (rest.DayOfYear number) = refl
+abbrev AreSame : Choices → Parts → Type 0
+AreSame c p = (parts_text c (shown_parts p) ≡ parts_text c p) × (parts_width c (shown_parts p) ≡ parts_width c p)
 
-same_rest_width : (n : ℕ) (r : RestOfDate) → rest_width n (shown_rest r) ≡ rest_width n r
-same_rest_width n (rest.MonthAndDay d) = refl
-same_rest_width n (rest.WeekAndWeekday week weekday) = refl
-same_rest_width n (rest.DayOfYear number) = refl
+same_rest : (c : Choices) (p : Parts) (year : ℤ) (r : RestOfDate)
+    → AreSame c (record p { date = Some (record { year = year; rest = r }) })
+same_rest c p year (rest.MonthAndDay d) = (refl, refl)
+same_rest c p year (rest.WeekAndWeekday week weekday) = (refl, refl)
+same_rest c p year (rest.DayOfYear number) = (refl, refl)
 
-same_date : (c : Choices) (d : Option DateParts)
-    → part_text (date_of_parts c) (shown_part d) ≡ part_text (date_of_parts c) d
-same_date c None = refl
-same_date c (Some d) =
-    ap (λ (rest : List ℕ). join (iso_year c.year_is_six_digits d.year) (done rest))
-    (same_rest (separator c (codes "-")) d.rest)
-
-same_date_width : (c : Choices) (d : Option DateParts)
-    → part_width (date_parts_width c) (shown_part d) ≡ part_width (date_parts_width c) d
-same_date_width c None = refl
-same_date_width c (Some d) =
-    ap (λ (n : ℕ). year_width c.year_is_six_digits + n) (same_rest_width (length (separator c (codes "-"))) d.rest)
+same_parts : (c : Choices) (p : Parts) → AreSame c p
+same_parts c p = at p.date where
+  at : (d : Option DateParts) → AreSame c (record p { date = d })
+  at None = (refl, refl)
+  at (Some d) = same_rest c p d.year d.rest
 
 -- the width of the parts is that of the choices
 pub by_parts_width : (c : Choices) (f : Facts) (p : Parts) → c.formatted_components ≢ components.None
     → shown_parts p ≡ chosen_parts c f → parts_width c p ≡ iso8601_width c
-by_parts_width c f p some e =
-    ap (λ (n : ℕ). n + part_width (λ _. iso_time_width c) p.time + part_width (λ _. iso_offset_width c) p.offset)
-    (sym (same_date_width c p.date))
-    ∙ ap (parts_width c) e ∙ chosen_width c f some
+by_parts_width c f p some e = sym (same_parts c p).1 ∙ ap (parts_width c) e ∙ chosen_width c f some
 
 -- what holds of the width and the text of the parts holds of those of the choices
 pub by_parts : (c : Choices) (f : Facts) (p : Parts) (Holds : ℕ → Outcome → Type 0)
@@ -125,8 +113,5 @@ pub by_parts : (c : Choices) (f : Facts) (p : Parts) (Holds : ℕ → Outcome �
     → shown_parts p ≡ chosen_parts c f → Holds (parts_width c p) (parts_text c p)
     → Holds (iso8601_width c) (iso8601_outcome c f)
 by_parts c f p Holds there some e h =
-    let text : parts_text c p ≡ iso8601_outcome c f =
-    ap (λ (date : Outcome). join date (join (done (time_part_text c p.time)) (part_text (iso_offset_of_fields c) p.offset)))
-    (sym (same_date c p.date))
-    ∙ ap (parts_text c) e ∙ sym (chosen_text c f there some) in
+    let text = sym (same_parts c p).0 ∙ ap (parts_text c) e ∙ sym (chosen_text c f there some) in
     subst (Holds (iso8601_width c)) text (subst (λ (n : ℕ). Holds n (parts_text c p)) (by_parts_width c f p some e) h)

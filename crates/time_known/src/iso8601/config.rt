@@ -91,8 +91,10 @@ pub(super) enum Way {
     CalendarDate,
     /// The date alone by week and weekday.
     WeekDate,
-    /// The date alone by the day of the year.
+    /// The date alone by the day of the year, with a dash before it.
     OrdinalDate,
+    /// The date alone by the day of the year, without a dash.
+    CompactOrdinalDate,
     /// The time alone to the second, with these decimals of it.
     Time(Option<ru8<1, 255>>),
     /// The date by month and day, and the time to the second.
@@ -310,7 +312,8 @@ impl Config {
             FormattedComponents::Date if !self.year_is_six_digits => match self.date_kind {
                 DateKind::Calendar => Way::CalendarDate,
                 DateKind::Week => Way::WeekDate,
-                DateKind::Ordinal => Way::OrdinalDate,
+                DateKind::Ordinal if self.use_separators => Way::OrdinalDate,
+                DateKind::Ordinal => Way::CompactOrdinalDate,
             },
             FormattedComponents::Time => match self.time_precision {
                 TimePrecision::Second { decimal_digits } => Way::Time(decimal_digits),

@@ -50,23 +50,26 @@ pub fn format_date<V: ComponentProvider>(
         time: None,
         offset: None,
     };
+    let begin = output.len();
     match append_parts(config, output, &parts) {
-        Ok(count) => Ok(count),
+        Ok(()) => Ok(output.len() - begin),
         Err(component) => Err(Format::InvalidComponent(component.name())),
     }
 }
 
 // Appends the date, where four digits hold its year; else it appends nothing. The compiler sees the
-// kind, so that no other is tested.
+// kind, and perhaps whether there are dashes, so that no other is tested.
 #[inline(always)]
 pub(super) fn write_date_by<V: ComponentProvider>(
     config: &Config,
     kind: DateKind,
+    has_dash: bool,
     output: &mut Vec<u8>,
     value: &V,
     state: &mut V::State,
 ) -> Option<usize>
     requires kind { config.now.date_kind ≡ kind }
+    requires dash { config.now.use_separators ≡ has_dash }
     requires short { config.now.year_is_six_digits ≡ false }
     requires supplied { IsTrue V.SUPPLIES_DATE }
     requires room { HasRoom output.old (iso_date_width config.now) }
@@ -76,35 +79,20 @@ pub(super) fn write_date_by<V: ComponentProvider>(
         (iso_date config.now (the_date (V.facts value.now)))) }
     ensures agrees { AgreesOnDate (V.agrees state.new value.now) (V.facts value.now) }
 {
-    append_short(config, output, date_of(kind, value, state))
-}
-
-// Appends the date by week and weekday. A call of its own keeps the other dates small.
-#[inline(never)]
-pub(super) fn write_week_date<V: ComponentProvider>(
-    config: &Config,
-    output: &mut Vec<u8>,
-    value: &V,
-    state: &mut V::State,
-) -> Option<usize>
-    requires kind { config.now.date_kind ≡ DateKind.Week }
-    requires short { config.now.year_is_six_digits ≡ false }
-    requires supplied { IsTrue V.SUPPLIES_DATE }
-    requires room { HasRoom output.old (iso_date_width config.now) }
-    requires agrees { V.agrees state.old value.now }
-    ensures appends { MatchOption result (output.new ≡ output.old)
-        (λ n. AppendsUpTo (iso_date_width config.now) output.old output.new (Ok n)
-        (iso_date config.now (the_date (V.facts value.now)))) }
-    ensures agrees { AgreesOnDate (V.agrees state.new value.now) (V.facts value.now) }
-{
-    write_date_by(config, DateKind::Week, output, value, state)
+    append_short(config, has_dash, output, date_of(kind, value, state))
 }
 
 // Appends a date, where four digits hold its year.
 #[inline(always)]
 #[tactic(auto, using(crate::proofs::LengthLemmas::joined_lengths))]
-fn append_short(config: &Config, output: &mut Vec<u8>, date: DateParts) -> Option<usize>
+fn append_short(
+    config: &Config,
+    has_dash: bool,
+    output: &mut Vec<u8>,
+    date: DateParts,
+) -> Option<usize>
     requires short { config.now.year_is_six_digits ≡ false }
+    requires dash { config.now.use_separators ≡ has_dash }
     requires room { HasRoom output.old (date_parts_width config.now date) }
     ensures appends { MatchOption result (output.new ≡ output.old)
         (λ n. AppendsUpTo (date_parts_width config.now date) output.old output.new (Ok n)
@@ -115,10 +103,9 @@ fn append_short(config: &Config, output: &mut Vec<u8>, date: DateParts) -> Optio
         return None;
     }
     let year = ru16::within(number.unsigned_abs() as u16);
-    let has_separators = config.use_separators();
     let mut taken = take_out(output);
     let begin = taken.len();
-    if has_separators {
+    if has_dash {
         put_short(&mut taken, year, &date.rest, true);
     } else {
         put_short(&mut taken, year, &date.rest, false);

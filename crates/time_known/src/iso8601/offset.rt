@@ -43,8 +43,9 @@ pub fn format_offset<V: ComponentProvider>(
         time: None,
         offset: Some(offset_of(value, state)),
     };
+    let begin = output.len();
     match append_parts(config, output, &parts) {
-        Ok(count) => Ok(count),
+        Ok(()) => Ok(output.len() - begin),
         Err(component) => Err(Format::InvalidComponent(component.name())),
     }
 }

@@ -17,7 +17,7 @@ use crate::accepted::OutOfRange;
 use crate::days::CalendarDay;
 use crate::fields::{OffsetFields, TimeFields, offset_of, time_of};
 use crate::iso8601::config::{Config, DateKind, FormattedComponents, TimePrecision, Way};
-use crate::iso8601::date::{put_date_part, write_date_by, write_week_date};
+use crate::iso8601::date::{put_date_part, write_date_by};
 use crate::iso8601::offset::put_offset_part;
 use crate::iso8601::time::{put_time_part, write_to_second};
 use crate::iso8601::usual_text::write_usual;
@@ -82,20 +82,15 @@ pub(super) fn append_parts(
     config: &Config,
     output: &mut Vec<u8>,
     parts: &Parts,
-) -> Result<usize, OutOfRange>
+) -> Result<(), OutOfRange>
     requires room { HasRoom output.old (parts_width config.now parts.now) }
     ensures appends { AppendsOrRefuses (parts_width config.now parts.now) output.old output.new
         result (parts_text config.now parts.now) }
 {
     let mut taken = take_out(output);
-    let begin = taken.len();
     let answer = put_parts(&mut taken, config, parts);
-    let count = taken.len() - begin;
     put_back(output, taken);
-    match answer {
-        Ok(()) => Ok(count),
-        Err(component) => Err(component),
-    }
+    answer
 }
 
 // The fields of the value's date by this kind.
@@ -196,8 +191,9 @@ pub(super) fn write_parts<V: ComponentProvider>(
     if config.formats_nothing() {
         return Err(Format::InsufficientTypeInformation);
     }
+    let begin = output.len();
     match write_each(config, output, value, state) {
-        Ok(count) => Ok(count),
+        Ok(()) => Ok(output.len() - begin),
         Err(component) => Err(Format::InvalidComponent(component.name())),
     }
 }
@@ -209,7 +205,7 @@ fn write_each<V: ComponentProvider>(
     output: &mut Vec<u8>,
     value: &V,
     state: &mut V::State,
-) -> Result<usize, OutOfRange>
+) -> Result<(), OutOfRange>
     requires some { config.now.formatted_components ≢ FormattedComponents.None }
     requires supplied { IsTrue (are_supplied (groups_of config.now.formatted_components)
         V.SUPPLIES_DATE V.SUPPLIES_TIME V.SUPPLIES_OFFSET) }
@@ -251,9 +247,18 @@ fn write_by_way<V: ComponentProvider>(
 {
     match way {
         Way::Usual(usual) => write_usual(config, usual, output, value, state),
-        Way::CalendarDate => write_date_by(config, DateKind::Calendar, output, value, state),
-        Way::WeekDate => write_week_date(config, output, value, state),
-        Way::OrdinalDate => write_date_by(config, DateKind::Ordinal, output, value, state),
+        Way::CalendarDate => {
+            let has_dash = config.use_separators();
+            write_date_by(config, DateKind::Calendar, has_dash, output, value, state)
+        }
+        Way::WeekDate => {
+            let has_dash = config.use_separators();
+            write_date_by(config, DateKind::Week, has_dash, output, value, state)
+        }
+        Way::OrdinalDate => { write_date_by(config, DateKind::Ordinal, true, output, value, state) }
+        Way::CompactOrdinalDate => {
+            write_date_by(config, DateKind::Ordinal, false, output, value, state)
+        }
         Way::Time(digits) => Some(write_to_second(config, *digits, output, value, state)),
         Way::DateTime(digits) => write_date_time(config, *digits, output, value, state),
         Way::Other => None,
@@ -283,6 +288,7 @@ fn write_date_time<V: ComponentProvider>(
         (iso_time config.now (the_time (V.facts value.now))))) }
     ensures agrees { V.agrees state.new value.now }
 {
-    let date = write_date_by(config, DateKind::Calendar, output, value, state)?;
+    let has_dash = config.use_separators();
+    let date = write_date_by(config, DateKind::Calendar, has_dash, output, value, state)?;
     Some(date + write_to_second(config, digits, output, value, state))
 }

@@ -70,7 +70,7 @@ fn write_time_by<V: ComponentProvider>(
     let time = time_of(value, state);
     let mut taken = take_out(output);
     let begin = taken.len();
-    put_time(&mut taken, config, precision, &time);
+    put_time::<Vec<u8>, true>(&mut taken, config, precision, &time);
     let count = taken.len() - begin;
     put_back(output, taken);
     count
@@ -108,14 +108,20 @@ pub(super) fn put_time_part<S: Sink>(output: &mut S, config: &Config, time: &Opt
         (S.buffer output.old) (S.buffer output.new) (time_part_text config.now time.now) }
 {
     if let Some(time) = time {
-        put_time(output, config, config.time_precision(), time);
+        put_time::<S, false>(output, config, config.time_precision(), time);
     }
 }
 
-// Puts the letter, where there is one, and the units.
+// Puts the letter, where there is one, and the units. A time alone has a function of its own, since the compiler
+// inlines so large a one only where it is called once.
 #[inline(always)]
 #[tactic(auto, using(crate::proofs::LengthLemmas::joined_lengths))]
-fn put_time<S: Sink>(output: &mut S, config: &Config, precision: TimePrecision, time: &TimeFields)
+fn put_time<S: Sink, const IS_ALONE: bool>(
+    output: &mut S,
+    config: &Config,
+    precision: TimePrecision,
+    time: &TimeFields,
+)
     requires precision { config.now.time_precision ≡ precision }
     requires room { Fits (iso_time_width config.now) (S.buffer output.old) }
     ensures puts { PutsUpTo (iso_time_width config.now) (S.buffer output.old)
@@ -124,13 +130,17 @@ fn put_time<S: Sink>(output: &mut S, config: &Config, precision: TimePrecision, 
     if config.has_time_letter() {
         output.put("T");
     }
-    put_units(output, config, precision, time);
+    put_units::<S, IS_ALONE>(output, config, precision, time);
 }
 
-// Puts the whole units down to the precision, and decimals of the last one. Of a second the compiler knows the
-// separators.
+// Puts the whole units down to the precision, and decimals of the last one.
 #[inline(always)]
-fn put_units<S: Sink>(output: &mut S, config: &Config, precision: TimePrecision, time: &TimeFields)
+fn put_units<S: Sink, const IS_ALONE: bool>(
+    output: &mut S,
+    config: &Config,
+    precision: TimePrecision,
+    time: &TimeFields,
+)
     requires room { Fits (units_width precision config.now) (S.buffer output.old) }
     ensures puts { PutsUpTo (units_width precision config.now)
         (S.buffer output.old) (S.buffer output.new)
@@ -143,12 +153,30 @@ fn put_units<S: Sink>(output: &mut S, config: &Config, precision: TimePrecision,
             put_to_minute(output, time, config.separator(":"), sign, decimal_digits)
         }
         TimePrecision::Second { decimal_digits } => {
-            if config.use_separators() {
-                put_to_second(output, time, ":", sign, decimal_digits);
-            } else {
-                put_to_second(output, time, "", sign, decimal_digits);
-            }
+            put_second::<S, IS_ALONE>(output, config, time, decimal_digits)
         }
+    }
+}
+
+// Puts the hour, the minute and the second by separators that the compiler knows, and decimals of the second.
+#[inline(always)]
+fn put_second<S: Sink, const IS_ALONE: bool>(
+    output: &mut S,
+    config: &Config,
+    time: &TimeFields,
+    digits: Option<ru8<1, 255>>,
+)
+    requires room { Fits (units_width (TimePrecision.Second digits) config.now)
+        (S.buffer output.old) }
+    ensures puts { PutsUpTo (units_width (TimePrecision.Second digits) config.now)
+        (S.buffer output.old) (S.buffer output.new)
+        (units_text (TimePrecision.Second digits) config.now (time_of_day time.now)) }
+{
+    let sign = config.decimal_sign();
+    if config.use_separators() {
+        put_to_second(output, time, ":", sign, digits);
+    } else {
+        put_to_second(output, time, "", sign, digits);
     }
 }
 
@@ -248,7 +276,7 @@ fn nanoseconds_of_minute(time: &TimeFields) -> u64
 }
 
 // Puts the decimal sign and the decimals of the rest over the unit, if any are wanted.
-#[inline(never)]
+#[inline(always)]
 #[tactic(auto, using(crate::proofs::iso8601::LengthLemmas::decimal_lengths))]
 fn put_decimals<S: Sink>(
     output: &mut S,
