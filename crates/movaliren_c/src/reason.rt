@@ -1,6 +1,7 @@
 //! Why a call gives no text.
 ghost use Rattle.std.specs.Prelude.{◌≡◌, ◌<◌, IfOk};
 ghost use Rattle.movaliren_c.specs.Answer.{answer_number, reason_number, IsReasonFor, Refuses};
+ghost use Rattle.movaliren_c.specs.Value.{flag_at};
 ghost use Rattle.time_fmt.specs.Outcome.{invalid_component};
 ghost use Rattle.time_known.specs.Accepted.{component_name};
 
@@ -94,6 +95,17 @@ pub fn answer_number(answer: Result<usize, Reason>) -> isize
     match answer {
         Ok(count) => count as isize,
         Err(reason) => reason_number(reason),
+    }
+}
+
+/// Whether a flag is set, or the reason why it is none.
+pub fn flag_at(number: u8, reason: Reason) -> Result<bool, Reason>
+    ensures { result ≡ flag_at number reason }
+{
+    match number {
+        0 => Ok(false),
+        1 => Ok(true),
+        _ => Err(reason),
     }
 }
 
