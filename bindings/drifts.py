@@ -28,7 +28,7 @@ PLACES = [
     ("moment.rs", STRUCT, rf"\w+(?=: )|{TYPE}"),
     ("raw.rs", STRUCT, rf"\w+(?=: )|{TYPE}"),
     ("raw.rs", r"fn movaliren_\w+\(.*?;", rf"movaliren_\w+|\w+(?=: )|{TYPE}|\b[A-Z]\w+"),
-    ("reason.rt", r".*", r"(?<=Reason::)\w+(?= => -)|-\d+(?=,$)|\d+(?= => Ok)|(?<=Ok\()(?:true|false)"),
+    ("reason.rt", r".*", r"^    \w+(?= = \d)|(?<= = )\d+(?=,$)|\d+(?= => Ok)|(?<=Ok\()(?:true|false)"),
     ("item.rt", r".*", r"\d+(?= => Ok)|(?<=Ok\()(?:Padding|SubsecondDigits)::\w+|\d+(?= => component!)|(?<=component!\()\w+"),
     ("config.rt", r".*", r"\d+(?= => Ok)|(?<=Ok\()(?:\w+::\w+|true|false)"),
     ("*.rt", STRUCT, rf"\w+(?=: )|{TYPE}"),

@@ -185,7 +185,7 @@ class Interfaces:
         specs = numbers(r"reason_number reason\.(\w+) = neg_ℤ \(pos (\d+)\)", *self.specs)
         self.same(
             "a reason",
-            numbers(r"Reason::(\w+) => (-\d+),", *self.rattle),
+            {name: -number for name, number in numbers(r"(\w+) = (\d+)", braces("enum Reason", *self.rattle)).items()},
             numbers(r"MOVALIREN_ERROR_(\w+) = (-\d+)", self.c),
             rust,
             {name: -number for name, number in specs.items()},

@@ -130,7 +130,8 @@ pub fn has_short_year(value: &LocalMoment) -> bool
     0 <= year && year <= 9_999
 }
 
-/// Writes the text of usual items to the start of the buffer.
+/// Writes the text of usual items to the start of the buffer, by way of an array if the buffer may be too
+/// small.
 #[tactic(auto, using(crate::proofs::ShortLineLemmas::all_fit))]
 pub fn write_line(
     items: &[Item],
@@ -151,25 +152,6 @@ pub fn write_line(
     if width <= room.len() {
         return Ok(write_in_place(items, texts, value, room));
     }
-    copy_line(items, texts, value, room)
-}
-
-/// Writes the text to an array first, since the buffer may be too small.
-#[cold]
-#[inline(never)]
-fn copy_line(
-    items: &[Item],
-    texts: &[u8],
-    value: &LocalMoment,
-    room: &mut [u8],
-) -> Result<usize, Reason>
-    ghost has_time: { Bool }
-    requires usual { All (λ item. IsTrue (is_usual has_time item)) items.now }
-    requires width { AllFit 128 (trees_of texts.now items.now) }
-    requires year { IsShortYear value.now }
-    ensures { IsText (described (trees_of texts.now items.now) (Ok value.now)
-        (facts_of_local has_time)) result room.old room.new }
-{
     let mut line = [0u8; LONGEST_COPY];
     let count = write_in_place(items, texts, value, &mut line);
     copy_text(&line[..count], room)
