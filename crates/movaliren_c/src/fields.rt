@@ -116,20 +116,10 @@ fn date_of(kind: DateKind, date: CalendarDate) -> DateParts
 pub fn parts_of(config: &Config, value: &LocalMoment) -> Parts
     ensures { result ≡ chosen_parts config.now (facts_of_offset_date_time value.now) }
 {
-    let date = if config.has_date() {
-        Some(date_of(config.date_kind(), value.date()))
-    } else {
-        None
-    };
-    let time = if config.has_time() {
-        Some(time_of(value.time()))
-    } else {
-        None
-    };
-    let offset = if config.has_offset() {
-        Some(value.offset().fields())
-    } else {
-        None
-    };
+    let date = config
+        .has_date()
+        .then(|| date_of(config.date_kind(), value.date()));
+    let time = config.has_time().then(|| time_of(value.time()));
+    let offset = config.has_offset().then(|| value.offset().fields());
     Parts { date, time, offset }
 }
