@@ -28,13 +28,13 @@ PLACES = [
     ("moment.rs", STRUCT, rf"\w+(?=: )|{TYPE}"),
     ("raw.rs", STRUCT, rf"\w+(?=: )|{TYPE}"),
     ("raw.rs", r"fn movaliren_\w+\(.*?;", rf"movaliren_\w+|\w+(?=: )|{TYPE}|\b[A-Z]\w+"),
-    ("reason.rt", r".*", r"(?<=Reason::)\w+(?= => -)|-\d+(?=,$)"),
-    ("item.rt", r".*", r"\d+(?= => Ok)|(?<=Ok\()(?:Component|Padding|SubsecondDigits)::\w+|(?<=Ok\()(?:true|false)"),
+    ("reason.rt", r".*", r"^    \w+(?= = \d)|(?<= = )\d+(?=,$)|\d+(?= => Ok)|(?<=Ok\()(?:true|false)"),
+    ("item.rt", r".*", r"\d+(?= => Ok)|(?<=Ok\()(?:Padding|SubsecondDigits)::\w+|\d+(?= => component!)|(?<=component!\()\w+"),
     ("config.rt", r".*", r"\d+(?= => Ok)|(?<=Ok\()(?:\w+::\w+|true|false)"),
     ("*.rt", STRUCT, rf"\w+(?=: )|{TYPE}"),
     ("*.rt", EXPORTS, rf"movaliren_\w+|\b(?!alloc\b)\w+(?=: )|{TYPE}|\bmut |(?<=[&\[])[A-Z]\w+|Progress"),
     ("Answer.antt", r"^reason_number [^\n]*", r"(?<=reason\.)\w+|\d+(?=\)$)"),
-    ("Items.antt", r".*", r"\d+(?= then Ok \(component)|(?<=Ok \(component\.)\w+|(?<=i\.kind == )\d+"),
+    ("Items.antt", r".*", r"(?<= component\.)\w+|(?<=numbered )[1-9]\d*|(?<=i\.kind == )\d+"),
     ("*.antt", r"^(?:rfc3339_width|rfc2822_width|stamp_width|stamp_length) = .*?$", r"\d+$"),
 ]
 

@@ -26,16 +26,15 @@ SHORTER = [
 ]
 # The header's words for the choices of an item.
 CHOICES = {
-    "padding": "padding", "sign_is_mandatory: flag": "flag: always a sign", "one_indexed: flag": "flag: counted from 1",
-    "is_uppercase: flag": "flag: upper case", "digits": "digits",
+    "padding": "padding", "sign_is_mandatory": "flag: always a sign", "one_indexed": "flag: counted from 1",
+    "is_uppercase": "flag: upper case", "digits": "digits",
 }
 
 
 def kinds():
     """Each component with its number and its choices, by the number."""
-    arm = r"(\d+) => Ok\(Component::(\w+)\(\s*modifier::\w+ \{(.*?)\}"
-    found = re.findall(arm, ITEM.read_text(), re.S)
-    read = lambda choices: [CHOICES[choice] for choice in re.split(r",\s*", choices.strip(" \n,")) if choice in CHOICES]
+    found = re.findall(r"(\d+) => component!\((\w+): ([\w, ]+)\)", ITEM.read_text())
+    read = lambda choices: [CHOICES[choice] for choice in choices.split(", ") if choice in CHOICES]
     return sorted((int(number), name, read(choices)) for number, name, choices in found)
 
 

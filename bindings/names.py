@@ -185,7 +185,7 @@ class Interfaces:
         specs = numbers(r"reason_number reason\.(\w+) = neg_ℤ \(pos (\d+)\)", *self.specs)
         self.same(
             "a reason",
-            numbers(r"Reason::(\w+) => (-\d+),", *self.rattle),
+            {name: -number for name, number in numbers(r"(\w+) = (\d+)", braces("enum Reason", *self.rattle)).items()},
             numbers(r"MOVALIREN_ERROR_(\w+) = (-\d+)", self.c),
             rust,
             {name: -number for name, number in specs.items()},
@@ -235,8 +235,10 @@ class Interfaces:
         header.pop("text", None)
         self.same("a kind", header, numbers(r"(\w+) = (\d+)", braces("enum Kind", *self.rust)))
         # The Rattle crate has longer names; each kind has one number in the header's order.
-        rattle = findall(r"(\d+) => Ok\(Component::(\w+)\(", *self.rattle)
-        specs = findall(r"k == (\d+) then Ok \(component\.(\w+)", *self.specs)
+        rattle = findall(r"(\d+) => component!\((\w+):", *self.rattle)
+        specs = []
+        for first, listed in findall(r"_component k [pfd ]+ = numbered (\d+) \((.*?)∷ \[\]\)", *self.specs):
+            specs += [(str(number), name) for number, name in enumerate(findall(r"component\.(\w+)", listed), int(first))]
         self.same("a component", rattle, specs)
         self.same("the number of a kind", sorted(header.values()), sorted(int(number) for number, _ in rattle))
         names = {number: name for name, number in header.items()}

@@ -8,8 +8,8 @@ use Rattle.movaliren_c.specs.Answer.{Explains, IsRefusedFor, IsText}
 use Rattle.movaliren_c.specs.Batch.{ended, Stand, Stops, StopsAt, lines}
 use Rattle.movaliren_c.specs.declared.reason.Reason.{Reason}
 use Rattle.movaliren_c.specs.declared.reason.Reason.TheVariants as reason
-use Rattle.movaliren_c.proofs.PushLemmas.{join_done, refused_first}
 use Rattle.time_fmt.specs.Outcome.{Outcome, join, done}
+use Rattle.time_fmt.proofs.WriteLemmas.{join_done, join_refused, some_of}
 
 -- what a reason says of it
 stopped_line : (v : Result Outcome Reason) (r : Reason) (before after : List ℕ)
@@ -73,6 +73,12 @@ ended_text (Ok o) n e most room mid fits inside h behind_it =
       placed_end o.bytes room mid n e h.1 inside whole,
     )
 ended_text (Err r) n e most room mid fits inside h behind_it = absurd (let same = h.0 in cc)
+
+-- what is refused first is refused of both
+refused_first : (a b : Outcome) (r : Reason) → IsRefusedFor r a → IsRefusedFor r (join a b)
+refused_first a b r h =
+    let some = some_of _ a.refusal h in
+    rw (join_refused a b some.0 some.1) h
 
 -- the reason for no text is the reason for no text with an end, in a buffer of one byte more
 explains_ended : (r : Reason) (o : Outcome) (e room : ℕ) → Explains r o (room - 1)

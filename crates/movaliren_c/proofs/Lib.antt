@@ -1,9 +1,9 @@
+pub mod AnswerLemmas
 pub mod BatchLemmas
 pub mod DateLemmas
 pub mod DescribedLemmas
 pub mod MeaningLemmas
 pub mod NumberLemmas
 pub mod OffsetLemmas
-pub mod PushLemmas
 pub mod ShortLineLemmas
 pub mod SinkLemmas

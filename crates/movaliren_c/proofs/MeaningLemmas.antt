@@ -7,7 +7,7 @@ use Rattle.std.proofs.lemmas.Bool.Decides.{nat_tests}
 use Rattle.std.proofs.lemmas.Int.{ints, by_lt_z}
 use Rattle.movaliren_c.proofs.OffsetLemmas.{settled_signed}
 use Rattle.movaliren_c.specs.Utc.{Means, value_at, with_offset, utc_value, offset_of_seconds, east_value, moved_east, local_value}
-use Rattle.movaliren_c.specs.Value.{checked, last_second, with_value, timestamp_value, stamp_value}
+use Rattle.movaliren_c.specs.Value.{checked, last_second, with_value, timestamp_value}
 use Rattle.movaliren_c.specs.declared.reason.Reason.{Reason}
 use Rattle.time_below.specs.Moment.{Moment, DateAndTime, OffsetDateAndTime, IsMoment, seconds_before, unix_seconds, utc_date_and_time}
 use Rattle.time_below.specs.Calendar.{OrdinalDate}
@@ -51,11 +51,9 @@ at_offset : (s : ℤ) (n : ℕ) (o : Offset) (t : OffsetDateAndTime) → value_a
     → (m : Moment) × IsMoment m × (m.seconds ≡ s) × (m.nanosecond ≡ n) × (t ≡ with_offset o (utc_date_and_time m))
 unfolding value_at
 at_offset s n o t h =
-    let outer = value_of_given (stamp_value s n) (λ v. Ok (with_offset o v)) t h in
-    let inner = value_of_given (timestamp_value s n) (λ m. Ok (utc_date_and_time m)) outer.0 outer.1 in
-    let m = is_moment s n inner.0 inner.1 in
-    let v = same_value (utc_date_and_time inner.0) outer.0 inner.2 in
-    (inner.0, m.0, m.1, m.2, sym (same_value (with_offset o outer.0) t outer.2) ∙ ap (with_offset o) (sym v))
+    let given = value_of_given (timestamp_value s n) (λ m. Ok (with_offset o (utc_date_and_time m))) t h in
+    let m = is_moment s n given.0 given.1 in
+    (given.0, m.0, m.1, m.2, sym (same_value (with_offset o (utc_date_and_time given.0)) t given.2))
 
 -- ---- offsets
 

@@ -13,18 +13,18 @@ use Rattle.movaliren_c.specs.ShortLine.{AllFit, FitsItem, IsShortYear, PutsItem,
 use Rattle.movaliren_c.specs.declared.item.Item.{Item}
 use Rattle.movaliren_c.specs.declared.reason.Reason.{Reason}
 use Rattle.movaliren_c.proofs.DescribedLemmas.{parts_of, next_there, next_not_there}
-use Rattle.movaliren_c.proofs.PushLemmas.{join_done}
 use Rattle.movaliren_c.specs.Utc.{with_offset}
 use Rattle.movaliren_c.specs.Value.{with_value}
 use Rattle.time_below.proofs.MomentLemmas.{unix_seconds-utc}
 use Rattle.time_below.specs.Facts.{Facts, date_facts, facts_of_timestamp}
-use Rattle.time_below.specs.Moment.{Moment, DateAndTime, OffsetDateAndTime, IsMoment, local_unix_seconds, unix_seconds, utc_date}
+use Rattle.time_below.specs.Moment.{Moment, OffsetDateAndTime, IsMoment, local_unix_seconds, unix_seconds, utc_date}
 use Rattle.time_below.specs.Moment.{utc_time, utc_date_and_time}
 use Rattle.time_below.specs.Offset.{offset_seconds, utc}
 use Rattle.time_below.specs.Tree.{Tree, trees}
 use Rattle.time_below.specs.Width.{tree_width, trees_width}
 use Rattle.time_fmt.specs.Description.{tree_outcome, trees_outcome}
 use Rattle.time_fmt.specs.Outcome.{Outcome}
+use Rattle.time_fmt.proofs.WriteLemmas.{join_done}
 use Rattle.time_digits.specs.Digits.{zero_padded}
 use Rattle.time_known.specs.Fields.{hours_of_fields, offset_fields}
 use Rattle.time_known.specs.declared.fields.OffsetFields.{OffsetFields}
@@ -103,10 +103,9 @@ minus_none : (s e : ℤ) → e ≡ pos 0 → s -ℤ e ≡ s
 minus_none s e h = omega (arith, ints)
 
 -- a moment in UTC shows what its date and time in UTC show
-pub facts_in_utc : (m : Moment) (v : DateAndTime) (local : OffsetDateAndTime) → IsMoment m
-    → v ≡ utc_date_and_time m → local ≡ with_offset utc v
-    → facts_of_timestamp m ≡ facts_of_local true local
-facts_in_utc m v local real is same =
+pub facts_in_utc : (m : Moment) (local : OffsetDateAndTime) → IsMoment m
+    → local ≡ with_offset utc (utc_date_and_time m) → facts_of_timestamp m ≡ facts_of_local true local
+facts_in_utc m local real same =
     let u = utc_date_and_time m in
     let seconds : local_unix_seconds (with_offset utc u) ≡ m.seconds =
     minus_none (unix_seconds u) (offset_seconds utc) refl ∙ unix_seconds-utc m real in
@@ -116,7 +115,7 @@ facts_in_utc m v local real is same =
       offset = Some utc;
       moment = Some (record { seconds = s; nanosecond = m.nanosecond });
     } in
-    ap F (sym seconds) ∙ sym (ap (facts_of_local true) (same ∙ ap (with_offset utc) is))
+    ap F (sym seconds) ∙ sym (ap (facts_of_local true) same)
 
 -- ---- one after another
 

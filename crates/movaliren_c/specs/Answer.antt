@@ -1,6 +1,6 @@
 -- The result of a call.
 use Rattle.std.specs.Prelude.{◌≡◌, ◌≢◌, ◌<◌, ◌++◌, ◌⊎◌, ℕ, ℤ, pos, neg_ℤ, List, length, drop, codes, None, Result, Ok}
-use Rattle.std.specs.Prelude.{Err, IsSomeAnd}
+use Rattle.std.specs.Prelude.{Err, IsSomeAnd, MatchResult}
 use Rattle.movaliren_c.specs.Value.{with_value}
 use Rattle.movaliren_c.specs.declared.reason.Reason.{Reason}
 use Rattle.movaliren_c.specs.declared.reason.Reason.TheVariants as reason
@@ -94,8 +94,8 @@ gives value outcome = with_value value (λ v. Ok (outcome v))
 
 -- the text of an outcome is written; or the reason for no text is returned, and the buffer is unchanged
 abbrev pub IsText : Result Outcome Reason → Result ℕ Reason → List ℕ → List ℕ → Type 0
-IsText (Ok o) answer before after = IsWritten answer o before after
-IsText (Err r) answer before after = (answer ≡ Err r) × (after ≡ before)
+IsText asked answer before after =
+    MatchResult asked (λ o. IsWritten answer o before after) (λ r. (answer ≡ Err r) × (after ≡ before))
 
 -- the number is that of such a result
 abbrev pub IsAnswer : Result Outcome Reason → ℤ → List ℕ → List ℕ → Type 0
@@ -104,6 +104,6 @@ IsAnswer asked number before after = Answers number (λ answer. IsText asked ans
 -- the text of an outcome is written; or the reason for no text, or out of memory, is returned, and the buffer is
 -- unchanged
 abbrev pub IsTextInMemory : Result Outcome Reason → Result ℕ Reason → List ℕ → List ℕ → Type 0
-IsTextInMemory (Ok o) answer before after =
-    ((answer ≡ Err reason.OutOfMemory) × (after ≡ before)) ⊎ IsWritten answer o before after
-IsTextInMemory (Err r) answer before after = (answer ≡ Err r) × (after ≡ before)
+IsTextInMemory asked answer before after =
+    MatchResult asked (λ o. ((answer ≡ Err reason.OutOfMemory) × (after ≡ before)) ⊎ IsWritten answer o before after)
+    (λ r. (answer ≡ Err r) × (after ≡ before))

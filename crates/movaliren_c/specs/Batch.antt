@@ -1,6 +1,6 @@
 -- What a call for many texts leaves.
 use Rattle.std.specs.Prelude.{◌≡◌, ◌<◌, ◌⊎◌, ◌++◌, ℕ, pos, List, [], ◌∷◌, length, drop, take, All, None, Result, Ok}
-use Rattle.std.specs.Prelude.{Err, IfSome, slice_get}
+use Rattle.std.specs.Prelude.{Err, IfSome, IsOkAnd, MatchResult, slice_get}
 use Rattle.std.specs.List.{flat_map}
 use Rattle.movaliren_c.specs.Answer.{Explains, reason_number}
 use Rattle.movaliren_c.specs.Value.{with_value}
@@ -19,13 +19,11 @@ bytes_of (Err r) = []
 
 -- there is a value, and its line is whole
 abbrev pub IsWhole : Result Outcome Reason → Type 0
-IsWhole (Ok o) = o.refusal ≡ None
-IsWhole (Err r) = ⊥
+IsWhole line = IsOkAnd line (λ o. o.refusal ≡ None)
 
 -- the reason why a line is not written to a buffer of this many bytes
 abbrev pub Stops : Reason → Result Outcome Reason → ℕ → Type 0
-Stops r (Ok o) room = Explains r o room
-Stops r (Err e) room = r ≡ e
+Stops r line room = MatchResult line (λ o. Explains r o room) (λ e. r ≡ e)
 
 -- the lines of items, one after another
 abbrev pub lines : {A : Type 0} → (A → Result Outcome Reason) → List A → List ℕ

@@ -1,7 +1,7 @@
 -- The configuration of ISO 8601 that numbers choose.
-use Rattle.std.specs.Prelude.{ℕ, Bool, true, false, ◌==◌, Option, Some, None, Result, Ok, Err, if◌then◌else◌}
+use Rattle.std.specs.Prelude.{ℕ, true, ◌==◌, List, [], ◌∷◌, Option, Some, None, Result, Ok, if◌then◌else◌}
 use Rattle.movaliren_c.specs.Answer.{gives}
-use Rattle.movaliren_c.specs.Value.{with_value}
+use Rattle.movaliren_c.specs.Value.{flag_at, numbered, with_value}
 use Rattle.movaliren_c.specs.declared.iso8601.config.IsoConfig.{IsoConfig}
 use Rattle.movaliren_c.specs.declared.reason.Reason.{Reason}
 use Rattle.movaliren_c.specs.declared.reason.Reason.TheVariants as reason
@@ -9,6 +9,7 @@ use Rattle.time_below.specs.Moment.{OffsetDateAndTime}
 use Rattle.time_fmt.specs.Outcome.{Outcome}
 use Rattle.time_known.specs.Config.{Choices}
 use Rattle.time_known.specs.Iso8601.{iso8601_of}
+use Rattle.time_known.specs.UsualText.{usual_choices}
 use Rattle.time_known.specs.declared.iso8601.config.DateKind.{DateKind}
 use Rattle.time_known.specs.declared.iso8601.config.DateKind.TheVariants as kind
 use Rattle.time_known.specs.declared.iso8601.config.DecimalSign.{DecimalSign}
@@ -19,24 +20,15 @@ use Rattle.time_known.specs.declared.iso8601.config.OffsetPrecision.{OffsetPreci
 use Rattle.time_known.specs.declared.iso8601.config.OffsetPrecision.TheVariants as offset_precision
 use Rattle.time_known.specs.declared.iso8601.config.TimePrecision.{TimePrecision}
 use Rattle.time_known.specs.declared.iso8601.config.TimePrecision.TheVariants as precision
+use Rattle.time_known.specs.declared.iso8601.config.Usual.{Usual}
 
 abbrev pub components_at : ℕ → Result FormattedComponents Reason
 components_at n =
-    if n == 0 then Ok components.None
-    else (if n == 1 then Ok components.Date
-    else (if n == 2 then Ok components.Time
-    else (if n == 3 then Ok components.Offset
-    else (if n == 4 then Ok components.DateTime
-    else (if n == 5 then Ok components.DateTimeOffset
-    else (if n == 6 then Ok components.TimeOffset
-    else Err reason.BadConfig))))))
+    numbered 0 (components.None ∷ components.Date ∷ components.Time ∷ components.Offset ∷ components.DateTime ∷
+    components.DateTimeOffset ∷ components.TimeOffset ∷ []) reason.BadConfig n
 
 abbrev pub date_kind_at : ℕ → Result DateKind Reason
-date_kind_at n =
-    if n == 0 then Ok kind.Calendar
-    else (if n == 1 then Ok kind.Week
-    else (if n == 2 then Ok kind.Ordinal
-    else Err reason.BadConfig))
+date_kind_at n = numbered 0 (kind.Calendar ∷ kind.Week ∷ kind.Ordinal ∷ []) reason.BadConfig n
 
 -- none, or this many
 abbrev pub decimals_at : ℕ → Option ℕ
@@ -44,23 +36,13 @@ decimals_at n = if n == 0 then None else Some n
 
 abbrev pub precision_at : ℕ → Option ℕ → Result TimePrecision Reason
 precision_at n d =
-    if n == 0 then Ok (precision.Hour d)
-    else (if n == 1 then Ok (precision.Minute d)
-    else (if n == 2 then Ok (precision.Second d)
-    else Err reason.BadConfig))
+    numbered 0 (precision.Hour d ∷ precision.Minute d ∷ precision.Second d ∷ []) reason.BadConfig n
 
 abbrev pub offset_precision_at : ℕ → Result OffsetPrecision Reason
-offset_precision_at n =
-    if n == 0 then Ok offset_precision.Hour
-    else (if n == 1 then Ok offset_precision.Minute
-    else Err reason.BadConfig)
-
-abbrev pub flag_at : ℕ → Result Bool Reason
-flag_at n = if n == 0 then Ok false else (if n == 1 then Ok true else Err reason.BadConfig)
+offset_precision_at n = numbered 0 (offset_precision.Hour ∷ offset_precision.Minute ∷ []) reason.BadConfig n
 
 abbrev pub sign_at : ℕ → Result DecimalSign Reason
-sign_at n = if n == 0 then Ok sign.Point else (if n == 1 then Ok sign.Comma else Err
-    reason.BadConfig)
+sign_at n = numbered 0 (sign.Point ∷ sign.Comma ∷ []) reason.BadConfig n
 
 abbrev pub choices_at : IsoConfig → Result Choices Reason
 choices_at n =
@@ -68,8 +50,8 @@ choices_at n =
     with_value (date_kind_at n.date_kind) (λ date_kind.
     with_value (precision_at n.time_precision (decimals_at n.decimals)) (λ precision.
     with_value (offset_precision_at n.offset_precision) (λ offset_precision.
-    with_value (flag_at n.use_separators) (λ use_separators.
-    with_value (flag_at n.year_is_six_digits) (λ is_six_digits.
+    with_value (flag_at n.use_separators reason.BadConfig) (λ use_separators.
+    with_value (flag_at n.year_is_six_digits reason.BadConfig) (λ is_six_digits.
     with_value (sign_at n.comma) (λ sign.
     Ok (record {
       formatted_components = components;
@@ -80,6 +62,10 @@ choices_at n =
       offset_precision = offset_precision;
       decimal_sign = sign;
     }))))))))
+
+-- the usual choices with separators
+abbrev pub separated : Usual → Choices
+separated usual = usual_choices true usual.decimal_digits usual.decimal_sign
 
 -- the outcome of a value by a configuration, whose numbers are tested first
 unfoldable pub iso8601_by : IsoConfig → Result OffsetDateAndTime Reason → Result Outcome Reason

@@ -1,136 +1,95 @@
 -- What a description that crosses as data means: a tree for each item, or the reason why there is
 -- none.
-use Rattle.std.specs.Prelude.{ℕ, ◌≡◌, min, ◌+◌, ◌-◌, Bool, true, false, ◌==◌, ◌&&◌, nat_le, nat_lt, List, [], ◌∷◌, map}
-use Rattle.std.specs.Prelude.{length, slice_range, Result, Ok, Err, Vec, if◌then◌else◌}
-use Rattle.movaliren_c.specs.Value.{with_value}
+use Rattle.std.specs.Global.{Global}
+use Rattle.std.specs.Prelude.{ℕ, ◌≡◌, min, ◌+◌, ◌-◌, Bool, true, ◌==◌, ◌&&◌, nat_le, nat_lt, List, [], ◌∷◌, map, length}
+use Rattle.std.specs.Prelude.{slice_range, Result, Ok, Err, IsOkAnd, Vec, if◌then◌else◌}
+use Rattle.movaliren_c.specs.Answer.{IsText, IsTextInMemory, gives}
+use Rattle.movaliren_c.specs.Value.{flag_at, numbered, with_value}
 use Rattle.movaliren_c.specs.declared.item.Item.{Item}
-use Rattle.movaliren_c.specs.declared.reason.Reason.{Reason}
-use Rattle.movaliren_c.specs.declared.reason.Reason.TheVariants as reason
 use Rattle.movaliren_c.specs.declared.item.Part.{Part}
 use Rattle.movaliren_c.specs.declared.item.Part.TheVariants as part
-use Rattle.time_below.specs.Tree.{Tree, trees, byte_literal, of_component}
-use Rattle.time_fmt.specs.Outcome.{Appends}
-use Rattle.time_fmt.specs.Room.{HasRoom}
-use Rattle.time_fmt.specs.declared.error.Format.{Format}
-use Rattle.std.specs.Global.{Global}
+use Rattle.movaliren_c.specs.declared.reason.Reason.{Reason}
+use Rattle.movaliren_c.specs.declared.reason.Reason.TheVariants as reason
 use Rattle.time_below.specs.Facts.{Facts}
+use Rattle.time_below.specs.Tree.{Tree, trees, byte_literal, of_component}
 use Rattle.time_below.specs.Width.{trees_width}
-use Rattle.time_fmt.specs.Description.{trees_outcome}
-use Rattle.movaliren_c.specs.Answer.{IsText, IsTextInMemory, gives}
-use Rattle.time_fmt.specs.Outcome.{Outcome}
 use Rattle.time_below.specs.declared.format_description.component.Component.{Component}
 use Rattle.time_below.specs.declared.format_description.component.Component.TheVariants as component
 use Rattle.time_below.specs.declared.format_description.modifier.Padding.{Padding}
 use Rattle.time_below.specs.declared.format_description.modifier.Padding.TheVariants as padding
 use Rattle.time_below.specs.declared.format_description.modifier.SubsecondDigits.{SubsecondDigits}
 use Rattle.time_below.specs.declared.format_description.modifier.SubsecondDigits.TheVariants as digits
+use Rattle.time_fmt.specs.Description.{trees_outcome}
+use Rattle.time_fmt.specs.Outcome.{Appends, Outcome}
+use Rattle.time_fmt.specs.Room.{HasRoom}
+use Rattle.time_fmt.specs.declared.error.Format.{Format}
 
 abbrev pub padding_at : ℕ → Result Padding Reason
-padding_at n =
-    if n == 0 then Ok padding.Zero
-    else (if n == 1 then Ok padding.Space
-    else (if n == 2 then Ok padding.None
-    else Err reason.BadItem))
-
-abbrev pub choice_at : ℕ → Result Bool Reason
-choice_at n = if n == 0 then Ok false else (if n == 1 then Ok true else Err reason.BadItem)
+padding_at n = numbered 0 (padding.Zero ∷ padding.Space ∷ padding.None ∷ []) reason.BadItem n
 
 abbrev pub digits_at : ℕ → Result SubsecondDigits Reason
 digits_at n =
-    if n == 0 then Ok digits.OneOrMore
-    else (if n == 1 then Ok digits.One
-    else (if n == 2 then Ok digits.Two
-    else (if n == 3 then Ok digits.Three
-    else (if n == 4 then Ok digits.Four
-    else (if n == 5 then Ok digits.Five
-    else (if n == 6 then Ok digits.Six
-    else (if n == 7 then Ok digits.Seven
-    else (if n == 8 then Ok digits.Eight
-    else (if n == 9 then Ok digits.Nine
-    else Err reason.BadItem)))))))))
+    numbered 0 (digits.OneOrMore ∷ digits.One ∷ digits.Two ∷ digits.Three ∷ digits.Four ∷ digits.Five ∷ digits.Six ∷
+    digits.Seven ∷ digits.Eight ∷ digits.Nine ∷ []) reason.BadItem n
 
--- the components of a date, but for its year
-abbrev pub date_component : ℕ → Padding → Bool → SubsecondDigits → Result Component Reason
-date_component k p f d =
-    if k == 1 then Ok (component.Day (record { padding = p }))
-    else (if k == 2 then Ok (component.MonthShort (record { case_sensitive = true }))
-    else (if k == 3 then Ok (component.MonthLong (record { case_sensitive = true }))
-    else (if k == 4 then Ok (component.MonthNumerical (record { padding = p }))
-    else (if k == 5 then Ok (component.Ordinal (record { padding = p }))
-    else (if k == 6 then Ok (component.WeekdayShort (record { case_sensitive = true }))
-    else (if k == 7 then Ok (component.WeekdayLong (record { case_sensitive = true }))
-    else (if k == 8 then Ok (component.WeekdaySunday (record { one_indexed = f }))
-    else (if k == 9 then Ok (component.WeekdayMonday (record { one_indexed = f }))
-    else (if k == 10 then Ok (component.WeekNumberIso (record { padding = p }))
-    else (if k == 11 then Ok (component.WeekNumberSunday (record { padding = p }))
-    else (if k == 12 then Ok (component.WeekNumberMonday (record { padding = p }))
-    else Err reason.BadItem)))))))))))
+-- the components of a date, but for its year, in the order of their numbers
+abbrev pub date_component : ℕ → Padding → Bool → Result Component Reason
+date_component k p f = numbered 1 (
+    component.Day (record { padding = p })
+    ∷ component.MonthShort (record { case_sensitive = true })
+    ∷ component.MonthLong (record { case_sensitive = true })
+    ∷ component.MonthNumerical (record { padding = p })
+    ∷ component.Ordinal (record { padding = p })
+    ∷ component.WeekdayShort (record { case_sensitive = true })
+    ∷ component.WeekdayLong (record { case_sensitive = true })
+    ∷ component.WeekdaySunday (record { one_indexed = f })
+    ∷ component.WeekdayMonday (record { one_indexed = f })
+    ∷ component.WeekNumberIso (record { padding = p })
+    ∷ component.WeekNumberSunday (record { padding = p })
+    ∷ component.WeekNumberMonday (record { padding = p })
+    ∷ []) reason.BadItem k
 
 -- the components of a year
-abbrev pub year_component : ℕ → Padding → Bool → SubsecondDigits → Result Component Reason
-year_component k p f d =
-    if k == 13 then Ok (component.CalendarYearFullExtendedRange (record {
-      padding = p;
-      sign_is_mandatory = f;
-    }))
-    else (if k == 14 then Ok (component.CalendarYearFullStandardRange (record {
-      padding = p;
-      sign_is_mandatory = f;
-    }))
-    else (if k == 15 then Ok (component.CalendarYearCenturyExtendedRange (record {
-      padding = p;
-      sign_is_mandatory = f;
-    }))
-    else (if k == 16 then Ok (component.CalendarYearCenturyStandardRange (record {
-      padding = p;
-      sign_is_mandatory = f;
-    }))
-    else (if k == 17 then Ok (component.CalendarYearLastTwo (record { padding = p }))
-    else (if k == 18 then Ok (component.IsoYearFullExtendedRange (record {
-      padding = p;
-      sign_is_mandatory = f;
-    }))
-    else (if k == 19 then Ok (component.IsoYearFullStandardRange (record {
-      padding = p;
-      sign_is_mandatory = f;
-    }))
-    else (if k == 20 then Ok (component.IsoYearCenturyExtendedRange (record {
-      padding = p;
-      sign_is_mandatory = f;
-    }))
-    else (if k == 21 then Ok (component.IsoYearCenturyStandardRange (record {
-      padding = p;
-      sign_is_mandatory = f;
-    }))
-    else (if k == 22 then Ok (component.IsoYearLastTwo (record { padding = p }))
-    else Err reason.BadItem)))))))))
+abbrev pub year_component : ℕ → Padding → Bool → Result Component Reason
+year_component k p f = numbered 13 (
+    component.CalendarYearFullExtendedRange (record { padding = p; sign_is_mandatory = f })
+    ∷ component.CalendarYearFullStandardRange (record { padding = p; sign_is_mandatory = f })
+    ∷ component.CalendarYearCenturyExtendedRange (record { padding = p; sign_is_mandatory = f })
+    ∷ component.CalendarYearCenturyStandardRange (record { padding = p; sign_is_mandatory = f })
+    ∷ component.CalendarYearLastTwo (record { padding = p })
+    ∷ component.IsoYearFullExtendedRange (record { padding = p; sign_is_mandatory = f })
+    ∷ component.IsoYearFullStandardRange (record { padding = p; sign_is_mandatory = f })
+    ∷ component.IsoYearCenturyExtendedRange (record { padding = p; sign_is_mandatory = f })
+    ∷ component.IsoYearCenturyStandardRange (record { padding = p; sign_is_mandatory = f })
+    ∷ component.IsoYearLastTwo (record { padding = p })
+    ∷ []) reason.BadItem k
 
 -- the components of a time, an offset and a moment
 abbrev pub time_component : ℕ → Padding → Bool → SubsecondDigits → Result Component Reason
-time_component k p f d =
-    if k == 23 then Ok (component.Hour12 (record { padding = p }))
-    else (if k == 24 then Ok (component.Hour24 (record { padding = p }))
-    else (if k == 25 then Ok (component.Minute (record { padding = p }))
-    else (if k == 26 then Ok (component.Period (record { is_uppercase = f; case_sensitive = true }))
-    else (if k == 27 then Ok (component.Second (record { padding = p }))
-    else (if k == 28 then Ok (component.Subsecond (record { digits = d }))
-    else (if k == 29 then Ok (component.OffsetHour (record { padding = p; sign_is_mandatory = f }))
-    else (if k == 30 then Ok (component.OffsetMinute (record { padding = p }))
-    else (if k == 31 then Ok (component.OffsetSecond (record { padding = p }))
-    else (if k == 32 then Ok (component.UnixTimestampSecond (record { sign_is_mandatory = f }))
-    else (if k == 33 then Ok (component.UnixTimestampMillisecond (record { sign_is_mandatory = f }))
-    else Err reason.BadItem))))))))))
+time_component k p f d = numbered 23 (
+    component.Hour12 (record { padding = p })
+    ∷ component.Hour24 (record { padding = p })
+    ∷ component.Minute (record { padding = p })
+    ∷ component.Period (record { is_uppercase = f; case_sensitive = true })
+    ∷ component.Second (record { padding = p })
+    ∷ component.Subsecond (record { digits = d })
+    ∷ component.OffsetHour (record { padding = p; sign_is_mandatory = f })
+    ∷ component.OffsetMinute (record { padding = p })
+    ∷ component.OffsetSecond (record { padding = p })
+    ∷ component.UnixTimestampSecond (record { sign_is_mandatory = f })
+    ∷ component.UnixTimestampMillisecond (record { sign_is_mandatory = f })
+    ∷ []) reason.BadItem k
 
 -- the component of a number, with its padding, flag and decimals
 abbrev pub component_at : ℕ → Padding → Bool → SubsecondDigits → Result Component Reason
 component_at k p f d =
-    if nat_lt k 13 then date_component k p f d
-    else (if nat_lt k 23 then year_component k p f d else time_component k p f d)
+    if nat_lt k 13 then date_component k p f
+    else (if nat_lt k 23 then year_component k p f else time_component k p f d)
 
 abbrev pub component_of : Item → Result Component Reason
 component_of i =
     with_value (padding_at i.padding) (λ p.
-    with_value (choice_at i.flag) (λ f.
+    with_value (flag_at i.flag reason.BadItem) (λ f.
     with_value (digits_at i.digits) (λ d.
     component_at i.kind p f d)))
 
@@ -188,11 +147,10 @@ pub record IsDescribed {V : Type 0} (description : Result (List Tree) Reason) (v
 
 -- the description is valid, and the vector has capacity for its texts
 abbrev pub HasRoomFor : Vec ℕ Global → Result (List Tree) Reason → Type 0
-HasRoomFor output (Ok ts) = HasRoom output (trees_width (trees ts))
-HasRoomFor output (Err r) = ⊥
+HasRoomFor output description = IsOkAnd description (λ ts. HasRoom output (trees_width (trees ts)))
 
 -- what the description gives for these facts was appended
 abbrev pub IsAppended : Vec ℕ Global → Vec ℕ Global → Result ℕ Format → Result (List Tree) Reason
     → Facts → Type 0
-IsAppended old new answer (Ok ts) f = Appends old new answer (trees_outcome (trees ts) f)
-IsAppended old new answer (Err r) f = ⊥
+IsAppended old new answer description f =
+    IsOkAnd description (λ ts. Appends old new answer (trees_outcome (trees ts) f))

@@ -1,6 +1,6 @@
 -- Descriptions of usual items, whose texts are put straight into a buffer.
 use Rattle.std.specs.Prelude.{ℕ, ◌≡◌, ◌≤◌, Bool, true, false, ◌==◌, ◌&&◌, ◌||◌, List, Some, None}
-use Rattle.std.specs.Prelude.{Result, Ok, Err, pos, ◌≤ℤ◌, if◌then◌else◌}
+use Rattle.std.specs.Prelude.{Result, Ok, Err, IsOkAnd, pos, ◌≤ℤ◌, if◌then◌else◌}
 use Rattle.movaliren_c.specs.declared.item.Item.{Item}
 use Rattle.movaliren_c.specs.declared.reason.Reason.{Reason}
 use Rattle.time_below.specs.Facts.{Facts, date_facts}
@@ -58,31 +58,26 @@ IsShortYear v = (pos 0 ≤ℤ v.date.year) × (v.date.year ≤ℤ pos 9_999)
 
 -- an item that is there has this width
 abbrev pub HasWidth : ℕ → Result Tree Reason → Type 0
-HasWidth width (Ok t) = tree_width t ≡ width
-HasWidth width (Err r) = ⊥
+HasWidth width item = IsOkAnd item (λ t. tree_width t ≡ width)
 
 -- a description that is there has at most this width
 abbrev pub AllFit : ℕ → Result (List Tree) Reason → Type 0
-AllFit width (Ok ts) = trees_width (trees ts) ≤ width
-AllFit width (Err r) = ⊥
+AllFit width description = IsOkAnd description (λ ts. trees_width (trees ts) ≤ width)
 
 -- ---- texts
 
 -- an item that is there fits the sink
 abbrev pub FitsItem : Buffer → Result Tree Reason → Type 0
-FitsItem sink (Ok t) = Fits (tree_width t) sink
-FitsItem sink (Err r) = ⊥
+FitsItem sink item = IsOkAnd item (λ t. Fits (tree_width t) sink)
 
 -- a description that is there fits the sink
 abbrev pub FitsAll : Buffer → Result (List Tree) Reason → Type 0
-FitsAll sink (Ok ts) = Fits (trees_width (trees ts)) sink
-FitsAll sink (Err r) = ⊥
+FitsAll sink description = IsOkAnd description (λ ts. Fits (trees_width (trees ts)) sink)
 
 -- the whole text of an item was put
 abbrev pub PutsItem : Buffer → Buffer → Result Tree Reason → Facts → Type 0
-PutsItem old new (Ok t) f = ((tree_outcome t f).refusal ≡ None)
-    × PutsUpTo (tree_width t) old new (tree_outcome t f).bytes
-PutsItem old new (Err r) f = ⊥
+PutsItem old new item f =
+    IsOkAnd item (λ t. ((tree_outcome t f).refusal ≡ None) × PutsUpTo (tree_width t) old new (tree_outcome t f).bytes)
 
 -- the whole text of a description was put
 abbrev pub PutsAll : Buffer → Buffer → Result (List Tree) Reason → Facts → Type 0

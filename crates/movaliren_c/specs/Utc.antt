@@ -1,10 +1,10 @@
 -- The value that seconds since 1970 and a nanosecond give, in UTC or at an offset.
 use Rattle.std.specs.Prelude.{◌≡◌, ℕ, ◌/◌, ◌%◌, ℤ, ◌+ℤ◌, pos, unsigned_abs, nat_lt, int_lt, Result, Ok}
-use Rattle.movaliren_c.specs.Value.{checked, with_value, timestamp_value, stamp_value}
+use Rattle.movaliren_c.specs.Value.{checked, with_value, timestamp_value}
 use Rattle.movaliren_c.specs.declared.reason.Reason.{Reason}
 use Rattle.movaliren_c.specs.declared.reason.Reason.TheVariants as reason
 use Rattle.time_below.specs.Calendar.{IsDate}
-use Rattle.time_below.specs.Moment.{Moment, DateAndTime, OffsetDateAndTime, local_unix_seconds}
+use Rattle.time_below.specs.Moment.{Moment, DateAndTime, OffsetDateAndTime, local_unix_seconds, utc_date_and_time}
 use Rattle.time_below.specs.Offset.{Offset, IsOffset, offset_seconds, signed, utc}
 use Rattle.time_below.specs.TimeOfDay.{IsTimeOfDay}
 
@@ -15,7 +15,7 @@ with_offset o v = record { date = v.date; time = v.time; offset = o }
 -- the date and time so long after 1970, and this offset
 unfoldable pub value_at : ℤ → ℕ → Offset → Result OffsetDateAndTime Reason
 value_at seconds nanosecond o =
-    with_value (stamp_value seconds nanosecond) (λ v. Ok (with_offset o v))
+    with_value (timestamp_value seconds nanosecond) (λ m. Ok (with_offset o (utc_date_and_time m)))
 
 -- a moment in UTC
 abbrev pub utc_value : ℤ → ℕ → Result OffsetDateAndTime Reason

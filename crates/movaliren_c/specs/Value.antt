@@ -1,6 +1,6 @@
 -- The value that the parts of a moment give, or the first part that is outside its range.
-use Rattle.std.specs.Prelude.{ℕ, ℤ, Bool, ◌&&◌, nat_le, nat_lt, int_le, pos, neg_ℤ, unsigned_abs, Result, Ok, Err}
-use Rattle.std.specs.Prelude.{if◌then◌else◌}
+use Rattle.std.specs.Prelude.{ℕ, ◌+◌, ℤ, Bool, true, false, ◌&&◌, ◌==◌, nat_le, nat_lt, int_le, pos, neg_ℤ, unsigned_abs, List, [], ◌∷◌}
+use Rattle.std.specs.Prelude.{Result, Ok, Err, if◌then◌else◌}
 use Rattle.movaliren_c.specs.declared.reason.Reason.{Reason}
 use Rattle.movaliren_c.specs.declared.reason.Reason.TheVariants as reason
 use Rattle.movaliren_c.specs.declared.moment.Moment.{Moment}
@@ -18,6 +18,15 @@ checked test r rest = if test then rest else Err r
 abbrev pub with_value : {A B : Type 0} → Result A Reason → (A → Result B Reason) → Result B Reason
 with_value (Ok value) next = next value
 with_value (Err r) next = Err r
+
+-- the value of a number, where the values are counted on from the first
+abbrev pub numbered : {A : Type 0} → ℕ → List A → Reason → ℕ → Result A Reason
+numbered first [] r n = Err r
+numbered first (value ∷ rest) r n = if n == first then Ok value else numbered (first + 1) rest r n
+
+-- whether a flag is set
+abbrev pub flag_at : ℕ → Reason → Result Bool Reason
+flag_at n r = numbered 0 (false ∷ true ∷ []) r n
 
 abbrev pub date_value : ℤ → ℕ → ℕ → Result OrdinalDate Reason
 date_value year month day =
@@ -72,5 +81,5 @@ timestamp_value seconds nanosecond =
 
 -- its date and time in UTC
 abbrev pub stamp_value : ℤ → ℕ → Result DateAndTime Reason
-stamp_value seconds nanosecond = with_value (timestamp_value seconds nanosecond) (λ m. Ok
-    (utc_date_and_time m))
+stamp_value seconds nanosecond =
+    with_value (timestamp_value seconds nanosecond) (λ m. Ok (utc_date_and_time m))

@@ -21,28 +21,24 @@ pub struct Progress {
 pub fn write_lines<W: Writer>(writer: &W, items: &[W::Item], end: u8, room: &mut [u8]) -> Progress
     ensures { IsBatch items.now end (W.asked writer.now) result room.old room.new }
 {
-    let mut bytes = 0usize;
-    let mut done = 0usize;
+    let mut progress = Progress {
+        moments: 0,
+        bytes: 0,
+        reason: 0,
+    };
     for item in items {
-        match write_line_after(writer, item, end, room, bytes) {
+        match write_line_after(writer, item, end, room, progress.bytes) {
             Ok(count) => {
-                bytes += count;
-                done += 1;
+                progress.bytes += count;
+                progress.moments += 1;
             }
             Err(reason) => {
-                return Progress {
-                    moments: done,
-                    bytes,
-                    reason: answer_number(Err(reason)),
-                };
+                progress.reason = answer_number(Err(reason));
+                return progress;
             }
         }
     }
-    Progress {
-        moments: done,
-        bytes,
-        reason: 0,
-    }
+    progress
 }
 
 /// Writes the line of the item after this many bytes of the buffer.

@@ -5,8 +5,8 @@ ghost use Rattle.time_below.specs.Facts.{Facts, facts_of_date, facts_of_offset_d
 
 use crate::calendar_date::CalendarDate;
 use crate::kept_offset::KeptOffset;
-use crate::moment::LocalMoment;
-use time_below::{Date, OffsetDateTime, Timestamp, UtcDateTime};
+use crate::moment::{LocalMoment, in_utc};
+use time_below::{Date, OffsetDateTime, Timestamp};
 use time_provide::ComponentProvider;
 
 /// A value from C, and the formatter's value that shows the same.
@@ -54,10 +54,7 @@ impl DescribedValue<Timestamp> for Timestamp {
     #[tactic(auto, using(crate::proofs::ShortLineLemmas::facts_in_utc))]
     fn local(&self) -> LocalMoment {
         let _in_range = self.as_seconds();
-        LocalMoment::with_offset(
-            UtcDateTime::new(self.date(), self.time()),
-            KeptOffset::utc(),
-        )
+        LocalMoment::with_offset(in_utc(*self), KeptOffset::utc())
     }
 
     fn provided(&self) -> Timestamp {

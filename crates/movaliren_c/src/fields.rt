@@ -4,11 +4,10 @@ ghost use Rattle.time_below.specs.Calendar.{day_of, month_of};
 ghost use Rattle.time_below.specs.Facts.{date_facts, facts_of_offset_date_time};
 ghost use Rattle.time_fmt.specs.Outcome.{done};
 ghost use Rattle.time_known.specs.Accepted.{checked_text, refused_for};
-ghost use Rattle.time_known.specs.Fields.{fields, offset_fields, shown, time_fields};
+ghost use Rattle.time_known.specs.Fields.{fields, shown, time_fields};
 ghost use Rattle.time_known.specs.Iso8601Parts.{chosen_parts, date_parts};
 
 use crate::calendar_date::CalendarDate;
-use crate::kept_offset::KeptOffset;
 use crate::moment::LocalMoment;
 use time_below::Time;
 use time_digits::{ri32, ru8, ru16, ru32};
@@ -35,8 +34,14 @@ pub fn accepted_year_of(
         ≡ refused_for component) }
     ensures hours { unsigned_abs value.now.offset.hours ≤ 25 }
 {
-    let (hours, _, seconds) = value.offset().sizes();
-    accepted_year(first, greatest_hour, value.date().year(), hours, seconds)
+    let OffsetFields { hours, seconds, .. } = value.offset().fields();
+    accepted_year(
+        first,
+        greatest_hour,
+        value.date().year(),
+        hours.get(),
+        seconds.get(),
+    )
 }
 
 /// The fields of a value of this year.
@@ -49,7 +54,7 @@ pub fn fields_of(year: ru16<0, 9_999>, value: &LocalMoment) -> Fields
         year,
         date: calendar_day(value.date()),
         time: time_of(value.time()),
-        offset: offset_of(value.offset()),
+        offset: value.offset().fields(),
     }
 }
 
@@ -75,22 +80,6 @@ pub fn time_of(time: Time) -> TimeFields
         minute: ru8::within(minute),
         second: ru8::within(second),
         nanosecond: ru32::within(nanosecond),
-    }
-}
-
-/// The fields of an offset.
-#[inline(always)]
-pub fn offset_of(offset: &KeptOffset) -> OffsetFields
-    ensures { result ≡ offset_fields offset.now }
-{
-    let (is_utc, is_negative) = (offset.is_utc(), offset.is_negative());
-    let (hours, minutes, seconds) = offset.sizes();
-    OffsetFields {
-        is_utc,
-        is_negative,
-        hours: ru8::within(hours),
-        minutes: ru8::within(minutes),
-        seconds: ru8::within(seconds),
     }
 }
 
@@ -127,20 +116,10 @@ fn date_of(kind: DateKind, date: CalendarDate) -> DateParts
 pub fn parts_of(config: &Config, value: &LocalMoment) -> Parts
     ensures { result ≡ chosen_parts config.now (facts_of_offset_date_time value.now) }
 {
-    let date = if config.has_date() {
-        Some(date_of(config.date_kind(), value.date()))
-    } else {
-        None
-    };
-    let time = if config.has_time() {
-        Some(time_of(value.time()))
-    } else {
-        None
-    };
-    let offset = if config.has_offset() {
-        Some(offset_of(value.offset()))
-    } else {
-        None
-    };
+    let date = config
+        .has_date()
+        .then(|| date_of(config.date_kind(), value.date()));
+    let time = config.has_time().then(|| time_of(value.time()));
+    let offset = config.has_offset().then(|| value.offset().fields());
     Parts { date, time, offset }
 }

@@ -1,8 +1,8 @@
 //! ISO 8601-1:2019, by its default configuration and by any other.
-ghost use Rattle.std.specs.Prelude.{◌≡◌, ◌≤◌, IfErr, IfOk, Ok, length, true};
+ghost use Rattle.std.specs.Prelude.{◌≡◌, ◌≤◌, IfErr, IfOk, Ok, length};
 ghost use Rattle.movaliren_c.specs.Answer.{IsAnswer, IsRefusedFor, IsText, IsWritten, gives};
 ghost use Rattle.movaliren_c.specs.Batch.{IsBatch};
-ghost use Rattle.movaliren_c.specs.Chosen.{choices_at, iso8601_by};
+ghost use Rattle.movaliren_c.specs.Chosen.{choices_at, iso8601_by, separated};
 ghost use Rattle.movaliren_c.specs.Utc.{utc_value};
 ghost use Rattle.movaliren_c.specs.Value.{moment_value};
 ghost use Rattle.time_fmt.specs.Outcome.{done};
@@ -10,7 +10,6 @@ ghost use Rattle.time_known.specs.Config.{default_choices};
 ghost use Rattle.time_known.specs.Iso8601.{iso8601_of};
 ghost use Rattle.time_known.specs.Iso8601Parts.{parts_text, parts_width};
 ghost use Rattle.time_known.specs.Iso8601Width.{iso8601_width};
-ghost use Rattle.time_known.specs.UsualText.{usual_choices};
 
 mod config;
 
@@ -57,11 +56,10 @@ impl Format for Iso8601 {
 #[inline(always)]
 fn separated_text(usual: &Usual, value: &LocalMoment) -> Result<SeparatedText, Reason>
     ensures chosen { IfOk result (λ t. t.usual ≡ usual.now) }
-    ensures text { IfOk result (λ t. iso8601_of
-        (usual_choices true usual.now.decimal_digits usual.now.decimal_sign) value.now
+    ensures text { IfOk result (λ t. iso8601_of (separated usual.now) value.now
         ≡ done (⟦<SeparatedText as Text>⟧.text t)) }
-    ensures refused { IfErr result (λ r. IsRefusedFor r (iso8601_of
-        (usual_choices true usual.now.decimal_digits usual.now.decimal_sign) value.now)) }
+    ensures refused { IfErr result (λ r. IsRefusedFor r
+        (iso8601_of (separated usual.now) value.now)) }
 {
     match accepted_year_of(0, 25, value) {
         Ok(year) => {
@@ -130,10 +128,14 @@ impl<S: Source> Writer for Iso8601By<S> {
 
     ghost asked = { λ by item. iso8601_by by.config (S.given by.source item) };
 
+    #[tactic(auto, unfolding(crate::specs::Chosen::iso8601_by))]
     fn write(&self, item: &S::Item, room: &mut [u8]) -> Result<usize, Reason> {
         match separated_config_at(&self.config) {
-            Some(usual) if room.len() >= usual.width() => write_usual(&usual, self, item, room),
-            _ => write_by(self, item, room),
+            Some(usual) if room.len() >= usual.width() => match self.source.value(item) {
+                Ok(value) => self.put_usual(&usual, &value, room),
+                Err(reason) => Err(reason),
+            },
+            _ => self.write_by(item, room),
         }
     }
 }
@@ -206,29 +208,6 @@ pub extern "C" fn movaliren_iso8601_by_utc_batch(
     write_lines(&iso8601_by(config, InUtc), moments, end, room)
 }
 
-/// Writes the text of the item by a usual configuration with separators to the start of a buffer that
-/// holds each of its texts.
-#[inline(always)]
-#[tactic(auto, unfolding(crate::specs::Chosen::iso8601_by))]
-fn write_usual<S: Source>(
-    usual: &Usual,
-    by: &Iso8601By<S>,
-    item: &S::Item,
-    room: &mut [u8],
-) -> Result<usize, Reason>
-    requires chosen { choices_at by.now.config
-        ≡ Ok (usual_choices true usual.now.decimal_digits usual.now.decimal_sign) }
-    requires room { iso8601_width
-        (usual_choices true usual.now.decimal_digits usual.now.decimal_sign) ≤ length room.old }
-    ensures { IsText (iso8601_by by.now.config (S.given by.now.source item.now))
-        result room.old room.new }
-{
-    match by.source.value(item) {
-        Ok(value) => by.put_usual(usual, &value, room),
-        Err(reason) => Err(reason),
-    }
-}
-
 impl<S: Source> Iso8601By<S> {
     /// Puts the text of the value by such choices with separators at the start of the buffer. Each
     /// source has one call of a function of its own, so that the compiler can inline it.
@@ -239,33 +218,30 @@ impl<S: Source> Iso8601By<S> {
         value: &LocalMoment,
         room: &mut [u8],
     ) -> Result<usize, Reason>
-        requires room { iso8601_width
-            (usual_choices true usual.now.decimal_digits usual.now.decimal_sign)
-            ≤ length room.old }
-        ensures { IsWritten result
-            (iso8601_of (usual_choices true usual.now.decimal_digits usual.now.decimal_sign)
-            value.now) room.old room.new }
+        requires room { iso8601_width (separated usual.now) ≤ length room.old }
+        ensures { IsWritten result (iso8601_of (separated usual.now) value.now)
+            room.old room.new }
     {
         match separated_text(usual, value) {
             Ok(text) => Ok(put_at_start(&text, room)),
             Err(reason) => Err(reason),
         }
     }
-}
 
-/// Writes the text of the item by any configuration to the start of the buffer.
-#[inline(never)]
-#[tactic(auto, unfolding(crate::specs::Chosen::iso8601_by))]
-fn write_by<S: Source>(by: &Iso8601By<S>, item: &S::Item, room: &mut [u8]) -> Result<usize, Reason>
-    ensures { IsText (iso8601_by by.now.config (S.given by.now.source item.now))
-        result room.old room.new }
-{
-    match config_at(&by.config) {
-        Ok(config) => match by.source.value(item) {
-            Ok(value) => copy_by(&config, &value, room),
+    /// Writes the text of the item by any configuration to the start of the buffer.
+    #[inline(never)]
+    #[tactic(auto, unfolding(crate::specs::Chosen::iso8601_by))]
+    fn write_by(&self, item: &S::Item, room: &mut [u8]) -> Result<usize, Reason>
+        ensures { IsText (iso8601_by self.now.config (S.given self.now.source item.now))
+            result room.old room.new }
+    {
+        match config_at(&self.config) {
+            Ok(config) => match self.source.value(item) {
+                Ok(value) => copy_by(&config, &value, room),
+                Err(reason) => Err(reason),
+            },
             Err(reason) => Err(reason),
-        },
-        Err(reason) => Err(reason),
+        }
     }
 }
 
@@ -286,7 +262,7 @@ fn copy_by(config: &Config, value: &LocalMoment, room: &mut [u8]) -> Result<usiz
 /// Writes the text of the parts by way of an array. No text has more bytes: 13 of the date, 265 of the
 /// time and 6 of the offset.
 #[inline(always)]
-#[tactic(auto, using(crate::proofs::PushLemmas::copied_whole))]
+#[tactic(auto, using(crate::proofs::AnswerLemmas::copied_whole))]
 fn copy_parts(config: &Config, parts: &Parts, room: &mut [u8]) -> Result<usize, Reason>
     requires width { parts_width config.now parts.now ≤ 284 }
     ensures { IsWritten result (parts_text config.now parts.now) room.old room.new }

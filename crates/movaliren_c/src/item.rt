@@ -1,8 +1,8 @@
 //! The items of a description, as C passes them.
 ghost use Rattle.std.specs.Prelude.{◌≡◌};
-ghost use Rattle.movaliren_c.specs.Items.{padding_at, choice_at, digits_at, date_component, year_component, time_component, component_at, component_of, item_tree, tree_of};
+ghost use Rattle.movaliren_c.specs.Items.{padding_at, digits_at, date_component, year_component, time_component, component_at, component_of, item_tree, tree_of};
 
-use crate::reason::Reason;
+use crate::reason::{Reason, flag_at};
 use time_below::format_description::modifier::{Padding, SubsecondDigits};
 use time_below::format_description::{Component, modifier};
 
@@ -26,6 +26,11 @@ pub enum Part<'a> {
     Component(Component),
 }
 
+/// A component with choices of these names.
+macro_rules! component {
+    ($name:ident: $($choice:ident),+) => { Ok(Component::$name(modifier::$name { $($choice),+ })) };
+}
+
 fn padding_at(number: u8) -> Result<Padding, Reason>
     ensures { result ≡ padding_at number }
 {
@@ -33,16 +38,6 @@ fn padding_at(number: u8) -> Result<Padding, Reason>
         0 => Ok(Padding::Zero),
         1 => Ok(Padding::Space),
         2 => Ok(Padding::None),
-        _ => Err(Reason::BadItem),
-    }
-}
-
-fn choice_at(number: u8) -> Result<bool, Reason>
-    ensures { result ≡ choice_at number }
-{
-    match number {
-        0 => Ok(false),
-        1 => Ok(true),
         _ => Err(Reason::BadItem),
     }
 }
@@ -66,91 +61,42 @@ fn digits_at(number: u8) -> Result<SubsecondDigits, Reason>
 }
 
 /// The components of a date, but for its year.
-fn date_component(
-    kind: u32,
-    padding: Padding,
-    flag: bool,
-    digits: SubsecondDigits,
-) -> Result<Component, Reason>
-    ensures { result ≡ date_component kind padding flag digits }
+fn date_component(kind: u32, padding: Padding, one_indexed: bool) -> Result<Component, Reason>
+    ensures { result ≡ date_component kind padding one_indexed }
 {
+    let case_sensitive = true;
     match kind {
-        1 => Ok(Component::Day(modifier::Day { padding })),
-        2 => Ok(Component::MonthShort(modifier::MonthShort {
-            case_sensitive: true,
-        })),
-        3 => Ok(Component::MonthLong(modifier::MonthLong {
-            case_sensitive: true,
-        })),
-        4 => Ok(Component::MonthNumerical(modifier::MonthNumerical { padding })),
-        5 => Ok(Component::Ordinal(modifier::Ordinal { padding })),
-        6 => Ok(Component::WeekdayShort(modifier::WeekdayShort {
-            case_sensitive: true,
-        })),
-        7 => Ok(Component::WeekdayLong(modifier::WeekdayLong {
-            case_sensitive: true,
-        })),
-        8 => Ok(Component::WeekdaySunday(modifier::WeekdaySunday { one_indexed: flag })),
-        9 => Ok(Component::WeekdayMonday(modifier::WeekdayMonday { one_indexed: flag })),
-        10 => Ok(Component::WeekNumberIso(modifier::WeekNumberIso { padding })),
-        11 => Ok(Component::WeekNumberSunday(modifier::WeekNumberSunday { padding })),
-        12 => Ok(Component::WeekNumberMonday(modifier::WeekNumberMonday { padding })),
+        1 => component!(Day: padding),
+        2 => component!(MonthShort: case_sensitive),
+        3 => component!(MonthLong: case_sensitive),
+        4 => component!(MonthNumerical: padding),
+        5 => component!(Ordinal: padding),
+        6 => component!(WeekdayShort: case_sensitive),
+        7 => component!(WeekdayLong: case_sensitive),
+        8 => component!(WeekdaySunday: one_indexed),
+        9 => component!(WeekdayMonday: one_indexed),
+        10 => component!(WeekNumberIso: padding),
+        11 => component!(WeekNumberSunday: padding),
+        12 => component!(WeekNumberMonday: padding),
         _ => Err(Reason::BadItem),
     }
 }
 
 /// The components of a year.
-fn year_component(
-    kind: u32,
-    padding: Padding,
-    flag: bool,
-    digits: SubsecondDigits,
-) -> Result<Component, Reason>
-    ensures { result ≡ year_component kind padding flag digits }
+fn year_component(kind: u32, padding: Padding, sign_is_mandatory: bool) -> Result<Component, Reason>
+    ensures { result ≡ year_component kind padding sign_is_mandatory }
 {
     match kind {
-        13 => Ok(Component::CalendarYearFullExtendedRange(
-            modifier::CalendarYearFullExtendedRange {
-                padding,
-                sign_is_mandatory: flag,
-            },
-        )),
-        14 => Ok(Component::CalendarYearFullStandardRange(
-            modifier::CalendarYearFullStandardRange {
-                padding,
-                sign_is_mandatory: flag,
-            },
-        )),
-        15 => Ok(Component::CalendarYearCenturyExtendedRange(
-            modifier::CalendarYearCenturyExtendedRange {
-                padding,
-                sign_is_mandatory: flag,
-            },
-        )),
-        16 => Ok(Component::CalendarYearCenturyStandardRange(
-            modifier::CalendarYearCenturyStandardRange {
-                padding,
-                sign_is_mandatory: flag,
-            },
-        )),
-        17 => Ok(Component::CalendarYearLastTwo(modifier::CalendarYearLastTwo { padding })),
-        18 => Ok(Component::IsoYearFullExtendedRange(modifier::IsoYearFullExtendedRange {
-            padding,
-            sign_is_mandatory: flag,
-        })),
-        19 => Ok(Component::IsoYearFullStandardRange(modifier::IsoYearFullStandardRange {
-            padding,
-            sign_is_mandatory: flag,
-        })),
-        20 => Ok(Component::IsoYearCenturyExtendedRange(modifier::IsoYearCenturyExtendedRange {
-            padding,
-            sign_is_mandatory: flag,
-        })),
-        21 => Ok(Component::IsoYearCenturyStandardRange(modifier::IsoYearCenturyStandardRange {
-            padding,
-            sign_is_mandatory: flag,
-        })),
-        22 => Ok(Component::IsoYearLastTwo(modifier::IsoYearLastTwo { padding })),
+        13 => component!(CalendarYearFullExtendedRange: padding, sign_is_mandatory),
+        14 => component!(CalendarYearFullStandardRange: padding, sign_is_mandatory),
+        15 => component!(CalendarYearCenturyExtendedRange: padding, sign_is_mandatory),
+        16 => component!(CalendarYearCenturyStandardRange: padding, sign_is_mandatory),
+        17 => component!(CalendarYearLastTwo: padding),
+        18 => component!(IsoYearFullExtendedRange: padding, sign_is_mandatory),
+        19 => component!(IsoYearFullStandardRange: padding, sign_is_mandatory),
+        20 => component!(IsoYearCenturyExtendedRange: padding, sign_is_mandatory),
+        21 => component!(IsoYearCenturyStandardRange: padding, sign_is_mandatory),
+        22 => component!(IsoYearLastTwo: padding),
         _ => Err(Reason::BadItem),
     }
 }
@@ -164,28 +110,19 @@ fn time_component(
 ) -> Result<Component, Reason>
     ensures { result ≡ time_component kind padding flag digits }
 {
+    let (is_uppercase, sign_is_mandatory, case_sensitive) = (flag, flag, true);
     match kind {
-        23 => Ok(Component::Hour12(modifier::Hour12 { padding })),
-        24 => Ok(Component::Hour24(modifier::Hour24 { padding })),
-        25 => Ok(Component::Minute(modifier::Minute { padding })),
-        26 => Ok(Component::Period(modifier::Period {
-            is_uppercase: flag,
-            case_sensitive: true,
-        })),
-        27 => Ok(Component::Second(modifier::Second { padding })),
-        28 => Ok(Component::Subsecond(modifier::Subsecond { digits })),
-        29 => Ok(Component::OffsetHour(modifier::OffsetHour {
-            padding,
-            sign_is_mandatory: flag,
-        })),
-        30 => Ok(Component::OffsetMinute(modifier::OffsetMinute { padding })),
-        31 => Ok(Component::OffsetSecond(modifier::OffsetSecond { padding })),
-        32 => Ok(Component::UnixTimestampSecond(modifier::UnixTimestampSecond {
-            sign_is_mandatory: flag,
-        })),
-        33 => Ok(Component::UnixTimestampMillisecond(modifier::UnixTimestampMillisecond {
-            sign_is_mandatory: flag,
-        })),
+        23 => component!(Hour12: padding),
+        24 => component!(Hour24: padding),
+        25 => component!(Minute: padding),
+        26 => component!(Period: is_uppercase, case_sensitive),
+        27 => component!(Second: padding),
+        28 => component!(Subsecond: digits),
+        29 => component!(OffsetHour: padding, sign_is_mandatory),
+        30 => component!(OffsetMinute: padding),
+        31 => component!(OffsetSecond: padding),
+        32 => component!(UnixTimestampSecond: sign_is_mandatory),
+        33 => component!(UnixTimestampMillisecond: sign_is_mandatory),
         _ => Err(Reason::BadItem),
     }
 }
@@ -200,10 +137,10 @@ fn component_at(
     ensures { result ≡ component_at kind padding flag digits }
 {
     if kind < 13 {
-        return date_component(kind, padding, flag, digits);
+        return date_component(kind, padding, flag);
     }
     if kind < 23 {
-        return year_component(kind, padding, flag, digits);
+        return year_component(kind, padding, flag);
     }
     time_component(kind, padding, flag, digits)
 }
@@ -213,7 +150,7 @@ fn component_of(item: &Item) -> Result<Component, Reason>
     ensures { result ≡ component_of item.now }
 {
     let padding = padding_at(item.padding)?;
-    let flag = choice_at(item.flag)?;
+    let flag = flag_at(item.flag, Reason::BadItem)?;
     let digits = digits_at(item.digits)?;
     component_at(item.kind, padding, flag, digits)
 }

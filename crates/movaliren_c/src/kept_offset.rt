@@ -1,13 +1,16 @@
 //! Offsets that keep the parts of their arguments.
 ghost use Rattle.std.specs.Prelude.{◌≡◌, ◌<◌, ◌≤◌, IfOk, unsigned_abs};
-ghost use Rattle.time_below.specs.Offset.{is_negative, is_utc, signed, utc};
+ghost use Rattle.time_below.specs.Offset.{is_negative, signed, utc};
 ghost use Rattle.movaliren_c.specs.Utc.{east_value};
 ghost use Rattle.movaliren_c.specs.Value.{offset_part, offset_value};
+ghost use Rattle.time_known.specs.Fields.{offset_fields};
 
 use crate::moment::Moment;
 use crate::reason::Reason;
 use std::marker::Model;
 use time_below::UtcOffset;
+use time_digits::ru8;
+use time_known::fields::OffsetFields;
 
 /// An offset from UTC by its parts, whose signs may differ. Its value is the offset that these
 /// settle to: each part keeps its size, and the largest that is not zero its sign.
@@ -99,34 +102,24 @@ impl KeptOffset {
         }
     }
 
-    /// The sizes of the hours, at most 25, and of the minutes and the seconds, at most 59.
+    /// The fields of the offset.
     #[inline(always)]
     #[tactic(auto, using(crate::proofs::OffsetLemmas::settled_sizes))]
-    pub fn sizes(&self) -> (u8, u8, u8)
-        ensures hours { result.0 ≡ unsigned_abs self.now.hours }
-        ensures minutes { result.1 ≡ unsigned_abs self.now.minutes }
-        ensures seconds { result.2 ≡ unsigned_abs self.now.seconds }
-        ensures ranges { (result.0 ≤ 25) × (result.1 ≤ 59) × (result.2 ≤ 59) }
+    pub fn fields(&self) -> OffsetFields
+        ensures { result ≡ offset_fields self.now }
     {
-        (
-            self.hours.unsigned_abs(),
-            self.minutes.unsigned_abs(),
-            self.seconds.unsigned_abs(),
-        )
-    }
-
-    /// Whether all parts are zero.
-    #[inline(always)]
-    #[tactic(auto, using(crate::proofs::OffsetLemmas::settled_sizes))]
-    pub fn is_utc(&self) -> bool
-        ensures { result ≡ is_utc self.now }
-    {
-        self.hours == 0 && self.minutes == 0 && self.seconds == 0
+        OffsetFields {
+            is_utc: self.hours == 0 && self.minutes == 0 && self.seconds == 0,
+            is_negative: self.is_negative(),
+            hours: ru8::within(self.hours.unsigned_abs()),
+            minutes: ru8::within(self.minutes.unsigned_abs()),
+            seconds: ru8::within(self.seconds.unsigned_abs()),
+        }
     }
 
     /// Whether some part is below zero, which is whether the first that is not zero is.
     #[inline(always)]
-    pub fn is_negative(&self) -> bool
+    fn is_negative(&self) -> bool
         ensures { result ≡ is_negative self.now }
     {
         if self.hours != 0 {

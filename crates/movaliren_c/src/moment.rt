@@ -1,7 +1,8 @@
 //! Moments in the interface, and the values that they give.
 ghost use Rattle.std.specs.Prelude.{◌≡◌};
 ghost use Rattle.movaliren_c.specs.Utc.{value_at, with_offset};
-ghost use Rattle.movaliren_c.specs.Value.{time_value, moment_value, timestamp_value, stamp_value};
+ghost use Rattle.movaliren_c.specs.Value.{time_value, moment_value, timestamp_value};
+ghost use Rattle.time_below.specs.Moment.{utc_date_and_time};
 
 use crate::calendar_date::CalendarDate;
 use crate::kept_offset::KeptOffset;
@@ -167,11 +168,10 @@ pub fn timestamp_value(seconds: i64, nanosecond: u32) -> Result<Timestamp, Reaso
 }
 
 /// The date and time in UTC of a moment.
-pub fn stamp_value(seconds: i64, nanosecond: u32) -> Result<UtcDateTime, Reason>
-    ensures { result ≡ stamp_value seconds nanosecond }
+pub fn in_utc(moment: Timestamp) -> UtcDateTime
+    ensures { result ≡ utc_date_and_time moment }
 {
-    let moment = timestamp_value(seconds, nanosecond)?;
-    Ok(UtcDateTime::new(moment.date(), moment.time()))
+    UtcDateTime::new(moment.date(), moment.time())
 }
 
 /// The date and time this long after 1970, with this offset.
@@ -180,8 +180,8 @@ pub fn stamp_value(seconds: i64, nanosecond: u32) -> Result<UtcDateTime, Reason>
 pub fn value_at(seconds: i64, nanosecond: u32, offset: KeptOffset) -> Result<LocalMoment, Reason>
     ensures { result ≡ value_at seconds nanosecond offset }
 {
-    match stamp_value(seconds, nanosecond) {
-        Ok(value) => Ok(LocalMoment::with_offset(value, offset)),
+    match timestamp_value(seconds, nanosecond) {
+        Ok(moment) => Ok(LocalMoment::with_offset(in_utc(moment), offset)),
         Err(reason) => Err(reason),
     }
 }

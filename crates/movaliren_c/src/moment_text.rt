@@ -7,7 +7,7 @@ ghost use Rattle.time_fmt.specs.Outcome.{Outcome, done};
 use crate::moment::{LocalMoment, UtcMoment};
 use crate::reason::{Reason, answer_number};
 use crate::room::copy_text;
-use crate::sinks::{ArraySink, RoomSink};
+use crate::sinks::RoomSink;
 use crate::source::Source;
 use crate::writer::Writer;
 use time_known::sink::Text;
@@ -84,10 +84,11 @@ impl<F: Format, S: Source> Texts<F, S> {
         ensures { IsText (gives (S.given self.now.source item.now) (F.outcome self.now.format))
             result room.old room.new }
     {
-        match self.source.value(item) {
-            Ok(value) => copy_value(self.format, &value, room),
-            Err(reason) => Err(reason),
-        }
+        let value = self.source.value(item)?;
+        let text = self.format.text(&value)?;
+        let mut line = [0u8; 35];
+        let count = put_at_start(&text, &mut line);
+        copy_text(&line[..count], room)
     }
 }
 
@@ -95,6 +96,7 @@ impl<F: Format, S: Source> Texts<F, S> {
 #[inline(always)]
 pub fn put_at_start<T: Text>(text: &T, room: &mut [u8]) -> usize
     requires room { T.width text.now ≤ length room.old }
+    ensures fits { result ≤ length room.old }
     ensures count { result ≡ length (T.text text.now) }
     ensures text { room.new
         ≡ T.text text.now ++ drop (length (T.text text.now)) room.old }
@@ -110,25 +112,12 @@ fn put_into_empty<T: Text>(sink: &mut RoomSink<'_>, text: &T)
     requires empty { sink.old.len ≡ 0 }
     requires room { T.width text.now ≤ length sink.old.room.now }
     ensures same_reference { sink.new.room.ghost_name ≡ sink.old.room.ghost_name }
+    ensures fits { sink.new.len ≤ length sink.old.room.now }
     ensures count { sink.new.len ≡ length (T.text text.now) }
     ensures text { sink.new.room.now
         ≡ T.text text.now ++ drop (length (T.text text.now)) sink.old.room.now }
 {
     text.put_into(sink);
-}
-
-/// Writes the text of the value to the start of a buffer that may be too small.
-fn copy_value<F: Format>(format: F, value: &LocalMoment, room: &mut [u8]) -> Result<usize, Reason>
-    ensures { IsWritten result (F.outcome format value.now) room.old room.new }
-{
-    match format.text(value) {
-        Ok(text) => {
-            let mut line = ArraySink::<35>::new();
-            text.put_into(&mut line);
-            copy_text(line.as_bytes(), room)
-        }
-        Err(reason) => Err(reason),
-    }
 }
 
 /// Answers for a moment by its seconds since 1970 and its nanosecond.

@@ -1,89 +1,67 @@
 //! Why a call gives no text.
 ghost use Rattle.std.specs.Prelude.{◌≡◌, ◌<◌, IfOk};
 ghost use Rattle.movaliren_c.specs.Answer.{answer_number, reason_number, IsReasonFor, Refuses};
+ghost use Rattle.movaliren_c.specs.Value.{flag_at};
 ghost use Rattle.time_fmt.specs.Outcome.{invalid_component};
 ghost use Rattle.time_known.specs.Accepted.{component_name};
 
 use time_fmt::Format;
 use time_known::accepted::OutOfRange;
 
-/// The reason why there is no text.
+/// The reason why there is no text. A call returns its number, below zero.
 #[derive(Clone, Copy)]
 pub enum Reason {
     /// The year is outside -999,999 to 999,999.
-    Year,
+    Year = 1,
     /// The month is outside 1 to 12.
-    Month,
+    Month = 2,
     /// The month of that year has no such day.
-    Day,
+    Day = 3,
     /// The hour is outside 0 to 23.
-    Hour,
+    Hour = 4,
     /// The minute is outside 0 to 59.
-    Minute,
+    Minute = 5,
     /// The second is outside 0 to 59.
-    Second,
+    Second = 6,
     /// The nanosecond is outside 0 to 999,999,999.
-    Nanosecond,
+    Nanosecond = 7,
     /// The hours of the offset are outside -25 to 25.
-    OffsetHours,
+    OffsetHours = 8,
     /// The minutes of the offset are outside -59 to 59.
-    OffsetMinutes,
+    OffsetMinutes = 9,
     /// The seconds of the offset are outside -59 to 59.
-    OffsetSeconds,
+    OffsetSeconds = 10,
     /// The seconds of the moment are outside those of the years -999,999 to 999,999.
-    MomentSeconds,
+    MomentSeconds = 11,
     /// The format has no place for the year.
-    NoPlaceForYear,
+    NoPlaceForYear = 12,
     /// The format has no place for the hours of the offset.
-    NoPlaceForOffsetHour,
+    NoPlaceForOffsetHour = 13,
     /// The format has no place for the minutes of the offset.
-    NoPlaceForOffsetMinute,
+    NoPlaceForOffsetMinute = 14,
     /// The format has no place for the seconds of the offset.
-    NoPlaceForOffsetSecond,
+    NoPlaceForOffsetSecond = 15,
     /// The value lacks a component, or the configuration writes none.
-    Insufficient,
+    Insufficient = 16,
     /// A component is outside the range that the description has for it.
-    OutOfRange,
+    OutOfRange = 17,
     /// Invalid configuration value.
-    BadConfig,
+    BadConfig = 18,
     /// Invalid item.
-    BadItem,
+    BadItem = 19,
     /// The text does not fit the buffer.
-    NoRoom,
+    NoRoom = 20,
     /// Memory was refused, or the width has reached the greatest `usize`.
-    OutOfMemory,
+    OutOfMemory = 21,
     /// The format has no place for a component of another name.
-    Other,
+    Other = 22,
 }
 
 /// The number of the reason.
 fn reason_number(reason: Reason) -> isize
     ensures { result ≡ reason_number reason }
 {
-    match reason {
-        Reason::Year => -1,
-        Reason::Month => -2,
-        Reason::Day => -3,
-        Reason::Hour => -4,
-        Reason::Minute => -5,
-        Reason::Second => -6,
-        Reason::Nanosecond => -7,
-        Reason::OffsetHours => -8,
-        Reason::OffsetMinutes => -9,
-        Reason::OffsetSeconds => -10,
-        Reason::MomentSeconds => -11,
-        Reason::NoPlaceForYear => -12,
-        Reason::NoPlaceForOffsetHour => -13,
-        Reason::NoPlaceForOffsetMinute => -14,
-        Reason::NoPlaceForOffsetSecond => -15,
-        Reason::Insufficient => -16,
-        Reason::OutOfRange => -17,
-        Reason::BadConfig => -18,
-        Reason::BadItem => -19,
-        Reason::NoRoom => -20,
-        Reason::OutOfMemory => -21,
-        Reason::Other => -22,
-    }
+    -(reason as isize)
 }
 
 /// The number that a call returns.
@@ -94,6 +72,17 @@ pub fn answer_number(answer: Result<usize, Reason>) -> isize
     match answer {
         Ok(count) => count as isize,
         Err(reason) => reason_number(reason),
+    }
+}
+
+/// Whether a flag is set, or the reason why it is none.
+pub fn flag_at(number: u8, reason: Reason) -> Result<bool, Reason>
+    ensures { result ≡ flag_at number reason }
+{
+    match number {
+        0 => Ok(false),
+        1 => Ok(true),
+        _ => Err(reason),
     }
 }
 

@@ -7,7 +7,7 @@ ghost use Rattle.movaliren_c.specs.ShortLine.{AllFit, FitsAll, FitsItem, HasWidt
 ghost use Rattle.time_digits.specs.Digits.{fixed};
 ghost use Rattle.time_known.specs.Sink.{Fits, PutsJust};
 
-use crate::fields::{calendar_day, offset_of, time_of};
+use crate::fields::{calendar_day, time_of};
 use crate::item::Item;
 use crate::moment::LocalMoment;
 use crate::reason::Reason;
@@ -77,7 +77,7 @@ fn usual_width(item: &Item, texts: &[u8], has_time: bool) -> Option<usize>
         2 => Some(3),
         13 => Some(7),
         14 => Some(5),
-        24 | 25 | 27 | 30 => { if has_time { Some(2) } else { None } }
+        24 | 25 | 27 | 30 if has_time => Some(2),
         _ => None,
     }
 }
@@ -114,20 +114,10 @@ fn chosen_width(item: &Item, texts: &[u8], has_time: bool) -> Option<usize>
         return None;
     }
     match item.kind {
-        28 => {
-            if has_choices(item, 0, 3) || has_choices(item, 0, 6) || has_choices(item, 0, 9) {
-                Some(item.digits as usize)
-            } else {
-                None
-            }
+        28 if has_choices(item, 0, 3) || has_choices(item, 0, 6) || has_choices(item, 0, 9) => {
+            Some(item.digits as usize)
         }
-        29 => {
-            if has_choices(item, 1, 0) {
-                Some(3)
-            } else {
-                None
-            }
-        }
+        29 if has_choices(item, 1, 0) => Some(3),
         _ => None,
     }
 }
@@ -140,7 +130,8 @@ pub fn has_short_year(value: &LocalMoment) -> bool
     0 <= year && year <= 9_999
 }
 
-/// Writes the text of usual items to the start of the buffer.
+/// Writes the text of usual items to the start of the buffer, by way of an array if the buffer may be too
+/// small.
 #[tactic(auto, using(crate::proofs::ShortLineLemmas::all_fit))]
 pub fn write_line(
     items: &[Item],
@@ -161,25 +152,6 @@ pub fn write_line(
     if width <= room.len() {
         return Ok(write_in_place(items, texts, value, room));
     }
-    copy_line(items, texts, value, room)
-}
-
-/// Writes the text to an array first, since the buffer may be too small.
-#[cold]
-#[inline(never)]
-fn copy_line(
-    items: &[Item],
-    texts: &[u8],
-    value: &LocalMoment,
-    room: &mut [u8],
-) -> Result<usize, Reason>
-    ghost has_time: { Bool }
-    requires usual { All (λ item. IsTrue (is_usual has_time item)) items.now }
-    requires width { AllFit 128 (trees_of texts.now items.now) }
-    requires year { IsShortYear value.now }
-    ensures { IsText (described (trees_of texts.now items.now) (Ok value.now)
-        (facts_of_local has_time)) result room.old room.new }
-{
     let mut line = [0u8; LONGEST_COPY];
     let count = write_in_place(items, texts, value, &mut line);
     copy_text(&line[..count], room)
@@ -253,8 +225,8 @@ fn put_item<S: ByteSink>(output: &mut S, item: &Item, texts: &[u8], value: &Loca
         25 => put_pair(output, time_of(value.time()).minute.expand()),
         27 => put_pair(output, time_of(value.time()).second.expand()),
         28 => put_decimals(output, item.digits, time_of(value.time()).nanosecond),
-        29 => put_offset_hours(output, &offset_of(value.offset())),
-        30 => put_pair(output, offset_of(value.offset()).minutes.expand()),
+        29 => put_offset_hours(output, &value.offset().fields()),
+        30 => put_pair(output, value.offset().fields().minutes.expand()),
         13 => put_four_digits(output, year_of(value)),
         14 => put_four_digits(output, year_of(value)),
         _ => unreachable!(),

@@ -1,6 +1,6 @@
 //! Where the values of moments come from.
 ghost use Rattle.std.specs.Prelude.{◌≡◌, ◌<◌, ◌+ℤ◌, Result, unsigned_abs};
-ghost use Rattle.movaliren_c.specs.Utc.{local_value, moved_east, utc_value, value_at};
+ghost use Rattle.movaliren_c.specs.Utc.{local_value, moved_east, utc_value};
 ghost use Rattle.movaliren_c.specs.Value.{moment_value};
 ghost use Rattle.movaliren_c.specs.declared.reason.Reason.{Reason};
 ghost use Rattle.time_below.specs.Moment.{OffsetDateAndTime};
@@ -79,18 +79,9 @@ fn moved_east(moment: Timestamp, east: i64) -> Result<LocalMoment, Reason>
     ensures { result ≡ moved_east moment east }
 {
     match KeptOffset::of_seconds(east) {
-        Ok(offset) => value_moved(moment, east, offset),
+        Ok(offset) => value_at(seconds_moved(moment, east), moment.as_parts().1, offset),
         Err(reason) => Err(reason),
     }
-}
-
-#[inline(always)]
-fn value_moved(moment: Timestamp, east: i64, offset: KeptOffset) -> Result<LocalMoment, Reason>
-    requires { unsigned_abs east < 93_600 }
-    ensures { result ≡ value_at (moment.seconds +ℤ east) moment.nanosecond offset }
-{
-    let (_, nanosecond) = moment.as_parts();
-    value_at(seconds_moved(moment, east), nanosecond, offset)
 }
 
 fn seconds_moved(moment: Timestamp, east: i64) -> i64

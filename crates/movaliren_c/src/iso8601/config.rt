@@ -1,9 +1,8 @@
 //! Configurations of ISO 8601 in the interface.
-ghost use Rattle.std.specs.Prelude.{◌≡◌, IfSome, IsTrue, Ok, true};
-ghost use Rattle.movaliren_c.specs.Chosen.{components_at, date_kind_at, decimals_at, precision_at, offset_precision_at, flag_at, sign_at, choices_at};
-ghost use Rattle.time_known.specs.UsualText.{usual_choices};
+ghost use Rattle.std.specs.Prelude.{◌≡◌, IfSome, IsTrue, Ok};
+ghost use Rattle.movaliren_c.specs.Chosen.{components_at, date_kind_at, decimals_at, precision_at, offset_precision_at, sign_at, choices_at, separated};
 
-use crate::reason::Reason;
+use crate::reason::{Reason, flag_at};
 use std::default::Default;
 use time_digits::ru8;
 use time_known::iso8601::{
@@ -72,16 +71,6 @@ fn offset_precision_at(number: u8) -> Result<OffsetPrecision, Reason>
     }
 }
 
-fn flag_at(number: u8) -> Result<bool, Reason>
-    ensures { result ≡ flag_at number }
-{
-    match number {
-        0 => Ok(false),
-        1 => Ok(true),
-        _ => Err(Reason::BadConfig),
-    }
-}
-
 fn sign_at(number: u8) -> Result<DecimalSign, Reason>
     ensures { result ≡ sign_at number }
 {
@@ -103,8 +92,8 @@ pub fn config_at(numbers: &IsoConfig) -> Result<Config, Reason>
             .set_date_kind(date_kind_at(numbers.date_kind)?)
             .set_time_precision(precision_at(numbers.time_precision, numbers.decimals)?)
             .set_offset_precision(offset_precision_at(numbers.offset_precision)?)
-            .set_use_separators(flag_at(numbers.use_separators)?)
-            .set_year_is_six_digits(flag_at(numbers.year_is_six_digits)?)
+            .set_use_separators(flag_at(numbers.use_separators, Reason::BadConfig)?)
+            .set_year_is_six_digits(flag_at(numbers.year_is_six_digits, Reason::BadConfig)?)
             .set_decimal_sign(sign_at(numbers.comma)?),
     )
 }
@@ -113,8 +102,7 @@ pub fn config_at(numbers: &IsoConfig) -> Result<Config, Reason>
 /// numbers of a point and at most nine decimals are told by a few tests.
 #[inline(always)]
 pub fn separated_config_at(numbers: &IsoConfig) -> Option<Usual>
-    ensures chosen { IfSome result (λ u. choices_at numbers.now
-        ≡ Ok (usual_choices true u.decimal_digits u.decimal_sign)) }
+    ensures chosen { IfSome result (λ u. choices_at numbers.now ≡ Ok (separated u)) }
     ensures separators { IfSome result (λ u. IsTrue u.has_separators) }
 {
     let parts_are_usual = numbers.components == 5
@@ -138,8 +126,7 @@ pub fn separated_config_at(numbers: &IsoConfig) -> Option<Usual>
 /// What the numbers choose of a text with separators, told by the configuration that they make.
 #[inline(never)]
 fn separated_by_choices(numbers: &IsoConfig) -> Option<Usual>
-    ensures chosen { IfSome result (λ u. choices_at numbers.now
-        ≡ Ok (usual_choices true u.decimal_digits u.decimal_sign)) }
+    ensures chosen { IfSome result (λ u. choices_at numbers.now ≡ Ok (separated u)) }
     ensures separators { IfSome result (λ u. IsTrue u.has_separators) }
 {
     match config_at(numbers) {
