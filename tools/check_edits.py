@@ -9,7 +9,7 @@ import re
 import sys
 
 sys.dont_write_bytecode = True  # before the import, which would write it
-from wrong_bodies import Edit, rt
+from edits import Edit, rt
 
 
 def complaints(crate):

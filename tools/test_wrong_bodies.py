@@ -35,6 +35,14 @@ pub fn three() -> u8
 {
     3
 }
+
+const FOUR: u8 = 4;
+
+pub fn four() -> u8
+    ensures { result ≡ 4 }
+{
+    FOUR
+}
 """
 # The function that an edit names, what it changes, and the expected result.
 EDITS = {
@@ -42,6 +50,7 @@ EDITS = {
     "wrong_in_another_way": ("one", "    1", "    5", "refused in tiny::one"),
     "right": ("two", "    2", "    1 + 1", "NOT REFUSED in tiny::two"),
     "refused_in_the_caller": ("two", "ensures value { result ≡ 2 }", "ensures value { result ≤ 2 }", "NOT REFUSED in tiny::two"),
+    "wrong_constant": ("four", "FOUR: u8 = 4", "FOUR: u8 = 5", "refused in tiny::four"),
     "unread": ("three", "    3", "    three(", "BAD EDIT"),
     "unnamed": ("", "    3", "    4", "BAD EDIT"),
 }
@@ -62,7 +71,7 @@ def main():
         ran = subprocess.run(words, cwd=room, capture_output=True, text=True)
     lines = ran.stdout.rstrip("\n").split("\n")
     differ = [name for name, it in EDITS.items() if not any(f"/{name}.edit: {it[3]}" in line for line in lines)]
-    if differ or lines[-1] != "2 passed, 4 failed" or ran.returncode != 1:
+    if differ or lines[-1] != "3 passed, 4 failed" or ran.returncode != 1:
         print(ran.stdout + ran.stderr, f"not as it must be: {differ}", sep="\n")
         return 1
     print(f"{len(EDITS)} edits of a small crate: told as they are")

@@ -1,11 +1,10 @@
 #!/usr/bin/env python3
 """Tries the wrong bodies of must-fail/ many at once. The prover must refuse each in the function that it names.
 
-An edit has a line `refused: FUNCTION`, its path in the crate, or several; `rt` ignores them. The prover holds a body to
-the contracts of what it calls, so edits within different functions are made in one copy of the crate, and the check's
-line of each function tells its own reason from a call of a refused one. An edit elsewhere, and each of a joined check
-that does not tell, is tried alone. A check of the unedited crate adds what a copy of crates/NAME/out/incremental lacks,
-and all others start from copies of that. The last line is `N passed, M failed`.
+The prover holds a body to the contracts of what it calls, so edits whose functions are apart (edits.py) are made in one
+copy of the crate, and the check's line of each function tells its own reason from a call of a refused one. Each edit of a
+joined check that does not tell is tried alone. A check of the unedited crate adds what a copy of
+crates/NAME/out/incremental lacks, and all others start from copies of that. The last line is `N passed, M failed`.
 """
 import argparse
 import concurrent.futures
@@ -16,53 +15,14 @@ import sys
 import tempfile
 import threading
 import time
-from importlib import machinery, util
+
+sys.dont_write_bytecode = True  # before the import, which would write it
+from edits import Edit, groups_of, joined, rt
 
 LINE = re.compile(r"^(?:fn|impl) (\S+): (.*)$", re.M)
 CYCLE = re.compile(r"#\[cycle\((\w+)\)\]\n(?:\s*#\[.*\n)*\s*(?:pub\S* )?fn (\w+)")
 ITSELF = re.compile(r"not proved\b|no proof: (?!it calls|it passes|a call of)")
 LARGEST = 4_500_000_000  # bytes, the most that a check of these crates was seen to take
-sys.dont_write_bytecode = True
-loader = machinery.SourceFileLoader("rt", os.path.realpath(shutil.which("rt")))
-rt = util.module_from_spec(util.spec_from_loader("rt", loader))
-loader.exec_module(rt)
-
-
-class Edit:
-    def __init__(self, crate, path):
-        self.label = f"must-fail {crate.name}/{os.path.basename(path)}"
-        self.text = rt.rtlib.text_of(path)
-        self.functions = {f"{crate.name}::{it}" for it in re.findall(r"^refused: (\S+)$", self.text, re.M)}
-        self.why = rt.edited(self.text, crate.folder)[1] or ("" if self.functions else "it has no line 'refused: FUNCTION'")
-        self.is_alone = not self.why and not self.is_in_body(crate.folder)
-
-    def is_in_body(self, folder):
-        """Returns whether each old text stands in the body of a function that is named, as `rt fmt` lays it out."""
-        names, source, is_in = "|".join(it.rpartition("::")[2] for it in self.functions), "", True
-        body = rf"^( *)(?:[\w\"]\S* )*fn (?:{names})\b(?:[^\n]*|.*?^\1(?:\S[^\n]*)?)\{{$(.*?)^\1\}}$"
-        for path, old in re.findall(r"^file: (.+)|^old: (.+)", self.text, re.M):
-            source = rt.rtlib.text_of(f"{folder}/{path}") if path else source
-            is_in = is_in and (path or any(old in it[2] for it in re.finditer(body, source, re.M | re.S)))
-        return is_in
-
-
-def joined(crate, group):
-    """Returns the texts that all edits of a group make, if they can be made in one copy."""
-    return rt.edited("\n".join(it.text for it in group), crate.folder)[0]
-
-
-def groups_of(crate, edits):
-    """Returns the edits in lists that one check can tell apart."""
-    groups = []
-    for edit in edits:
-        for group in groups:
-            is_other = not any(it.is_alone or it.functions & edit.functions for it in group)
-            if not edit.is_alone and is_other and joined(crate, [*group, edit]):
-                group.append(edit)
-                break
-        else:
-            groups.append([edit])
-    return groups
 
 
 def refused(crate, functions, texts, kept, given):
@@ -102,7 +62,7 @@ def tried(crate, group, kept, given):
 
 
 def said_by(log):
-    """Returns the libraries that `rt ci` has proved by its log, and whether it has ended."""
+    """Returns the crates that `rt ci` has proved by its log, and whether it has ended."""
     said = rt.rtlib.text_of(log) or "" if log else "0 passed, 0 failed\n"
     return {*re.findall(r"^rt: (\w+) (?:proved$|is kept:)", said, re.M)}, bool(re.search(r"^\d+ passed, \d+ failed$", said, re.M))
 
@@ -114,7 +74,7 @@ def tried_all(crate, given):
     told = [(False, f"must-fail {crate.name}/{os.path.basename(it)}: BAD EDIT: its name, or where it stands") for it in bad]
     told += [(False, f"{it.label}: BAD EDIT: {it.why}") for it in edits if it.why]
     edits = [it for it in edits if not it.why]
-    while edits and not said_by(given.log)[1] and not {it.name for it in crate.below()} <= said_by(given.log)[0]:
+    while edits and not said_by(given.log)[1] and crate.name not in said_by(given.log)[0]:
         time.sleep(1)
     with tempfile.TemporaryDirectory(prefix="kept-") as kept, concurrent.futures.ThreadPoolExecutor() as pool:
         if os.path.isdir(f"{crate.folder}/out/incremental"):

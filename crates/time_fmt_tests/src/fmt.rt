@@ -40,6 +40,5 @@ mod parts;
 mod sizes;
 mod times;
 mod trees;
-mod v3;
 mod widths;
 mod writers;

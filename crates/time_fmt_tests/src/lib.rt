@@ -10,6 +10,8 @@ pub mod examples;
 #[cfg(test)]
 mod fmt;
 #[cfg(test)]
+mod items;
+#[cfg(test)]
 mod provide;
 #[cfg(test)]
 mod texts;

@@ -1,4 +1,5 @@
-//! What calls are compared by: texts, counts, widths and refusals.
+//! What calls are compared by: texts, counts, widths and refusals. No helper hands on a clause, so that a test
+//! proves no more than it compares.
 use crate::values::{Value, date_at, moment, offset_at, time_at, timestamp_at};
 use std::alloc::Global;
 use std::default::Default;
@@ -7,7 +8,7 @@ use std::process::Abort;
 use time_below::format_description::modifier::{Day, Padding};
 use time_below::format_description::{BorrowedFormatItem as Item, Component, component_width};
 use time_below::{PlainDateTime, UtcDateTime};
-use time_fmt::{ComponentProvider, ComputeMetadata, DateState, Format, Formattable};
+use time_fmt::{ComponentProvider, ComputeMetadata, Format, Formattable};
 
 /// The day of the month, in two places.
 pub(crate) const DAY: Component = Component::Day(Day {
@@ -24,9 +25,55 @@ pub(crate) fn assert_that(rt: &impl Abort, is_so: bool) {
     assert!(rt; is_so);
 }
 
-/// Appends the text by a fresh state, and makes it once more by the same. No clause is handed on, so that a
-/// test proves no more than it compares.
-pub(crate) fn append<D: Formattable, V: ComponentProvider>(
+/// What came of a text that was appended, of the same as a text of its own, and the state after both.
+type Answers<S> = (Result<usize, Format>, Result<String, Format>, S);
+
+/// Appends the text by a fresh state, and makes it once more by the same.
+pub(crate) fn append_by<D: Formattable, V: ComponentProvider>(
+    alloc: Global,
+    output: &mut Vec<u8>,
+    item: &D,
+    value: &V,
+) -> Answers<V::State> {
+    let mut state = V::State::default();
+    let appended = item.format_into(output, value, &mut state);
+    let made = item.format(alloc, value, &mut state);
+    (appended, made, state)
+}
+
+/// Appends both texts by one fresh state, and returns the length between them and both answers.
+fn append_both<D: Formattable, V: ComponentProvider>(
+    output: &mut Vec<u8>,
+    (first, second): (&D, &D),
+    value: &V,
+) -> (Result<usize, Format>, usize, Result<usize, Format>)
+where
+    V::State: Drop,
+{
+    let mut state = V::State::default();
+    let appended = first.format_into(output, value, &mut state);
+    let length = output.len();
+    (
+        appended,
+        length,
+        second.format_into(output, value, &mut state),
+    )
+}
+
+/// The text by a fresh state.
+pub(crate) fn made<D: Formattable, V: ComponentProvider>(
+    alloc: Global,
+    item: &D,
+    value: &V,
+) -> Result<String, Format>
+where
+    V::State: Drop,
+{
+    item.format(alloc, value, &mut V::State::default())
+}
+
+/// Does the same where the state is not looked at.
+fn append_of<D: Formattable, V: ComponentProvider>(
     alloc: Global,
     output: &mut Vec<u8>,
     item: &D,
@@ -35,31 +82,55 @@ pub(crate) fn append<D: Formattable, V: ComponentProvider>(
 where
     V::State: Drop,
 {
-    let mut state = V::State::default();
-    let appended = item.format_into(output, value, &mut state);
-    (appended, item.format(alloc, value, &mut state))
+    let (appended, made, _) = append_by(alloc, output, item, value);
+    (appended, made)
 }
 
-/// Formats the value with a fresh state into an empty vector, and as a text, and compares the texts,
-/// the count and the width.
-pub(crate) fn assert_text<D: Formattable, V: ComponentProvider>(
+/// Appends the text of the value that has these numbers, and makes it once more. Each type of value stands here
+/// alone, since a test proves again what it asks of a type that it names.
+pub(crate) fn append<D: Formattable>(
     rt: &impl Abort,
     alloc: Global,
+    output: &mut Vec<u8>,
     item: &D,
-    value: &V,
-    text: &str,
-    width: usize,
-)
-where
-    V::State: Drop,
-{
-    let mut output = Vec::new(alloc);
-    let (Ok(count), Ok(formatted)) = append(alloc, &mut output, item, value) else {
-        panic!(rt; "refused: {text}");
-    };
-    assert_same(rt, output.as_slice(), text.as_bytes());
-    assert_same(rt, (count, measured(item)), (text.len(), width));
-    assert_same(rt, formatted.as_str(), text);
+    value: Value,
+) -> (Result<usize, Format>, Result<String, Format>) {
+    match value {
+        Value::Date(year, month, day) => {
+            append_of(alloc, output, item, &date_at(rt, (year, month, day)))
+        }
+        Value::Time(hour, minute, second, nanosecond) => {
+            let time = time_at(rt, (hour, minute, second, nanosecond));
+            append_of(alloc, output, item, &time)
+        }
+        Value::Local(date, time) => {
+            let local = PlainDateTime::new(date_at(rt, date), time_at(rt, time));
+            append_of(alloc, output, item, &local)
+        }
+        Value::Utc(date, time) => {
+            let utc = UtcDateTime::new(date_at(rt, date), time_at(rt, time));
+            append_of(alloc, output, item, &utc)
+        }
+        Value::Moment(date, time, offset) => {
+            append_of(alloc, output, item, &moment(rt, date, time, offset))
+        }
+        Value::Offset(hours, minutes, seconds) => {
+            append_of(
+                alloc,
+                output,
+                item,
+                &offset_at(rt, (hours, minutes, seconds)),
+            )
+        }
+        Value::Timestamp(seconds, nanosecond) => {
+            append_of(
+                alloc,
+                output,
+                item,
+                &timestamp_at(rt, (seconds, nanosecond)),
+            )
+        }
+    }
 }
 
 /// The width of a description.
@@ -67,7 +138,8 @@ pub(crate) fn measured<D: ComputeMetadata>(item: &D) -> usize {
     item.compute_metadata().max_bytes_needed
 }
 
-/// Compares the text of a description, of the value that has these numbers.
+/// Appends the text of a description to an empty vector, and makes it as a text, of the value that has these
+/// numbers, and compares the texts, the count and the width.
 pub(crate) fn assert_value<D: Formattable>(
     rt: &impl Abort,
     alloc: Global,
@@ -75,42 +147,13 @@ pub(crate) fn assert_value<D: Formattable>(
     value: Value,
     (text, width): (&str, usize),
 ) {
-    match value {
-        Value::Date(year, month, day) => {
-            let date = date_at(rt, (year, month, day));
-            assert_text(rt, alloc, item, &date, text, width);
-        }
-        Value::Time(hour, minute, second, nanosecond) => {
-            let time = time_at(rt, (hour, minute, second, nanosecond));
-            assert_text(rt, alloc, item, &time, text, width);
-        }
-        Value::Local(date, time) => {
-            let local = PlainDateTime::new(date_at(rt, date), time_at(rt, time));
-            assert_text(rt, alloc, item, &local, text, width);
-        }
-        Value::Utc(date, time) => {
-            let utc = UtcDateTime::new(date_at(rt, date), time_at(rt, time));
-            assert_text(rt, alloc, item, &utc, text, width);
-        }
-        Value::Moment(date, time, offset) => {
-            assert_text(
-                rt,
-                alloc,
-                item,
-                &moment(rt, date, time, offset),
-                text,
-                width,
-            );
-        }
-        Value::Offset(hours, minutes, seconds) => {
-            let offset = offset_at(rt, (hours, minutes, seconds));
-            assert_text(rt, alloc, item, &offset, text, width);
-        }
-        Value::Timestamp(seconds, nanosecond) => {
-            let timestamp = timestamp_at(rt, (seconds, nanosecond));
-            assert_text(rt, alloc, item, &timestamp, text, width);
-        }
-    }
+    let mut output = Vec::new(alloc);
+    let (Ok(count), Ok(formatted)) = append(rt, alloc, &mut output, item, value) else {
+        panic!(rt; "refused: {text}");
+    };
+    assert_same(rt, output.as_slice(), text.as_bytes());
+    assert_same(rt, (count, measured(item)), (text.len(), width));
+    assert_same(rt, formatted.as_str(), text);
 }
 
 /// Compares the texts of descriptions and their widths, of one value.
@@ -149,19 +192,16 @@ pub(crate) fn assert_rows(rt: &impl Abort, alloc: Global, rows: Rows) {
 
 /// Formats the value with a fresh state after a byte, and as a text, and compares the refusals. No
 /// byte is appended.
-pub(crate) fn assert_refused<D: Formattable, V: ComponentProvider>(
+pub(crate) fn assert_refused<D: Formattable>(
     rt: &impl Abort,
     alloc: Global,
     item: &D,
-    value: &V,
+    value: Value,
     name: &str,
-)
-where
-    V::State: Drop,
-{
+) {
     let mut output = Vec::new(alloc);
     assert_that(rt, output.push(b'x').is_ok());
-    let (appended, made) = append(alloc, &mut output, item, value);
+    let (appended, made) = append(rt, alloc, &mut output, item, value);
     assert_same(rt, refusal_name(&appended), name);
     assert_same(rt, output.as_slice(), b"x".as_slice());
     assert_same(rt, refusal_name(&made), name);
@@ -178,12 +218,10 @@ pub(crate) fn assert_refused_after(
 ) {
     let mut output = Vec::new(alloc);
     assert_that(rt, output.push(b'x').is_ok());
-    let (value, mut state) = (date_at(rt, date), DateState::default());
-    let refused = item.format_into(&mut output, &value, &mut state);
-    assert_same(rt, refusal_name(&refused), name);
-    assert_same(rt, output.as_slice(), before.as_bytes());
-    let written = Item::Component(DAY).format_into(&mut output, &value, &mut state);
-    assert_that(rt, matches!(&written, Ok(2)));
+    let items = (item, &Item::Component(DAY));
+    let (refused, length, written) = append_both(&mut output, items, &date_at(rt, date));
+    assert_same(rt, (refusal_name(&refused), length), (name, before.len()));
+    assert_that(rt, matches!(&written, Ok(2)) && after.starts_with(before));
     assert_same(rt, output.as_slice(), after.as_bytes());
 }
 

@@ -30,6 +30,14 @@ pub(crate) fn date_at(rt: &impl Abort, (year, number, day): (i32, u8, u8)) -> Da
     date
 }
 
+/// The date of this day of the year.
+pub(crate) fn date_on(rt: &impl Abort, year: i32, ordinal: u16) -> Date {
+    let Ok(date) = Date::from_ordinal_date(year, ordinal) else {
+        panic!(rt; "no ordinal {ordinal} in {year}");
+    };
+    date
+}
+
 /// The time of an hour, a minute, a second and a nanosecond.
 pub(crate) fn time_at(
     rt: &impl Abort,

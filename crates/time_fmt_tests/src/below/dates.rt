@@ -1,8 +1,8 @@
 //! Dates, weekdays and weeks.
-use crate::texts::{assert_same, assert_that};
-use crate::values::date_at;
-use std::process::Abort;
-use time_below::{ComponentRange, Date, Month, Weekday};
+use crate::below::refusal_of;
+use crate::texts::assert_same;
+use crate::values::{date_at, date_on};
+use time_below::{Date, Month, Weekday};
 
 #[test]
 fn a_date_has_its_parts(rt: HostRuntime) {
@@ -42,19 +42,11 @@ const REFUSED_DATES: &[(i32, Month, u8, &str, bool)] = &[
     (2023, Month::January, 0, "day", true),
 ];
 
-/// Compares the name that is refused, and whether it depends on other parts.
-fn assert_refusal(rt: &impl Abort, refusal: ComponentRange, name: &str, is_conditional: bool) {
-    assert_same(rt, refusal.name(), name);
-    assert_that(rt, refusal.is_conditional() == is_conditional);
-}
-
 #[test]
 fn refuses_a_date_by_its_year_or_its_day(rt: HostRuntime) {
     for &(year, month, day, name, is_conditional) in REFUSED_DATES {
-        let Err(refusal) = Date::from_calendar_date(year, month, day) else {
-            panic!(rt; "accepted day {day} of {year}");
-        };
-        assert_refusal(&rt, refusal, name, is_conditional);
+        let date = Date::from_calendar_date(year, month, day);
+        assert_same(&rt, refusal_of(&date), (name, is_conditional));
     }
 }
 
@@ -65,15 +57,10 @@ const REFUSED_ORDINALS: &[(i32, u16, &str, bool)] = &[
 
 #[test]
 fn refuses_day_366_of_a_common_year(rt: HostRuntime) {
-    let Ok(date) = Date::from_ordinal_date(2024, 366) else {
-        panic!(rt; "refused");
-    };
-    assert_same(&rt, date.ordinal(), 366);
+    assert_same(&rt, date_on(&rt, 2024, 366).ordinal(), 366);
     for &(year, ordinal, name, is_conditional) in REFUSED_ORDINALS {
-        let Err(refusal) = Date::from_ordinal_date(year, ordinal) else {
-            panic!(rt; "accepted ordinal {ordinal} of {year}");
-        };
-        assert_refusal(&rt, refusal, name, is_conditional);
+        let date = Date::from_ordinal_date(year, ordinal);
+        assert_same(&rt, refusal_of(&date), (name, is_conditional));
     }
 }
 

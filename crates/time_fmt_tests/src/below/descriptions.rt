@@ -1,5 +1,8 @@
 //! Components and items, with their widths.
+use crate::items::{Tree, one};
 use crate::texts::{DAY, assert_same, assert_that};
+use std::alloc::{AllocError, Global};
+use std::process::Abort;
 use std::test::Fail;
 use time_below::format_description::modifier::{Padding, YearRange, YearRepr};
 use time_below::format_description::{
@@ -22,23 +25,20 @@ fn a_component_has_its_width_and_group(rt: HostRuntime) {
     assert_that(&rt, matches!(DAY.group(), Group::Date));
 }
 
+/// The item is the current component of the century.
+fn assert_century<N: Node>(rt: &impl Abort, item: &N) {
+    let is_century = matches!(
+        item.layer(),
+        Layer::Component(Component::CalendarYearCenturyStandardRange(_))
+    );
+    assert_that(rt, is_century);
+}
+
 #[test]
 fn a_deprecated_component_is_stored_as_the_current_one(rt: HostRuntime) {
-    assert_that(
-        &rt,
-        matches!(
-            CENTURY.current(),
-            Component::CalendarYearCenturyStandardRange(_)
-        ),
-    );
+    assert_century(&rt, &BorrowedFormatItem::Component(CENTURY.current()));
     let description = FormatDescriptionV3::new(Inner::from(CENTURY));
-    assert_that(
-        &rt,
-        matches!(
-            description.inner().layer(),
-            Layer::Component(Component::CalendarYearCenturyStandardRange(_))
-        ),
-    );
+    assert_century(&rt, description.inner());
     assert_same(&rt, description.metadata().max_bytes_needed, 3);
 }
 
@@ -61,18 +61,18 @@ fn borrowed_items_add_their_widths(rt: HostRuntime) {
     assert_that(&rt, !metadata.guaranteed_utf8);
 }
 
+/// A list of this item, the optional day, and the first of one literal.
+fn whole<K, T: Tree<K>>(alloc: Global, item: T) -> Result<T, AllocError> {
+    let mut items = one(alloc, item)?;
+    items.push(T::optional(true, Box::new(alloc, T::component(DAY))?))?;
+    items.push(T::first(one(alloc, T::literal(alloc, "/")?)?))?;
+    Ok(T::list(items))
+}
+
 #[test]
 fn owned_items_add_their_widths(rt: HostRuntime) -> Result<(), Fail> {
-    let alloc = rt.alloc();
-    let optional = Box::new(alloc, OwnedFormatItem::Component(DAY))?;
-    let first = vec![in alloc; OwnedFormatItem::StringLiteral("/".to_string(alloc)?)]?;
-    let bytes = [0xff].to_vec(alloc)?;
-    let whole = OwnedFormatItem::Compound(vec![in alloc;
-        OwnedFormatItem::Literal(bytes),
-        OwnedFormatItem::Optional(optional),
-        OwnedFormatItem::First(first),
-    ]?);
-    let metadata = metadata_of_node(&whole);
+    let bytes = OwnedFormatItem::Literal([0xff].to_vec(rt.alloc())?);
+    let metadata = metadata_of_node(&whole(rt.alloc(), bytes)?);
     assert_same(&rt, metadata.max_bytes_needed, 4);
     assert_that(&rt, !metadata.guaranteed_utf8);
     Ok(())

@@ -1,6 +1,6 @@
 //! The rows of `docs/COMPONENTS.md`: each component by the choices of its row, with its example and width. Tests
 //! of other modules go through the same rows. Behind them stands each constant of `time_fmt::parts` as a part.
-use crate::fmt::parts::{Values, assert_part};
+use crate::fmt::parts::assert_part;
 use crate::texts::assert_components;
 use crate::values::{Value, WEDNESDAY};
 use time_below::format_description::modifier::Padding::{Space, Zero};
@@ -94,22 +94,14 @@ fn each_component_has_the_text_and_the_width_of_the_table(rt: HostRuntime) {
     let value = Value::Moment((1997, 11, 12), (9, 55, 6, 120_000_000), (-6, 0, 0));
     assert_components(&rt, rt.alloc(), value, COMPONENTS);
     assert_components(&rt, rt.alloc(), value, DEPRECATED);
-}
-
-#[test]
-fn other_choices_have_the_same_width(rt: HostRuntime) {
     assert_components(&rt, rt.alloc(), WEDNESDAY, OTHER_CHOICES);
 }
 
 /// Each of these components, by its name and its choices, with its text between the literals.
 macro_rules! between_literals {
-    ($rt:expr; $($part:ident $variant:ident $text:literal,)+) => {{
-        let values = Values::new(&$rt);
-        $(
-            let part = ($part, Component::$variant($part));
-            assert_part(&$rt, $rt.alloc(), &values, part, $text);
-        )+
-    }};
+    ($rt:expr; $($part:ident $variant:ident $text:literal,)+) => {
+        $(assert_part(&$rt, $rt.alloc(), $part, Component::$variant($part), $text);)+
+    };
 }
 
 #[test]

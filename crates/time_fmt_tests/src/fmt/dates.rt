@@ -4,6 +4,7 @@ use crate::values::Value::Date;
 use time_below::format_description::modifier::Padding;
 use time_below::format_description::{Component, modifier};
 
+/// Numbers are filled as asked for.
 const PADDED: Rows = padded! {
     Date(2005, 2, 3) => Day "03" " 3" "3",
     Date(2005, 2, 3) => MonthNumerical "02" " 2" "2",
@@ -16,11 +17,6 @@ const PADDED: Rows = padded! {
     Date(-50, 6, 15) => CalendarYearLastTwo "50" "50" "50",
     Date(-50, 6, 15) => IsoYearLastTwo "50" "50" "50",
 };
-
-#[test]
-fn numbers_of_a_date_are_filled_as_asked_for(rt: HostRuntime) {
-    assert_rows(&rt, rt.alloc(), PADDED);
-}
 
 /// Rows of a year's June 15, the choices of its components, and the texts of the year and of its century,
 /// which are the same in both calendars and both ranges.
@@ -39,6 +35,7 @@ macro_rules! years {
     };
 }
 
+/// A sign stands before the padding.
 const YEARS: Rows = years! {
     505 Zero false "0505" "05",
     505 Space false " 505" " 5",
@@ -51,11 +48,7 @@ const YEARS: Rows = years! {
     -505 None false "-505" "-5",
 };
 
-#[test]
-fn a_sign_stands_before_the_padding_of_a_year(rt: HostRuntime) {
-    assert_rows(&rt, rt.alloc(), YEARS);
-}
-
+/// Years have all their digits, and centuries the sign of the year.
 const FAR_YEARS: Rows = signed! {
     Date(-44, 6, 15) => CalendarYearFullExtendedRange Space false "-  44",
     Date(-44, 6, 15) => IsoYearFullExtendedRange Space false "-  44",
@@ -80,12 +73,7 @@ const FAR_YEARS: Rows = signed! {
     Date(999_999, 12, 31) => CalendarYearCenturyExtendedRange Zero false "+9999",
 };
 
-#[test]
-fn years_have_all_their_digits_and_centuries_the_sign_of_the_year(rt: HostRuntime) {
-    assert_rows(&rt, rt.alloc(), FAR_YEARS);
-}
-
-// The year 2001 begins on a Monday.
+/// All months and weekdays. The year 2001 begins on a Monday.
 const NAMES: Rows = rows! {
     Date(2001, 1, 1) => MonthLong { case_sensitive: true } "January",
     Date(2001, 2, 1) => MonthLong { case_sensitive: true } "February",
@@ -109,6 +97,9 @@ const NAMES: Rows = rows! {
 };
 
 #[test]
-fn all_months_and_weekdays_have_their_names(rt: HostRuntime) {
+fn dates_have_their_numbers_and_names_as_asked_for(rt: HostRuntime) {
+    assert_rows(&rt, rt.alloc(), PADDED);
+    assert_rows(&rt, rt.alloc(), YEARS);
+    assert_rows(&rt, rt.alloc(), FAR_YEARS);
     assert_rows(&rt, rt.alloc(), NAMES);
 }

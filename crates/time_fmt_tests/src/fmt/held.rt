@@ -1,6 +1,6 @@
 //! What a text and a description hold, and that they give it back: no clause speaks of that.
 use crate::fmt::memory::all_that_is_left;
-use crate::texts::{DAY, assert_same, assert_that, refusal_name};
+use crate::texts::{DAY, assert_same, assert_that, made, refusal_name};
 use crate::values::wednesday;
 use std::alloc::{AllocError, Global};
 use std::process::Abort;
@@ -9,8 +9,7 @@ use time_below::format_description::{
     BorrowedFormatItem, Component, FormatDescriptionV3, FormatDescriptionV3Inner, OwnedFormatItem,
 };
 use time_fmt::parts::{HOUR, MONTH_LONG};
-use time_fmt::{BorrowedItems, Formattable};
-use time_provide::DateState;
+use time_fmt::{BorrowedItems, ComponentProvider, Formattable};
 
 /// The smallest block that is taken where all memory is.
 const BLOCK: usize = 4_194_304;
@@ -45,16 +44,29 @@ fn all_but_a_block(alloc: Global) -> Result<Vec<Vec<u8>>, AllocError> {
     Ok(taken)
 }
 
+/// Makes the text in turn, and compares the refusals.
+fn assert_turns<D: Formattable, V: ComponentProvider>(
+    rt: &impl Abort,
+    alloc: Global,
+    item: &D,
+    value: &V,
+    name: &str,
+)
+where
+    V::State: Drop,
+{
+    for _ in 0..turns(alloc) {
+        assert_same(rt, refusal_name(&made(alloc, item, value)), name);
+    }
+}
+
 #[test]
 fn a_text_gives_its_memory_back(rt: HostRuntime) -> Result<(), Fail> {
     let text = long_text(rt.alloc())?;
     let item = BorrowedFormatItem::StringLiteral(text.as_str());
     let value = wednesday(&rt);
     let taken = all_but_a_block(rt.alloc())?;
-    for _ in 0..turns(rt.alloc()) {
-        let text = item.format(rt.alloc(), &value, &mut DateState::default());
-        assert_same(&rt, refusal_name(&text), "none");
-    }
+    assert_turns(&rt, rt.alloc(), &item, &value, "none");
     drop(taken);
     Ok(())
 }
@@ -66,12 +78,15 @@ fn a_refused_text_gives_its_memory_back(rt: HostRuntime) -> Result<(), Fail> {
         BorrowedFormatItem::StringLiteral(text.as_str()),
         BorrowedFormatItem::Component(Component::Hour24(HOUR)),
     ];
-    let value = wednesday(&rt).date();
+    let date = wednesday(&rt).date();
     let taken = all_but_a_block(rt.alloc())?;
-    for _ in 0..turns(rt.alloc()) {
-        let text = BorrowedItems(&items).format(rt.alloc(), &value, &mut DateState::default());
-        assert_same(&rt, refusal_name(&text), "insufficient");
-    }
+    assert_turns(
+        &rt,
+        rt.alloc(),
+        &BorrowedItems(&items),
+        &date,
+        "insufficient",
+    );
     drop(taken);
     Ok(())
 }
@@ -96,23 +111,21 @@ fn a_description_gives_its_memory_back(rt: HostRuntime) -> Result<(), Fail> {
     made
 }
 
+/// The text of the Wednesday holds no more bytes than these.
+fn assert_held<D: Formattable>(rt: &impl Abort, alloc: Global, item: &D, width: usize) {
+    let Ok(text) = made(alloc, item, &wednesday(rt)) else {
+        panic!(rt; "no text of {width} bytes");
+    };
+    assert_that(rt, text.capacity() <= width);
+}
+
 #[test]
 fn a_text_holds_no_more_than_its_width(rt: HostRuntime) -> Result<(), Fail> {
     let long = long_text(rt.alloc())?;
-    let rows: [(BorrowedFormatItem<'_>, usize); 3] = [
-        (BorrowedFormatItem::Component(DAY), 2),
-        (
-            BorrowedFormatItem::Component(Component::MonthLong(MONTH_LONG)),
-            9,
-        ),
-        (BorrowedFormatItem::StringLiteral(long.as_str()), LONG),
-    ];
-    let value = wednesday(&rt);
-    for (item, width) in rows.iter() {
-        let Ok(text) = item.format(rt.alloc(), &value, &mut DateState::default()) else {
-            panic!(rt; "no text of {width} bytes");
-        };
-        assert_that(&rt, text.capacity() <= *width);
-    }
+    let name = BorrowedFormatItem::Component(Component::MonthLong(MONTH_LONG));
+    assert_held(&rt, rt.alloc(), &BorrowedFormatItem::Component(DAY), 2);
+    assert_held(&rt, rt.alloc(), &name, 9);
+    let item = BorrowedFormatItem::StringLiteral(long.as_str());
+    assert_held(&rt, rt.alloc(), &item, LONG);
     Ok(())
 }

@@ -1,6 +1,8 @@
 //! Refusals in the midst of a tree, and literals that are no text by themselves.
-use crate::texts::{DAY, append, assert_refused_after, assert_same};
+use crate::texts::{DAY, assert_refused_after, assert_same, made};
 use crate::values::time_at;
+use std::alloc::Global;
+use std::process::Abort;
 use time_below::format_description::{BorrowedFormatItem as Item, Component};
 use time_fmt::parts::{HOUR, YEAR_CENTURY_STANDARD, YEAR_STANDARD};
 
@@ -63,13 +65,17 @@ const LITERALS: &[(Item<'static>, &str)] = literals! {
     [] "",
 };
 
+/// Compares the text that is made of midnight.
+fn assert_made(rt: &impl Abort, alloc: Global, item: &Item<'_>, text: &str) {
+    let Ok(formatted) = made(alloc, item, &time_at(rt, (0, 0, 0, 0))) else {
+        panic!(rt; "refused: {text}");
+    };
+    assert_same(rt, formatted.as_str(), text);
+}
+
 #[test]
 fn a_letter_is_read_over_the_literals_that_it_stands_in(rt: HostRuntime) {
-    let value = time_at(&rt, (0, 0, 0, 0));
     for (item, text) in LITERALS {
-        let (_, Ok(formatted)) = append(rt.alloc(), &mut Vec::new(rt.alloc()), item, &value) else {
-            panic!(rt; "refused: {text}");
-        };
-        assert_same(&rt, formatted.as_str(), *text);
+        assert_made(&rt, rt.alloc(), item, text);
     }
 }

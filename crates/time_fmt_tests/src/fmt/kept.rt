@@ -8,8 +8,7 @@ use std::process::Abort;
 use time_below::format_description::{
     BorrowedFormatItem, Component, FormatDescriptionV3, FormatDescriptionV3Inner,
 };
-use time_fmt::Formattable;
-use time_provide::DateState;
+use time_fmt::{ComponentProvider, Formattable};
 
 /// What a component keeps that is not deprecated. The number of a month is computed with the day, and both
 /// are kept.
@@ -27,23 +26,35 @@ fn what_is_kept(component: Component) -> Kept {
     }
 }
 
+/// Whether the text is written by a fresh state, and the state after it.
+fn write<D: Formattable, V: ComponentProvider>(
+    output: &mut Vec<u8>,
+    item: &D,
+    value: &V,
+) -> (bool, V::State) {
+    let mut state = V::State::default();
+    (item.format_into(output, value, &mut state).is_ok(), state)
+}
+
 /// Appends the text of the Wednesday, and compares what is kept.
 fn appended<D: Formattable>(rt: &impl Abort, alloc: Global, item: &D, kept: Kept) -> Vec<u8> {
-    let (value, mut state) = (wednesday(rt), DateState::default());
-    let mut output = Vec::new(alloc);
-    let is_written = item.format_into(&mut output, &value, &mut state).is_ok();
-    assert_that(
-        rt,
-        is_written && state == state_with(&value.date(), kept, kept, kept),
-    );
+    let (value, mut output) = (wednesday(rt), Vec::new(alloc));
+    let (is_written, state) = write(&mut output, item, &value);
+    let wanted = state_with(&value.date(), kept, kept, kept);
+    assert_that(rt, is_written && state == wanted);
     output
+}
+
+/// Appends the text by the third version.
+fn appended_v3(rt: &impl Abort, alloc: Global, component: Component, kept: Kept) -> Vec<u8> {
+    let item = FormatDescriptionV3::new(FormatDescriptionV3Inner::from(component));
+    appended(rt, alloc, &item, kept)
 }
 
 /// The component is written, this is kept, and the third version writes the same.
 fn assert_kept(rt: &impl Abort, alloc: Global, component: Component, kept: Kept) {
     let written = appended(rt, alloc, &BorrowedFormatItem::Component(component), kept);
-    let third = FormatDescriptionV3::new(FormatDescriptionV3Inner::from(component));
-    let third = appended(rt, alloc, &third, kept);
+    let third = appended_v3(rt, alloc, component, kept);
     assert_same(rt, third.as_slice(), written.as_slice());
 }
 
@@ -54,11 +65,9 @@ fn assert_all_kept(rt: &impl Abort, alloc: Global, rows: &[(Component, &str, usi
 }
 
 #[test]
-fn a_component_keeps_what_it_asked_for(rt: HostRuntime) {
+fn a_component_keeps_what_it_asked_for_and_a_deprecated_one_what_its_current_one_keeps(
+    rt: HostRuntime,
+) {
     assert_all_kept(&rt, rt.alloc(), COMPONENTS);
-}
-
-#[test]
-fn a_deprecated_component_keeps_what_its_current_one_keeps(rt: HostRuntime) {
     assert_all_kept(&rt, rt.alloc(), DEPRECATED);
 }

@@ -31,11 +31,7 @@ const TIMESTAMPS: Rows = rows! {
     Timestamp(0, 0) => Hour24 { padding: Padding::Zero } "00",
 };
 
-#[test]
-fn seconds_round_down_and_milliseconds_toward_zero(rt: HostRuntime) {
-    assert_rows(&rt, rt.alloc(), TIMESTAMPS);
-}
-
+/// Half a millisecond before 1970.
 const JUST_BEFORE: Value = Value::Utc((1969, 12, 31), (23, 59, 59, 999_500_000));
 
 const AHEAD_OF_UTC: Value = Value::Moment((1970, 1, 1), (0, 0, 0, 0), (1, 0, 0));
@@ -47,11 +43,6 @@ const MOMENTS: Rows = rows! {
     AHEAD_OF_UTC => UnixTimestampSecond { sign_is_mandatory: false } "-3600",
     AHEAD_OF_UTC => UnixTimestampMillisecond { sign_is_mandatory: false } "-3600000",
 };
-
-#[test]
-fn moments_are_negative_before_1970_in_utc(rt: HostRuntime) {
-    assert_rows(&rt, rt.alloc(), MOMENTS);
-}
 
 /// Hours, minutes and seconds of an offset.
 const OFFSET_HOURS: Rows = signed! {
@@ -84,6 +75,12 @@ const OFFSET_PARTS: Rows = padded! {
     Offset(-5, -7, -9) => OffsetMinute "07" " 7" "7",
     Offset(-5, -7, -9) => OffsetSecond "09" " 9" "9",
 };
+
+#[test]
+fn seconds_round_down_and_milliseconds_toward_zero(rt: HostRuntime) {
+    assert_rows(&rt, rt.alloc(), TIMESTAMPS);
+    assert_rows(&rt, rt.alloc(), MOMENTS);
+}
 
 #[test]
 fn the_hour_of_an_offset_has_the_sign_of_the_whole(rt: HostRuntime) {

@@ -1,122 +1,89 @@
 //! Texts by their parts, beside the lists of the same items, of every type of value: each kind of description
 //! as a part. The components are in `components_table`.
-use crate::examples::append_date_time;
+use crate::examples::append_clock;
+use crate::items::one;
 use crate::texts::{
     append, assert_refused, assert_same, assert_that, assert_value, measured, refusal_name,
 };
-use crate::values::{Value, date_at, moment, offset_at, time_at, timestamp_at};
-use std::alloc::Global;
-use std::default::Default;
+use crate::values::{Value, time_at};
+use std::alloc::{AllocError, Global};
 use std::process::Abort;
 use std::test::Fail;
 use time_below::format_description::{
     BorrowedFormatItem, Component, FormatDescriptionV3, FormatDescriptionV3Inner, OwnedFormatItem,
 };
-use time_below::{Date, OffsetDateTime, PlainDateTime, Time, Timestamp, UtcDateTime, UtcOffset};
 use time_fmt::laws::parts::{
     ascii_is_text, choices_mean_their_component, item_means_its_list, literal_means_its_bytes,
     pair_means_both_lists, pair_means_one_after_the_other,
 };
 use time_fmt::parts::*;
-use time_fmt::{BorrowedItems, ComponentProvider, Modifier};
-
-/// A value of each of the seven types, and a date whose year and century have no text in the ranges of
-/// four and two digits.
-#[derive(Drop)]
-pub(super) struct Values {
-    date: Date,
-    late_date: Date,
-    time: Time,
-    local: PlainDateTime,
-    utc: UtcDateTime,
-    moment: OffsetDateTime,
-    offset: UtcOffset,
-    timestamp: Timestamp,
-}
-
-impl Values {
-    /// Returns the values of 1997-11-12 9:55:06.123456789 -06:30, and the moment 879,351,906
-    /// seconds after 1970.
-    pub(super) fn new(rt: &impl Abort) -> Values {
-        let date = date_at(rt, (1997, 11, 12));
-        let time = time_at(rt, (9, 55, 6, 123_456_789));
-        Values {
-            date,
-            late_date: date_at(rt, (12_345, 11, 12)),
-            time,
-            local: PlainDateTime::new(date, time),
-            utc: UtcDateTime::new(date, time),
-            moment: example(rt),
-            offset: offset_at(rt, (-6, -30, 0)),
-            timestamp: timestamp_at(rt, (879_351_906, 123_456_789)),
-        }
-    }
-}
+use time_fmt::{BorrowedItems, Modifier};
 
 /// 1997-11-12 9:55:06.123456789 -06:30.
 const EXAMPLE: Value = Value::Moment((1997, 11, 12), (9, 55, 6, 123_456_789), (-6, -30, 0));
 
-fn example(rt: &impl Abort) -> OffsetDateTime {
-    moment(rt, (1997, 11, 12), (9, 55, 6, 123_456_789), (-6, -30, 0))
-}
+/// A date whose year and century have no text in the ranges of four and two digits.
+const LATE: Value = Value::Date(12_345, 11, 12);
+
+/// The example's part of each of the seven types, and the late date.
+const VALUES: &[Value] = &[
+    Value::Date(1997, 11, 12),
+    LATE,
+    Value::Time(9, 55, 6, 123_456_789),
+    Value::Local((1997, 11, 12), (9, 55, 6, 123_456_789)),
+    Value::Utc((1997, 11, 12), (9, 55, 6, 123_456_789)),
+    EXAMPLE,
+    Value::Offset(-6, -30, 0),
+    Value::Timestamp(879_351_906, 123_456_789),
+];
 
 /// Appends both to a vector of their own, after a byte, and compares bytes and answers.
-fn assert_as_list<P: Formattable, V: ComponentProvider>(
+fn assert_as_list<P: Formattable>(
     rt: &impl Abort,
     alloc: Global,
     parts: &P,
     items: &[BorrowedFormatItem<'_>],
-    value: &V,
-)
-where
-    V::State: Drop,
-{
+    value: Value,
+) {
     let (mut written, mut listed) = (Vec::new(alloc), Vec::new(alloc));
     let pushed = written.push(b'x').is_ok() && listed.push(b'x').is_ok();
     assert_that(rt, pushed);
-    let (answer, _) = append(alloc, &mut written, parts, value);
-    let (wanted, _) = append(alloc, &mut listed, &BorrowedItems(items), value);
+    let (answer, _) = append(rt, alloc, &mut written, parts, value);
+    let (wanted, _) = append(rt, alloc, &mut listed, &BorrowedItems(items), value);
     assert_same(rt, written.as_slice(), listed.as_slice());
     assert_same(rt, refusal_name(&answer), refusal_name(&wanted));
     assert_same(rt, answer.unwrap_or(0), wanted.unwrap_or(0));
 }
 
-/// Compares the parts with the list, of every value.
+/// Compares the parts with the list, of every value; and their text and width, of the example.
 fn assert_list<P: Formattable>(
     rt: &impl Abort,
     alloc: Global,
-    values: &Values,
     parts: &P,
     items: &[BorrowedFormatItem<'_>],
+    text: &str,
 ) {
-    assert_as_list(rt, alloc, parts, items, &values.date);
-    assert_as_list(rt, alloc, parts, items, &values.late_date);
-    assert_as_list(rt, alloc, parts, items, &values.time);
-    assert_as_list(rt, alloc, parts, items, &values.local);
-    assert_as_list(rt, alloc, parts, items, &values.utc);
-    assert_as_list(rt, alloc, parts, items, &values.moment);
-    assert_as_list(rt, alloc, parts, items, &values.offset);
-    assert_as_list(rt, alloc, parts, items, &values.timestamp);
+    for &value in VALUES {
+        assert_as_list(rt, alloc, parts, items, value);
+    }
+    let width = measured(&BorrowedItems(items));
+    assert_value(rt, alloc, parts, EXAMPLE, (text, width));
 }
 
-/// Compares the component between two literals with the list of the three items, of every value; and its
-/// text and width, of the example.
+/// Compares the component between two literals with the list of the three items.
 pub(super) fn assert_part<M: Modifier>(
     rt: &impl Abort,
     alloc: Global,
-    values: &Values,
-    (part, component): (M, Component),
+    part: M,
+    component: Component,
     text: &str,
 ) {
-    let parts = text!(b"<", part, b">");
     let items = [
         BorrowedFormatItem::StringLiteral("<"),
         BorrowedFormatItem::Component(component),
         BorrowedFormatItem::StringLiteral(">"),
     ];
-    assert_list(rt, alloc, values, &parts, &items);
-    let width = measured(&BorrowedItems(&items));
-    assert_value(rt, alloc, &parts, EXAMPLE, (text, width));
+    assert_list(rt, alloc, &text!(b"<", part, b">"), &items, text);
 }
 
 /// Compares the text of a tree as a part before the day.
@@ -129,22 +96,29 @@ const NOVEMBER: &[BorrowedFormatItem<'static>] = &[
     BorrowedFormatItem::StringLiteral(" "),
 ];
 
+/// The month and a space, as a list that owns its parts.
+fn november(alloc: Global) -> Result<Vec<OwnedFormatItem>, AllocError> {
+    let month = Component::MonthShort(MONTH_SHORT);
+    let mut items = one(alloc, OwnedFormatItem::Component(month))?;
+    items.push(OwnedFormatItem::StringLiteral(String::from_str(alloc, " ")?))?;
+    Ok(items)
+}
+
 #[test]
 fn trees_are_parts(rt: HostRuntime) -> Result<(), Fail> {
     let alloc = rt.alloc();
-    assert_tree(&rt, alloc, BorrowedFormatItem::Compound(NOVEMBER));
     assert_tree(&rt, alloc, BorrowedItems(NOVEMBER));
-    let mut owned = Vec::new(alloc);
-    owned.push(OwnedFormatItem::Component(Component::MonthShort(MONTH_SHORT)))?;
-    owned.push(OwnedFormatItem::StringLiteral(String::from_str(alloc, " ")?))?;
-    assert_tree(&rt, alloc, OwnedFormatItem::Compound(owned));
+    assert_tree(&rt, alloc, BorrowedFormatItem::Compound(NOVEMBER));
+    assert_tree(&rt, alloc, OwnedFormatItem::Compound(november(alloc)?));
     Ok(())
 }
 
 #[test]
-fn trees_of_the_third_version_are_parts(rt: HostRuntime) -> Result<(), Fail> {
-    let mut items = Vec::new(rt.alloc());
-    items.push(FormatDescriptionV3Inner::MonthShort(MONTH_SHORT))?;
+fn a_tree_of_the_third_version_is_a_part(rt: HostRuntime) -> Result<(), Fail> {
+    let mut items = one(
+        rt.alloc(),
+        FormatDescriptionV3Inner::MonthShort(MONTH_SHORT),
+    )?;
     items.push(FormatDescriptionV3Inner::BorrowedLiteral(" "))?;
     let inner = FormatDescriptionV3Inner::OwnedCompound(items);
     assert_tree(&rt, rt.alloc(), FormatDescriptionV3::new(inner));
@@ -167,29 +141,30 @@ fn a_text_of_33_parts_may_be_passed_to_a_function(rt: HostRuntime) {
         b"p", b"q", b"r", b"s", b"t", b"u", b"v", b"w", b"x", b"y", b"z", b"0", b"1", b"2", b" ",
         DAY, b".", MONTH
     );
-    let text = "abcdefghijklmnopqrstuvwxyz012 12.11";
-    assert_value(&rt, rt.alloc(), &many, EXAMPLE, (text, 35));
+    assert_same(&rt, measured(&many), 35);
 }
 
 // What precedes the refusal stays, and nothing follows it.
 #[test]
 fn a_refusal_in_the_midst_ends_the_text(rt: HostRuntime) {
-    let (alloc, values) = (rt.alloc(), Values::new(&rt));
     let refused = text!(YEAR_STANDARD, b"-", MONTH);
-    assert_refused(&rt, alloc, &refused, &values.late_date, "year");
-    let mut output = Vec::new(alloc);
-    let day = text!(DAY, b" ", HOUR, b" ", MONTH);
-    let (answer, _) = append(alloc, &mut output, &day, &values.date);
+    assert_refused(&rt, rt.alloc(), &refused, LATE, "year");
+    let mut output = Vec::new(rt.alloc());
+    let (day, value) = (
+        text!(DAY, b" ", HOUR, b" ", MONTH),
+        Value::Date(1997, 11, 12),
+    );
+    let (answer, _) = append(&rt, rt.alloc(), &mut output, &day, value);
     assert_same(&rt, refusal_name(&answer), "insufficient");
     assert_same(&rt, output.as_slice(), b"12 ".as_slice());
 }
 
 #[test]
-fn the_example_writes_a_date_and_a_time(rt: HostRuntime) {
+fn the_example_writes_the_clock(rt: HostRuntime) {
     let mut line = Vec::new(rt.alloc());
-    let written = append_date_time(&mut line, &example(&rt));
-    assert_that(&rt, matches!(&written, Ok(19)));
-    assert_same(&rt, line.as_slice(), b"1997-11-12 09:55:06".as_slice());
+    let written = append_clock(&mut line, &time_at(&rt, (9, 55, 6, 0)));
+    assert_that(&rt, matches!(&written, Ok(5)));
+    assert_same(&rt, line.as_slice(), b"09:55".as_slice());
 }
 
 #[test]

@@ -1,13 +1,12 @@
 //! Long texts, long outputs, long lists and deep trees. Memory is available, so no call is out of memory.
-use crate::texts::{DAY, append, assert_same, assert_that, assert_value, measured};
+use crate::items::{Tree, one};
+use crate::texts::{DAY, append, assert_same, assert_that, assert_value, made, measured};
 use crate::values::{WEDNESDAY, wednesday};
 use std::alloc::{AllocError, Global};
 use std::process::Abort;
 use std::test::Fail;
-use time_below::format_description::{
-    BorrowedFormatItem, FormatDescriptionV3, FormatDescriptionV3Inner, OwnedFormatItem,
-};
-use time_fmt::{BorrowedItems, Formattable};
+use time_below::format_description::{BorrowedFormatItem, metadata_of_node};
+use time_fmt::BorrowedItems;
 
 /// How many bytes the longest literals have.
 const LONG: usize = 100_000;
@@ -27,7 +26,7 @@ fn a_text_of_a_hundred_thousand_bytes_is_written(rt: HostRuntime) -> Result<(), 
 fn a_text_stands_behind_a_megabyte(rt: HostRuntime) -> Result<(), Fail> {
     let mut output = vec![in rt.alloc(); b'x'; BEYOND]?;
     let item = BorrowedFormatItem::Component(DAY);
-    let (answer, _) = append(rt.alloc(), &mut output, &item, &wednesday(&rt));
+    let (answer, _) = append(&rt, rt.alloc(), &mut output, &item, WEDNESDAY);
     assert_that(&rt, matches!(&answer, Ok(2)));
     assert_same(&rt, output.len(), BEYOND + 2);
     assert_that(&rt, output.as_slice().ends_with(b"x12".as_slice()));
@@ -49,8 +48,7 @@ fn assert_repeated(rt: &impl Abort, bytes: &[u8], letter: &[u8], count: usize) {
 fn each_byte_that_is_no_text_is_read_as_no_letter(rt: HostRuntime) -> Result<(), Fail> {
     let bytes = vec![in rt.alloc(); 0xff; LONG]?;
     let item = BorrowedFormatItem::Literal(bytes.as_slice());
-    let mut output = Vec::new(rt.alloc());
-    let (_, Ok(text)) = append(rt.alloc(), &mut output, &item, &wednesday(&rt)) else {
+    let Ok(text) = made(rt.alloc(), &item, &wednesday(&rt)) else {
         panic!(rt; "no text");
     };
     assert_repeated(&rt, text.as_str().as_bytes(), b"\xef\xbf\xbd", LONG);
@@ -66,7 +64,7 @@ fn a_list_of_ten_thousand_days_is_written(rt: HostRuntime) -> Result<(), Fail> {
     let list = BorrowedItems(items.as_slice());
     assert_same(&rt, measured(&list), 20_000);
     let mut output = Vec::new(rt.alloc());
-    let (count, _) = append(rt.alloc(), &mut output, &list, &wednesday(&rt));
+    let (count, _) = append(&rt, rt.alloc(), &mut output, &list, WEDNESDAY);
     assert_that(&rt, matches!(&count, Ok(20_000)));
     assert_repeated(&rt, output.as_slice(), b"12", 10_000);
     Ok(())
@@ -91,91 +89,62 @@ const TREES: &[(Level, usize)] = &[
     (Level::First, 1_000),
 ];
 
-// A tree borrows its parts for their whole life, so they are leaked here.
-fn borrowed(
+/// An item that is made of this one alone.
+fn around<K, T: Tree<K>>(alloc: Global, level: Level, item: T) -> Result<T, AllocError> {
+    Ok(match level {
+        Level::Optional => T::optional(true, Box::new(alloc, item)?),
+        Level::List => T::list(one(alloc, item)?),
+        Level::First => T::first(one(alloc, item)?),
+    })
+}
+
+/// The day in as many levels.
+fn nested<K, T: Tree<K>>(alloc: Global, level: Level, depth: usize) -> Result<T, AllocError> {
+    let mut item = T::component(DAY);
+    for _ in 0..depth {
+        item = around(alloc, level, item)?;
+    }
+    Ok(item)
+}
+
+/// The text of each tree is the day.
+pub(super) fn assert_levels<K, T: Tree<K>>(
+    rt: &impl Abort,
     alloc: Global,
-    level: Level,
-    depth: usize,
-) -> Result<BorrowedFormatItem<'static>, AllocError> {
-    let mut item = BorrowedFormatItem::Component(DAY);
-    for _ in 0..depth {
-        let items: &'static [BorrowedFormatItem<'static>] = vec![in alloc; item]?.leak();
-        item = match level {
-            Level::Optional => BorrowedFormatItem::Optional(&items[0]),
-            Level::List => BorrowedFormatItem::Compound(items),
-            Level::First => BorrowedFormatItem::First(items),
-        };
-    }
-    Ok(item)
-}
-
-fn owned(alloc: Global, level: Level, depth: usize) -> Result<OwnedFormatItem, AllocError> {
-    let mut item = OwnedFormatItem::Component(DAY);
-    for _ in 0..depth {
-        item = match level {
-            Level::Optional => OwnedFormatItem::Optional(Box::new(alloc, item)?),
-            Level::List => OwnedFormatItem::Compound(vec![in alloc; item]?),
-            Level::First => OwnedFormatItem::First(vec![in alloc; item]?),
-        };
-    }
-    Ok(item)
-}
-
-type Inner = FormatDescriptionV3Inner<'static>;
-
-fn owned_v3(alloc: Global, level: Level, depth: usize) -> Result<Inner, AllocError> {
-    let mut item = Inner::from(DAY);
-    for _ in 0..depth {
-        item = match level {
-            Level::Optional => Inner::OwnedOptional {
-                format: true,
-                item: Box::new(alloc, item)?,
-            },
-            Level::List => Inner::OwnedCompound(vec![in alloc; item]?),
-            Level::First => Inner::OwnedFirst(vec![in alloc; item]?),
-        };
-    }
-    Ok(item)
-}
-
-fn borrowed_v3(alloc: Global, level: Level, depth: usize) -> Result<Inner, AllocError> {
-    let mut item = Inner::from(DAY);
-    for _ in 0..depth {
-        let items: &'static [Inner] = vec![in alloc; item]?.leak();
-        item = match level {
-            Level::Optional => Inner::BorrowedOptional {
-                format: true,
-                item: &items[0],
-            },
-            Level::List => Inner::BorrowedCompound(items),
-            Level::First => Inner::BorrowedFirst(items),
-        };
-    }
-    Ok(item)
-}
-
-/// Compares the text of a tree that could be made, which is the day.
-fn assert_day<D: Formattable + Drop>(rt: &impl Abort, alloc: Global, made: Result<D, AllocError>) {
-    let Ok(item) = made else {
-        panic!(rt; "no memory");
-    };
-    assert_value(rt, alloc, &item, WEDNESDAY, ("12", 2));
-}
-
-#[test]
-fn trees_of_a_thousand_levels_are_written(rt: HostRuntime) {
+) -> Result<(), AllocError> {
     for &(level, depth) in TREES {
-        assert_day(&rt, rt.alloc(), borrowed(rt.alloc(), level, depth));
-        assert_day(&rt, rt.alloc(), owned(rt.alloc(), level, depth));
+        let item: T = nested(alloc, level, depth)?;
+        item.assert_text(rt, alloc, ("12", 2));
     }
+    Ok(())
 }
 
-#[test]
-fn trees_of_the_third_version_have_a_thousand_levels(rt: HostRuntime) {
-    for &(level, depth) in TREES {
-        let item = owned_v3(rt.alloc(), level, depth);
-        assert_day(&rt, rt.alloc(), item.map(FormatDescriptionV3::new));
-        let item = borrowed_v3(rt.alloc(), level, depth);
-        assert_day(&rt, rt.alloc(), item.map(FormatDescriptionV3::new));
+/// How many lists are in one another. Were each list measured twice, the innermost one would be
+/// measured 2^64 times.
+const LEVELS: usize = 64;
+
+/// The width of the innermost item, and of three more in each list.
+const WIDTH: usize = 2 * (3 * LEVELS + 1);
+
+/// A list of four items, of which this is the last.
+fn last_of_four<K, T: Tree<K>>(alloc: Global, item: T) -> Result<T, AllocError> {
+    let mut items = Vec::new(alloc);
+    for _ in 0..3 {
+        items.push(T::component(DAY))?;
     }
+    items.push(item)?;
+    Ok(T::list(items))
+}
+
+/// Nested lists are measured in linear time, of which no clause speaks.
+pub(super) fn assert_linear<K, T: Tree<K>>(
+    rt: &impl Abort,
+    alloc: Global,
+) -> Result<(), AllocError> {
+    let mut item = T::component(DAY);
+    for _ in 0..LEVELS {
+        item = last_of_four(alloc, item)?;
+    }
+    assert_same(rt, metadata_of_node(&item).max_bytes_needed, WIDTH);
+    Ok(())
 }

@@ -3,7 +3,6 @@ use crate::texts::{
     Rows, append, assert_components, assert_items, assert_rows, assert_same, assert_that,
 };
 use crate::values::Value::Time;
-use crate::values::time_at;
 use time_below::format_description::modifier::{Padding, SubsecondDigits, TrailingInput};
 use time_below::format_description::{BorrowedFormatItem as Item, Component, modifier};
 use time_fmt::parts;
@@ -14,6 +13,7 @@ const MINUTE: Item<'static> = Item::Component(Component::Minute(parts::MINUTE));
 
 const SECOND: Item<'static> = Item::Component(Component::Second(parts::SECOND));
 
+/// The 12-hour clock begins at 12, and marks for parsers write nothing.
 const TIMES: Rows = rows! {
     Time(0, 0, 0, 0) => Hour12 { padding: Padding::None } "12",
     Time(12, 0, 0, 0) => Hour12 { padding: Padding::None } "12",
@@ -29,11 +29,6 @@ const TIMES: Rows = rows! {
     Time(9, 55, 6, 0) => Ignore { count: 3 } "",
     Time(9, 55, 6, 0) => End { trailing_input: TrailingInput::Discard } "",
 };
-
-#[test]
-fn the_12_hour_clock_begins_at_12_and_marks_for_parsers_write_nothing(rt: HostRuntime) {
-    assert_rows(&rt, rt.alloc(), TIMES);
-}
 
 /// Rows of a number of decimals, their text and their width.
 macro_rules! decimals {
@@ -51,11 +46,6 @@ const DECIMALS: &[(Component, &str, usize)] = decimals! {
     Seven "1200000" 7, Eight "12000000" 8, Nine "120000000" 9, OneOrMore "12" 9,
 };
 
-#[test]
-fn as_many_decimals_are_written_as_asked_for(rt: HostRuntime) {
-    assert_components(&rt, rt.alloc(), Time(0, 0, 0, 120_000_000), DECIMALS);
-}
-
 const CLOCK: &[Item<'static>] = &[
     HOUR,
     Item::StringLiteral(":"),
@@ -64,6 +54,7 @@ const CLOCK: &[Item<'static>] = &[
     SECOND,
 ];
 
+/// A tree is its items in order, or its first.
 const TREES: &[(Item<'static>, &str, usize)] = &[
     (Item::Compound(CLOCK), "09:55:06", 8),
     (Item::First(&[MINUTE, SECOND]), "55", 2),
@@ -73,16 +64,18 @@ const TREES: &[(Item<'static>, &str, usize)] = &[
 ];
 
 #[test]
-fn a_tree_is_its_items_in_order_or_its_first(rt: HostRuntime) {
+fn times_have_the_clock_and_as_many_decimals_as_asked_for(rt: HostRuntime) {
+    assert_rows(&rt, rt.alloc(), TIMES);
+    assert_components(&rt, rt.alloc(), Time(0, 0, 0, 120_000_000), DECIMALS);
     assert_items(&rt, rt.alloc(), Time(9, 55, 6, 120_000_000), TREES);
 }
 
 #[test]
 fn a_second_text_stands_behind_the_first(rt: HostRuntime) {
-    let value = time_at(&rt, (9, 55, 6, 0));
+    let value = Time(9, 55, 6, 0);
     let mut output = Vec::new(rt.alloc());
-    let (first, _) = append(rt.alloc(), &mut output, &HOUR, &value);
-    let (second, _) = append(rt.alloc(), &mut output, &MINUTE, &value);
+    let (first, _) = append(&rt, rt.alloc(), &mut output, &HOUR, value);
+    let (second, _) = append(&rt, rt.alloc(), &mut output, &MINUTE, value);
     assert_that(&rt, matches!(&first, Ok(2)) && matches!(&second, Ok(2)));
     assert_same(&rt, output.as_slice(), b"0955".as_slice());
 }

@@ -1,7 +1,9 @@
 //! Descriptions of each kind, deprecated components, and metadata.
+use crate::fmt::sizes::{assert_levels, assert_linear};
+use crate::items::{Held, Lent, Tree, one};
 use crate::texts::{DAY, assert_refused, assert_same, assert_that, assert_value, measured};
-use crate::values::{WEDNESDAY, date_at, time_at};
-use std::alloc::Global;
+use crate::values::{Value, WEDNESDAY, time_at};
+use std::alloc::{AllocError, Global};
 use std::process::Abort;
 use std::test::Fail;
 use time_below::format_description::modifier::{Padding, YearRange, YearRepr};
@@ -17,9 +19,111 @@ use time_fmt::{
 
 const MONTH: Component = Component::MonthNumerical(time_fmt::parts::MONTH);
 
-/// Compares the text and the width of an owned item, for the Wednesday.
-fn assert_owned(rt: &impl Abort, alloc: Global, item: Owned, text: &str, width: usize) {
-    assert_value(rt, alloc, &item, WEDNESDAY, (text, width));
+const NAME: Component = Component::MonthLong(time_fmt::parts::MONTH_LONG);
+
+/// Two components, and a slash between them.
+fn slashed<K, T: Tree<K>>(
+    alloc: Global,
+    first: Component,
+    second: Component,
+) -> Result<Vec<T>, AllocError> {
+    let mut items = one(alloc, T::component(first))?;
+    items.push(T::literal(alloc, "/")?)?;
+    items.push(T::component(second))?;
+    Ok(items)
+}
+
+/// A literal and the day.
+fn with_literal<K, T: Tree<K>>(alloc: Global) -> Result<Vec<T>, AllocError> {
+    let mut items = one(alloc, T::literal(alloc, "on ")?)?;
+    items.push(T::component(DAY))?;
+    Ok(items)
+}
+
+/// A literal, the first of two items, and the day.
+fn with_first<K, T: Tree<K>>(alloc: Global) -> Result<Vec<T>, AllocError> {
+    let mut months = one(alloc, T::component(NAME))?;
+    months.push(T::component(DAY))?;
+    let mut items = one(alloc, T::literal(alloc, "on ")?)?;
+    items.push(T::first(months))?;
+    items.push(T::component(DAY))?;
+    Ok(items)
+}
+
+/// A list is written in order, and of a first the first item alone.
+fn assert_lists<K, T: Tree<K>>(rt: &impl Abort, alloc: Global) -> Result<(), AllocError> {
+    T::list(slashed::<K, T>(alloc, DAY, MONTH)?).assert_text(rt, alloc, ("12/11", 5));
+    T::list(slashed::<K, T>(alloc, MONTH, DAY)?).assert_text(rt, alloc, ("11/12", 5));
+    T::list(with_literal::<K, T>(alloc)?).assert_text(rt, alloc, ("on 12", 5));
+    T::list(with_first::<K, T>(alloc)?).assert_text(rt, alloc, ("on November12", 14));
+    T::first(slashed::<K, T>(alloc, DAY, MONTH)?).assert_text(rt, alloc, ("12", 2));
+    T::first(slashed::<K, T>(alloc, MONTH, DAY)?).assert_text(rt, alloc, ("11", 2));
+    T::first(with_literal::<K, T>(alloc)?).assert_text(rt, alloc, ("on ", 3));
+    T::first(Vec::new(alloc)).assert_text(rt, alloc, ("", 0));
+    Ok(())
+}
+
+/// Compares the text of an optional item.
+fn assert_optional<K, T: Tree<K>>(
+    rt: &impl Abort,
+    alloc: Global,
+    is_written: bool,
+    component: Component,
+    texts: (&str, usize),
+) -> Result<(), AllocError> {
+    let item = Box::new(alloc, T::component(component))?;
+    T::optional(is_written, item).assert_text(rt, alloc, texts);
+    Ok(())
+}
+
+/// Optional items: whether they are written is a choice of the third version alone.
+fn assert_optionals<K, T: Tree<K>>(
+    rt: &impl Abort,
+    alloc: Global,
+    [day, name]: [(&str, usize); 2],
+) -> Result<(), AllocError> {
+    assert_optional::<K, T>(rt, alloc, true, DAY, ("12", 2))?;
+    assert_optional::<K, T>(rt, alloc, true, NAME, ("November", 9))?;
+    assert_optional::<K, T>(rt, alloc, false, DAY, day)?;
+    assert_optional::<K, T>(rt, alloc, false, NAME, name)
+}
+
+/// All that is compared of trees of a kind, at one call: each names what it asks of the kind once more.
+fn assert_trees<K, T: Tree<K>>(
+    rt: &impl Abort,
+    alloc: Global,
+    left_out: [(&str, usize); 2],
+) -> Result<(), AllocError> {
+    assert_lists::<K, T>(rt, alloc)?;
+    assert_optionals::<K, T>(rt, alloc, left_out)?;
+    assert_levels::<K, T>(rt, alloc)?;
+    assert_linear::<K, T>(rt, alloc)
+}
+
+#[test]
+fn a_borrowed_tree_is_written(rt: HostRuntime) -> Result<(), Fail> {
+    let written = [("12", 2), ("November", 9)];
+    assert_trees::<Lent, Borrowed<'_>>(&rt, rt.alloc(), written)?;
+    Ok(())
+}
+
+#[test]
+fn an_owned_tree_is_written(rt: HostRuntime) -> Result<(), Fail> {
+    let written = [("12", 2), ("November", 9)];
+    assert_trees::<Held, Owned>(&rt, rt.alloc(), written)?;
+    Ok(())
+}
+
+#[test]
+fn a_borrowed_tree_of_the_third_version_is_written(rt: HostRuntime) -> Result<(), Fail> {
+    assert_trees::<Lent, Inner<'_>>(&rt, rt.alloc(), [("", 0), ("", 0)])?;
+    Ok(())
+}
+
+#[test]
+fn an_owned_tree_of_the_third_version_is_written(rt: HostRuntime) -> Result<(), Fail> {
+    assert_trees::<Held, Inner<'_>>(&rt, rt.alloc(), [("", 0), ("", 0)])?;
+    Ok(())
 }
 
 const DATE: &[Borrowed<'static>] = &[
@@ -27,37 +131,6 @@ const DATE: &[Borrowed<'static>] = &[
     Borrowed::StringLiteral("/"),
     Borrowed::Component(MONTH),
 ];
-
-#[test]
-fn borrowed_lists_are_written_in_order(rt: HostRuntime) {
-    let date = ("12/11", 5);
-    assert_value(&rt, rt.alloc(), &BorrowedItems(DATE), WEDNESDAY, date);
-    assert_value(&rt, rt.alloc(), &Borrowed::Compound(DATE), WEDNESDAY, date);
-}
-
-#[test]
-fn owned_lists_are_written_in_order(rt: HostRuntime) -> Result<(), Fail> {
-    let alloc = rt.alloc();
-    let items = vec![in alloc;
-        Owned::Component(DAY),
-        Owned::StringLiteral(String::from_str(alloc, "/")?),
-        Owned::Component(MONTH),
-    ]?;
-    let list = OwnedItems(items.as_slice());
-    assert_value(&rt, alloc, &list, WEDNESDAY, ("12/11", 5));
-    assert_owned(&rt, alloc, Owned::Compound(items), "12/11", 5);
-    Ok(())
-}
-
-#[test]
-fn of_a_first_the_first_is_written(rt: HostRuntime) -> Result<(), Fail> {
-    let alloc = rt.alloc();
-    let items = vec![in alloc; Owned::Component(DAY), Owned::Component(MONTH)]?;
-    assert_owned(&rt, alloc, Owned::First(items), "12", 2);
-    let optional = Owned::Optional(Box::new(alloc, Owned::Component(DAY))?);
-    assert_owned(&rt, alloc, optional, "12", 2);
-    Ok(())
-}
 
 const LONG_LINE: &[Borrowed<'static>] = &[
     Borrowed::StringLiteral(
@@ -67,10 +140,15 @@ const LONG_LINE: &[Borrowed<'static>] = &[
 ];
 
 #[test]
-fn a_text_may_have_more_than_64_bytes(rt: HostRuntime) {
+fn items_in_a_slice_are_a_list_also_of_more_than_64_bytes(rt: HostRuntime) -> Result<(), Fail> {
+    let alloc = rt.alloc();
+    assert_value(&rt, alloc, &BorrowedItems(DATE), WEDNESDAY, ("12/11", 5));
     let text = "The gate was opened at nine, and the last of the visitors had left it by 12";
-    let list = BorrowedItems(LONG_LINE);
-    assert_value(&rt, rt.alloc(), &list, WEDNESDAY, (text, 75));
+    assert_value(&rt, alloc, &BorrowedItems(LONG_LINE), WEDNESDAY, (text, 75));
+    let items = slashed::<Held, Owned>(alloc, DAY, MONTH)?;
+    let list = OwnedItems(items.as_slice());
+    assert_value(&rt, alloc, &list, WEDNESDAY, ("12/11", 5));
+    Ok(())
 }
 
 /// Lists, and whether they are sure to be text.
@@ -112,7 +190,6 @@ fn write_into_takes_the_room_that_there_is(rt: HostRuntime) -> Result<(), Fail> 
 
 #[test]
 fn a_deprecated_year_may_be_out_of_range(rt: HostRuntime) {
-    let value = date_at(&rt, (10_000, 1, 1));
     let item = Borrowed::Component(Component::Year(modifier::Year {
         padding: Padding::Zero,
         repr: YearRepr::Century,
@@ -121,7 +198,7 @@ fn a_deprecated_year_may_be_out_of_range(rt: HostRuntime) {
         sign_is_mandatory: false,
     }));
     assert_same(&rt, measured(&item), 5);
-    assert_refused(&rt, rt.alloc(), &item, &value, "year");
+    assert_refused(&rt, rt.alloc(), &item, Value::Date(10_000, 1, 1), "year");
 }
 
 #[test]
@@ -138,15 +215,25 @@ fn engines_write_where_there_is_room(rt: HostRuntime) -> Result<(), Fail> {
     Ok(())
 }
 
+/// Metadata of this width, of a text.
+fn width(max_bytes_needed: usize) -> Metadata {
+    Metadata {
+        max_bytes_needed,
+        guaranteed_utf8: true,
+    }
+}
+
 #[test]
-fn a_sum_of_metadata_adds_the_widths(rt: HostRuntime) {
-    let sum: Metadata = [3, 0, 4]
-        .iter()
-        .map(|width| Metadata {
-            max_bytes_needed: *width,
-            guaranteed_utf8: true,
-        })
-        .sum();
-    assert_same(&rt, sum.max_bytes_needed, 7);
-    assert_that(&rt, sum.guaranteed_utf8);
+fn a_sum_of_metadata_adds_the_widths_and_stops_at_the_greatest_number(rt: HostRuntime) {
+    let sum: Metadata = [width(3), width(0), width(4)].into_iter().sum();
+    assert_same(&rt, (sum.max_bytes_needed, sum.guaranteed_utf8), (7, true));
+    let bytes = Metadata {
+        max_bytes_needed: 1,
+        guaranteed_utf8: false,
+    };
+    let sum = width(usize::MAX) + bytes;
+    let greatest = (usize::MAX, false);
+    assert_same(&rt, (sum.max_bytes_needed, sum.guaranteed_utf8), greatest);
+    let sum = Metadata::default();
+    assert_same(&rt, (sum.max_bytes_needed, sum.guaranteed_utf8), (0, true));
 }

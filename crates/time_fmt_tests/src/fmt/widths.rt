@@ -57,11 +57,7 @@ fn assert_within(rt: &impl Abort, alloc: Global, rows: &[(Component, &str, usize
 }
 
 #[test]
-fn each_component_fills_its_width(rt: HostRuntime) {
+fn each_component_fills_its_width_and_deprecated_ones_are_within_theirs(rt: HostRuntime) {
     assert_filled(&rt, rt.alloc(), COMPONENTS);
-}
-
-#[test]
-fn deprecated_components_are_within_their_width(rt: HostRuntime) {
     assert_within(&rt, rt.alloc(), DEPRECATED);
 }

@@ -56,23 +56,12 @@ const DATES: Rows = groups! {
     Date(-999_999, 1, 1) => DATE "-999999 01 01 001 1 -999999 01 00 01 ",
 };
 
-#[test]
-fn a_date_has_its_components(rt: HostRuntime) {
-    assert_same(&rt, measured(&Item::Compound(DATE)), 37);
-    assert_groups(&rt, rt.alloc(), DATES);
-}
-
 const TIMES_AND_OFFSETS: Rows = groups! {
     Time(9, 55, 6, 120_000_000) => TIME "09 55 06 120000000 AM ",
     Time(12, 0, 0, 0) => TIME "12 00 00 000000000 PM ",
     Offset(0, -30, 0) => OFFSET "-00 30 00 ",
     Offset(0, 1, -1) => OFFSET "+00 01 01 ",
 };
-
-#[test]
-fn a_time_and_an_offset_have_their_components(rt: HostRuntime) {
-    assert_groups(&rt, rt.alloc(), TIMES_AND_OFFSETS);
-}
 
 const LOCAL: Value = Local((1997, 11, 12), (9, 55, 6, 0));
 
@@ -96,11 +85,6 @@ const MOMENTS: Rows = groups! {
     PAST_THE_LAST => MOMENT "31494784874398 31494784874398000 ",
 };
 
-#[test]
-fn a_date_with_a_time_has_the_components_of_both(rt: HostRuntime) {
-    assert_groups(&rt, rt.alloc(), MOMENTS);
-}
-
 const TIMESTAMPS: Rows = groups! {
     Timestamp(31_494_784_780_799, 999_999_999) => DATE "+999999 12 31 365 5 +999999 52 52 52 ",
     Timestamp(31_494_784_780_799, 999_999_999) => TIME "23 59 59 999999999 PM ",
@@ -115,6 +99,10 @@ const TIMESTAMPS: Rows = groups! {
 };
 
 #[test]
-fn a_timestamp_has_the_components_of_its_moment_in_utc(rt: HostRuntime) {
+fn each_type_has_its_components_and_a_timestamp_those_of_its_moment_in_utc(rt: HostRuntime) {
+    assert_same(&rt, measured(&Item::Compound(DATE)), 37);
+    assert_groups(&rt, rt.alloc(), DATES);
+    assert_groups(&rt, rt.alloc(), TIMES_AND_OFFSETS);
+    assert_groups(&rt, rt.alloc(), MOMENTS);
     assert_groups(&rt, rt.alloc(), TIMESTAMPS);
 }
