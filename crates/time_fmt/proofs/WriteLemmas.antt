@@ -4,22 +4,14 @@ use Rattle.std.proofs.Common.{◌≡◌, ℕ, ◌+◌, ◌≤◌, ◌++◌, true
 use Rattle.std.proofs.Common.{refl, sym, ap, ◌∙◌, arith, Option, Some, None, IsSome, IsSomeAnd, IfNone, MatchOption, Result, Ok, Err, Vec, vec_len}
 use Rattle.std.proofs.lemmas.List.{append-nil}
 use Rattle.std.specs.Global.{Global}
-use Rattle.std.specs.Prelude.{nat_le}
+use Rattle.std.specs.Prelude.{codes, nat_le}
+use Rattle.time_below.specs.ComponentRange.{conditional_range}
 use Rattle.time_fmt.specs.declared.error.Format.{Format}
 use Rattle.time_fmt.specs.Kind.{in_standard_range}
-use Rattle.time_fmt.specs.Outcome.{Outcome, Refusal, Names, Appends, AppendsUpTo, AppendsUnlessRefused, Adds, done, refused}
-use Rattle.time_fmt.specs.Outcome.{join}
+use Rattle.time_fmt.specs.Outcome.{Outcome, Refusal, Names, Appends, AppendsUpTo, AppendsUnlessRefused, AppendsWhole, Adds}
+use Rattle.time_fmt.specs.Outcome.{done, refused}
+use Rattle.time_fmt.specs.Outcome.{join, out_of_range}
 use Rattle.time_fmt.specs.Room.{Writes, WritesUpTo}
-
--- what was written first, and then the rest, is the one text after the other
-pub writes_then : {old mid new : Vec ℕ Global} {m n : ℕ} {a b : List ℕ} → Writes old mid m a → Writes mid new n b
-    → Writes old new (m + n) (a ++ b)
-writes_then {old} {a = a} {b = b} first second = record {
-  appended = second.appended ∙ ap (λ (items : List ℕ). items ++ b) first.appended ∙ append_assoc old.items a b;
-  counted = omega (arith, first.counted, second.counted, length-append a b);
-  grown = omega (arith, first.grown, second.grown, length-append a b);
-  capacity = second.capacity ∙ first.capacity;
-}
 
 -- the text of an outcome with no refusal is appended
 pub appends_text : {old new : Vec ℕ Global} {n : ℕ} {text : List ℕ} → Writes old new n text
@@ -111,19 +103,27 @@ appends_second {old} a b first second = rw (join_done a b first.counted.0) (reco
 
 -- a text that was written is there whole
 pub whole_text : {width n : ℕ} {text : List ℕ} {old new : Vec ℕ Global} → Writes old new n text → length text ≤ width
-    → AppendsUpTo width old new (Ok n) (done text)
-whole_text w h = record { appends = appends_text w; within = omega (arith, w.grown, h) }
+    → AppendsWhole width old new (Ok n) (done text)
+whole_text w h = record { appends = appends_text w; whole = tt; within = omega (arith, w.grown, h) }
+
+-- an outcome that is refused has no bytes
+nothing_of : {width : ℕ} (output : Vec ℕ Global) (e : Format) (r : Refusal) → Names e r
+    → AppendsWhole width output output (Err e) (refused r)
+nothing_of output e r named =
+    record { appends = appends_nothing output e r named; whole = refl; within = omega arith }
 
 -- a year or a century in the standard range is written
 pub in_range : {width count : ℕ} (greatest n : ℕ) (text : List ℕ) {old new : Vec ℕ Global} → n ≤ greatest
     → Writes old new count text → length text ≤ width
-    → AppendsUpTo width old new (Ok count) (in_standard_range greatest n text)
+    → AppendsWhole width old new (Ok count) (in_standard_range greatest n text)
 in_range greatest n text below w h = let is : nat_le n greatest ≡ true = grind arith in rw is (whole_text w h)
 
 -- a number beyond its range is refused
-pub beyond_range : (greatest n : ℕ) (text : List ℕ) → (n ≤ greatest → false ≡ true)
-    → IsSome (in_standard_range greatest n text).refusal
-beyond_range greatest n text never = let not : nat_le n greatest ≡ false = grind (arith, never) in rw not refl
+pub beyond_range : {width : ℕ} (greatest n : ℕ) (text : List ℕ) (output : Vec ℕ Global) (e : Format)
+    → (n ≤ greatest → false ≡ true) → Names e (out_of_range (conditional_range (codes "year")))
+    → AppendsWhole width output output (Err e) (in_standard_range greatest n text)
+beyond_range greatest n text output e never named =
+    let not : nat_le n greatest ≡ false = grind (arith, never) in rw not (nothing_of output e _ named)
 
 -- what is written within a smaller width, or is refused
 pub within_greater : {greatest width : ℕ} (o : Outcome) (written : Option ℕ) (old new : Vec ℕ Global)

@@ -55,6 +55,12 @@ abbrev pub AppendsUnlessRefused : ℕ → Vec ℕ Global → Vec ℕ Global → 
 AppendsUnlessRefused width old new None o = (new ≡ old) × IsSome o.refusal
 AppendsUnlessRefused width old new (Some count) o = AppendsUpTo width old new (Ok count) o
 
+-- the bytes of the outcome are appended, or a refusal leaves all unchanged
+pub record AppendsWhole (width : ℕ) (old new : Vec ℕ Global) (answer : Result ℕ Format) (o : Outcome) : Type 0 where
+  pub appends : Appends old new answer o
+  pub whole : IfErr answer (λ _. new ≡ old)
+  pub within : vec_len new ≤ vec_len old + width
+
 -- the bytes of the outcome are appended, and the capacity may change
 pub record Adds (old new : Vec ℕ Global) (answer : Result ℕ Format) (o : Outcome) : Type 0 where
   pub appended : new.items ≡ old.items ++ o.bytes

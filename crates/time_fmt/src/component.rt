@@ -31,19 +31,19 @@ pub(crate) fn write_often<V: ComponentProvider>(
     ensures agrees { V.agrees state.new value.now }
 {
     match component {
-        Component::Day(part) => part.write(output, value, state),
-        Component::MonthShort(part) => part.write(output, value, state),
-        Component::MonthNumerical(part) => part.write(output, value, state),
-        Component::WeekdayShort(part) => part.write(output, value, state),
-        Component::CalendarYearFullExtendedRange(part) => part.write(output, value, state),
-        Component::Hour12(part) => part.write(output, value, state),
-        Component::Hour24(part) => part.write(output, value, state),
-        Component::Minute(part) => part.write(output, value, state),
-        Component::Period(part) => part.write(output, value, state),
-        Component::Second(part) => part.write(output, value, state),
-        Component::Subsecond(part) => part.write(output, value, state),
-        Component::OffsetHour(part) => part.write(output, value, state),
-        Component::OffsetMinute(part) => part.write(output, value, state),
+        Component::Day(part) => write_here(part, output, value, state),
+        Component::MonthShort(part) => write_here(part, output, value, state),
+        Component::MonthNumerical(part) => write_here(part, output, value, state),
+        Component::WeekdayShort(part) => write_here(part, output, value, state),
+        Component::CalendarYearFullExtendedRange(part) => write_here(part, output, value, state),
+        Component::Hour12(part) => write_here(part, output, value, state),
+        Component::Hour24(part) => write_here(part, output, value, state),
+        Component::Minute(part) => write_here(part, output, value, state),
+        Component::Period(part) => write_here(part, output, value, state),
+        Component::Second(part) => write_here(part, output, value, state),
+        Component::Subsecond(part) => write_here(part, output, value, state),
+        Component::OffsetHour(part) => write_here(part, output, value, state),
+        Component::OffsetMinute(part) => write_here(part, output, value, state),
         _ => None,
     }
 }
@@ -169,7 +169,27 @@ fn write_apart<M: Modifier, V: ComponentProvider>(
         output.old output.new result (component_outcome (M.component_of part) (V.facts value.now)) }
     ensures agrees { V.agrees state.new value.now }
 {
-    part.write(output, value, state)
+    write_here(part, output, value, state)
+}
+
+// Writes any component that is not deprecated, by its own choices, and nothing if it is refused.
+#[inline(always)]
+fn write_here<M: Modifier, V: ComponentProvider>(
+    part: M,
+    output: &mut Vec<u8>,
+    value: &V,
+    state: &mut V::State,
+) -> Option<usize>
+    requires room { HasRoom output.old (component_width (M.component_of part)) }
+    requires agrees { V.agrees state.old value.now }
+    ensures appends { AppendsUnlessRefused (component_width (M.component_of part))
+        output.old output.new result (component_outcome (M.component_of part) (V.facts value.now)) }
+    ensures agrees { V.agrees state.new value.now }
+{
+    match part.write(output, value, state) {
+        Ok(count) => Some(count),
+        Err(_) => None,
+    }
 }
 
 /// Appends the text of any component, or nothing if it is refused, and returns how the text ends.

@@ -1,8 +1,7 @@
 //! How a text of the engine ends.
-ghost use Rattle.std.specs.Prelude.{◌≡◌, None, IfOk, IfErr, IsSomeAnd, codes};
-ghost use Rattle.time_below.specs.ComponentRange.{conditional_range};
+ghost use Rattle.std.specs.Prelude.{◌≡◌, None, IfOk, IfErr, IsSomeAnd};
 ghost use Rattle.time_fmt.specs.Ending.{refusal_of};
-ghost use Rattle.time_fmt.specs.Outcome.{Names, out_of_range};
+ghost use Rattle.time_fmt.specs.Outcome.{Names};
 
 use crate::error::Format;
 use time_below::ComponentRange;
@@ -29,17 +28,9 @@ impl Ending {
         match self {
             Ending::Complete => Ok(count),
             Ending::Unsupplied => Err(Format::InsufficientTypeInformation),
-            Ending::YearOutOfRange => Err(year_out_of_range()),
+            Ending::YearOutOfRange => {
+                Err(Format::ComponentRange(ComponentRange::conditional("year")))
+            }
         }
     }
-}
-
-/// The error of a year that is outside the range of its component. A call of its own keeps the texts of parts
-/// small enough to be inlined.
-#[cold]
-#[inline(never)]
-pub(crate) fn year_out_of_range() -> Format
-    ensures { Names result (out_of_range (conditional_range (codes "year"))) }
-{
-    Format::ComponentRange(ComponentRange::conditional("year"))
 }

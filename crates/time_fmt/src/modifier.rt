@@ -5,9 +5,10 @@ ghost use Rattle.time_below.specs.declared.format_description.component.Group.{G
 ghost use Rattle.time_below.specs.Facts.{Facts};
 ghost use Rattle.time_below.specs.Width.{component_width};
 ghost use Rattle.time_fmt.specs.Description.{component_outcome, supplied_outcome, has_group, is_supplied};
-ghost use Rattle.time_fmt.specs.Outcome.{AppendsUnlessRefused, refused, insufficient};
+ghost use Rattle.time_fmt.specs.Outcome.{AppendsWhole, refused, insufficient};
 ghost use Rattle.time_fmt.specs.Room.{HasRoom};
 
+use crate::error::Format;
 use time_below::format_description::Group;
 use time_provide::ComponentProvider;
 
@@ -32,42 +33,41 @@ pub trait Modifier: Copy {
     /// Appends its text, of a value that supplies its group. The output needs spare capacity for
     /// its width. Allocates nothing.
     ///
-    /// Returns the number of bytes appended, or `None` if a year is outside the range of the component,
-    /// which then has no bytes.
+    /// Returns the number of bytes appended, or the refusal of the component, which has no bytes.
     fn write_supplied<V: ComponentProvider>(
         self,
         output: &mut Vec<u8>,
         value: &V,
         state: &mut V::State,
-    ) -> Option<usize>
+    ) -> Result<usize, Format>
         requires supplied { IsTrue (is_supplied V.SUPPLIES_DATE V.SUPPLIES_TIME
             V.SUPPLIES_OFFSET V.SUPPLIES_TIMESTAMP GROUP) }
         requires room { HasRoom output.old (component_width (component_of self)) }
         requires agrees { V.agrees state.old value.now }
-        ensures appends { AppendsUnlessRefused (component_width (component_of self))
+        ensures appends { AppendsWhole (component_width (component_of self))
             output.old output.new result
             (supplied_outcome (component_of self) (V.facts value.now)) }
         ensures agrees { V.agrees state.new value.now };
 
     /// Appends its text. The output needs spare capacity for its width. Allocates nothing.
     ///
-    /// Returns the number of bytes appended, or `None` if the component is refused, which then has no bytes.
+    /// Returns the number of bytes appended, or the refusal of the component, which has no bytes.
     #[inline(always)]
     final fn write<V: ComponentProvider>(
         self,
         output: &mut Vec<u8>,
         value: &V,
         state: &mut V::State,
-    ) -> Option<usize>
+    ) -> Result<usize, Format>
         requires room { HasRoom output.old (component_width (component_of self)) }
         requires agrees { V.agrees state.old value.now }
-        ensures appends { AppendsUnlessRefused (component_width (component_of self))
+        ensures appends { AppendsWhole (component_width (component_of self))
             output.old output.new result
             (component_outcome (component_of self) (V.facts value.now)) }
         ensures agrees { V.agrees state.new value.now }
     {
         if !supplies::<V>(Self::GROUP) {
-            return None;
+            return Err(Format::InsufficientTypeInformation);
         }
         self.write_supplied(output, value, state)
     }

@@ -7,7 +7,6 @@ ghost use Rattle.time_below.specs.Width.{component_width};
 ghost use Rattle.time_fmt.specs.Description.{component_outcome};
 ghost use Rattle.time_fmt.specs.Outcome.{done, join};
 
-use crate::ending::year_out_of_range;
 use crate::error::Format;
 use crate::formattable::{Formattable, make_room};
 use crate::metadata::ComputeMetadata;
@@ -138,9 +137,6 @@ impl<M: Modifier> Formattable for M {
         if !supplies::<V>(M::GROUP) {
             return Err(Format::InsufficientTypeInformation);
         }
-        match self.write_supplied(output, value, state) {
-            Some(count) => Ok(count),
-            None => Err(year_out_of_range()),
-        }
+        self.write_supplied(output, value, state)
     }
 }

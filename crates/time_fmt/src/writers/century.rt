@@ -1,19 +1,19 @@
 //! Centuries and the last two digits of a year: their texts, widths and writers.
 //!
 //! The calendar year and the year of the week calendar have the same texts.
-#![tactic(auto, using(crate::proofs::TextLemmas::signed_lengths))]
-
 ghost use Rattle.std.specs.Prelude.{◌≡◌, ◌%◌, int_lt, length, pos, refl, unsigned_abs};
 ghost use Rattle.time_below.specs.declared.format_description.component.Component.TheVariants as component;
 ghost use Rattle.time_below.specs.declared.format_description.component.Group.TheVariants as group;
 ghost use Rattle.time_fmt.specs.Kind.{kind_text, kind_outcome, extended_century, standard_century, century_of};
-ghost use Rattle.time_fmt.specs.Outcome.{AppendsUnlessRefused};
+ghost use Rattle.time_fmt.specs.Outcome.{AppendsWhole};
 ghost use Rattle.time_fmt.specs.Room.{HasRoom, Writes};
 ghost use Rattle.time_fmt.specs.Text.{padded_text};
 
+use crate::error::Format;
 use crate::modifier::Modifier;
 use crate::writers::digits::{fmt_sign, format_two_digits};
 use crate::writers::plain::write_many;
+use time_below::ComponentRange;
 use time_below::format_description::modifier::Padding;
 use time_below::format_description::{Group, modifier};
 use time_digits::num_fmt::one_to_four_digits_no_padding;
@@ -59,14 +59,15 @@ impl Modifier for modifier::CalendarYearCenturyExtendedRange {
     }
 
     #[inline(always)]
+    #[tactic(auto, using(crate::proofs::TextLemmas::signed_lengths))]
     fn write_supplied<V: ComponentProvider>(
         self,
         output: &mut Vec<u8>,
         value: &V,
         state: &mut V::State,
-    ) -> Option<usize> {
+    ) -> Result<usize, Format> {
         let year = value.calendar_year(state);
-        Some(write_any_century(output, year, self.padding, self.sign_is_mandatory))
+        Ok(write_any_century(output, year, self.padding, self.sign_is_mandatory))
     }
 
     ghost grouped = { λ _ _. refl };
@@ -110,12 +111,13 @@ impl Modifier for modifier::CalendarYearCenturyStandardRange {
     }
 
     #[inline(always)]
+    #[tactic(auto, using(crate::proofs::TextLemmas::signed_lengths))]
     fn write_supplied<V: ComponentProvider>(
         self,
         output: &mut Vec<u8>,
         value: &V,
         state: &mut V::State,
-    ) -> Option<usize> {
+    ) -> Result<usize, Format> {
         let year = value.calendar_year(state);
         write_accepted_century(output, year, self.padding, self.sign_is_mandatory)
     }
@@ -162,14 +164,15 @@ impl Modifier for modifier::IsoYearCenturyExtendedRange {
     }
 
     #[inline(always)]
+    #[tactic(auto, using(crate::proofs::TextLemmas::signed_lengths))]
     fn write_supplied<V: ComponentProvider>(
         self,
         output: &mut Vec<u8>,
         value: &V,
         state: &mut V::State,
-    ) -> Option<usize> {
+    ) -> Result<usize, Format> {
         let year = value.iso_year(state);
-        Some(write_any_century(output, year, self.padding, self.sign_is_mandatory))
+        Ok(write_any_century(output, year, self.padding, self.sign_is_mandatory))
     }
 
     ghost grouped = { λ _ _. refl };
@@ -214,12 +217,13 @@ impl Modifier for modifier::IsoYearCenturyStandardRange {
     }
 
     #[inline(always)]
+    #[tactic(auto, using(crate::proofs::TextLemmas::signed_lengths))]
     fn write_supplied<V: ComponentProvider>(
         self,
         output: &mut Vec<u8>,
         value: &V,
         state: &mut V::State,
-    ) -> Option<usize> {
+    ) -> Result<usize, Format> {
         let year = value.iso_year(state);
         write_accepted_century(output, year, self.padding, self.sign_is_mandatory)
     }
@@ -259,8 +263,8 @@ impl Modifier for modifier::CalendarYearLastTwo {
         output: &mut Vec<u8>,
         value: &V,
         state: &mut V::State,
-    ) -> Option<usize> {
-        Some(fmt_calendar_year_last_two(output, last_two(value.calendar_year(state)), self))
+    ) -> Result<usize, Format> {
+        Ok(fmt_calendar_year_last_two(output, last_two(value.calendar_year(state)), self))
     }
 
     ghost grouped = { λ _ _. refl };
@@ -298,8 +302,8 @@ impl Modifier for modifier::IsoYearLastTwo {
         output: &mut Vec<u8>,
         value: &V,
         state: &mut V::State,
-    ) -> Option<usize> {
-        Some(fmt_iso_year_last_two(output, last_two(value.iso_year(state)), self))
+    ) -> Result<usize, Format> {
+        Ok(fmt_iso_year_last_two(output, last_two(value.iso_year(state)), self))
     }
 
     ghost grouped = { λ _ _. refl };
@@ -371,24 +375,25 @@ fn write_any_century(
 }
 
 // Appends the century of a year of either calendar, if it has at most two digits.
+#[tactic(auto, using(crate::proofs::TextLemmas::signed_lengths))]
 fn write_accepted_century(
     output: &mut Vec<u8>,
     year: Year,
     padding: Padding,
     sign_is_mandatory: bool,
-) -> Option<usize>
+) -> Result<usize, Format>
     requires room { HasRoom output.old 3 }
-    ensures appends { AppendsUnlessRefused 3 output.old output.new result
+    ensures appends { AppendsWhole 3 output.old output.new result
         (kind_outcome (standard_century padding sign_is_mandatory
         (int_lt year (pos 0)) (century_of year))) }
 {
     let number = year.get();
     let century = number.unsigned_abs() / 100;
     if century > 99 {
-        return None;
+        return Err(Format::ComponentRange(ComponentRange::conditional("year")));
     }
     let century = ru8::new(century as u8).unwrap();
-    Some(write_standard_century(output, century, number < 0, padding, sign_is_mandatory))
+    Ok(write_standard_century(output, century, number < 0, padding, sign_is_mandatory))
 }
 
 // The last two digits of the year.

@@ -1,6 +1,4 @@
 //! The day, the month and the day of the year: their texts, widths and writers.
-#![tactic(auto, using(crate::proofs::TextLemmas::text_lengths))]
-
 ghost use Rattle.std.specs.Prelude.{◌≡◌, ◌≤◌, length, refl};
 ghost use Rattle.time_below.specs.declared.format_description.component.Component.TheVariants as component;
 ghost use Rattle.time_below.specs.declared.format_description.component.Group.TheVariants as group;
@@ -9,6 +7,7 @@ ghost use Rattle.time_fmt.specs.DateText.{month_name, short_name};
 ghost use Rattle.time_fmt.specs.Room.{HasRoom, Writes};
 ghost use Rattle.time_fmt.specs.Text.{padded_text};
 
+use crate::error::Format;
 use crate::modifier::Modifier;
 use crate::writers::digits::{format_three_digits, format_two_digits};
 use crate::writers::plain::{put_back, take_out, write_each, write_three};
@@ -40,13 +39,14 @@ impl Modifier for modifier::Day {
     }
 
     #[inline(always)]
+    #[tactic(auto, using(crate::proofs::TextLemmas::text_lengths))]
     fn write_supplied<V: ComponentProvider>(
         self,
         output: &mut Vec<u8>,
         value: &V,
         state: &mut V::State,
-    ) -> Option<usize> {
-        Some(fmt_day(output, value.day(state), self))
+    ) -> Result<usize, Format> {
+        Ok(fmt_day(output, value.day(state), self))
     }
 
     ghost grouped = { λ _ _. refl };
@@ -76,13 +76,14 @@ impl Modifier for modifier::MonthShort {
     }
 
     #[inline(always)]
+    #[tactic(auto, using(crate::proofs::TextLemmas::text_lengths))]
     fn write_supplied<V: ComponentProvider>(
         self,
         output: &mut Vec<u8>,
         value: &V,
         state: &mut V::State,
-    ) -> Option<usize> {
-        Some(fmt_month_short(output, value.month(state), self))
+    ) -> Result<usize, Format> {
+        Ok(fmt_month_short(output, value.month(state), self))
     }
 
     ghost grouped = { λ _ _. refl };
@@ -127,13 +128,14 @@ impl Modifier for modifier::MonthLong {
     }
 
     #[inline(always)]
+    #[tactic(auto, using(crate::proofs::TextLemmas::text_lengths))]
     fn write_supplied<V: ComponentProvider>(
         self,
         output: &mut Vec<u8>,
         value: &V,
         state: &mut V::State,
-    ) -> Option<usize> {
-        Some(fmt_month_long(output, value.month(state), self))
+    ) -> Result<usize, Format> {
+        Ok(fmt_month_long(output, value.month(state), self))
     }
 
     ghost grouped = { λ _ _. refl };
@@ -167,15 +169,16 @@ impl Modifier for modifier::MonthNumerical {
     }
 
     #[inline(always)]
+    #[tactic(auto, using(crate::proofs::TextLemmas::text_lengths))]
     fn write_supplied<V: ComponentProvider>(
         self,
         output: &mut Vec<u8>,
         value: &V,
         state: &mut V::State,
-    ) -> Option<usize> {
+    ) -> Result<usize, Format> {
         // A day is mostly beside it, and the computation of the day gives the month too.
         let _day = value.day(state);
-        Some(fmt_month_numerical(output, value.month(state), self))
+        Ok(fmt_month_numerical(output, value.month(state), self))
     }
 
     ghost grouped = { λ _ _. refl };
@@ -203,13 +206,14 @@ impl Modifier for modifier::Ordinal {
     }
 
     #[inline(always)]
+    #[tactic(auto, using(crate::proofs::TextLemmas::text_lengths))]
     fn write_supplied<V: ComponentProvider>(
         self,
         output: &mut Vec<u8>,
         value: &V,
         state: &mut V::State,
-    ) -> Option<usize> {
-        Some(fmt_ordinal(output, value.ordinal(state), self))
+    ) -> Result<usize, Format> {
+        Ok(fmt_ordinal(output, value.ordinal(state), self))
     }
 
     ghost grouped = { λ _ _. refl };

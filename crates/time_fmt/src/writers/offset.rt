@@ -6,6 +6,7 @@ ghost use Rattle.time_fmt.specs.Kind.{kind_text, offset_hour};
 ghost use Rattle.time_fmt.specs.Room.{HasRoom, Writes};
 ghost use Rattle.time_fmt.specs.Text.{padded_text};
 
+use crate::error::Format;
 use crate::modifier::Modifier;
 use crate::writers::digits::{fmt_sign, format_two_digits};
 use time_below::format_description::{Group, modifier};
@@ -50,9 +51,9 @@ impl Modifier for modifier::OffsetHour {
         output: &mut Vec<u8>,
         value: &V,
         state: &mut V::State,
-    ) -> Option<usize> {
+    ) -> Result<usize, Format> {
         let is_negative = value.offset_is_negative(state);
-        Some(fmt_offset_hour(output, is_negative, value.offset_hour(state), self))
+        Ok(fmt_offset_hour(output, is_negative, value.offset_hour(state), self))
     }
 
     ghost grouped = { λ _ _. refl };
@@ -92,8 +93,8 @@ impl Modifier for modifier::OffsetMinute {
         output: &mut Vec<u8>,
         value: &V,
         state: &mut V::State,
-    ) -> Option<usize> {
-        Some(fmt_offset_minute(output, value.offset_minute(state), self))
+    ) -> Result<usize, Format> {
+        Ok(fmt_offset_minute(output, value.offset_minute(state), self))
     }
 
     ghost grouped = { λ _ _. refl };
@@ -133,8 +134,8 @@ impl Modifier for modifier::OffsetSecond {
         output: &mut Vec<u8>,
         value: &V,
         state: &mut V::State,
-    ) -> Option<usize> {
-        Some(fmt_offset_second(output, value.offset_second(state), self))
+    ) -> Result<usize, Format> {
+        Ok(fmt_offset_second(output, value.offset_second(state), self))
     }
 
     ghost grouped = { λ _ _. refl };

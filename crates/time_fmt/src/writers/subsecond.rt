@@ -8,6 +8,7 @@ ghost use Rattle.time_digits.specs.Fraction.{trimmed_fraction};
 ghost use Rattle.time_fmt.specs.Room.{HasRoom, Writes};
 ghost use Rattle.time_fmt.specs.Text.{subsecond_text};
 
+use crate::error::Format;
 use crate::modifier::Modifier;
 use crate::writers::digits::{
     format_five_digits_pad_zero, format_four_digits_pad_zero, format_single_digit,
@@ -77,15 +78,15 @@ impl Modifier for modifier::Subsecond {
         output: &mut Vec<u8>,
         value: &V,
         state: &mut V::State,
-    ) -> Option<usize> {
+    ) -> Result<usize, Format> {
         let nanosecond = value.nanosecond(state);
         match self.digits {
-            SubsecondDigits::Three => Some(write_three_decimals(output, nanosecond)),
+            SubsecondDigits::Three => Ok(write_three_decimals(output, nanosecond)),
             // Mostly the last of the nine is not zero.
             SubsecondDigits::Nine | SubsecondDigits::OneOrMore if nanosecond.get() % 10 != 0 => {
-                Some(write_nine_digits(output, nanosecond))
+                Ok(write_nine_digits(output, nanosecond))
             }
-            rare => Some(write_rare_decimals(output, nanosecond, rare)),
+            rare => Ok(write_rare_decimals(output, nanosecond, rare)),
         }
     }
 

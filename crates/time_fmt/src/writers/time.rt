@@ -1,12 +1,11 @@
 //! The hour, the minute, the second and the half of the day: their texts, widths and writers.
-#![tactic(auto, using(crate::proofs::TextLemmas::text_lengths))]
-
 ghost use Rattle.std.specs.Prelude.{length, refl};
 ghost use Rattle.time_below.specs.declared.format_description.component.Component.TheVariants as component;
 ghost use Rattle.time_below.specs.declared.format_description.component.Group.TheVariants as group;
 ghost use Rattle.time_fmt.specs.Room.{HasRoom, Writes};
 ghost use Rattle.time_fmt.specs.Text.{padded_text, hour_12, period_text};
 
+use crate::error::Format;
 use crate::modifier::Modifier;
 use crate::writers::digits::format_two_digits;
 use crate::writers::plain::write;
@@ -40,13 +39,14 @@ impl Modifier for modifier::Hour12 {
     }
 
     #[inline(always)]
+    #[tactic(auto, using(crate::proofs::TextLemmas::text_lengths))]
     fn write_supplied<V: ComponentProvider>(
         self,
         output: &mut Vec<u8>,
         value: &V,
         state: &mut V::State,
-    ) -> Option<usize> {
-        Some(fmt_hour_12(output, value.hour(state), self))
+    ) -> Result<usize, Format> {
+        Ok(fmt_hour_12(output, value.hour(state), self))
     }
 
     ghost grouped = { λ _ _. refl };
@@ -74,13 +74,14 @@ impl Modifier for modifier::Hour24 {
     }
 
     #[inline(always)]
+    #[tactic(auto, using(crate::proofs::TextLemmas::text_lengths))]
     fn write_supplied<V: ComponentProvider>(
         self,
         output: &mut Vec<u8>,
         value: &V,
         state: &mut V::State,
-    ) -> Option<usize> {
-        Some(fmt_hour_24(output, value.hour(state), self))
+    ) -> Result<usize, Format> {
+        Ok(fmt_hour_24(output, value.hour(state), self))
     }
 
     ghost grouped = { λ _ _. refl };
@@ -108,13 +109,14 @@ impl Modifier for modifier::Minute {
     }
 
     #[inline(always)]
+    #[tactic(auto, using(crate::proofs::TextLemmas::text_lengths))]
     fn write_supplied<V: ComponentProvider>(
         self,
         output: &mut Vec<u8>,
         value: &V,
         state: &mut V::State,
-    ) -> Option<usize> {
-        Some(fmt_minute(output, value.minute(state), self))
+    ) -> Result<usize, Format> {
+        Ok(fmt_minute(output, value.minute(state), self))
     }
 
     ghost grouped = { λ _ _. refl };
@@ -155,8 +157,8 @@ impl Modifier for modifier::Period {
         output: &mut Vec<u8>,
         value: &V,
         state: &mut V::State,
-    ) -> Option<usize> {
-        Some(fmt_period(output, value.period(state), self))
+    ) -> Result<usize, Format> {
+        Ok(fmt_period(output, value.period(state), self))
     }
 
     ghost grouped = { λ _ _. refl };
@@ -184,13 +186,14 @@ impl Modifier for modifier::Second {
     }
 
     #[inline(always)]
+    #[tactic(auto, using(crate::proofs::TextLemmas::text_lengths))]
     fn write_supplied<V: ComponentProvider>(
         self,
         output: &mut Vec<u8>,
         value: &V,
         state: &mut V::State,
-    ) -> Option<usize> {
-        Some(fmt_second(output, value.second(state), self))
+    ) -> Result<usize, Format> {
+        Ok(fmt_second(output, value.second(state), self))
     }
 
     ghost grouped = { λ _ _. refl };

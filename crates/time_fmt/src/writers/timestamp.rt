@@ -5,6 +5,7 @@ ghost use Rattle.time_below.specs.declared.format_description.component.Group.Th
 ghost use Rattle.time_fmt.specs.Kind.{kind_text, timestamp};
 ghost use Rattle.time_fmt.specs.Room.{HasRoom, Writes};
 
+use crate::error::Format;
 use crate::modifier::Modifier;
 use crate::writers::digits::{fmt_sign, format_u64_pad_none};
 use time_below::format_description::{Group, modifier};
@@ -44,8 +45,8 @@ impl Modifier for modifier::UnixTimestampSecond {
         output: &mut Vec<u8>,
         value: &V,
         state: &mut V::State,
-    ) -> Option<usize> {
-        Some(fmt_unix_timestamp_second(output, value.unix_timestamp_seconds(state), self))
+    ) -> Result<usize, Format> {
+        Ok(fmt_unix_timestamp_second(output, value.unix_timestamp_seconds(state), self))
     }
 
     ghost grouped = { λ _ _. refl };
@@ -85,8 +86,8 @@ impl Modifier for modifier::UnixTimestampMillisecond {
         output: &mut Vec<u8>,
         value: &V,
         state: &mut V::State,
-    ) -> Option<usize> {
-        Some(fmt_unix_timestamp_millisecond(output, value.unix_timestamp_milliseconds(state), self))
+    ) -> Result<usize, Format> {
+        Ok(fmt_unix_timestamp_millisecond(output, value.unix_timestamp_milliseconds(state), self))
     }
 
     ghost grouped = { λ _ _. refl };

@@ -1,6 +1,4 @@
 //! The weekday and the weeks of the year: their texts, widths and writers.
-#![tactic(auto, using(crate::proofs::TextLemmas::text_lengths))]
-
 ghost use Rattle.std.specs.Prelude.{◌≡◌, ◌≤◌, length, decimal, refl};
 ghost use Rattle.time_below.specs.Calendar.{from_sunday};
 ghost use Rattle.time_below.specs.declared.format_description.component.Component.TheVariants as component;
@@ -10,6 +8,7 @@ ghost use Rattle.time_fmt.specs.DateText.{weekday_name, short_name, indexed};
 ghost use Rattle.time_fmt.specs.Room.{HasRoom, Writes};
 ghost use Rattle.time_fmt.specs.Text.{padded_text};
 
+use crate::error::Format;
 use crate::modifier::Modifier;
 use crate::writers::digits::{format_single_digit, format_two_digits};
 use crate::writers::plain::{put_back, take_out, write_each, write_three};
@@ -48,13 +47,14 @@ impl Modifier for modifier::WeekdayShort {
     }
 
     #[inline(always)]
+    #[tactic(auto, using(crate::proofs::TextLemmas::text_lengths))]
     fn write_supplied<V: ComponentProvider>(
         self,
         output: &mut Vec<u8>,
         value: &V,
         state: &mut V::State,
-    ) -> Option<usize> {
-        Some(fmt_weekday_short(output, value.weekday(state), self))
+    ) -> Result<usize, Format> {
+        Ok(fmt_weekday_short(output, value.weekday(state), self))
     }
 
     ghost grouped = { λ _ _. refl };
@@ -98,13 +98,14 @@ impl Modifier for modifier::WeekdayLong {
     }
 
     #[inline(always)]
+    #[tactic(auto, using(crate::proofs::TextLemmas::text_lengths))]
     fn write_supplied<V: ComponentProvider>(
         self,
         output: &mut Vec<u8>,
         value: &V,
         state: &mut V::State,
-    ) -> Option<usize> {
-        Some(fmt_weekday_long(output, value.weekday(state), self))
+    ) -> Result<usize, Format> {
+        Ok(fmt_weekday_long(output, value.weekday(state), self))
     }
 
     ghost grouped = { λ _ _. refl };
@@ -142,13 +143,14 @@ impl Modifier for modifier::WeekdaySunday {
     }
 
     #[inline(always)]
+    #[tactic(auto, using(crate::proofs::TextLemmas::text_lengths))]
     fn write_supplied<V: ComponentProvider>(
         self,
         output: &mut Vec<u8>,
         value: &V,
         state: &mut V::State,
-    ) -> Option<usize> {
-        Some(fmt_weekday_sunday(output, value.weekday(state), self))
+    ) -> Result<usize, Format> {
+        Ok(fmt_weekday_sunday(output, value.weekday(state), self))
     }
 
     ghost grouped = { λ _ _. refl };
@@ -186,13 +188,14 @@ impl Modifier for modifier::WeekdayMonday {
     }
 
     #[inline(always)]
+    #[tactic(auto, using(crate::proofs::TextLemmas::text_lengths))]
     fn write_supplied<V: ComponentProvider>(
         self,
         output: &mut Vec<u8>,
         value: &V,
         state: &mut V::State,
-    ) -> Option<usize> {
-        Some(fmt_weekday_monday(output, value.weekday(state), self))
+    ) -> Result<usize, Format> {
+        Ok(fmt_weekday_monday(output, value.weekday(state), self))
     }
 
     ghost grouped = { λ _ _. refl };
@@ -224,13 +227,14 @@ impl Modifier for modifier::WeekNumberIso {
     }
 
     #[inline(always)]
+    #[tactic(auto, using(crate::proofs::TextLemmas::text_lengths))]
     fn write_supplied<V: ComponentProvider>(
         self,
         output: &mut Vec<u8>,
         value: &V,
         state: &mut V::State,
-    ) -> Option<usize> {
-        Some(fmt_week_number_iso(output, value.iso_week_number(state), self))
+    ) -> Result<usize, Format> {
+        Ok(fmt_week_number_iso(output, value.iso_week_number(state), self))
     }
 
     ghost grouped = { λ _ _. refl };
@@ -262,13 +266,14 @@ impl Modifier for modifier::WeekNumberSunday {
     }
 
     #[inline(always)]
+    #[tactic(auto, using(crate::proofs::TextLemmas::text_lengths))]
     fn write_supplied<V: ComponentProvider>(
         self,
         output: &mut Vec<u8>,
         value: &V,
         state: &mut V::State,
-    ) -> Option<usize> {
-        Some(fmt_week_number_sunday(output, value.sunday_based_week(state), self))
+    ) -> Result<usize, Format> {
+        Ok(fmt_week_number_sunday(output, value.sunday_based_week(state), self))
     }
 
     ghost grouped = { λ _ _. refl };
@@ -300,13 +305,14 @@ impl Modifier for modifier::WeekNumberMonday {
     }
 
     #[inline(always)]
+    #[tactic(auto, using(crate::proofs::TextLemmas::text_lengths))]
     fn write_supplied<V: ComponentProvider>(
         self,
         output: &mut Vec<u8>,
         value: &V,
         state: &mut V::State,
-    ) -> Option<usize> {
-        Some(fmt_week_number_monday(output, value.monday_based_week(state), self))
+    ) -> Result<usize, Format> {
+        Ok(fmt_week_number_monday(output, value.monday_based_week(state), self))
     }
 
     ghost grouped = { λ _ _. refl };

@@ -1,19 +1,19 @@
 //! Whole years: their texts, widths and writers.
 //!
 //! The calendar year and the year of the week calendar have the same texts.
-#![tactic(auto, using(crate::proofs::TextLemmas::signed_lengths))]
-
 ghost use Rattle.std.specs.Prelude.{length, refl};
 ghost use Rattle.time_below.specs.declared.format_description.component.Component.TheVariants as component;
 ghost use Rattle.time_below.specs.declared.format_description.component.Group.TheVariants as group;
 ghost use Rattle.time_fmt.specs.Kind.{kind_text, kind_outcome, extended_year, standard_year};
-ghost use Rattle.time_fmt.specs.Outcome.{AppendsUnlessRefused};
+ghost use Rattle.time_fmt.specs.Outcome.{AppendsWhole};
 ghost use Rattle.time_fmt.specs.Room.{HasRoom, Writes};
 ghost use Rattle.time_fmt.specs.Text.{padded_text};
 
+use crate::error::Format;
 use crate::modifier::Modifier;
 use crate::writers::digits::{fmt_sign, format_four_digits};
 use crate::writers::plain::{put_back, take_out, write_many};
+use time_below::ComponentRange;
 use time_below::format_description::modifier::Padding;
 use time_below::format_description::{Group, modifier};
 use time_digits::num_fmt::four_to_six_digits;
@@ -50,13 +50,14 @@ impl Modifier for modifier::CalendarYearFullExtendedRange {
     }
 
     #[inline(always)]
+    #[tactic(auto, using(crate::proofs::TextLemmas::signed_lengths))]
     fn write_supplied<V: ComponentProvider>(
         self,
         output: &mut Vec<u8>,
         value: &V,
         state: &mut V::State,
-    ) -> Option<usize> {
-        Some(fmt_calendar_year_full_extended_range(output, value.calendar_year(state), self))
+    ) -> Result<usize, Format> {
+        Ok(fmt_calendar_year_full_extended_range(output, value.calendar_year(state), self))
     }
 
     ghost grouped = { λ _ _. refl };
@@ -90,12 +91,13 @@ impl Modifier for modifier::CalendarYearFullStandardRange {
     }
 
     #[inline(always)]
+    #[tactic(auto, using(crate::proofs::TextLemmas::signed_lengths))]
     fn write_supplied<V: ComponentProvider>(
         self,
         output: &mut Vec<u8>,
         value: &V,
         state: &mut V::State,
-    ) -> Option<usize> {
+    ) -> Result<usize, Format> {
         let year = value.calendar_year(state);
         write_accepted_year(output, year, self.padding, self.sign_is_mandatory)
     }
@@ -132,13 +134,14 @@ impl Modifier for modifier::IsoYearFullExtendedRange {
     }
 
     #[inline(always)]
+    #[tactic(auto, using(crate::proofs::TextLemmas::signed_lengths))]
     fn write_supplied<V: ComponentProvider>(
         self,
         output: &mut Vec<u8>,
         value: &V,
         state: &mut V::State,
-    ) -> Option<usize> {
-        Some(fmt_iso_year_full_extended_range(output, value.iso_year(state), self))
+    ) -> Result<usize, Format> {
+        Ok(fmt_iso_year_full_extended_range(output, value.iso_year(state), self))
     }
 
     ghost grouped = { λ _ _. refl };
@@ -172,12 +175,13 @@ impl Modifier for modifier::IsoYearFullStandardRange {
     }
 
     #[inline(always)]
+    #[tactic(auto, using(crate::proofs::TextLemmas::signed_lengths))]
     fn write_supplied<V: ComponentProvider>(
         self,
         output: &mut Vec<u8>,
         value: &V,
         state: &mut V::State,
-    ) -> Option<usize> {
+    ) -> Result<usize, Format> {
         let year = value.iso_year(state);
         write_accepted_year(output, year, self.padding, self.sign_is_mandatory)
     }
@@ -273,20 +277,21 @@ fn write_year_digits(output: &mut Vec<u8>, year: ru32<0, 999_999>, padding: Padd
 }
 
 // Appends a year of either calendar, if it has at most four digits.
+#[tactic(auto, using(crate::proofs::TextLemmas::signed_lengths))]
 fn write_accepted_year(
     output: &mut Vec<u8>,
     year: Year,
     padding: Padding,
     sign_is_mandatory: bool,
-) -> Option<usize>
+) -> Result<usize, Format>
     requires room { HasRoom output.old 5 }
-    ensures appends { AppendsUnlessRefused 5 output.old output.new result
+    ensures appends { AppendsWhole 5 output.old output.new result
         (kind_outcome (standard_year padding sign_is_mandatory year)) }
 {
     let number = year.get();
     if number.unsigned_abs() > 9_999 {
-        return None;
+        return Err(Format::ComponentRange(ComponentRange::conditional("year")));
     }
     let year = ri16::new(number as i16).unwrap();
-    Some(write_standard_year(output, year, padding, sign_is_mandatory))
+    Ok(write_standard_year(output, year, padding, sign_is_mandatory))
 }
