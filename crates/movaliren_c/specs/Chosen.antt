@@ -1,5 +1,5 @@
 -- The configuration of ISO 8601 that numbers choose.
-use Rattle.std.specs.Prelude.{ℕ, true, ◌==◌, List, [], ◌∷◌, Option, Some, None, Result, Ok, if◌then◌else◌}
+use Rattle.std.specs.Prelude.{ℕ, true, ◌==◌, [], ◌∷◌, Option, Some, None, Result, Ok, if◌then◌else◌}
 use Rattle.movaliren_c.specs.Answer.{gives}
 use Rattle.movaliren_c.specs.Value.{flag_at, numbered, with_value}
 use Rattle.movaliren_c.specs.declared.iso8601.config.IsoConfig.{IsoConfig}

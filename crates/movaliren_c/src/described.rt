@@ -140,7 +140,8 @@ where
 }
 
 /// Writes the text of the value by usual items, which allocates nothing. Writes nothing if the year has
-/// a sign or more than four digits, or if the text is long and may not fit.
+/// a sign or more than four digits, or if the text is long and may not fit. Within its caller it costs 13 to
+/// 24 instructions more.
 #[inline(always)]
 fn write_usual<V: ComponentProvider, T: DescribedValue<V>>(
     items: &[Item],

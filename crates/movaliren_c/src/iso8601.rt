@@ -8,7 +8,6 @@ ghost use Rattle.movaliren_c.specs.Value.{moment_value};
 ghost use Rattle.time_fmt.specs.Outcome.{done};
 ghost use Rattle.time_known.specs.Config.{default_choices};
 ghost use Rattle.time_known.specs.Iso8601.{iso8601_of};
-ghost use Rattle.time_known.specs.Iso8601Parts.{parts_text, parts_width};
 ghost use Rattle.time_known.specs.Iso8601Width.{iso8601_width};
 
 mod config;
@@ -25,7 +24,7 @@ use crate::writer::Writer;
 pub use config::IsoConfig;
 use config::{config_at, separated_config_at};
 use time_digits::ru8;
-use time_known::iso8601::{Config, DecimalSign, Parts, SeparatedText, Usual, put_parts};
+use time_known::iso8601::{Config, DecimalSign, SeparatedText, Usual, put_parts};
 use time_known::sink::Text;
 
 /// The format of ISO 8601 by its default configuration.
@@ -245,9 +244,10 @@ impl<S: Source> Iso8601By<S> {
     }
 }
 
-/// Writes the text to an array first, since a part may be refused after others.
+/// Writes the text to an array first, since a part may be refused after others. No text has more bytes: 13
+/// of the date, 265 of the time and 6 of the offset.
 #[inline(never)]
-#[tactic(auto, using(time_known::proofs::iso8601::PartsLemmas::chosen_text, time_known::proofs::iso8601::PartsLemmas::chosen_width))]
+#[tactic(auto, using(time_known::proofs::iso8601::PartsLemmas::chosen_text, time_known::proofs::iso8601::PartsLemmas::chosen_width, crate::proofs::AnswerLemmas::copied_whole))]
 fn copy_by(config: &Config, value: &LocalMoment, room: &mut [u8]) -> Result<usize, Reason>
     ensures { IsWritten result (iso8601_of config.now value.now) room.old room.new }
 {
@@ -256,19 +256,8 @@ fn copy_by(config: &Config, value: &LocalMoment, room: &mut [u8]) -> Result<usiz
     }
     let parts = parts_of(config, value);
     let _width = config.width();
-    copy_parts(config, &parts, room)
-}
-
-/// Writes the text of the parts by way of an array. No text has more bytes: 13 of the date, 265 of the
-/// time and 6 of the offset.
-#[inline(always)]
-#[tactic(auto, using(crate::proofs::AnswerLemmas::copied_whole))]
-fn copy_parts(config: &Config, parts: &Parts, room: &mut [u8]) -> Result<usize, Reason>
-    requires width { parts_width config.now parts.now ≤ 284 }
-    ensures { IsWritten result (parts_text config.now parts.now) room.old room.new }
-{
     let mut line = ArraySink::<284>::new();
-    match put_parts(&mut line, config, parts) {
+    match put_parts(&mut line, config, &parts) {
         Ok(()) => copy_text(line.as_bytes(), room),
         Err(component) => Err(reason_for(component)),
     }

@@ -127,6 +127,8 @@ fn time_component(
     }
 }
 
+/// The component of a number, with its padding, flag and decimals. In one match of all of them each item
+/// costs four instructions more.
 #[inline(always)]
 fn component_at(
     kind: u32,

@@ -48,6 +48,7 @@ impl KeptOffset {
     }
 
     /// The offset of this many seconds east of UTC, if it is at most 25:59:59 either way.
+    #[tactic(auto, using(crate::proofs::OffsetLemmas::settled_signed))]
     pub fn of_seconds(east: i64) -> Result<KeptOffset, Reason>
         ensures value { result ≡ east_value east }
         ensures range { IfOk result (λ _. unsigned_abs east < 93_600) }
@@ -56,27 +57,12 @@ impl KeptOffset {
         if size > 93_599 {
             return Err(Reason::OffsetHours);
         }
-        let (hours, minutes, seconds) = (size / 3600, size % 3600 / 60, size % 60);
-        Ok(KeptOffset::signed(east < 0, hours as u8, minutes as u8, seconds as u8))
-    }
-
-    /// The offset of parts of one sign.
-    #[tactic(auto, using(crate::proofs::OffsetLemmas::settled_signed))]
-    fn signed(is_negative: bool, hours: u8, minutes: u8, seconds: u8) -> KeptOffset
-        requires hours { hours ≤ 25 }
-        requires minutes { minutes ≤ 59 }
-        requires seconds { seconds ≤ 59 }
-        ensures { result ≡ record {
-          hours = signed is_negative hours;
-          minutes = signed is_negative minutes;
-          seconds = signed is_negative seconds;
-        } }
-    {
-        KeptOffset {
-            hours: signed_part(is_negative, hours),
-            minutes: signed_part(is_negative, minutes),
-            seconds: signed_part(is_negative, seconds),
-        }
+        let is_negative = east < 0;
+        Ok(KeptOffset {
+            hours: signed_part(is_negative, (size / 3600) as u8),
+            minutes: signed_part(is_negative, (size % 3600 / 60) as u8),
+            seconds: signed_part(is_negative, (size % 60) as u8),
+        })
     }
 
     /// The offset of UTC itself.
