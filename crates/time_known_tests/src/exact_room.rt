@@ -1,13 +1,29 @@
 //! The longest example of each format in a vector of exactly the width.
+ghost use Rattle.std.specs.Prelude.{◌<◌};
+ghost use Rattle.time_fmt.specs.Room.{HasRoom};
+
 use crate::texts::{assert_same, assert_that};
 use crate::values::wednesday;
 use std::alloc::{AllocError, Global};
 use std::default::Default;
 use std::process::Abort;
 use std::test::Fail;
-use time_fmt::{ComputeMetadata, Formattable};
+use time_fmt::{ComponentProvider, ComputeMetadata, Format, Formattable};
 use time_known::{Iso8601, Rfc2822, Rfc3339};
-use time_provide::DateState;
+
+/// Writes the text where there is room for it.
+fn write_at<D: Formattable, V: ComponentProvider>(
+    output: &mut Vec<u8>,
+    format: &D,
+    value: &V,
+) -> Result<usize, Format>
+where
+    V::State: Drop,
+    requires room { HasRoom output.old (D.width_of format.now) }
+    requires width { D.width_of format.now < usize.MAX }
+{
+    format.write_into(output, value, &mut V::State::default())
+}
 
 /// Writes the longest example into a vector of exactly the width, which the text fills.
 fn assert_fills<D: Formattable>(
@@ -20,11 +36,9 @@ fn assert_fills<D: Formattable>(
         panic!(rt; "too wide");
     }
     let mut output = Vec::with_capacity(alloc, width)?;
-    let longest = wednesday(rt, 123_456_789);
-    let answer = format.write_into(&mut output, &longest, &mut DateState::default());
+    let answer = write_at(&mut output, format, &wednesday(rt, 123_456_789));
     assert_that(rt, matches!(&answer, Ok(count) if *count == width));
-    assert_same(rt, output.len(), width);
-    assert_same(rt, output.capacity(), width);
+    assert_same(rt, (output.len(), output.capacity()), (width, width));
     Ok(())
 }
 

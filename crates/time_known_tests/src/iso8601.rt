@@ -1,14 +1,13 @@
 //! ISO 8601 by a configuration. Each row is tried with both decimal signs.
+ghost use Rattle.std.specs.Prelude.{IsTrue};
+
 use crate::texts::{self, append, assert_same, assert_that, refusal_name};
 use crate::values::Unit::{Hour, Minute, Second};
-use crate::values::{
-    Unit, date_at, moment, offset_at, precision, time_at, timestamp_at, wednesday,
-};
+use crate::values::Value::{Date, Moment, Offset, Time, Timestamp, Utc};
+use crate::values::{Unit, Value, WEDNESDAY, moment, precision, wednesday};
 use std::alloc::Global;
 use std::default::Default;
 use std::process::Abort;
-use std::test::Fail;
-use time_below::{OffsetDateTime, UtcDateTime};
 use time_fmt::{ComponentProvider, ComputeMetadata, Format};
 use time_known::Iso8601;
 use time_known::iso8601::DateKind::{Calendar, Ordinal, Week};
@@ -16,7 +15,6 @@ use time_known::iso8601::{
     Config, DateKind, DecimalSign, FormattedComponents as Parts, OffsetPrecision, format_date,
     format_offset, format_time,
 };
-use time_provide::DateState;
 
 /// What a row chooses.
 #[derive(Clone, Copy)]
@@ -75,55 +73,30 @@ fn signed(rt: &impl Abort, alloc: Global, text: &str, sign: DecimalSign) -> Stri
 }
 
 /// Compares the text, the count and the width by either decimal sign.
-fn assert_text<V: ComponentProvider>(
+fn assert_text(
     rt: &impl Abort,
     alloc: Global,
     format: &Iso8601,
-    value: &V,
-    text: &str,
-    width: usize,
-)
-where
-    V::State: Drop,
-{
+    value: Value,
+    (text, width): (&str, usize),
+) {
     for &sign in SIGNS {
         let text = signed(rt, alloc, text, sign);
-        texts::assert_text(
-            rt,
-            alloc,
-            &with_sign(format, sign),
-            value,
-            text.as_str(),
-            width,
-        );
+        let texts = (text.as_str(), width);
+        texts::assert_text(rt, alloc, &with_sign(format, sign), value, texts);
     }
 }
 
-/// Compares the text by the choices of a row. The text fills the width.
-fn assert_row<V: ComponentProvider>(
-    rt: &impl Abort,
-    alloc: Global,
-    choices: &Choices,
-    value: &V,
-    text: &str,
-)
-where
-    V::State: Drop,
-{
-    assert_text(rt, alloc, &format_by(choices), value, text, text.len());
+/// Compares the texts by the choices of rows. Each text fills the width.
+fn assert_rows(rt: &impl Abort, alloc: Global, rows: Rows) {
+    for &(value, choices, text) in rows {
+        let texts = (text, text.len());
+        assert_text(rt, alloc, &format_by(&choices), value, texts);
+    }
 }
 
 /// Compares the refusal by either decimal sign. No byte is appended.
-fn assert_refused<V: ComponentProvider>(
-    rt: &impl Abort,
-    alloc: Global,
-    format: &Iso8601,
-    value: &V,
-    name: &str,
-)
-where
-    V::State: Drop,
-{
+fn assert_refused(rt: &impl Abort, alloc: Global, format: &Iso8601, value: Value, name: &str) {
     for &sign in SIGNS {
         texts::assert_refused(rt, alloc, &with_sign(format, sign), value, name);
     }
@@ -131,19 +104,16 @@ where
 
 /// Formats the value with a fresh state into an empty vector, by either decimal sign, and compares the
 /// bytes that stand before the refusal, and its name.
-fn assert_refused_after<V: ComponentProvider>(
+fn assert_refused_after(
     rt: &impl Abort,
     alloc: Global,
     format: &Iso8601,
-    value: &V,
+    value: Value,
     (text, name): (&str, &str),
-)
-where
-    V::State: Drop,
-{
+) {
     for &sign in SIGNS {
         let mut output = Vec::new(alloc);
-        let (answer, _) = append(alloc, &mut output, &with_sign(format, sign), value);
+        let (answer, _) = append(rt, alloc, &mut output, &with_sign(format, sign), value);
         assert_same(rt, refusal_name(&answer), name);
         let text = signed(rt, alloc, text, sign);
         assert_same(rt, output.as_slice(), text.as_bytes());
@@ -157,107 +127,88 @@ macro_rules! rows {
     };
 }
 
-/// Rows of a year, a month and a day.
-type DateRows = &'static [((i32, u8, u8), Choices, &'static str)];
+type Rows = &'static [(Value, Choices, &'static str)];
 
-const DATES: DateRows = rows! { Date:
-    (1997, 11, 12) => { kind: Week } "1997-W46-3",
-    (2010, 1, 1) => { kind: Week } "2009-W53-5",
-    (2010, 1, 3) => { kind: Week } "2009-W53-7",
-    (1997, 11, 12) => { kind: Ordinal, separators: false } "1997316",
-    (1997, 11, 12) => { kind: Calendar, six_digits: true } "+001997-11-12",
-    (-44, 3, 15) => { kind: Calendar, separators: false, six_digits: true } "-0000440315",
-    (0, 1, 1) => { kind: Calendar, six_digits: true } "+000000-01-01",
-    (0, 1, 1) => { kind: Week, six_digits: true } "-000001-W52-6",
-    (-999_999, 12, 31) => { kind: Ordinal, six_digits: true } "-999999-365",
-    (999_999, 12, 31) => { kind: Calendar, six_digits: true } "+999999-12-31",
-    (9_999, 12, 31) => { kind: Calendar } "9999-12-31",
-    (0, 1, 1) => { kind: Calendar } "0000-01-01",
+const DATES: Rows = rows! { Date:
+    Date(1997, 11, 12) => { kind: Week } "1997-W46-3",
+    Date(2010, 1, 1) => { kind: Week } "2009-W53-5",
+    Date(2010, 1, 3) => { kind: Week } "2009-W53-7",
+    Date(1997, 11, 12) => { kind: Ordinal, separators: false } "1997316",
+    Date(1997, 11, 12) => { kind: Calendar, six_digits: true } "+001997-11-12",
+    Date(-44, 3, 15) => { kind: Calendar, separators: false, six_digits: true } "-0000440315",
+    Date(0, 1, 1) => { kind: Calendar, six_digits: true } "+000000-01-01",
+    Date(0, 1, 1) => { kind: Week, six_digits: true } "-000001-W52-6",
+    Date(-999_999, 12, 31) => { kind: Ordinal, six_digits: true } "-999999-365",
+    Date(999_999, 12, 31) => { kind: Calendar, six_digits: true } "+999999-12-31",
+    Date(9_999, 12, 31) => { kind: Calendar } "9999-12-31",
+    Date(0, 1, 1) => { kind: Calendar } "0000-01-01",
 };
 
-#[test]
-fn a_date_has_the_kind_and_the_digits_that_are_chosen(rt: HostRuntime) {
-    for &(date, choices, text) in DATES {
-        assert_row(&rt, rt.alloc(), &choices, &date_at(&rt, date), text);
-    }
-}
-
-const FAR_YEARS: DateRows = rows! { Date:
-    (0, 1, 1) => { kind: Week } "year",
-    (70_000, 1, 1) => { kind: Calendar } "year",
-    (-60_000, 1, 1) => { kind: Calendar } "year",
-    (65_536, 1, 1) => { kind: Calendar } "year",
-    (10_000, 1, 1) => { kind: Ordinal } "year",
-    (-1, 12, 31) => { kind: Ordinal } "year",
+const FAR_YEARS: Rows = rows! { Date:
+    Date(0, 1, 1) => { kind: Week } "year",
+    Date(70_000, 1, 1) => { kind: Calendar } "year",
+    Date(-60_000, 1, 1) => { kind: Calendar } "year",
+    Date(65_536, 1, 1) => { kind: Calendar } "year",
+    Date(10_000, 1, 1) => { kind: Ordinal } "year",
+    Date(-1, 12, 31) => { kind: Ordinal } "year",
 };
 
 #[test]
 fn refuses_a_year_that_four_digits_do_not_hold(rt: HostRuntime) {
     for &(date, choices, name) in FAR_YEARS {
-        let format = format_by(&choices);
-        assert_refused(&rt, rt.alloc(), &format, &date_at(&rt, date), name);
+        assert_refused(&rt, rt.alloc(), &format_by(&choices), date, name);
     }
 }
 
-const TIMES: &[((u8, u8, u8, u32), Choices, &str)] = rows! { Time:
-    (9, 55, 6, 0) => { precision: (Second, 0), separators: false } "T095506",
-    (9, 55, 6, 0) => { precision: (Hour, 3) } "09.918",
-    (9, 55, 6, 0) => { precision: (Minute, 2), separators: false } "T0955.10",
-    (0, 0, 10, 0) => { precision: (Hour, 9) } "00.002777777",
-    (23, 59, 59, 999_999_999) => { precision: (Minute, 9) } "23:59.999999999",
-    (9, 55, 6, 0) => { precision: (Hour, 0), separators: false } "T09",
-    (9, 55, 6, 0) => { precision: (Minute, 0) } "09:55",
-    (9, 55, 6, 120_000_000) => { precision: (Second, 3) } "09:55:06.120",
+const TIMES: Rows = rows! { Time:
+    Time(9, 55, 6, 0) => { precision: (Second, 0), separators: false } "T095506",
+    Time(9, 55, 6, 0) => { precision: (Hour, 3) } "09.918",
+    Time(9, 55, 6, 0) => { precision: (Minute, 2), separators: false } "T0955.10",
+    Time(0, 0, 10, 0) => { precision: (Hour, 9) } "00.002777777",
+    Time(23, 59, 59, 999_999_999) => { precision: (Minute, 9) } "23:59.999999999",
+    Time(9, 55, 6, 0) => { precision: (Hour, 0), separators: false } "T09",
+    Time(9, 55, 6, 0) => { precision: (Minute, 0) } "09:55",
+    Time(9, 55, 6, 120_000_000) => { precision: (Second, 3) } "09:55:06.120",
 };
 
-#[test]
-fn a_time_has_the_unit_and_the_decimals_that_are_chosen(rt: HostRuntime) {
-    for &(time, choices, text) in TIMES {
-        assert_row(&rt, rt.alloc(), &choices, &time_at(&rt, time), text);
-    }
+const COMMAS: Rows = rows! { Time:
+    Time(0, 0, 10, 0) => { precision: (Hour, 9) } "00,002777777",
+    Time(9, 55, 6, 0) => { precision: (Minute, 1) } "09:55,1",
+    Time(9, 55, 6, 0) => { precision: (Second, 3) } "09:55:06,000",
+    Time(9, 55, 6, 0) => { precision: (Second, 0) } "09:55:06",
+};
+
+/// Compares the text by a comma.
+fn assert_comma(rt: &impl Abort, alloc: Global, format: &Iso8601, value: Value, text: &str) {
+    let format = with_sign(format, DecimalSign::Comma);
+    texts::assert_text(rt, alloc, &format, value, (text, text.len()));
 }
-
-const COMMAS: &[((u8, u8, u8, u32), Choices, &str)] = rows! { Time:
-    (0, 0, 10, 0) => { precision: (Hour, 9) } "00,002777777",
-    (9, 55, 6, 0) => { precision: (Minute, 1) } "09:55,1",
-    (9, 55, 6, 0) => { precision: (Second, 3) } "09:55:06,000",
-    (9, 55, 6, 0) => { precision: (Second, 0) } "09:55:06",
-};
 
 #[test]
 fn a_comma_stands_where_it_is_chosen(rt: HostRuntime) {
     for &(time, choices, text) in COMMAS {
-        let format = with_sign(&format_by(&choices), DecimalSign::Comma);
-        texts::assert_text(
-            &rt,
-            rt.alloc(),
-            &format,
-            &time_at(&rt, time),
-            text,
-            text.len(),
-        );
+        assert_comma(&rt, rt.alloc(), &format_by(&choices), time, text);
     }
     let text = "1997-11-12T09:55:06,000000000-06:00";
-    let format = with_sign(&Iso8601::default(), DecimalSign::Comma);
-    texts::assert_text(&rt, rt.alloc(), &format, &wednesday(&rt, 0), text, 35);
+    assert_comma(&rt, rt.alloc(), &Iso8601::default(), WEDNESDAY, text);
 }
 
 /// The last nanosecond of the day.
-const END: (u8, u8, u8, u32) = (23, 59, 59, 999_999_999);
+const END: Value = Time(23, 59, 59, 999_999_999);
 
 /// A time, its smallest whole unit, the text of the whole units, the first decimals, and one digit that all
 /// others are.
-type Decimals = ((u8, u8, u8, u32), Unit, (&'static str, &'static str, u8));
+type Decimals = (Value, Unit, (&'static str, &'static str, u8));
 
 const DECIMALS: &[Decimals] = &[
-    ((0, 0, 0, 0), Hour, ("00.", "", b'0')),
-    ((0, 0, 0, 0), Minute, ("00:00.", "", b'0')),
-    ((0, 0, 0, 0), Second, ("00:00:00.", "", b'0')),
+    (Time(0, 0, 0, 0), Hour, ("00.", "", b'0')),
+    (Time(0, 0, 0, 0), Minute, ("00:00.", "", b'0')),
+    (Time(0, 0, 0, 0), Second, ("00:00:00.", "", b'0')),
     (END, Hour, ("23.", "9999999999997", b'2')),
     (END, Minute, ("23:59.", "99999999998", b'3')),
     (END, Second, ("23:59:59.", "999999999", b'0')),
-    ((0, 0, 10, 0), Minute, ("00:00.", "1", b'6')),
-    ((0, 0, 0, 1), Second, ("00:00:00.", "000000001", b'0')),
+    (Time(0, 0, 10, 0), Minute, ("00:00.", "1", b'6')),
+    (Time(0, 0, 0, 1), Second, ("00:00:00.", "000000001", b'0')),
 ];
 
 /// Formats the time by either decimal sign, with separators, and compares this many decimals.
@@ -271,7 +222,7 @@ fn assert_decimals(
     for &sign in SIGNS {
         let (whole, format) = (signed(rt, alloc, whole, sign), with_sign(&format, sign));
         let mut output = Vec::new(alloc);
-        let (answer, _) = append(alloc, &mut output, &format, &time_at(rt, time));
+        let (answer, _) = append(rt, alloc, &mut output, &format, time);
         assert_that(rt, matches!(&answer, Ok(length) if *length == output.len()));
         assert_same(rt, format.compute_metadata().max_bytes_needed, output.len());
         let Some((text, decimals)) = output.as_slice().split_at_checked(whole.len()) else {
@@ -313,44 +264,29 @@ fn the_default_has_a_point(rt: HostRuntime) {
     assert_same(&rt, parsing, parsing.set_decimal_sign(DecimalSign::Point));
 }
 
-const OFFSETS: &[((i8, i8, i8), Choices, &str)] = rows! { Offset:
-    (0, 0, 0) => { offset: OffsetPrecision::Minute } "+00:00",
-    (-6, -30, 0) => { offset: OffsetPrecision::Minute, separators: false } "-0630",
-    (0, -30, 0) => { offset: OffsetPrecision::Minute } "-00:30",
-    (25, 0, 0) => { offset: OffsetPrecision::Hour } "+25",
-    (-6, 0, 0) => { offset: OffsetPrecision::Hour, separators: false } "-06",
+const OFFSETS: Rows = rows! { Offset:
+    Offset(0, 0, 0) => { offset: OffsetPrecision::Minute } "+00:00",
+    Offset(-6, -30, 0) => { offset: OffsetPrecision::Minute, separators: false } "-0630",
+    Offset(0, -30, 0) => { offset: OffsetPrecision::Minute } "-00:30",
+    Offset(25, 0, 0) => { offset: OffsetPrecision::Hour } "+25",
+    Offset(-6, 0, 0) => { offset: OffsetPrecision::Hour, separators: false } "-06",
 };
-
-#[test]
-fn an_offset_has_its_sign_and_the_unit_that_is_chosen(rt: HostRuntime) {
-    for &(offset, choices, text) in OFFSETS {
-        assert_row(&rt, rt.alloc(), &choices, &offset_at(&rt, offset), text);
-    }
-}
 
 #[test]
 fn a_later_refusal_keeps_earlier_bytes(rt: HostRuntime) {
     let (alloc, whole) = (rt.alloc(), Iso8601::default());
     let hour = with_parts(Parts::Offset).set_offset_precision(OffsetPrecision::Hour);
-    let (offset, texts) = (offset_at(&rt, (5, 30, 0)), ("+05", "offset_minute"));
-    assert_refused_after(&rt, alloc, &Iso8601::new(hour), &offset, texts);
-    let value = moment(&rt, (2000, 1, 1), (0, 0, 0, 0), (1, 0, 1));
+    let texts = ("+05", "offset_minute");
+    assert_refused_after(&rt, alloc, &Iso8601::new(hour), Offset(5, 30, 0), texts);
     let texts = ("2000-01-01T00:00:00.000000000", "offset_second");
-    assert_refused_after(&rt, alloc, &whole, &value, texts);
-    let far = moment(&rt, (65_536, 1, 1), (0, 0, 0, 0), (0, 0, 1));
-    assert_refused_after(&rt, alloc, &whole, &far, ("", "year"));
+    let value = Moment((2000, 1, 1), (0, 0, 0, 0), (1, 0, 1));
+    assert_refused_after(&rt, alloc, &whole, value, texts);
+    let far = Moment((65_536, 1, 1), (0, 0, 0, 0), (0, 0, 1));
+    assert_refused_after(&rt, alloc, &whole, far, ("", "year"));
 }
 
 /// A missing group is refused before what is out of range.
-fn assert_insufficient<V: ComponentProvider>(
-    rt: &impl Abort,
-    alloc: Global,
-    value: &V,
-    formats: &[Iso8601],
-)
-where
-    V::State: Drop,
-{
+fn assert_insufficient(rt: &impl Abort, alloc: Global, value: Value, formats: &[Iso8601]) {
     for format in formats {
         assert_refused(rt, alloc, format, value, "insufficient");
     }
@@ -358,19 +294,21 @@ where
 
 #[test]
 fn refuses_a_missing_group_first(rt: HostRuntime) {
-    let value = moment(&rt, (70_000, 1, 1), (9, 55, 6, 0), (5, 30, 1));
     let formats = [Iso8601::date_time(), Iso8601::default(), Iso8601::time()];
-    assert_insufficient(&rt, rt.alloc(), &value.date(), &formats);
+    assert_insufficient(&rt, rt.alloc(), Date(70_000, 1, 1), &formats);
     let formats = [Iso8601::parsing(), Iso8601::new(with_parts(Parts::None))];
-    assert_insufficient(&rt, rt.alloc(), &value, &formats);
-    assert_insufficient(&rt, rt.alloc(), &value.offset(), &[Iso8601::time_offset()]);
-    assert_insufficient(&rt, rt.alloc(), &value.time(), &[Iso8601::offset()]);
+    let whole = Moment((70_000, 1, 1), (9, 55, 6, 0), (5, 30, 1));
+    assert_insufficient(&rt, rt.alloc(), whole, &formats);
+    let formats = [Iso8601::time_offset()];
+    assert_insufficient(&rt, rt.alloc(), Offset(5, 30, 1), &formats);
+    let formats = [Iso8601::offset()];
+    assert_insufficient(&rt, rt.alloc(), Time(9, 55, 6, 0), &formats);
 }
 
 /// Compares the parts of a named format, and its text of the Wednesday.
 fn assert_named(rt: &impl Abort, alloc: Global, format: Iso8601, parts: Parts, text: &str) {
     assert_same(rt, format.config(), with_parts(parts));
-    assert_text(rt, alloc, &format, &wednesday(rt, 0), text, text.len());
+    assert_text(rt, alloc, &format, WEDNESDAY, (text, text.len()));
 }
 
 #[test]
@@ -406,48 +344,60 @@ fn named_formats_have_their_configurations(rt: HostRuntime) {
     assert_same(&rt, Iso8601::parsing().config(), parsing);
 }
 
-/// Rows of a nanosecond of 1997-11-12 9:55:06 -06:00.
-const WHOLE_TEXTS: &[(u32, Choices, &str)] = rows! { DateTimeOffset:
-    0 => { kind: Week, six_digits: true, separators: false } "+001997W463T095506.000000000-0600",
-    123_456_789 => {} "1997-11-12T09:55:06.123456789-06:00",
-    123_456_789 => { separators: false } "19971112T095506.123456789-0600",
-    123_456_789 => { six_digits: true } "+001997-11-12T09:55:06.123456789-06:00",
-    123_456_789 => { kind: Week } "1997-W46-3T09:55:06.123456789-06:00",
-    123_456_789 => { kind: Ordinal } "1997-316T09:55:06.123456789-06:00",
-    123_456_789 => { offset: OffsetPrecision::Hour } "1997-11-12T09:55:06.123456789-06",
-    123_456_789 => { precision: (Hour, 0) } "1997-11-12T09-06:00",
-    123_456_789 => { precision: (Minute, 1) } "1997-11-12T09:55.1-06:00",
-    123_456_789 => { precision: (Second, 10) } "1997-11-12T09:55:06.1234567890-06:00",
+/// The Wednesday with nine decimals.
+const LONGEST: Value = Value::Moment((1997, 11, 12), (9, 55, 6, 123_456_789), (-6, 0, 0));
+
+const WHOLE_TEXTS: Rows = rows! { DateTimeOffset:
+    WEDNESDAY => { kind: Week, six_digits: true, separators: false } "+001997W463T095506.000000000-0600",
+    LONGEST => {} "1997-11-12T09:55:06.123456789-06:00",
+    LONGEST => { separators: false } "19971112T095506.123456789-0600",
+    LONGEST => { six_digits: true } "+001997-11-12T09:55:06.123456789-06:00",
+    LONGEST => { kind: Week } "1997-W46-3T09:55:06.123456789-06:00",
+    LONGEST => { kind: Ordinal } "1997-316T09:55:06.123456789-06:00",
+    LONGEST => { offset: OffsetPrecision::Hour } "1997-11-12T09:55:06.123456789-06",
+    LONGEST => { precision: (Hour, 0) } "1997-11-12T09-06:00",
+    LONGEST => { precision: (Minute, 1) } "1997-11-12T09:55.1-06:00",
+    LONGEST => { precision: (Second, 10) } "1997-11-12T09:55:06.1234567890-06:00",
 };
 
 #[test]
-fn each_choice_fills_its_width(rt: HostRuntime) {
-    for &(nanosecond, choices, text) in WHOLE_TEXTS {
-        let value = wednesday(&rt, nanosecond);
-        assert_row(&rt, rt.alloc(), &choices, &value, text);
-    }
+fn each_part_has_what_is_chosen_and_fills_its_width(rt: HostRuntime) {
+    assert_rows(&rt, rt.alloc(), DATES);
+    assert_rows(&rt, rt.alloc(), TIMES);
+    assert_rows(&rt, rt.alloc(), OFFSETS);
+    assert_rows(&rt, rt.alloc(), WHOLE_TEXTS);
 }
+
+/// The start of 1970 by each type of value that has all groups.
+const EPOCHS: &[Value] = &[
+    Moment((1970, 1, 1), (0, 0, 0, 0), (0, 0, 0)),
+    Utc((1970, 1, 1), (0, 0, 0, 0)),
+    Timestamp(0, 0),
+];
 
 #[test]
 fn each_type_of_value_with_all_groups_is_formatted(rt: HostRuntime) {
-    let (alloc, format) = (rt.alloc(), Iso8601::default());
-    let whole = moment(&rt, (1970, 1, 1), (0, 0, 0, 0), (0, 0, 0));
-    let text = "1970-01-01T00:00:00.000000000Z";
-    assert_text(&rt, alloc, &format, &whole, text, 35);
-    let utc = UtcDateTime::new(whole.date(), whole.time());
-    assert_text(&rt, alloc, &format, &utc, text, 35);
-    assert_text(&rt, alloc, &format, &timestamp_at(&rt, (0, 0)), text, 35);
-    let midnight = "00:00:00.000000000Z";
-    assert_text(&rt, alloc, &Iso8601::time_offset(), &utc, midnight, 24);
+    let (alloc, format) = (rt.alloc(), Iso8601::time_offset());
+    for &value in EPOCHS {
+        let texts = ("1970-01-01T00:00:00.000000000Z", 35);
+        assert_text(&rt, alloc, &Iso8601::default(), value, texts);
+        assert_text(&rt, alloc, &format, value, ("00:00:00.000000000Z", 24));
+    }
 }
 
 /// Appends the parts, and proves the capacity for each by the widths of the configuration.
-fn append_parts(
+fn append_parts<V: ComponentProvider>(
     config: &Config,
     output: &mut Vec<u8>,
-    value: &OffsetDateTime,
-) -> Result<(usize, usize, usize), Format> {
-    let mut state = DateState::default();
+    value: &V,
+) -> Result<(usize, usize, usize), Format>
+where
+    V::State: Drop,
+    requires date { IsTrue V.SUPPLIES_DATE }
+    requires time { IsTrue V.SUPPLIES_TIME }
+    requires offset { IsTrue V.SUPPLIES_OFFSET }
+{
+    let mut state = V::State::default();
     let width = config.date_width() + config.time_width() + config.offset_width();
     if output.reserve(width).is_err() {
         return Err(Format::OutOfMemory);
@@ -456,6 +406,29 @@ fn append_parts(
     let time = format_time(config, output, value, &mut state)?;
     let offset = format_offset(config, output, value, &mut state)?;
     Ok((date, time, offset))
+}
+
+/// The answers of a date and an offset that are out of range, of which nothing is appended.
+fn refused_parts<V: ComponentProvider>(
+    config: &Config,
+    output: &mut Vec<u8>,
+    value: &V,
+) -> Result<(&'static str, &'static str), Format>
+where
+    V::State: Drop,
+    requires date { IsTrue V.SUPPLIES_DATE }
+    requires offset { IsTrue V.SUPPLIES_OFFSET }
+{
+    let mut state = V::State::default();
+    if output
+        .reserve(config.date_width() + config.offset_width())
+        .is_err()
+    {
+        return Err(Format::OutOfMemory);
+    }
+    let date = format_date(config, output, value, &mut state);
+    let offset = format_offset(config, output, value, &mut state);
+    Ok((refusal_name(&date), refusal_name(&offset)))
 }
 
 /// Compares the three parts of the example, one after another, by a configuration that formats none.
@@ -476,15 +449,10 @@ fn each_part_is_written_by_itself(rt: HostRuntime) {
 }
 
 #[test]
-fn refuses_each_part_by_itself(rt: HostRuntime) -> Result<(), Fail> {
+fn refuses_each_part_by_itself(rt: HostRuntime) {
     let value = moment(&rt, (10_000, 1, 1), (0, 0, 0, 0), (0, 0, 1));
-    let time_alone = Config::default().set_formatted_components(Parts::Time);
-    let mut state = DateState::default();
-    let mut output = Vec::with_capacity(rt.alloc(), 16)?;
-    let date = format_date(&time_alone, &mut output, &value, &mut state);
-    assert_same(&rt, refusal_name(&date), "year");
-    let offset = format_offset(&time_alone, &mut output, &value, &mut state);
-    assert_same(&rt, refusal_name(&offset), "offset_second");
+    let mut output = Vec::new(rt.alloc());
+    let names = refused_parts(&with_parts(Parts::Time), &mut output, &value);
+    assert_that(&rt, matches!(&names, Ok(("year", "offset_second"))));
     assert_same(&rt, output.len(), 0);
-    Ok(())
 }

@@ -1,21 +1,38 @@
 //! RFC 3339 and RFC 2822.
 use crate::texts::{append, assert_refused, assert_same, assert_text, assert_that};
-use crate::values::{moment, timestamp_at, wednesday};
+use crate::values::{Value, WEDNESDAY};
 use std::alloc::Global;
 use std::process::Abort;
 use std::test::Fail;
-use time_below::{OffsetDateTime, PlainDateTime, UtcDateTime};
 use time_fmt::Formattable;
 use time_known::{Rfc2822, Rfc3339};
 
-/// Rows of a local date, a time of day, an offset and the text.
+/// Rows of a local date, a time of day, an offset and the text or the name that is refused.
 macro_rules! moments {
     ($($date:tt $time:tt $offset:tt $text:literal,)+) => {
-        &[$(($date, $time, $offset, $text)),+]
+        &[$((Value::Moment($date, $time, $offset), $text)),+]
     };
 }
 
-type Rows = &'static [((i32, u8, u8), (u8, u8, u8, u32), (i8, i8, i8), &'static str)];
+type Rows = &'static [(Value, &'static str)];
+
+fn assert_texts<D: Formattable>(
+    rt: &impl Abort,
+    alloc: Global,
+    format: &D,
+    rows: Rows,
+    width: usize,
+) {
+    for &(value, text) in rows {
+        assert_text(rt, alloc, format, value, (text, width));
+    }
+}
+
+fn assert_all_refused<D: Formattable>(rt: &impl Abort, alloc: Global, format: &D, rows: Rows) {
+    for &(value, name) in rows {
+        assert_refused(rt, alloc, format, value, name);
+    }
+}
 
 const TEXTS_3339: Rows = moments! {
     (1997, 11, 12) (9, 55, 6, 0) (-6, 0, 0) "1997-11-12T09:55:06-06:00",
@@ -27,32 +44,24 @@ const TEXTS_3339: Rows = moments! {
     (2000, 1, 1) (0, 0, 0, 0) (0, 30, 0) "2000-01-01T00:00:00+00:30",
 };
 
-#[test]
-fn rfc_3339_has_the_fraction_that_is_needed(rt: HostRuntime) {
-    for &(date, time, offset, text) in TEXTS_3339 {
-        let value = moment(&rt, date, time, offset);
-        assert_text(&rt, rt.alloc(), &Rfc3339, &value, text, 35);
-    }
-}
-
-const REFUSED_3339: &[(i32, (i8, i8, i8), &str)] = &[
-    (10_000, (24, 0, 1), "year"),
-    (-1, (24, 0, 1), "year"),
-    (2000, (24, 0, 1), "offset_hour"),
-    (2000, (24, 0, 0), "offset_hour"),
-    (2000, (-24, 0, 0), "offset_hour"),
-    (2000, (23, 59, 1), "offset_second"),
-    (2000, (0, 0, -1), "offset_second"),
-    (999_999, (0, 0, 0), "year"),
-    (-999_999, (0, 0, 0), "year"),
-];
+const REFUSED_3339: Rows = moments! {
+    (10_000, 1, 1) (0, 0, 0, 0) (24, 0, 1) "year",
+    (-1, 1, 1) (0, 0, 0, 0) (24, 0, 1) "year",
+    (2000, 1, 1) (0, 0, 0, 0) (24, 0, 1) "offset_hour",
+    (2000, 1, 1) (0, 0, 0, 0) (24, 0, 0) "offset_hour",
+    (2000, 1, 1) (0, 0, 0, 0) (-24, 0, 0) "offset_hour",
+    (2000, 1, 1) (0, 0, 0, 0) (23, 59, 1) "offset_second",
+    (2000, 1, 1) (0, 0, 0, 0) (0, 0, -1) "offset_second",
+    (999_999, 1, 1) (0, 0, 0, 0) (0, 0, 0) "year",
+    (-999_999, 1, 1) (0, 0, 0, 0) (0, 0, 0) "year",
+};
 
 #[test]
-fn rfc_3339_refuses_the_year_before_the_offset(rt: HostRuntime) {
-    for &(year, offset, name) in REFUSED_3339 {
-        let value = moment(&rt, (year, 1, 1), (0, 0, 0, 0), offset);
-        assert_refused(&rt, rt.alloc(), &Rfc3339, &value, name);
-    }
+fn rfc_3339_has_the_fraction_that_is_needed_and_refuses_the_year_before_the_offset(
+    rt: HostRuntime,
+) {
+    assert_texts(&rt, rt.alloc(), &Rfc3339, TEXTS_3339, 35);
+    assert_all_refused(&rt, rt.alloc(), &Rfc3339, REFUSED_3339);
 }
 
 const TEXTS_2822: Rows = moments! {
@@ -63,73 +72,66 @@ const TEXTS_2822: Rows = moments! {
     (2000, 1, 1) (0, 0, 0, 0) (0, -30, 0) "Sat, 01 Jan 2000 00:00:00 -0030",
 };
 
+const REFUSED_2822: Rows = moments! {
+    (1899, 12, 31) (0, 0, 0, 0) (0, 0, 1) "year",
+    (10_000, 1, 1) (0, 0, 0, 0) (0, 0, 0) "year",
+    (-1, 1, 1) (0, 0, 0, 0) (0, 0, 0) "year",
+    (2000, 1, 1) (0, 0, 0, 0) (23, 59, 1) "offset_second",
+    (2000, 1, 1) (0, 0, 0, 0) (0, 0, -1) "offset_second",
+};
+
 #[test]
-fn rfc_2822_has_the_weekday_and_no_fraction(rt: HostRuntime) {
-    for &(date, time, offset, text) in TEXTS_2822 {
-        let value = moment(&rt, date, time, offset);
-        assert_text(&rt, rt.alloc(), &Rfc2822, &value, text, 31);
-    }
+fn rfc_2822_has_the_weekday_and_no_fraction_and_refuses_the_year_before_the_offset(
+    rt: HostRuntime,
+) {
+    assert_texts(&rt, rt.alloc(), &Rfc2822, TEXTS_2822, 31);
+    assert_all_refused(&rt, rt.alloc(), &Rfc2822, REFUSED_2822);
 }
 
-const REFUSED_2822: &[((i32, u8, u8), (i8, i8, i8), &str)] = &[
-    ((1899, 12, 31), (0, 0, 1), "year"),
-    ((10_000, 1, 1), (0, 0, 0), "year"),
-    ((-1, 1, 1), (0, 0, 0), "year"),
-    ((2000, 1, 1), (23, 59, 1), "offset_second"),
-    ((2000, 1, 1), (0, 0, -1), "offset_second"),
+const EPOCH: (i32, u8, u8) = (1970, 1, 1);
+
+const MIDNIGHT: (u8, u8, u8, u32) = (0, 0, 0, 0);
+
+/// The start of 1970 by each type of value that has all groups.
+const WHOLE: &[Value] = &[
+    Value::Moment(EPOCH, MIDNIGHT, (0, 0, 0)),
+    Value::Utc(EPOCH, MIDNIGHT),
+    Value::Timestamp(0, 0),
 ];
 
-#[test]
-fn rfc_2822_refuses_the_year_before_the_offset(rt: HostRuntime) {
-    for &(date, offset, name) in REFUSED_2822 {
-        let value = moment(&rt, date, (0, 0, 0, 0), offset);
-        assert_refused(&rt, rt.alloc(), &Rfc2822, &value, name);
-    }
-}
+/// What has not all groups of the start of 1970, and of a moment whose year and offset are out of range.
+const PARTS: Rows = &[
+    (Value::Date(1970, 1, 1), "insufficient"),
+    (Value::Time(0, 0, 0, 0), "insufficient"),
+    (Value::Offset(0, 0, 0), "insufficient"),
+    (Value::Local(EPOCH, MIDNIGHT), "insufficient"),
+    (Value::Date(10_000, 1, 1), "insufficient"),
+    (Value::Offset(24, 0, 1), "insufficient"),
+    (Value::Local((10_000, 1, 1), MIDNIGHT), "insufficient"),
+];
 
-/// Compares the text of each type of value that has all groups, and the refusal of each other type.
+/// Compares the text of each type of value that has all groups, and the refusal of each other type: a missing
+/// group is refused before what is out of range.
 fn assert_each_type<D: Formattable>(
     rt: &impl Abort,
     alloc: Global,
     format: &D,
-    (text, width): (&str, usize),
+    texts: (&str, usize),
 ) {
-    let whole = moment(rt, (1970, 1, 1), (0, 0, 0, 0), (0, 0, 0));
-    let utc = UtcDateTime::new(whole.date(), whole.time());
-    assert_text(rt, alloc, format, &whole, text, width);
-    assert_text(rt, alloc, format, &utc, text, width);
-    assert_text(rt, alloc, format, &timestamp_at(rt, (0, 0)), text, width);
-    assert_insufficient(rt, alloc, format, &whole);
-}
-
-/// Compares the refusals of what has not all groups of this moment.
-fn assert_insufficient<D: Formattable>(
-    rt: &impl Abort,
-    alloc: Global,
-    format: &D,
-    whole: &OffsetDateTime,
-) {
-    let (date, time) = (whole.date(), whole.time());
-    let plain = PlainDateTime::new(date, time);
-    assert_refused(rt, alloc, format, &date, "insufficient");
-    assert_refused(rt, alloc, format, &time, "insufficient");
-    assert_refused(rt, alloc, format, &whole.offset(), "insufficient");
-    assert_refused(rt, alloc, format, &plain, "insufficient");
+    for &value in WHOLE {
+        assert_text(rt, alloc, format, value, texts);
+    }
+    assert_all_refused(rt, alloc, format, PARTS);
 }
 
 #[test]
-fn each_type_of_value_with_all_groups_is_formatted(rt: HostRuntime) {
+fn each_type_of_value_with_all_groups_is_formatted_and_a_missing_group_refused_first(
+    rt: HostRuntime,
+) {
     let texts = ("1970-01-01T00:00:00Z", 35);
     assert_each_type(&rt, rt.alloc(), &Rfc3339, texts);
     let texts = ("Thu, 01 Jan 1970 00:00:00 +0000", 31);
     assert_each_type(&rt, rt.alloc(), &Rfc2822, texts);
-}
-
-#[test]
-fn refuses_a_missing_group_first(rt: HostRuntime) {
-    let far = moment(&rt, (10_000, 1, 1), (0, 0, 0, 0), (24, 0, 1));
-    assert_insufficient(&rt, rt.alloc(), &Rfc3339, &far);
-    assert_insufficient(&rt, rt.alloc(), &Rfc2822, &far);
 }
 
 /// Appends the text, and compares the count.
@@ -140,7 +142,7 @@ fn assert_count<D: Formattable>(
     format: &D,
     count: usize,
 ) {
-    let (appended, _) = append(alloc, output, format, &wednesday(rt, 0));
+    let (appended, _) = append(rt, alloc, output, format, WEDNESDAY);
     assert_that(rt, matches!(&appended, Ok(found) if *found == count));
 }
 

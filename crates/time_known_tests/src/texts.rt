@@ -1,8 +1,10 @@
 //! What the texts of well-known formats are compared by.
+use crate::values::{Value, date_at, moment, offset_at, time_at, timestamp_at};
 use std::alloc::Global;
 use std::default::Default;
 use std::fmt::Debug;
 use std::process::Abort;
+use time_below::{PlainDateTime, UtcDateTime};
 use time_fmt::{ComponentProvider, ComputeMetadata, Format, Formattable};
 
 /// One comparison for all types, so that no test proves it again.
@@ -17,7 +19,7 @@ pub(crate) fn assert_that(rt: &impl Abort, is_so: bool) {
 
 /// Appends the text by a fresh state, and makes it once more by the same. No clause is handed on, so that a
 /// test proves no more than it compares.
-pub(crate) fn append<D: Formattable, V: ComponentProvider>(
+fn append_of<D: Formattable, V: ComponentProvider>(
     alloc: Global,
     output: &mut Vec<u8>,
     format: &D,
@@ -31,24 +33,67 @@ where
     (appended, format.format(alloc, value, &mut state))
 }
 
+/// Appends the text of the value that has these numbers, and makes it once more. Each type of value stands here
+/// alone, since a test proves again what it asks of a type that it names.
+pub(crate) fn append<D: Formattable>(
+    rt: &impl Abort,
+    alloc: Global,
+    output: &mut Vec<u8>,
+    format: &D,
+    value: Value,
+) -> (Result<usize, Format>, Result<String, Format>) {
+    match value {
+        Value::Date(year, month, day) => {
+            append_of(alloc, output, format, &date_at(rt, (year, month, day)))
+        }
+        Value::Time(hour, minute, second, nanosecond) => {
+            let time = time_at(rt, (hour, minute, second, nanosecond));
+            append_of(alloc, output, format, &time)
+        }
+        Value::Local(date, time) => {
+            let local = PlainDateTime::new(date_at(rt, date), time_at(rt, time));
+            append_of(alloc, output, format, &local)
+        }
+        Value::Utc(date, time) => {
+            let utc = UtcDateTime::new(date_at(rt, date), time_at(rt, time));
+            append_of(alloc, output, format, &utc)
+        }
+        Value::Moment(date, time, offset) => {
+            append_of(alloc, output, format, &moment(rt, date, time, offset))
+        }
+        Value::Offset(hours, minutes, seconds) => {
+            append_of(
+                alloc,
+                output,
+                format,
+                &offset_at(rt, (hours, minutes, seconds)),
+            )
+        }
+        Value::Timestamp(seconds, nanosecond) => {
+            append_of(
+                alloc,
+                output,
+                format,
+                &timestamp_at(rt, (seconds, nanosecond)),
+            )
+        }
+    }
+}
+
 /// Formats the value with a fresh state into an empty vector, and as a text, and compares the texts,
 /// the count and the width, and that the text is sure to be UTF-8.
-pub(crate) fn assert_text<D: Formattable, V: ComponentProvider>(
+pub(crate) fn assert_text<D: Formattable>(
     rt: &impl Abort,
     alloc: Global,
     format: &D,
-    value: &V,
-    text: &str,
-    width: usize,
-)
-where
-    V::State: Drop,
-{
+    value: Value,
+    (text, width): (&str, usize),
+) {
     let metadata = format.compute_metadata();
-    assert_that(rt, metadata.guaranteed_utf8);
-    assert_same(rt, metadata.max_bytes_needed, width);
+    let found = (metadata.max_bytes_needed, metadata.guaranteed_utf8);
+    assert_same(rt, found, (width, true));
     let mut output = Vec::new(alloc);
-    let (Ok(count), Ok(formatted)) = append(alloc, &mut output, format, value) else {
+    let (Ok(count), Ok(formatted)) = append(rt, alloc, &mut output, format, value) else {
         panic!(rt; "refused: {text}");
     };
     assert_same(rt, output.as_slice(), text.as_bytes());
@@ -58,19 +103,16 @@ where
 
 /// Formats the value with a fresh state after a byte, and as a text, and compares the refusals. No
 /// byte is appended.
-pub(crate) fn assert_refused<D: Formattable, V: ComponentProvider>(
+pub(crate) fn assert_refused<D: Formattable>(
     rt: &impl Abort,
     alloc: Global,
     format: &D,
-    value: &V,
+    value: Value,
     name: &str,
-)
-where
-    V::State: Drop,
-{
+) {
     let mut output = Vec::new(alloc);
     assert_that(rt, output.push(b'x').is_ok());
-    let (appended, made) = append(alloc, &mut output, format, value);
+    let (appended, made) = append(rt, alloc, &mut output, format, value);
     assert_same(rt, refusal_name(&appended), name);
     assert_same(rt, output.as_slice(), b"x".as_slice());
     assert_same(rt, refusal_name(&made), name);

@@ -5,6 +5,22 @@ use time_below::{Date, Month, OffsetDateTime, Time, Timestamp, UtcOffset};
 use time_digits::ru8;
 use time_known::iso8601::TimePrecision;
 
+/// A value by its numbers: a year, a month and a day, an hour, a minute, a second and a nanosecond, hours,
+/// minutes and seconds of an offset, seconds since 1970 and a nanosecond.
+#[derive(Clone, Copy)]
+pub(crate) enum Value {
+    Date(i32, u8, u8),
+    Time(u8, u8, u8, u32),
+    Local((i32, u8, u8), (u8, u8, u8, u32)),
+    Utc((i32, u8, u8), (u8, u8, u8, u32)),
+    Moment((i32, u8, u8), (u8, u8, u8, u32), (i8, i8, i8)),
+    Offset(i8, i8, i8),
+    Timestamp(i64, u32),
+}
+
+/// 1997-11-12 9:55:06 -6:00, a Wednesday.
+pub(crate) const WEDNESDAY: Value = Value::Moment((1997, 11, 12), (9, 55, 6, 0), (-6, 0, 0));
+
 /// The date of a year, a month by its number, and a day.
 pub(crate) fn date_at(rt: &impl Abort, (year, number, day): (i32, u8, u8)) -> Date {
     let Ok(month) = Month::try_from(number) else {

@@ -18,66 +18,45 @@ fn sunday(rt: &impl Abort) -> OffsetDateTime {
     moment(rt, (2026, 11, 22), (9, 55, 6, 120_000_000), (0, 0, 0))
 }
 
-/// Compares the text and its count.
-fn assert_line(rt: &impl Abort, written: Result<usize, Format>, line: &Vec<u8>, text: &str) {
+/// Compares the text and its count, and clears the line.
+fn assert_line(rt: &impl Abort, written: Result<usize, Format>, line: &mut Vec<u8>, text: &str) {
     assert_that(rt, matches!(&written, Ok(count) if *count == text.len()));
     assert_same(rt, line.as_slice(), text.as_bytes());
+    line.clear();
 }
 
 #[test]
-fn writes_a_fixed_text(rt: HostRuntime) {
-    let mut line = Vec::new(rt.alloc());
-    let written = append_log_time(&mut line, &sunday(&rt));
-    assert_line(&rt, written, &line, "09:55:06.120");
+fn writes_a_time_and_dates_by_parts_a_list_and_a_configuration(rt: HostRuntime) {
+    let (mut line, sunday) = (Vec::new(rt.alloc()), sunday(&rt));
+    let written = append_log_time(&mut line, &sunday);
+    assert_line(&rt, written, &mut line, "09:55:06.120");
+    let written = append_clock(&mut line, &sunday.time());
+    assert_line(&rt, written, &mut line, "9:55 AM");
+    let written = append_date(&mut line, &sunday.date());
+    assert_line(&rt, written, &mut line, "22 November 2026");
+    let written = append_week_date(&mut line, &sunday.date());
+    assert_line(&rt, written, &mut line, "2026-W47-7");
 }
 
 #[test]
-fn writes_the_12_hour_clock(rt: HostRuntime) {
-    let mut line = Vec::new(rt.alloc());
-    let written = append_clock(&mut line, &sunday(&rt).time());
-    assert_line(&rt, written, &line, "9:55 AM");
-}
-
-#[test]
-fn writes_a_text_by_a_list(rt: HostRuntime) {
-    let mut line = Vec::new(rt.alloc());
-    let written = append_date(&mut line, &sunday(&rt).date());
-    assert_line(&rt, written, &line, "22 November 2026");
-}
-
-#[test]
-fn writes_a_stamp(rt: HostRuntime) {
-    let mut line = Vec::new(rt.alloc());
-    let written = append_stamp(&mut line, &sunday(&rt));
-    assert_line(&rt, written, &line, "2026-11-22T09:55:06.12Z");
-}
-
-#[test]
-fn writes_the_date_of_a_mail(rt: HostRuntime) {
-    let mut line = Vec::new(rt.alloc());
-    let written = append_mail_date(&mut line, &sunday(&rt));
-    assert_line(&rt, written, &line, "Sun, 22 Nov 2026 09:55:06 +0000");
-}
-
-#[test]
-fn writes_milliseconds_after_a_comma(rt: HostRuntime) {
-    let mut line = Vec::new(rt.alloc());
-    let written = append_milliseconds(&mut line, &sunday(&rt));
-    assert_line(&rt, written, &line, "2026-11-22T09:55:06,120Z");
-}
-
-#[test]
-fn writes_a_week_date(rt: HostRuntime) {
-    let mut line = Vec::new(rt.alloc());
-    let written = append_week_date(&mut line, &sunday(&rt).date());
-    assert_line(&rt, written, &line, "2026-W47-7");
+fn writes_stamps_and_the_date_of_a_mail(rt: HostRuntime) {
+    let (mut line, sunday) = (Vec::new(rt.alloc()), sunday(&rt));
+    let written = append_stamp(&mut line, &sunday);
+    assert_line(&rt, written, &mut line, "2026-11-22T09:55:06.12Z");
+    let written = append_mail_date(&mut line, &sunday);
+    assert_line(&rt, written, &mut line, "Sun, 22 Nov 2026 09:55:06 +0000");
+    let written = append_milliseconds(&mut line, &sunday);
+    assert_line(&rt, written, &mut line, "2026-11-22T09:55:06,120Z");
+    let utc = UtcDateTime::new(sunday.date(), sunday.time());
+    let written = append_entry(&mut line, &utc);
+    assert_line(&rt, written, &mut line, "2026-11-22T09:55:06.120000000Z up");
 }
 
 #[test]
 fn writes_unix_seconds_in_range_alone(rt: HostRuntime) {
     let mut line = Vec::new(rt.alloc());
     match append_unix_time(&mut line, 0) {
-        Some(written) => assert_line(&rt, written, &line, "1970-01-01T00:00:00Z"),
+        Some(written) => assert_line(&rt, written, &mut line, "1970-01-01T00:00:00Z"),
         None => panic!(rt; "no moment"),
     }
     assert_that(&rt, append_unix_time(&mut line, i64::MAX).is_none());
@@ -93,7 +72,7 @@ fn gives_unix_seconds_an_offset(rt: HostRuntime) {
     };
     let mut line = Vec::new(rt.alloc());
     let written = append_stamp(&mut line, &moment);
-    assert_line(&rt, written, &line, "1969-12-31T18:00:00-06:00");
+    assert_line(&rt, written, &mut line, "1969-12-31T18:00:00-06:00");
     assert_that(&rt, at_offset(i64::MAX, offset).is_none());
 }
 
@@ -105,7 +84,7 @@ fn writes_into_a_kept_vector_of_the_width(rt: HostRuntime) -> Result<(), Fail> {
         else {
             panic!(rt; "35 bytes are the width");
         };
-        assert_line(&rt, written, &kept, "2026-11-22T09:55:06.12Z");
+        assert_line(&rt, written, &mut kept, "2026-11-22T09:55:06.12Z");
     }
     let mut short = Vec::with_capacity(rt.alloc(), 34)?;
     let refused = write_kept(
@@ -116,15 +95,6 @@ fn writes_into_a_kept_vector_of_the_width(rt: HostRuntime) -> Result<(), Fail> {
     );
     assert_that(&rt, refused.is_none());
     Ok(())
-}
-
-#[test]
-fn writes_an_entry_of_a_log(rt: HostRuntime) {
-    let value = sunday(&rt);
-    let utc = UtcDateTime::new(value.date(), value.time());
-    let mut line = Vec::new(rt.alloc());
-    let written = append_entry(&mut line, &utc);
-    assert_line(&rt, written, &line, "2026-11-22T09:55:06.120000000Z up");
 }
 
 #[test]
