@@ -1,30 +1,28 @@
 -- By which function a text of ISO 8601 is written, so far as its configuration decides it.
 use Rattle.std.specs.Prelude.{◌≡◌, Bool, true, false, Option, Some}
-use Rattle.time_known.specs.Config.{Choices, DateKind, FormattedComponents, TimePrecision}
+use Rattle.time_known.specs.Config.{Choices, DateKind, FormattedComponents}
 use Rattle.time_known.specs.UsualText.{IsUsual, usual_of}
 use Rattle.time_known.specs.declared.iso8601.config.DateKind.TheVariants as kind
 use Rattle.time_known.specs.declared.iso8601.config.FormattedComponents.TheVariants as components
-use Rattle.time_known.specs.declared.iso8601.config.TimePrecision.TheVariants as precision
 use Rattle.time_known.specs.declared.iso8601.config.Usual.{Usual}
 use Rattle.time_known.specs.declared.iso8601.config.Way.{Way}
 use Rattle.time_known.specs.declared.iso8601.config.Way.TheVariants as way
 
--- by the parts, the kind of date, the precision of the time, whether the year has six digits, whether there are
--- separators, and what is left of the usual choices
-abbrev pub way_by : FormattedComponents → DateKind → TimePrecision → Bool → Bool → Option Usual → Way
-way_by components.Date kind.Calendar p false separators u = way.CalendarDate
-way_by components.Date kind.Week p false separators u = way.WeekDate
-way_by components.Date kind.Ordinal p false true u = way.OrdinalDate
-way_by components.Date kind.Ordinal p false false u = way.CompactOrdinalDate
-way_by components.Time k (precision.Second digits) six separators u = way.Time digits
-way_by components.DateTime kind.Calendar (precision.Second digits) false separators u = way.DateTime digits
-way_by components.DateTimeOffset k p six separators (Some usual) = way.Usual usual
-way_by _ _ _ _ _ _ = way.Other
+-- by the parts, the kind of date, whether the year has six digits, whether there are separators, and what is left of
+-- the usual choices
+abbrev pub way_by : FormattedComponents → DateKind → Bool → Bool → Option Usual → Way
+way_by components.Date kind.Calendar false separators u = way.CalendarDate
+way_by components.Date kind.Week false separators u = way.WeekDate
+way_by components.Date kind.Ordinal false true u = way.OrdinalDate
+way_by components.Date kind.Ordinal false false u = way.CompactOrdinalDate
+way_by components.Time k six separators u = way.Time
+way_by components.DateTime kind.Calendar false separators u = way.DateTime
+way_by components.DateTimeOffset k six separators (Some usual) = way.Usual usual
+way_by _ _ _ _ _ = way.Other
 
 -- the function that the choices decide
 abbrev pub way_of : Choices → Way
-way_of c =
-    way_by c.formatted_components c.date_kind c.time_precision c.year_is_six_digits c.use_separators (usual_of c)
+way_of c = way_by c.formatted_components c.date_kind c.year_is_six_digits c.use_separators (usual_of c)
 
 -- a date of this kind alone, after four digits of the year
 abbrev pub IsShortDate : Choices → DateKind → Type 0
@@ -37,8 +35,7 @@ FitsWay c way.CalendarDate = IsShortDate c kind.Calendar
 FitsWay c way.WeekDate = IsShortDate c kind.Week
 FitsWay c way.OrdinalDate = IsShortDate c kind.Ordinal × (c.use_separators ≡ true)
 FitsWay c way.CompactOrdinalDate = IsShortDate c kind.Ordinal × (c.use_separators ≡ false)
-FitsWay c (way.Time digits) = (c.formatted_components ≡ components.Time) × (c.time_precision ≡ precision.Second digits)
-FitsWay c (way.DateTime digits) =
+FitsWay c way.Time = c.formatted_components ≡ components.Time
+FitsWay c way.DateTime =
     (c.formatted_components ≡ components.DateTime) × (c.year_is_six_digits ≡ false) × (c.date_kind ≡ kind.Calendar)
-    × (c.time_precision ≡ precision.Second digits)
 FitsWay c way.Other = Unit

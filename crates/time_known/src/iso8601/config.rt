@@ -82,7 +82,7 @@ pub struct Usual {
 }
 
 /// The function by which a text is written, so far as a configuration decides it. Each of them but the last
-/// tests nothing that is decided, and writes where nothing of the value is refused.
+/// writes where nothing of the value is refused.
 #[derive(Clone, Copy)]
 pub(super) enum Way {
     /// All parts, with what is left to choose.
@@ -95,10 +95,10 @@ pub(super) enum Way {
     OrdinalDate,
     /// The date alone by the day of the year, without a dash.
     CompactOrdinalDate,
-    /// The time alone to the second, with these decimals of it.
-    Time(Option<ru8<1, 255>>),
-    /// The date by month and day, and the time to the second.
-    DateTime(Option<ru8<1, 255>>),
+    /// The time alone.
+    Time,
+    /// The date by month and day, after four digits of the year, and the time.
+    DateTime,
     /// Any other text.
     Other,
 }
@@ -315,18 +315,11 @@ impl Config {
                 DateKind::Ordinal if self.use_separators => Way::OrdinalDate,
                 DateKind::Ordinal => Way::CompactOrdinalDate,
             },
-            FormattedComponents::Time => match self.time_precision {
-                TimePrecision::Second { decimal_digits } => Way::Time(decimal_digits),
+            FormattedComponents::Time => Way::Time,
+            FormattedComponents::DateTime if !self.year_is_six_digits => match self.date_kind {
+                DateKind::Calendar => Way::DateTime,
                 _ => Way::Other,
             },
-            FormattedComponents::DateTime if !self.year_is_six_digits => {
-                match (self.date_kind, self.time_precision) {
-                    (DateKind::Calendar, TimePrecision::Second { decimal_digits }) => {
-                        Way::DateTime(decimal_digits)
-                    }
-                    _ => Way::Other,
-                }
-            }
             FormattedComponents::DateTimeOffset => match self.usual() {
                 Some(usual) => Way::Usual(usual),
                 None => Way::Other,

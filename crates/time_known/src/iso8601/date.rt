@@ -17,7 +17,7 @@ ghost use Rattle.time_known.specs.Sink.{Fits, PutsJust, PutsUpTo};
 use crate::accepted::OutOfRange;
 use crate::days::ordinal_digits;
 use crate::iso8601::config::{Config, DateKind};
-use crate::iso8601::parts::{DateParts, Parts, RestOfDate, append_parts, date_of};
+use crate::iso8601::parts::{DateParts, RestOfDate, date_of};
 use crate::pieces::{put_back, take_out};
 use crate::put::{put_four_digits, put_month_and_day, put_pair};
 use crate::sink::Sink;
@@ -45,14 +45,14 @@ pub fn format_date<V: ComponentProvider>(
         (iso_date config.now (the_date (V.facts value.now))) }
     ensures agrees { AgreesOnDate (V.agrees state.new value.now) (V.facts value.now) }
 {
-    let parts = Parts {
-        date: Some(date_of(config.date_kind(), value, state)),
-        time: None,
-        offset: None,
-    };
-    let begin = output.len();
-    match append_parts(config, output, &parts) {
-        Ok(()) => Ok(output.len() - begin),
+    let date = date_of(config.date_kind(), value, state);
+    let mut taken = take_out(output);
+    let begin = taken.len();
+    let answer = put_date(&mut taken, config, &date);
+    let count = taken.len() - begin;
+    put_back(output, taken);
+    match answer {
+        Ok(()) => Ok(count),
         Err(component) => Err(Format::InvalidComponent(component.name())),
     }
 }

@@ -13,7 +13,7 @@ ghost use Rattle.time_known.specs.Sink.{Fits};
 use crate::accepted::OutOfRange;
 use crate::fields::{OffsetFields, offset_of};
 use crate::iso8601::config::{Config, OffsetPrecision};
-use crate::iso8601::parts::{Parts, append_parts};
+use crate::pieces::{put_back, take_out};
 use crate::put::{put_offset_hours, put_pair};
 use crate::sink::Sink;
 use time_fmt::Format;
@@ -38,14 +38,14 @@ pub fn format_offset<V: ComponentProvider>(
         (iso_offset config.now (the_offset (V.facts value.now))) }
     ensures agrees { AgreesOnOffset (V.agrees state.new value.now) (V.facts value.now) }
 {
-    let parts = Parts {
-        date: None,
-        time: None,
-        offset: Some(offset_of(value, state)),
-    };
-    let begin = output.len();
-    match append_parts(config, output, &parts) {
-        Ok(()) => Ok(output.len() - begin),
+    let offset = offset_of(value, state);
+    let mut taken = take_out(output);
+    let begin = taken.len();
+    let answer = put_offset_by(&mut taken, config, &offset);
+    let count = taken.len() - begin;
+    put_back(output, taken);
+    match answer {
+        Ok(()) => Ok(count),
         Err(component) => Err(Format::InvalidComponent(component.name())),
     }
 }

@@ -16,10 +16,10 @@ ghost use Rattle.time_known.specs.Ways.{FitsWay};
 use crate::accepted::OutOfRange;
 use crate::days::CalendarDay;
 use crate::fields::{OffsetFields, TimeFields, offset_of, time_of};
-use crate::iso8601::config::{Config, DateKind, FormattedComponents, TimePrecision, Way};
+use crate::iso8601::config::{Config, DateKind, FormattedComponents, Way};
 use crate::iso8601::date::{put_date_part, write_date_by};
 use crate::iso8601::offset::put_offset_part;
-use crate::iso8601::time::{put_time_part, write_to_second};
+use crate::iso8601::time::{put_time_part, write_time};
 use crate::iso8601::usual_text::write_usual;
 use crate::pieces::{put_back, take_out};
 use crate::sink::Sink;
@@ -76,19 +76,17 @@ pub fn put_parts<S: Sink>(output: &mut S, config: &Config, parts: &Parts) -> Res
     put_offset_part(output, config, &parts.offset)
 }
 
-// Appends the parts, or the bytes before a refusal. Takes no memory.
+// Appends the parts, or the bytes before a refusal. Takes no memory. The configuration is copied first, so that no
+// byte that is written may change it.
 #[inline(always)]
-pub(super) fn append_parts(
-    config: &Config,
-    output: &mut Vec<u8>,
-    parts: &Parts,
-) -> Result<(), OutOfRange>
+fn append_parts(config: &Config, output: &mut Vec<u8>, parts: &Parts) -> Result<(), OutOfRange>
     requires room { HasRoom output.old (parts_width config.now parts.now) }
     ensures appends { AppendsOrRefuses (parts_width config.now parts.now) output.old output.new
         result (parts_text config.now parts.now) }
 {
+    let config = *config;
     let mut taken = take_out(output);
-    let answer = put_parts(&mut taken, config, parts);
+    let answer = put_parts(&mut taken, &config, parts);
     put_back(output, taken);
     answer
 }
@@ -259,25 +257,27 @@ fn write_by_way<V: ComponentProvider>(
         Way::CompactOrdinalDate => {
             write_date_by(config, DateKind::Ordinal, false, output, value, state)
         }
-        Way::Time(digits) => Some(write_to_second(config, *digits, output, value, state)),
-        Way::DateTime(digits) => write_date_time(config, *digits, output, value, state),
+        Way::Time => {
+            let has_letter = !config.use_separators();
+            Some(write_time(config, has_letter, output, value, state))
+        }
+        Way::DateTime => write_date_time(config, output, value, state),
         Way::Other => None,
     }
 }
 
-// Appends the date by month and day after four digits of the year, and the time to the second.
+// Appends the date by month and day after four digits of the year, and the time.
 #[inline(never)]
 #[tactic(auto, using(time_fmt::proofs::WriteLemmas::appends_both))]
 fn write_date_time<V: ComponentProvider>(
     config: &Config,
-    digits: Option<ru8<1, 255>>,
     output: &mut Vec<u8>,
     value: &V,
     state: &mut V::State,
 ) -> Option<usize>
+    requires parts { config.now.formatted_components ≡ FormattedComponents.DateTime }
     requires short { config.now.year_is_six_digits ≡ false }
     requires kind { config.now.date_kind ≡ DateKind.Calendar }
-    requires precision { config.now.time_precision ≡ TimePrecision.Second digits }
     requires date { IsTrue V.SUPPLIES_DATE }
     requires time { IsTrue V.SUPPLIES_TIME }
     requires room { HasRoom output.old (iso_date_width config.now + iso_time_width config.now) }
@@ -290,5 +290,5 @@ fn write_date_time<V: ComponentProvider>(
 {
     let has_dash = config.use_separators();
     let date = write_date_by(config, DateKind::Calendar, has_dash, output, value, state)?;
-    Some(date + write_to_second(config, digits, output, value, state))
+    Some(date + write_time(config, true, output, value, state))
 }

@@ -5,7 +5,7 @@ ghost use Rattle.time_digits.specs.Digits.{zero_padded};
 ghost use Rattle.time_fmt.specs.Outcome.{AppendsUpTo};
 ghost use Rattle.time_fmt.specs.Room.{HasRoom};
 ghost use Rattle.time_provide.specs.Real.{AgreesOnTime};
-ghost use Rattle.time_known.specs.Config.{separator};
+ghost use Rattle.time_known.specs.Config.{has_time_letter, separator};
 ghost use Rattle.time_known.specs.Fields.{time_of_day};
 ghost use Rattle.time_known.specs.Iso8601.{iso_time, iso_time_text, decimal_part, units_text, nanoseconds_of_hour, nanoseconds_of_minute};
 ghost use Rattle.time_known.specs.Iso8601Parts.{part_width, time_part_text};
@@ -46,20 +46,20 @@ pub fn format_time<V: ComponentProvider>(
         (iso_time config.now (the_time (V.facts value.now))) }
     ensures agrees { AgreesOnTime (V.agrees state.new value.now) (V.facts value.now) }
 {
-    let precision = config.time_precision();
-    Ok(write_time_by(config, precision, output, value, state))
+    let has_letter = config.has_time_letter();
+    Ok(write_time(config, has_letter, output, value, state))
 }
 
-// Appends the time by this precision, which the compiler may know.
-#[inline(always)]
-fn write_time_by<V: ComponentProvider>(
+// Appends the time, by a call, in which its pieces are inlined. The caller may know whether it has a letter.
+#[inline(never)]
+pub(super) fn write_time<V: ComponentProvider>(
     config: &Config,
-    precision: TimePrecision,
+    has_letter: bool,
     output: &mut Vec<u8>,
     value: &V,
     state: &mut V::State,
 ) -> usize
-    requires precision { config.now.time_precision ≡ precision }
+    requires letter { has_time_letter config.now ≡ has_letter }
     requires supplied { IsTrue V.SUPPLIES_TIME }
     requires room { HasRoom output.old (iso_time_width config.now) }
     requires agrees { V.agrees state.old value.now }
@@ -70,33 +70,10 @@ fn write_time_by<V: ComponentProvider>(
     let time = time_of(value, state);
     let mut taken = take_out(output);
     let begin = taken.len();
-    put_time::<Vec<u8>, true>(&mut taken, config, precision, &time);
+    put_time::<Vec<u8>, true>(&mut taken, config, has_letter, &time);
     let count = taken.len() - begin;
     put_back(output, taken);
     count
-}
-
-// Appends the time to the second.
-#[inline(never)]
-pub(super) fn write_to_second<V: ComponentProvider>(
-    config: &Config,
-    digits: Option<ru8<1, 255>>,
-    output: &mut Vec<u8>,
-    value: &V,
-    state: &mut V::State,
-) -> usize
-    requires precision { config.now.time_precision ≡ TimePrecision.Second digits }
-    requires supplied { IsTrue V.SUPPLIES_TIME }
-    requires room { HasRoom output.old (iso_time_width config.now) }
-    requires agrees { V.agrees state.old value.now }
-    ensures appends { AppendsUpTo (iso_time_width config.now) output.old output.new (Ok result)
-        (iso_time config.now (the_time (V.facts value.now))) }
-    ensures agrees { AgreesOnTime (V.agrees state.new value.now) (V.facts value.now) }
-{
-    let precision = TimePrecision::Second {
-        decimal_digits: digits,
-    };
-    write_time_by(config, precision, output, value, state)
 }
 
 // Puts the time, if there is one.
@@ -108,7 +85,7 @@ pub(super) fn put_time_part<S: Sink>(output: &mut S, config: &Config, time: &Opt
         (S.buffer output.old) (S.buffer output.new) (time_part_text config.now time.now) }
 {
     if let Some(time) = time {
-        put_time::<S, false>(output, config, config.time_precision(), time);
+        put_time::<S, false>(output, config, config.has_time_letter(), time);
     }
 }
 
@@ -119,35 +96,31 @@ pub(super) fn put_time_part<S: Sink>(output: &mut S, config: &Config, time: &Opt
 fn put_time<S: Sink, const IS_ALONE: bool>(
     output: &mut S,
     config: &Config,
-    precision: TimePrecision,
+    has_letter: bool,
     time: &TimeFields,
 )
-    requires precision { config.now.time_precision ≡ precision }
+    requires letter { has_time_letter config.now ≡ has_letter }
     requires room { Fits (iso_time_width config.now) (S.buffer output.old) }
     ensures puts { PutsUpTo (iso_time_width config.now) (S.buffer output.old)
         (S.buffer output.new) (iso_time_text config.now (time_of_day time.now)) }
 {
-    if config.has_time_letter() {
+    if has_letter {
         output.put("T");
     }
-    put_units::<S, IS_ALONE>(output, config, precision, time);
+    put_units::<S, IS_ALONE>(output, config, time);
 }
 
 // Puts the whole units down to the precision, and decimals of the last one.
 #[inline(always)]
-fn put_units<S: Sink, const IS_ALONE: bool>(
-    output: &mut S,
-    config: &Config,
-    precision: TimePrecision,
-    time: &TimeFields,
-)
-    requires room { Fits (units_width precision config.now) (S.buffer output.old) }
-    ensures puts { PutsUpTo (units_width precision config.now)
+fn put_units<S: Sink, const IS_ALONE: bool>(output: &mut S, config: &Config, time: &TimeFields)
+    requires room { Fits (units_width config.now.time_precision config.now)
+        (S.buffer output.old) }
+    ensures puts { PutsUpTo (units_width config.now.time_precision config.now)
         (S.buffer output.old) (S.buffer output.new)
-        (units_text precision config.now (time_of_day time.now)) }
+        (units_text config.now.time_precision config.now (time_of_day time.now)) }
 {
     let sign = config.decimal_sign();
-    match precision {
+    match config.time_precision() {
         TimePrecision::Hour { decimal_digits } => put_to_hour(output, time, sign, decimal_digits),
         TimePrecision::Minute { decimal_digits } => {
             put_to_minute(output, time, config.separator(":"), sign, decimal_digits)
