@@ -1,6 +1,6 @@
 -- Texts of components are ASCII, and texts one after another are UTF-8 where each of them is.
 use Rattle.std.proofs.Common.{◌≡◌, ℕ, ◌+◌, ◌-◌, ◌<◌, ◌≤◌, Bool, true, false, ◌&&◌, nat_lt, List, [], ◌∷◌, length}
-use Rattle.std.proofs.Common.{IsAscii, IsUtf8, IsTrue, MatchOption, Option, Some, None, if◌then◌else◌, refl, sym, arith, Result, Ok}
+use Rattle.std.proofs.Common.{IsAscii, IsUtf8, IsTrue, MatchOption, OnSome, Option, Some, None, if◌then◌else◌, refl, sym, arith, Result, Ok}
 use Rattle.std.proofs.Common.{Vec, vec_len}
 use Rattle.std.specs.Global.{Global}
 use Rattle.std.specs.Prelude.{codes, nat_le}
@@ -11,7 +11,7 @@ use Rattle.std.proofs.lemmas.List.Sums.{AllPass-from_list_all}
 use Rattle.std.proofs.lemmas.Str.{IsAscii-append, IsAscii-take, IsUtf8-append, IsUtf8-from_ascii}
 use Rattle.std.proofs.lemmas.Str.Ascii.{IsAscii-from_all, IsAscii-nil}
 use Rattle.time_below.specs.ComponentRange.{conditional_range}
-use Rattle.time_below.specs.Conversion.{current_component}
+use Rattle.time_below.specs.Conversion.{current_component, is_current}
 use Rattle.time_below.specs.declared.period.Period.{Period}
 use Rattle.time_below.specs.declared.period.Period.TheVariants.{Am, Pm}
 use Rattle.time_below.specs.declared.format_description.component.Component.{Component}
@@ -34,10 +34,11 @@ use Rattle.time_fmt.specs.Ending.{Ends}
 use Rattle.time_fmt.specs.Guarantee.{IsTextIf, AppendsLeaf}
 use Rattle.time_fmt.specs.Kind as kind
 use Rattle.time_fmt.specs.Kind.{Kind, kind_text, kind_outcome}
-use Rattle.time_fmt.specs.Outcome.{Outcome, AppendsUpTo, AppendsUnlessRefused, Adds, done, refused, join, insufficient, out_of_range}
+use Rattle.time_fmt.specs.Outcome.{Outcome, AppendsUpTo, Adds, done, refused, join, insufficient, out_of_range}
 use Rattle.time_fmt.specs.Text.{padded_text, sign_text, period_text, subsecond_text}
 use Rattle.time_fmt.specs.declared.ending.Ending.TheVariants as ending
 use Rattle.time_fmt.specs.declared.error.Format.{Format}
+use Rattle.time_fmt.proofs.ConversionLemmas.{current_is_kept}
 use Rattle.time_fmt.proofs.TextLemmas.{passes_at}
 use Rattle.time_fmt.proofs.WriteLemmas.{added_alone}
 
@@ -149,11 +150,13 @@ leaf_of_written None c f old new unchanged = unchanged
 leaf_of_written (Some n) c f old new appends =
     record { ends = ends_complete appends; text = λ _. text_of_component c f }
 
-pub leaf_unless_refused : (written : Option ℕ) (c : Component) (f : Facts) (old new : Vec ℕ Global)
-    → AppendsUnlessRefused (component_width c) old new written (component_outcome c f)
-    → AppendsLeaf (of_component c) f old new written
-leaf_unless_refused None c f old new unchanged = unchanged.0
-leaf_unless_refused (Some n) c f old new appends = leaf_of_written (Some n) c f old new appends
+-- so is one that is not deprecated
+pub leaf_of_current : (written : Option ℕ) (c : Component) (f : Facts) (old new : Vec ℕ Global)
+    → MatchOption written (new ≡ old) (λ n. AppendsUpTo (component_width c) old new (Ok n) (current_outcome c f))
+    → OnSome written (IsTrue (is_current c)) → AppendsLeaf (of_component c) f old new written
+leaf_of_current None c f old new unchanged current = unchanged
+leaf_of_current (Some n) c f old new appends current =
+    leaf_of_written (Some n) c f old new (rw (current_is_kept c current) appends)
 
 -- a list has a text if its first tree has one, and so have the others
 pub text_more : (t : Tree) (ts : Trees) (f : Facts) → IsTextIf (is_guaranteed_text t) (tree_outcome t f)

@@ -48,11 +48,11 @@ pub(crate) fn write_often<V: ComponentProvider>(
     }
 }
 
-/// Appends the text of a component, and returns the number of bytes. If it is refused, writes nothing and
-/// returns `None`.
+// Appends the text of a component, and returns the number of bytes. If it is refused, writes nothing and
+// returns `None`.
 #[inline(always)]
 #[tactic(auto, using(crate::proofs::ConversionLemmas::current_is_kept))]
-pub(crate) fn write_component<V: ComponentProvider>(
+fn write_component<V: ComponentProvider>(
     component: Component,
     output: &mut Vec<u8>,
     value: &V,
@@ -70,10 +70,10 @@ pub(crate) fn write_component<V: ComponentProvider>(
     }
 }
 
-// Appends the text of a component that is not deprecated, and returns the number of bytes. If it is
-// refused, or deprecated, writes nothing and returns `None`.
+/// Appends the text of a component that is not deprecated, and returns the number of bytes. If it is
+/// refused, or deprecated, writes nothing and returns `None`.
 #[inline(always)]
-fn write_current<V: ComponentProvider>(
+pub(crate) fn write_current<V: ComponentProvider>(
     component: Component,
     output: &mut Vec<u8>,
     value: &V,

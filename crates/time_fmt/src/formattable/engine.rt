@@ -5,7 +5,7 @@ ghost use Rattle.time_below.specs.Width.{tree_width, trees_width};
 ghost use Rattle.time_fmt.specs.Guarantee.{AppendsLeaf, AppendsTree};
 ghost use Rattle.time_fmt.specs.Room.{HasRoom};
 
-use crate::component::{end_component, write_component, write_often};
+use crate::component::{end_component, write_current, write_often};
 use crate::ending::Ending;
 use crate::writers::{put_back, take_out, write, write_bytes, write_literal};
 use time_below::format_description::{Layer, Node};
@@ -74,8 +74,8 @@ fn write_leaf<T: Node, V: ComponentProvider>(
     }
 }
 
-/// Writes any component that is not refused, and returns the number of bytes. Of any other node it
-/// writes nothing, and returns `None`.
+/// Writes a component that is neither deprecated nor refused, and returns the number of bytes. Of any
+/// other node it writes nothing, and returns `None`.
 #[inline(always)]
 fn write_seldom<T: Node, V: ComponentProvider>(
     node: &T,
@@ -90,7 +90,7 @@ fn write_seldom<T: Node, V: ComponentProvider>(
     ensures agrees { V.agrees state.new value.now }
 {
     match node.layer() {
-        Layer::Component(component) => write_component(component, output, value, state),
+        Layer::Component(component) => write_current(component, output, value, state),
         _ => None,
     }
 }
