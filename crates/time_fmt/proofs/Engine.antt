@@ -8,36 +8,39 @@ use Rattle.std.proofs.lemmas.List.{append-nil, at_drop_all}
 use Rattle.time_below.specs.Facts.{Facts}
 use Rattle.time_below.specs.Tree.{Tree, Trees, trees, all_of, first_of, end, more}
 use Rattle.time_below.specs.Width.{tree_width, trees_width, are_guaranteed_text}
-use Rattle.time_fmt.specs.declared.ending.Ending.{Ending}
-use Rattle.time_fmt.specs.declared.ending.Ending.TheVariants as ending
 use Rattle.time_fmt.specs.declared.error.Format.{Format}
+use Rattle.time_fmt.specs.declared.refused.Refused.{Refused}
 use Rattle.time_fmt.specs.Description.{tree_outcome, trees_outcome}
-use Rattle.time_fmt.specs.Ending.{Ends, refusal_of}
+use Rattle.time_fmt.specs.Ends.{Ends, refusal_of}
 use Rattle.time_fmt.specs.Guarantee.{IsTextIf, AppendsTree}
 use Rattle.time_fmt.specs.Outcome.{Outcome, Refusal, Names, Appends}
 use Rattle.time_fmt.specs.Room.{HasRoom}
 use Rattle.time_fmt.proofs.WriteLemmas.{join_refused, join_done}
 use Rattle.time_fmt.proofs.GuaranteeLemmas.{text_more, text_stops, empty_utf8}
 
--- the answer to a text that ends so has the outcome
-pub answered : {width count : ℕ} {e : Ending} {o : Outcome} (answer : Result ℕ Format) (old new : Vec ℕ Global)
-    → Ends width old new e o → IfOk answer (λ n. (refusal_of e ≡ None) × (n ≡ count))
-    → IfErr answer (λ x. IsSomeAnd (refusal_of e) (Names x)) → count ≡ vec_len new - vec_len old
-    → Appends old new answer o
-answered (Ok n) old new ends complete named count = record {
+-- a text without a refusal is answered by its number of bytes
+pub complete : {width : ℕ} {o : Outcome} {u : Unit} (old new : Vec ℕ Global)
+    → Ends width old new (Ok u) o → Appends old new (Ok (vec_len new - vec_len old)) o
+complete old new ends = record {
   appended = ends.appended;
-  counted = (sym ends.refusal ∙ complete.0, omega (arith, complete.1, count, ends.grown));
+  counted = (sym ends.refusal, omega (arith, ends.grown));
   named = tt;
   grown = ends.grown;
   capacity = ends.capacity;
 }
-answered (Err x) old new ends complete named count = record {
+
+-- one with a refusal by the error of that name
+pub stopped : {width : ℕ} {o : Outcome} {reason : Refused} (error : Format) (old new : Vec ℕ Global)
+    → Ends width old new (Err reason) o → Names error (refusal_of reason) → Appends old new (Err error) o
+stopped error old new ends names = record {
   appended = ends.appended;
   counted = tt;
-  named = subst (λ (r : Option Refusal). IsSomeAnd r (Names x)) ends.refusal named;
+  named = subst (λ (r : Option Refusal). IsSomeAnd r (Names error)) ends.refusal names;
   grown = ends.grown;
   capacity = ends.capacity;
 }
+
+pub ruleset answered = (complete, stopped)
 
 -- a list was written so far without a refusal: its rest is the rest of the outcome, and fits the capacity
 pub record Along (agrees : Type 0) (old now : Vec ℕ Global) (f : Facts) (all left : Trees) (all_size left_size : ℕ)
@@ -98,12 +101,13 @@ stops_along r old mid f all left others t along next refused =
     }
 
 -- a list ends with a node that is refused
-pub list_refused : {agrees : Type 0} {all_size left_size : ℕ} {e : Ending} (r : Refusal) (old mid new : Vec ℕ Global)
+pub list_refused : {agrees : Type 0} {all_size left_size : ℕ} {reason : Refused} (old mid new : Vec ℕ Global)
     (f : Facts) (all left others : Trees) (t : Tree) →
-    Along agrees old mid f all left all_size left_size → left ≡ more t others → refusal_of e ≡ Some r
-    → AppendsTree t f mid new e → AppendsTree (all_of all) f old new e
-list_refused r old mid new f all left others t along next is_refused step =
-    let refused : (tree_outcome t f).refusal ≡ Some r = sym step.ends.refusal ∙ is_refused in
+    Along agrees old mid f all left all_size left_size → left ≡ more t others
+    → AppendsTree t f mid new (Err reason) → AppendsTree (all_of all) f old new (Err reason)
+list_refused {reason = reason} old mid new f all left others t along next step =
+    let r = refusal_of reason in
+    let refused : (tree_outcome t f).refusal ≡ Some r = sym step.ends.refusal in
     let stops = stops_along r old mid f all left others t along next refused in
     let width : trees_width left ≡ tree_width t + trees_width others = ap trees_width next in
     let P : Trees → Type 0 = λ ts. IsTextIf (are_guaranteed_text ts) (trees_outcome ts f) in
@@ -123,7 +127,7 @@ list_refused r old mid new f all left others t along next is_refused step =
 pub written_along : {agrees agrees_after : Type 0} {all_size left_size rest_size : ℕ} (old mid new : Vec ℕ Global)
     (f : Facts) (all left others : Trees) (t : Tree) →
     Along agrees old mid f all left all_size left_size → left ≡ more t others → rest_size ≤ left_size
-    → AppendsTree t f mid new ending.Complete → agrees_after
+    → AppendsTree t f mid new (Ok tt) → agrees_after
     → Along agrees_after old new f all others all_size rest_size
 written_along old mid new f all left others t along next smaller step agrees =
     let a = tree_outcome t f in
@@ -153,7 +157,7 @@ written_along old mid new f all left others t along next smaller step agrees =
 pub all_along : {A agrees : Type 0} {all_size left_size : ℕ} (tree : A → Tree) (nodes : List A) (i : ℕ)
     (old now : Vec ℕ Global) (f : Facts) → length nodes ≤ i
     → Along agrees old now f (trees (map tree nodes)) (trees (map tree (drop i nodes))) all_size left_size
-    → AppendsTree (all_of (trees (map tree nodes))) f old now ending.Complete
+    → AppendsTree (all_of (trees (map tree nodes))) f old now (Ok tt)
 all_along tree nodes i old now f past along =
     let none : trees (map tree (drop i nodes)) ≡ end = at_drop_all (λ xs. trees (map tree xs)) nodes i past in
     let bytes : (trees_outcome (trees (map tree (drop i nodes))) f).bytes ≡ [] =
@@ -171,12 +175,12 @@ all_along tree nodes i old now f past along =
     }
 
 -- the first of a list that begins with x appends what x does
-pub first_appends : {A : Type 0} {e : Ending} (tree : A → Tree) (nodes : List A) (x : A)
-    (old new : Vec ℕ Global) (f : Facts) → slice_get nodes 0 ≡ Some x → AppendsTree (tree x) f old new e
-    → AppendsTree (first_of (trees (map tree nodes))) f old new e
+pub first_appends : {A : Type 0} {answer : Result Unit Refused} (tree : A → Tree) (nodes : List A) (x : A)
+    (old new : Vec ℕ Global) (f : Facts) → slice_get nodes 0 ≡ Some x → AppendsTree (tree x) f old new answer
+    → AppendsTree (first_of (trees (map tree nodes))) f old new answer
 first_appends tree [] x old new f h appends = let no : ⊥ = cc in absurd no
-first_appends {A} {e} tree (y ∷ ys) x old new f h appends =
+first_appends {A} {answer} tree (y ∷ ys) x old new f h appends =
     let same : y ≡ x = cc in
-    let P : A → Type 0 = λ z. AppendsTree (tree z) f old new e in
+    let P : A → Type 0 = λ z. AppendsTree (tree z) f old new answer in
     let first = subst P (sym same) appends in
     record { ends = first.ends; text = first.text }

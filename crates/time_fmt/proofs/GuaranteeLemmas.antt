@@ -30,13 +30,12 @@ use Rattle.time_digits.proofs.LengthLemmas.{IsAscii-padded, IsAscii-number}
 use Rattle.time_fmt.specs.DateText.{month_names, month_name, weekday_names, weekday_name, indexed}
 use Rattle.time_fmt.specs.Description.{has_group, kind_of, supplied_outcome, current_outcome, component_outcome}
 use Rattle.time_fmt.specs.Description.{tree_outcome, trees_outcome}
-use Rattle.time_fmt.specs.Ending.{Ends}
+use Rattle.time_fmt.specs.Ends.{Ends}
 use Rattle.time_fmt.specs.Guarantee.{IsTextIf, AppendsLeaf}
 use Rattle.time_fmt.specs.Kind as kind
 use Rattle.time_fmt.specs.Kind.{Kind, kind_text, kind_outcome}
 use Rattle.time_fmt.specs.Outcome.{Outcome, AppendsUpTo, Adds, done, refused, join, insufficient, out_of_range}
 use Rattle.time_fmt.specs.Text.{padded_text, sign_text, period_text, subsecond_text}
-use Rattle.time_fmt.specs.declared.ending.Ending.TheVariants as ending
 use Rattle.time_fmt.specs.declared.error.Format.{Format}
 use Rattle.time_fmt.proofs.ConversionLemmas.{current_is_kept}
 use Rattle.time_fmt.proofs.TextLemmas.{passes_at}
@@ -132,7 +131,7 @@ text_of_component c f = IsUtf8-from_ascii (component_outcome c f).bytes (ascii_c
 
 -- what is appended without a refusal ends complete
 pub ends_complete : {width count : ℕ} {o : Outcome} {old new : Vec ℕ Global} → AppendsUpTo width old new (Ok count) o
-    → Ends width old new ending.Complete o
+    → Ends width old new (Ok tt) o
 ends_complete up_to = record {
   appended = up_to.appends.appended;
   refusal = sym up_to.appends.counted.0;

@@ -1,7 +1,7 @@
 pub mod DateText
 pub mod Decimals
 pub mod Description
-pub mod Ending
+pub mod Ends
 pub mod Errors
 pub mod Guarantee
 pub mod Kind

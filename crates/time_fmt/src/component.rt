@@ -3,13 +3,13 @@ ghost use Rattle.std.specs.Prelude.{◌≡◌, ◌+◌, ◌≤◌, IfNone, IsSom
 ghost use Rattle.time_below.specs.Conversion.{is_current};
 ghost use Rattle.time_below.specs.Width.{component_width};
 ghost use Rattle.time_fmt.specs.Description.{component_outcome, current_outcome};
-ghost use Rattle.time_fmt.specs.Ending.{Ends};
+ghost use Rattle.time_fmt.specs.Ends.{Ends};
 ghost use Rattle.time_fmt.specs.Outcome.{Appends, AppendsUpTo, AppendsUnlessRefused};
 ghost use Rattle.time_fmt.specs.Room.{HasRoom};
 
-use crate::ending::Ending;
 use crate::error::Format;
 use crate::modifier::{Modifier, supplies};
+use crate::refused::Refused;
 use time_below::format_description::Component;
 use time_provide::ComponentProvider;
 
@@ -192,14 +192,14 @@ fn write_here<M: Modifier, V: ComponentProvider>(
     }
 }
 
-/// Appends the text of any component, or nothing if it is refused, and returns how the text ends.
+/// Appends the text of any component. If it is refused, writes nothing and returns the refusal.
 #[inline]
 pub(crate) fn end_component<V: ComponentProvider>(
     component: Component,
     output: &mut Vec<u8>,
     value: &V,
     state: &mut V::State,
-) -> Ending
+) -> Result<(), Refused>
     requires room { HasRoom output.old (component_width component) }
     requires agrees { V.agrees state.old value.now }
     ensures ends { Ends (component_width component) output.old output.new result
@@ -207,9 +207,9 @@ pub(crate) fn end_component<V: ComponentProvider>(
     ensures agrees { V.agrees state.new value.now }
 {
     match write_component(component, output, value, state) {
-        Some(_) => Ending::Complete,
-        None if supplies::<V>(component.current().group()) => Ending::YearOutOfRange,
-        None => Ending::Unsupplied,
+        Some(_) => Ok(()),
+        None if supplies::<V>(component.current().group()) => Err(Refused::YearOutOfRange),
+        None => Err(Refused::Unsupplied),
     }
 }
 
@@ -219,7 +219,7 @@ pub(crate) fn end_component<V: ComponentProvider>(
 /// A deprecated component has the text of the current one. Returns the number of bytes appended, or
 /// the refusal of the component, which has no bytes.
 #[inline]
-#[tactic(auto, using(crate::proofs::Engine::answered))]
+#[tactic(auto, using(crate::proofs::Engine::answered, crate::proofs::GuaranteeLemmas::text_of_component))]
 pub fn component_write_into<V: ComponentProvider>(
     component: &Component,
     output: &mut Vec<u8>,
@@ -235,5 +235,6 @@ pub fn component_write_into<V: ComponentProvider>(
     ensures agrees { V.agrees state.new value.now }
 {
     let begin = output.len();
-    end_component(*component, output, value, state).answer(output.len() - begin)
+    end_component(*component, output, value, state)?;
+    Ok(output.len() - begin)
 }

@@ -2,13 +2,13 @@
 #![tactic(auto)]
 
 mod component;
-mod ending;
 mod error;
 mod formattable;
 pub mod laws;
 mod metadata;
 mod modifier;
 pub mod parts;
+mod refused;
 pub mod writers;
 
 pub use component::component_write_into;

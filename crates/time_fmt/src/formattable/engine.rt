@@ -6,12 +6,12 @@ ghost use Rattle.time_fmt.specs.Guarantee.{AppendsLeaf, AppendsTree};
 ghost use Rattle.time_fmt.specs.Room.{HasRoom};
 
 use crate::component::{end_component, write_current, write_often};
-use crate::ending::Ending;
+use crate::refused::Refused;
 use crate::writers::{put_back, take_out, write, write_bytes, write_literal};
 use time_below::format_description::{Layer, Node};
 use time_provide::ComponentProvider;
 
-/// Writes the nodes in order, up to the first that is refused. The vector is taken out of its borrow
+/// Writes the nodes in order, up to the first that is refused, and returns its refusal. The vector is taken out of its borrow
 /// meanwhile, so that its address and its length stay in registers from one leaf to the next.
 #[cycle(engine)]
 #[inline(always)]
@@ -20,7 +20,7 @@ pub(super) fn write_nodes<T: Node, V: ComponentProvider>(
     output: &mut Vec<u8>,
     value: &V,
     state: &mut V::State,
-) -> Ending
+) -> Result<(), Refused>
     requires room { HasRoom output.old (trees_width (trees (map T.tree nodes.now))) }
     requires agrees { V.agrees state.old value.now }
     ensures appends { AppendsTree (all_of (trees (map T.tree nodes.now))) (V.facts value.now)
@@ -37,18 +37,15 @@ pub(super) fn write_nodes<T: Node, V: ComponentProvider>(
                     Some(_) => taken = apart,
                     None => {
                         put_back(output, apart);
-                        match write_node(node, output, value, state) {
-                            Ending::Complete => taken = take_out(output),
-                            Ending::Unsupplied => return Ending::Unsupplied,
-                            Ending::YearOutOfRange => return Ending::YearOutOfRange,
-                        }
+                        write_node(node, output, value, state)?;
+                        taken = take_out(output);
                     }
                 }
             }
         }
     }
     put_back(output, taken);
-    Ending::Complete
+    Ok(())
 }
 
 /// Writes a literal, or a component that is met often, and returns the number of bytes. Of any other
@@ -95,7 +92,7 @@ fn write_seldom<T: Node, V: ComponentProvider>(
     }
 }
 
-/// Appends the text of the node. The output needs spare capacity for its width. Allocates nothing.
+/// Appends the text of the node, up to the first component that is refused, and returns its refusal.
 #[cycle(engine)]
 #[inline(never)]
 pub(super) fn write_node<T: Node, V: ComponentProvider>(
@@ -103,7 +100,7 @@ pub(super) fn write_node<T: Node, V: ComponentProvider>(
     output: &mut Vec<u8>,
     value: &V,
     state: &mut V::State,
-) -> Ending
+) -> Result<(), Refused>
     requires room { HasRoom output.old (tree_width (T.tree node.now)) }
     requires agrees { V.agrees state.old value.now }
     ensures appends { AppendsTree (T.tree node.now) (V.facts value.now) output.old output.new result }
@@ -112,19 +109,19 @@ pub(super) fn write_node<T: Node, V: ComponentProvider>(
     match node.layer() {
         Layer::Bytes(bytes) => {
             write_bytes(output, bytes);
-            Ending::Complete
+            Ok(())
         }
         Layer::Text(text) => {
             write(output, text);
-            Ending::Complete
+            Ok(())
         }
         Layer::Component(component) => end_component(component, output, value, state),
         Layer::All(nodes) => write_nodes(nodes, output, value, state),
         Layer::First(nodes) => match nodes.first() {
             Some(node) => write_node(node, output, value, state),
-            None => Ending::Complete,
+            None => Ok(()),
         },
         Layer::Optional(node) => write_node(node, output, value, state),
-        Layer::Nothing => Ending::Complete,
+        Layer::Nothing => Ok(()),
     }
 }

@@ -39,7 +39,8 @@ impl Formattable for BorrowedItems<'_> {
     ) -> Result<usize, Format> {
         let BorrowedItems(items) = *self;
         let begin = output.len();
-        write_nodes(items, output, value, state).answer(output.len() - begin)
+        write_nodes(items, output, value, state)?;
+        Ok(output.len() - begin)
     }
 
     fn fits_plainly(&self, room: usize) -> bool {
@@ -73,7 +74,8 @@ impl Formattable for OwnedItems<'_> {
     ) -> Result<usize, Format> {
         let OwnedItems(items) = *self;
         let begin = output.len();
-        write_nodes(items, output, value, state).answer(output.len() - begin)
+        write_nodes(items, output, value, state)?;
+        Ok(output.len() - begin)
     }
 
     fn fits_plainly(&self, room: usize) -> bool {

@@ -38,7 +38,8 @@ impl Formattable for BorrowedFormatItem<'_> {
         state: &mut V::State,
     ) -> Result<usize, Format> {
         let begin = output.len();
-        write_node(self, output, value, state).answer(output.len() - begin)
+        write_node(self, output, value, state)?;
+        Ok(output.len() - begin)
     }
 }
 
@@ -63,7 +64,8 @@ impl Formattable for OwnedFormatItem {
         state: &mut V::State,
     ) -> Result<usize, Format> {
         let begin = output.len();
-        write_node(self, output, value, state).answer(output.len() - begin)
+        write_node(self, output, value, state)?;
+        Ok(output.len() - begin)
     }
 }
 
@@ -112,5 +114,6 @@ pub fn v3_write_into<V: ComponentProvider>(
     ensures agrees { V.agrees state.new value.now }
 {
     let begin = output.len();
-    write_node(item, output, value, state).answer(output.len() - begin)
+    write_node(item, output, value, state)?;
+    Ok(output.len() - begin)
 }

@@ -141,7 +141,17 @@ fn a_text_of_33_parts_may_be_passed_to_a_function(rt: HostRuntime) {
         b"p", b"q", b"r", b"s", b"t", b"u", b"v", b"w", b"x", b"y", b"z", b"0", b"1", b"2", b" ",
         DAY, b".", MONTH
     );
-    assert_same(&rt, measured(&many), 35);
+    let text = "abcdefghijklmnopqrstuvwxyz012 12.11";
+    assert_value(&rt, rt.alloc(), &many, EXAMPLE, (text, 35));
+}
+
+#[test]
+fn a_date_and_a_time_are_written_by_eleven_parts(rt: HostRuntime) {
+    let parts = text!(
+        YEAR, b"-", MONTH, b"-", DAY, b" ", HOUR, b":", MINUTE, b":", SECOND
+    );
+    let text = "1997-11-12 09:55:06";
+    assert_value(&rt, rt.alloc(), &parts, EXAMPLE, (text, 22));
 }
 
 // What precedes the refusal stays, and nothing follows it.

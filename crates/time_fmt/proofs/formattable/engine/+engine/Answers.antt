@@ -1,9 +1,11 @@
-use Rattle.std.proofs.Common.{refl, sym, ◌∙◌}
+use Rattle.std.proofs.Common.{sym, ◌∙◌}
+use Rattle.std.proofs.lemmas.Result.{err_from_is_err_and}
 use Rattle.time_below.proofs.NodeLemmas.{next_of, smaller_rest}
 use Rattle.time_fmt.proofs.GuaranteeLemmas.{text_of_component}
 use Rattle.time_fmt.proofs.Engine.{along_from_the_start, room_for_next, all_along, list_refused, written_along, first_appends}
 use Rattle.time_fmt.proofs.formattable.engine.+engine.Goals as goal
-use Rattle.time_fmt.proofs.formattable.engine.+engine.Goals.{write_nodes-in-Some, write_nodes-in-None+in-Some-write_seldom, write_nodes-in-None+in-None-write_seldom+in-Complete}
+use Rattle.time_fmt.proofs.formattable.engine.+engine.Goals.{write_nodes-in-Some, write_nodes-in-None+in-Some-write_seldom}
+use Rattle.time_fmt.proofs.formattable.engine.+engine.Goals.{write_nodes-in-None+in-None-write_seldom+in_ok-write_node-in-None-write_seldom}
 
 pub write_nodes-loop-node-init : goal.write_nodes-loop-node-init
 write_nodes-loop-node-init g t c =
@@ -35,29 +37,25 @@ write_nodes-loop-node-preserved g t c =
           (written_along {agrees_after = g.V.ComponentProvider.agrees w.write_seldom.new.state c.args.value.now}
           c.args.output.now c.loop-node.taken w.write_seldom.new.output _ _ _ _ _ c.loop-node.invariant next smaller
           (rw w.in-None.ensures.appends at step.appends) step.agrees)
-      | write_nodes-in-None+in-None-write_seldom+in-Complete w ↦
-          let step = w.in-Complete.ensures in
+      | write_nodes-in-None+in-None-write_seldom+in_ok-write_node-in-None-write_seldom w ↦
+          let step = w.in_ok-write_node-in-None-write_seldom.ensures in
           let same = w.put_back.ensures.put ∙ w.in-None-write_seldom.ensures.appends ∙ w.in-None.ensures.appends in
-          rw (w.taken-is, w.state-is, w.take_out-taken-in-Complete.ensures.taken)
+          rw (w.taken-is, w.state-is, w.take_out-taken-in-None-write_seldom.ensures.taken)
           (written_along {agrees_after = g.V.ComponentProvider.agrees w.write_node.new.state c.args.value.now}
           c.args.output.now c.loop-node.taken w.write_node.new.output _ _ _ _ _ c.loop-node.invariant next smaller
           (rw same at step.appends) step.agrees)
     ]
 
 -- a node that is refused ends the list
-pub write_nodes-returns-in-Unsupplied-clause-appends : goal.write_nodes-returns-in-Unsupplied-clause-appends
-write_nodes-returns-in-Unsupplied-clause-appends g t c =
+pub write_nodes-returns-in_err-write_node-in-None-write_seldom-clause-appends :
+    goal.write_nodes-returns-in_err-write_node-in-None-write_seldom-clause-appends
+write_nodes-returns-in_err-write_node-in-None-write_seldom-clause-appends g t c =
     let next = next_of g.T.Node.tree c.args.nodes.now c.loop-node.node-index c.node-item.result c.loop-node-test.true
     c.node-item.is in
-    list_refused _ c.args.output.now c.loop-node.taken c.write_node.new.output _ _ _ _ _ c.loop-node.invariant next refl
-    (rw (c.put_back.ensures.put, c.in-None-write_seldom.ensures.appends, c.in-None.ensures.appends) at c.in-Unsupplied.ensures.appends)
-
-pub write_nodes-returns-in-YearOutOfRange-clause-appends : goal.write_nodes-returns-in-YearOutOfRange-clause-appends
-write_nodes-returns-in-YearOutOfRange-clause-appends g t c =
-    let next = next_of g.T.Node.tree c.args.nodes.now c.loop-node.node-index c.node-item.result c.loop-node-test.true
-    c.node-item.is in
-    list_refused _ c.args.output.now c.loop-node.taken c.write_node.new.output _ _ _ _ _ c.loop-node.invariant next refl
-    (rw (c.put_back.ensures.put, c.in-None-write_seldom.ensures.appends, c.in-None.ensures.appends) at c.in-YearOutOfRange.ensures.appends)
+    let same = err_from_is_err_and c.from_residual.result c.from_residual.ensures.1 in
+    rw (same.1, same.2)
+    (list_refused c.args.output.now c.loop-node.taken c.write_node.new.output _ _ _ _ _ c.loop-node.invariant next
+    (rw (c.put_back.ensures.put, c.in-None-write_seldom.ensures.appends, c.in-None.ensures.appends) at c.in_err-write_node-in-None-write_seldom.ensures.appends))
 
 -- the end of the loop leaves nothing
 pub write_nodes-returns : goal.write_nodes-returns
