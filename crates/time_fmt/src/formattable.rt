@@ -117,7 +117,7 @@ pub trait Formattable: ComputeMetadata {
     ///
     /// The result is `OutOfMemory` if an allocation fails, for the text or for reading bytes that are no
     /// UTF-8, or if the width has reached the greatest `usize`.
-    fn format<V: ComponentProvider>(
+    final fn format<V: ComponentProvider>(
         &self,
         alloc: Global,
         value: &V,

@@ -16,6 +16,7 @@ use time_below::format_description::{
 
 /// The width of a component is that of the table, and it has the guarantee. Where it is not
 /// deprecated, its text on one of two values is as long as the width.
+#[tactic(auto, using(crate::proofs::LongestLemmas::reaches_width))]
 pub fn component_has_its_width(component: Component)
     ensures width { ⟦<Component as ComputeMetadata>⟧.width_of component
         ≡ component_width component }
@@ -70,6 +71,7 @@ pub fn owned_items_mean_their_list(items: OwnedItems<'_>)
 
 /// Two descriptions, of any types, whose trees are equal once bytes are read as texts and
 /// deprecated components as current ones, append the same bytes and give the same refusal.
+#[tactic(auto, using(crate::proofs::LawLemmas::equal_outcomes))]
 pub fn equal_trees_have_equal_outcomes()
     ensures { EqualTreesHaveEqualOutcomes }
 {}

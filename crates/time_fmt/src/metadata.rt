@@ -31,6 +31,7 @@ impl ComputeMetadata for Component {
 
     ghost reaches_width = { ReachesWidth };
 
+    #[tactic(auto, using(crate::proofs::LongestLemmas::reaches_width))]
     fn compute_metadata(&self) -> Metadata {
         Metadata {
             max_bytes_needed: component_width(self),

@@ -82,8 +82,9 @@ pub trait Modifier: Copy {
 // 16 parts that is used in four places was no longer part of its callers.
 #[inline]
 pub(crate) fn supplies<V: ComponentProvider>(group: Group) -> bool
-    ensures { result ≡ is_supplied V.SUPPLIES_DATE V.SUPPLIES_TIME
+    ensures type { result ≡ is_supplied V.SUPPLIES_DATE V.SUPPLIES_TIME
         V.SUPPLIES_OFFSET V.SUPPLIES_TIMESTAMP group }
+    ensures values { (value : V) → result ≡ has_group group (V.facts value) }
 {
     match group {
         Group::Date => V::SUPPLIES_DATE,

@@ -49,6 +49,7 @@ pub fn pair_means_both_lists()
 {}
 
 /// An item, as a component or a literal, means the list of it alone.
+#[tactic(auto, using(crate::proofs::PartLemmas::item_means_its_list))]
 pub fn item_means_its_list()
     ensures { ItemMeansItsList }
 {}

@@ -1,6 +1,7 @@
 //! Centuries and the last two digits of a year: their texts, widths and writers.
 //!
 //! The calendar year and the year of the week calendar have the same texts.
+#![tactic(auto, using(crate::proofs::TextLemmas::signed_lengths, crate::proofs::TextLemmas::text_lengths))]
 ghost use Rattle.std.specs.Prelude.{◌≡◌, ◌%◌, int_lt, length, pos, refl, unsigned_abs};
 ghost use Rattle.time_below.specs.declared.format_description.component.Component.TheVariants as component;
 ghost use Rattle.time_below.specs.declared.format_description.component.Group.TheVariants as group;
@@ -59,7 +60,6 @@ impl Modifier for modifier::CalendarYearCenturyExtendedRange {
     }
 
     #[inline(always)]
-    #[tactic(auto, using(crate::proofs::TextLemmas::signed_lengths))]
     fn write_supplied<V: ComponentProvider>(
         self,
         output: &mut Vec<u8>,
@@ -111,7 +111,6 @@ impl Modifier for modifier::CalendarYearCenturyStandardRange {
     }
 
     #[inline(always)]
-    #[tactic(auto, using(crate::proofs::TextLemmas::signed_lengths))]
     fn write_supplied<V: ComponentProvider>(
         self,
         output: &mut Vec<u8>,
@@ -164,7 +163,6 @@ impl Modifier for modifier::IsoYearCenturyExtendedRange {
     }
 
     #[inline(always)]
-    #[tactic(auto, using(crate::proofs::TextLemmas::signed_lengths))]
     fn write_supplied<V: ComponentProvider>(
         self,
         output: &mut Vec<u8>,
@@ -217,7 +215,6 @@ impl Modifier for modifier::IsoYearCenturyStandardRange {
     }
 
     #[inline(always)]
-    #[tactic(auto, using(crate::proofs::TextLemmas::signed_lengths))]
     fn write_supplied<V: ComponentProvider>(
         self,
         output: &mut Vec<u8>,
@@ -257,7 +254,6 @@ impl Modifier for modifier::CalendarYearLastTwo {
     }
 
     #[inline(always)]
-    #[tactic(auto, using(crate::proofs::TextLemmas::text_lengths))]
     fn write_supplied<V: ComponentProvider>(
         self,
         output: &mut Vec<u8>,
@@ -296,7 +292,6 @@ impl Modifier for modifier::IsoYearLastTwo {
     }
 
     #[inline(always)]
-    #[tactic(auto, using(crate::proofs::TextLemmas::text_lengths))]
     fn write_supplied<V: ComponentProvider>(
         self,
         output: &mut Vec<u8>,
@@ -375,7 +370,6 @@ fn write_any_century(
 }
 
 // Appends the century of a year of either calendar, if it has at most two digits.
-#[tactic(auto, using(crate::proofs::TextLemmas::signed_lengths))]
 fn write_accepted_century(
     output: &mut Vec<u8>,
     year: Year,

@@ -1,4 +1,5 @@
 //! The components of an offset from UTC: their texts, widths and writers.
+#![tactic(auto, using(crate::proofs::TextLemmas::text_lengths))]
 ghost use Rattle.std.specs.Prelude.{length, unsigned_abs, refl};
 ghost use Rattle.time_below.specs.declared.format_description.component.Component.TheVariants as component;
 ghost use Rattle.time_below.specs.declared.format_description.component.Group.TheVariants as group;
@@ -87,7 +88,6 @@ impl Modifier for modifier::OffsetMinute {
     }
 
     #[inline(always)]
-    #[tactic(auto, using(crate::proofs::TextLemmas::text_lengths))]
     fn write_supplied<V: ComponentProvider>(
         self,
         output: &mut Vec<u8>,
@@ -128,7 +128,6 @@ impl Modifier for modifier::OffsetSecond {
     }
 
     #[inline(always)]
-    #[tactic(auto, using(crate::proofs::TextLemmas::text_lengths))]
     fn write_supplied<V: ComponentProvider>(
         self,
         output: &mut Vec<u8>,

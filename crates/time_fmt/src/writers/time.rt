@@ -1,4 +1,5 @@
 //! The hour, the minute, the second and the half of the day: their texts, widths and writers.
+#![tactic(auto, using(crate::proofs::TextLemmas::text_lengths))]
 ghost use Rattle.std.specs.Prelude.{length, refl};
 ghost use Rattle.time_below.specs.declared.format_description.component.Component.TheVariants as component;
 ghost use Rattle.time_below.specs.declared.format_description.component.Group.TheVariants as group;
@@ -39,7 +40,6 @@ impl Modifier for modifier::Hour12 {
     }
 
     #[inline(always)]
-    #[tactic(auto, using(crate::proofs::TextLemmas::text_lengths))]
     fn write_supplied<V: ComponentProvider>(
         self,
         output: &mut Vec<u8>,
@@ -74,7 +74,6 @@ impl Modifier for modifier::Hour24 {
     }
 
     #[inline(always)]
-    #[tactic(auto, using(crate::proofs::TextLemmas::text_lengths))]
     fn write_supplied<V: ComponentProvider>(
         self,
         output: &mut Vec<u8>,
@@ -109,7 +108,6 @@ impl Modifier for modifier::Minute {
     }
 
     #[inline(always)]
-    #[tactic(auto, using(crate::proofs::TextLemmas::text_lengths))]
     fn write_supplied<V: ComponentProvider>(
         self,
         output: &mut Vec<u8>,
@@ -151,7 +149,6 @@ impl Modifier for modifier::Period {
     }
 
     #[inline(always)]
-    #[tactic(auto)]
     fn write_supplied<V: ComponentProvider>(
         self,
         output: &mut Vec<u8>,
@@ -186,7 +183,6 @@ impl Modifier for modifier::Second {
     }
 
     #[inline(always)]
-    #[tactic(auto, using(crate::proofs::TextLemmas::text_lengths))]
     fn write_supplied<V: ComponentProvider>(
         self,
         output: &mut Vec<u8>,

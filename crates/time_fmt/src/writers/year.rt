@@ -1,6 +1,7 @@
 //! Whole years: their texts, widths and writers.
 //!
 //! The calendar year and the year of the week calendar have the same texts.
+#![tactic(auto, using(crate::proofs::TextLemmas::signed_lengths))]
 ghost use Rattle.std.specs.Prelude.{length, refl};
 ghost use Rattle.time_below.specs.declared.format_description.component.Component.TheVariants as component;
 ghost use Rattle.time_below.specs.declared.format_description.component.Group.TheVariants as group;
@@ -50,7 +51,6 @@ impl Modifier for modifier::CalendarYearFullExtendedRange {
     }
 
     #[inline(always)]
-    #[tactic(auto, using(crate::proofs::TextLemmas::signed_lengths))]
     fn write_supplied<V: ComponentProvider>(
         self,
         output: &mut Vec<u8>,
@@ -91,7 +91,6 @@ impl Modifier for modifier::CalendarYearFullStandardRange {
     }
 
     #[inline(always)]
-    #[tactic(auto, using(crate::proofs::TextLemmas::signed_lengths))]
     fn write_supplied<V: ComponentProvider>(
         self,
         output: &mut Vec<u8>,
@@ -134,7 +133,6 @@ impl Modifier for modifier::IsoYearFullExtendedRange {
     }
 
     #[inline(always)]
-    #[tactic(auto, using(crate::proofs::TextLemmas::signed_lengths))]
     fn write_supplied<V: ComponentProvider>(
         self,
         output: &mut Vec<u8>,
@@ -175,7 +173,6 @@ impl Modifier for modifier::IsoYearFullStandardRange {
     }
 
     #[inline(always)]
-    #[tactic(auto, using(crate::proofs::TextLemmas::signed_lengths))]
     fn write_supplied<V: ComponentProvider>(
         self,
         output: &mut Vec<u8>,
@@ -277,7 +274,6 @@ fn write_year_digits(output: &mut Vec<u8>, year: ru32<0, 999_999>, padding: Padd
 }
 
 // Appends a year of either calendar, if it has at most four digits.
-#[tactic(auto, using(crate::proofs::TextLemmas::signed_lengths))]
 fn write_accepted_year(
     output: &mut Vec<u8>,
     year: Year,

@@ -1,6 +1,0 @@
-use Rattle.time_fmt.proofs.GuaranteeLemmas.{leaf_of_written}
-use Rattle.time_fmt.proofs.formattable.engine.write_leaf.Goals as goal
-
-pub returns-in-Component-clause-appends : goal.returns-in-Component-clause-appends
-returns-in-Component-clause-appends g c =
-    rw (← c.in-Component.ensures.tree) (leaf_of_written _ c.in-Component.component _ _ _ c.write_often.ensures.appends)
