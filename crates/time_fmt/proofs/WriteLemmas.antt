@@ -106,6 +106,12 @@ pub whole_text : {width n : ℕ} {text : List ℕ} {old new : Vec ℕ Global} �
     → AppendsWhole width old new (Ok n) (done text)
 whole_text w h = record { appends = appends_text w; whole = tt; within = omega (arith, w.grown, h) }
 
+-- a refusal leaves all as it was
+pub refused_whole : {width : ℕ} {o : Outcome} {e : Format} {old new : Vec ℕ Global} → AppendsWhole width old new (Err e) o
+    → AppendsUnlessRefused width old new None o
+refused_whole {o = o} {e = e} written =
+    let r = some_of (Names e) o.refusal written.appends.named in (written.whole, rw r.1 refl)
+
 -- an outcome that is refused has no bytes
 nothing_of : {width : ℕ} (output : Vec ℕ Global) (e : Format) (r : Refusal) → Names e r
     → AppendsWhole width output output (Err e) (refused r)

@@ -48,6 +48,28 @@ pub(crate) fn write_often<V: ComponentProvider>(
     }
 }
 
+// Appends the text of a component, and returns the number of bytes. If it is refused, writes nothing and
+// returns `None`.
+#[inline(always)]
+#[tactic(auto, using(crate::proofs::ConversionLemmas::current_is_kept))]
+fn write_component<V: ComponentProvider>(
+    component: Component,
+    output: &mut Vec<u8>,
+    value: &V,
+    state: &mut V::State,
+) -> Option<usize>
+    requires room { HasRoom output.old (component_width component) }
+    requires agrees { V.agrees state.old value.now }
+    ensures appends { AppendsUnlessRefused (component_width component) output.old output.new result
+        (component_outcome component (V.facts value.now)) }
+    ensures agrees { V.agrees state.new value.now }
+{
+    match write_current(component, output, value, state) {
+        Some(count) => Some(count),
+        None => write_deprecated(&component, output, value, state),
+    }
+}
+
 /// Appends the text of a component that is not deprecated, and returns the number of bytes. If it is
 /// refused, or deprecated, writes nothing and returns `None`.
 #[inline(always)]
@@ -164,7 +186,10 @@ fn write_here<M: Modifier, V: ComponentProvider>(
         output.old output.new result (component_outcome (M.component_of part) (V.facts value.now)) }
     ensures agrees { V.agrees state.new value.now }
 {
-    match part.write(output, value, state) {
+    if !supplies::<V>(M::GROUP) {
+        return None;
+    }
+    match part.write_supplied(output, value, state) {
         Ok(count) => Some(count),
         Err(_) => None,
     }
@@ -172,7 +197,6 @@ fn write_here<M: Modifier, V: ComponentProvider>(
 
 /// Appends the text of any component. If it is refused, writes nothing and returns the refusal.
 #[inline]
-#[tactic(auto, using(crate::proofs::ConversionLemmas::current_is_kept))]
 pub(crate) fn end_component<V: ComponentProvider>(
     component: Component,
     output: &mut Vec<u8>,
@@ -185,11 +209,7 @@ pub(crate) fn end_component<V: ComponentProvider>(
         (component_outcome component (V.facts value.now)) }
     ensures agrees { V.agrees state.new value.now }
 {
-    let written = match write_current(component, output, value, state) {
-        Some(count) => Some(count),
-        None => write_deprecated(&component, output, value, state),
-    };
-    match written {
+    match write_component(component, output, value, state) {
         Some(_) => Ok(()),
         None if supplies::<V>(component.current().group()) => Err(Refused::YearOutOfRange),
         None => Err(Refused::Unsupplied),

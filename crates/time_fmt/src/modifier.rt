@@ -49,29 +49,6 @@ pub trait Modifier: Copy {
             (supplied_outcome (component_of self) (V.facts value.now)) }
         ensures agrees { V.agrees state.new value.now };
 
-    /// Appends its text. The output needs spare capacity for its width. Allocates nothing.
-    ///
-    /// Returns the number of bytes appended, or the refusal of the component, which has no bytes.
-    #[inline(always)]
-    final fn write<V: ComponentProvider>(
-        self,
-        output: &mut Vec<u8>,
-        value: &V,
-        state: &mut V::State,
-    ) -> Result<usize, Format>
-        requires room { HasRoom output.old (component_width (component_of self)) }
-        requires agrees { V.agrees state.old value.now }
-        ensures appends { AppendsWhole (component_width (component_of self))
-            output.old output.new result
-            (component_outcome (component_of self) (V.facts value.now)) }
-        ensures agrees { V.agrees state.new value.now }
-    {
-        if !supplies::<V>(Self::GROUP) {
-            return Err(Format::InsufficientTypeInformation);
-        }
-        self.write_supplied(output, value, state)
-    }
-
     // The component is of its group, and is not deprecated.
     ghost grouped: { (part : Self) (f : Facts) → component_outcome (component_of part) f
         ≡ (if has_group GROUP f then supplied_outcome (component_of part) f
@@ -82,7 +59,7 @@ pub trait Modifier: Copy {
 // 16 parts that is used in four places was no longer part of its callers.
 #[inline]
 pub(crate) fn supplies<V: ComponentProvider>(group: Group) -> bool
-    ensures type { result ≡ is_supplied V.SUPPLIES_DATE V.SUPPLIES_TIME
+    ensures supplied { result ≡ is_supplied V.SUPPLIES_DATE V.SUPPLIES_TIME
         V.SUPPLIES_OFFSET V.SUPPLIES_TIMESTAMP group }
     ensures values { (value : V) → result ≡ has_group group (V.facts value) }
 {

@@ -11,8 +11,9 @@ use crate::writers::{put_back, take_out, write, write_bytes, write_literal};
 use time_below::format_description::{Layer, Node};
 use time_provide::ComponentProvider;
 
-/// Writes the nodes in order, up to the first that is refused, and returns its refusal. The vector is taken out of its borrow
-/// meanwhile, so that its address and its length stay in registers from one leaf to the next.
+/// Writes the nodes in order, up to the first that is refused, and returns its refusal. The vector is
+/// taken out of its borrow meanwhile, so that its address and its length stay in registers from one
+/// leaf to the next.
 #[cycle(engine)]
 #[inline(always)]
 pub(super) fn write_nodes<T: Node, V: ComponentProvider>(

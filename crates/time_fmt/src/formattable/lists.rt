@@ -1,4 +1,6 @@
 //! Lists of items, which mean what a compound of the same items means.
+#![tactic(auto, using(crate::proofs::Engine::answered))]
+
 ghost use Rattle.std.specs.Prelude.{map};
 ghost use Rattle.time_below.specs.Tree.{borrowed_tree, owned_tree, trees};
 ghost use Rattle.time_below.specs.Width.{trees_width, are_guaranteed_text};
@@ -30,7 +32,6 @@ impl ComputeMetadata for BorrowedItems<'_> {
 impl Formattable for BorrowedItems<'_> {
     ghost outcome_of = { λ items. trees_outcome (trees (map borrowed_tree items.0.now)) };
 
-    #[tactic(auto, using(crate::proofs::Engine::answered))]
     fn write_into<V: ComponentProvider>(
         &self,
         output: &mut Vec<u8>,
@@ -65,7 +66,6 @@ impl ComputeMetadata for OwnedItems<'_> {
 impl Formattable for OwnedItems<'_> {
     ghost outcome_of = { λ items. trees_outcome (trees (map owned_tree items.0.now)) };
 
-    #[tactic(auto, using(crate::proofs::Engine::answered))]
     fn write_into<V: ComponentProvider>(
         &self,
         output: &mut Vec<u8>,

@@ -133,8 +133,6 @@ impl<M: Modifier> Formattable for M {
         value: &V,
         state: &mut V::State,
     ) -> Result<usize, Format> {
-        // This is `write` without a call between: else a pair that is used in four places is not
-        // inlined.
         if !supplies::<V>(M::GROUP) {
             return Err(Format::InsufficientTypeInformation);
         }

@@ -1,4 +1,6 @@
 //! Trees of each kind.
+#![tactic(auto, using(crate::proofs::Engine::answered))]
+
 ghost use Rattle.std.specs.Prelude.{◌+◌, ◌≤◌, vec_len};
 ghost use Rattle.time_below.specs.Tree.{borrowed_tree, owned_tree, v3_tree};
 ghost use Rattle.time_below.specs.Width.{tree_width, is_guaranteed_text};
@@ -30,7 +32,6 @@ impl ComputeMetadata for BorrowedFormatItem<'_> {
 impl Formattable for BorrowedFormatItem<'_> {
     ghost outcome_of = { λ item. tree_outcome (borrowed_tree item) };
 
-    #[tactic(auto, using(crate::proofs::Engine::answered))]
     fn write_into<V: ComponentProvider>(
         &self,
         output: &mut Vec<u8>,
@@ -56,7 +57,6 @@ impl ComputeMetadata for OwnedFormatItem {
 impl Formattable for OwnedFormatItem {
     ghost outcome_of = { λ item. tree_outcome (owned_tree item) };
 
-    #[tactic(auto, using(crate::proofs::Engine::answered))]
     fn write_into<V: ComponentProvider>(
         &self,
         output: &mut Vec<u8>,
@@ -97,7 +97,6 @@ impl Formattable for FormatDescriptionV3<'_> {
 ///
 /// Returns the number of bytes appended, or the refusal that ends the text.
 #[inline]
-#[tactic(auto, using(crate::proofs::Engine::answered))]
 pub fn v3_write_into<V: ComponentProvider>(
     item: &FormatDescriptionV3Inner<'_>,
     output: &mut Vec<u8>,

@@ -2,6 +2,7 @@
 //!
 //! The calendar year and the year of the week calendar have the same texts.
 #![tactic(auto, using(crate::proofs::TextLemmas::signed_lengths, crate::proofs::TextLemmas::text_lengths))]
+
 ghost use Rattle.std.specs.Prelude.{◌≡◌, ◌%◌, int_lt, length, pos, refl, unsigned_abs};
 ghost use Rattle.time_below.specs.declared.format_description.component.Component.TheVariants as component;
 ghost use Rattle.time_below.specs.declared.format_description.component.Group.TheVariants as group;

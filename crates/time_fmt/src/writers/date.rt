@@ -1,5 +1,6 @@
 //! The day, the month and the day of the year: their texts, widths and writers.
 #![tactic(auto, using(crate::proofs::TextLemmas::text_lengths))]
+
 ghost use Rattle.std.specs.Prelude.{◌≡◌, ◌≤◌, length, refl};
 ghost use Rattle.time_below.specs.declared.format_description.component.Component.TheVariants as component;
 ghost use Rattle.time_below.specs.declared.format_description.component.Group.TheVariants as group;

@@ -1,5 +1,6 @@
 //! The seconds and milliseconds since 1970-01-01T00:00:00 UTC: their texts, widths and writers.
 #![tactic(auto, using(crate::proofs::TextLemmas::signed_lengths))]
+
 ghost use Rattle.std.specs.Prelude.{length, refl};
 ghost use Rattle.time_below.specs.declared.format_description.component.Component.TheVariants as component;
 ghost use Rattle.time_below.specs.declared.format_description.component.Group.TheVariants as group;

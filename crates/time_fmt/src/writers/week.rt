@@ -1,5 +1,6 @@
 //! The weekday and the weeks of the year: their texts, widths and writers.
 #![tactic(auto, using(crate::proofs::TextLemmas::text_lengths))]
+
 ghost use Rattle.std.specs.Prelude.{◌≡◌, ◌≤◌, length, decimal, refl};
 ghost use Rattle.time_below.specs.Calendar.{from_sunday};
 ghost use Rattle.time_below.specs.declared.format_description.component.Component.TheVariants as component;
