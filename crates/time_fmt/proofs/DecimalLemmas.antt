@@ -116,13 +116,5 @@ pub ruleset two_parts = (seven_parts, length-digit, six_zeros, length-append, ap
 
 -- the decimals have no more bytes than their width
 pub length-subsecond_text : (d : SubsecondDigits) (n : ℕ) → length (subsecond_text d n) ≤ subsecond_width d
-length-subsecond_text digits.One n = omega (arith, length-take 1 (fixed 9 n))
-length-subsecond_text digits.Two n = omega (arith, length-take 2 (fixed 9 n))
-length-subsecond_text digits.Three n = omega (arith, length-take 3 (fixed 9 n))
-length-subsecond_text digits.Four n = omega (arith, length-take 4 (fixed 9 n))
-length-subsecond_text digits.Five n = omega (arith, length-take 5 (fixed 9 n))
-length-subsecond_text digits.Six n = omega (arith, length-take 6 (fixed 9 n))
-length-subsecond_text digits.Seven n = omega (arith, length-take 7 (fixed 9 n))
-length-subsecond_text digits.Eight n = omega (arith, length-take 8 (fixed 9 n))
-length-subsecond_text digits.Nine n = omega (arith, length-take 9 (fixed 9 n))
 length-subsecond_text digits.OneOrMore n = length-trimmed_fraction n
+length-subsecond_text d n = omega (arith, length-take (subsecond_width d) (fixed 9 n))

@@ -1,6 +1,6 @@
 -- Texts of components are ASCII, and texts one after another are UTF-8 where each of them is.
 use Rattle.std.proofs.Common.{◌≡◌, ℕ, ◌+◌, ◌-◌, ◌<◌, ◌≤◌, Bool, true, false, ◌&&◌, nat_lt, List, [], ◌∷◌, length}
-use Rattle.std.proofs.Common.{IsAscii, IsUtf8, IsTrue, MatchOption, OnSome, Option, Some, None, if◌then◌else◌, refl, sym, arith, Result, Ok}
+use Rattle.std.proofs.Common.{IsAscii, IsUtf8, IsTrue, MatchOption, Option, Some, None, if◌then◌else◌, refl, sym, arith, Result, Ok}
 use Rattle.std.proofs.Common.{Vec, vec_len, Err, IsSome}
 use Rattle.std.specs.Global.{Global}
 use Rattle.std.specs.Prelude.{codes, nat_le}
@@ -35,14 +35,14 @@ use Rattle.time_fmt.specs.Ends.{Ends, refusal_of}
 use Rattle.time_fmt.specs.Guarantee.{IsTextIf, AppendsLeaf}
 use Rattle.time_fmt.specs.Kind as kind
 use Rattle.time_fmt.specs.Kind.{Kind, kind_text, kind_outcome}
-use Rattle.time_fmt.specs.Outcome.{Outcome, AppendsUpTo, Adds, done, refused, join, insufficient, out_of_range}
+use Rattle.time_fmt.specs.Outcome.{Outcome, AppendsIf, AppendsUpTo, Adds, done, refused, join, insufficient, out_of_range}
 use Rattle.time_fmt.specs.Text.{padded_text, sign_text, period_text, subsecond_text}
 use Rattle.time_fmt.specs.declared.error.Format.{Format}
 use Rattle.time_fmt.specs.declared.refused.Refused.{Refused}
 use Rattle.time_fmt.specs.declared.refused.Refused.TheVariants as reason
 use Rattle.time_fmt.proofs.ConversionLemmas.{current_is_kept}
 use Rattle.time_fmt.proofs.TextLemmas.{passes_at}
-use Rattle.time_fmt.proofs.WriteLemmas.{added_alone}
+use Rattle.time_fmt.proofs.WriteLemmas.{added_alone, written_if, unwritten_if}
 
 -- ---- texts
 
@@ -187,11 +187,12 @@ leaf_of_written (Some n) c f old new appends =
 
 -- so is one that is not deprecated
 pub leaf_of_current : (written : Option ℕ) (c : Component) (f : Facts) (old new : Vec ℕ Global)
-    → MatchOption written (new ≡ old) (λ n. AppendsUpTo (component_width c) old new (Ok n) (current_outcome c f))
-    → OnSome written (IsTrue (is_current c)) → AppendsLeaf (of_component c) f old new written
-leaf_of_current None c f old new unchanged current = unchanged
-leaf_of_current (Some n) c f old new appends current =
-    leaf_of_written (Some n) c f old new (rw (current_is_kept c current) appends)
+    → AppendsIf (is_current c) (component_width c) old new written (current_outcome c f)
+    → AppendsLeaf (of_component c) f old new written
+leaf_of_current None c f old new unwritten = unwritten_if (component_width c) (is_current c) (current_outcome c f) old new unwritten
+leaf_of_current (Some n) c f old new appends =
+    let written = written_if (is_current c) (current_outcome c f) old new appends in
+    leaf_of_written (Some n) c f old new (rw (current_is_kept c written.0) written.1)
 
 -- a list has a text if its first tree has one, and so have the others
 pub text_more : (t : Tree) (ts : Trees) (f : Facts) → IsTextIf (is_guaranteed_text t) (tree_outcome t f)

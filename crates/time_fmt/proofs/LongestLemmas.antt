@@ -29,16 +29,8 @@ use Rattle.time_fmt.proofs.TextLemmas.{no_padding}
 -- decimals of the second, as many as are chosen, or nine
 length-subseconds : (decimals : SubsecondDigits) → length (subsecond_text decimals 123_456_789) ≡ subsecond_width decimals
 unfolding fixed last_zeros trimmed_fraction
-length-subseconds chosen.One = refl
-length-subseconds chosen.Two = refl
-length-subseconds chosen.Three = refl
-length-subseconds chosen.Four = refl
-length-subseconds chosen.Five = refl
-length-subseconds chosen.Six = refl
-length-subseconds chosen.Seven = refl
-length-subseconds chosen.Eight = refl
-length-subseconds chosen.Nine = refl
 length-subseconds chosen.OneOrMore = refl
+length-subseconds decimals = refl
 
 -- whether a text fills a width, for any padding, case and sign
 abbrev fills_width : Kind → ℕ → Bool

@@ -1,14 +1,14 @@
 -- Texts that were written one after another are one text, and one text is what an outcome appends; so are
 -- outcomes.
 use Rattle.std.proofs.Common.{◌≡◌, ℕ, ◌+◌, ◌≤◌, ◌++◌, true, false, List, [], length, length-append, append_assoc}
-use Rattle.std.proofs.Common.{refl, sym, ap, ◌∙◌, arith, Option, Some, None, IsSome, IsSomeAnd, IfNone, MatchOption, Result, Ok, Err, Vec, vec_len}
+use Rattle.std.proofs.Common.{refl, sym, ap, ◌∙◌, arith, Option, Some, None, IsSomeAnd, IsTrue, Bool, Result, Ok, Err, Vec, vec_len}
 use Rattle.std.proofs.lemmas.List.{append-nil}
 use Rattle.std.specs.Global.{Global}
 use Rattle.std.specs.Prelude.{codes, nat_le}
 use Rattle.time_below.specs.ComponentRange.{conditional_range}
 use Rattle.time_fmt.specs.declared.error.Format.{Format}
 use Rattle.time_fmt.specs.Kind.{in_standard_range}
-use Rattle.time_fmt.specs.Outcome.{Outcome, Refusal, Names, Appends, AppendsUpTo, AppendsUnlessRefused, AppendsWhole, Adds}
+use Rattle.time_fmt.specs.Outcome.{Outcome, Refusal, Names, Appends, AppendsUpTo, AppendsUnlessRefused, AppendsIf, AppendsWhole, Adds}
 use Rattle.time_fmt.specs.Outcome.{done, refused}
 use Rattle.time_fmt.specs.Outcome.{join, out_of_range}
 use Rattle.time_fmt.specs.Room.{Writes, WritesUpTo}
@@ -133,8 +133,18 @@ beyond_range greatest n text output e never named =
 
 -- what is written within a smaller width, or is refused
 pub within_greater : {greatest width : ℕ} (o : Outcome) (written : Option ℕ) (old new : Vec ℕ Global)
-    → MatchOption written (new ≡ old) (λ n. AppendsUpTo width old new (Ok n) o) → IfNone written (IsSome o.refusal)
-    → width ≤ greatest → AppendsUnlessRefused greatest old new written o
-within_greater o None old new unchanged refused fits = (unchanged, refused)
-within_greater o (Some n) old new up_to refused fits =
+    → AppendsUnlessRefused width old new written o → width ≤ greatest → AppendsUnlessRefused greatest old new written o
+within_greater o None old new refused fits = refused
+within_greater o (Some n) old new up_to fits =
     record { appends = up_to.appends; within = omega (arith, up_to.within, fits) }
+
+-- what is written under a condition, and what is not
+pub written_if : {width n : ℕ} (b : Bool) (o : Outcome) (old new : Vec ℕ Global) → AppendsIf b width old new (Some n) o
+    → IsTrue b × AppendsUpTo width old new (Ok n) o
+written_if true o old new up_to = (refl, up_to)
+written_if false o old new nothing = let never : ⊥ = cc in absurd never
+
+pub unwritten_if : (width : ℕ) (b : Bool) (o : Outcome) (old new : Vec ℕ Global) → AppendsIf b width old new None o
+    → new ≡ old
+unwritten_if width true o old new nothing = nothing.0
+unwritten_if width false o old new nothing = nothing.0

@@ -1,10 +1,10 @@
 //! The engine for one component.
-ghost use Rattle.std.specs.Prelude.{◌≡◌, ◌+◌, ◌≤◌, IfNone, IsSome, IsTrue, IsUtf8, MatchOption, OnSome, vec_len};
+ghost use Rattle.std.specs.Prelude.{◌≡◌, ◌+◌, ◌≤◌, IsUtf8, MatchOption, vec_len};
 ghost use Rattle.time_below.specs.Conversion.{is_current};
 ghost use Rattle.time_below.specs.Width.{component_width};
 ghost use Rattle.time_fmt.specs.Description.{component_outcome, current_outcome};
 ghost use Rattle.time_fmt.specs.Ends.{Ends};
-ghost use Rattle.time_fmt.specs.Outcome.{Appends, AppendsUpTo, AppendsUnlessRefused};
+ghost use Rattle.time_fmt.specs.Outcome.{Appends, AppendsIf, AppendsUpTo, AppendsUnlessRefused};
 ghost use Rattle.time_fmt.specs.Room.{HasRoom};
 
 use crate::error::Format;
@@ -51,7 +51,6 @@ pub(crate) fn write_often<V: ComponentProvider>(
 // Appends the text of a component, and returns the number of bytes. If it is refused, writes nothing and
 // returns `None`.
 #[inline(always)]
-#[tactic(auto, using(crate::proofs::ConversionLemmas::current_is_kept))]
 fn write_component<V: ComponentProvider>(
     component: Component,
     output: &mut Vec<u8>,
@@ -81,52 +80,44 @@ pub(crate) fn write_current<V: ComponentProvider>(
 ) -> Option<usize>
     requires room { HasRoom output.old (component_width component) }
     requires agrees { V.agrees state.old value.now }
-    ensures appends { MatchOption result (output.new ≡ output.old)
-        (λ count. AppendsUpTo (component_width component) output.old output.new (Ok count)
-        (current_outcome component (V.facts value.now))) }
-    ensures current { OnSome result (IsTrue (is_current component)) }
-    ensures refused { IsTrue (is_current component)
-        → IfNone result (IsSome (current_outcome component (V.facts value.now)).refusal) }
+    ensures appends { AppendsIf (is_current component) (component_width component)
+        output.old output.new result (current_outcome component (V.facts value.now)) }
     ensures agrees { V.agrees state.new value.now }
 {
     match component {
-        Component::Day(part) => write_apart(part, output, value, state),
-        Component::MonthShort(part) => write_apart(part, output, value, state),
-        Component::MonthLong(part) => write_apart(part, output, value, state),
-        Component::MonthNumerical(part) => write_apart(part, output, value, state),
-        Component::Ordinal(part) => write_apart(part, output, value, state),
-        Component::WeekdayShort(part) => write_apart(part, output, value, state),
-        Component::WeekdayLong(part) => write_apart(part, output, value, state),
-        Component::WeekdaySunday(part) => write_apart(part, output, value, state),
-        Component::WeekdayMonday(part) => write_apart(part, output, value, state),
-        Component::WeekNumberIso(part) => write_apart(part, output, value, state),
-        Component::WeekNumberSunday(part) => write_apart(part, output, value, state),
-        Component::WeekNumberMonday(part) => write_apart(part, output, value, state),
-        Component::CalendarYearFullExtendedRange(part) => write_apart(part, output, value, state),
-        Component::CalendarYearFullStandardRange(part) => write_apart(part, output, value, state),
-        Component::CalendarYearCenturyExtendedRange(part) => {
-            write_apart(part, output, value, state)
-        }
-        Component::CalendarYearCenturyStandardRange(part) => {
-            write_apart(part, output, value, state)
-        }
-        Component::CalendarYearLastTwo(part) => write_apart(part, output, value, state),
-        Component::IsoYearFullExtendedRange(part) => write_apart(part, output, value, state),
-        Component::IsoYearFullStandardRange(part) => write_apart(part, output, value, state),
-        Component::IsoYearCenturyExtendedRange(part) => write_apart(part, output, value, state),
-        Component::IsoYearCenturyStandardRange(part) => write_apart(part, output, value, state),
-        Component::IsoYearLastTwo(part) => write_apart(part, output, value, state),
-        Component::Hour12(part) => write_apart(part, output, value, state),
-        Component::Hour24(part) => write_apart(part, output, value, state),
-        Component::Minute(part) => write_apart(part, output, value, state),
-        Component::Period(part) => write_apart(part, output, value, state),
-        Component::Second(part) => write_apart(part, output, value, state),
-        Component::Subsecond(part) => write_apart(part, output, value, state),
-        Component::OffsetHour(part) => write_apart(part, output, value, state),
-        Component::OffsetMinute(part) => write_apart(part, output, value, state),
-        Component::OffsetSecond(part) => write_apart(part, output, value, state),
-        Component::UnixTimestampSecond(part) => write_apart(part, output, value, state),
-        Component::UnixTimestampMillisecond(part) => write_apart(part, output, value, state),
+        Component::Day(part) => write_rare(part, output, value, state),
+        Component::MonthShort(part) => write_rare(part, output, value, state),
+        Component::MonthLong(part) => write_rare(part, output, value, state),
+        Component::MonthNumerical(part) => write_rare(part, output, value, state),
+        Component::Ordinal(part) => write_rare(part, output, value, state),
+        Component::WeekdayShort(part) => write_rare(part, output, value, state),
+        Component::WeekdayLong(part) => write_rare(part, output, value, state),
+        Component::WeekdaySunday(part) => write_rare(part, output, value, state),
+        Component::WeekdayMonday(part) => write_rare(part, output, value, state),
+        Component::WeekNumberIso(part) => write_rare(part, output, value, state),
+        Component::WeekNumberSunday(part) => write_rare(part, output, value, state),
+        Component::WeekNumberMonday(part) => write_rare(part, output, value, state),
+        Component::CalendarYearFullExtendedRange(part) => write_rare(part, output, value, state),
+        Component::CalendarYearFullStandardRange(part) => write_rare(part, output, value, state),
+        Component::CalendarYearCenturyExtendedRange(part) => write_rare(part, output, value, state),
+        Component::CalendarYearCenturyStandardRange(part) => write_rare(part, output, value, state),
+        Component::CalendarYearLastTwo(part) => write_rare(part, output, value, state),
+        Component::IsoYearFullExtendedRange(part) => write_rare(part, output, value, state),
+        Component::IsoYearFullStandardRange(part) => write_rare(part, output, value, state),
+        Component::IsoYearCenturyExtendedRange(part) => write_rare(part, output, value, state),
+        Component::IsoYearCenturyStandardRange(part) => write_rare(part, output, value, state),
+        Component::IsoYearLastTwo(part) => write_rare(part, output, value, state),
+        Component::Hour12(part) => write_rare(part, output, value, state),
+        Component::Hour24(part) => write_rare(part, output, value, state),
+        Component::Minute(part) => write_rare(part, output, value, state),
+        Component::Period(part) => write_rare(part, output, value, state),
+        Component::Second(part) => write_rare(part, output, value, state),
+        Component::Subsecond(part) => write_rare(part, output, value, state),
+        Component::OffsetHour(part) => write_rare(part, output, value, state),
+        Component::OffsetMinute(part) => write_rare(part, output, value, state),
+        Component::OffsetSecond(part) => write_rare(part, output, value, state),
+        Component::UnixTimestampSecond(part) => write_rare(part, output, value, state),
+        Component::UnixTimestampMillisecond(part) => write_rare(part, output, value, state),
         Component::Ignore(_) | Component::End(_) => Some(0),
         Component::Month(_)
         | Component::Weekday(_)
@@ -157,7 +148,7 @@ fn write_deprecated<V: ComponentProvider>(
 
 // Writes a component that is seldom met, by a call.
 #[inline(never)]
-fn write_apart<M: Modifier, V: ComponentProvider>(
+fn write_rare<M: Modifier, V: ComponentProvider>(
     part: M,
     output: &mut Vec<u8>,
     value: &V,

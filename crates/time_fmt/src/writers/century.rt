@@ -38,14 +38,8 @@ pub fn fmt_calendar_year_century_extended_range(
         (kind_text (extended_century modifier.padding modifier.sign_is_mandatory
         is_negative (unsigned_abs century))) }
 {
-    let century = century.abs();
-    write_extended_century(
-        output,
-        century,
-        is_negative,
-        modifier.padding,
-        modifier.sign_is_mandatory,
-    )
+    let (padding, sign) = (modifier.padding, modifier.sign_is_mandatory);
+    write_extended_century(output, century.abs(), is_negative, padding, sign)
 }
 
 impl Modifier for modifier::CalendarYearCenturyExtendedRange {
@@ -89,14 +83,8 @@ pub fn fmt_calendar_year_century_standard_range(
         (kind_text (standard_century modifier.padding modifier.sign_is_mandatory
         is_negative (unsigned_abs century))) }
 {
-    let century = century.abs();
-    write_standard_century(
-        output,
-        century,
-        is_negative,
-        modifier.padding,
-        modifier.sign_is_mandatory,
-    )
+    let (padding, sign) = (modifier.padding, modifier.sign_is_mandatory);
+    write_standard_century(output, century.abs(), is_negative, padding, sign)
 }
 
 impl Modifier for modifier::CalendarYearCenturyStandardRange {
@@ -141,14 +129,8 @@ pub fn fmt_iso_year_century_extended_range(
         (kind_text (extended_century modifier.padding modifier.sign_is_mandatory
         is_negative (unsigned_abs century))) }
 {
-    let century = century.abs();
-    write_extended_century(
-        output,
-        century,
-        is_negative,
-        modifier.padding,
-        modifier.sign_is_mandatory,
-    )
+    let (padding, sign) = (modifier.padding, modifier.sign_is_mandatory);
+    write_extended_century(output, century.abs(), is_negative, padding, sign)
 }
 
 impl Modifier for modifier::IsoYearCenturyExtendedRange {
@@ -193,14 +175,8 @@ pub fn fmt_iso_year_century_standard_range(
         (kind_text (standard_century modifier.padding modifier.sign_is_mandatory
         is_negative (unsigned_abs century))) }
 {
-    let century = century.abs();
-    write_standard_century(
-        output,
-        century,
-        is_negative,
-        modifier.padding,
-        modifier.sign_is_mandatory,
-    )
+    let (padding, sign) = (modifier.padding, modifier.sign_is_mandatory);
+    write_standard_century(output, century.abs(), is_negative, padding, sign)
 }
 
 impl Modifier for modifier::IsoYearCenturyStandardRange {

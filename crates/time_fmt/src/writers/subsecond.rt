@@ -119,10 +119,8 @@ pub fn write_three_decimals(output: &mut Vec<u8>, nanosecond: Nanoseconds) -> us
     ensures writes { Writes output.old output.new result
         (subsecond_text SubsecondDigits.Three nanosecond) }
 {
-    write_three_digits(
-        output,
-        ru16::new((nanosecond.get() / 1_000_000) as u16).unwrap(),
-    )
+    let number = nanosecond.get() / 1_000_000;
+    write_three_digits(output, ru16::new(number as u16).unwrap())
 }
 
 // Appends three digits.

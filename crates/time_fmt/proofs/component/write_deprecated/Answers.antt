@@ -7,5 +7,5 @@ returns-clause-appends g c =
     let current = c.current-current.ensures in
     let written = c.write_current.ensures in
     rw (← current.converted)
-    (within_greater _ c.write_current.result c.args.output.now c.write_current.new.output written.appends
-    (written.refused current.current) (rw (← current.converted) at (current_fits c.args.component.now)))
+    (within_greater _ c.write_current.result c.args.output.now c.write_current.new.output
+    (rw current.current at written.appends) (rw (← current.converted) at (current_fits c.args.component.now)))
