@@ -8,7 +8,7 @@ use Rattle.std.proofs.lemmas.Bool.{and_parts, eqb-true}
 use Rattle.std.proofs.lemmas.Bool.Decides.{nat_tests}
 use Rattle.std.proofs.lemmas.Int.{ints}
 use Rattle.std.specs.Prelude.{IsTrue, int_lt, nat_le}
-use Rattle.movaliren_c.specs.Items.{item_tree, list_of}
+use Rattle.movaliren_c.specs.Items.{component_of, year_component, time_component, item_tree, list_of}
 use Rattle.movaliren_c.specs.ShortLine.{AllFit, FitsItem, IsShortYear, PutsItem, facts_of_local, has_choices, is_usual}
 use Rattle.movaliren_c.specs.declared.item.Item.{Item}
 use Rattle.movaliren_c.specs.declared.reason.Reason.{Reason}
@@ -45,6 +45,7 @@ pub offset_put : (texts : List ℕ) (i : Item) (has_time : Bool) (v : OffsetDate
     OffsetFields) (old new : Buffer) → i.kind ≡ 29 → IsTrue (is_usual has_time i)
     → o ≡ offset_fields v.offset → PutsJust 3 old new (hours_of_fields o)
     → PutsItem old new (item_tree texts i) (facts_of_local has_time v)
+unfolding component_of time_component
 offset_put texts i has_time v o old new kind usual same put =
     let puts = rw same at put in
     let parts = and_parts has_time (has_choices 1 0 i) (rw kind at usual) in
@@ -63,6 +64,7 @@ pub extended_year_put : (texts : List ℕ) (i : Item) (has_time : Bool) (v : Off
     ℕ) (old new : Buffer) → i.kind ≡ 13 → IsTrue (is_usual has_time i) → IsShortYear v
     → n ≡ unsigned_abs v.date.year → PutsJust 4 old new (zero_padded 4 n)
     → PutsItem old new (item_tree texts i) (facts_of_local has_time v)
+unfolding component_of year_component
 extended_year_put texts i has_time v n old new kind usual year same put =
     let puts = rw same at put in
     let is = choices_of 0 0 i (rw kind at usual) in
@@ -73,6 +75,7 @@ pub year_put : (texts : List ℕ) (i : Item) (has_time : Bool) (v : OffsetDateAn
     ℕ) (old new : Buffer) → i.kind ≡ 14 → IsTrue (is_usual has_time i) → IsShortYear v
     → n ≡ unsigned_abs v.date.year → PutsJust 4 old new (zero_padded 4 n)
     → PutsItem old new (item_tree texts i) (facts_of_local has_time v)
+unfolding component_of year_component
 year_put texts i has_time v n old new kind usual year same put =
     let puts = rw same at put in
     let is = choices_of 0 0 i (rw kind at usual) in
