@@ -134,7 +134,6 @@ pub fn has_short_year(value: &LocalMoment) -> bool
 
 /// Writes the text of usual items to the start of the buffer, by way of an array if the buffer may be too
 /// small.
-#[tactic(auto, using(crate::proofs::ShortLineLemmas::all_fit))]
 pub fn write_line(
     items: &[Item],
     texts: &[u8],
@@ -177,7 +176,6 @@ fn write_in_place(items: &[Item], texts: &[u8], value: &LocalMoment, room: &mut 
 
 /// Puts the texts of usual items one after another.
 #[inline(always)]
-#[tactic(auto, using(crate::proofs::ShortLineLemmas::one_more))]
 fn put_items<S: ByteSink>(output: &mut S, items: &[Item], texts: &[u8], value: &LocalMoment)
     ghost has_time: { Bool }
     requires usual { All (λ item. IsTrue (is_usual has_time item)) items.now }
@@ -193,7 +191,7 @@ fn put_items<S: ByteSink>(output: &mut S, items: &[Item], texts: &[u8], value: &
 
 /// Puts the text of a usual item.
 #[inline(always)]
-#[tactic(auto, using(crate::proofs::ShortLineLemmas::usual_texts), unfolding(crate::specs::Items::component_of, crate::specs::Items::date_component, crate::specs::Items::year_component, crate::specs::Items::time_component))]
+#[tactic(auto, using(crate::proofs::ShortLineLemmas::offset_put), unfolding(crate::specs::Items::component_of, crate::specs::Items::date_component, crate::specs::Items::year_component, crate::specs::Items::time_component))]
 fn put_item<S: ByteSink>(output: &mut S, item: &Item, texts: &[u8], value: &LocalMoment)
     ghost has_time: { Bool }
     requires usual { IsTrue (is_usual has_time item.now) }
