@@ -22,26 +22,26 @@ use Rattle.time_known.specs.declared.iso8601.config.TimePrecision.{TimePrecision
 use Rattle.time_known.specs.declared.iso8601.config.TimePrecision.TheVariants as precision
 use Rattle.time_known.specs.declared.iso8601.config.Usual.{Usual}
 
-unfoldable pub components_at : ℕ → Result FormattedComponents Reason
+abbrev pub components_at : ℕ → Result FormattedComponents Reason
 components_at n =
     numbered 0 (components.None ∷ components.Date ∷ components.Time ∷ components.Offset ∷ components.DateTime ∷
     components.DateTimeOffset ∷ components.TimeOffset ∷ []) reason.BadConfig n
 
-unfoldable pub date_kind_at : ℕ → Result DateKind Reason
+abbrev pub date_kind_at : ℕ → Result DateKind Reason
 date_kind_at n = numbered 0 (kind.Calendar ∷ kind.Week ∷ kind.Ordinal ∷ []) reason.BadConfig n
 
 -- none, or this many
 abbrev pub decimals_at : ℕ → Option ℕ
 decimals_at n = if n == 0 then None else Some n
 
-unfoldable pub precision_at : ℕ → Option ℕ → Result TimePrecision Reason
+abbrev pub precision_at : ℕ → Option ℕ → Result TimePrecision Reason
 precision_at n d =
     numbered 0 (precision.Hour d ∷ precision.Minute d ∷ precision.Second d ∷ []) reason.BadConfig n
 
-unfoldable pub offset_precision_at : ℕ → Result OffsetPrecision Reason
+abbrev pub offset_precision_at : ℕ → Result OffsetPrecision Reason
 offset_precision_at n = numbered 0 (offset_precision.Hour ∷ offset_precision.Minute ∷ []) reason.BadConfig n
 
-unfoldable pub sign_at : ℕ → Result DecimalSign Reason
+abbrev pub sign_at : ℕ → Result DecimalSign Reason
 sign_at n = numbered 0 (sign.Point ∷ sign.Comma ∷ []) reason.BadConfig n
 
 abbrev pub choices_at : IsoConfig → Result Choices Reason

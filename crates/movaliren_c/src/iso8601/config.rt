@@ -23,7 +23,6 @@ pub struct IsoConfig {
     pub comma: u8,
 }
 
-#[tactic(auto, unfolding(crate::specs::Chosen::components_at))]
 fn components_at(number: u8) -> Result<FormattedComponents, Reason>
     ensures { result ≡ components_at number }
 {
@@ -39,7 +38,6 @@ fn components_at(number: u8) -> Result<FormattedComponents, Reason>
     }
 }
 
-#[tactic(auto, unfolding(crate::specs::Chosen::date_kind_at))]
 fn date_kind_at(number: u8) -> Result<DateKind, Reason>
     ensures { result ≡ date_kind_at number }
 {
@@ -51,7 +49,6 @@ fn date_kind_at(number: u8) -> Result<DateKind, Reason>
     }
 }
 
-#[tactic(auto, unfolding(crate::specs::Chosen::precision_at))]
 fn precision_at(number: u8, decimals: u8) -> Result<TimePrecision, Reason>
     ensures { result ≡ precision_at number (decimals_at decimals) }
 {
@@ -64,7 +61,6 @@ fn precision_at(number: u8, decimals: u8) -> Result<TimePrecision, Reason>
     }
 }
 
-#[tactic(auto, unfolding(crate::specs::Chosen::offset_precision_at))]
 fn offset_precision_at(number: u8) -> Result<OffsetPrecision, Reason>
     ensures { result ≡ offset_precision_at number }
 {
@@ -75,7 +71,6 @@ fn offset_precision_at(number: u8) -> Result<OffsetPrecision, Reason>
     }
 }
 
-#[tactic(auto, unfolding(crate::specs::Chosen::sign_at))]
 fn sign_at(number: u8) -> Result<DecimalSign, Reason>
     ensures { result ≡ sign_at number }
 {
@@ -106,7 +101,6 @@ pub fn config_at(numbers: &IsoConfig) -> Result<Config, Reason>
 /// What these numbers choose of a text with separators, if the rest is chosen as by most callers. The
 /// numbers of a point and at most nine decimals are told by a few tests.
 #[inline(always)]
-#[tactic(auto, unfolding(crate::specs::Chosen::components_at, crate::specs::Chosen::date_kind_at, crate::specs::Chosen::precision_at, crate::specs::Chosen::offset_precision_at, crate::specs::Chosen::sign_at))]
 pub fn separated_config_at(numbers: &IsoConfig) -> Option<Usual>
     ensures chosen { IfSome result (λ u. choices_at numbers.now ≡ Ok (separated u)) }
     ensures separators { IfSome result (λ u. IsTrue u.has_separators) }
