@@ -101,27 +101,3 @@ ended_stops (Ok o) r e most room mid is h behind_it =
           r o n) front h.1),
     )
 ended_stops (Err q) r e most room mid is h behind_it = (h.0, same_room room mid most h.1 behind_it)
-
--- an empty buffer has no byte for the end of an empty text
-pub ended_nowhere : (asked : Result Outcome Reason) (n e most : ℕ) (room mid : List ℕ) → n ≤ most
-    → most ≡ length room - 1 → n ≡ length room
-    → IsText asked (Ok n) (take most room) (take most mid) → drop most mid ≡ drop most room
-    → IsText (ended e asked) (Err reason.NoRoom) room mid
-ended_nowhere (Ok o) n e most room mid fits is full h behind_it =
-    let none : n ≡ 0 = omega arith in
-    let whole = in_front o.bytes room mid n most h.1 fits h.2 behind_it in
-    let empty : o.bytes ≡ [] = grind (arith, common_steps) in
-    let ended_by = join_done o (done (e ∷ [])) h.0 in (
-      rw empty at (rw none at whole),
-      inl (
-        refl,
-        rw ended_by refl,
-        rw ended_by (omega (
-          arith,
-          full,
-          h.1,
-          length-append o.bytes (e ∷ []),
-        )),
-      ),
-    )
-ended_nowhere (Err q) n e most room mid fits is full h behind_it = absurd (let same = h.0 in cc)

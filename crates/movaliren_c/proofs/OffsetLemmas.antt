@@ -1,19 +1,8 @@
--- The parts of an offset that settle to one sign.
-use Rattle.std.proofs.Common.{◌≡◌, ℕ, zero, suc, ℤ, pos, neg_ℤ, unsigned_abs, Bool, true, false, refl, ap, ◌∙◌, arith}
+-- Parts of one sign settle to themselves.
+use Rattle.std.proofs.Common.{◌≡◌, ℕ, zero, suc, ℤ, pos, neg_ℤ, Bool, true, false, refl, ap, ◌∙◌, arith}
 use Rattle.std.specs.Prelude.{int_lt, if◌then◌else◌}
 use Rattle.std.proofs.lemmas.Bool.Decides.{nat_tests}
 use Rattle.time_below.specs.Offset.{Offset, settled, signed, signed_like}
-use Rattle.time_below.proofs.OffsetLemmas.{Settles-settled}
-
-pub minutes_size : (h m s : ℤ) → unsigned_abs (settled h m s).minutes ≡ unsigned_abs m
-minutes_size h m s = (Settles-settled h m s).minutes_size
-
-pub seconds_size : (h m s : ℤ) → unsigned_abs (settled h m s).seconds ≡ unsigned_abs s
-seconds_size h m s = (Settles-settled h m s).seconds_size
-
-pub ruleset settled_sizes = (minutes_size, seconds_size)
-
--- ---- parts of one sign stay as they are
 
 either_is_one : (b : Bool) (x : ℤ) → (if b then x else x) ≡ x
 either_is_one true x = refl

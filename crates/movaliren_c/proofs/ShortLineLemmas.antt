@@ -1,20 +1,18 @@
 -- The texts of usual items, one after another.
-use Rattle.std.proofs.Common.{◌≡◌, ◌<◌, ◌≤◌, ◌+◌, ℕ, min, ℤ, pos, negsuc, ◌≤ℤ◌, ◌-ℤ◌, unsigned_abs, Bool, true, false, List, ◌++◌, length, drop, take, get_or, map, Result, Ok, Err, Some}
+use Rattle.std.proofs.Common.{◌≡◌, ◌<◌, ◌+◌, ℕ, ℤ, pos, ◌-ℤ◌, Bool, true, List, ◌++◌, length, drop, take, get_or, map, Result, Ok, Err, Some}
 use Rattle.std.proofs.Common.{refl, sym, ap, ◌∙◌, arith, append_assoc, subst}
 use Rattle.std.proofs.lemmas.List.{take_all}
 use Rattle.std.proofs.lemmas.List.Elements.{All-same}
 use Rattle.std.specs.List.{All}
 use Rattle.std.proofs.lemmas.Bool.{and_parts, eqb-true}
-use Rattle.std.proofs.lemmas.Bool.Decides.{nat_tests}
 use Rattle.std.proofs.lemmas.Int.{ints}
-use Rattle.std.specs.Prelude.{IsTrue, int_lt, nat_le}
-use Rattle.movaliren_c.specs.Items.{item_tree, list_of}
-use Rattle.movaliren_c.specs.ShortLine.{AllFit, FitsItem, IsShortYear, PutsItem, facts_of_local, has_choices, is_usual}
+use Rattle.std.specs.Prelude.{IsTrue}
+use Rattle.movaliren_c.specs.Items.{component_of, time_component, item_tree, list_of}
+use Rattle.movaliren_c.specs.ShortLine.{FitsItem, PutsItem, facts_of_local, has_choices, is_usual}
 use Rattle.movaliren_c.specs.declared.item.Item.{Item}
 use Rattle.movaliren_c.specs.declared.reason.Reason.{Reason}
 use Rattle.movaliren_c.proofs.DescribedLemmas.{parts_of, next_there, next_not_there}
 use Rattle.movaliren_c.specs.Utc.{with_offset}
-use Rattle.movaliren_c.specs.Value.{with_value}
 use Rattle.time_below.proofs.MomentLemmas.{unix_seconds-utc}
 use Rattle.time_below.specs.Facts.{Facts, date_facts, facts_of_timestamp}
 use Rattle.time_below.specs.Moment.{Moment, OffsetDateAndTime, IsMoment, local_unix_seconds, unix_seconds, utc_date}
@@ -25,11 +23,10 @@ use Rattle.time_below.specs.Width.{tree_width, trees_width}
 use Rattle.time_fmt.specs.Description.{tree_outcome, trees_outcome}
 use Rattle.time_fmt.specs.Outcome.{Outcome}
 use Rattle.time_fmt.proofs.WriteLemmas.{join_done}
-use Rattle.time_digits.specs.Digits.{zero_padded}
 use Rattle.time_known.specs.Fields.{hours_of_fields, offset_fields}
 use Rattle.time_known.specs.declared.fields.OffsetFields.{OffsetFields}
 use Rattle.time_known.specs.Sink.{Buffer, Fits, PutsJust, PutsUpTo}
-use Rattle.time_known.proofs.SinkLemmas.{just_puts_up_to, puts_then, puts_up_to_more}
+use Rattle.time_known.proofs.SinkLemmas.{just_puts_up_to, puts_then}
 
 -- ---- an item
 
@@ -45,41 +42,12 @@ pub offset_put : (texts : List ℕ) (i : Item) (has_time : Bool) (v : OffsetDate
     OffsetFields) (old new : Buffer) → i.kind ≡ 29 → IsTrue (is_usual has_time i)
     → o ≡ offset_fields v.offset → PutsJust 3 old new (hours_of_fields o)
     → PutsItem old new (item_tree texts i) (facts_of_local has_time v)
+unfolding component_of time_component
 offset_put texts i has_time v o old new kind usual same put =
     let puts = rw same at put in
     let parts = and_parts has_time (has_choices 1 0 i) (rw kind at usual) in
     let is = choices_of 1 0 i parts.1 in
     rw (kind, is.0, is.1, is.2, parts.0) (refl, just_puts_up_to puts)
-
--- a year without a sign
-year_tests : (y : ℤ) → pos 0 ≤ℤ y → y ≤ℤ pos 9_999
-    → (int_lt y (pos 0) ≡ false) × (int_lt (pos 9_999) y ≡ false) × (nat_le (unsigned_abs y) 9_999 ≡ true)
-year_tests (pos n) low high =
-    let within : n ≤ 9_999 = omega (arith, ints) in
-    (grind (arith, nat_tests), grind (arith, nat_tests), grind (arith, nat_tests))
-year_tests (negsuc n) low high = absurd (omega (arith, ints))
-
-pub extended_year_put : (texts : List ℕ) (i : Item) (has_time : Bool) (v : OffsetDateAndTime) (n :
-    ℕ) (old new : Buffer) → i.kind ≡ 13 → IsTrue (is_usual has_time i) → IsShortYear v
-    → n ≡ unsigned_abs v.date.year → PutsJust 4 old new (zero_padded 4 n)
-    → PutsItem old new (item_tree texts i) (facts_of_local has_time v)
-extended_year_put texts i has_time v n old new kind usual year same put =
-    let puts = rw same at put in
-    let is = choices_of 0 0 i (rw kind at usual) in
-    let tests = year_tests v.date.year year.0 year.1 in
-    rw (kind, is.0, is.1, is.2, tests.0, tests.1) (refl, puts_up_to_more (just_puts_up_to puts) (omega arith))
-
-pub year_put : (texts : List ℕ) (i : Item) (has_time : Bool) (v : OffsetDateAndTime) (n :
-    ℕ) (old new : Buffer) → i.kind ≡ 14 → IsTrue (is_usual has_time i) → IsShortYear v
-    → n ≡ unsigned_abs v.date.year → PutsJust 4 old new (zero_padded 4 n)
-    → PutsItem old new (item_tree texts i) (facts_of_local has_time v)
-year_put texts i has_time v n old new kind usual year same put =
-    let puts = rw same at put in
-    let is = choices_of 0 0 i (rw kind at usual) in
-    let tests = year_tests v.date.year year.0 year.1 in
-    rw (kind, is.0, is.1, is.2, tests.0, tests.2) (refl, puts_up_to_more (just_puts_up_to puts) (omega arith))
-
-pub ruleset usual_texts = (offset_put, extended_year_put, year_put)
 
 -- ---- a description and its value
 
@@ -91,13 +59,6 @@ all_usual before after n items same all usual =
     let P : Bool → Item → Type 0 = λ b item. IsTrue (is_usual b item) in
     All-same (P after) items (take n items) (sym (take_all n items (omega (arith, all))))
     (subst (λ b. All (P b) (take n items)) same usual)
-
--- a width below the greatest is that of the texts
-pub all_fit : (greatest width most : ℕ) (all : Result (List Tree) Reason)
-    → with_value all (λ ts. Ok (min (0 + trees_width (trees ts)) greatest)) ≡ Ok width
-    → width < greatest → width ≤ most → AllFit most all
-all_fit greatest width most (Ok ts) is less fits = grind arith
-all_fit greatest width most (Err r) is less fits = grind arith
 
 minus_none : (s e : ℤ) → e ≡ pos 0 → s -ℤ e ≡ s
 minus_none s e h = omega (arith, ints)

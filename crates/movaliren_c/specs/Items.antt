@@ -33,7 +33,7 @@ digits_at n =
     digits.Seven ∷ digits.Eight ∷ digits.Nine ∷ []) reason.BadItem n
 
 -- the components of a date, but for its year, in the order of their numbers
-abbrev pub date_component : ℕ → Padding → Bool → Result Component Reason
+unfoldable pub date_component : ℕ → Padding → Bool → Result Component Reason
 date_component k p f = numbered 1 (
     component.Day (record { padding = p })
     ∷ component.MonthShort (record { case_sensitive = true })
@@ -50,7 +50,7 @@ date_component k p f = numbered 1 (
     ∷ []) reason.BadItem k
 
 -- the components of a year
-abbrev pub year_component : ℕ → Padding → Bool → Result Component Reason
+unfoldable pub year_component : ℕ → Padding → Bool → Result Component Reason
 year_component k p f = numbered 13 (
     component.CalendarYearFullExtendedRange (record { padding = p; sign_is_mandatory = f })
     ∷ component.CalendarYearFullStandardRange (record { padding = p; sign_is_mandatory = f })
@@ -65,7 +65,7 @@ year_component k p f = numbered 13 (
     ∷ []) reason.BadItem k
 
 -- the components of a time, an offset and a moment
-abbrev pub time_component : ℕ → Padding → Bool → SubsecondDigits → Result Component Reason
+unfoldable pub time_component : ℕ → Padding → Bool → SubsecondDigits → Result Component Reason
 time_component k p f d = numbered 23 (
     component.Hour12 (record { padding = p })
     ∷ component.Hour24 (record { padding = p })
@@ -86,7 +86,7 @@ component_at k p f d =
     if nat_lt k 13 then date_component k p f
     else (if nat_lt k 23 then year_component k p f else time_component k p f d)
 
-abbrev pub component_of : Item → Result Component Reason
+unfoldable pub component_of : Item → Result Component Reason
 component_of i =
     with_value (padding_at i.padding) (λ p.
     with_value (flag_at i.flag reason.BadItem) (λ f.

@@ -62,7 +62,6 @@ fn month_of(number: u8) -> Month
 
 /// Whether the month of that year has the day. Each month has 28 days.
 #[inline(always)]
-#[tactic(auto, using(crate::proofs::DateLemmas::four_weeks))]
 fn has_day(year: i32, month: u8, day: u8) -> bool
     requires year { IsYear year }
     requires month { IsInRange 1 12 month }
@@ -94,7 +93,6 @@ impl CalendarDate {
     }
 
     /// Returns the date with its month and day.
-    #[tactic(auto, using(crate::proofs::DateLemmas::same_day))]
     pub fn of_date(date: Date) -> CalendarDate
         ensures { result ≡ date }
     {

@@ -103,40 +103,17 @@ where
     match width(items, texts, start) {
         Ok(width) => match value {
             Ok(value) => {
-                let all_usual = start.count == items.len();
-                write_value::<V, T>(alloc, items, texts, all_usual, width, &value, room)
+                if start.count == items.len() {
+                    if let Some(answer) = write_usual::<V, T>(items, texts, width, &value, room) {
+                        return answer;
+                    }
+                }
+                write_description(alloc, items, texts, width, &value.provided(), room)
             }
             Err(reason) => Err(reason),
         },
         Err(reason) => Err(reason),
     }
-}
-
-/// Writes the text of the value by a description of this width, whose items may all be usual.
-#[inline(always)]
-fn write_value<V: ComponentProvider + Drop, T: DescribedValue<V>>(
-    alloc: Global,
-    items: &[Item],
-    texts: &[u8],
-    all_usual: bool,
-    width: usize,
-    value: &T,
-    room: &mut [u8],
-) -> Result<usize, Reason>
-where
-    V::State: Drop,
-    requires width { width_answer (trees_of texts.now items.now) ≡ Ok width }
-    requires usual { IsTrue all_usual → All (λ item. IsTrue (is_usual T.HAS_TIME item)) items.now }
-    requires short { IsTrue all_usual → width ≤ 0xffff_ffff }
-    ensures { IsDescribed (trees_of texts.now items.now) (Ok value.now) T.facts
-        result room.old room.new }
-{
-    if all_usual {
-        if let Some(answer) = write_usual::<V, T>(items, texts, width, value, room) {
-            return answer;
-        }
-    }
-    write_description(alloc, items, texts, width, &value.provided(), room)
 }
 
 /// Writes the text of the value by usual items, which allocates nothing. Writes nothing if the year has
@@ -239,7 +216,6 @@ fn part_width(part: Part<'_>) -> usize
 }
 
 /// Appends the texts of the items, each of which there is, up to the first that is refused.
-#[tactic(auto, using(crate::proofs::DescribedLemmas::along_more))]
 fn write_items<V: ComponentProvider>(
     items: &[Item],
     texts: &[u8],

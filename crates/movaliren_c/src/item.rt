@@ -61,6 +61,7 @@ fn digits_at(number: u8) -> Result<SubsecondDigits, Reason>
 }
 
 /// The components of a date, but for its year.
+#[tactic(auto, unfolding(crate::specs::Items::date_component))]
 fn date_component(kind: u32, padding: Padding, one_indexed: bool) -> Result<Component, Reason>
     ensures { result ≡ date_component kind padding one_indexed }
 {
@@ -83,6 +84,7 @@ fn date_component(kind: u32, padding: Padding, one_indexed: bool) -> Result<Comp
 }
 
 /// The components of a year.
+#[tactic(auto, unfolding(crate::specs::Items::year_component))]
 fn year_component(kind: u32, padding: Padding, sign_is_mandatory: bool) -> Result<Component, Reason>
     ensures { result ≡ year_component kind padding sign_is_mandatory }
 {
@@ -102,6 +104,7 @@ fn year_component(kind: u32, padding: Padding, sign_is_mandatory: bool) -> Resul
 }
 
 /// The components of a time, an offset and a moment.
+#[tactic(auto, unfolding(crate::specs::Items::time_component))]
 fn time_component(
     kind: u32,
     padding: Padding,
@@ -148,6 +151,7 @@ fn component_at(
 }
 
 #[inline(always)]
+#[tactic(auto, unfolding(crate::specs::Items::component_of))]
 fn component_of(item: &Item) -> Result<Component, Reason>
     ensures { result ≡ component_of item.now }
 {

@@ -48,7 +48,6 @@ impl KeptOffset {
     }
 
     /// The offset of this many seconds east of UTC, if it is at most 25:59:59 either way.
-    #[tactic(auto, using(crate::proofs::OffsetLemmas::settled_signed))]
     pub fn of_seconds(east: i64) -> Result<KeptOffset, Reason>
         ensures value { result ≡ east_value east }
         ensures range { IfOk result (λ _. unsigned_abs east < 93_600) }
@@ -90,7 +89,6 @@ impl KeptOffset {
 
     /// The fields of the offset.
     #[inline(always)]
-    #[tactic(auto, using(crate::proofs::OffsetLemmas::settled_sizes))]
     pub fn fields(&self) -> OffsetFields
         ensures { result ≡ offset_fields self.now }
     {

@@ -102,22 +102,8 @@ pub fn put_at_start<T: Text>(text: &T, room: &mut [u8]) -> usize
         ≡ T.text text.now ++ drop (length (T.text text.now)) room.old }
 {
     let mut sink = RoomSink::new(room);
-    put_into_empty(&mut sink, text);
+    text.put_into(&mut sink);
     sink.len()
-}
-
-/// Puts the text into a sink that holds none.
-#[inline(always)]
-fn put_into_empty<T: Text>(sink: &mut RoomSink<'_>, text: &T)
-    requires empty { sink.old.len ≡ 0 }
-    requires room { T.width text.now ≤ length sink.old.room.now }
-    ensures same_reference { sink.new.room.ghost_name ≡ sink.old.room.ghost_name }
-    ensures fits { sink.new.len ≤ length sink.old.room.now }
-    ensures count { sink.new.len ≡ length (T.text text.now) }
-    ensures text { sink.new.room.now
-        ≡ T.text text.now ++ drop (length (T.text text.now)) sink.old.room.now }
-{
-    text.put_into(sink);
 }
 
 /// Answers for a moment by its seconds since 1970 and its nanosecond.

@@ -1,11 +1,8 @@
 //! RFC 2822, section 3.3.
-ghost use Rattle.std.specs.Prelude.{◌≡◌};
 ghost use Rattle.movaliren_c.specs.Answer.{IsAnswer, gives};
 ghost use Rattle.movaliren_c.specs.Batch.{IsBatch};
 ghost use Rattle.movaliren_c.specs.Utc.{local_value, utc_value};
 ghost use Rattle.movaliren_c.specs.Value.{moment_value};
-ghost use Rattle.time_below.specs.Facts.{date_facts};
-ghost use Rattle.time_below.specs.Weekday.{days_from_monday};
 ghost use Rattle.time_known.specs.Rfc2822.{rfc2822_of};
 
 use crate::batch::{Progress, write_lines};
@@ -15,7 +12,6 @@ use crate::moment_text::{Format, answer_at, texts_of};
 use crate::reason::{Reason, answer_number, reason_for};
 use crate::source::{AtOffset, ByParts, InUtc};
 use crate::writer::Writer;
-use time_below::Weekday;
 use time_known::rfc2822::Rfc2822Text;
 
 /// The format of RFC 2822.
@@ -36,7 +32,7 @@ impl Format for Rfc2822 {
     fn text(self, value: &LocalMoment) -> Result<Rfc2822Text, Reason> {
         match accepted_year_of(1900, 25, value) {
             Ok(year) => {
-                let weekday = weekday_of(value);
+                let weekday = value.date().date().weekday();
                 let fields = fields_of(year, value);
                 Ok(Rfc2822Text { weekday, fields })
             }
@@ -113,12 +109,4 @@ pub extern "C" fn movaliren_rfc2822_local_batch(
 {
     let texts = texts_of(Rfc2822, AtOffset { east: offset });
     write_lines(&texts, moments, end, room)
-}
-
-/// The weekday of the local date.
-#[inline(always)]
-fn weekday_of(value: &LocalMoment) -> Weekday
-    ensures { days_from_monday result ≡ (date_facts value.now.date).weekday }
-{
-    value.date().date().weekday()
 }

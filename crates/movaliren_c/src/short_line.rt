@@ -61,6 +61,7 @@ pub fn usual_start(items: &[Item], texts: &[u8], has_time: bool) -> UsualStart
 
 /// The width of an item, if it is a short literal or a component that most texts have.
 #[inline(always)]
+#[tactic(auto, unfolding(crate::specs::Items::component_of, crate::specs::Items::date_component, crate::specs::Items::year_component, crate::specs::Items::time_component))]
 fn usual_width(item: &Item, texts: &[u8], has_time: bool) -> Option<usize>
     ensures usual { IfSome result (λ _. IsTrue (is_usual has_time item.now)) }
     ensures width { IfSome result (λ w. HasWidth w (item_tree texts.now item.now)) }
@@ -105,6 +106,7 @@ fn literal_width(item: &Item, texts: &[u8]) -> Option<usize>
 
 /// The width of three, six or nine decimals of the second, or of the hours of an offset with a sign.
 #[inline(always)]
+#[tactic(auto, unfolding(crate::specs::Items::component_of, crate::specs::Items::time_component))]
 fn chosen_width(item: &Item, texts: &[u8], has_time: bool) -> Option<usize>
     ensures usual { IfSome result (λ _. IsTrue (is_usual has_time item.now)) }
     ensures width { IfSome result (λ w. HasWidth w (item_tree texts.now item.now)) }
@@ -132,7 +134,6 @@ pub fn has_short_year(value: &LocalMoment) -> bool
 
 /// Writes the text of usual items to the start of the buffer, by way of an array if the buffer may be too
 /// small.
-#[tactic(auto, using(crate::proofs::ShortLineLemmas::all_fit))]
 pub fn write_line(
     items: &[Item],
     texts: &[u8],
@@ -169,29 +170,12 @@ fn write_in_place(items: &[Item], texts: &[u8], value: &LocalMoment, room: &mut 
     ensures fits { result ≤ length room.old }
 {
     let mut sink = RoomSink::new(room);
-    put_into_empty(&mut sink, items, texts, value);
+    put_items(&mut sink, items, texts, value);
     sink.len()
-}
-
-/// Puts the texts of usual items into a sink that holds none.
-#[inline(always)]
-fn put_into_empty(sink: &mut RoomSink<'_>, items: &[Item], texts: &[u8], value: &LocalMoment)
-    ghost has_time: { Bool }
-    requires empty { sink.old.len ≡ 0 }
-    requires usual { All (λ item. IsTrue (is_usual has_time item)) items.now }
-    requires room { AllFit (length sink.old.room.now) (trees_of texts.now items.now) }
-    requires year { IsShortYear value.now }
-    ensures same_reference { sink.new.room.ghost_name ≡ sink.old.room.ghost_name }
-    ensures fits { sink.new.len ≤ length sink.old.room.now }
-    ensures text { IsText (described (trees_of texts.now items.now) (Ok value.now)
-        (facts_of_local has_time)) (Ok sink.new.len) sink.old.room.now sink.new.room.now }
-{
-    put_items(sink, items, texts, value);
 }
 
 /// Puts the texts of usual items one after another.
 #[inline(always)]
-#[tactic(auto, using(crate::proofs::ShortLineLemmas::one_more))]
 fn put_items<S: ByteSink>(output: &mut S, items: &[Item], texts: &[u8], value: &LocalMoment)
     ghost has_time: { Bool }
     requires usual { All (λ item. IsTrue (is_usual has_time item)) items.now }
@@ -207,7 +191,7 @@ fn put_items<S: ByteSink>(output: &mut S, items: &[Item], texts: &[u8], value: &
 
 /// Puts the text of a usual item.
 #[inline(always)]
-#[tactic(auto, using(crate::proofs::ShortLineLemmas::usual_texts))]
+#[tactic(auto, using(crate::proofs::ShortLineLemmas::offset_put), unfolding(crate::specs::Items::component_of, crate::specs::Items::date_component, crate::specs::Items::year_component, crate::specs::Items::time_component))]
 fn put_item<S: ByteSink>(output: &mut S, item: &Item, texts: &[u8], value: &LocalMoment)
     ghost has_time: { Bool }
     requires usual { IsTrue (is_usual has_time item.now) }

@@ -63,7 +63,6 @@ impl<const N: usize> Sink for ArraySink<N> {
         self.put(piece);
     }
 
-    #[tactic(auto, using(time_known::proofs::iso8601::LengthLemmas::decimal_lengths))]
     fn put_decimals(&mut self, rest: u64, unit: u64, digits: ru8<1, 255>) {
         push_decimals(&mut self.text, rest, unit, digits.get());
     }
@@ -127,7 +126,6 @@ impl Sink for RoomSink<'_> {
 
     // This does not call `put_bytes`: one call more and the texts of formats are not inlined.
     #[inline(always)]
-    #[tactic(auto, using(crate::proofs::SinkLemmas::written_pieces))]
     fn put(&mut self, piece: &str) {
         match piece.as_bytes() {
             [a] => {
@@ -154,7 +152,6 @@ impl Sink for RoomSink<'_> {
         self.put(piece);
     }
 
-    #[tactic(auto, using(time_known::proofs::iso8601::LengthLemmas::decimal_lengths))]
     fn put_decimals(&mut self, rest: u64, unit: u64, digits: ru8<1, 255>) {
         let mut line = ArrayString::<255>::new();
         push_decimals(&mut line, rest, unit, digits.get());
@@ -164,7 +161,6 @@ impl Sink for RoomSink<'_> {
 
 impl ByteSink for RoomSink<'_> {
     #[inline(always)]
-    #[tactic(auto, using(crate::proofs::SinkLemmas::written_pieces))]
     fn put_bytes(&mut self, bytes: &[u8]) {
         match bytes {
             [a] => {
