@@ -80,6 +80,26 @@ room_for_next old now f all left others t along next =
     let width : trees_width left ≡ tree_width t + trees_width others = ap trees_width next in
     omega (arith, along.room, width)
 
+-- the outcome of a list is that of its next node after what was written
+pub record StopsAt (old mid : Vec ℕ Global) (all first : Outcome) : Type 0 where
+  pub bytes : old.items ++ all.bytes ≡ mid.items ++ first.bytes
+  pub refusal : all.refusal ≡ first.refusal
+  pub grown : vec_len old + length all.bytes ≡ vec_len mid + length first.bytes
+
+-- so is it where that node is refused
+pub stops_along : {agrees : Type 0} {all_size left_size : ℕ} (r : Refusal) (old mid : Vec ℕ Global) (f : Facts)
+    (all left others : Trees) (t : Tree) →
+    Along agrees old mid f all left all_size left_size → left ≡ more t others → (tree_outcome t f).refusal ≡ Some r
+    → StopsAt old mid (trees_outcome all f) (tree_outcome t f)
+stops_along r old mid f all left others t along next refused =
+    let same : trees_outcome left f ≡ tree_outcome t f = ap (λ ts. trees_outcome ts f) next
+    ∙ join_refused (tree_outcome t f) (trees_outcome others f) r refused in
+    record {
+      bytes = along.bytes ∙ ap (λ (o : Outcome). mid.items ++ o.bytes) same;
+      refusal = along.refusal ∙ ap (λ (o : Outcome). o.refusal) same;
+      grown = omega (arith, along.grown, ap (λ (o : Outcome). length o.bytes) same);
+    }
+
 -- a list ends with a node that is refused
 pub list_refused : {agrees : Type 0} {all_size left_size : ℕ} {reason : Refused} (old mid new : Vec ℕ Global)
     (f : Facts) (all left others : Trees) (t : Tree) →
@@ -88,16 +108,15 @@ pub list_refused : {agrees : Type 0} {all_size left_size : ℕ} {reason : Refuse
 list_refused {reason = reason} old mid new f all left others t along next step =
     let r = refusal_of reason in
     let refused : (tree_outcome t f).refusal ≡ Some r = sym step.ends.refusal in
-    let stops = join_refused (tree_outcome t f) (trees_outcome others f) r refused in
-    let same : trees_outcome left f ≡ tree_outcome t f = ap (λ ts. trees_outcome ts f) next ∙ stops in
+    let stops = stops_along r old mid f all left others t along next refused in
     let width : trees_width left ≡ tree_width t + trees_width others = ap trees_width next in
     let P : Trees → Type 0 = λ ts. IsTextIf (are_guaranteed_text ts) (trees_outcome ts f) in
-    let text = text_stops t others f step.text stops in
+    let text = text_stops t others f step.text (join_refused (tree_outcome t f) (trees_outcome others f) r refused) in
     record {
       ends = record {
-        appended = step.ends.appended ∙ sym (along.bytes ∙ ap (λ (o : Outcome). mid.items ++ o.bytes) same);
-        refusal = step.ends.refusal ∙ sym (along.refusal ∙ ap (λ (o : Outcome). o.refusal) same);
-        grown = omega (arith, step.ends.grown, along.grown, ap (λ (o : Outcome). length o.bytes) same);
+        appended = step.ends.appended ∙ sym stops.bytes;
+        refusal = step.ends.refusal ∙ sym stops.refusal;
+        grown = omega (arith, step.ends.grown, stops.grown);
         capacity = step.ends.capacity ∙ along.capacity;
         within = omega (arith, along.within, width, step.ends.within);
       };
