@@ -1,6 +1,9 @@
 -- The tables of days: their rows are those of the days of a leap year, by computing each.
-use Rattle.std.proofs.Common.{◌≡◌, ℕ, ◌+◌, ◌-◌, ◌*◌, Bool, true, false, if◌then◌else◌, take, drop}
-use Rattle.std.proofs.Common.{map, length, refl, arith, ◌++◌}
+use Rattle.std.proofs.Common.{◌≡◌, ℕ, zero, suc, ◌+◌, ◌-◌, ◌*◌, ◌<◌, Bool, true, false, if◌then◌else◌, List, [], ◌∷◌}
+use Rattle.std.proofs.Common.{take, drop, get_or, map, length, refl, sym, ap, ap₂, ◌∙◌, arith, ◌++◌}
+use Rattle.std.proofs.Math.Nat.{mul-suc}
+use Rattle.std.proofs.lemmas.List.{drop-drop}
+use Rattle.std.proofs.lemmas.List.FromFn.{get_or-map-range_with_len}
 use Rattle.std.specs.Fmt.{digits}
 use Rattle.std.specs.Int.{IsInRange}
 use Rattle.std.specs.List.{range_with_len}
@@ -11,36 +14,54 @@ use Rattle.time_fmt.specs.DateText.{month_name, short_name}
 use Rattle.time_known.specs.Days.{dash, month_and_day_in, day_of_leap_year}
 use Rattle.time_known.specs.declared.days.TheConstants.{DAYS, ORDINALS}
 
--- what the rows of a table say of each day, by its place from 0
-row_is : {X : Type 0} (row : ℕ → X) (of_day : ℕ → X) (days : ℕ)
-    → map row (range_with_len 0 days) ≡ map (λ n. of_day (n + 1)) (range_with_len 0 days)
-    → (ordinal : ℕ) → IsInRange 1 days ordinal → row (ordinal - 1) ≡ of_day ordinal
-row_is row of_day days rows ordinal h =
-    let e : ordinal - 1 + 1 ≡ ordinal = omega arith in
-    rw e at (same_below row (λ n. of_day (n + 1)) days rows (ordinal - 1) (omega arith))
+-- what each row of a table says, one row after another
+rows : {X : Type 0} → ℕ → (List ℕ → X) → ℕ → List ℕ → List X
+rows width row zero table = []
+rows width row (suc k) table = row table ∷ rows width row k (drop width table)
+
+row_at : {X : Type 0} (width : ℕ) (row : List ℕ → X) (k n : ℕ) (table : List ℕ) (other : X) → n < k
+    → get_or (rows width row k table) n other ≡ row (drop (width * n) table)
+unfolding rows
+row_at width row zero n table other h = absurd (omega arith)
+row_at width row (suc k) zero table other h = let e : width * 0 ≡ 0 = omega arith in rw e refl
+row_at width row (suc k) (suc n) table other h =
+    let e : width + width * n ≡ width * suc n = omega (arith, mul-suc width n) in
+    row_at width row k n (drop width table) other (omega arith)
+    ∙ ap row (drop-drop (width * n) width table ∙ ap (λ place. drop place table) e)
+
+-- if the rows are those of the days, the row at each day's place is the day's
+row_is : {X : Type 0} (width : ℕ) (row : List ℕ → X) (of_day : ℕ → X) (days : ℕ) (table : List ℕ)
+    → rows width row days table ≡ map of_day (range_with_len 1 days)
+    → (ordinal : ℕ) → IsInRange 1 days ordinal → row (drop (width * (ordinal - 1)) table) ≡ of_day ordinal
+row_is width row of_day days table e ordinal h =
+    sym (row_at width row days (ordinal - 1) table (of_day ordinal) (omega arith))
+    ∙ ap (λ said. get_or said (ordinal - 1) (of_day ordinal)) e
+    ∙ get_or-map-range_with_len of_day 1 days (ordinal - 1) ordinal (of_day ordinal) (omega arith) (omega arith)
 
 -- ---- months and days
 
 -- the digits of the month, those of the day, and the month's name
 pub month_digits : (ordinal : ℕ) → IsInRange 1 366 ordinal
     → take 2 (drop (8 * (ordinal - 1)) DAYS.now) ≡ zero_padded 2 (month_and_day_in true ordinal).month
-unfolding digits padded days_of_months last_begun
-month_digits =
-    row_is (λ n. take 2 (drop (8 * n) DAYS.now)) (λ n. zero_padded 2 (month_and_day_in true n).month) 366 refl
+unfolding rows digits padded days_of_months last_begun
+month_digits = row_is 8 (take 2) (λ n. zero_padded 2 (month_and_day_in true n).month) 366 DAYS.now refl
 
 pub day_digits : (ordinal : ℕ) → IsInRange 1 366 ordinal
     → take 2 (drop (8 * (ordinal - 1) + 2) DAYS.now) ≡ zero_padded 2 (month_and_day_in true ordinal).day
-unfolding digits padded days_of_months last_begun
-day_digits =
-    row_is (λ n. take 2 (drop (8 * n + 2) DAYS.now)) (λ n. zero_padded 2 (month_and_day_in true n).day) 366 refl
+unfolding rows digits padded days_of_months last_begun
+day_digits ordinal h =
+    ap (take 2) (sym (drop-drop 2 (8 * (ordinal - 1)) DAYS.now))
+    ∙ row_is 8 (λ row. take 2 (drop 2 row)) (λ n. zero_padded 2 (month_and_day_in true n).day) 366 DAYS.now refl ordinal h
 
 pub name_letters : (ordinal : ℕ) → IsInRange 1 366 ordinal
     → take 1 (drop (8 * (ordinal - 1) + 5) DAYS.now) ++ take 2 (drop (8 * (ordinal - 1) + 6) DAYS.now)
     ≡ short_name (month_name (month_and_day_in true ordinal).month)
-unfolding days_of_months last_begun
-name_letters =
-    row_is (λ n. take 1 (drop (8 * n + 5) DAYS.now) ++ take 2 (drop (8 * n + 6) DAYS.now))
-    (λ n. short_name (month_name (month_and_day_in true n).month)) 366 refl
+unfolding rows days_of_months last_begun
+name_letters ordinal h =
+    ap₂ (λ a b. take 1 a ++ take 2 b) (sym (drop-drop 5 (8 * (ordinal - 1)) DAYS.now))
+    (sym (drop-drop 6 (8 * (ordinal - 1)) DAYS.now))
+    ∙ row_is 8 (λ row. take 1 (drop 5 row) ++ take 2 (drop 6 row))
+    (λ n. short_name (month_name (month_and_day_in true n).month)) 366 DAYS.now refl ordinal h
 
 -- the table has 366 rows of eight bytes, all ASCII
 pub table_length : length DAYS.now ≡ 2_928
@@ -60,18 +81,21 @@ pub ruleset names_of_days = (name_letters, table_length, table_ascii)
 pub ordinal_row : (ordinal : ℕ) → IsInRange 1 366 ordinal
     → take 1 (drop (4 * (ordinal - 1) + 1) ORDINALS.now) ++ take 2 (drop (4 * (ordinal - 1) + 2) ORDINALS.now)
     ≡ dash false ++ zero_padded 3 ordinal
-unfolding digits padded
-ordinal_row =
-    row_is (λ n. take 1 (drop (4 * n + 1) ORDINALS.now) ++ take 2 (drop (4 * n + 2) ORDINALS.now))
-    (λ n. dash false ++ zero_padded 3 n) 366 refl
+unfolding rows digits padded
+ordinal_row ordinal h =
+    ap₂ (λ a b. take 1 a ++ take 2 b) (sym (drop-drop 1 (4 * (ordinal - 1)) ORDINALS.now))
+    (sym (drop-drop 2 (4 * (ordinal - 1)) ORDINALS.now))
+    ∙ row_is 4 (λ row. take 1 (drop 1 row) ++ take 2 (drop 2 row)) (λ n. dash false ++ zero_padded 3 n) 366 ORDINALS.now
+    refl ordinal h
 
 pub dashed_row : (ordinal : ℕ) → IsInRange 1 366 ordinal
     → take 2 (drop (4 * (ordinal - 1)) ORDINALS.now) ++ take 2 (drop (4 * (ordinal - 1) + 2) ORDINALS.now)
     ≡ dash true ++ zero_padded 3 ordinal
-unfolding digits padded
-dashed_row =
-    row_is (λ n. take 2 (drop (4 * n) ORDINALS.now) ++ take 2 (drop (4 * n + 2) ORDINALS.now))
-    (λ n. dash true ++ zero_padded 3 n) 366 refl
+unfolding rows digits padded
+dashed_row ordinal h =
+    ap (λ b. take 2 (drop (4 * (ordinal - 1)) ORDINALS.now) ++ take 2 b)
+    (sym (drop-drop 2 (4 * (ordinal - 1)) ORDINALS.now))
+    ∙ row_is 4 (λ row. take 2 row ++ take 2 (drop 2 row)) (λ n. dash true ++ zero_padded 3 n) 366 ORDINALS.now refl ordinal h
 
 -- the table has 366 rows of four bytes, all ASCII
 pub ordinals_length : length ORDINALS.now ≡ 1_464
@@ -84,17 +108,14 @@ pub ruleset digits_of_ordinals = (ordinal_row, dashed_row, ordinals_length, ordi
 
 -- ---- common years
 
--- the days of a common year are days of a leap year
-common_row : (ordinal : ℕ) → IsInRange 1 365 ordinal
-    → month_and_day_in true (day_of_leap_year false (ordinal - 1 + 1)) ≡ month_and_day_in false ordinal
-unfolding days_of_months last_begun
-common_row =
-    row_is (λ n. month_and_day_in true (day_of_leap_year false (n + 1))) (month_and_day_in false) 365 refl
-
 -- each day of a year has the month and day of its day in a leap year
 pub same_month_and_day : (is_leap : Bool) (ordinal : ℕ) → IsInRange 1 (if is_leap then 366 else 365) ordinal
     → month_and_day_in true (day_of_leap_year is_leap ordinal) ≡ month_and_day_in is_leap ordinal
+unfolding days_of_months last_begun
 same_month_and_day true ordinal h = refl
-same_month_and_day false ordinal h = let e : ordinal - 1 + 1 ≡ ordinal = omega arith in rw e at (common_row ordinal h)
+same_month_and_day false ordinal h =
+    let e : ordinal - 1 + 1 ≡ ordinal = omega arith in
+    rw e at (same_below (λ n. month_and_day_in true (day_of_leap_year false (n + 1)))
+    (λ n. month_and_day_in false (n + 1)) 365 refl (ordinal - 1) (omega arith))
 
 pub ruleset days_of_years = (same_month_and_day)

@@ -4,7 +4,7 @@ use Rattle.std.specs.Prelude.{◌&&◌, ◌||◌, not, is_some}
 use Rattle.time_below.specs.Facts.{group_or}
 use Rattle.time_fmt.specs.Description.{of_group}
 use Rattle.time_fmt.specs.Outcome.{Outcome, refused, insufficient}
-use Rattle.time_known.specs.Values.{Facts, DateFacts, the_date, the_time, the_offset, Offset, TimeOfDay}
+use Rattle.time_known.specs.Values.{Facts, DateFacts, Offset, TimeOfDay}
 use Rattle.time_known.specs.declared.groups.Groups.{Groups}
 use Rattle.time_known.specs.Groups.{has_groups, at_groups}
 use Rattle.time_known.specs.WellKnown.{of_all_groups}
@@ -21,25 +21,10 @@ of_unsupplied_group None outcome h = refl
 of_unsupplied_group (Some g) outcome h = cc
 
 -- one that is there gives the outcome
-of_supplied : {G : Type 0} (group : Option G) (other : G) (outcome : G → Outcome) → is_some group ≡ true
+pub of_supplied : {G : Type 0} (group : Option G) (other : G) (outcome : G → Outcome) → is_some group ≡ true
     → of_group group outcome ≡ outcome (group_or other group)
 of_supplied None other outcome h = cc
 of_supplied (Some g) other outcome h = refl
-
--- the outcome by the date of a value that has one, under the name of the clauses
-pub of_the_date : (f : Facts) (outcome : DateFacts → Outcome) → is_some f.date ≡ true
-    → of_group f.date outcome ≡ outcome (the_date f)
-of_the_date f outcome h = of_supplied f.date _ outcome h
-
--- the outcome by the time of day of a value that has one, under the name of the clauses
-pub of_the_time : (f : Facts) (outcome : TimeOfDay → Outcome) → is_some f.time ≡ true
-    → of_group f.time outcome ≡ outcome (the_time f)
-of_the_time f outcome h = of_supplied f.time _ outcome h
-
--- the outcome by the offset of a value that has one, under the name of the clauses
-pub of_the_offset : (f : Facts) (outcome : Offset → Outcome) → is_some f.offset ≡ true
-    → of_group f.offset outcome ≡ outcome (the_offset f)
-of_the_offset f outcome h = of_supplied f.offset _ outcome h
 
 -- both tests hold
 both_tests_hold : (a b : Bool) → (a && b) ≡ true → (a ≡ true) × (b ≡ true)
@@ -83,4 +68,4 @@ has_all f h =
 -- what they give is the outcome
 pub outcome_of_all : (f : Facts) → HasAll f → (outcome : DateFacts → TimeOfDay → Offset → Outcome)
     → of_all_groups f outcome ≡ at_groups outcome f
-outcome_of_all f h outcome = of_the_date f _ h.date ∙ of_the_time f _ h.time ∙ of_the_offset f _ h.offset
+outcome_of_all f h outcome = of_supplied f.date _ _ h.date ∙ of_supplied f.time _ _ h.time ∙ of_supplied f.offset _ _ h.offset

@@ -1,6 +1,6 @@
 -- A completed text spells the value whose groups were formatted.
-use Rattle.std.proofs.Common.{◌≡◌, sym, ap, ◌∙◌, Some, None, Option}
-use Rattle.time_fmt.specs.Outcome.{Outcome, Refusal, done}
+use Rattle.std.proofs.Common.{◌≡◌, sym, ap, ◌∙◌, Some, None}
+use Rattle.time_fmt.specs.Outcome.{Outcome}
 use Rattle.time_provide.specs.Real.{AreReal, date_in}
 use Rattle.time_known.specs.Laws.{IsValue, CompletedAreCanonical}
 use Rattle.time_known.specs.ReadBack.{ReadsAs}
@@ -9,11 +9,7 @@ use Rattle.time_known.specs.Values.{Facts, DateFacts, date_facts, the_date, the_
 use Rattle.time_known.specs.Values.{Offset, TimeOfDay}
 use Rattle.time_known.specs.WellKnown.{of_all_groups}
 use Rattle.time_known.proofs.GroupLemmas.{HasAll, some_group_or, outcome_of_all}
-
--- an outcome without a refusal is completed by its bytes
-completed_by_bytes : (o : Outcome) → o.refusal ≡ None → o ≡ done o.bytes
-completed_by_bytes o e =
-    ap (λ (r : Option Refusal). let p : Outcome = record { bytes = o.bytes; refusal = r } in p) e
+use Rattle.time_known.proofs.OutcomeLemmas.{completed_by_bytes}
 
 -- the groups of a value that is real are those of a local date, a time and an offset, and a completed
 -- text spells them

@@ -1,4 +1,6 @@
 //! The pieces of texts, put into a sink. Each is inlined, so that it becomes a few stores.
+#![tactic(auto, using(crate::proofs::LengthLemmas::joined_lengths))]
+
 ghost use Rattle.std.specs.Prelude.{◌≡◌, ◌+◌, ◌*◌, ◌++◌, length, take};
 ghost use Rattle.time_below.specs.Weekday.{days_from_monday};
 ghost use Rattle.time_digits.specs.Digits.{fixed, zero_padded};
@@ -30,7 +32,6 @@ pub fn put_pair<S: Sink>(output: &mut S, number: ru8<0, 99>)
 
 /// Puts a number of three digits.
 #[inline(always)]
-#[tactic(auto, using(crate::proofs::LengthLemmas::joined_lengths))]
 pub fn put_three_digits<S: Sink>(output: &mut S, number: ru16<0, 999>)
     requires room { Fits 3 (S.buffer output.old) }
     ensures puts { PutsJust 3 (S.buffer output.old) (S.buffer output.new) (zero_padded 3 number) }
@@ -53,7 +54,6 @@ pub fn put_three_decimals<S: Sink>(output: &mut S, nanosecond: Nanoseconds)
 
 /// Puts a number of four digits.
 #[inline(always)]
-#[tactic(auto, using(crate::proofs::LengthLemmas::joined_lengths))]
 pub fn put_four_digits<S: Sink>(output: &mut S, number: ru16<0, 9_999>)
     requires room { Fits 4 (S.buffer output.old) }
     ensures puts { PutsJust 4 (S.buffer output.old) (S.buffer output.new) (zero_padded 4 number) }
@@ -65,8 +65,7 @@ pub fn put_four_digits<S: Sink>(output: &mut S, number: ru16<0, 9_999>)
 
 // Puts a piece, and then another.
 #[inline(always)]
-#[tactic(auto, using(crate::proofs::LengthLemmas::joined_lengths))]
-fn put_both<S: Sink>(output: &mut S, first: &str, second: &str)
+pub(crate) fn put_both<S: Sink>(output: &mut S, first: &str, second: &str)
     requires room { Fits (length first.now + length second.now) (S.buffer output.old) }
     ensures puts { Puts (S.buffer output.old) (S.buffer output.new) (first.now ++ second.now) }
     ensures length { length (first.now ++ second.now) ≡ length first.now + length second.now }
@@ -77,7 +76,6 @@ fn put_both<S: Sink>(output: &mut S, first: &str, second: &str)
 
 /// Puts the nine digits of a fraction of a second.
 #[inline(always)]
-#[tactic(auto, using(crate::proofs::LengthLemmas::joined_lengths))]
 pub fn put_nine_digits<S: Sink>(output: &mut S, nanosecond: Nanoseconds)
     requires room { Fits 9 (S.buffer output.old) }
     ensures puts { PutsJust 9 (S.buffer output.old) (S.buffer output.new) (fixed 9 nanosecond) }
@@ -126,7 +124,6 @@ pub fn put_fraction<S: Sink>(output: &mut S, nanosecond: Nanoseconds)
 
 /// Puts the year, the month and the day, and the separator between them.
 #[inline(always)]
-#[tactic(auto, using(crate::proofs::LengthLemmas::joined_lengths))]
 pub fn put_date<S: Sink>(output: &mut S, fields: &Fields, separator: &str)
     requires room { Fits (8 + 2 * length separator.now) (S.buffer output.old) }
     ensures puts { PutsUpTo (8 + 2 * length separator.now)
@@ -139,7 +136,6 @@ pub fn put_date<S: Sink>(output: &mut S, fields: &Fields, separator: &str)
 
 /// Puts the month and the day, and the separator before each of them.
 #[inline(always)]
-#[tactic(auto, using(crate::proofs::LengthLemmas::joined_lengths))]
 pub fn put_month_and_day<S: Sink>(output: &mut S, date: CalendarDay, separator: &str)
     requires room { Fits (4 + 2 * length separator.now) (S.buffer output.old) }
     ensures puts { PutsUpTo (4 + 2 * length separator.now)
@@ -156,7 +152,6 @@ pub fn put_month_and_day<S: Sink>(output: &mut S, date: CalendarDay, separator: 
 
 /// Puts the first three letters of the month's English name.
 #[inline(always)]
-#[tactic(auto, using(crate::proofs::LengthLemmas::joined_lengths))]
 pub fn put_month_name<S: Sink>(output: &mut S, date: CalendarDay)
     requires room { Fits 3 (S.buffer output.old) }
     ensures puts { PutsJust 3 (S.buffer output.old) (S.buffer output.new)
@@ -169,7 +164,6 @@ pub fn put_month_name<S: Sink>(output: &mut S, date: CalendarDay)
 
 /// Puts the first three letters of the weekday's English name.
 #[inline(always)]
-#[tactic(auto, using(crate::proofs::LengthLemmas::joined_lengths))]
 pub fn put_weekday_name<S: Sink>(output: &mut S, weekday: Weekday)
     requires room { Fits 3 (S.buffer output.old) }
     ensures puts { PutsJust 3 (S.buffer output.old) (S.buffer output.new)
@@ -201,7 +195,6 @@ fn weekday_letters(weekday: Weekday) -> (&'static str, &'static str)
 
 /// Puts the hour, the minute and the second, and the separator between them.
 #[inline(always)]
-#[tactic(auto, using(crate::proofs::LengthLemmas::joined_lengths))]
 pub fn put_clock<S: Sink>(output: &mut S, time: &TimeFields, separator: &str)
     requires room { Fits (6 + 2 * length separator.now) (S.buffer output.old) }
     ensures puts { PutsUpTo (6 + 2 * length separator.now)
@@ -217,7 +210,6 @@ pub fn put_clock<S: Sink>(output: &mut S, time: &TimeFields, separator: &str)
 
 /// Puts the sign of the whole offset, and its hours.
 #[inline(always)]
-#[tactic(auto, using(crate::proofs::LengthLemmas::joined_lengths))]
 pub fn put_offset_hours<S: Sink>(output: &mut S, offset: &OffsetFields)
     requires room { Fits 3 (S.buffer output.old) }
     ensures puts { PutsJust 3 (S.buffer output.old) (S.buffer output.new)
@@ -229,7 +221,6 @@ pub fn put_offset_hours<S: Sink>(output: &mut S, offset: &OffsetFields)
 
 /// Puts the sign of the whole offset, and its hours and its minutes, and the separator between them.
 #[inline(always)]
-#[tactic(auto, using(crate::proofs::LengthLemmas::joined_lengths))]
 pub fn put_signed_offset<S: Sink>(output: &mut S, offset: &OffsetFields, separator: &str)
     requires room { Fits (5 + length separator.now) (S.buffer output.old) }
     ensures puts { PutsUpTo (5 + length separator.now)
@@ -243,7 +234,6 @@ pub fn put_signed_offset<S: Sink>(output: &mut S, offset: &OffsetFields, separat
 
 /// Puts the offset, or `Z` for UTC.
 #[inline(always)]
-#[tactic(auto, using(crate::proofs::LengthLemmas::joined_lengths))]
 pub fn put_offset<S: Sink>(output: &mut S, offset: &OffsetFields, separator: &str)
     requires room { Fits (5 + length separator.now) (S.buffer output.old) }
     ensures puts { PutsUpTo (5 + length separator.now)

@@ -48,7 +48,6 @@ impl Formattable for Rfc2822 {
 
     ghost reads_as = { λ _. ReadsAs to_whole_second Rfc2822Spells Rfc2822Spells };
 
-    #[tactic(auto, using(crate::proofs::GuaranteeLemmas::rfc2822_utf8))]
     fn write_into<V: ComponentProvider>(
         &self,
         output: &mut Vec<u8>,

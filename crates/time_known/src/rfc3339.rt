@@ -48,7 +48,6 @@ impl Formattable for Rfc3339 {
 
     ghost reads_as = { λ _. ReadsAs (λ v. v) Rfc3339Spells IsCanonicalRfc3339 };
 
-    #[tactic(auto, using(crate::proofs::GuaranteeLemmas::rfc3339_utf8))]
     fn write_into<V: ComponentProvider>(
         &self,
         output: &mut Vec<u8>,

@@ -19,15 +19,14 @@ use Rattle.time_known.specs.declared.iso8601.parts.DateParts.{DateParts}
 use Rattle.time_known.specs.declared.iso8601.parts.Parts.{Parts}
 use Rattle.time_known.specs.declared.iso8601.parts.RestOfDate.{RestOfDate}
 use Rattle.time_known.specs.declared.iso8601.parts.RestOfDate.TheVariants as rest
-use Rattle.time_known.proofs.GroupLemmas.{has_needed, of_the_date, of_the_time, of_the_offset}
+use Rattle.time_known.proofs.GroupLemmas.{HasNeeded, has_needed, of_supplied}
 
 -- ---- the parts
 
 rest_width_is : (k : DateKind) (c : Choices) (d : DateFacts)
     → rest_width (length (separator c (codes "-"))) (rest_of_kind k d) ≡ width_after_year k c
 rest_width_is kind.Calendar c d = refl
-rest_width_is kind.Week c d = refl
-rest_width_is kind.Ordinal c d = refl
+rest_width_is _ c d = refl
 
 date_width_is : (c : Choices) (d : DateFacts) → date_parts_width c (date_parts c.date_kind d) ≡ iso_date_width c
 date_width_is c d = ap (λ (n : ℕ). year_width c.year_is_six_digits + n) (rest_width_is c.date_kind c d)
@@ -43,43 +42,31 @@ join_with_nothing o = at o.bytes o.refusal where
   at bytes (Some r) = refl
 
 -- the outcome of a value with the groups that are needed joins its parts
-text_by : (parts : FormattedComponents) (c : Choices) (f : Facts) → has_groups (groups_of parts) f ≡ true
+text_by : (parts : FormattedComponents) (c : Choices) (f : Facts) → HasNeeded (groups_of parts) f
     → parts ≢ components.None → iso8601_outcome_of parts c f ≡ parts_text c (parts_by parts c.date_kind f)
-text_by components.None c f h some = absurd (some refl)
-text_by components.Date c f h some =
-    let needed = has_needed (groups_of components.Date) f h in
-    of_the_date f _ (needed.date refl) ∙ sym (join_with_nothing (iso_date c (the_date f)))
-text_by components.Time c f h some =
-    let needed = has_needed (groups_of components.Time) f h in
-    of_the_time f _ (needed.time refl) ∙ ap done (sym (append-nil (iso_time_text c (the_time f))))
-text_by components.Offset c f h some =
-    let needed = has_needed (groups_of components.Offset) f h in of_the_offset f _ (needed.offset refl)
-text_by components.DateTime c f h some =
-    let needed = has_needed (groups_of components.DateTime) f h in
-    of_the_date f _ (needed.date refl) ∙ of_the_time f _ (needed.time refl)
+text_by components.None c f needed some = absurd (some refl)
+text_by components.Date c f needed some =
+    of_supplied f.date _ _ (needed.date refl) ∙ sym (join_with_nothing (iso_date c (the_date f)))
+text_by components.Time c f needed some =
+    of_supplied f.time _ _ (needed.time refl) ∙ ap done (sym (append-nil (iso_time_text c (the_time f))))
+text_by components.Offset c f needed some = of_supplied f.offset _ _ (needed.offset refl)
+text_by components.DateTime c f needed some =
+    of_supplied f.date _ _ (needed.date refl) ∙ of_supplied f.time _ _ (needed.time refl)
     ∙ ap (λ (text : List ℕ). join (iso_date c (the_date f)) (done text))
     (sym (append-nil (iso_time_text c (the_time f))))
-text_by components.DateTimeOffset c f h some =
-    let needed = has_needed (groups_of components.DateTimeOffset) f h in
-    of_the_date f _ (needed.date refl) ∙ of_the_time f _ (needed.time refl) ∙ of_the_offset f _ (needed.offset refl)
-text_by components.TimeOffset c f h some =
-    let needed = has_needed (groups_of components.TimeOffset) f h in
-    of_the_time f _ (needed.time refl) ∙ of_the_offset f _ (needed.offset refl)
+text_by components.DateTimeOffset c f needed some =
+    of_supplied f.date _ _ (needed.date refl) ∙ of_supplied f.time _ _ (needed.time refl) ∙ of_supplied f.offset _ _ (needed.offset refl)
+text_by components.TimeOffset c f needed some = of_supplied f.time _ _ (needed.time refl) ∙ of_supplied f.offset _ _ (needed.offset refl)
 
 width_by : (parts : FormattedComponents) (c : Choices) (f : Facts) → parts ≢ components.None
     → parts_width c (parts_by parts c.date_kind f) ≡ iso8601_width_of parts c
 width_by components.None c f some = absurd (some refl)
-width_by components.Date c f some = omega (arith, date_width_is c (the_date f))
-width_by components.Time c f some = omega arith
-width_by components.Offset c f some = omega arith
-width_by components.DateTime c f some = omega (arith, date_width_is c (the_date f))
-width_by components.DateTimeOffset c f some = omega (arith, date_width_is c (the_date f))
-width_by components.TimeOffset c f some = omega arith
+width_by _ c f some = omega (arith, date_width_is c (the_date f))
 
 -- the parts of a value that has the groups of its configuration give the outcome
 pub chosen_text : (c : Choices) (f : Facts) → has_groups (groups_of c.formatted_components) f ≡ true
     → c.formatted_components ≢ components.None → iso8601_outcome c f ≡ parts_text c (chosen_parts c f)
-chosen_text c f h some = text_by c.formatted_components c f h some
+chosen_text c f h some = text_by c.formatted_components c f (has_needed (groups_of c.formatted_components) f h) some
 
 -- the parts have the width of the text
 pub chosen_width : (c : Choices) (f : Facts) → c.formatted_components ≢ components.None
@@ -93,8 +80,7 @@ AreSame c p = (parts_text c (shown_parts p) ≡ parts_text c p) × (parts_width 
 same_rest : (c : Choices) (p : Parts) (year : ℤ) (r : RestOfDate)
     → AreSame c (record p { date = Some (record { year = year; rest = r }) })
 same_rest c p year (rest.MonthAndDay d) = (refl, refl)
-same_rest c p year (rest.WeekAndWeekday week weekday) = (refl, refl)
-same_rest c p year (rest.DayOfYear number) = (refl, refl)
+same_rest c p year _ = (refl, refl)
 
 same_parts : (c : Choices) (p : Parts) → AreSame c p
 same_parts c p = at p.date where

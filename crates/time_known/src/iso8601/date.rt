@@ -19,7 +19,7 @@ use crate::days::ordinal_digits;
 use crate::iso8601::config::{Config, DateKind};
 use crate::iso8601::parts::{DateParts, RestOfDate, date_of};
 use crate::pieces::{put_back, take_out};
-use crate::put::{put_four_digits, put_month_and_day, put_pair};
+use crate::put::{put_both, put_four_digits, put_month_and_day, put_pair};
 use crate::sink::Sink;
 use time_digits::num_fmt::six_digits_zero_padded;
 use time_digits::{ru8, ru16, single_digit};
@@ -181,6 +181,15 @@ fn put_year<S: Sink>(output: &mut S, year: Year, is_six_digits: bool) -> Result<
     Ok(())
 }
 
+// The sign of a number, a plus too.
+#[inline(always)]
+fn sign(is_negative: bool) -> &'static str
+    ensures text { result.now ≡ sign_text is_negative true }
+    ensures length { length result.now ≡ 1 }
+{
+    if is_negative { "-" } else { "+" }
+}
+
 // Puts the sign and six digits of the year.
 #[inline(always)]
 #[tactic(auto, using(crate::proofs::LengthLemmas::joined_lengths))]
@@ -189,11 +198,10 @@ fn put_six_digits<S: Sink>(output: &mut S, year: Year)
     ensures puts { PutsJust 7 (S.buffer output.old) (S.buffer output.new)
         (sign_text (int_lt year (pos 0)) true ++ zero_padded 6 (unsigned_abs year)) }
 {
-    output.put(if year.get() < 0 { "-" } else { "+" });
+    output.put(sign(year.get() < 0));
     let [first, second, third] = six_digits_zero_padded(year.abs());
     output.put(first);
-    output.put(second);
-    output.put(third);
+    put_both(output, second, third);
 }
 
 // Puts what follows the year.
@@ -234,32 +242,28 @@ fn put_week<S: Sink>(output: &mut S, separator: &str, week: ru8<0, 99>, weekday:
         (S.buffer output.old) (S.buffer output.new)
         (separator.now ++ codes "W" ++ zero_padded 2 week ++ separator.now ++ zero_padded 1 weekday) }
 {
-    output.put(separator);
-    output.put("W");
+    put_both(output, separator, "W");
     put_pair(output, week);
-    output.put(separator);
-    put_digit(output, weekday);
+    put_both(output, separator, digit(weekday));
 }
 
-// Puts a number of one digit.
+// A number of one digit.
 #[inline(always)]
 #[tactic(auto, using(crate::proofs::iso8601::LengthLemmas::one_digit))]
-fn put_digit<S: Sink>(output: &mut S, number: ru8<0, 9>)
-    requires room { Fits 1 (S.buffer output.old) }
-    ensures puts { PutsJust 1 (S.buffer output.old) (S.buffer output.new) (zero_padded 1 number) }
+fn digit(number: ru8<0, 9>) -> &'static str
+    ensures text { result.now ≡ zero_padded 1 number }
+    ensures length { length result.now ≡ 1 }
 {
-    output.put(single_digit(number));
+    single_digit(number)
 }
 
 // Puts three digits of the day of the year, after a dash if it is wanted.
 #[inline(always)]
-#[tactic(auto, using(crate::proofs::LengthLemmas::joined_lengths))]
 fn put_day_of_year<S: Sink>(output: &mut S, day: Ordinal, has_dash: bool)
     requires room { Fits (3 + length (dash has_dash)) (S.buffer output.old) }
     ensures puts { PutsUpTo (3 + length (dash has_dash))
         (S.buffer output.old) (S.buffer output.new) (dash has_dash ++ zero_padded 3 day) }
 {
     let (first, rest) = ordinal_digits(day, has_dash);
-    output.put(first);
-    output.put(rest);
+    put_both(output, first, rest);
 }

@@ -1,4 +1,6 @@
 //! The time of day of a text of ISO 8601-1:2019, section 5.3.
+#![tactic(auto, using(crate::proofs::LengthLemmas::joined_lengths))]
+
 ghost use Rattle.std.specs.Prelude.{◌≡◌, Ok, ◌+◌, ◌*◌, ◌<◌, ◌≤◌, ◌++◌, length, IsTrue};
 ghost use Rattle.time_below.specs.Facts.{the_time};
 ghost use Rattle.time_digits.specs.Digits.{zero_padded};
@@ -92,7 +94,6 @@ pub(super) fn put_time_part<S: Sink>(output: &mut S, config: &Config, time: &Opt
 // Puts the letter, where there is one, and the units. A time alone has a function of its own, since the compiler
 // inlines so large a one only where it is called once.
 #[inline(always)]
-#[tactic(auto, using(crate::proofs::LengthLemmas::joined_lengths))]
 fn put_time<S: Sink, const IS_ALONE: bool>(
     output: &mut S,
     config: &Config,
@@ -155,7 +156,6 @@ fn put_second<S: Sink, const IS_ALONE: bool>(
 
 // Puts the hour, and decimals of it.
 #[inline(always)]
-#[tactic(auto, using(crate::proofs::LengthLemmas::joined_lengths))]
 fn put_to_hour<S: Sink>(
     output: &mut S,
     time: &TimeFields,
@@ -180,7 +180,6 @@ fn put_to_hour<S: Sink>(
 
 // Puts the hour and the minute, the separator between them, and decimals of the minute.
 #[inline(always)]
-#[tactic(auto, using(crate::proofs::LengthLemmas::joined_lengths))]
 fn put_to_minute<S: Sink>(
     output: &mut S,
     time: &TimeFields,
@@ -210,7 +209,6 @@ fn put_to_minute<S: Sink>(
 
 // Puts the hour, the minute and the second, the separator between them, and decimals of the second.
 #[inline(always)]
-#[tactic(auto, using(crate::proofs::LengthLemmas::joined_lengths))]
 pub(super) fn put_to_second<S: Sink>(
     output: &mut S,
     time: &TimeFields,

@@ -1,4 +1,6 @@
 //! The texts of the usual configurations, in pieces that are inlined.
+#![tactic(auto, using(crate::proofs::LengthLemmas::joined_lengths))]
+
 ghost use Rattle.std.specs.Prelude.{◌≡◌, ◌≤◌, ◌+◌, ◌*◌, ◌++◌, length, OnSome, MatchOption, Ok, true};
 ghost use Rattle.time_fmt.specs.Decimals.{decimals};
 ghost use Rattle.time_fmt.specs.Outcome.{AppendsUpTo};
@@ -67,7 +69,6 @@ impl Text for UsualText {
         t.usual.decimal_digits (shown t.fields) };
 
     #[inline(always)]
-    #[tactic(auto, using(crate::proofs::LengthLemmas::joined_lengths))]
     fn put_into<S: Sink>(&self, output: &mut S) {
         if self.usual.has_separators {
             put_usual(output, &self.usual, &self.fields, "-", ":");
@@ -134,7 +135,6 @@ const ZEROS: &str = "\
 // Puts the date, the time and the offset with these separators, which the compiler knows, and so where
 // each part stands.
 #[inline(always)]
-#[tactic(auto, using(crate::proofs::LengthLemmas::joined_lengths))]
 fn put_usual<S: Sink>(output: &mut S, usual: &Usual, fields: &Fields, dash: &str, colon: &str)
     requires room { Fits (20 + 2 * length dash.now + 3 * length colon.now
         + decimal_part_width usual.now.decimal_digits) (S.buffer output.old) }
@@ -152,7 +152,6 @@ fn put_usual<S: Sink>(output: &mut S, usual: &Usual, fields: &Fields, dash: &str
 
 // Puts the time, and decimals of its second.
 #[inline(always)]
-#[tactic(auto, using(crate::proofs::LengthLemmas::joined_lengths))]
 fn put_usual_time<S: Sink>(output: &mut S, usual: &Usual, time: &TimeFields, separator: &str)
     requires room { Fits
         (7 + 2 * length separator.now + decimal_part_width usual.now.decimal_digits)

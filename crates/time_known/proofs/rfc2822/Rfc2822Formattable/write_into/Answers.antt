@@ -1,4 +1,4 @@
-use Rattle.std.proofs.Common.{ap, sym, ◌∙◌, ℕ, unsigned_abs}
+use Rattle.std.proofs.Common.{ap, sym, ◌∙◌, arith, rules, ℕ, unsigned_abs}
 use Rattle.time_fmt.specs.Outcome.{Outcome}
 use Rattle.time_fmt.proofs.WriteLemmas.{appends_nothing, appends_up_to}
 use Rattle.time_known.specs.Fields.{fields, shown}
@@ -7,27 +7,18 @@ use Rattle.time_known.specs.Rfc2822.{rfc2822_of_fields, rfc2822_of_groups}
 use Rattle.time_known.specs.Values.{the_date, the_offset}
 use Rattle.time_known.proofs.AcceptedLemmas.{any_hour}
 use Rattle.time_known.proofs.GroupLemmas.{has_all, outcome_of_all}
+use Rattle.time_known.proofs.GuaranteeLemmas.{rfc2822_utf8}
 use Rattle.time_known.proofs.LawLemmas.{completed_are_canonical}
 use Rattle.time_known.proofs.ReadBackLemmas.{reads_as}
 use Rattle.time_known.proofs.Rfc2822Lemmas.{rfc2822_is_written}
 use Rattle.time_known.proofs.SinkLemmas.{written_as}
 use Rattle.time_known.proofs.rfc2822.Rfc2822Formattable.write_into.Goals as goal
 
-pub returns-in-Ok-clause-appends : goal.returns-in-Ok-clause-appends
-returns-in-Ok-clause-appends g c =
-    let value = c.args.value.now in
-    let f = g.V.ComponentProvider.facts value in
-    let all = has_all f (c.are_supplied_by.ensures.there value ∙ c.if-not-are_supplied_by.false) in
-    let text = rfc2822_of_fields (the_date f).weekday (at_groups fields f) in
-    let hours = any_hour 1900 (the_date f).year (unsigned_abs (the_offset f).hours)
-    (unsigned_abs (the_offset f).seconds) text c.accepted_fields.ensures.offset.0.0 in
-    rw (outcome_of_all f all rfc2822_of_groups ∙ sym hours ∙ c.in-Ok.ensures.accepted text)
-    (appends_up_to (written_as (rfc2822_of_fields (the_date f).weekday) c.in-Ok.ensures.fields
-    (written_as (λ (weekday : ℕ). rfc2822_of_fields weekday (shown c.in-Ok.fields))
-    c.weekday-weekday.ensures.value c.append.ensures.writes)))
+pub returns-then-not-are_supplied_by-clause-text : goal.returns-then-not-are_supplied_by-clause-text
+returns-then-not-are_supplied_by-clause-text g c = λ _. rfc2822_utf8 (g.V.ComponentProvider.facts c.args.value.now)
 
-pub returns-in-Ok-clause-spelled : goal.returns-in-Ok-clause-spelled
-returns-in-Ok-clause-spelled g c =
+pub returns-in-Ok : goal.returns-in-Ok
+returns-in-Ok g c =
     let value = c.args.value.now in
     let f = g.V.ComponentProvider.facts value in
     let all = has_all f (c.are_supplied_by.ensures.there value ∙ c.if-not-are_supplied_by.false) in
@@ -35,8 +26,16 @@ returns-in-Ok-clause-spelled g c =
     let hours = any_hour 1900 (the_date f).year (unsigned_abs (the_offset f).hours)
     (unsigned_abs (the_offset f).seconds) text c.accepted_fields.ensures.offset.0.0 in
     let completed = outcome_of_all f all rfc2822_of_groups ∙ sym hours ∙ c.in-Ok.ensures.accepted text in
-    reads_as rfc2822_of_groups (completed_are_canonical rfc2822_is_written) f all c.in-Ok.ensures.real
-    (ap (λ (o : Outcome). o.refusal) completed)
+    record {
+      appends = rw completed (appends_up_to (written_as (rfc2822_of_fields (the_date f).weekday) c.in-Ok.ensures.fields
+          (written_as (λ (weekday : ℕ). rfc2822_of_fields weekday (shown c.in-Ok.fields))
+          c.weekday-weekday.ensures.value c.append.ensures.writes)));
+      spelled = reads_as rfc2822_of_groups (completed_are_canonical rfc2822_is_written) f all c.in-Ok.ensures.real
+          (ap (λ (o : Outcome). o.refusal) completed);
+      within = omega arith;
+      text = λ _. rfc2822_utf8 f;
+      agrees = search rules;
+    }
 
 pub returns-in-Err-clause-appends : goal.returns-in-Err-clause-appends
 returns-in-Err-clause-appends g c =
@@ -48,3 +47,6 @@ returns-in-Err-clause-appends g c =
     (unsigned_abs (the_offset f).seconds) text c.accepted_fields.ensures.offset.0.0 in
     rw (outcome_of_all f all rfc2822_of_groups ∙ sym hours ∙ c.in-Err.ensures.refused text)
     (appends_nothing _ _ _ c.name.ensures)
+
+pub returns-in-Err-clause-text : goal.returns-in-Err-clause-text
+returns-in-Err-clause-text g c = λ _. rfc2822_utf8 (g.V.ComponentProvider.facts c.args.value.now)
