@@ -1,7 +1,8 @@
 #!/usr/bin/env python3
-"""Runs `rt ci` with N jobs for each proof that other proofs wait for: ci_by_jobs.py N.
+"""Runs `rt ci` with N jobs for each proof that other proofs wait for, and half of them for the longest of the tests:
+ci_by_jobs.py N.
 
-These proofs are a chain, beside which processors idle. What is proved, and how it is judged, is as by `rt ci`. The proof
+These proofs are a chain, beside which processors idle, and these tests would end last. What is proved, and how it is judged, is as by `rt ci`. The proof
 of a static library leaves its record in out/checked, by which `rattle build` makes the archive with no second proof.
 """
 import importlib.machinery
@@ -18,10 +19,12 @@ in_lanes, ci = rt.in_lanes, rt.Crate.ci
 
 
 def in_lanes_by_jobs(tasks):
-    awaited = {below for (_, kind), (waits, *_) in tasks.items() if kind == "proof" for below in waits}
-    for key in awaited:
+    number = int(sys.argv[1])
+    wanted = {below: number for (_, kind), (waits, *_) in tasks.items() if kind == "proof" for below in waits}
+    longest = max((key for key in tasks if key[1] == "tests"), key=lambda key: tasks[key][1])
+    for key, least in [*wanted.items(), (longest, (number + 1) // 2)]:
         waits, lines, needs, call = tasks[key]
-        tasks[key] = waits, lines, needs, lambda given, jobs, call=call: call(given, max(jobs, int(sys.argv[1])))
+        tasks[key] = waits, lines, needs, lambda given, jobs, call=call, least=least: call(given, max(jobs, least))
     return in_lanes(tasks)
 
 
