@@ -2,8 +2,9 @@
 """Runs `rt ci` with N jobs for each proof that other proofs wait for, and half of them for the longest of the tests:
 ci_by_jobs.py N.
 
-These proofs are a chain, beside which processors idle, and these tests would end last. What is proved, and how it is judged, is as by `rt ci`. The proof
-of a static library leaves its record in out/checked, by which `rattle build` makes the archive with no second proof.
+These proofs are a chain, beside which processors idle, and these tests would end last. What is proved, and how it is
+judged, is as by `rt ci`. The proof of a static library leaves its record in out/checked, by which `rattle build` makes
+the archive with no second proof.
 """
 import importlib.machinery
 import importlib.util

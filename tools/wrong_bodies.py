@@ -14,7 +14,6 @@ import shutil
 import sys
 import tempfile
 import threading
-import time
 
 sys.dont_write_bytecode = True  # before the import, which would write it
 from edits import Edit, groups_of, joined, rt
@@ -22,14 +21,11 @@ from edits import Edit, groups_of, joined, rt
 LINE = re.compile(r"^(?:fn|impl) (\S+): (.*)$", re.M)
 CYCLE = re.compile(r"#\[cycle\((\w+)\)\]\n(?:\s*#\[.*\n)*\s*(?:pub\S* )?fn (\w+)")
 ITSELF = re.compile(r"not proved\b|no proof: (?!it calls|it passes|a call of)")
-LARGEST = 4_500_000_000  # bytes, the most that a check of these crates was seen to take
 
 
 def refused(crate, functions, texts, kept, given):
     """Checks these functions, and returns those that are refused for a reason of their own, or why the check decides nothing."""
     with given.lanes, tempfile.TemporaryDirectory(prefix="wrong-") as room:
-        while rt.free() < LARGEST and not said_by(given.log)[1]:
-            time.sleep(2)
         if texts:
             kept = shutil.copytree(kept, f"{room}/kept", copy_function=os.link)  # the prover replaces a file as a whole
         only = [word for it in sorted(functions) for word in ("--only", it)]
@@ -61,12 +57,6 @@ def tried(crate, group, kept, given):
     return [(is_well, f"{it.label}: {why or f'{where} ' + ', '.join(sorted(it.functions))}") for it in group]
 
 
-def said_by(log):
-    """Returns the crates that `rt ci` has proved by its log, and whether it has ended."""
-    said = rt.rtlib.text_of(log) or "" if log else "0 passed, 0 failed\n"
-    return {*re.findall(r"^rt: (\w+) (?:proved$|is kept:)", said, re.M)}, bool(re.search(r"^\d+ passed, \d+ failed$", said, re.M))
-
-
 def tried_all(crate, given):
     """Returns for each edit of a crate whether it is refused in the functions that it names, and what to say."""
     good, bad = rt.edits_of(argparse.Namespace(folder=f"{given.edits}/crates/{crate.name}"))
@@ -74,8 +64,6 @@ def tried_all(crate, given):
     told = [(False, f"must-fail {crate.name}/{os.path.basename(it)}: BAD EDIT: its name, or where it stands") for it in bad]
     told += [(False, f"{it.label}: BAD EDIT: {it.why}") for it in edits if it.why]
     edits = [it for it in edits if not it.why]
-    while edits and not said_by(given.log)[1] and crate.name not in said_by(given.log)[0]:
-        time.sleep(1)
     with tempfile.TemporaryDirectory(prefix="kept-") as kept, concurrent.futures.ThreadPoolExecutor() as pool:
         if os.path.isdir(f"{crate.folder}/out/incremental"):
             shutil.copytree(f"{crate.folder}/out/incremental", kept, dirs_exist_ok=True)
@@ -88,7 +76,6 @@ def tried_all(crate, given):
 def main():
     words = argparse.ArgumentParser(description="At the top of a repository whose libraries stand in crates/*/out:")
     words.add_argument("--edits", default=".", help="the top of the repository that has must-fail/, where it is another")
-    words.add_argument("--log", help="the log of the `rt ci` that proves the libraries now")
     words.add_argument("--lanes", type=lambda it: threading.BoundedSemaphore(int(it)), default="1", help="how many checks run side by side")
     words.add_argument("crates", nargs="*")
     given = words.parse_args()
