@@ -16,7 +16,7 @@ use Rattle.time_fmt.specs.Outcome.{Appends, Names}
 use Rattle.time_fmt.specs.Room.{HasRoom}
 use Rattle.time_fmt.specs.declared.error.Format.{Format}
 use Rattle.time_fmt.proofs.Engine.{Along, written_along, stops_along}
-use Rattle.time_fmt.proofs.GuaranteeLemmas.{ends_complete}
+use Rattle.time_fmt.proofs.EndLemmas.{ends_complete}
 use Rattle.time_fmt.proofs.WriteLemmas.{some_of}
 
 -- ---- lists of which each member is there, or not

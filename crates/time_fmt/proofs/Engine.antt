@@ -1,6 +1,6 @@
 -- Nodes one after another: what is written so far, and then the outcome of what is left, is the outcome of all.
-use Rattle.std.proofs.Common.{◌≡◌, refl, ap, sym, ◌∙◌, arith, ℕ, ◌+◌, ◌-◌, ◌≤◌, ◌++◌, List, [], ◌∷◌, map, drop, length}
-use Rattle.std.proofs.Common.{append_assoc, length-append, subst, Some, Option, Result, Ok, Err, IsSomeAnd}
+use Rattle.std.proofs.Common.{◌≡◌, refl, ap, sym, ◌∙◌, arith, ℕ, ◌+◌, ◌≤◌, ◌++◌, List, [], ◌∷◌, map, drop, length}
+use Rattle.std.proofs.Common.{append_assoc, length-append, subst, Some, Result, Ok, Err}
 use Rattle.std.proofs.Common.{vec_len, vec_capacity, Vec}
 use Rattle.std.specs.Global.{Global}
 use Rattle.std.specs.Prelude.{slice_get}
@@ -8,39 +8,14 @@ use Rattle.std.proofs.lemmas.List.{append-nil, at_drop_all}
 use Rattle.time_below.specs.Facts.{Facts}
 use Rattle.time_below.specs.Tree.{Tree, Trees, trees, all_of, first_of, end, more}
 use Rattle.time_below.specs.Width.{tree_width, trees_width, are_guaranteed_text}
-use Rattle.time_fmt.specs.declared.error.Format.{Format}
 use Rattle.time_fmt.specs.declared.refused.Refused.{Refused}
 use Rattle.time_fmt.specs.Description.{tree_outcome, trees_outcome}
-use Rattle.time_fmt.specs.Ends.{Ends, refusal_of}
+use Rattle.time_fmt.specs.Ends.{refusal_of}
 use Rattle.time_fmt.specs.Guarantee.{IsTextIf, AppendsTree}
-use Rattle.time_fmt.specs.Outcome.{Outcome, Refusal, Names, Appends}
+use Rattle.time_fmt.specs.Outcome.{Outcome, Refusal}
 use Rattle.time_fmt.specs.Room.{HasRoom}
 use Rattle.time_fmt.proofs.WriteLemmas.{join_refused, join_done}
 use Rattle.time_fmt.proofs.GuaranteeLemmas.{text_more, text_stops, empty_utf8}
-
--- a text without a refusal is answered by its number of bytes
-pub complete : {width : ℕ} {o : Outcome} {u : Unit} (old new : Vec ℕ Global)
-    → Ends width old new (Ok u) o → Appends old new (Ok (vec_len new - vec_len old)) o
-complete old new ends = record {
-  appended = ends.appended;
-  counted = (sym ends.refusal, omega (arith, ends.grown));
-  named = tt;
-  grown = ends.grown;
-  capacity = ends.capacity;
-}
-
--- one with a refusal by the error of that name
-pub stopped : {width : ℕ} {o : Outcome} {reason : Refused} (error : Format) (old new : Vec ℕ Global)
-    → Ends width old new (Err reason) o → Names error (refusal_of reason) → Appends old new (Err error) o
-stopped error old new ends names = record {
-  appended = ends.appended;
-  counted = tt;
-  named = subst (λ (r : Option Refusal). IsSomeAnd r (Names error)) ends.refusal names;
-  grown = ends.grown;
-  capacity = ends.capacity;
-}
-
-pub ruleset answered = (complete, stopped)
 
 -- a list was written so far without a refusal: its rest is the rest of the outcome, and fits the capacity
 pub record Along (agrees : Type 0) (old now : Vec ℕ Global) (f : Facts) (all left : Trees) (all_size left_size : ℕ)

@@ -1,12 +1,11 @@
 -- Texts of components are ASCII, and texts one after another are UTF-8 where each of them is.
 use Rattle.std.proofs.Common.{◌≡◌, ℕ, ◌+◌, ◌-◌, ◌<◌, ◌≤◌, Bool, true, false, ◌&&◌, nat_lt, List, [], ◌∷◌, length}
-use Rattle.std.proofs.Common.{IsAscii, IsUtf8, IsTrue, MatchOption, Option, Some, None, if◌then◌else◌, refl, sym, arith, Result, Ok}
-use Rattle.std.proofs.Common.{Vec, vec_len, Err, IsSome}
+use Rattle.std.proofs.Common.{IsAscii, IsUtf8, IsTrue, MatchOption, Option, Some, None, if◌then◌else◌, refl, arith, Result, Ok}
+use Rattle.std.proofs.Common.{Vec, vec_len}
 use Rattle.std.specs.Global.{Global}
 use Rattle.std.specs.Prelude.{codes, nat_le}
 use Rattle.std.specs.List.{list_all}
 use Rattle.std.proofs.lemmas.Bool.{and_parts, ltb-true}
-use Rattle.std.proofs.lemmas.List.{append-nil}
 use Rattle.std.proofs.lemmas.List.Elements.{All-weaker}
 use Rattle.std.proofs.lemmas.List.Sums.{AllPass-from_list_all}
 use Rattle.std.proofs.lemmas.Str.{IsAscii-append, IsAscii-take, IsUtf8-append, IsUtf8-from_ascii}
@@ -31,16 +30,14 @@ use Rattle.time_digits.proofs.LengthLemmas.{IsAscii-padded, IsAscii-number}
 use Rattle.time_fmt.specs.DateText.{month_names, month_name, weekday_names, weekday_name, indexed}
 use Rattle.time_fmt.specs.Description.{has_group, kind_of, supplied_outcome, current_outcome, component_outcome}
 use Rattle.time_fmt.specs.Description.{tree_outcome, trees_outcome}
-use Rattle.time_fmt.specs.Ends.{Ends, refusal_of}
 use Rattle.time_fmt.specs.Guarantee.{IsTextIf, AppendsLeaf}
 use Rattle.time_fmt.specs.Kind as kind
 use Rattle.time_fmt.specs.Kind.{Kind, kind_text, kind_outcome}
 use Rattle.time_fmt.specs.Outcome.{Outcome, AppendsIf, AppendsUpTo, Adds, done, refused, join, insufficient, out_of_range}
 use Rattle.time_fmt.specs.Text.{padded_text, sign_text, period_text, subsecond_text}
 use Rattle.time_fmt.specs.declared.error.Format.{Format}
-use Rattle.time_fmt.specs.declared.refused.Refused.{Refused}
-use Rattle.time_fmt.specs.declared.refused.Refused.TheVariants as reason
 use Rattle.time_fmt.proofs.ConversionLemmas.{current_is_kept}
+use Rattle.time_fmt.proofs.EndLemmas.{ends_complete}
 use Rattle.time_fmt.proofs.TextLemmas.{passes_at}
 use Rattle.time_fmt.proofs.WriteLemmas.{added_alone, written_if, unwritten_if}
 
@@ -131,50 +128,6 @@ empty_utf8 = IsUtf8-from_ascii [] IsAscii-nil
 -- a component has a text
 pub text_of_component : (c : Component) (f : Facts) → IsUtf8 (component_outcome c f).bytes
 text_of_component c f = IsUtf8-from_ascii (component_outcome c f).bytes (ascii_current (current_component c) f)
-
--- what is appended without a refusal ends complete
-pub ends_complete : {width count : ℕ} {o : Outcome} {old new : Vec ℕ Global} → AppendsUpTo width old new (Ok count) o
-    → Ends width old new (Ok tt) o
-ends_complete up_to = record {
-  appended = up_to.appends.appended;
-  refusal = sym up_to.appends.counted.0;
-  grown = up_to.appends.grown;
-  capacity = up_to.appends.capacity;
-  within = up_to.within;
-}
-
--- what is refused before any byte ends so
-ends_refused : {width : ℕ} {o : Outcome} {old new : Vec ℕ Global} (r : Refused) → new ≡ old
-    → o ≡ refused (refusal_of r) → Ends width old new (Err r) o
-ends_refused {old = old} r same is = rw (same, is) (record {
-  appended = sym (append-nil old.items);
-  refusal = refl;
-  grown = omega arith;
-  capacity = refl;
-  within = omega arith;
-})
-
--- a kind that is refused is refused as a year
-refused_kind : (k : Kind) → IsSome (kind_outcome k).refusal → kind_outcome k ≡ refused (refusal_of reason.YearOutOfRange)
-refused_kind (kind.limited greatest n k) h =
-    let year = refused (refusal_of reason.YearOutOfRange) in
-    let o : Bool → Outcome = λ b. if b then done (kind_text k) else year in
-    elim (nat_le n greatest) as (λ b. IsSome (o b).refusal → o b ≡ year)
-    [ true ↦ λ none. let never : ⊥ = cc in absurd never | false ↦ λ _. refl ] h
-refused_kind k h = let never : ⊥ = cc in absurd never
-
--- a component that is refused, of a value that supplies its group
-pub ends_out_of_range : {width : ℕ} {old new : Vec ℕ Global} (c : Component) (f : Facts)
-    → true ≡ has_group (group_of (current_component c)) f → (new ≡ old) × IsSome (component_outcome c f).refusal
-    → Ends width old new (Err reason.YearOutOfRange) (component_outcome c f)
-ends_out_of_range c f has nothing =
-    ends_refused reason.YearOutOfRange nothing.0 (rw (← has) (refused_kind (kind_of (current_component c) f) (rw (← has) at nothing.1)))
-
--- one whose group the value does not supply
-pub ends_unsupplied : {width : ℕ} {old new : Vec ℕ Global} (c : Component) (f : Facts)
-    → false ≡ has_group (group_of (current_component c)) f → new ≡ old
-    → Ends width old new (Err reason.Unsupplied) (component_outcome c f)
-ends_unsupplied c f has same = ends_refused reason.Unsupplied same (rw (← has) refl)
 
 -- a component that was written is that of its tree
 pub leaf_of_written : (written : Option ℕ) (c : Component) (f : Facts) (old new : Vec ℕ Global)

@@ -131,13 +131,6 @@ pub beyond_range : {width : ℕ} (greatest n : ℕ) (text : List ℕ) (output : 
 beyond_range greatest n text output e never named =
     let not : nat_le n greatest ≡ false = grind (arith, never) in rw not (nothing_of output e _ named)
 
--- what is written within a smaller width, or is refused
-pub within_greater : {greatest width : ℕ} (o : Outcome) (written : Option ℕ) (old new : Vec ℕ Global)
-    → AppendsUnlessRefused width old new written o → width ≤ greatest → AppendsUnlessRefused greatest old new written o
-within_greater o None old new refused fits = refused
-within_greater o (Some n) old new up_to fits =
-    record { appends = up_to.appends; within = omega (arith, up_to.within, fits) }
-
 -- what is written under a condition, and what is not
 pub written_if : {width n : ℕ} (b : Bool) (o : Outcome) (old new : Vec ℕ Global) → AppendsIf b width old new (Some n) o
     → IsTrue b × AppendsUpTo width old new (Ok n) o

@@ -8,7 +8,7 @@ ghost use Rattle.time_fmt.specs.Outcome.{Appends, AppendsIf, AppendsUpTo, Append
 ghost use Rattle.time_fmt.specs.Room.{HasRoom};
 
 use crate::error::Format;
-use crate::modifier::{Modifier, supplies};
+use crate::modifier::{Modifier, is_supplied, supplies};
 use crate::refused::Refused;
 use time_below::format_description::Component;
 use time_provide::ComponentProvider;
@@ -45,27 +45,6 @@ pub(crate) fn write_often<V: ComponentProvider>(
         Component::OffsetHour(part) => write_here(part, output, value, state),
         Component::OffsetMinute(part) => write_here(part, output, value, state),
         _ => None,
-    }
-}
-
-// Appends the text of a component, and returns the number of bytes. If it is refused, writes nothing and
-// returns `None`.
-#[inline(always)]
-fn write_component<V: ComponentProvider>(
-    component: Component,
-    output: &mut Vec<u8>,
-    value: &V,
-    state: &mut V::State,
-) -> Option<usize>
-    requires room { HasRoom output.old (component_width component) }
-    requires agrees { V.agrees state.old value.now }
-    ensures appends { AppendsUnlessRefused (component_width component) output.old output.new result
-        (component_outcome component (V.facts value.now)) }
-    ensures agrees { V.agrees state.new value.now }
-{
-    match write_current(component, output, value, state) {
-        Some(count) => Some(count),
-        None => write_deprecated(&component, output, value, state),
     }
 }
 
@@ -128,24 +107,6 @@ pub(crate) fn write_current<V: ComponentProvider>(
     }
 }
 
-// Writes a deprecated component as the current one in its place, by a call.
-#[inline(never)]
-fn write_deprecated<V: ComponentProvider>(
-    component: &Component,
-    output: &mut Vec<u8>,
-    value: &V,
-    state: &mut V::State,
-) -> Option<usize>
-    requires room { HasRoom output.old (component_width component.now) }
-    requires agrees { V.agrees state.old value.now }
-    ensures appends { AppendsUnlessRefused (component_width component.now) output.old output.new
-        result (component_outcome component.now (V.facts value.now)) }
-    ensures agrees { V.agrees state.new value.now }
-{
-    let current = component.current();
-    write_current(current, output, value, state)
-}
-
 // Writes a component that is seldom met, by a call.
 #[inline(never)]
 fn write_rare<M: Modifier, V: ComponentProvider>(
@@ -177,7 +138,7 @@ fn write_here<M: Modifier, V: ComponentProvider>(
         output.old output.new result (component_outcome (M.component_of part) (V.facts value.now)) }
     ensures agrees { V.agrees state.new value.now }
 {
-    if !supplies::<V>(M::GROUP) {
+    if !is_supplied::<M, V>(part) {
         return None;
     }
     match part.write_supplied(output, value, state) {
@@ -186,7 +147,8 @@ fn write_here<M: Modifier, V: ComponentProvider>(
     }
 }
 
-/// Appends the text of any component. If it is refused, writes nothing and returns the refusal.
+/// Appends the text of any component, of a deprecated one that of the current one in its place. If it is
+/// refused, writes nothing and returns the refusal.
 #[inline]
 pub(crate) fn end_component<V: ComponentProvider>(
     component: Component,
@@ -200,9 +162,10 @@ pub(crate) fn end_component<V: ComponentProvider>(
         (component_outcome component (V.facts value.now)) }
     ensures agrees { V.agrees state.new value.now }
 {
-    match write_component(component, output, value, state) {
+    let current = component.current();
+    match write_current(current, output, value, state) {
         Some(_) => Ok(()),
-        None if supplies::<V>(component.current().group()) => Err(Refused::YearOutOfRange),
+        None if supplies::<V>(current.group()) => Err(Refused::YearOutOfRange),
         None => Err(Refused::Unsupplied),
     }
 }
@@ -213,7 +176,7 @@ pub(crate) fn end_component<V: ComponentProvider>(
 /// A deprecated component has the text of the current one. Returns the number of bytes appended, or
 /// the refusal of the component, which has no bytes.
 #[inline]
-#[tactic(auto, using(crate::proofs::Engine::answered, crate::proofs::GuaranteeLemmas::text_of_component))]
+#[tactic(auto, using(crate::proofs::EndLemmas::answered))]
 pub fn component_write_into<V: ComponentProvider>(
     component: &Component,
     output: &mut Vec<u8>,

@@ -1,11 +1,11 @@
 //! The choices of one component: what it is, how wide it is and how it is written, in one place.
-ghost use Rattle.std.specs.Prelude.{◌≡◌, IsTrue, if◌then◌else◌};
+ghost use Rattle.std.specs.Prelude.{◌≡◌, IsTrue};
+ghost use Rattle.time_below.specs.Conversion.{is_current};
 ghost use Rattle.time_below.specs.declared.format_description.component.Component.{Component};
-ghost use Rattle.time_below.specs.declared.format_description.component.Group.{Group};
-ghost use Rattle.time_below.specs.Facts.{Facts};
+ghost use Rattle.time_below.specs.Group.{group_of};
 ghost use Rattle.time_below.specs.Width.{component_width};
-ghost use Rattle.time_fmt.specs.Description.{component_outcome, supplied_outcome, has_group, is_supplied};
-ghost use Rattle.time_fmt.specs.Outcome.{AppendsWhole, refused, insufficient};
+ghost use Rattle.time_fmt.specs.Description.{supplied_outcome, has_group, is_supplied};
+ghost use Rattle.time_fmt.specs.Outcome.{AppendsWhole};
 ghost use Rattle.time_fmt.specs.Room.{HasRoom};
 
 use crate::error::Format;
@@ -21,14 +21,11 @@ pub trait Modifier: Copy {
     /// The component with these choices.
     ghost component_of: { Self → Component };
 
-    ghost GROUP: { Group };
-
-    /// The part of a value that the component is taken from.
-    const GROUP: Group;
-
-    /// The most bytes of its text, over all values.
-    fn width(self) -> usize
-        ensures { result ≡ component_width (component_of self) };
+    /// The part of a value that the component is taken from, and the most bytes of its text, over all
+    /// values.
+    fn group_and_width(self) -> (Group, usize)
+        ensures group { result.0 ≡ group_of (component_of self) }
+        ensures width { result.1 ≡ component_width (component_of self) };
 
     /// Appends its text, of a value that supplies its group. The output needs spare capacity for
     /// its width. Allocates nothing.
@@ -41,7 +38,7 @@ pub trait Modifier: Copy {
         state: &mut V::State,
     ) -> Result<usize, Format>
         requires supplied { IsTrue (is_supplied V.SUPPLIES_DATE V.SUPPLIES_TIME
-            V.SUPPLIES_OFFSET V.SUPPLIES_TIMESTAMP GROUP) }
+            V.SUPPLIES_OFFSET V.SUPPLIES_TIMESTAMP (group_of (component_of self))) }
         requires room { HasRoom output.old (component_width (component_of self)) }
         requires agrees { V.agrees state.old value.now }
         ensures appends { AppendsWhole (component_width (component_of self))
@@ -49,14 +46,24 @@ pub trait Modifier: Copy {
             (supplied_outcome (component_of self) (V.facts value.now)) }
         ensures agrees { V.agrees state.new value.now };
 
-    // The component is of its group, and is not deprecated.
-    ghost grouped: { (part : Self) (f : Facts) → component_outcome (component_of part) f
-        ≡ (if has_group GROUP f then supplied_outcome (component_of part) f
-        else refused insufficient) };
+    // The component is not deprecated.
+    ghost current: { (part : Self) → IsTrue (is_current (component_of part)) };
 }
 
-// Whether the values of a type supply a group. No more than `inline`: with `inline(always)` a text of
-// 16 parts that is used in four places was no longer part of its callers.
+/// Whether the values of a type supply the group of a component. No more than `inline`: what becomes part
+/// of a large text is counted before anything is folded.
+#[inline]
+pub(crate) fn is_supplied<M: Modifier, V: ComponentProvider>(part: M) -> bool
+    ensures supplied { result ≡ is_supplied V.SUPPLIES_DATE V.SUPPLIES_TIME
+        V.SUPPLIES_OFFSET V.SUPPLIES_TIMESTAMP (group_of (M.component_of part)) }
+    ensures values { (value : V) → result
+        ≡ has_group (group_of (M.component_of part)) (V.facts value) }
+{
+    let (group, _) = part.group_and_width();
+    supplies::<V>(group)
+}
+
+/// Whether the values of a type supply a group.
 #[inline]
 pub(crate) fn supplies<V: ComponentProvider>(group: Group) -> bool
     ensures supplied { result ≡ is_supplied V.SUPPLIES_DATE V.SUPPLIES_TIME

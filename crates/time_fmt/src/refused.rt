@@ -1,4 +1,4 @@
-//! Why a text of the engine ends before its end.
+//! The refusals of the engine.
 ghost use Rattle.time_fmt.specs.Ends.{refusal_of};
 ghost use Rattle.time_fmt.specs.Outcome.{Names};
 

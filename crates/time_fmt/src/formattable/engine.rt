@@ -52,7 +52,6 @@ pub(super) fn write_nodes<T: Node, V: ComponentProvider>(
 /// Writes a literal, or a component that is met often, and returns the number of bytes. Of any other
 /// node it writes nothing, and returns `None`. It becomes part of the loop over a list.
 #[inline(always)]
-#[tactic(auto, using(crate::proofs::GuaranteeLemmas::leaf_of_written))]
 fn write_leaf<T: Node, V: ComponentProvider>(
     node: &T,
     output: &mut Vec<u8>,
@@ -76,7 +75,6 @@ fn write_leaf<T: Node, V: ComponentProvider>(
 /// Writes a component that is neither deprecated nor refused, and returns the number of bytes. Of any
 /// other node it writes nothing, and returns `None`.
 #[inline(always)]
-#[tactic(auto, using(crate::proofs::GuaranteeLemmas::leaf_of_current))]
 fn write_seldom<T: Node, V: ComponentProvider>(
     node: &T,
     output: &mut Vec<u8>,

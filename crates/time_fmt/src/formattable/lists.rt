@@ -1,5 +1,5 @@
 //! Lists of items, which mean what a compound of the same items means.
-#![tactic(auto, using(crate::proofs::Engine::answered))]
+#![tactic(auto, using(crate::proofs::EndLemmas::answered))]
 
 ghost use Rattle.std.specs.Prelude.{map};
 ghost use Rattle.time_below.specs.Tree.{borrowed_tree, owned_tree, trees};

@@ -10,7 +10,7 @@ ghost use Rattle.time_fmt.specs.Outcome.{done, join};
 use crate::error::Format;
 use crate::formattable::{Formattable, make_room};
 use crate::metadata::ComputeMetadata;
-use crate::modifier::{Modifier, supplies};
+use crate::modifier::{Modifier, is_supplied};
 use crate::writers::{put_back, take_out, write_each};
 use time_below::format_description::Metadata;
 use time_provide::ComponentProvider;
@@ -116,7 +116,7 @@ impl<M: Modifier> ComputeMetadata for M {
     #[inline(always)]
     fn compute_metadata(&self) -> Metadata {
         Metadata {
-            max_bytes_needed: self.width(),
+            max_bytes_needed: self.group_and_width().1,
             guaranteed_utf8: true,
         }
     }
@@ -126,14 +126,13 @@ impl<M: Modifier> Formattable for M {
     ghost outcome_of = { λ part. component_outcome (M.component_of part) };
 
     #[inline(always)]
-    #[tactic(auto, using(crate::proofs::GuaranteeLemmas::text_of_component))]
     fn write_into<V: ComponentProvider>(
         &self,
         output: &mut Vec<u8>,
         value: &V,
         state: &mut V::State,
     ) -> Result<usize, Format> {
-        if !supplies::<V>(M::GROUP) {
+        if !is_supplied::<M, V>(*self) {
             return Err(Format::InsufficientTypeInformation);
         }
         self.write_supplied(output, value, state)

@@ -1,5 +1,5 @@
 //! Trees of each kind.
-#![tactic(auto, using(crate::proofs::Engine::answered))]
+#![tactic(auto, using(crate::proofs::EndLemmas::answered))]
 
 ghost use Rattle.std.specs.Prelude.{◌+◌, ◌≤◌, vec_len};
 ghost use Rattle.time_below.specs.Tree.{borrowed_tree, owned_tree, v3_tree};

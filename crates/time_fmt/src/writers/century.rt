@@ -5,7 +5,6 @@
 
 ghost use Rattle.std.specs.Prelude.{◌≡◌, ◌%◌, int_lt, length, pos, refl, unsigned_abs};
 ghost use Rattle.time_below.specs.declared.format_description.component.Component.TheVariants as component;
-ghost use Rattle.time_below.specs.declared.format_description.component.Group.TheVariants as group;
 ghost use Rattle.time_fmt.specs.Kind.{kind_text, kind_outcome, extended_century, standard_century, century_of};
 ghost use Rattle.time_fmt.specs.Outcome.{AppendsWhole};
 ghost use Rattle.time_fmt.specs.Room.{HasRoom, Writes};
@@ -45,13 +44,9 @@ pub fn fmt_calendar_year_century_extended_range(
 impl Modifier for modifier::CalendarYearCenturyExtendedRange {
     ghost component_of = { component.CalendarYearCenturyExtendedRange };
 
-    ghost GROUP = { group.Date };
-
-    const GROUP: Group = Group::Date;
-
-    #[inline(always)]
-    fn width(self) -> usize {
-        5
+    #[inline]
+    fn group_and_width(self) -> (Group, usize) {
+        (Group::Date, 5)
     }
 
     #[inline(always)]
@@ -65,7 +60,7 @@ impl Modifier for modifier::CalendarYearCenturyExtendedRange {
         Ok(write_any_century(output, year, self.padding, self.sign_is_mandatory))
     }
 
-    ghost grouped = { λ _ _. refl };
+    ghost current = { λ _. refl };
 }
 
 /// Appends the year's sign and two places of its century.
@@ -90,13 +85,9 @@ pub fn fmt_calendar_year_century_standard_range(
 impl Modifier for modifier::CalendarYearCenturyStandardRange {
     ghost component_of = { component.CalendarYearCenturyStandardRange };
 
-    ghost GROUP = { group.Date };
-
-    const GROUP: Group = Group::Date;
-
-    #[inline(always)]
-    fn width(self) -> usize {
-        3
+    #[inline]
+    fn group_and_width(self) -> (Group, usize) {
+        (Group::Date, 3)
     }
 
     #[inline(always)]
@@ -110,7 +101,7 @@ impl Modifier for modifier::CalendarYearCenturyStandardRange {
         write_accepted_century(output, year, self.padding, self.sign_is_mandatory)
     }
 
-    ghost grouped = { λ _ _. refl };
+    ghost current = { λ _. refl };
 }
 
 /// Appends the sign and two places of the century of the week calendar's year, or all its digits
@@ -136,13 +127,9 @@ pub fn fmt_iso_year_century_extended_range(
 impl Modifier for modifier::IsoYearCenturyExtendedRange {
     ghost component_of = { component.IsoYearCenturyExtendedRange };
 
-    ghost GROUP = { group.Date };
-
-    const GROUP: Group = Group::Date;
-
-    #[inline(always)]
-    fn width(self) -> usize {
-        5
+    #[inline]
+    fn group_and_width(self) -> (Group, usize) {
+        (Group::Date, 5)
     }
 
     #[inline(always)]
@@ -156,7 +143,7 @@ impl Modifier for modifier::IsoYearCenturyExtendedRange {
         Ok(write_any_century(output, year, self.padding, self.sign_is_mandatory))
     }
 
-    ghost grouped = { λ _ _. refl };
+    ghost current = { λ _. refl };
 }
 
 /// Appends the sign and two places of the century of the week calendar's year. The sign is that of
@@ -182,13 +169,9 @@ pub fn fmt_iso_year_century_standard_range(
 impl Modifier for modifier::IsoYearCenturyStandardRange {
     ghost component_of = { component.IsoYearCenturyStandardRange };
 
-    ghost GROUP = { group.Date };
-
-    const GROUP: Group = Group::Date;
-
-    #[inline(always)]
-    fn width(self) -> usize {
-        3
+    #[inline]
+    fn group_and_width(self) -> (Group, usize) {
+        (Group::Date, 3)
     }
 
     #[inline(always)]
@@ -202,7 +185,7 @@ impl Modifier for modifier::IsoYearCenturyStandardRange {
         write_accepted_century(output, year, self.padding, self.sign_is_mandatory)
     }
 
-    ghost grouped = { λ _ _. refl };
+    ghost current = { λ _. refl };
 }
 
 /// Appends the last two digits of the year, 0 to 99, in two places.
@@ -221,13 +204,9 @@ pub fn fmt_calendar_year_last_two(
 impl Modifier for modifier::CalendarYearLastTwo {
     ghost component_of = { component.CalendarYearLastTwo };
 
-    ghost GROUP = { group.Date };
-
-    const GROUP: Group = Group::Date;
-
-    #[inline(always)]
-    fn width(self) -> usize {
-        2
+    #[inline]
+    fn group_and_width(self) -> (Group, usize) {
+        (Group::Date, 2)
     }
 
     #[inline(always)]
@@ -240,7 +219,7 @@ impl Modifier for modifier::CalendarYearLastTwo {
         Ok(fmt_calendar_year_last_two(output, last_two(value.calendar_year(state)), self))
     }
 
-    ghost grouped = { λ _ _. refl };
+    ghost current = { λ _. refl };
 }
 
 /// Appends the last two digits of the week calendar's year, 0 to 99, in two places.
@@ -259,13 +238,9 @@ pub fn fmt_iso_year_last_two(
 impl Modifier for modifier::IsoYearLastTwo {
     ghost component_of = { component.IsoYearLastTwo };
 
-    ghost GROUP = { group.Date };
-
-    const GROUP: Group = Group::Date;
-
-    #[inline(always)]
-    fn width(self) -> usize {
-        2
+    #[inline]
+    fn group_and_width(self) -> (Group, usize) {
+        (Group::Date, 2)
     }
 
     #[inline(always)]
@@ -278,7 +253,7 @@ impl Modifier for modifier::IsoYearLastTwo {
         Ok(fmt_iso_year_last_two(output, last_two(value.iso_year(state)), self))
     }
 
-    ghost grouped = { λ _ _. refl };
+    ghost current = { λ _. refl };
 }
 
 fn write_extended_century(

@@ -3,7 +3,6 @@
 
 ghost use Rattle.std.specs.Prelude.{◌≡◌, ◌≤◌, length, refl};
 ghost use Rattle.time_below.specs.declared.format_description.component.Component.TheVariants as component;
-ghost use Rattle.time_below.specs.declared.format_description.component.Group.TheVariants as group;
 ghost use Rattle.time_below.specs.Month.{month_number};
 ghost use Rattle.time_fmt.specs.DateText.{month_name, short_name};
 ghost use Rattle.time_fmt.specs.Room.{HasRoom, Writes};
@@ -31,13 +30,9 @@ pub fn fmt_day(output: &mut Vec<u8>, day: Day, modifier: modifier::Day) -> usize
 impl Modifier for modifier::Day {
     ghost component_of = { component.Day };
 
-    ghost GROUP = { group.Date };
-
-    const GROUP: Group = Group::Date;
-
-    #[inline(always)]
-    fn width(self) -> usize {
-        2
+    #[inline]
+    fn group_and_width(self) -> (Group, usize) {
+        (Group::Date, 2)
     }
 
     #[inline(always)]
@@ -50,7 +45,7 @@ impl Modifier for modifier::Day {
         Ok(fmt_day(output, value.day(state), self))
     }
 
-    ghost grouped = { λ _ _. refl };
+    ghost current = { λ _. refl };
 }
 
 /// Appends the first three letters of the month's English name.
@@ -67,13 +62,9 @@ pub fn fmt_month_short(output: &mut Vec<u8>, month: Month, modifier: modifier::M
 impl Modifier for modifier::MonthShort {
     ghost component_of = { component.MonthShort };
 
-    ghost GROUP = { group.Date };
-
-    const GROUP: Group = Group::Date;
-
-    #[inline(always)]
-    fn width(self) -> usize {
-        3
+    #[inline]
+    fn group_and_width(self) -> (Group, usize) {
+        (Group::Date, 3)
     }
 
     #[inline(always)]
@@ -86,7 +77,7 @@ impl Modifier for modifier::MonthShort {
         Ok(fmt_month_short(output, value.month(state), self))
     }
 
-    ghost grouped = { λ _ _. refl };
+    ghost current = { λ _. refl };
 }
 
 /// Appends the month's English name.
@@ -118,13 +109,9 @@ pub fn fmt_month_long(output: &mut Vec<u8>, month: Month, modifier: modifier::Mo
 impl Modifier for modifier::MonthLong {
     ghost component_of = { component.MonthLong };
 
-    ghost GROUP = { group.Date };
-
-    const GROUP: Group = Group::Date;
-
-    #[inline(always)]
-    fn width(self) -> usize {
-        9
+    #[inline]
+    fn group_and_width(self) -> (Group, usize) {
+        (Group::Date, 9)
     }
 
     #[inline(always)]
@@ -137,7 +124,7 @@ impl Modifier for modifier::MonthLong {
         Ok(fmt_month_long(output, value.month(state), self))
     }
 
-    ghost grouped = { λ _ _. refl };
+    ghost current = { λ _. refl };
 }
 
 /// Appends the month, 1 to 12, in two places.
@@ -158,13 +145,9 @@ pub fn fmt_month_numerical(
 impl Modifier for modifier::MonthNumerical {
     ghost component_of = { component.MonthNumerical };
 
-    ghost GROUP = { group.Date };
-
-    const GROUP: Group = Group::Date;
-
-    #[inline(always)]
-    fn width(self) -> usize {
-        2
+    #[inline]
+    fn group_and_width(self) -> (Group, usize) {
+        (Group::Date, 2)
     }
 
     #[inline(always)]
@@ -179,7 +162,7 @@ impl Modifier for modifier::MonthNumerical {
         Ok(fmt_month_numerical(output, value.month(state), self))
     }
 
-    ghost grouped = { λ _ _. refl };
+    ghost current = { λ _. refl };
 }
 
 /// Appends the day of the year, 1 to 366, in three places.
@@ -194,13 +177,9 @@ pub fn fmt_ordinal(output: &mut Vec<u8>, ordinal: Ordinal, modifier: modifier::O
 impl Modifier for modifier::Ordinal {
     ghost component_of = { component.Ordinal };
 
-    ghost GROUP = { group.Date };
-
-    const GROUP: Group = Group::Date;
-
-    #[inline(always)]
-    fn width(self) -> usize {
-        3
+    #[inline]
+    fn group_and_width(self) -> (Group, usize) {
+        (Group::Date, 3)
     }
 
     #[inline(always)]
@@ -213,7 +192,7 @@ impl Modifier for modifier::Ordinal {
         Ok(fmt_ordinal(output, value.ordinal(state), self))
     }
 
-    ghost grouped = { λ _ _. refl };
+    ghost current = { λ _. refl };
 }
 
 // The English name of a month, of at least three letters.

@@ -3,7 +3,6 @@
 
 ghost use Rattle.std.specs.Prelude.{length, unsigned_abs, refl};
 ghost use Rattle.time_below.specs.declared.format_description.component.Component.TheVariants as component;
-ghost use Rattle.time_below.specs.declared.format_description.component.Group.TheVariants as group;
 ghost use Rattle.time_fmt.specs.Kind.{kind_text, offset_hour};
 ghost use Rattle.time_fmt.specs.Room.{HasRoom, Writes};
 ghost use Rattle.time_fmt.specs.Text.{padded_text};
@@ -37,13 +36,9 @@ pub fn fmt_offset_hour(
 impl Modifier for modifier::OffsetHour {
     ghost component_of = { component.OffsetHour };
 
-    ghost GROUP = { group.Offset };
-
-    const GROUP: Group = Group::Offset;
-
-    #[inline(always)]
-    fn width(self) -> usize {
-        3
+    #[inline]
+    fn group_and_width(self) -> (Group, usize) {
+        (Group::Offset, 3)
     }
 
     #[inline(always)]
@@ -58,7 +53,7 @@ impl Modifier for modifier::OffsetHour {
         Ok(fmt_offset_hour(output, is_negative, value.offset_hour(state), self))
     }
 
-    ghost grouped = { λ _ _. refl };
+    ghost current = { λ _. refl };
 }
 
 /// Appends the minute of the offset, 0 to 59, in two places, without a sign.
@@ -79,13 +74,9 @@ pub fn fmt_offset_minute(
 impl Modifier for modifier::OffsetMinute {
     ghost component_of = { component.OffsetMinute };
 
-    ghost GROUP = { group.Offset };
-
-    const GROUP: Group = Group::Offset;
-
-    #[inline(always)]
-    fn width(self) -> usize {
-        2
+    #[inline]
+    fn group_and_width(self) -> (Group, usize) {
+        (Group::Offset, 2)
     }
 
     #[inline(always)]
@@ -98,7 +89,7 @@ impl Modifier for modifier::OffsetMinute {
         Ok(fmt_offset_minute(output, value.offset_minute(state), self))
     }
 
-    ghost grouped = { λ _ _. refl };
+    ghost current = { λ _. refl };
 }
 
 /// Appends the second of the offset, 0 to 59, in two places, without a sign.
@@ -119,13 +110,9 @@ pub fn fmt_offset_second(
 impl Modifier for modifier::OffsetSecond {
     ghost component_of = { component.OffsetSecond };
 
-    ghost GROUP = { group.Offset };
-
-    const GROUP: Group = Group::Offset;
-
-    #[inline(always)]
-    fn width(self) -> usize {
-        2
+    #[inline]
+    fn group_and_width(self) -> (Group, usize) {
+        (Group::Offset, 2)
     }
 
     #[inline(always)]
@@ -138,5 +125,5 @@ impl Modifier for modifier::OffsetSecond {
         Ok(fmt_offset_second(output, value.offset_second(state), self))
     }
 
-    ghost grouped = { λ _ _. refl };
+    ghost current = { λ _. refl };
 }

@@ -1,7 +1,6 @@
-//! The decimals of the second: their texts, width and writer.
+//! The decimals of the second: their texts and writer.
 ghost use Rattle.std.specs.Prelude.{◌≡◌, ◌<◌, length, refl};
 ghost use Rattle.time_below.specs.declared.format_description.component.Component.TheVariants as component;
-ghost use Rattle.time_below.specs.declared.format_description.component.Group.TheVariants as group;
 ghost use Rattle.time_below.specs.declared.format_description.modifier.SubsecondDigits.TheVariants as SubsecondDigits;
 ghost use Rattle.time_digits.specs.Digits.{fixed, zero_padded};
 ghost use Rattle.time_digits.specs.Fraction.{trimmed_fraction};
@@ -62,13 +61,9 @@ pub fn fmt_subsecond(
 impl Modifier for modifier::Subsecond {
     ghost component_of = { component.Subsecond };
 
-    ghost GROUP = { group.Time };
-
-    const GROUP: Group = Group::Time;
-
-    #[inline(always)]
-    fn width(self) -> usize {
-        subsecond_width(self.digits)
+    #[inline]
+    fn group_and_width(self) -> (Group, usize) {
+        (Group::Time, subsecond_width(self.digits))
     }
 
     #[inline(always)]
@@ -90,7 +85,7 @@ impl Modifier for modifier::Subsecond {
         }
     }
 
-    ghost grouped = { λ _ _. refl };
+    ghost current = { λ _. refl };
 }
 
 // Any number of decimals, apart, since few texts have another than three or as many as are needed.

@@ -3,7 +3,6 @@
 
 ghost use Rattle.std.specs.Prelude.{length, refl};
 ghost use Rattle.time_below.specs.declared.format_description.component.Component.TheVariants as component;
-ghost use Rattle.time_below.specs.declared.format_description.component.Group.TheVariants as group;
 ghost use Rattle.time_fmt.specs.Room.{HasRoom, Writes};
 ghost use Rattle.time_fmt.specs.Text.{padded_text, hour_12, period_text};
 
@@ -31,13 +30,9 @@ pub fn fmt_hour_12(output: &mut Vec<u8>, hour: Hours, modifier: modifier::Hour12
 impl Modifier for modifier::Hour12 {
     ghost component_of = { component.Hour12 };
 
-    ghost GROUP = { group.Time };
-
-    const GROUP: Group = Group::Time;
-
-    #[inline(always)]
-    fn width(self) -> usize {
-        2
+    #[inline]
+    fn group_and_width(self) -> (Group, usize) {
+        (Group::Time, 2)
     }
 
     #[inline(always)]
@@ -50,7 +45,7 @@ impl Modifier for modifier::Hour12 {
         Ok(fmt_hour_12(output, value.hour(state), self))
     }
 
-    ghost grouped = { λ _ _. refl };
+    ghost current = { λ _. refl };
 }
 
 /// Appends the hour, 0 to 23, in two places.
@@ -65,13 +60,9 @@ pub fn fmt_hour_24(output: &mut Vec<u8>, hour: Hours, modifier: modifier::Hour24
 impl Modifier for modifier::Hour24 {
     ghost component_of = { component.Hour24 };
 
-    ghost GROUP = { group.Time };
-
-    const GROUP: Group = Group::Time;
-
-    #[inline(always)]
-    fn width(self) -> usize {
-        2
+    #[inline]
+    fn group_and_width(self) -> (Group, usize) {
+        (Group::Time, 2)
     }
 
     #[inline(always)]
@@ -84,7 +75,7 @@ impl Modifier for modifier::Hour24 {
         Ok(fmt_hour_24(output, value.hour(state), self))
     }
 
-    ghost grouped = { λ _ _. refl };
+    ghost current = { λ _. refl };
 }
 
 /// Appends the minute, 0 to 59, in two places.
@@ -99,13 +90,9 @@ pub fn fmt_minute(output: &mut Vec<u8>, minute: Minutes, modifier: modifier::Min
 impl Modifier for modifier::Minute {
     ghost component_of = { component.Minute };
 
-    ghost GROUP = { group.Time };
-
-    const GROUP: Group = Group::Time;
-
-    #[inline(always)]
-    fn width(self) -> usize {
-        2
+    #[inline]
+    fn group_and_width(self) -> (Group, usize) {
+        (Group::Time, 2)
     }
 
     #[inline(always)]
@@ -118,7 +105,7 @@ impl Modifier for modifier::Minute {
         Ok(fmt_minute(output, value.minute(state), self))
     }
 
-    ghost grouped = { λ _ _. refl };
+    ghost current = { λ _. refl };
 }
 
 /// Appends `am` or `pm`, in capitals if they are wanted.
@@ -140,13 +127,9 @@ pub fn fmt_period(output: &mut Vec<u8>, period: Period, modifier: modifier::Peri
 impl Modifier for modifier::Period {
     ghost component_of = { component.Period };
 
-    ghost GROUP = { group.Time };
-
-    const GROUP: Group = Group::Time;
-
-    #[inline(always)]
-    fn width(self) -> usize {
-        2
+    #[inline]
+    fn group_and_width(self) -> (Group, usize) {
+        (Group::Time, 2)
     }
 
     #[inline(always)]
@@ -159,7 +142,7 @@ impl Modifier for modifier::Period {
         Ok(fmt_period(output, value.period(state), self))
     }
 
-    ghost grouped = { λ _ _. refl };
+    ghost current = { λ _. refl };
 }
 
 /// Appends the second, 0 to 59, in two places.
@@ -174,13 +157,9 @@ pub fn fmt_second(output: &mut Vec<u8>, second: Seconds, modifier: modifier::Sec
 impl Modifier for modifier::Second {
     ghost component_of = { component.Second };
 
-    ghost GROUP = { group.Time };
-
-    const GROUP: Group = Group::Time;
-
-    #[inline(always)]
-    fn width(self) -> usize {
-        2
+    #[inline]
+    fn group_and_width(self) -> (Group, usize) {
+        (Group::Time, 2)
     }
 
     #[inline(always)]
@@ -193,5 +172,5 @@ impl Modifier for modifier::Second {
         Ok(fmt_second(output, value.second(state), self))
     }
 
-    ghost grouped = { λ _ _. refl };
+    ghost current = { λ _. refl };
 }

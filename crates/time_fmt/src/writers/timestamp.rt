@@ -3,7 +3,6 @@
 
 ghost use Rattle.std.specs.Prelude.{length, refl};
 ghost use Rattle.time_below.specs.declared.format_description.component.Component.TheVariants as component;
-ghost use Rattle.time_below.specs.declared.format_description.component.Group.TheVariants as group;
 ghost use Rattle.time_fmt.specs.Kind.{kind_text, timestamp};
 ghost use Rattle.time_fmt.specs.Room.{HasRoom, Writes};
 
@@ -31,13 +30,9 @@ pub fn fmt_unix_timestamp_second(
 impl Modifier for modifier::UnixTimestampSecond {
     ghost component_of = { component.UnixTimestampSecond };
 
-    ghost GROUP = { group.Timestamp };
-
-    const GROUP: Group = Group::Timestamp;
-
-    #[inline(always)]
-    fn width(self) -> usize {
-        15
+    #[inline]
+    fn group_and_width(self) -> (Group, usize) {
+        (Group::Timestamp, 15)
     }
 
     #[inline(always)]
@@ -50,7 +45,7 @@ impl Modifier for modifier::UnixTimestampSecond {
         Ok(fmt_unix_timestamp_second(output, value.unix_timestamp_seconds(state), self))
     }
 
-    ghost grouped = { λ _ _. refl };
+    ghost current = { λ _. refl };
 }
 
 /// Appends the milliseconds since 1970-01-01T00:00:00 UTC, a sign and all their digits.
@@ -71,13 +66,9 @@ pub fn fmt_unix_timestamp_millisecond(
 impl Modifier for modifier::UnixTimestampMillisecond {
     ghost component_of = { component.UnixTimestampMillisecond };
 
-    ghost GROUP = { group.Timestamp };
-
-    const GROUP: Group = Group::Timestamp;
-
-    #[inline(always)]
-    fn width(self) -> usize {
-        18
+    #[inline]
+    fn group_and_width(self) -> (Group, usize) {
+        (Group::Timestamp, 18)
     }
 
     #[inline(always)]
@@ -90,7 +81,7 @@ impl Modifier for modifier::UnixTimestampMillisecond {
         Ok(fmt_unix_timestamp_millisecond(output, value.unix_timestamp_milliseconds(state), self))
     }
 
-    ghost grouped = { λ _ _. refl };
+    ghost current = { λ _. refl };
 }
 
 // The sign, and all digits.

@@ -4,7 +4,6 @@
 ghost use Rattle.std.specs.Prelude.{◌≡◌, ◌≤◌, length, decimal, refl};
 ghost use Rattle.time_below.specs.Calendar.{from_sunday};
 ghost use Rattle.time_below.specs.declared.format_description.component.Component.TheVariants as component;
-ghost use Rattle.time_below.specs.declared.format_description.component.Group.TheVariants as group;
 ghost use Rattle.time_below.specs.Weekday.{days_from_monday};
 ghost use Rattle.time_fmt.specs.DateText.{weekday_name, short_name, indexed};
 ghost use Rattle.time_fmt.specs.Room.{HasRoom, Writes};
@@ -39,13 +38,9 @@ pub fn fmt_weekday_short(
 impl Modifier for modifier::WeekdayShort {
     ghost component_of = { component.WeekdayShort };
 
-    ghost GROUP = { group.Date };
-
-    const GROUP: Group = Group::Date;
-
-    #[inline(always)]
-    fn width(self) -> usize {
-        3
+    #[inline]
+    fn group_and_width(self) -> (Group, usize) {
+        (Group::Date, 3)
     }
 
     #[inline(always)]
@@ -58,7 +53,7 @@ impl Modifier for modifier::WeekdayShort {
         Ok(fmt_weekday_short(output, value.weekday(state), self))
     }
 
-    ghost grouped = { λ _ _. refl };
+    ghost current = { λ _. refl };
 }
 
 /// Appends the weekday's English name.
@@ -89,13 +84,9 @@ pub fn fmt_weekday_long(
 impl Modifier for modifier::WeekdayLong {
     ghost component_of = { component.WeekdayLong };
 
-    ghost GROUP = { group.Date };
-
-    const GROUP: Group = Group::Date;
-
-    #[inline(always)]
-    fn width(self) -> usize {
-        9
+    #[inline]
+    fn group_and_width(self) -> (Group, usize) {
+        (Group::Date, 9)
     }
 
     #[inline(always)]
@@ -108,7 +99,7 @@ impl Modifier for modifier::WeekdayLong {
         Ok(fmt_weekday_long(output, value.weekday(state), self))
     }
 
-    ghost grouped = { λ _ _. refl };
+    ghost current = { λ _. refl };
 }
 
 /// Appends the days from Sunday, 0 to 6, or 1 to 7 where Sunday is 1.
@@ -133,13 +124,9 @@ pub fn fmt_weekday_sunday(
 impl Modifier for modifier::WeekdaySunday {
     ghost component_of = { component.WeekdaySunday };
 
-    ghost GROUP = { group.Date };
-
-    const GROUP: Group = Group::Date;
-
-    #[inline(always)]
-    fn width(self) -> usize {
-        1
+    #[inline]
+    fn group_and_width(self) -> (Group, usize) {
+        (Group::Date, 1)
     }
 
     #[inline(always)]
@@ -152,7 +139,7 @@ impl Modifier for modifier::WeekdaySunday {
         Ok(fmt_weekday_sunday(output, value.weekday(state), self))
     }
 
-    ghost grouped = { λ _ _. refl };
+    ghost current = { λ _. refl };
 }
 
 /// Appends the days from Monday, 0 to 6, or 1 to 7 where Monday is 1.
@@ -177,13 +164,9 @@ pub fn fmt_weekday_monday(
 impl Modifier for modifier::WeekdayMonday {
     ghost component_of = { component.WeekdayMonday };
 
-    ghost GROUP = { group.Date };
-
-    const GROUP: Group = Group::Date;
-
-    #[inline(always)]
-    fn width(self) -> usize {
-        1
+    #[inline]
+    fn group_and_width(self) -> (Group, usize) {
+        (Group::Date, 1)
     }
 
     #[inline(always)]
@@ -196,7 +179,7 @@ impl Modifier for modifier::WeekdayMonday {
         Ok(fmt_weekday_monday(output, value.weekday(state), self))
     }
 
-    ghost grouped = { λ _ _. refl };
+    ghost current = { λ _. refl };
 }
 
 /// Appends the week of the week calendar, 1 to 53, in two places (ISO 8601-1:2019).
@@ -215,13 +198,9 @@ pub fn fmt_week_number_iso(
 impl Modifier for modifier::WeekNumberIso {
     ghost component_of = { component.WeekNumberIso };
 
-    ghost GROUP = { group.Date };
-
-    const GROUP: Group = Group::Date;
-
-    #[inline(always)]
-    fn width(self) -> usize {
-        2
+    #[inline]
+    fn group_and_width(self) -> (Group, usize) {
+        (Group::Date, 2)
     }
 
     #[inline(always)]
@@ -234,7 +213,7 @@ impl Modifier for modifier::WeekNumberIso {
         Ok(fmt_week_number_iso(output, value.iso_week_number(state), self))
     }
 
-    ghost grouped = { λ _ _. refl };
+    ghost current = { λ _. refl };
 }
 
 /// Appends the week of the year by its Sundays, 0 to 53, in two places.
@@ -253,13 +232,9 @@ pub fn fmt_week_number_sunday(
 impl Modifier for modifier::WeekNumberSunday {
     ghost component_of = { component.WeekNumberSunday };
 
-    ghost GROUP = { group.Date };
-
-    const GROUP: Group = Group::Date;
-
-    #[inline(always)]
-    fn width(self) -> usize {
-        2
+    #[inline]
+    fn group_and_width(self) -> (Group, usize) {
+        (Group::Date, 2)
     }
 
     #[inline(always)]
@@ -272,7 +247,7 @@ impl Modifier for modifier::WeekNumberSunday {
         Ok(fmt_week_number_sunday(output, value.sunday_based_week(state), self))
     }
 
-    ghost grouped = { λ _ _. refl };
+    ghost current = { λ _. refl };
 }
 
 /// Appends the week of the year by its Mondays, 0 to 53, in two places.
@@ -291,13 +266,9 @@ pub fn fmt_week_number_monday(
 impl Modifier for modifier::WeekNumberMonday {
     ghost component_of = { component.WeekNumberMonday };
 
-    ghost GROUP = { group.Date };
-
-    const GROUP: Group = Group::Date;
-
-    #[inline(always)]
-    fn width(self) -> usize {
-        2
+    #[inline]
+    fn group_and_width(self) -> (Group, usize) {
+        (Group::Date, 2)
     }
 
     #[inline(always)]
@@ -310,7 +281,7 @@ impl Modifier for modifier::WeekNumberMonday {
         Ok(fmt_week_number_monday(output, value.monday_based_week(state), self))
     }
 
-    ghost grouped = { λ _ _. refl };
+    ghost current = { λ _. refl };
 }
 
 // The English name of a weekday, of at least three letters.

@@ -5,7 +5,6 @@
 
 ghost use Rattle.std.specs.Prelude.{length, refl};
 ghost use Rattle.time_below.specs.declared.format_description.component.Component.TheVariants as component;
-ghost use Rattle.time_below.specs.declared.format_description.component.Group.TheVariants as group;
 ghost use Rattle.time_fmt.specs.Kind.{kind_text, kind_outcome, extended_year, standard_year};
 ghost use Rattle.time_fmt.specs.Outcome.{AppendsWhole};
 ghost use Rattle.time_fmt.specs.Room.{HasRoom, Writes};
@@ -42,13 +41,9 @@ pub fn fmt_calendar_year_full_extended_range(
 impl Modifier for modifier::CalendarYearFullExtendedRange {
     ghost component_of = { component.CalendarYearFullExtendedRange };
 
-    ghost GROUP = { group.Date };
-
-    const GROUP: Group = Group::Date;
-
-    #[inline(always)]
-    fn width(self) -> usize {
-        7
+    #[inline]
+    fn group_and_width(self) -> (Group, usize) {
+        (Group::Date, 7)
     }
 
     #[inline(always)]
@@ -61,7 +56,7 @@ impl Modifier for modifier::CalendarYearFullExtendedRange {
         Ok(fmt_calendar_year_full_extended_range(output, value.calendar_year(state), self))
     }
 
-    ghost grouped = { λ _ _. refl };
+    ghost current = { λ _. refl };
 }
 
 /// Appends the sign and four places of the year, -9,999 to 9,999.
@@ -82,13 +77,9 @@ pub fn fmt_calendar_year_full_standard_range(
 impl Modifier for modifier::CalendarYearFullStandardRange {
     ghost component_of = { component.CalendarYearFullStandardRange };
 
-    ghost GROUP = { group.Date };
-
-    const GROUP: Group = Group::Date;
-
-    #[inline(always)]
-    fn width(self) -> usize {
-        5
+    #[inline]
+    fn group_and_width(self) -> (Group, usize) {
+        (Group::Date, 5)
     }
 
     #[inline(always)]
@@ -102,7 +93,7 @@ impl Modifier for modifier::CalendarYearFullStandardRange {
         write_accepted_year(output, year, self.padding, self.sign_is_mandatory)
     }
 
-    ghost grouped = { λ _ _. refl };
+    ghost current = { λ _. refl };
 }
 
 /// Appends the sign and four places of the week calendar's year, -999,999 to 999,999
@@ -124,13 +115,9 @@ pub fn fmt_iso_year_full_extended_range(
 impl Modifier for modifier::IsoYearFullExtendedRange {
     ghost component_of = { component.IsoYearFullExtendedRange };
 
-    ghost GROUP = { group.Date };
-
-    const GROUP: Group = Group::Date;
-
-    #[inline(always)]
-    fn width(self) -> usize {
-        7
+    #[inline]
+    fn group_and_width(self) -> (Group, usize) {
+        (Group::Date, 7)
     }
 
     #[inline(always)]
@@ -143,7 +130,7 @@ impl Modifier for modifier::IsoYearFullExtendedRange {
         Ok(fmt_iso_year_full_extended_range(output, value.iso_year(state), self))
     }
 
-    ghost grouped = { λ _ _. refl };
+    ghost current = { λ _. refl };
 }
 
 /// Appends the sign and four places of the week calendar's year, -9,999 to 9,999 (ISO 8601-1:2019).
@@ -164,13 +151,9 @@ pub fn fmt_iso_year_full_standard_range(
 impl Modifier for modifier::IsoYearFullStandardRange {
     ghost component_of = { component.IsoYearFullStandardRange };
 
-    ghost GROUP = { group.Date };
-
-    const GROUP: Group = Group::Date;
-
-    #[inline(always)]
-    fn width(self) -> usize {
-        5
+    #[inline]
+    fn group_and_width(self) -> (Group, usize) {
+        (Group::Date, 5)
     }
 
     #[inline(always)]
@@ -184,7 +167,7 @@ impl Modifier for modifier::IsoYearFullStandardRange {
         write_accepted_year(output, year, self.padding, self.sign_is_mandatory)
     }
 
-    ghost grouped = { λ _ _. refl };
+    ghost current = { λ _. refl };
 }
 
 // Most years have four digits and no sign.

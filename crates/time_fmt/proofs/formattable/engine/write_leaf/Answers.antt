@@ -1,0 +1,8 @@
+use Rattle.time_fmt.proofs.GuaranteeLemmas.{leaf_of_written}
+use Rattle.time_fmt.proofs.formattable.engine.write_leaf.Goals as goal
+
+pub returns-in-Component-clause-appends : goal.returns-in-Component-clause-appends
+returns-in-Component-clause-appends g c =
+    rw (← c.in-Component.ensures.tree)
+    (leaf_of_written c.write_often.result c.in-Component.component (g.V.ComponentProvider.facts c.args.value.now)
+    c.args.output.now c.write_often.new.output c.write_often.ensures.appends)
