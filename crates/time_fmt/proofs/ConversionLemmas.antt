@@ -1,4 +1,4 @@
--- A component that is not deprecated is its own current one, and that of a deprecated one is no wider.
+-- A component that is not deprecated is its own current one, with its outcome; that of a deprecated one is no wider.
 use Rattle.std.proofs.Common.{◌≡◌, ◌∙◌, ◌≤◌, IsTrue, true, false, ap, refl, arith}
 use Rattle.std.proofs.lemmas.Grind.{common_steps}
 use Rattle.time_below.specs.Conversion.{current_component, is_current}
@@ -20,14 +20,14 @@ current_is_kept (component.UnixTimestamp m) h = let never : ⊥ = cc in absurd n
 current_is_kept (component.Year m) h = let never : ⊥ = cc in absurd never
 current_is_kept c h = refl
 
--- so its outcome is what it shows of a value that supplies its group, and a refusal of any other
-pub supplied_is : (c : Component) (f : Facts) → IsTrue (is_current c) → true ≡ has_group (group_of c) f
+-- its outcome is what it shows of a value that supplies its group, and a refusal of any other
+pub outcome_with_group : (c : Component) (f : Facts) → IsTrue (is_current c) → true ≡ has_group (group_of c) f
     → component_outcome c f ≡ supplied_outcome c f
-supplied_is c f current has = ap (λ d. current_outcome d f) (current_is_kept c current) ∙ rw (← has) refl
+outcome_with_group c f current has = ap (λ d. current_outcome d f) (current_is_kept c current) ∙ rw (← has) refl
 
-pub unsupplied_is : (c : Component) (f : Facts) → IsTrue (is_current c) → false ≡ has_group (group_of c) f
+pub outcome_without_group : (c : Component) (f : Facts) → IsTrue (is_current c) → false ≡ has_group (group_of c) f
     → component_outcome c f ≡ refused insufficient
-unsupplied_is c f current has = ap (λ d. current_outcome d f) (current_is_kept c current) ∙ rw (← has) refl
+outcome_without_group c f current has = ap (λ d. current_outcome d f) (current_is_kept c current) ∙ rw (← has) refl
 
 -- no conversion is followed by another
 pub current_is_current : (c : Component) → current_component (current_component c) ≡ current_component c
