@@ -1,19 +1,19 @@
 -- Nodes one after another: what is written so far, and then the outcome of what is left, is the outcome of all.
 use Rattle.std.proofs.Common.{◌≡◌, refl, ap, sym, ◌∙◌, arith, ℕ, ◌+◌, ◌≤◌, ◌++◌, List, [], ◌∷◌, map, drop, length}
-use Rattle.std.proofs.Common.{append_assoc, length-append, subst, Some, Result, Ok, Err}
+use Rattle.std.proofs.Common.{append_assoc, length-append, subst, Some, None, Result, Ok, Err}
 use Rattle.std.proofs.Common.{vec_len, vec_capacity, Vec}
 use Rattle.std.specs.Global.{Global}
 use Rattle.std.specs.Prelude.{slice_get}
 use Rattle.std.proofs.lemmas.List.{append-nil, at_drop_all}
 use Rattle.time_below.specs.Facts.{Facts}
-use Rattle.time_below.specs.Tree.{Tree, Trees, trees, all_of, first_of, end, more}
+use Rattle.time_below.specs.Tree.{Tree, Trees, trees, byte_literal, all_of, first_of, nothing, end, more}
 use Rattle.time_below.specs.Width.{tree_width, trees_width, are_guaranteed_text}
 use Rattle.time_fmt.specs.declared.refused.Refused.{Refused}
 use Rattle.time_fmt.specs.Description.{tree_outcome, trees_outcome}
 use Rattle.time_fmt.specs.Ends.{refusal_of}
 use Rattle.time_fmt.specs.Guarantee.{IsTextIf, AppendsTree}
 use Rattle.time_fmt.specs.Outcome.{Outcome, Refusal}
-use Rattle.time_fmt.specs.Room.{HasRoom}
+use Rattle.time_fmt.specs.Room.{HasRoom, Writes}
 use Rattle.time_fmt.proofs.WriteLemmas.{join_refused, join_done}
 use Rattle.time_fmt.proofs.GuaranteeLemmas.{text_more, text_stops, empty_utf8}
 
@@ -148,6 +148,40 @@ all_along tree nodes i old now f past along =
       };
       text = along.text (subst P (sym none) (λ _. empty_utf8));
     }
+
+-- bytes are appended whole
+pub appends_bytes : {count : ℕ} {old new : Vec ℕ Global} (bytes : List ℕ) (f : Facts) → Writes old new count bytes
+    → AppendsTree (byte_literal bytes) f old new (Ok tt)
+appends_bytes bytes f w = record {
+  ends = record {
+    appended = w.appended;
+    refusal = refl;
+    grown = w.grown;
+    capacity = w.capacity;
+    within = omega (arith, w.grown);
+  };
+  text = λ guaranteed. let never : ⊥ = cc in absurd never;
+}
+
+-- where there is nothing, nothing is appended
+pub appends_nothing : (output : Vec ℕ Global) (f : Facts) → AppendsTree nothing f output output (Ok tt)
+appends_nothing output f = record {
+  ends = record {
+    appended = sym (append-nil output.items);
+    refusal = refl;
+    grown = omega arith;
+    capacity = refl;
+    within = omega arith;
+  };
+  text = λ _. empty_utf8;
+}
+
+-- the first of no nodes appends nothing
+pub no_first : {A : Type 0} (tree : A → Tree) (nodes : List A) (output : Vec ℕ Global) (f : Facts)
+    → slice_get nodes 0 ≡ None → AppendsTree (first_of (trees (map tree nodes))) f output output (Ok tt)
+no_first tree [] output f none =
+    let same = appends_nothing output f in record { ends = same.ends; text = same.text }
+no_first tree (x ∷ xs) output f none = let no : ⊥ = cc in absurd no
 
 -- the first of a list that begins with x appends what x does
 pub first_appends : {A : Type 0} {answer : Result Unit Refused} (tree : A → Tree) (nodes : List A) (x : A)

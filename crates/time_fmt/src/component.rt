@@ -5,7 +5,7 @@ ghost use Rattle.time_below.specs.Width.{component_width};
 ghost use Rattle.time_fmt.specs.Description.{component_outcome, current_outcome};
 ghost use Rattle.time_fmt.specs.Ends.{Ends};
 ghost use Rattle.time_fmt.specs.Outcome.{Appends, AppendsIf, AppendsUpTo, AppendsUnlessRefused};
-ghost use Rattle.time_fmt.specs.Room.{HasRoom};
+ghost use Rattle.time_fmt.specs.Room.{HasRoom, Ready};
 
 use crate::error::Format;
 use crate::modifier::{Modifier, is_supplied, supplies};
@@ -23,12 +23,10 @@ pub(crate) fn write_often<V: ComponentProvider>(
     value: &V,
     state: &mut V::State,
 ) -> Option<usize>
-    requires room { HasRoom output.old (component_width component) }
-    requires agrees { V.agrees state.old value.now }
-    ensures appends { MatchOption result (output.new ≡ output.old)
+    requires ready { Ready output.old (component_width component) (V.agrees state.old value.now) }
+    ensures writes { MatchOption result (output.new ≡ output.old)
         (λ count. AppendsUpTo (component_width component) output.old output.new (Ok count)
-        (component_outcome component (V.facts value.now))) }
-    ensures agrees { V.agrees state.new value.now }
+        (component_outcome component (V.facts value.now))) × V.agrees state.new value.now }
 {
     match component {
         Component::Day(part) => write_here(part, output, value, state),
@@ -57,11 +55,10 @@ pub(crate) fn write_current<V: ComponentProvider>(
     value: &V,
     state: &mut V::State,
 ) -> Option<usize>
-    requires room { HasRoom output.old (component_width component) }
-    requires agrees { V.agrees state.old value.now }
-    ensures appends { AppendsIf (is_current component) (component_width component)
-        output.old output.new result (current_outcome component (V.facts value.now)) }
-    ensures agrees { V.agrees state.new value.now }
+    requires ready { Ready output.old (component_width component) (V.agrees state.old value.now) }
+    ensures writes { AppendsIf (is_current component) (component_width component)
+        output.old output.new result (current_outcome component (V.facts value.now))
+        × V.agrees state.new value.now }
 {
     match component {
         Component::Day(part) => write_rare(part, output, value, state),
@@ -115,11 +112,11 @@ fn write_rare<M: Modifier, V: ComponentProvider>(
     value: &V,
     state: &mut V::State,
 ) -> Option<usize>
-    requires room { HasRoom output.old (component_width (M.component_of part)) }
-    requires agrees { V.agrees state.old value.now }
-    ensures appends { AppendsUnlessRefused (component_width (M.component_of part))
-        output.old output.new result (component_outcome (M.component_of part) (V.facts value.now)) }
-    ensures agrees { V.agrees state.new value.now }
+    requires ready { Ready output.old (component_width (M.component_of part))
+        (V.agrees state.old value.now) }
+    ensures writes { AppendsUnlessRefused (component_width (M.component_of part))
+        output.old output.new result (component_outcome (M.component_of part) (V.facts value.now))
+        × V.agrees state.new value.now }
 {
     write_here(part, output, value, state)
 }
@@ -132,11 +129,11 @@ fn write_here<M: Modifier, V: ComponentProvider>(
     value: &V,
     state: &mut V::State,
 ) -> Option<usize>
-    requires room { HasRoom output.old (component_width (M.component_of part)) }
-    requires agrees { V.agrees state.old value.now }
-    ensures appends { AppendsUnlessRefused (component_width (M.component_of part))
-        output.old output.new result (component_outcome (M.component_of part) (V.facts value.now)) }
-    ensures agrees { V.agrees state.new value.now }
+    requires ready { Ready output.old (component_width (M.component_of part))
+        (V.agrees state.old value.now) }
+    ensures writes { AppendsUnlessRefused (component_width (M.component_of part))
+        output.old output.new result (component_outcome (M.component_of part) (V.facts value.now))
+        × V.agrees state.new value.now }
 {
     if !is_supplied::<M, V>(part) {
         return None;

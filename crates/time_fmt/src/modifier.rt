@@ -22,10 +22,11 @@ pub trait Modifier: Copy {
     ghost component_of: { Self → Component };
 
     /// The part of a value that the component is taken from, and the most bytes of its text, over all
-    /// values.
+    /// values. The component is not deprecated.
     fn group_and_width(self) -> (Group, usize)
         ensures group { result.0 ≡ group_of (component_of self) }
-        ensures width { result.1 ≡ component_width (component_of self) };
+        ensures width { result.1 ≡ component_width (component_of self) }
+        ensures current { IsTrue (is_current (component_of self)) };
 
     /// Appends its text, of a value that supplies its group. The output needs spare capacity for
     /// its width. Allocates nothing.
@@ -45,9 +46,6 @@ pub trait Modifier: Copy {
             output.old output.new result
             (supplied_outcome (component_of self) (V.facts value.now)) }
         ensures agrees { V.agrees state.new value.now };
-
-    // The component is not deprecated.
-    ghost current: { (part : Self) → IsTrue (is_current (component_of part)) };
 }
 
 /// Whether the values of a type supply the group of a component. No more than `inline`: what becomes part
@@ -58,6 +56,7 @@ pub(crate) fn is_supplied<M: Modifier, V: ComponentProvider>(part: M) -> bool
         V.SUPPLIES_OFFSET V.SUPPLIES_TIMESTAMP (group_of (M.component_of part)) }
     ensures values { (value : V) → result
         ≡ has_group (group_of (M.component_of part)) (V.facts value) }
+    ensures current { IsTrue (is_current (M.component_of part)) }
 {
     let (group, _) = part.group_and_width();
     supplies::<V>(group)

@@ -1,9 +1,9 @@
 //! Centuries and the last two digits of a year: their texts, widths and writers.
 //!
 //! The calendar year and the year of the week calendar have the same texts.
-#![tactic(auto, using(crate::proofs::TextLemmas::signed_lengths, crate::proofs::TextLemmas::text_lengths))]
+#![tactic(auto, using(crate::proofs::TextLemmas::signed_lengths))]
 
-ghost use Rattle.std.specs.Prelude.{◌≡◌, ◌%◌, int_lt, length, pos, refl, unsigned_abs};
+ghost use Rattle.std.specs.Prelude.{◌≡◌, ◌%◌, int_lt, length, pos, unsigned_abs};
 ghost use Rattle.time_below.specs.declared.format_description.component.Component.TheVariants as component;
 ghost use Rattle.time_fmt.specs.Kind.{kind_text, kind_outcome, extended_century, standard_century, century_of};
 ghost use Rattle.time_fmt.specs.Outcome.{AppendsWhole};
@@ -12,7 +12,7 @@ ghost use Rattle.time_fmt.specs.Text.{padded_text};
 
 use crate::error::Format;
 use crate::modifier::Modifier;
-use crate::writers::digits::{fmt_sign, format_two_digits};
+use crate::writers::digits::{fmt_sign, format_two_digits, write_number};
 use crate::writers::plain::write_many;
 use time_below::ComponentRange;
 use time_below::format_description::modifier::Padding;
@@ -59,8 +59,6 @@ impl Modifier for modifier::CalendarYearCenturyExtendedRange {
         let year = value.calendar_year(state);
         Ok(write_any_century(output, year, self.padding, self.sign_is_mandatory))
     }
-
-    ghost current = { λ _. refl };
 }
 
 /// Appends the year's sign and two places of its century.
@@ -100,8 +98,6 @@ impl Modifier for modifier::CalendarYearCenturyStandardRange {
         let year = value.calendar_year(state);
         write_accepted_century(output, year, self.padding, self.sign_is_mandatory)
     }
-
-    ghost current = { λ _. refl };
 }
 
 /// Appends the sign and two places of the century of the week calendar's year, or all its digits
@@ -142,8 +138,6 @@ impl Modifier for modifier::IsoYearCenturyExtendedRange {
         let year = value.iso_year(state);
         Ok(write_any_century(output, year, self.padding, self.sign_is_mandatory))
     }
-
-    ghost current = { λ _. refl };
 }
 
 /// Appends the sign and two places of the century of the week calendar's year. The sign is that of
@@ -184,8 +178,6 @@ impl Modifier for modifier::IsoYearCenturyStandardRange {
         let year = value.iso_year(state);
         write_accepted_century(output, year, self.padding, self.sign_is_mandatory)
     }
-
-    ghost current = { λ _. refl };
 }
 
 /// Appends the last two digits of the year, 0 to 99, in two places.
@@ -216,10 +208,8 @@ impl Modifier for modifier::CalendarYearLastTwo {
         value: &V,
         state: &mut V::State,
     ) -> Result<usize, Format> {
-        Ok(fmt_calendar_year_last_two(output, last_two(value.calendar_year(state)), self))
+        Ok(write_number(output, last_two(value.calendar_year(state)), self.padding))
     }
-
-    ghost current = { λ _. refl };
 }
 
 /// Appends the last two digits of the week calendar's year, 0 to 99, in two places.
@@ -250,10 +240,8 @@ impl Modifier for modifier::IsoYearLastTwo {
         value: &V,
         state: &mut V::State,
     ) -> Result<usize, Format> {
-        Ok(fmt_iso_year_last_two(output, last_two(value.iso_year(state)), self))
+        Ok(write_number(output, last_two(value.iso_year(state)), self.padding))
     }
-
-    ghost current = { λ _. refl };
 }
 
 fn write_extended_century(
@@ -309,11 +297,9 @@ fn write_any_century(
     padding: Padding,
     sign_is_mandatory: bool,
 ) -> usize
-    requires room { HasRoom output.old
-        (length (kind_text (extended_century padding sign_is_mandatory
-        (int_lt year (pos 0)) (century_of year)))) }
-    ensures writes { Writes output.old output.new result
-        (kind_text (extended_century padding sign_is_mandatory
+    requires room { HasRoom output.old 5 }
+    ensures appends { AppendsWhole 5 output.old output.new (Ok result)
+        (kind_outcome (extended_century padding sign_is_mandatory
         (int_lt year (pos 0)) (century_of year))) }
 {
     let number = year.get();

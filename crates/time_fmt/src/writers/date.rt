@@ -1,7 +1,7 @@
 //! The day, the month and the day of the year: their texts, widths and writers.
 #![tactic(auto, using(crate::proofs::TextLemmas::text_lengths))]
 
-ghost use Rattle.std.specs.Prelude.{◌≡◌, ◌≤◌, length, refl};
+ghost use Rattle.std.specs.Prelude.{◌≡◌, ◌≤◌, length};
 ghost use Rattle.time_below.specs.declared.format_description.component.Component.TheVariants as component;
 ghost use Rattle.time_below.specs.Month.{month_number};
 ghost use Rattle.time_fmt.specs.DateText.{month_name, short_name};
@@ -10,7 +10,7 @@ ghost use Rattle.time_fmt.specs.Text.{padded_text};
 
 use crate::error::Format;
 use crate::modifier::Modifier;
-use crate::writers::digits::{format_three_digits, format_two_digits};
+use crate::writers::digits::{format_three_digits, format_two_digits, write_number};
 use crate::writers::plain::{put_back, take_out, write_each, write_three};
 use time_below::Month;
 use time_below::format_description::{Group, modifier};
@@ -42,10 +42,8 @@ impl Modifier for modifier::Day {
         value: &V,
         state: &mut V::State,
     ) -> Result<usize, Format> {
-        Ok(fmt_day(output, value.day(state), self))
+        Ok(write_number(output, value.day(state).expand(), self.padding))
     }
-
-    ghost current = { λ _. refl };
 }
 
 /// Appends the first three letters of the month's English name.
@@ -76,8 +74,6 @@ impl Modifier for modifier::MonthShort {
     ) -> Result<usize, Format> {
         Ok(fmt_month_short(output, value.month(state), self))
     }
-
-    ghost current = { λ _. refl };
 }
 
 /// Appends the month's English name.
@@ -123,8 +119,6 @@ impl Modifier for modifier::MonthLong {
     ) -> Result<usize, Format> {
         Ok(fmt_month_long(output, value.month(state), self))
     }
-
-    ghost current = { λ _. refl };
 }
 
 /// Appends the month, 1 to 12, in two places.
@@ -159,10 +153,9 @@ impl Modifier for modifier::MonthNumerical {
     ) -> Result<usize, Format> {
         // A day is mostly beside it, and the computation of the day gives the month too.
         let _day = value.day(state);
-        Ok(fmt_month_numerical(output, value.month(state), self))
+        let month = ru8::new(u8::from(value.month(state))).unwrap();
+        Ok(write_number(output, month, self.padding))
     }
-
-    ghost current = { λ _. refl };
 }
 
 /// Appends the day of the year, 1 to 366, in three places.
@@ -191,8 +184,6 @@ impl Modifier for modifier::Ordinal {
     ) -> Result<usize, Format> {
         Ok(fmt_ordinal(output, value.ordinal(state), self))
     }
-
-    ghost current = { λ _. refl };
 }
 
 // The English name of a month, of at least three letters.

@@ -1,7 +1,7 @@
 //! The components of an offset from UTC: their texts, widths and writers.
 #![tactic(auto, using(crate::proofs::TextLemmas::text_lengths))]
 
-ghost use Rattle.std.specs.Prelude.{length, unsigned_abs, refl};
+ghost use Rattle.std.specs.Prelude.{length, unsigned_abs};
 ghost use Rattle.time_below.specs.declared.format_description.component.Component.TheVariants as component;
 ghost use Rattle.time_fmt.specs.Kind.{kind_text, offset_hour};
 ghost use Rattle.time_fmt.specs.Room.{HasRoom, Writes};
@@ -9,7 +9,7 @@ ghost use Rattle.time_fmt.specs.Text.{padded_text};
 
 use crate::error::Format;
 use crate::modifier::Modifier;
-use crate::writers::digits::{fmt_sign, format_two_digits};
+use crate::writers::digits::{fmt_sign, format_two_digits, write_number};
 use time_below::format_description::{Group, modifier};
 use time_provide::ComponentProvider;
 use time_provide::ranges::{OffsetHours, OffsetMinutes, OffsetSeconds};
@@ -52,8 +52,6 @@ impl Modifier for modifier::OffsetHour {
         let is_negative = value.offset_is_negative(state);
         Ok(fmt_offset_hour(output, is_negative, value.offset_hour(state), self))
     }
-
-    ghost current = { λ _. refl };
 }
 
 /// Appends the minute of the offset, 0 to 59, in two places, without a sign.
@@ -86,10 +84,9 @@ impl Modifier for modifier::OffsetMinute {
         value: &V,
         state: &mut V::State,
     ) -> Result<usize, Format> {
-        Ok(fmt_offset_minute(output, value.offset_minute(state), self))
+        let minute = value.offset_minute(state).abs();
+        Ok(write_number(output, minute.expand(), self.padding))
     }
-
-    ghost current = { λ _. refl };
 }
 
 /// Appends the second of the offset, 0 to 59, in two places, without a sign.
@@ -122,8 +119,7 @@ impl Modifier for modifier::OffsetSecond {
         value: &V,
         state: &mut V::State,
     ) -> Result<usize, Format> {
-        Ok(fmt_offset_second(output, value.offset_second(state), self))
+        let second = value.offset_second(state).abs();
+        Ok(write_number(output, second.expand(), self.padding))
     }
-
-    ghost current = { λ _. refl };
 }

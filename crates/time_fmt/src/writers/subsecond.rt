@@ -1,5 +1,5 @@
 //! The decimals of the second: their texts, width and writer.
-ghost use Rattle.std.specs.Prelude.{◌≡◌, ◌<◌, length, refl};
+ghost use Rattle.std.specs.Prelude.{◌≡◌, ◌<◌, length};
 ghost use Rattle.time_below.specs.declared.format_description.component.Component.TheVariants as component;
 ghost use Rattle.time_below.specs.declared.format_description.modifier.SubsecondDigits.TheVariants as SubsecondDigits;
 ghost use Rattle.time_digits.specs.Digits.{fixed, zero_padded};
@@ -84,8 +84,6 @@ impl Modifier for modifier::Subsecond {
             rare => Ok(write_rare_decimals(output, nanosecond, rare)),
         }
     }
-
-    ghost current = { λ _. refl };
 }
 
 // Any number of decimals, apart, since few texts have another than three or as many as are needed.

@@ -1,14 +1,14 @@
 //! The hour, the minute, the second and the half of the day: their texts, widths and writers.
 #![tactic(auto, using(crate::proofs::TextLemmas::text_lengths))]
 
-ghost use Rattle.std.specs.Prelude.{length, refl};
+ghost use Rattle.std.specs.Prelude.{◌≡◌, length};
 ghost use Rattle.time_below.specs.declared.format_description.component.Component.TheVariants as component;
 ghost use Rattle.time_fmt.specs.Room.{HasRoom, Writes};
 ghost use Rattle.time_fmt.specs.Text.{padded_text, hour_12, period_text};
 
 use crate::error::Format;
 use crate::modifier::Modifier;
-use crate::writers::digits::format_two_digits;
+use crate::writers::digits::{format_two_digits, write_number};
 use crate::writers::plain::write;
 use time_below::Period;
 use time_below::format_description::{Group, modifier};
@@ -23,8 +23,7 @@ pub fn fmt_hour_12(output: &mut Vec<u8>, hour: Hours, modifier: modifier::Hour12
     ensures writes { Writes output.old output.new result
         (padded_text modifier.padding 2 (hour_12 hour)) }
 {
-    let on_the_dial = (hour.get() + 11) % 12 + 1;
-    format_two_digits(output, ru8::new(on_the_dial).unwrap(), modifier.padding)
+    format_two_digits(output, on_the_dial(hour), modifier.padding)
 }
 
 impl Modifier for modifier::Hour12 {
@@ -42,10 +41,8 @@ impl Modifier for modifier::Hour12 {
         value: &V,
         state: &mut V::State,
     ) -> Result<usize, Format> {
-        Ok(fmt_hour_12(output, value.hour(state), self))
+        Ok(write_number(output, on_the_dial(value.hour(state)), self.padding))
     }
-
-    ghost current = { λ _. refl };
 }
 
 /// Appends the hour, 0 to 23, in two places.
@@ -72,10 +69,8 @@ impl Modifier for modifier::Hour24 {
         value: &V,
         state: &mut V::State,
     ) -> Result<usize, Format> {
-        Ok(fmt_hour_24(output, value.hour(state), self))
+        Ok(write_number(output, value.hour(state).expand(), self.padding))
     }
-
-    ghost current = { λ _. refl };
 }
 
 /// Appends the minute, 0 to 59, in two places.
@@ -102,10 +97,8 @@ impl Modifier for modifier::Minute {
         value: &V,
         state: &mut V::State,
     ) -> Result<usize, Format> {
-        Ok(fmt_minute(output, value.minute(state), self))
+        Ok(write_number(output, value.minute(state).expand(), self.padding))
     }
-
-    ghost current = { λ _. refl };
 }
 
 /// Appends `am` or `pm`, in capitals if they are wanted.
@@ -141,8 +134,6 @@ impl Modifier for modifier::Period {
     ) -> Result<usize, Format> {
         Ok(fmt_period(output, value.period(state), self))
     }
-
-    ghost current = { λ _. refl };
 }
 
 /// Appends the second, 0 to 59, in two places.
@@ -169,8 +160,14 @@ impl Modifier for modifier::Second {
         value: &V,
         state: &mut V::State,
     ) -> Result<usize, Format> {
-        Ok(fmt_second(output, value.second(state), self))
+        Ok(write_number(output, value.second(state).expand(), self.padding))
     }
+}
 
-    ghost current = { λ _. refl };
+// The hour on the dial of a clock, 1 to 12.
+#[inline(always)]
+fn on_the_dial(hour: Hours) -> ru8<0, 99>
+    ensures { result ≡ hour_12 hour }
+{
+    ru8::new((hour.get() + 11) % 12 + 1).unwrap()
 }

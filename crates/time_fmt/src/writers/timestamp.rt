@@ -1,7 +1,7 @@
 //! The seconds and milliseconds since 1970-01-01T00:00:00 UTC: their texts, widths and writers.
 #![tactic(auto, using(crate::proofs::TextLemmas::signed_lengths))]
 
-ghost use Rattle.std.specs.Prelude.{length, refl};
+ghost use Rattle.std.specs.Prelude.{length};
 ghost use Rattle.time_below.specs.declared.format_description.component.Component.TheVariants as component;
 ghost use Rattle.time_fmt.specs.Kind.{kind_text, timestamp};
 ghost use Rattle.time_fmt.specs.Room.{HasRoom, Writes};
@@ -44,8 +44,6 @@ impl Modifier for modifier::UnixTimestampSecond {
     ) -> Result<usize, Format> {
         Ok(fmt_unix_timestamp_second(output, value.unix_timestamp_seconds(state), self))
     }
-
-    ghost current = { λ _. refl };
 }
 
 /// Appends the milliseconds since 1970-01-01T00:00:00 UTC, a sign and all their digits.
@@ -80,8 +78,6 @@ impl Modifier for modifier::UnixTimestampMillisecond {
     ) -> Result<usize, Format> {
         Ok(fmt_unix_timestamp_millisecond(output, value.unix_timestamp_milliseconds(state), self))
     }
-
-    ghost current = { λ _. refl };
 }
 
 // The sign, and all digits.

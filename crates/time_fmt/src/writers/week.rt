@@ -1,7 +1,7 @@
 //! The weekday and the weeks of the year: their texts, widths and writers.
 #![tactic(auto, using(crate::proofs::TextLemmas::text_lengths))]
 
-ghost use Rattle.std.specs.Prelude.{◌≡◌, ◌≤◌, length, decimal, refl};
+ghost use Rattle.std.specs.Prelude.{◌≡◌, ◌≤◌, length, decimal};
 ghost use Rattle.time_below.specs.Calendar.{from_sunday};
 ghost use Rattle.time_below.specs.declared.format_description.component.Component.TheVariants as component;
 ghost use Rattle.time_below.specs.Weekday.{days_from_monday};
@@ -11,7 +11,7 @@ ghost use Rattle.time_fmt.specs.Text.{padded_text};
 
 use crate::error::Format;
 use crate::modifier::Modifier;
-use crate::writers::digits::{format_single_digit, format_two_digits};
+use crate::writers::digits::{format_single_digit, format_two_digits, write_number};
 use crate::writers::plain::{put_back, take_out, write_each, write_three};
 use time_below::Weekday;
 use time_below::format_description::{Group, modifier};
@@ -52,8 +52,6 @@ impl Modifier for modifier::WeekdayShort {
     ) -> Result<usize, Format> {
         Ok(fmt_weekday_short(output, value.weekday(state), self))
     }
-
-    ghost current = { λ _. refl };
 }
 
 /// Appends the weekday's English name.
@@ -98,8 +96,6 @@ impl Modifier for modifier::WeekdayLong {
     ) -> Result<usize, Format> {
         Ok(fmt_weekday_long(output, value.weekday(state), self))
     }
-
-    ghost current = { λ _. refl };
 }
 
 /// Appends the days from Sunday, 0 to 6, or 1 to 7 where Sunday is 1.
@@ -138,8 +134,6 @@ impl Modifier for modifier::WeekdaySunday {
     ) -> Result<usize, Format> {
         Ok(fmt_weekday_sunday(output, value.weekday(state), self))
     }
-
-    ghost current = { λ _. refl };
 }
 
 /// Appends the days from Monday, 0 to 6, or 1 to 7 where Monday is 1.
@@ -178,8 +172,6 @@ impl Modifier for modifier::WeekdayMonday {
     ) -> Result<usize, Format> {
         Ok(fmt_weekday_monday(output, value.weekday(state), self))
     }
-
-    ghost current = { λ _. refl };
 }
 
 /// Appends the week of the week calendar, 1 to 53, in two places (ISO 8601-1:2019).
@@ -210,10 +202,9 @@ impl Modifier for modifier::WeekNumberIso {
         value: &V,
         state: &mut V::State,
     ) -> Result<usize, Format> {
-        Ok(fmt_week_number_iso(output, value.iso_week_number(state), self))
+        let week = value.iso_week_number(state);
+        Ok(write_number(output, week.expand(), self.padding))
     }
-
-    ghost current = { λ _. refl };
 }
 
 /// Appends the week of the year by its Sundays, 0 to 53, in two places.
@@ -244,10 +235,9 @@ impl Modifier for modifier::WeekNumberSunday {
         value: &V,
         state: &mut V::State,
     ) -> Result<usize, Format> {
-        Ok(fmt_week_number_sunday(output, value.sunday_based_week(state), self))
+        let week = value.sunday_based_week(state);
+        Ok(write_number(output, week.expand(), self.padding))
     }
-
-    ghost current = { λ _. refl };
 }
 
 /// Appends the week of the year by its Mondays, 0 to 53, in two places.
@@ -278,10 +268,9 @@ impl Modifier for modifier::WeekNumberMonday {
         value: &V,
         state: &mut V::State,
     ) -> Result<usize, Format> {
-        Ok(fmt_week_number_monday(output, value.monday_based_week(state), self))
+        let week = value.monday_based_week(state);
+        Ok(write_number(output, week.expand(), self.padding))
     }
-
-    ghost current = { λ _. refl };
 }
 
 // The English name of a weekday, of at least three letters.

@@ -3,7 +3,7 @@
 //! The calendar year and the year of the week calendar have the same texts.
 #![tactic(auto, using(crate::proofs::TextLemmas::signed_lengths))]
 
-ghost use Rattle.std.specs.Prelude.{length, refl};
+ghost use Rattle.std.specs.Prelude.{length};
 ghost use Rattle.time_below.specs.declared.format_description.component.Component.TheVariants as component;
 ghost use Rattle.time_fmt.specs.Kind.{kind_text, kind_outcome, extended_year, standard_year};
 ghost use Rattle.time_fmt.specs.Outcome.{AppendsWhole};
@@ -53,10 +53,9 @@ impl Modifier for modifier::CalendarYearFullExtendedRange {
         value: &V,
         state: &mut V::State,
     ) -> Result<usize, Format> {
-        Ok(fmt_calendar_year_full_extended_range(output, value.calendar_year(state), self))
+        let year = value.calendar_year(state);
+        Ok(write_any_year(output, year, self.padding, self.sign_is_mandatory))
     }
-
-    ghost current = { λ _. refl };
 }
 
 /// Appends the sign and four places of the year, -9,999 to 9,999.
@@ -92,8 +91,6 @@ impl Modifier for modifier::CalendarYearFullStandardRange {
         let year = value.calendar_year(state);
         write_accepted_year(output, year, self.padding, self.sign_is_mandatory)
     }
-
-    ghost current = { λ _. refl };
 }
 
 /// Appends the sign and four places of the week calendar's year, -999,999 to 999,999
@@ -127,10 +124,9 @@ impl Modifier for modifier::IsoYearFullExtendedRange {
         value: &V,
         state: &mut V::State,
     ) -> Result<usize, Format> {
-        Ok(fmt_iso_year_full_extended_range(output, value.iso_year(state), self))
+        let year = value.iso_year(state);
+        Ok(write_any_year(output, year, self.padding, self.sign_is_mandatory))
     }
-
-    ghost current = { λ _. refl };
 }
 
 /// Appends the sign and four places of the week calendar's year, -9,999 to 9,999 (ISO 8601-1:2019).
@@ -166,8 +162,6 @@ impl Modifier for modifier::IsoYearFullStandardRange {
         let year = value.iso_year(state);
         write_accepted_year(output, year, self.padding, self.sign_is_mandatory)
     }
-
-    ghost current = { λ _. refl };
 }
 
 // Most years have four digits and no sign.
@@ -255,6 +249,21 @@ fn write_year_digits(output: &mut Vec<u8>, year: ru32<0, 999_999>, padding: Padd
     } else {
         write_many(output, &four_to_six_digits(year))
     }
+}
+
+// Appends a year of either calendar.
+#[inline(always)]
+fn write_any_year(
+    output: &mut Vec<u8>,
+    year: Year,
+    padding: Padding,
+    sign_is_mandatory: bool,
+) -> usize
+    requires room { HasRoom output.old 7 }
+    ensures appends { AppendsWhole 7 output.old output.new (Ok result)
+        (kind_outcome (extended_year padding sign_is_mandatory year)) }
+{
+    write_extended_year(output, year, padding, sign_is_mandatory)
 }
 
 // Appends a year of either calendar, if it has at most four digits.

@@ -2,7 +2,7 @@ use Rattle.std.proofs.Common.{sym, ◌∙◌}
 use Rattle.std.proofs.lemmas.Result.{err_from_is_err_and}
 use Rattle.time_below.proofs.NodeLemmas.{next_of, smaller_rest}
 use Rattle.time_fmt.proofs.GuaranteeLemmas.{text_of_component}
-use Rattle.time_fmt.proofs.Engine.{along_from_the_start, room_for_next, all_along, list_refused, written_along, first_appends}
+use Rattle.time_fmt.proofs.Engine.{along_from_the_start, room_for_next, all_along, list_refused, written_along, first_appends, no_first, appends_bytes, appends_nothing}
 use Rattle.time_fmt.proofs.formattable.engine.+engine.Goals as goal
 use Rattle.time_fmt.proofs.formattable.engine.+engine.Goals.{write_nodes-in-Some, write_nodes-in-None+in-Some-write_seldom}
 use Rattle.time_fmt.proofs.formattable.engine.+engine.Goals.{write_nodes-in-None+in-None-write_seldom+in_ok-write_node-in-None-write_seldom}
@@ -16,6 +16,13 @@ write_nodes-write_leaf-requires-clause-room g t c =
     let next = next_of g.T.Node.tree c.args.nodes.now c.loop-node.node-index c.node-item.result c.loop-node-test.true
     c.node-item.is in
     room_for_next c.args.output.now c.loop-node.taken _ _ _ _ _ c.loop-node.invariant next
+
+pub write_nodes-write_seldom-requires-clause-room : goal.write_nodes-write_seldom-requires-clause-room
+write_nodes-write_seldom-requires-clause-room g t c =
+    let next = next_of g.T.Node.tree c.args.nodes.now c.loop-node.node-index c.node-item.result c.loop-node-test.true
+    c.node-item.is in
+    rw (c.in-None.ensures.appends)
+    (room_for_next c.args.output.now c.loop-node.taken _ _ _ _ _ c.loop-node.invariant next)
 
 -- a leaf, or any other node after a leaf that wrote nothing
 pub write_nodes-loop-node-preserved : goal.write_nodes-loop-node-preserved
@@ -73,6 +80,24 @@ write_node-write_bytes-requires g t c = record { room = rw (← c.in-Bytes.ensur
 
 pub write_node-write-requires : goal.write_node-write-requires
 write_node-write-requires g t c = record { room = rw (← c.in-Text.ensures.tree) at c.requires.room }
+
+pub write_node-end_component-requires-clause-room : goal.write_node-end_component-requires-clause-room
+write_node-end_component-requires-clause-room g t c = rw (← c.in-Component.ensures.tree) at c.requires.room
+
+pub write_node-returns-in-Bytes-clause-appends : goal.write_node-returns-in-Bytes-clause-appends
+write_node-returns-in-Bytes-clause-appends g t c =
+    rw (← c.in-Bytes.ensures.tree) (appends_bytes c.in-Bytes.bytes.now _ c.write_bytes.ensures.writes)
+
+pub write_node-returns-in-All-clause-appends : goal.write_node-returns-in-All-clause-appends
+write_node-returns-in-All-clause-appends g t c = rw (← c.in-All.ensures.tree) c.write_nodes.ensures.appends
+
+pub write_node-returns-in-None-clause-appends : goal.write_node-returns-in-None-clause-appends
+write_node-returns-in-None-clause-appends g t c =
+    rw (← c.in-First.ensures.tree) (no_first g.T.Node.tree c.in-First.nodes.now c.args.output.now _ (sym c.in-None.ensures.value))
+
+pub write_node-returns-in-Nothing-clause-appends : goal.write_node-returns-in-Nothing-clause-appends
+write_node-returns-in-Nothing-clause-appends g t c =
+    rw (← c.in-Nothing.ensures.tree) (appends_nothing c.args.output.now _)
 
 pub write_node-returns-in-Component-clause-appends : goal.write_node-returns-in-Component-clause-appends
 write_node-returns-in-Component-clause-appends g t c =

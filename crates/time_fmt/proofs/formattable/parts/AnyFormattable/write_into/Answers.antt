@@ -6,13 +6,13 @@ use Rattle.time_fmt.proofs.formattable.parts.AnyFormattable.write_into.Goals as 
 
 pub returns-then-not-is_supplied-clause-appends : goal.returns-then-not-is_supplied-clause-appends
 returns-then-not-is_supplied-clause-appends g c =
-    let current = g.met.M.Modifier.current c.args.self.now in
+    let current = c.if-not-is_supplied.ensures.current in
     rw (outcome_without_group _ _ current (c.if-not-is_supplied.ensures.values c.args.value.now))
     (appends_nothing c.args.output.now _ insufficient tt)
 
 pub returns-clause-appends : goal.returns-clause-appends
 returns-clause-appends g c =
-    let current = g.met.M.Modifier.current c.args.self.now in
+    let current = c.if-not-is_supplied.ensures.current in
     rw (outcome_with_group _ _ current (c.if-not-is_supplied.ensures.values c.args.value.now))
     c.write_supplied.ensures.appends.appends
 
