@@ -14,7 +14,8 @@ use Rattle.time_fmt.specs.Ends.{refusal_of}
 use Rattle.time_fmt.specs.Guarantee.{IsTextIf, AppendsTree}
 use Rattle.time_fmt.specs.Outcome.{Outcome, Refusal}
 use Rattle.time_fmt.specs.Room.{HasRoom, Writes}
-use Rattle.time_fmt.proofs.WriteLemmas.{join_refused, join_done}
+use Rattle.time_fmt.proofs.EndLemmas.{ends_complete}
+use Rattle.time_fmt.proofs.WriteLemmas.{appends_text, join_refused, join_done}
 use Rattle.time_fmt.proofs.GuaranteeLemmas.{text_more, text_stops, empty_utf8}
 
 -- a list was written so far without a refusal: its rest is the rest of the outcome, and fits the capacity
@@ -153,19 +154,13 @@ all_along tree nodes i old now f past along =
 pub appends_bytes : {count : ℕ} {old new : Vec ℕ Global} (bytes : List ℕ) (f : Facts) → Writes old new count bytes
     → AppendsTree (byte_literal bytes) f old new (Ok tt)
 appends_bytes bytes f w = record {
-  ends = record {
-    appended = w.appended;
-    refusal = refl;
-    grown = w.grown;
-    capacity = w.capacity;
-    within = omega (arith, w.grown);
-  };
+  ends = ends_complete (record { appends = appends_text w; within = omega (arith, w.grown) });
   text = λ guaranteed. let never : ⊥ = cc in absurd never;
 }
 
 -- where there is nothing, nothing is appended
-pub appends_nothing : (output : Vec ℕ Global) (f : Facts) → AppendsTree nothing f output output (Ok tt)
-appends_nothing output f = record {
+pub nothing_appends : (output : Vec ℕ Global) (f : Facts) → AppendsTree nothing f output output (Ok tt)
+nothing_appends output f = record {
   ends = record {
     appended = sym (append-nil output.items);
     refusal = refl;
@@ -180,7 +175,7 @@ appends_nothing output f = record {
 pub no_first : {A : Type 0} (tree : A → Tree) (nodes : List A) (output : Vec ℕ Global) (f : Facts)
     → slice_get nodes 0 ≡ None → AppendsTree (first_of (trees (map tree nodes))) f output output (Ok tt)
 no_first tree [] output f none =
-    let same = appends_nothing output f in record { ends = same.ends; text = same.text }
+    let same = nothing_appends output f in record { ends = same.ends; text = same.text }
 no_first tree (x ∷ xs) output f none = let no : ⊥ = cc in absurd no
 
 -- the first of a list that begins with x appends what x does

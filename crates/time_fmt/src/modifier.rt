@@ -48,8 +48,8 @@ pub trait Modifier: Copy {
         ensures agrees { V.agrees state.new value.now };
 }
 
-/// Whether the values of a type supply the group of a component. No more than `inline`: what becomes part
-/// of a large text is counted before anything is folded.
+/// Whether the values of a type supply the group of a component, which is not deprecated. No more than
+/// `inline`: what becomes part of a large text is counted before anything is folded.
 #[inline]
 pub(crate) fn is_supplied<M: Modifier, V: ComponentProvider>(part: M) -> bool
     ensures supplied { result ≡ is_supplied V.SUPPLIES_DATE V.SUPPLIES_TIME

@@ -53,8 +53,8 @@ pub fn format_two_digits(output: &mut Vec<u8>, value: ru8<0, 99>, padding: Paddi
     }
 }
 
-/// Appends the text of a component that is a number in two places. Its clauses are those that
-/// `write_supplied` has then, so that no impl has to search for them.
+/// Appends the text of a component that is a number in two places. Its clauses are those of
+/// `write_supplied` for such a component, so that the impl has nothing else to prove.
 #[inline(always)]
 #[tactic(auto, using(crate::proofs::TextLemmas::text_lengths))]
 pub(super) fn write_number(output: &mut Vec<u8>, value: ru8<0, 99>, padding: Padding) -> usize

@@ -2,7 +2,7 @@ use Rattle.std.proofs.Common.{sym, ◌∙◌}
 use Rattle.std.proofs.lemmas.Result.{err_from_is_err_and}
 use Rattle.time_below.proofs.NodeLemmas.{next_of, smaller_rest}
 use Rattle.time_fmt.proofs.GuaranteeLemmas.{text_of_component}
-use Rattle.time_fmt.proofs.Engine.{along_from_the_start, room_for_next, all_along, list_refused, written_along, first_appends, no_first, appends_bytes, appends_nothing}
+use Rattle.time_fmt.proofs.Engine.{along_from_the_start, room_for_next, all_along, list_refused, written_along, first_appends, no_first, appends_bytes, nothing_appends}
 use Rattle.time_fmt.proofs.formattable.engine.+engine.Goals as goal
 use Rattle.time_fmt.proofs.formattable.engine.+engine.Goals.{write_nodes-in-Some, write_nodes-in-None+in-Some-write_seldom}
 use Rattle.time_fmt.proofs.formattable.engine.+engine.Goals.{write_nodes-in-None+in-None-write_seldom+in_ok-write_node-in-None-write_seldom}
@@ -97,7 +97,7 @@ write_node-returns-in-None-clause-appends g t c =
 
 pub write_node-returns-in-Nothing-clause-appends : goal.write_node-returns-in-Nothing-clause-appends
 write_node-returns-in-Nothing-clause-appends g t c =
-    rw (← c.in-Nothing.ensures.tree) (appends_nothing c.args.output.now _)
+    rw (← c.in-Nothing.ensures.tree) (nothing_appends c.args.output.now _)
 
 pub write_node-returns-in-Component-clause-appends : goal.write_node-returns-in-Component-clause-appends
 write_node-returns-in-Component-clause-appends g t c =
