@@ -11,7 +11,6 @@ import sys
 
 TOP = pathlib.Path(__file__).resolve().parent.parent
 RECIPES = "crates/time_known_tests/src/front_page.rt"
-MOST_LINES = 170
 
 
 def read(path):
@@ -94,9 +93,6 @@ def main():
     front, recipes = read("README.md"), read("docs/RECIPES.md")
     differing = pieces(front) + pieces(recipes) + commands(front)
     differing += [it for it in re.findall(r"^pub fn \w+", read(RECIPES), re.M) if it not in recipes]
-    lines = len(front.splitlines())
-    if lines > MOST_LINES:
-        differing.append(f"README.md has {lines} lines, more than {MOST_LINES}")
     for it in differing:
         print(f"the documents and the code differ: {it}")
     shown = len(blocks(front)) + len(blocks(recipes))

@@ -1,5 +1,5 @@
 #!/usr/bin/env python3
-"""Measures the documents: no sentence outside code and tables has more than 40 words, nor have all more than allowed."""
+"""Measures the documents: no sentence outside code and tables has more than 40 words."""
 
 import pathlib
 import re
@@ -8,8 +8,6 @@ import sys
 TOP = pathlib.Path(__file__).resolve().parent.parent
 PAGES = ["README.md", "CONTRIBUTING.md", "CHANGELOG.md", "docs/*.md", "crates/*/README.md"]
 MOST_OF_SENTENCE = 40
-# Two thirds of what the documents had before they were shortened.
-MOST_OF_ALL = 15_992
 
 
 def paragraphs(page):
@@ -29,9 +27,8 @@ def main():
     long = [(path, it) for path, it in found if len(it.split()) > MOST_OF_SENTENCE]
     for path, it in long:
         print(f"{path.relative_to(TOP)}: a sentence of {len(it.split())} words: {it[:80]}")
-    words = sum(len(text.split()) for text in texts.values())
-    print(f"{len(found)} sentences, {len(long)} too long; {words} words of {MOST_OF_ALL}")
-    return 1 if long or words > MOST_OF_ALL else 0
+    print(f"{len(found)} sentences, {len(long)} too long")
+    return 1 if long else 0
 
 
 if __name__ == "__main__":

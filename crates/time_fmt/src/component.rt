@@ -17,7 +17,7 @@ use time_provide::ComponentProvider;
 /// and returns the number of bytes. Of any other component, and of one that is refused, writes nothing
 /// and returns `None`.
 #[inline(always)]
-pub(crate) fn write_often<V: ComponentProvider>(
+pub fn write_often<V: ComponentProvider>(
     component: Component,
     output: &mut Vec<u8>,
     value: &V,
@@ -147,7 +147,7 @@ fn write_here<M: Modifier, V: ComponentProvider>(
 /// Appends the text of any component, of a deprecated one that of the current one in its place. If it is
 /// refused, writes nothing and returns the refusal.
 #[inline]
-pub(crate) fn end_component<V: ComponentProvider>(
+pub fn end_component<V: ComponentProvider>(
     component: Component,
     output: &mut Vec<u8>,
     value: &V,

@@ -156,7 +156,7 @@ pub trait Formattable: ComputeMetadata {
 /// Reserves spare capacity for this many bytes if it is missing. One reservation at least doubles
 /// the capacity.
 #[inline]
-fn make_room(output: &mut Vec<u8>, width: usize) -> Result<(), AllocError>
+pub fn make_room(output: &mut Vec<u8>, width: usize) -> Result<(), AllocError>
     ensures items { output.new.items ≡ output.old.items }
     ensures len { vec_len output.new ≡ vec_len output.old }
     ensures room { OnOk result (HasRoom output.new width) }

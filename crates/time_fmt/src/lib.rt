@@ -11,10 +11,11 @@ pub mod parts;
 mod refused;
 pub mod writers;
 
-pub use component::component_write_into;
+pub use component::{component_write_into, end_component, write_often};
 pub use error::{Error, Format};
-pub use formattable::{BorrowedItems, Formattable, Literal, OwnedItems, v3_write_into};
+pub use formattable::{BorrowedItems, Formattable, Literal, OwnedItems, make_room, v3_write_into};
 pub use metadata::ComputeMetadata;
 pub use modifier::Modifier;
+pub use refused::Refused;
 pub use time_below::format_description::Metadata;
 pub use time_provide::{ComponentProvider, DateState, TimestampState};

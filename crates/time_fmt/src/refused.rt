@@ -8,7 +8,7 @@ use time_below::ComponentRange;
 /// What the engine refuses. A `Result<(), Refused>` is returned in registers, where one with the
 /// library's error lies in memory.
 #[derive(Clone, Copy)]
-pub(crate) enum Refused {
+pub enum Refused {
     /// A component is of a group that the value does not supply.
     Unsupplied,
     /// A year is outside the range of its component.

@@ -9,7 +9,7 @@ use std::mem::{forget, replace};
 /// that borrows a vector, keeps that vector in memory for the whole of the caller. So the slow
 /// paths of writers borrow one that they have taken out, and put it back.
 #[inline(always)]
-pub(crate) fn take_out(output: &mut Vec<u8>) -> Vec<u8>
+pub fn take_out(output: &mut Vec<u8>) -> Vec<u8>
     ensures taken { result ≡ output.old }
     ensures left { vec_capacity output.new ≡ 0 }
 {
@@ -19,7 +19,7 @@ pub(crate) fn take_out(output: &mut Vec<u8>) -> Vec<u8>
 
 /// Puts the vector back in place of the empty one, which has no memory to free.
 #[inline(always)]
-pub(crate) fn put_back(output: &mut Vec<u8>, taken: Vec<u8>)
+pub fn put_back(output: &mut Vec<u8>, taken: Vec<u8>)
     ensures put { output.new ≡ taken }
 {
     forget(replace(output, taken))
