@@ -89,6 +89,30 @@ const OTHER_CHOICES: &[(Component, &str, usize)] = components! {
     OffsetHour { padding: Zero, sign_is_mandatory: false } "-06" 3,
 };
 
+/// Weeks and weekdays that tell the three ways of counting apart, of 2005-01-02: a Sunday before the first Monday
+/// of its year, in the last week of 2004 (ISO 8601-1:2019, week date).
+pub(super) const SUNDAY: &[(Component, &str, usize)] = components! {
+    WeekdaySunday { one_indexed: true } "1" 1,
+    WeekdayMonday { one_indexed: true } "7" 1,
+    WeekNumberIso { padding: Zero } "53" 2,
+    WeekNumberSunday { padding: Zero } "01" 2,
+    WeekNumberMonday { padding: Zero } "00" 2,
+    CalendarYearFullExtendedRange { padding: Zero, sign_is_mandatory: false } "2005" 7,
+    CalendarYearLastTwo { padding: Zero } "05" 2,
+    IsoYearFullExtendedRange { padding: Zero, sign_is_mandatory: false } "2004" 7,
+    IsoYearLastTwo { padding: Zero } "04" 2,
+    Weekday { repr: WeekdayRepr::Sunday, one_indexed: true, case_sensitive: true } "1" 1,
+    Weekday { repr: WeekdayRepr::Monday, one_indexed: true, case_sensitive: true } "7" 1,
+    WeekNumber { padding: Zero, repr: WeekNumberRepr::Iso } "53" 2,
+    WeekNumber { padding: Zero, repr: WeekNumberRepr::Sunday } "01" 2,
+    WeekNumber { padding: Zero, repr: WeekNumberRepr::Monday } "00" 2,
+};
+
+#[test]
+fn weeks_of_a_sunday_are_counted_from_three_days(rt: HostRuntime) {
+    assert_components(&rt, rt.alloc(), Value::Date(2005, 1, 2), SUNDAY);
+}
+
 #[test]
 fn each_component_has_the_text_and_the_width_of_the_table(rt: HostRuntime) {
     let value = Value::Moment((1997, 11, 12), (9, 55, 6, 120_000_000), (-6, 0, 0));
