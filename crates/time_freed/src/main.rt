@@ -13,8 +13,8 @@ use time_below::{Date, Month, OffsetDateTime, Time, UtcDateTime, UtcOffset};
 use time_fmt::{BorrowedItems, ComponentProvider, Format, Formattable, OwnedItems};
 use time_known::{Iso8601, Rfc2822, Rfc3339, stamp_into};
 
-/// The lengths of texts, from less than what an allocator keeps apart to what it maps alone.
-const LENGTHS: &[usize] = &[33, 1_000, 10_000];
+/// The lengths of texts: small ones, and one of so many bytes that an allocator maps it alone.
+const LENGTHS: &[usize] = &[33, 1_000, 10_000, 100_000];
 
 /// The hour, which a date does not supply.
 const HOUR: Component = Component::Hour24(Hour24 {
