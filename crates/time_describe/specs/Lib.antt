@@ -1,0 +1,9 @@
+pub mod Names
+pub mod Reading
+pub mod Pieces
+pub mod Outcome
+pub mod Description
+pub mod Grammar
+pub mod Conversions
+pub mod Strftime
+pub mod StrftimeGrammar

@@ -1,0 +1,31 @@
+//! Laws of descriptions, for all texts.
+ghost use Rattle.std.specs.Prelude.{◌≡◌, ℕ, List, [], Ok, Some};
+ghost use Rattle.time_below.specs.Tree.{Tree};
+ghost use Rattle.time_describe.specs.Conversions.{composition, composed};
+ghost use Rattle.time_describe.specs.Grammar.{Parts, spelling, Means};
+ghost use Rattle.time_describe.specs.Reading.{described};
+ghost use Rattle.time_describe.specs.Strftime as strftime;
+ghost use Rattle.time_describe.specs.StrftimeGrammar as strftime_grammar;
+ghost use Rattle.time_describe.specs.StrftimeGrammar.{Part};
+
+/// Each text that the grammar spells is a description, of the items that the grammar says.
+pub fn what_is_spelled_is_described()
+    ensures { (ps : Parts) (all : List Tree) → Means 0 [] [] ps all → described (spelling ps []) ≡ Ok all }
+{}
+
+/// Each text that the grammar of strftime spells is a description, of the items that the grammar
+/// says.
+pub fn what_strftime_spells_is_described()
+    ensures { (ps : List Part) (all : List Tree) → strftime_grammar.Means [] [] ps all → strftime.described (strftime_grammar.spelling ps) ≡ Ok all }
+{}
+
+/// Nothing else is: each description is what the grammar of strftime spells, with these items.
+pub fn what_strftime_describes_is_spelled()
+    ensures { (text : List ℕ) (all : List Tree) → strftime.described text ≡ Ok all
+        → (ps : List Part) × (strftime_grammar.spelling ps ≡ text) × strftime_grammar.Means [] [] ps all }
+{}
+
+/// A composition is what its text describes.
+pub fn what_a_composition_means()
+    ensures { (letter : ℕ) (text : List ℕ) → composition letter ≡ Some text → strftime.described text ≡ Ok (composed text) }
+{}

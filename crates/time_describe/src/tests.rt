@@ -1,0 +1,137 @@
+use super::*;
+use std::test::*;
+use time_below::format_description::{Component, OwnedFormatItem};
+
+#[test]
+fn items_of_a_text(rt: HostRuntime) -> Result<(), Fail> {
+    let OwnedFormatItem::Compound(items) = parse(rt.alloc(), b"[year]-[ Month  repr:short ]\\[")?
+    else {
+        return Err(Fail::from("no list"));
+    };
+    assert_eq!(rt; items.len(), 4);
+    assert!(rt;
+        matches!(
+            &items[0],
+            OwnedFormatItem::Component(Component::CalendarYearFullExtendedRange(_))
+        )
+    );
+    assert!(rt;
+        matches!(
+            &items[2],
+            OwnedFormatItem::Component(Component::MonthShort(_))
+        )
+    );
+    Ok(())
+}
+
+#[test]
+fn places_of_faults(rt: HostRuntime) {
+    for (text, reason, index) in [
+        (b"[year".as_slice(), Reason::UnclosedBracket, 0),
+        (b"a[]".as_slice(), Reason::MissingName, 2),
+        (b"ab[yea]".as_slice(), Reason::UnknownName, 3),
+        (b"[day pad:none]".as_slice(), Reason::UnknownModifier, 5),
+        (b"[day padding:no]".as_slice(), Reason::InvalidValue, 5),
+        (b"x\\y".as_slice(), Reason::InvalidEscape, 1),
+        (b"x\\".as_slice(), Reason::InvalidEscape, 1),
+        (b"[day [".as_slice(), Reason::UnclosedBracket, 0),
+        (b"a[optional ]".as_slice(), Reason::MissingItems, 11),
+        (b"[optional [a] [b]]".as_slice(), Reason::UnexpectedByte, 14),
+        (b"[first [a] x]".as_slice(), Reason::UnexpectedByte, 11),
+        (b"[first [a".as_slice(), Reason::UnclosedBracket, 7),
+        (b"[first [a]".as_slice(), Reason::UnclosedBracket, 0),
+    ] {
+        match parse(rt.alloc(), text) {
+            Ok(_) => assert!(rt; false, "{text:?}"),
+            Err(error) => {
+                assert_eq!(rt;
+                    error,
+                    InvalidDescription::Invalid { reason, index },
+                    "{text:?}"
+                )
+            }
+        }
+    }
+}
+
+#[test]
+fn lists_in_lists(rt: HostRuntime) -> Result<(), Fail> {
+    let OwnedFormatItem::Compound(items) = parse(
+        rt.alloc(),
+        b"[first [a[optional [:[second]]]] [b] ]]",
+    )?
+    else {
+        return Err(Fail::from("no list"));
+    };
+    assert_eq!(rt; items.len(), 2);
+    assert!(rt; matches!(&items[0], OwnedFormatItem::First(lists) if lists.len() == 2));
+    Ok(())
+}
+
+#[test]
+fn the_greatest_depth(rt: HostRuntime) -> Result<(), Fail> {
+    let mut text = Vec::new(rt.alloc());
+    for _ in 0..33 {
+        text.extend_from_slice(b"[optional [")?;
+    }
+    assert_eq!(rt;
+        parse(rt.alloc(), &text[..32 * 11]).err(),
+        Some(InvalidDescription::Invalid {
+            reason: Reason::UnclosedBracket,
+            index: 31 * 11 + 10
+        })
+    );
+    assert_eq!(rt;
+        parse(rt.alloc(), &text).err(),
+        Some(InvalidDescription::Invalid {
+            reason: Reason::TooDeep,
+            index: 32 * 11 + 10
+        })
+    );
+    Ok(())
+}
+
+#[test]
+fn items_of_a_strftime_text(rt: HostRuntime) -> Result<(), Fail> {
+    let OwnedFormatItem::Compound(items) = parse_strftime(rt.alloc(), b"%e. %B, %F%%%:z")? else {
+        return Err(Fail::from("no list"));
+    };
+    assert_eq!(rt; items.len(), 13);
+    assert!(rt; matches!(&items[0], OwnedFormatItem::Component(Component::Day(_))));
+    assert!(rt;
+        matches!(
+            &items[2],
+            OwnedFormatItem::Component(Component::MonthLong(_))
+        )
+    );
+    Ok(())
+}
+
+#[test]
+fn places_of_faults_of_strftime(rt: HostRuntime) {
+    for (text, reason, index) in [
+        (b"%H:%".as_slice(), StrftimeReason::Unfinished, 3),
+        (b"%_".as_slice(), StrftimeReason::Unfinished, 0),
+        (b"at %i".as_slice(), StrftimeReason::UnknownConversion, 4),
+        (b"%::z".as_slice(), StrftimeReason::UnknownConversion, 1),
+        (b"%T %Z".as_slice(), StrftimeReason::ZoneName, 4),
+        (b"%Ey".as_slice(), StrftimeReason::LocaleModifier, 1),
+        (b"%5Y".as_slice(), StrftimeReason::FieldWidth, 1),
+        (b"%3S".as_slice(), StrftimeReason::FieldWidth, 1),
+        (b"%^a".as_slice(), StrftimeReason::CaseFlag, 1),
+        (b"%+".as_slice(), StrftimeReason::PlusFlag, 1),
+        (b"%-0d".as_slice(), StrftimeReason::SecondFlag, 2),
+        (b"%-F".as_slice(), StrftimeReason::FlagWithoutNumber, 2),
+    ] {
+        match parse_strftime(rt.alloc(), text) {
+            Ok(_) => assert!(rt; false, "{text:?}"),
+            Err(error) => {
+                assert_eq!(rt;
+                    error,
+                    InvalidStrftime::Invalid { reason, index },
+                    "{text:?}"
+                )
+            }
+        }
+    }
+}
