@@ -1,3 +1,7 @@
+pub mod LiteralLemmas
+pub mod CaseLemmas
+pub mod InsideLemmas
+pub mod ValueLemmas
 pub mod PlaceLemmas
 pub mod ReadLemmas
 pub mod FrameLemmas

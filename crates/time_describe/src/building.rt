@@ -1,12 +1,14 @@
 //! Items, put one after the other into lists.
 ghost use Rattle.std.specs.Prelude.{◌≡◌, ◌+◌, vec_len, List, ◌<◌, ◌≤◌, ◌++◌, ◌∷◌, [], length, map, IfOk, OnOk};
 ghost use Rattle.time_below.specs.Tree.{owned_tree, byte_literal, of_component};
+ghost use Rattle.time_describe.specs.Literal.{literal_of};
 ghost use Rattle.time_describe.specs.Outcome.{Gives, GoesOn, frames_view};
 ghost use Rattle.time_describe.specs.Reading as reading;
 ghost use Rattle.time_describe.specs.Reading.{nested, takes_list, read, outside, between, escape};
 
 use crate::fault::{Failure, Fault, Reason};
 use crate::frame::Frame;
+use crate::literal::literal;
 use crate::pieces::{
     Bracketed, Nest, after_gap, first_and_rest, in_brackets, is_escapable, literal_len,
 };
@@ -27,6 +29,18 @@ pub fn put_literal(
 {
     let literal = Vec::from_slice(alloc, bytes)?;
     items.push(OwnedFormatItem::Literal(literal))?;
+    Ok(())
+}
+
+/// Adds the bytes as a literal, a text where they are UTF-8.
+fn put_run(
+    alloc: Global,
+    items: &mut Vec<OwnedFormatItem>,
+    bytes: &[u8],
+) -> Result<(), AllocError>
+    ensures { OnOk result (map owned_tree items.new.items ≡ map owned_tree items.old.items ++ literal_of bytes.now ∷ []) }
+{
+    items.push(literal(alloc, bytes)?)?;
     Ok(())
 }
 
@@ -139,7 +153,7 @@ fn escaped<'a>(
 {
     match first_and_rest(rest) {
         Some((escaped, after)) if is_escapable(escaped) => {
-            put_literal(alloc, items, &[escaped])?;
+            put_run(alloc, items, &[escaped])?;
             Ok(after)
         }
         _ => Err(Failure::Invalid(Fault {
@@ -219,7 +233,7 @@ pub fn step<'a>(
     if first == b']' && !frames.is_empty() {
         return close_list(alloc, frames, items, rest);
     }
-    let (literal, after) = text.split_at(literal_len(!frames.is_empty(), text));
-    put_literal(alloc, items, literal)?;
+    let (run, after) = text.split_at(literal_len(!frames.is_empty(), text));
+    put_run(alloc, items, run)?;
     Ok(after)
 }

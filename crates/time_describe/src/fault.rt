@@ -5,26 +5,41 @@ ghost use Rattle.time_describe.specs.declared.fault.Failure.TheVariants.{OutOfMe
 use std::alloc::{AllocError, AllocFailed};
 
 /// What is wrong at a place of a text.
-#[derive(Clone, Copy, Debug, PartialEq, Eq)]
+#[derive(Clone, Copy, Debug, PartialEq, Eq, thiserror::Error)]
 pub enum Reason {
-    /// A bracket is not closed.
+    /// An opening bracket is not closed.
+    #[error("unclosed opening bracket")]
     UnclosedBracket,
     /// What follows a backslash is no backslash and no bracket.
+    #[error("invalid escape sequence")]
     InvalidEscape,
     /// Brackets have no name in them.
+    #[error("missing component name")]
     MissingName,
     /// No component has this name.
+    #[error("unknown component")]
     UnknownName,
-    /// The component has no such choice.
+    /// The component has no modifier of this name.
+    #[error("unknown modifier")]
     UnknownModifier,
-    /// The choice has no such value.
+    /// The modifier has no such value.
+    #[error("invalid value of a modifier")]
     InvalidValue,
-    /// `[optional` has no list of items.
+    /// An `ignore` has no `count`.
+    #[error("missing modifier `count`")]
+    MissingModifier,
+    /// An `optional` has no list of items.
+    #[error("missing list of items")]
     MissingItems,
     /// Something other than whitespace and a bracket is between lists of items.
+    #[error("expected a bracket")]
     UnexpectedByte,
-    /// Lists of items are too deep in one another.
+    /// The lists of items are more than 32 deep in one another.
+    #[error("lists of items too deep")]
     TooDeep,
+    /// More than 65,536 items begin.
+    #[error("too many items")]
+    TooManyItems,
 }
 
 /// What is wrong, and where.

@@ -6,11 +6,14 @@ mod description;
 mod fault;
 mod frame;
 pub mod laws;
+mod literal;
+mod marks;
 mod names;
 mod pieces;
 mod strftime;
+mod values;
 
-pub use description::{InvalidDescription, parse};
+pub use description::{InText, InvalidDescription, parse_owned};
 pub use fault::Reason;
 pub use strftime::fault::StrftimeReason;
 pub use strftime::{InvalidStrftime, parse_strftime};

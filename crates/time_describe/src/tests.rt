@@ -4,7 +4,7 @@ use time_below::format_description::{Component, OwnedFormatItem};
 
 #[test]
 fn items_of_a_text(rt: HostRuntime) -> Result<(), Fail> {
-    let OwnedFormatItem::Compound(items) = parse(rt.alloc(), b"[year]-[ Month  repr:short ]\\[")?
+    let OwnedFormatItem::Compound(items) = parse_owned(rt.alloc(), b"[year]-[ Month  repr:short ]\\[")?
     else {
         return Err(Fail::from("no list"));
     };
@@ -41,7 +41,7 @@ fn places_of_faults(rt: HostRuntime) {
         (b"[first [a".as_slice(), Reason::UnclosedBracket, 7),
         (b"[first [a]".as_slice(), Reason::UnclosedBracket, 0),
     ] {
-        match parse(rt.alloc(), text) {
+        match parse_owned(rt.alloc(), text) {
             Ok(_) => assert!(rt; false, "{text:?}"),
             Err(error) => {
                 assert_eq!(rt;
@@ -56,7 +56,7 @@ fn places_of_faults(rt: HostRuntime) {
 
 #[test]
 fn lists_in_lists(rt: HostRuntime) -> Result<(), Fail> {
-    let OwnedFormatItem::Compound(items) = parse(
+    let OwnedFormatItem::Compound(items) = parse_owned(
         rt.alloc(),
         b"[first [a[optional [:[second]]]] [b] ]]",
     )?
@@ -75,14 +75,14 @@ fn the_greatest_depth(rt: HostRuntime) -> Result<(), Fail> {
         text.extend_from_slice(b"[optional [")?;
     }
     assert_eq!(rt;
-        parse(rt.alloc(), &text[..32 * 11]).err(),
+        parse_owned(rt.alloc(), &text[..32 * 11]).err(),
         Some(InvalidDescription::Invalid {
             reason: Reason::UnclosedBracket,
             index: 31 * 11 + 10
         })
     );
     assert_eq!(rt;
-        parse(rt.alloc(), &text).err(),
+        parse_owned(rt.alloc(), &text).err(),
         Some(InvalidDescription::Invalid {
             reason: Reason::TooDeep,
             index: 32 * 11 + 10
