@@ -6,6 +6,7 @@ mod description;
 mod fault;
 mod frame;
 pub mod laws;
+mod literal;
 mod names;
 mod pieces;
 mod strftime;
@@ -13,7 +14,7 @@ mod strftime;
 pub use description::{InvalidDescription, parse};
 pub use fault::Reason;
 pub use strftime::fault::StrftimeReason;
-pub use strftime::{InvalidStrftime, parse_strftime};
+pub use strftime::{InvalidStrftime, parse_strftime_owned};
 
 #[cfg(test)]
 mod tests;
