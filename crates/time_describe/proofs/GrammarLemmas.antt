@@ -14,7 +14,7 @@ use Rattle.time_describe.specs.Marks.{past}
 use Rattle.time_describe.specs.Pieces.{ends_literal, is_nested}
 use Rattle.std.proofs.lemmas.Bool.{lt-ltb}
 use Rattle.time_describe.specs.Grammar.{Word, Inside, Parts, done, plain, escaped, in_brackets, with_lists, Lists, no_list, list, words, spelling, lists_spelling, AreWhite, IsWord, IsChoice, IsChosen, IsInside, IsApart, is_deep, Means, ListsMean}
-use Rattle.time_describe.specs.Reading.{Frame, between, keyword, nested, is_special, is_escapable, ends_word, at_fault, with_word, nest_of, with_run, outside, brackets, read, of_name, within_limit, IsWithinLimit, described}
+use Rattle.time_describe.specs.Reading.{Frame, between, keyword, nested, is_special, is_escapable, ends_word, at_fault, with_word, nest_of, with_literal, outside, brackets, read, of_name, within_limit, IsWithinLimit, described}
 use Rattle.time_describe.proofs.ReadLemmas.{white_byte, closes, word_byte, ended_word, plain_byte, ended_keyword, list_opened, lists_closed}
 
 -- what whitespace is not
@@ -122,22 +122,22 @@ lists_end (list gap ps ls) s depth n before all apart h e = some_gap gap (91 ∷
 -- ---- outside of brackets, behind a literal
 
 escaped_read : (fs : List Frame) (b : ℕ) (items : List Tree) (literal s : List ℕ) → is_escapable b ≡ true
-    → read fs outside items literal (92 ∷ b ∷ s) ≡ read fs outside (with_run items literal ++ literal_of (b ∷ []) ∷ []) [] s
+    → read fs outside items literal (92 ∷ b ∷ s) ≡ read fs outside (with_literal items literal ++ literal_of (b ∷ []) ∷ []) [] s
 unfolding read
 escaped_read [] b items literal s h = rw h refl
 escaped_read (_ ∷ fs) b items literal s h = rw h refl
 
-opened_read : (fs : List Frame) (items : List Tree) (literal s : List ℕ) → read fs outside items literal (91 ∷ s) ≡ read fs (brackets (length s + 1) None []) (with_run items literal) [] s
+opened_read : (fs : List Frame) (items : List Tree) (literal s : List ℕ) → read fs outside items literal (91 ∷ s) ≡ read fs (brackets (length s + 1) None []) (with_literal items literal) [] s
 unfolding read
 opened_read [] items literal s = refl
 opened_read (_ ∷ fs) items literal s = refl
 
 closed_read : (f : Frame) (fs : List Frame) (items : List Tree) (literal s : List ℕ)
-    → read (f ∷ fs) outside items literal (93 ∷ s) ≡ read fs (between f.nest f.opened (f.lists ++ all_of (trees (with_run items literal)) ∷ [])) f.items [] s
+    → read (f ∷ fs) outside items literal (93 ∷ s) ≡ read fs (between f.nest f.opened (f.lists ++ all_of (trees (with_literal items literal)) ∷ [])) f.items [] s
 unfolding read
 closed_read f fs items literal s = refl
 
-ended_read : (items : List Tree) (literal : List ℕ) → read [] outside items literal [] ≡ Ok (with_run items literal)
+ended_read : (items : List Tree) (literal : List ℕ) → read [] outside items literal [] ≡ Ok (with_literal items literal)
 unfolding read
 ended_read items literal = refl
 
@@ -151,7 +151,7 @@ lists_closed_any fs n o ts items s t h = lists_closed fs n o ts items 93 s t ref
 
 mutual
   pub parts_read : (ps : Parts) (fs : List Frame) (after : List ℕ) (X : List Tree → Result (List Tree) Fault)
-      → ((items : List Tree) (literal : List ℕ) → read fs outside items literal after ≡ X (with_run items literal))
+      → ((items : List Tree) (literal : List ℕ) → read fs outside items literal after ≡ X (with_literal items literal))
       → (items : List Tree) (literal : List ℕ) (all : List Tree) → Means (length fs) items literal ps all
       → read fs outside items literal (spelling ps after) ≡ X all
   parts_read done fs after X ends items literal all h = ends items literal ∙ ap X (sym h)
@@ -160,15 +160,15 @@ mutual
       ∙ parts_read ps fs after X ends items (literal ++ b ∷ []) all h.1
   parts_read (escaped b ps) fs after X ends items literal all h =
       escaped_read fs b items literal (spelling ps after) h.0
-      ∙ parts_read ps fs after X ends (with_run items literal ++ literal_of (b ∷ []) ∷ []) [] all h.1
+      ∙ parts_read ps fs after X ends (with_literal items literal ++ literal_of (b ∷ []) ∷ []) [] all h.1
   parts_read (in_brackets i ps) fs after X ends items literal all h =
       opened_read fs items literal (words (i.name ∷ i.choices) (i.gap ++ 93 ∷ spelling ps after))
-      ∙ inside_read fs i (length (words (i.name ∷ i.choices) (i.gap ++ 93 ∷ spelling ps after)) + 1) h.0 (with_run items literal) (spelling ps after) h.1
-      ∙ parts_read ps fs after X ends (with_run items literal ++ of_component (current_component h.0) ∷ []) [] all h.2
+      ∙ inside_read fs i (length (words (i.name ∷ i.choices) (i.gap ++ 93 ∷ spelling ps after)) + 1) h.0 (with_literal items literal) (spelling ps after) h.1
+      ∙ parts_read ps fs after X ends (with_literal items literal ++ of_component (current_component h.0) ∷ []) [] all h.2
   parts_read (with_lists w n ls gap ps) fs after X ends items literal all h =
       let rest = gap ++ 93 ∷ spelling ps after in
       let o = length (w.gap ++ (w.bytes ++ lists_spelling ls rest)) + 1 in
-      let items-now = with_run items literal in
+      let items-now = with_literal items literal in
       opened_read fs items literal (w.gap ++ (w.bytes ++ lists_spelling ls rest))
       ∙ gap_passed fs w.gap o None items-now (w.bytes ++ lists_spelling ls rest) h.0
       ∙ keyword_ended w.bytes fs o items-now (lists_spelling ls rest) n h.1 h.2 (lists_end ls rest (length fs) n [] h.5 h.3 h.6 (gap_ends gap (93 ∷ spelling ps after) h.4 (closing_ends (spelling ps after))))

@@ -11,7 +11,7 @@ use Rattle.time_describe.specs.declared.pieces.Nest.{Nest}
 use Rattle.time_describe.specs.declared.pieces.Nest.TheVariants as nests
 use Rattle.time_describe.specs.Literal.{literal_of}
 use Rattle.time_describe.specs.Marks.{past}
-use Rattle.time_describe.specs.Reading.{◌>>=◌, Frame, Place, outside, escape, brackets, between, read, fails, at_fault, with_word, nest_of, word_place, after_word, ended, finished, nested, takes_list, after_list, with_run, is_special, is_escapable, within_limit, described}
+use Rattle.time_describe.specs.Reading.{◌>>=◌, Frame, Place, outside, escape, brackets, between, read, fails, at_fault, with_word, nest_of, word_place, after_word, ended, finished, nested, takes_list, after_list, with_literal, is_special, is_escapable, within_limit, described}
 use Rattle.time_describe.proofs.CaseLemmas.{by_test, by_result}
 
 abbrev pub Inside : ℕ → Fault → Type 0
@@ -102,15 +102,15 @@ read_in [] n fs (brackets o c word) items literal hf hp = fault_in _ n hp.0 hp.1
 read_in [] n fs (between k o lists) items literal hf hp = fault_in _ n hp.0 hp.1
 read_in (b ∷ bs) n [] outside items literal hf hp =
     by_test (In n) (eqb b 91) _ _
-    (λ e. read_in bs n [] (brackets (length bs + 1) None []) (with_run items literal) [] hf (omega arith, omega arith, omega arith))
+    (λ e. read_in bs n [] (brackets (length bs + 1) None []) (with_literal items literal) [] hf (omega arith, omega arith, omega arith))
     (λ e. by_test (In n) (eqb b 92) _ _
-    (λ e. read_in bs n [] escape (with_run items literal) [] hf (omega arith))
+    (λ e. read_in bs n [] escape (with_literal items literal) [] hf (omega arith))
     (λ e. read_in bs n [] outside items (literal ++ b ∷ []) hf (omega arith)))
 read_in (b ∷ bs) n (f ∷ fs) outside items literal hf hp =
     by_test (In n) (eqb b 91) _ _
-    (λ e. read_in bs n (f ∷ fs) (brackets (length bs + 1) None []) (with_run items literal) [] hf (omega arith, omega arith, omega arith))
+    (λ e. read_in bs n (f ∷ fs) (brackets (length bs + 1) None []) (with_literal items literal) [] hf (omega arith, omega arith, omega arith))
     (λ e. by_test (In n) (eqb b 92) _ _
-    (λ e. read_in bs n (f ∷ fs) escape (with_run items literal) [] hf (omega arith))
+    (λ e. read_in bs n (f ∷ fs) escape (with_literal items literal) [] hf (omega arith))
     (λ e. by_test (In n) (eqb b 93) _ _
     (λ e. read_in bs n fs (after_list f items literal) f.items [] hf.4 (hf.0, hf.1, omega arith))
     (λ e. read_in bs n (f ∷ fs) outside items (literal ++ b ∷ []) hf (omega arith))))

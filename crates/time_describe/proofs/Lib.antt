@@ -8,4 +8,3 @@ pub mod FrameLemmas
 pub mod GrammarLemmas
 pub mod StrftimeLemmas
 pub mod StrftimeLaws
-pub mod StrftimePlaces

@@ -7,7 +7,8 @@ use Rattle.time_below.specs.declared.format_description.modifier.Padding.{Paddin
 use Rattle.time_below.specs.declared.format_description.modifier.Padding.TheVariants as padding
 use Rattle.time_below.specs.declared.format_description.modifier.SubsecondDigits.{SubsecondDigits}
 use Rattle.time_below.specs.declared.format_description.modifier.SubsecondDigits.TheVariants as digits
-use Rattle.time_below.specs.Tree.{Tree, byte_literal, of_component}
+use Rattle.time_below.specs.Tree.{Tree, of_component}
+use Rattle.time_describe.specs.Literal.{literal_of}
 use Rattle.time_describe.specs.declared.strftime.fault.StrftimeReason.{StrftimeReason}
 use Rattle.time_describe.specs.declared.strftime.fault.StrftimeReason.TheVariants.{ZoneName, LocaleModifier, FieldWidth, CaseFlag, PlusFlag, SecondFlag, FlagWithoutNumber, UnknownConversion}
 
@@ -96,24 +97,24 @@ width c =
     else (if c == byte (codes "9") then Some digits.Nine
     else None))
 
--- bytes that are written so
-unfoldable pub sign : ℕ → Option ℕ
+-- bytes that are written so: a percent sign, a line feed, a tab
+unfoldable pub sign : ℕ → Option (List ℕ)
 sign c =
-    if c == byte (codes "%") then Some 37
-    else (if c == byte (codes "n") then Some 10
-    else (if c == byte (codes "t") then Some 9
+    if c == byte (codes "%") then Some (37 ∷ [])
+    else (if c == byte (codes "n") then Some (10 ∷ [])
+    else (if c == byte (codes "t") then Some (9 ∷ [])
     else None))
 
 -- why a letter is refused that is no number, behind a flag or none
 unfoldable pub refusal : ℕ → StrftimeReason
 refusal c =
     if c == byte (codes "Z") then ZoneName
-    else (if c == byte (codes "E") || c == byte (codes "O") then LocaleModifier
-    else (if c == byte (codes "^") || c == byte (codes "#") then CaseFlag
+    else (if c == byte (codes "E") || c == byte (codes "O") then LocaleModifier c
+    else (if c == byte (codes "^") || c == byte (codes "#") then CaseFlag c
     else (if c == byte (codes "+") then PlusFlag
-    else (if c == byte (codes "-") || (c == byte (codes "_") || c == byte (codes "0")) then SecondFlag
-    else (if nat_le (byte (codes "1")) c && nat_le c (byte (codes "9")) then FieldWidth
-    else UnknownConversion)))))
+    else (if c == byte (codes "-") || (c == byte (codes "_") || c == byte (codes "0")) then SecondFlag c
+    else (if nat_le (byte (codes "1")) c && nat_le c (byte (codes "9")) then FieldWidth c
+    else UnknownConversion c)))))
 
 -- a letter that stands for one component
 abbrev pub component_of : ℕ → Option Component
@@ -125,7 +126,7 @@ is_offered c = is_some (word c) || (is_some (sign c) || (c == byte (codes "z") |
 
 -- why a letter is refused behind a flag, where it is no number
 abbrev pub refusal_behind_flag : ℕ → StrftimeReason
-refusal_behind_flag c = if is_offered c then FlagWithoutNumber else refusal c
+refusal_behind_flag c = if is_offered c then FlagWithoutNumber c else refusal c
 
 -- a composition: components, and the bytes between them
 abbrev pub listed : Option Component → List Tree
@@ -134,17 +135,21 @@ listed (Some c) = of_component c ∷ []
 
 unfoldable pub composed : List ℕ → List Tree
 composed [] = []
-composed (b ∷ []) = byte_literal (b ∷ []) ∷ []
+composed (b ∷ []) = literal_of (b ∷ []) ∷ []
 composed (b ∷ c ∷ bs) =
     if b == byte (codes "%") then listed (component_of c) ++ composed bs
-    else byte_literal (b ∷ []) ∷ composed (c ∷ bs)
+    else literal_of (b ∷ []) ∷ composed (c ∷ bs)
 
--- the offset from UTC
+-- the hours of the offset from UTC with their sign, perhaps a colon, and its minutes
 abbrev pub offset_hour : Tree
 offset_hour = of_component (component.OffsetHour (record { padding = padding.Zero; sign_is_mandatory = true }))
 
 abbrev pub offset_minute : Tree
 offset_minute = of_component (component.OffsetMinute (record { padding = padding.Zero }))
+
+abbrev pub offset : Bool → List Tree
+offset false = offset_hour ∷ offset_minute ∷ []
+offset true = offset_hour ∷ literal_of (codes ":") ∷ offset_minute ∷ []
 
 -- the fraction of so many digits
 abbrev pub fraction : Option SubsecondDigits → Tree
@@ -154,6 +159,6 @@ fraction n = of_component (component.Subsecond (record { digits = unwrap_or n di
 abbrev pub items_of : ℕ → Option (List Tree)
 items_of c =
     otherwise (option_map (λ x. of_component x ∷ []) (component_of c))
-    (otherwise (option_map (λ b. byte_literal (b ∷ []) ∷ []) (sign c))
-    (otherwise (if c == byte (codes "z") then Some (offset_hour ∷ offset_minute ∷ []) else None)
+    (otherwise (option_map (λ bytes. literal_of bytes ∷ []) (sign c))
+    (otherwise (if c == byte (codes "z") then Some (offset false) else None)
     (option_map composed (composition c))))

@@ -8,7 +8,7 @@ use Rattle.time_below.specs.declared.format_description.component.Component.{Com
 use Rattle.time_describe.specs.declared.pieces.Nest.{Nest}
 use Rattle.time_describe.specs.Literal.{literal_of}
 use Rattle.time_describe.specs.Pieces.{ends_literal}
-use Rattle.time_describe.specs.Reading.{opening, closing, backslash, is_escapable, ends_word, keyword, with_word, is_whole, with_run, nested, takes_list, depth_limit}
+use Rattle.time_describe.specs.Reading.{opening, closing, backslash, is_escapable, ends_word, keyword, with_word, is_whole, with_literal, nested, takes_list, depth_limit}
 use Rattle.time_describe.specs.Names.{named}
 
 -- a word in brackets, behind whitespace
@@ -95,17 +95,17 @@ is_deep (suc n) = true
 
 abbrev mutual
   pub Means : ℕ → List Tree → List ℕ → Parts → List Tree → Type 0
-  Means depth items literal done all = all ≡ with_run items literal
+  Means depth items literal done all = all ≡ with_literal items literal
   Means depth items literal (plain b ps) all = (ends_literal (is_deep depth) b ≡ false) × Means depth items (literal ++ b ∷ []) ps all
   Means depth items literal (escaped b ps) all =
-      (is_escapable b ≡ true) × Means depth (with_run items literal ++ literal_of (b ∷ []) ∷ []) [] ps all
+      (is_escapable b ≡ true) × Means depth (with_literal items literal ++ literal_of (b ∷ []) ∷ []) [] ps all
   Means depth items literal (in_brackets i ps) all =
-      (c : Component) × IsInside i c × Means depth (with_run items literal ++ of_component (current_component c) ∷ []) [] ps all
+      (c : Component) × IsInside i c × Means depth (with_literal items literal ++ of_component (current_component c) ∷ []) [] ps all
   Means depth items literal (with_lists w n ls gap ps) all =
       AreWhite w.gap × IsWord w.bytes × (keyword w.bytes ≡ Some n) × IsApart ls × AreWhite gap
       × (ts : List Tree) × ListsMean depth n [] ls ts
       × (t : Tree) × ((left : ℕ) → nested n ts left ≡ Ok t)
-      × Means depth (with_run items literal ++ t ∷ []) [] ps all
+      × Means depth (with_literal items literal ++ t ∷ []) [] ps all
 
   -- these lists, after others
   pub ListsMean : ℕ → Nest → List Tree → Lists → List Tree → Type 0

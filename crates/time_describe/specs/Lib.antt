@@ -8,6 +8,9 @@ pub mod Pieces
 pub mod Outcome
 pub mod Description
 pub mod Grammar
+pub mod Literal
+pub mod Limit
 pub mod Conversions
 pub mod Strftime
+pub mod StrftimeOutcome
 pub mod StrftimeGrammar

@@ -6,7 +6,7 @@ use Rattle.std.specs.List.{before_first, after_first}
 use Rattle.time_below.specs.Conversion.{current_component}
 use Rattle.time_below.specs.declared.format_description.component.Component.{Component}
 use Rattle.time_below.specs.declared.format_description.component.Component.TheVariants as component
-use Rattle.time_below.specs.Tree.{Tree, trees, byte_literal, of_component, all_of, first_of}
+use Rattle.time_below.specs.Tree.{Tree, trees, of_component, all_of, first_of}
 use Rattle.time_describe.specs.declared.fault.Fault.{Fault}
 use Rattle.time_describe.specs.declared.fault.Reason.{Reason}
 use Rattle.time_describe.specs.declared.fault.Reason.TheVariants.{UnclosedBracket, InvalidEscape, MissingName, UnknownName, MissingModifier, MissingItems, UnexpectedByte, TooDeep, TooManyItems}
@@ -135,33 +135,28 @@ ended outside left = fails MissingName left
 ended escape left = fails MissingName left
 
 -- the items, and a literal after them if it has bytes
-abbrev pub with_run : List Tree → List ℕ → List Tree
-with_run items [] = items
-with_run items (b ∷ bs) = items ++ literal_of (b ∷ bs) ∷ []
-
--- the same, where each literal is one of bytes
 abbrev pub with_literal : List Tree → List ℕ → List Tree
 with_literal items [] = items
-with_literal items (b ∷ bs) = items ++ byte_literal (b ∷ bs) ∷ []
+with_literal items (b ∷ bs) = items ++ literal_of (b ∷ bs) ∷ []
 
 -- the place behind a list that is closed
 abbrev pub after_list : Frame → List Tree → List ℕ → Place
-after_list f items literal = between f.nest f.opened (f.lists ++ all_of (trees (with_run items literal)) ∷ [])
+after_list f items literal = between f.nest f.opened (f.lists ++ all_of (trees (with_literal items literal)) ∷ [])
 
 -- the items of a text whose next byte stands there, in these lists, after these items and a literal so far
 unfoldable pub read : List Frame → Place → List Tree → List ℕ → List ℕ → Result (List Tree) Fault
-read [] outside items literal [] = Ok (with_run items literal)
+read [] outside items literal [] = Ok (with_literal items literal)
 read (f ∷ fs) outside items literal [] = fails UnclosedBracket f.opened_list
 read fs escape items literal [] = fails InvalidEscape 1
 read fs (brackets opened c word) items literal [] = fails UnclosedBracket opened
 read fs (between n opened lists) items literal [] = fails UnclosedBracket opened
 read [] outside items literal (b ∷ bs) =
-    if b == opening then read [] (brackets (length bs + 1) None []) (with_run items literal) [] bs
-    else (if b == backslash then read [] escape (with_run items literal) [] bs
+    if b == opening then read [] (brackets (length bs + 1) None []) (with_literal items literal) [] bs
+    else (if b == backslash then read [] escape (with_literal items literal) [] bs
     else read [] outside items (literal ++ b ∷ []) bs)
 read (f ∷ fs) outside items literal (b ∷ bs) =
-    if b == opening then read (f ∷ fs) (brackets (length bs + 1) None []) (with_run items literal) [] bs
-    else (if b == backslash then read (f ∷ fs) escape (with_run items literal) [] bs
+    if b == opening then read (f ∷ fs) (brackets (length bs + 1) None []) (with_literal items literal) [] bs
+    else (if b == backslash then read (f ∷ fs) escape (with_literal items literal) [] bs
     else (if b == closing then read fs (after_list f items literal) f.items [] bs
     else read (f ∷ fs) outside items (literal ++ b ∷ []) bs))
 read fs escape items literal (b ∷ bs) =

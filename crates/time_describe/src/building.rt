@@ -1,6 +1,6 @@
 //! Items, put one after the other into lists.
 ghost use Rattle.std.specs.Prelude.{◌≡◌, ◌+◌, vec_len, List, ◌<◌, ◌≤◌, ◌++◌, ◌∷◌, [], length, map, IfOk, OnOk};
-ghost use Rattle.time_below.specs.Tree.{owned_tree, byte_literal, of_component};
+ghost use Rattle.time_below.specs.Tree.{owned_tree, of_component};
 ghost use Rattle.time_describe.specs.Literal.{literal_of};
 ghost use Rattle.time_describe.specs.Outcome.{Gives, GoesOn, frames_view};
 ghost use Rattle.time_describe.specs.Reading as reading;
@@ -19,21 +19,8 @@ use time_below::format_description::{Component, OwnedFormatItem};
 /// How many lists may be open, one in the other.
 const DEPTH_LIMIT: usize = 32;
 
-/// Adds a literal.
-pub fn put_literal(
-    alloc: Global,
-    items: &mut Vec<OwnedFormatItem>,
-    bytes: &[u8],
-) -> Result<(), AllocError>
-    ensures { OnOk result (map owned_tree items.new.items ≡ map owned_tree items.old.items ++ byte_literal bytes.now ∷ []) }
-{
-    let literal = Vec::from_slice(alloc, bytes)?;
-    items.push(OwnedFormatItem::Literal(literal))?;
-    Ok(())
-}
-
 /// Adds the bytes as a literal, a text where they are UTF-8.
-fn put_run(
+pub fn put_literal(
     alloc: Global,
     items: &mut Vec<OwnedFormatItem>,
     bytes: &[u8],
@@ -153,7 +140,7 @@ fn escaped<'a>(
 {
     match first_and_rest(rest) {
         Some((escaped, after)) if is_escapable(escaped) => {
-            put_run(alloc, items, &[escaped])?;
+            put_literal(alloc, items, &[escaped])?;
             Ok(after)
         }
         _ => Err(Failure::Invalid(Fault {
@@ -233,7 +220,7 @@ pub fn step<'a>(
     if first == b']' && !frames.is_empty() {
         return close_list(alloc, frames, items, rest);
     }
-    let (run, after) = text.split_at(literal_len(!frames.is_empty(), text));
-    put_run(alloc, items, run)?;
+    let (bytes, after) = text.split_at(literal_len(!frames.is_empty(), text));
+    put_literal(alloc, items, bytes)?;
     Ok(after)
 }

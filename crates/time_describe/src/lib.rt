@@ -16,7 +16,7 @@ mod values;
 pub use description::{InText, InvalidDescription, parse_owned};
 pub use fault::Reason;
 pub use strftime::fault::StrftimeReason;
-pub use strftime::{InvalidStrftime, parse_strftime};
+pub use strftime::{InvalidStrftime, parse_strftime_owned};
 
 #[cfg(test)]
 mod tests;

@@ -3,30 +3,36 @@
 //! The conversions are those of POSIX.1-2017 but `%Z`, and of GNU `%k`, `%l`, `%N`, `%P`, `%s` and
 //! `%:z`. A number takes one flag: `-` for no padding, `_` for spaces, `0` for zeros. A year has at
 //! least four digits, unless a flag says otherwise.
-ghost use Rattle.std.specs.Prelude.{◌≡◌, ◌==◌, ◌∷◌, ◌++◌, ◌+◌, ◌<◌, ◌≤◌, [], length, map, Ok, Some, IfOk, IfErr, OnOk, position};
-ghost use Rattle.std.specs.List.{position_or_len};
-ghost use Rattle.time_below.specs.Tree.{owned_tree};
-ghost use Rattle.time_describe.specs.Conversions.{component_of, is_offered, refusal_behind_flag, composed, offset_hour, offset_minute};
-ghost use Rattle.time_describe.specs.Strftime.{tree_of, Says, IsWithin, Gives, Adds, GoesOn, described, converted, flagged, with_colon, with_width, conversion, read};
+ghost use Rattle.std.specs.Prelude.{◌≡◌, ◌∷◌, ◌++◌, ◌<◌, [], length, map, Ok, IfOk, IfErr, OnOk};
+ghost use Rattle.time_below.specs.Tree.{owned_tree, of_component};
+ghost use Rattle.time_describe.specs.Conversions.{composed, offset};
+ghost use Rattle.time_describe.specs.Literal.{literal_of};
+ghost use Rattle.time_describe.specs.Strftime.{described, read};
+ghost use Rattle.time_describe.specs.StrftimeOutcome.{items_of_part, tree_of, Says, IsWithin, Gives, GoesOn};
 
-use crate::building::{put_component, put_literal};
+use crate::building::put_component;
+use crate::literal::{MOST_ITEMS, literal};
 use crate::pieces::first_and_rest;
 use std::alloc::{AllocError, Global};
-use time_below::format_description::modifier::{Padding, SubsecondDigits};
+use thiserror::Error;
+use time_below::format_description::modifier::Padding;
 use time_below::format_description::{Component, OwnedFormatItem, modifier};
 
 mod conversions;
 pub mod fault;
+pub mod part;
 
-use conversions::{composition, flag_named, number, refusal, sign, width, word};
 use fault::{Failure, Fault, StrftimeReason};
+use part::{Part, component_of, first_part};
 
-/// Why no description was made of a text.
-#[derive(Clone, Copy, Debug, PartialEq, Eq)]
+/// Why no description was made of a text in the syntax of strftime.
+#[derive(Clone, Copy, Debug, PartialEq, Eq, Error)]
 pub enum InvalidStrftime {
     /// An allocation failed.
+    #[error("out of memory")]
     OutOfMemory,
     /// The text is no description: what is wrong first, and the index of its byte.
+    #[error("{reason} at byte {index}")]
     Invalid {
         /// What is wrong.
         reason: StrftimeReason,
@@ -35,40 +41,26 @@ pub enum InvalidStrftime {
     },
 }
 
-/// The component that a letter stands for, where it stands for one alone.
-fn component_of(letter: u8) -> Option<Component>
-    ensures { result ≡ component_of letter }
+/// Adds a literal.
+fn put_literal(
+    alloc: Global,
+    items: &mut Vec<OwnedFormatItem>,
+    bytes: &[u8],
+) -> Result<(), AllocError>
+    ensures { OnOk result (map owned_tree items.new.items ≡ map owned_tree items.old.items ++ literal_of bytes.now ∷ []) }
 {
-    match number(letter, None) {
-        Some(component) => Some(component),
-        None => word(letter),
-    }
+    let item = literal(alloc, bytes)?;
+    items.push(item)?;
+    Ok(())
 }
 
-/// Whether a letter stands for something that is no number.
-fn is_offered(letter: u8) -> bool
-    ensures { result ≡ is_offered letter }
-{
-    word(letter).is_some()
-        || sign(letter).is_some()
-        || letter == b'z'
-        || composition(letter).is_some()
-}
-
-/// Why a letter is refused behind a flag.
-fn refusal_behind_flag(letter: u8) -> StrftimeReason
-    ensures { result ≡ refusal_behind_flag letter }
-{
-    if is_offered(letter) {
-        StrftimeReason::FlagWithoutNumber
-    } else {
-        refusal(letter)
-    }
-}
-
-/// Adds the hours of the offset, and the sign before them.
-fn put_offset_hour(items: &mut Vec<OwnedFormatItem>) -> Result<(), AllocError>
-    ensures { OnOk result (map owned_tree items.new.items ≡ map owned_tree items.old.items ++ offset_hour ∷ []) }
+/// Adds the hours of the offset with their sign, perhaps a colon, and the minutes.
+fn put_offset(
+    alloc: Global,
+    items: &mut Vec<OwnedFormatItem>,
+    with_colon: bool,
+) -> Result<(), AllocError>
+    ensures { OnOk result (map owned_tree items.new.items ≡ map owned_tree items.old.items ++ offset with_colon) }
 {
     put_component(
         items,
@@ -76,13 +68,10 @@ fn put_offset_hour(items: &mut Vec<OwnedFormatItem>) -> Result<(), AllocError>
             padding: Padding::Zero,
             sign_is_mandatory: true,
         }),
-    )
-}
-
-/// Adds the minutes of the offset.
-fn put_offset_minute(items: &mut Vec<OwnedFormatItem>) -> Result<(), AllocError>
-    ensures { OnOk result (map owned_tree items.new.items ≡ map owned_tree items.old.items ++ offset_minute ∷ []) }
-{
+    )?;
+    if with_colon {
+        put_literal(alloc, items, b":")?;
+    }
     put_component(
         items,
         Component::OffsetMinute(modifier::OffsetMinute {
@@ -117,176 +106,41 @@ fn put_composed(
     Ok(())
 }
 
-/// Adds what a letter stands for, from which `left` bytes are left.
-fn put_converted(
+/// Adds the items of a part.
+fn put_part(
     alloc: Global,
     items: &mut Vec<OwnedFormatItem>,
-    letter: u8,
-    left: usize,
-) -> Result<(), Failure>
-    ensures { Adds result (converted letter left) (map owned_tree items.old.items) (map owned_tree items.new.items) }
+    part: Part<'_>,
+) -> Result<(), AllocError>
+    ensures { OnOk result (map owned_tree items.new.items ≡ map owned_tree items.old.items ++ items_of_part part.entry) }
 {
-    if let Some(component) = component_of(letter) {
-        put_component(items, component)?;
-        return Ok(());
-    }
-    if let Some(byte) = sign(letter) {
-        put_literal(alloc, items, &[byte])?;
-        return Ok(());
-    }
-    if letter == b'z' {
-        put_offset_hour(items)?;
-        put_offset_minute(items)?;
-        return Ok(());
-    }
-    if let Some(text) = composition(letter) {
-        put_composed(alloc, items, text)?;
-        return Ok(());
-    }
-    Err(Failure::Invalid(Fault {
-        reason: refusal(letter),
-        left,
-    }))
-}
-
-/// Reads what is behind a flag.
-fn flagged<'a>(
-    items: &mut Vec<OwnedFormatItem>,
-    flag: Padding,
-    bytes: &'a [u8],
-) -> Result<&'a [u8], Failure>
-    ensures goes_on { GoesOn result (flagged (map owned_tree items.old.items) (Some flag) bytes.now) (map owned_tree items.new.items) }
-    ensures shorter { IfOk result (λ rest. length rest.now < length bytes.now) }
-{
-    let Some((letter, rest)) = first_and_rest(bytes) else {
-        return Err(Failure::Invalid(Fault {
-            reason: StrftimeReason::Unfinished,
-            left: 2,
-        }));
-    };
-    let Some(component) = number(letter, Some(flag)) else {
-        return Err(Failure::Invalid(Fault {
-            reason: refusal_behind_flag(letter),
-            left: bytes.len(),
-        }));
-    };
-    put_component(items, component)?;
-    Ok(rest)
-}
-
-/// Reads what is behind a colon, from which `left` bytes are left.
-fn with_colon<'a>(
-    alloc: Global,
-    items: &mut Vec<OwnedFormatItem>,
-    left: usize,
-    bytes: &'a [u8],
-) -> Result<&'a [u8], Failure>
-    requires { left ≡ length bytes.now + 1 }
-    ensures goes_on { GoesOn result (with_colon (map owned_tree items.old.items) bytes.now) (map owned_tree items.new.items) }
-    ensures shorter { IfOk result (λ rest. length rest.now < length bytes.now) }
-{
-    match first_and_rest(bytes) {
-        Some((letter, rest)) if letter == b'z' => {
-            put_offset_hour(items)?;
-            put_literal(alloc, items, b":")?;
-            put_offset_minute(items)?;
-            Ok(rest)
-        }
-        _ => Err(Failure::Invalid(Fault {
-            reason: StrftimeReason::UnknownConversion,
-            left,
-        })),
+    match part {
+        Part::Literal(bytes) => put_literal(alloc, items, bytes),
+        Part::Component(component) => put_component(items, component),
+        Part::Offset(with_colon) => put_offset(alloc, items, with_colon),
+        Part::Composition(text) => put_composed(alloc, items, text),
     }
 }
 
-/// Reads what is behind a width, from which `left` bytes are left.
-fn with_width<'a>(
-    items: &mut Vec<OwnedFormatItem>,
-    digits: SubsecondDigits,
-    left: usize,
-    bytes: &'a [u8],
-) -> Result<&'a [u8], Failure>
-    requires { left ≡ length bytes.now + 1 }
-    ensures goes_on { GoesOn result (with_width (map owned_tree items.old.items) (Some digits) bytes.now) (map owned_tree items.new.items) }
-    ensures shorter { IfOk result (λ rest. length rest.now < length bytes.now) }
-{
-    match first_and_rest(bytes) {
-        Some((letter, rest)) if letter == b'N' => {
-            put_component(items, Component::Subsecond(modifier::Subsecond { digits }))?;
-            Ok(rest)
-        }
-        _ => Err(Failure::Invalid(Fault {
-            reason: StrftimeReason::FieldWidth,
-            left,
-        })),
-    }
-}
-
-/// Reads what is behind a `%`.
-fn conversion<'a>(
-    alloc: Global,
-    items: &mut Vec<OwnedFormatItem>,
-    bytes: &'a [u8],
-) -> Result<&'a [u8], Failure>
-    ensures goes_on { GoesOn result (conversion (map owned_tree items.old.items) bytes.now) (map owned_tree items.new.items) }
-    ensures shorter { IfOk result (λ rest. length rest.now < length bytes.now) }
-{
-    let Some((first, rest)) = first_and_rest(bytes) else {
-        return Err(Failure::Invalid(Fault {
-            reason: StrftimeReason::Unfinished,
-            left: 1,
-        }));
-    };
-    if let Some(flag) = flag_named(first) {
-        return flagged(items, flag, rest);
-    }
-    if first == b':' {
-        return with_colon(alloc, items, bytes.len(), rest);
-    }
-    if let Some(digits) = width(first) {
-        return with_width(items, digits, bytes.len(), rest);
-    }
-    put_converted(alloc, items, first, bytes.len())?;
-    Ok(rest)
-}
-
-/// The place of the first `%`.
-fn place_of_percent(bytes: &[u8]) -> Option<usize>
-    ensures { result ≡ position (λ b. b == 37) bytes.now }
-{
-    bytes.iter().position(|b| *b == b'%')
-}
-
-/// How many bytes come before the first `%`.
-fn literal_len(bytes: &[u8]) -> usize
-    ensures place { result ≡ position_or_len (λ b. b == 37) bytes.now }
-    ensures inside { result ≤ length bytes.now }
-{
-    match place_of_percent(bytes) {
-        Some(place) => place,
-        None => bytes.len(),
-    }
-}
-
-/// Reads the first part of the text, and answers what follows it.
+/// Reads the first part of the text, and returns what follows it.
 fn step<'a>(
     alloc: Global,
     items: &mut Vec<OwnedFormatItem>,
     text: &'a [u8],
 ) -> Result<&'a [u8], Failure>
     requires { 0 < length text.now }
-    ensures goes_on { GoesOn result (read (map owned_tree items.old.items) [] text.now) (map owned_tree items.new.items) }
+    ensures goes_on { GoesOn result (read (map owned_tree items.old.items) 0 text.now) (map owned_tree items.new.items) }
     ensures shorter { IfOk result (λ rest. length rest.now < length text.now) }
 {
-    let Some((first, rest)) = first_and_rest(text) else {
-        unreachable!();
-    };
-    if first == b'%' {
-        return conversion(alloc, items, rest);
+    let (part, behind) = first_part(text)?;
+    put_part(alloc, items, part)?;
+    if items.len() > MOST_ITEMS {
+        return Err(Failure::Invalid(Fault {
+            reason: StrftimeReason::TooManyItems,
+            left: text.len(),
+        }));
     }
-    let (literal, after) = text.split_at(literal_len(text));
-    put_literal(alloc, items, literal)?;
-    Ok(after)
+    Ok(&text[behind + 1..])
 }
 
 /// The items of a text.
@@ -303,9 +157,12 @@ fn items(alloc: Global, text: &[u8]) -> Result<Vec<OwnedFormatItem>, Failure>
 
 /// The description that a text in the syntax of strftime is.
 ///
-/// Each run of bytes other than `%` is one literal, and each conversion is the items that
-/// `specs/Conversions.antt` lists for it.
-pub fn parse_strftime(alloc: Global, text: &[u8]) -> Result<OwnedFormatItem, InvalidStrftime>
+/// Each run of bytes other than `%` is one literal, a text where it is UTF-8. Each conversion is
+/// the items that `specs/Conversions.antt` lists for it. There are at most 65,536 items.
+pub fn parse_strftime_owned(
+    alloc: Global,
+    text: &[u8],
+) -> Result<OwnedFormatItem, InvalidStrftime>
     ensures found { IfOk result (λ item. tree_of (described text.now) ≡ Ok (owned_tree item)) }
     ensures says { IfErr result (Says (length text.now) (described text.now)) }
     ensures inside { IfErr result (IsWithin (length text.now)) }

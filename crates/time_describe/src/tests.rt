@@ -93,7 +93,7 @@ fn the_greatest_depth(rt: HostRuntime) -> Result<(), Fail> {
 
 #[test]
 fn items_of_a_strftime_text(rt: HostRuntime) -> Result<(), Fail> {
-    let OwnedFormatItem::Compound(items) = parse_strftime(rt.alloc(), b"%e. %B, %F%%%:z")? else {
+    let OwnedFormatItem::Compound(items) = parse_strftime_owned(rt.alloc(), b"%e. %B, %F%%%:z")? else {
         return Err(Fail::from("no list"));
     };
     assert_eq!(rt; items.len(), 13);
@@ -112,18 +112,18 @@ fn places_of_faults_of_strftime(rt: HostRuntime) {
     for (text, reason, index) in [
         (b"%H:%".as_slice(), StrftimeReason::Unfinished, 3),
         (b"%_".as_slice(), StrftimeReason::Unfinished, 0),
-        (b"at %i".as_slice(), StrftimeReason::UnknownConversion, 4),
-        (b"%::z".as_slice(), StrftimeReason::UnknownConversion, 1),
+        (b"at %i".as_slice(), StrftimeReason::UnknownConversion(b'i'), 4),
+        (b"%::z".as_slice(), StrftimeReason::UnknownConversion(b':'), 1),
         (b"%T %Z".as_slice(), StrftimeReason::ZoneName, 4),
-        (b"%Ey".as_slice(), StrftimeReason::LocaleModifier, 1),
-        (b"%5Y".as_slice(), StrftimeReason::FieldWidth, 1),
-        (b"%3S".as_slice(), StrftimeReason::FieldWidth, 1),
-        (b"%^a".as_slice(), StrftimeReason::CaseFlag, 1),
+        (b"%Ey".as_slice(), StrftimeReason::LocaleModifier(b'E'), 1),
+        (b"%5Y".as_slice(), StrftimeReason::FieldWidth(b'5'), 1),
+        (b"%3S".as_slice(), StrftimeReason::FieldWidth(b'3'), 1),
+        (b"%^a".as_slice(), StrftimeReason::CaseFlag(b'^'), 1),
         (b"%+".as_slice(), StrftimeReason::PlusFlag, 1),
-        (b"%-0d".as_slice(), StrftimeReason::SecondFlag, 2),
-        (b"%-F".as_slice(), StrftimeReason::FlagWithoutNumber, 2),
+        (b"%-0d".as_slice(), StrftimeReason::SecondFlag(b'0'), 2),
+        (b"%-F".as_slice(), StrftimeReason::FlagWithoutNumber(b'F'), 2),
     ] {
-        match parse_strftime(rt.alloc(), text) {
+        match parse_strftime_owned(rt.alloc(), text) {
             Ok(_) => assert!(rt; false, "{text:?}"),
             Err(error) => {
                 assert_eq!(rt;

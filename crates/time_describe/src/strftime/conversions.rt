@@ -151,13 +151,13 @@ pub fn composition(letter: u8) -> Option<&'static [u8]>
 
 /// The byte that a letter stands for.
 #[tactic(auto, unfolding(crate::specs::Conversions::sign))]
-pub fn sign(letter: u8) -> Option<u8>
-    ensures { result ≡ sign letter }
+pub fn sign(letter: u8) -> Option<&'static [u8]>
+    ensures { option_map (λ bytes. bytes.now) result ≡ sign letter }
 {
     match letter {
-        b'%' => Some(b'%'),
-        b'n' => Some(b'\n'),
-        b't' => Some(b'\t'),
+        b'%' => Some(b"%".as_slice()),
+        b'n' => Some(b"\n".as_slice()),
+        b't' => Some(b"\t".as_slice()),
         _ => None,
     }
 }
@@ -182,11 +182,11 @@ pub fn refusal(letter: u8) -> StrftimeReason
 {
     match letter {
         b'Z' => StrftimeReason::ZoneName,
-        b'E' | b'O' => StrftimeReason::LocaleModifier,
-        b'^' | b'#' => StrftimeReason::CaseFlag,
+        b'E' | b'O' => StrftimeReason::LocaleModifier(letter),
+        b'^' | b'#' => StrftimeReason::CaseFlag(letter),
         b'+' => StrftimeReason::PlusFlag,
-        b'-' | b'_' | b'0' => StrftimeReason::SecondFlag,
-        b'1'..=b'9' => StrftimeReason::FieldWidth,
-        _ => StrftimeReason::UnknownConversion,
+        b'-' | b'_' | b'0' => StrftimeReason::SecondFlag(letter),
+        b'1'..=b'9' => StrftimeReason::FieldWidth(letter),
+        _ => StrftimeReason::UnknownConversion(letter),
     }
 }

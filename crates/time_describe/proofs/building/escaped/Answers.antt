@@ -6,12 +6,12 @@ use Rattle.time_describe.proofs.ReadLemmas.{escapes, escapes_nothing, escapes_at
 use Rattle.time_describe.proofs.building.escaped.Goals as goal
 use Rattle.time_describe.proofs.building.escaped.Goals.{in_default-via-in-Some+else-is_escapable, in_default-via-in_default}
 
-pub returns-in_ok-put_run-in-Some-clause-goes_on : goal.returns-in_ok-put_run-in-Some-clause-goes_on
-returns-in_ok-put_run-in-Some-clause-goes_on c = λ fs.
+pub returns-in_ok-put_literal-in-Some-clause-goes_on : goal.returns-in_ok-put_literal-in-Some-clause-goes_on
+returns-in_ok-put_literal-in-Some-clause-goes_on c = λ fs.
     let items = map owned_tree c.args.items.now.items in
     ap (read fs escape items []) c.in-Some.ensures
     ∙ escapes fs c.in-Some.escaped items c.in-Some.after.now (sym c.if-is_escapable.ensures)
-    ∙ ap (λ (v : List Tree). read fs outside v [] c.in-Some.after.now) (sym c.in_ok-put_run-in-Some.ensures)
+    ∙ ap (λ (v : List Tree). read fs outside v [] c.in-Some.after.now) (sym c.in_ok-put_literal-in-Some.ensures)
 
 pub returns-in_default-clause-goes_on : goal.returns-in_default-clause-goes_on
 returns-in_default-clause-goes_on c =

@@ -74,4 +74,4 @@ returns-clause-goes_on c =
     literal_read fs c.args.text.now c.split_at.result.0.now c.split_at.result.1.now c.literal_len.result c.in-Some.first c.in-Some.rest.now items
     len c.split_at.ensures.front c.split_at.ensures.back c.in-Some.ensures
     (plain (is_nested fs) c.in-Some.first (ne_eqb _ _ c.if-first-eq91.false) (ne_eqb _ _ c.if-first-eq92.false) no_closing)
-    ∙ ap (λ (v : List Tree). read fs outside v [] c.split_at.result.1.now) (sym c.in_ok-put_run.ensures)
+    ∙ ap (λ (v : List Tree). read fs outside v [] c.split_at.result.1.now) (sym c.in_ok-put_literal.ensures)
