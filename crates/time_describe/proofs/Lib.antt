@@ -1,3 +1,4 @@
+pub mod SpelledLemmas
 pub mod LiteralLemmas
 pub mod CaseLemmas
 pub mod InsideLemmas

@@ -1,7 +1,5 @@
 pub mod Values
 pub mod Names
-pub mod Limit
-pub mod Literal
 pub mod Marks
 pub mod Reading
 pub mod Pieces
