@@ -335,11 +335,6 @@ lists_closed b bs n ts items left go e later = lists_step (nested n ts left) b b
 
 -- ---- where a word ends
 
-abbrev IsNamed : ℕ → (List Tree → List ℕ → Type 0) → List Tree → List ℕ → Place → Type 0
-IsNamed depth E items bs (brackets o (Some c) []) = Strict depth E c items bs
-IsNamed depth E items bs (between n o []) = Apart depth E n items bs
-IsNamed depth E items bs place = ⊥
-
 -- where a name has ended, reading goes on from the place behind it
 component_step : {depth : ℕ} {E : List Tree → List ℕ → Type 0} {all : List Tree} (made : Option Component) (word : List ℕ) (o left : ℕ) (items : List Tree) (bs : List ℕ) (go : Place → Result (List Tree) Fault)
     → named word ≡ made → keyword word ≡ None

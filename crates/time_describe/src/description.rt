@@ -7,10 +7,9 @@ ghost use Rattle.time_describe.specs.Reading.{described, read, outside};
 
 use crate::building::step;
 use crate::fault::{Failure, Fault, Reason};
+use crate::in_text::InText;
 use crate::marks::past;
-use crate::pieces::word_at;
 use std::alloc::Global;
-use std::fmt;
 use time_below::format_description::OwnedFormatItem;
 
 /// Why no description was made of a text.
@@ -33,28 +32,13 @@ pub enum InvalidDescription {
 }
 
 impl InvalidDescription {
-    /// The error for display beside the text that was read, as
+    /// The error with the text that was read, to be displayed with the word that it is about, as
     /// ``unknown component `yaer` at byte 1``.
-    pub fn in_text(self, text: &[u8]) -> InText<'_> {
+    pub fn in_text(self, text: &[u8]) -> InText<'_>
+        ensures error { result.error ≡ self }
+        ensures text { result.text.now ≡ text.now }
+    {
         InText { error: self, text }
-    }
-}
-
-/// An error, displayed with the word that it is about.
-#[derive(Clone, Copy, Debug)]
-pub struct InText<'a> {
-    error: InvalidDescription,
-    text: &'a [u8],
-}
-
-impl fmt::Display for InText<'_> {
-    fn fmt<W: fmt::Write>(&self, f: &mut fmt::Formatter<W>) -> fmt::Result {
-        if let InvalidDescription::Invalid { reason, index } = self.error {
-            if let Some(word) = word_at(self.text, index) {
-                return write!(f, "{reason} `{word}` at byte {index}");
-            }
-        }
-        write!(f, "{}", self.error)
     }
 }
 

@@ -2,13 +2,15 @@
 ghost use Rattle.std.specs.Prelude.{◌≡◌};
 ghost use Rattle.time_describe.specs.declared.fault.Failure.TheVariants.{OutOfMemory, Invalid};
 
+use crate::literal::MOST_ITEMS;
 use std::alloc::{AllocError, AllocFailed};
+use thiserror::Error;
 
 /// What is wrong at a place of a text.
-#[derive(Clone, Copy, Debug, PartialEq, Eq, thiserror::Error)]
+#[derive(Clone, Copy, Debug, PartialEq, Eq, Error)]
 pub enum Reason {
     /// An opening bracket is not closed.
-    #[error("unclosed opening bracket")]
+    #[error("unclosed bracket")]
     UnclosedBracket,
     /// What follows a backslash is no backslash and no bracket.
     #[error("invalid escape sequence")]
@@ -23,7 +25,7 @@ pub enum Reason {
     #[error("unknown modifier")]
     UnknownModifier,
     /// The modifier has no such value.
-    #[error("invalid value of a modifier")]
+    #[error("invalid modifier value")]
     InvalidValue,
     /// An `ignore` has no `count`.
     #[error("missing modifier `count`")]
@@ -31,14 +33,15 @@ pub enum Reason {
     /// An `optional` has no list of items.
     #[error("missing list of items")]
     MissingItems,
-    /// Something other than whitespace and a bracket is between lists of items.
-    #[error("expected a bracket")]
+    /// Between lists of items is something other than whitespace and a bracket, or behind the one
+    /// list of an `optional` another one.
+    #[error("unexpected text")]
     UnexpectedByte,
     /// The lists of items are more than 32 deep in one another.
-    #[error("lists of items too deep")]
+    #[error("more than 32 lists in one another")]
     TooDeep,
-    /// More than 65,536 items begin.
-    #[error("too many items")]
+    /// The 65,537th opening bracket or backslash: each item but a literal begins with one.
+    #[error("more than {MOST_ITEMS} items")]
     TooManyItems,
 }
 

@@ -7,7 +7,6 @@ ghost use Rattle.time_describe.specs.Reading.{is_special, is_escapable, ends_wor
 
 use crate::fault::{Fault, Reason};
 use crate::names::{modified, named};
-use std::str;
 use time_below::format_description::Component;
 
 /// What lists of items in brackets are for.
@@ -96,7 +95,7 @@ pub fn literal_len(in_list: bool, bytes: &[u8]) -> usize
 }
 
 /// How many bytes come before the first that ends a word.
-fn word_len(bytes: &[u8]) -> usize
+pub fn word_len(bytes: &[u8]) -> usize
     ensures place { result ≡ position_or_len ends_word bytes.now }
     ensures inside { result ≤ length bytes.now }
 {
@@ -234,14 +233,4 @@ pub fn after_gap(bytes: &[u8]) -> &[u8]
         Some(place) => &bytes[place..],
         None => &[],
     }
-}
-
-/// The word that begins at an index of a text, for display: a text of 1 to 64 bytes.
-pub fn word_at(text: &[u8], index: usize) -> Option<&str> {
-    let rest = text.get(index..)?;
-    let word = &rest[..word_len(rest)];
-    if word.is_empty() || word.len() > 64 {
-        return None;
-    }
-    str::from_utf8(word).ok()
 }

@@ -135,3 +135,26 @@ fn places_of_faults_of_strftime(rt: HostRuntime) {
         }
     }
 }
+
+#[test]
+fn errors_in_words(rt: HostRuntime) -> Result<(), Fail> {
+    for (text, words) in [
+        (b"[yaer]".as_slice(), "unknown component `yaer` at byte 1"),
+        (b"[day pad:none]", "unknown modifier `pad:none` at byte 5"),
+        (b"[day padding:no]", "invalid modifier value `padding:no` at byte 5"),
+        (b"x\\y", "invalid escape sequence `\\y` at byte 1"),
+        (b"x\\", "invalid escape sequence `\\` at byte 1"),
+        (b"[first [a] x]", "unexpected text `x` at byte 11"),
+        (b"[optional [a] [b]]", "unexpected text `[` at byte 14"),
+        (b"[\xff]", "unknown component at byte 1"),
+        (b"[year", "unclosed bracket at byte 0"),
+        (b"[ ]", "missing component name at byte 2"),
+        (b"[ignore]", "missing modifier `count` at byte 7"),
+    ] {
+        let Err(error) = parse_owned(rt.alloc(), text) else {
+            return Err(Fail::from("no error"));
+        };
+        assert_eq!(rt; format!(in rt.alloc(); "{}", error.in_text(text))?.as_str(), words);
+    }
+    Ok(())
+}
