@@ -8,4 +8,6 @@ pub mod ReadLemmas
 pub mod FrameLemmas
 pub mod GrammarLemmas
 pub mod StrftimeLemmas
+pub mod StrftimeConversions
+pub mod StrftimeParts
 pub mod StrftimeLaws

@@ -1,4 +1,4 @@
-use Rattle.std.proofs.Common.{◌≡◌, [], length, map}
+use Rattle.std.proofs.Common.{◌≡◌, length, map}
 use Rattle.time_below.specs.Tree.{owned_tree}
 use Rattle.time_describe.specs.Strftime.{read, described}
 use Rattle.time_describe.proofs.strftime.items.Given as goal

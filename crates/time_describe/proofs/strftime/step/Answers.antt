@@ -1,10 +1,9 @@
-use Rattle.std.proofs.Common.{◌≡◌, ℕ, ◌+◌, ◌-◌, ◌<◌, ◌≤◌, length, map, take, drop, sym, ap, ◌∙◌, arith}
+use Rattle.std.proofs.Common.{◌≡◌, ◌+◌, ◌-◌, ◌<◌, ◌≤◌, length, map, take, drop, sym, ap, ◌∙◌, arith}
 use Rattle.std.proofs.lemmas.Result.{err_from_is_err_and}
 use Rattle.std.proofs.lemmas.List.{take_all, length-drop, length-map}
 use Rattle.time_below.specs.Tree.{owned_tree}
 use Rattle.time_describe.specs.Limit.{most_items}
 use Rattle.time_describe.specs.Strftime.{read}
-use Rattle.time_describe.specs.StrftimeOutcome.{items_of_part}
 use Rattle.time_describe.proofs.StrftimeLemmas.{part_read, part_exceeds, part_refused}
 use Rattle.time_describe.proofs.strftime.step.Goals as goal
 
