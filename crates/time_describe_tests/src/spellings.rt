@@ -41,10 +41,18 @@ const SPELLINGS: &[(&str, &str, &str)] = &[
     ("[subsecond digits:9]", "%N", "120000000"),
     ("[subsecond]", "", "12"),
     ("[offset_hour sign:mandatory][offset_minute]", "%z", "-0600"),
-    ("[offset_hour sign:mandatory]:[offset_minute]", "%:z", "-06:00"),
+    (
+        "[offset_hour sign:mandatory]:[offset_minute]",
+        "%:z",
+        "-06:00",
+    ),
     ("[offset_second]", "", "00"),
     ("[unix_timestamp]", "%s", "879350106"),
-    ("[unix_timestamp precision:millisecond sign:mandatory]", "", "+879350106120"),
+    (
+        "[unix_timestamp precision:millisecond sign:mandatory]",
+        "",
+        "+879350106120",
+    ),
     ("[ignore count:3]", "", ""),
     ("[end]", "", ""),
 ];

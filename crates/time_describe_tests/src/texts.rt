@@ -61,7 +61,8 @@ pub(crate) fn assert_formats<V: ComponentProvider>(
     item: &OwnedFormatItem,
     value: &V,
     wanted: &str,
-) where
+)
+where
     V::State: Drop,
 {
     match item.format(alloc, value, &mut V::State::default()) {

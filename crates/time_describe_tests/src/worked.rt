@@ -50,7 +50,10 @@ const OF_TIME: &[(&str, &str)] = &[
     ("[year]-[month]-[day]", "2020-01-02"),
     ("[hour]:[minute]:[second]", "03:04:05"),
     ("[offset_hour sign:mandatory]:[offset_minute]", "+06:07"),
-    ("[year]-[month]-[day] [hour]:[minute]:[second]", "2020-01-02 03:04:05"),
+    (
+        "[year]-[month]-[day] [hour]:[minute]:[second]",
+        "2020-01-02 03:04:05",
+    ),
     (
         "[year]-[month]-[day] [hour]:[minute]:[second] [offset_hour sign:mandatory]:[offset_minute]:[offset_second]",
         "2020-01-02 03:04:05 +06:07:08",
@@ -68,7 +71,10 @@ const OF_SYNTAX: &[(&str, &str)] = &[
     ("[first [[month repr:short]] [[month]]]", "Nov"),
     ("[first]x", "x"),
     ("[first [a[optional [b]]] [c]]", "ab"),
-    ("[day][ignore count:65535][end trailing_input:discard]", "12"),
+    (
+        "[day][ignore count:65535][end trailing_input:discard]",
+        "12",
+    ),
     ("Üm [day]", "Üm 12"),
 ];
 
