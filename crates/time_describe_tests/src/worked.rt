@@ -35,8 +35,8 @@ const OF_STANDARDS: &[(&str, Numbers, &str)] = &[
     ),
     (
         "[year base:iso_week]-W[week_number]-[weekday repr:monday]",
-        ((1985, 4, 12), (0, 0, 0, 0), (0, 0, 0)),
-        "1985-W15-5",
+        ((2010, 1, 3), (0, 0, 0, 0), (0, 0, 0)),
+        "2009-W53-7",
     ),
     (
         "[year]-[ordinal]",
