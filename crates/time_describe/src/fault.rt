@@ -6,41 +6,43 @@ use crate::literal::MOST_ITEMS;
 use std::alloc::{AllocError, AllocFailed};
 use thiserror::Error;
 
-/// What is wrong at a place of a text.
+/// What is wrong at a place of a text in brackets. Each variant names the byte whose index an
+/// error has.
 #[derive(Clone, Copy, Debug, PartialEq, Eq, Error)]
 pub enum Reason {
-    /// An opening bracket is not closed.
+    /// A bracket is not closed, or another one or a backslash stands in it: the opening bracket.
     #[error("unclosed bracket")]
     UnclosedBracket,
-    /// What follows a backslash is no backslash and no bracket.
+    /// What follows a backslash is no backslash and no bracket: the backslash.
     #[error("invalid escape sequence")]
     InvalidEscape,
-    /// Brackets have no name in them.
+    /// Brackets have no name in them: the closing bracket.
     #[error("missing component name")]
     MissingName,
-    /// No component has this name.
+    /// No component has this name: the first byte of the name.
     #[error("unknown component")]
     UnknownName,
-    /// The component has no modifier of this name.
+    /// The component has no modifier with this key: the first byte of the key.
     #[error("unknown modifier")]
     UnknownModifier,
-    /// The modifier has no such value.
+    /// The modifier has no such value: the first byte of the key.
     #[error("invalid modifier value")]
     InvalidValue,
-    /// An `ignore` has no `count`.
+    /// An `ignore` has no `count`: the closing bracket.
     #[error("missing modifier `count`")]
     MissingModifier,
-    /// An `optional` has no list of items.
+    /// An `optional` has no list of items: the closing bracket.
     #[error("missing list of items")]
     MissingItems,
-    /// Between lists of items is something other than whitespace and a bracket, or behind the one
-    /// list of an `optional` another one.
+    /// A byte other than whitespace and a bracket stands between lists of items, or an `optional`
+    /// has another list: that byte, or the bracket of the list.
     #[error("unexpected text")]
     UnexpectedByte,
-    /// The lists of items are more than 32 deep in one another.
+    /// A list of items is the 33rd in one another: its opening bracket.
     #[error("more than 32 lists in one another")]
     TooDeep,
-    /// The 65,537th opening bracket or backslash: each item but a literal begins with one.
+    /// More than 65,536 opening brackets and backslashes, with one of which each item but a literal
+    /// begins: the first one past them.
     #[error("more than {MOST_ITEMS} items")]
     TooManyItems,
 }
