@@ -6,13 +6,15 @@ use Rattle.std.specs.List.{AllByRecursion}
 use Rattle.std.proofs.lemmas.List.{append-nil}
 use Rattle.time_below.specs.Conversion.{current_component}
 use Rattle.time_below.specs.declared.format_description.component.Component.{Component}
-use Rattle.time_below.specs.Tree.{Tree, trees, byte_literal, of_component, all_of}
+use Rattle.time_below.specs.Tree.{Tree, trees, of_component, all_of}
 use Rattle.time_describe.specs.declared.fault.Fault.{Fault}
 use Rattle.time_describe.specs.declared.pieces.Nest.{Nest}
+use Rattle.time_describe.specs.Literal.{literal_of}
+use Rattle.time_describe.specs.Marks.{past}
 use Rattle.time_describe.specs.Pieces.{ends_literal, is_nested}
 use Rattle.std.proofs.lemmas.Bool.{lt-ltb}
 use Rattle.time_describe.specs.Grammar.{Word, Inside, Parts, done, plain, escaped, in_brackets, with_lists, Lists, no_list, list, words, spelling, lists_spelling, AreWhite, IsWord, IsChoice, IsChosen, IsInside, IsApart, is_deep, Means, ListsMean}
-use Rattle.time_describe.specs.Reading.{Frame, between, keyword, nested, is_special, is_escapable, ends_word, with_word, nest_of, with_literal, outside, brackets, read, of_name}
+use Rattle.time_describe.specs.Reading.{Frame, between, keyword, nested, is_special, is_escapable, ends_word, at_fault, with_word, nest_of, with_literal, outside, brackets, read, of_name, within_limit, IsWithinLimit, described}
 use Rattle.time_describe.proofs.ReadLemmas.{white_byte, closes, word_byte, ended_word, plain_byte, ended_keyword, list_opened, lists_closed}
 
 -- what whitespace is not
@@ -73,7 +75,7 @@ word_ended fs [] o c items s made h none w e = absurd (h.0 refl)
 word_ended fs (x ∷ xs) o c items s made h none w e =
     word_passed fs (x ∷ xs) o c [] items s h.1
     ∙ ap (read fs (brackets o c (x ∷ xs)) items []) e.is
-    ∙ ended_word fs (eqb e.first 93) e.first o c x xs items e.rest made refl e.usual e.ends none w
+    ∙ ended_word fs (eqb e.first 93) e.first o c x xs items e.rest made refl e.usual e.ends none (ap (λ r. at_fault r (length (x ∷ xs) + (length e.rest + 1))) w)
     ∙ ap (read fs (brackets o (Some made) []) items []) (sym e.is)
 
 choices_read : (fs : List Frame) (ws : List Word) (o : ℕ) (c made : Component) (items : List Tree) (s : List ℕ)
@@ -93,7 +95,7 @@ inside_read fs i o made items s h =
     ∙ word_ended fs i.name.bytes o None items (words i.choices (i.gap ++ 93 ∷ s)) h.first h.name h.no_keyword (ap of_name h.is_first) (words_end i.choices (i.gap ++ 93 ∷ s) h.choices end)
     ∙ choices_read fs i.choices o h.first made items (i.gap ++ 93 ∷ s) h.choices h.chosen end
     ∙ gap_passed fs i.gap o (Some made) items (93 ∷ s) h.end
-    ∙ closes fs 93 o made items s refl refl
+    ∙ closes fs 93 o (Some made) (current_component made) items s refl refl (rw h.whole refl)
 
 -- ---- between lists
 
@@ -120,7 +122,7 @@ lists_end (list gap ps ls) s depth n before all apart h e = some_gap gap (91 ∷
 -- ---- outside of brackets, behind a literal
 
 escaped_read : (fs : List Frame) (b : ℕ) (items : List Tree) (literal s : List ℕ) → is_escapable b ≡ true
-    → read fs outside items literal (92 ∷ b ∷ s) ≡ read fs outside (with_literal items literal ++ byte_literal (b ∷ []) ∷ []) [] s
+    → read fs outside items literal (92 ∷ b ∷ s) ≡ read fs outside (with_literal items literal ++ literal_of (b ∷ []) ∷ []) [] s
 unfolding read
 escaped_read [] b items literal s h = rw h refl
 escaped_read (_ ∷ fs) b items literal s h = rw h refl
@@ -158,7 +160,7 @@ mutual
       ∙ parts_read ps fs after X ends items (literal ++ b ∷ []) all h.1
   parts_read (escaped b ps) fs after X ends items literal all h =
       escaped_read fs b items literal (spelling ps after) h.0
-      ∙ parts_read ps fs after X ends (with_literal items literal ++ byte_literal (b ∷ []) ∷ []) [] all h.1
+      ∙ parts_read ps fs after X ends (with_literal items literal ++ literal_of (b ∷ []) ∷ []) [] all h.1
   parts_read (in_brackets i ps) fs after X ends items literal all h =
       opened_read fs items literal (words (i.name ∷ i.choices) (i.gap ++ 93 ∷ spelling ps after))
       ∙ inside_read fs i (length (words (i.name ∷ i.choices) (i.gap ++ 93 ∷ spelling ps after)) + 1) h.0 (with_literal items literal) (spelling ps after) h.1
@@ -189,5 +191,8 @@ mutual
       [] [] h.3 h.4
       ∙ lists_read ls fs n o (before ++ all_of (trees h.3) ∷ []) items all s h.5
 
-pub read_spelling : (ps : Parts) (all : List Tree) → Means 0 [] [] ps all → read [] outside [] [] (spelling ps []) ≡ Ok all
-read_spelling ps all h = parts_read ps [] [] (λ ts. Ok ts) ended_read [] [] all h
+limited : (o : Option ℕ) (text : List ℕ) → o ≡ None → within_limit o text ≡ read [] outside [] [] text
+limited o text e = ap (λ (x : Option ℕ). within_limit x text) e
+
+pub read_spelling : (ps : Parts) (all : List Tree) → Means 0 [] [] ps all → IsWithinLimit (spelling ps []) → described (spelling ps []) ≡ Ok all
+read_spelling ps all h few = limited (past is_special 65536 (spelling ps [])) (spelling ps []) few ∙ parts_read ps [] [] (λ ts. Ok ts) ended_read [] [] all h

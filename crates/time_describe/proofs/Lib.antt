@@ -1,4 +1,8 @@
+pub mod SpelledLemmas
 pub mod LiteralLemmas
+pub mod CaseLemmas
+pub mod InsideLemmas
+pub mod ValueLemmas
 pub mod PlaceLemmas
 pub mod ReadLemmas
 pub mod FrameLemmas

@@ -6,13 +6,14 @@ use Rattle.std.proofs.lemmas.Bool.{false≢true, eqb-true}
 use Rattle.std.proofs.lemmas.List.{append-nil}
 use Rattle.time_below.specs.Conversion.{current_component}
 use Rattle.time_below.specs.declared.format_description.component.Component.{Component}
-use Rattle.time_below.specs.Tree.{Tree, trees, byte_literal, of_component, all_of}
+use Rattle.time_below.specs.Tree.{Tree, trees, of_component, all_of}
 use Rattle.time_describe.specs.declared.fault.Fault.{Fault}
 use Rattle.time_describe.specs.declared.fault.Reason.{Reason}
 use Rattle.time_describe.specs.declared.pieces.Nest.{Nest}
+use Rattle.time_describe.specs.Literal.{literal_of}
 use Rattle.time_describe.specs.Pieces.{ends_literal, is_nested}
 use Rattle.time_describe.specs.declared.fault.Reason.TheVariants.{UnclosedBracket, InvalidEscape, MissingName, UnexpectedByte, TooDeep}
-use Rattle.time_describe.specs.Reading.{takes_list, nested, Frame, between, nest_of, escape, is_special, is_escapable, ends_word, fails, with_word, outside, brackets, read}
+use Rattle.time_describe.specs.Reading.{takes_list, nested, Frame, between, nest_of, escape, is_special, is_escapable, ends_word, fails, at_fault, with_word, finished, outside, brackets, read}
 
 pub or_false : (p q : Bool) → (p || q) ≡ false → (p ≡ false) × (q ≡ false)
 or_false true q e = absurd cc
@@ -91,20 +92,22 @@ pub white_byte : (fs : List Frame) (b o : ℕ) (c : Option Component) (items : L
 unfolding read
 white_byte fs b o c items bs e f g = rw (e, f, g) refl
 
-pub closes : (fs : List Frame) (b o : ℕ) (c : Component) (items : List Tree) (bs : List ℕ) → is_special b ≡ false → eqb b 93 ≡ true
-    → read fs (brackets o (Some c) []) items [] (b ∷ bs) ≡ read fs outside (items ++ of_component (current_component c) ∷ []) [] bs
+pub closes : (fs : List Frame) (b o : ℕ) (c : Option Component) (made : Component) (items : List Tree) (bs : List ℕ) → is_special b ≡ false → eqb b 93 ≡ true
+    → at_fault (finished c) (length bs + 1) ≡ Ok made
+    → read fs (brackets o c []) items [] (b ∷ bs) ≡ read fs outside (items ++ of_component made ∷ []) [] bs
 unfolding read
-closes fs b o c items bs e f = rw (e, f) refl
+closes fs b o c made items bs e f is = rw (e, f, is) refl
 
-pub closes_nothing : (fs : List Frame) (b o : ℕ) (items : List Tree) (bs : List ℕ) → is_special b ≡ false → eqb b 93 ≡ true
-    → read fs (brackets o None []) items [] (b ∷ bs) ≡ fails MissingName (length bs + 1)
+pub closes_wrongly : (fs : List Frame) (b o : ℕ) (c : Option Component) (fault : Fault) (items : List Tree) (bs : List ℕ) → is_special b ≡ false → eqb b 93 ≡ true
+    → at_fault (finished c) (length bs + 1) ≡ Err fault
+    → read fs (brackets o c []) items [] (b ∷ bs) ≡ Err fault
 unfolding read
-closes_nothing fs b o items bs e f = rw (e, f) refl
+closes_wrongly fs b o c fault items bs e f is = rw (e, f, is) refl
 
 -- ---- where a word ends
 
 pub ended_word : (fs : List Frame) (is_closing : Bool) (d o : ℕ) (c : Option Component) (x : ℕ) (xs : List ℕ) (items : List Tree) (ds : List ℕ) (made : Component)
-    → eqb d 93 ≡ is_closing → is_special d ≡ false → ends_word d ≡ true → nest_of c (x ∷ xs) ≡ None → with_word c (x ∷ xs) ≡ Ok made
+    → eqb d 93 ≡ is_closing → is_special d ≡ false → ends_word d ≡ true → nest_of c (x ∷ xs) ≡ None → at_fault (with_word c (x ∷ xs)) (length (x ∷ xs) + (length ds + 1)) ≡ Ok made
     → read fs (brackets o c (x ∷ xs)) items [] (d ∷ ds) ≡ read fs (brackets o (Some made) []) items [] (d ∷ ds)
 unfolding read
 ended_word fs true d o c x xs items ds made f e h none w = rw (e, f, none, w) refl
@@ -123,12 +126,12 @@ ended_keyword fs false d o c x xs items ds n f e h is =
     let white : is_ascii_whitespace d ≡ true = rw (e, f) at h in
     rw (e, f, white, is) refl
 
-refused_word : (fs : List Frame) (is_closing : Bool) (d o : ℕ) (c : Option Component) (x : ℕ) (xs : List ℕ) (items : List Tree) (ds : List ℕ) (reason : Reason)
-    → eqb d 93 ≡ is_closing → is_special d ≡ false → ends_word d ≡ true → nest_of c (x ∷ xs) ≡ None → with_word c (x ∷ xs) ≡ Err reason
-    → read fs (brackets o c (x ∷ xs)) items [] (d ∷ ds) ≡ fails reason (length (x ∷ xs) + (length ds + 1))
+refused_word : (fs : List Frame) (is_closing : Bool) (d o : ℕ) (c : Option Component) (x : ℕ) (xs : List ℕ) (items : List Tree) (ds : List ℕ) (fault : Fault)
+    → eqb d 93 ≡ is_closing → is_special d ≡ false → ends_word d ≡ true → nest_of c (x ∷ xs) ≡ None → at_fault (with_word c (x ∷ xs)) (length (x ∷ xs) + (length ds + 1)) ≡ Err fault
+    → read fs (brackets o c (x ∷ xs)) items [] (d ∷ ds) ≡ Err fault
 unfolding read
-refused_word fs true d o c x xs items ds reason f e h none w = rw (e, f, none, w) refl
-refused_word fs false d o c x xs items ds reason f e h none w =
+refused_word fs true d o c x xs items ds fault f e h none w = rw (e, f, none, w) refl
+refused_word fs false d o c x xs items ds fault f e h none w =
     let white : is_ascii_whitespace d ≡ true = rw (e, f) at h in
     rw (e, f, white, none, w) refl
 
@@ -175,28 +178,29 @@ next_ends : (s word next : List ℕ) (n d : ℕ) (ds : List ℕ) → Word s word
 next_ends s word next n d ds w e = stops ends_word s d ds (ap (λ (m : ℕ). drop m s) (sym w.len) ∙ sym w.back ∙ e)
 
 pub word_made : (fs : List Frame) (s word next : List ℕ) (n o : ℕ) (c : Option Component) (items : List Tree) (b : ℕ) (bs : List ℕ) (d : ℕ) (ds : List ℕ) (made : Component)
-    → Word s word next n → s ≡ b ∷ bs → ends_word b ≡ false → next ≡ d ∷ ds → is_special d ≡ false → nest_of c word ≡ None → with_word c word ≡ Ok made
-    → read fs (brackets o c []) items [] s ≡ read fs (brackets o (Some made) []) items [] next
-word_made fs s word next n o c items b bs d ds made w s-is plain next-is usual none is_made =
-    let x = begins ends_word s word n b bs s-is plain w.len w.front in
-    word_read fs s word next n o c items w
-    ∙ ap (λ (v : List ℕ). read fs (brackets o c v) items [] next) x.1
-    ∙ ap (λ (v : List ℕ). read fs (brackets o c (b ∷ x.0)) items [] v) next-is
-    ∙ ended_word fs (eqb d 93) d o c b x.0 items ds made refl usual (next_ends s word next n d ds w next-is) (ap (nest_of c) (sym x.1) ∙ none) (ap (with_word c) (sym x.1) ∙ is_made)
-    ∙ ap (λ (v : List ℕ). read fs (brackets o (Some made) []) items [] v) (sym next-is)
-
-pub word_refused : (fs : List Frame) (s word next : List ℕ) (n o : ℕ) (c : Option Component) (items : List Tree) (b : ℕ) (bs : List ℕ) (d : ℕ) (ds : List ℕ) (reason : Reason)
-    → Word s word next n → s ≡ b ∷ bs → ends_word b ≡ false → next ≡ d ∷ ds → is_special d ≡ false → nest_of c word ≡ None → with_word c word ≡ Err reason
+    → Word s word next n → s ≡ b ∷ bs → ends_word b ≡ false → next ≡ d ∷ ds → is_special d ≡ false → nest_of c word ≡ None → at_fault (with_word c word) (length s) ≡ Ok made
     → length s ≡ length word + length next
-    → read fs (brackets o c []) items [] s ≡ fails reason (length s)
-word_refused fs s word next n o c items b bs d ds reason w s-is plain next-is usual none refused len =
+    → read fs (brackets o c []) items [] s ≡ read fs (brackets o (Some made) []) items [] next
+word_made fs s word next n o c items b bs d ds made w s-is plain next-is usual none is_made len =
     let x = begins ends_word s word n b bs s-is plain w.len w.front in
     let sum : length (b ∷ x.0) + (length ds + 1) ≡ length s = omega (arith, len, ap length x.1, ap length next-is) in
     word_read fs s word next n o c items w
     ∙ ap (λ (v : List ℕ). read fs (brackets o c v) items [] next) x.1
     ∙ ap (λ (v : List ℕ). read fs (brackets o c (b ∷ x.0)) items [] v) next-is
-    ∙ refused_word fs (eqb d 93) d o c b x.0 items ds reason refl usual (next_ends s word next n d ds w next-is) (ap (nest_of c) (sym x.1) ∙ none) (ap (with_word c) (sym x.1) ∙ refused)
-    ∙ ap (fails reason) sum
+    ∙ ended_word fs (eqb d 93) d o c b x.0 items ds made refl usual (next_ends s word next n d ds w next-is) (ap (nest_of c) (sym x.1) ∙ none) (ap (at_fault (with_word c (b ∷ x.0))) sum ∙ ap (λ (v : List ℕ). at_fault (with_word c v) (length s)) (sym x.1) ∙ is_made)
+    ∙ ap (λ (v : List ℕ). read fs (brackets o (Some made) []) items [] v) (sym next-is)
+
+pub word_refused : (fs : List Frame) (s word next : List ℕ) (n o : ℕ) (c : Option Component) (items : List Tree) (b : ℕ) (bs : List ℕ) (d : ℕ) (ds : List ℕ) (fault : Fault)
+    → Word s word next n → s ≡ b ∷ bs → ends_word b ≡ false → next ≡ d ∷ ds → is_special d ≡ false → nest_of c word ≡ None → at_fault (with_word c word) (length s) ≡ Err fault
+    → length s ≡ length word + length next
+    → read fs (brackets o c []) items [] s ≡ Err fault
+word_refused fs s word next n o c items b bs d ds fault w s-is plain next-is usual none refused len =
+    let x = begins ends_word s word n b bs s-is plain w.len w.front in
+    let sum : length (b ∷ x.0) + (length ds + 1) ≡ length s = omega (arith, len, ap length x.1, ap length next-is) in
+    word_read fs s word next n o c items w
+    ∙ ap (λ (v : List ℕ). read fs (brackets o c v) items [] next) x.1
+    ∙ ap (λ (v : List ℕ). read fs (brackets o c (b ∷ x.0)) items [] v) next-is
+    ∙ refused_word fs (eqb d 93) d o c b x.0 items ds fault refl usual (next_ends s word next n d ds w next-is) (ap (nest_of c) (sym x.1) ∙ none) (ap (at_fault (with_word c (b ∷ x.0))) sum ∙ ap (λ (v : List ℕ). at_fault (with_word c v) (length s)) (sym x.1) ∙ refused)
 
 pub keyword_read : (fs : List Frame) (s word next : List ℕ) (n o : ℕ) (c : Option Component) (items : List Tree) (b : ℕ) (bs : List ℕ) (d : ℕ) (ds : List ℕ) (kind : Nest)
     → Word s word next n → s ≡ b ∷ bs → ends_word b ≡ false → next ≡ d ∷ ds → is_special d ≡ false → nest_of c word ≡ Some kind
@@ -224,7 +228,7 @@ to_escape [] b items bs e f = rw (e, f) refl
 to_escape (_ ∷ fs) b items bs e f = rw (e, f) refl
 
 pub escapes : (fs : List Frame) (d : ℕ) (items : List Tree) (ds : List ℕ) → is_escapable d ≡ true
-    → read fs escape items [] (d ∷ ds) ≡ read fs outside (items ++ byte_literal (d ∷ []) ∷ []) [] ds
+    → read fs escape items [] (d ∷ ds) ≡ read fs outside (items ++ literal_of (d ∷ []) ∷ []) [] ds
 unfolding read
 escapes fs d items ds g = rw g refl
 
@@ -244,7 +248,7 @@ closes_list f fs b items bs e = rw e refl
 
 -- a literal ends at the text's end, or at a byte that ends it
 literal_at_byte : (fs : List Frame) (is_opening is_backslash : Bool) (items : List Tree) (x : ℕ) (xs : List ℕ) (d : ℕ) (ds : List ℕ) → eqb d 91 ≡ is_opening → eqb d 92 ≡ is_backslash → ends_literal (is_nested fs) d ≡ true
-    → read fs outside items (x ∷ xs) (d ∷ ds) ≡ read fs outside (items ++ byte_literal (x ∷ xs) ∷ []) [] (d ∷ ds)
+    → read fs outside items (x ∷ xs) (d ∷ ds) ≡ read fs outside (items ++ literal_of (x ∷ xs) ∷ []) [] (d ∷ ds)
 unfolding read
 literal_at_byte [] true is_backslash items x xs d ds e f h = rw e refl
 literal_at_byte [] false true items x xs d ds e f h = rw (e, f) refl
@@ -254,7 +258,7 @@ literal_at_byte (_ ∷ fs) false true items x xs d ds e f h = rw (e, f) refl
 literal_at_byte (_ ∷ fs) false false items x xs d ds e f h = let g : eqb d 93 ≡ true = rw (e, f) at h in rw (e, f, g) refl
 
 literal_ends : (fs : List Frame) (items : List Tree) (x : ℕ) (xs next : List ℕ) → ((d : ℕ) (ds : List ℕ) → next ≡ d ∷ ds → ends_literal (is_nested fs) d ≡ true)
-    → read fs outside items (x ∷ xs) next ≡ read fs outside (items ++ byte_literal (x ∷ xs) ∷ []) [] next
+    → read fs outside items (x ∷ xs) next ≡ read fs outside (items ++ literal_of (x ∷ xs) ∷ []) [] next
 unfolding read
 literal_ends [] items x xs [] h = refl
 literal_ends (f ∷ fs) items x xs [] h = refl
@@ -262,7 +266,7 @@ literal_ends fs items x xs (d ∷ ds) h = literal_at_byte fs (eqb d 91) (eqb d 9
 
 pub literal_read : (fs : List Frame) (s word next : List ℕ) (n b : ℕ) (bs : List ℕ) (items : List Tree) → n ≡ position_or_len (ends_literal (is_nested fs)) s → word ≡ take n s → next ≡ drop n s
     → s ≡ b ∷ bs → ends_literal (is_nested fs) b ≡ false
-    → read fs outside items [] s ≡ read fs outside (items ++ byte_literal word ∷ []) [] next
+    → read fs outside items [] s ≡ read fs outside (items ++ literal_of word ∷ []) [] next
 literal_read fs s word next n b bs items len front back s-is plain =
     let x = begins (ends_literal (is_nested fs)) s word n b bs s-is plain len front in
     literal_run fs s items []
@@ -270,7 +274,7 @@ literal_read fs s word next n b bs items len front back s-is plain =
     ∙ ap (λ (v : List ℕ). read fs outside items v (drop n s)) (sym front ∙ x.1)
     ∙ ap (λ (v : List ℕ). read fs outside items (b ∷ x.0) v) (sym back)
     ∙ literal_ends fs items b x.0 next (λ d ds e. stops (ends_literal (is_nested fs)) s d ds (ap (λ (m : ℕ). drop m s) (sym len) ∙ sym back ∙ e))
-    ∙ ap (λ (v : List ℕ). read fs outside (items ++ byte_literal v ∷ []) [] next) (sym x.1)
+    ∙ ap (λ (v : List ℕ). read fs outside (items ++ literal_of v ∷ []) [] next) (sym x.1)
 
 pub at_end : (items : List Tree) → read [] outside items [] [] ≡ Ok items
 unfolding read

@@ -3,11 +3,12 @@ use Rattle.std.specs.Prelude.{◌≡◌, ◌≢◌, ◌<◌, ℕ, zero, suc, Lis
 use Rattle.std.specs.Char.{is_ascii_whitespace}
 use Rattle.std.specs.List.{AllByRecursion}
 use Rattle.time_below.specs.Conversion.{current_component}
-use Rattle.time_below.specs.Tree.{Tree, trees, byte_literal, of_component, all_of}
+use Rattle.time_below.specs.Tree.{Tree, trees, of_component, all_of}
 use Rattle.time_below.specs.declared.format_description.component.Component.{Component}
 use Rattle.time_describe.specs.declared.pieces.Nest.{Nest}
+use Rattle.time_describe.specs.Literal.{literal_of}
 use Rattle.time_describe.specs.Pieces.{ends_literal}
-use Rattle.time_describe.specs.Reading.{opening, closing, backslash, is_escapable, ends_word, keyword, with_word, with_literal, nested, takes_list, depth_limit}
+use Rattle.time_describe.specs.Reading.{opening, closing, backslash, is_escapable, ends_word, keyword, with_word, is_whole, with_literal, nested, takes_list, depth_limit}
 use Rattle.time_describe.specs.Names.{named}
 
 -- a word in brackets, behind whitespace
@@ -79,6 +80,7 @@ pub record IsInside (i : Inside) (made : Component) : Type 0 where
   pub first : Component
   pub is_first : named i.name.bytes ≡ Some first
   pub chosen : IsChosen first i.choices made
+  pub whole : is_whole made ≡ true
 
 -- whitespace stands between the word and its first list
 abbrev pub IsApart : Lists → Type 0
@@ -96,7 +98,7 @@ abbrev mutual
   Means depth items literal done all = all ≡ with_literal items literal
   Means depth items literal (plain b ps) all = (ends_literal (is_deep depth) b ≡ false) × Means depth items (literal ++ b ∷ []) ps all
   Means depth items literal (escaped b ps) all =
-      (is_escapable b ≡ true) × Means depth (with_literal items literal ++ byte_literal (b ∷ []) ∷ []) [] ps all
+      (is_escapable b ≡ true) × Means depth (with_literal items literal ++ literal_of (b ∷ []) ∷ []) [] ps all
   Means depth items literal (in_brackets i ps) all =
       (c : Component) × IsInside i c × Means depth (with_literal items literal ++ of_component (current_component c) ∷ []) [] ps all
   Means depth items literal (with_lists w n ls gap ps) all =

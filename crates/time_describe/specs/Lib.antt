@@ -1,4 +1,6 @@
+pub mod Values
 pub mod Names
+pub mod Marks
 pub mod Reading
 pub mod Pieces
 pub mod Outcome

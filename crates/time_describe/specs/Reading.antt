@@ -1,16 +1,20 @@
 -- What a text describes, byte by byte, with the first fault that is met.
-use Rattle.std.specs.Prelude.{ℕ, ◌+◌, Bool, true, false, ◌||◌, ◌&&◌, ◌==◌, nat_lt, codes, bytes_eq, List, [], ◌∷◌, ◌++◌, length, Option, Some, None, Result, Ok, Err}
+use Rattle.std.specs.Prelude.{◌≡◌, ℕ, ◌+◌, Bool, true, false, not, ◌||◌, ◌&&◌, ◌==◌, nat_lt, codes, bytes_eq, List, [], ◌∷◌, ◌++◌, length, Option, Some, None, Result, Ok, Err}
 use Rattle.std.specs.Prelude.{if◌then◌else◌}
 use Rattle.std.specs.Char.{is_ascii_whitespace}
 use Rattle.std.specs.List.{before_first, after_first}
 use Rattle.time_below.specs.Conversion.{current_component}
 use Rattle.time_below.specs.declared.format_description.component.Component.{Component}
-use Rattle.time_below.specs.Tree.{Tree, trees, byte_literal, of_component, all_of, first_of}
+use Rattle.time_below.specs.declared.format_description.component.Component.TheVariants as component
+use Rattle.time_below.specs.Tree.{Tree, trees, of_component, all_of, first_of}
 use Rattle.time_describe.specs.declared.fault.Fault.{Fault}
 use Rattle.time_describe.specs.declared.fault.Reason.{Reason}
-use Rattle.time_describe.specs.declared.fault.Reason.TheVariants.{UnclosedBracket, InvalidEscape, MissingName, UnknownName, MissingItems, UnexpectedByte, TooDeep}
+use Rattle.time_describe.specs.declared.fault.Reason.TheVariants.{UnclosedBracket, InvalidEscape, MissingName, UnknownName, MissingModifier, MissingItems, UnexpectedByte, TooDeep, TooManyItems}
 use Rattle.time_describe.specs.declared.pieces.Nest.{Nest}
 use Rattle.time_describe.specs.declared.pieces.Nest.TheVariants as nests
+use Rattle.time_describe.specs.Limit.{most_items}
+use Rattle.time_describe.specs.Literal.{literal_of}
+use Rattle.time_describe.specs.Marks.{past}
 use Rattle.time_describe.specs.Names.{named, modified}
 
 infixl 10 ◌>>=◌
@@ -113,13 +117,19 @@ nested nests.Optional [] left = fails MissingItems left
 nested nests.Optional (t ∷ ts) left = Ok t
 nested nests.First ts left = Ok (first_of (trees ts))
 
--- the item that ends where brackets are closed
-abbrev pub whole : Option Component → ℕ → Result Tree Fault
-whole None left = fails MissingName left
-whole (Some c) left = Ok (of_component (current_component c))
+-- an `ignore` says how many bytes a parser passes over
+abbrev pub is_whole : Component → Bool
+is_whole (component.Ignore m) = not (m.count == 0)
+is_whole c = true
 
+-- the component where brackets are closed
+abbrev pub finished : Option Component → Result Component Reason
+finished None = Err MissingName
+finished (Some c) = if is_whole c then Ok (current_component c) else Err MissingModifier
+
+-- the item that ends there
 abbrev pub ended : Place → ℕ → Result Tree Fault
-ended (brackets opened c word) left = whole c left
+ended (brackets opened c word) left = at_fault (finished c) left >>= λ made. Ok (of_component made)
 ended (between n opened lists) left = nested n lists left
 ended outside left = fails MissingName left
 ended escape left = fails MissingName left
@@ -127,7 +137,7 @@ ended escape left = fails MissingName left
 -- the items, and a literal after them if it has bytes
 abbrev pub with_literal : List Tree → List ℕ → List Tree
 with_literal items [] = items
-with_literal items (b ∷ bs) = items ++ byte_literal (b ∷ bs) ∷ []
+with_literal items (b ∷ bs) = items ++ literal_of (b ∷ bs) ∷ []
 
 -- the place behind a list that is closed
 abbrev pub after_list : Frame → List Tree → List ℕ → Place
@@ -150,7 +160,7 @@ read (f ∷ fs) outside items literal (b ∷ bs) =
     else (if b == closing then read fs (after_list f items literal) f.items [] bs
     else read (f ∷ fs) outside items (literal ++ b ∷ []) bs))
 read fs escape items literal (b ∷ bs) =
-    if is_escapable b then read fs outside (items ++ byte_literal (b ∷ []) ∷ []) [] bs
+    if is_escapable b then read fs outside (items ++ literal_of (b ∷ []) ∷ []) [] bs
     else fails InvalidEscape (length bs + 2)
 read fs (brackets opened c word) items literal (b ∷ bs) =
     if is_special b then fails UnclosedBracket opened
@@ -167,6 +177,14 @@ read fs (between n opened lists) items literal (b ∷ bs) =
     else fails TooDeep (length bs + 1))
     else fails UnexpectedByte (length bs + 1)))
 
--- the items of a text
+-- A text may have so many items: each but a literal begins with an opening bracket or a backslash.
+abbrev pub IsWithinLimit : List ℕ → Type 0
+IsWithinLimit text = past is_special most_items text ≡ None
+
+-- the items of a text, unless it may have too many
+abbrev pub within_limit : Option ℕ → List ℕ → Result (List Tree) Fault
+within_limit None text = read [] outside [] [] text
+within_limit (Some left) text = fails TooManyItems left
+
 abbrev pub described : List ℕ → Result (List Tree) Fault
-described text = read [] outside [] [] text
+described text = within_limit (past is_special most_items text) text

@@ -1,12 +1,14 @@
 //! Items, put one after the other into lists.
 ghost use Rattle.std.specs.Prelude.{◌≡◌, ◌+◌, vec_len, List, ◌<◌, ◌≤◌, ◌++◌, ◌∷◌, [], length, map, IfOk, OnOk};
-ghost use Rattle.time_below.specs.Tree.{owned_tree, byte_literal, of_component};
+ghost use Rattle.time_below.specs.Tree.{owned_tree, of_component};
+ghost use Rattle.time_describe.specs.Literal.{literal_of};
 ghost use Rattle.time_describe.specs.Outcome.{Gives, GoesOn, frames_view};
 ghost use Rattle.time_describe.specs.Reading as reading;
 ghost use Rattle.time_describe.specs.Reading.{nested, takes_list, read, outside, between, escape};
 
 use crate::fault::{Failure, Fault, Reason};
 use crate::frame::Frame;
+use crate::literal::literal;
 use crate::pieces::{
     Bracketed, Nest, after_gap, first_and_rest, in_brackets, is_escapable, literal_len,
 };
@@ -17,16 +19,15 @@ use time_below::format_description::{Component, OwnedFormatItem};
 /// How many lists may be open, one in the other.
 const DEPTH_LIMIT: usize = 32;
 
-/// Adds a literal.
+/// Adds the bytes as a literal, a text where they are UTF-8.
 pub fn put_literal(
     alloc: Global,
     items: &mut Vec<OwnedFormatItem>,
     bytes: &[u8],
 ) -> Result<(), AllocError>
-    ensures { OnOk result (map owned_tree items.new.items ≡ map owned_tree items.old.items ++ byte_literal bytes.now ∷ []) }
+    ensures { OnOk result (map owned_tree items.new.items ≡ map owned_tree items.old.items ++ literal_of bytes.now ∷ []) }
 {
-    let literal = Vec::from_slice(alloc, bytes)?;
-    items.push(OwnedFormatItem::Literal(literal))?;
+    items.push(literal(alloc, bytes)?)?;
     Ok(())
 }
 
@@ -219,7 +220,7 @@ pub fn step<'a>(
     if first == b']' && !frames.is_empty() {
         return close_list(alloc, frames, items, rest);
     }
-    let (literal, after) = text.split_at(literal_len(!frames.is_empty(), text));
-    put_literal(alloc, items, literal)?;
+    let (bytes, after) = text.split_at(literal_len(!frames.is_empty(), text));
+    put_literal(alloc, items, bytes)?;
     Ok(after)
 }

@@ -2,29 +2,47 @@
 ghost use Rattle.std.specs.Prelude.{◌≡◌};
 ghost use Rattle.time_describe.specs.declared.fault.Failure.TheVariants.{OutOfMemory, Invalid};
 
+use crate::literal::MOST_ITEMS;
 use std::alloc::{AllocError, AllocFailed};
+use thiserror::Error;
 
 /// What is wrong at a place of a text.
-#[derive(Clone, Copy, Debug, PartialEq, Eq)]
+#[derive(Clone, Copy, Debug, PartialEq, Eq, Error)]
 pub enum Reason {
-    /// A bracket is not closed.
+    /// An opening bracket is not closed.
+    #[error("unclosed bracket")]
     UnclosedBracket,
     /// What follows a backslash is no backslash and no bracket.
+    #[error("invalid escape sequence")]
     InvalidEscape,
     /// Brackets have no name in them.
+    #[error("missing component name")]
     MissingName,
     /// No component has this name.
+    #[error("unknown component")]
     UnknownName,
-    /// The component has no such choice.
+    /// The component has no modifier of this name.
+    #[error("unknown modifier")]
     UnknownModifier,
-    /// The choice has no such value.
+    /// The modifier has no such value.
+    #[error("invalid modifier value")]
     InvalidValue,
-    /// `[optional` has no list of items.
+    /// An `ignore` has no `count`.
+    #[error("missing modifier `count`")]
+    MissingModifier,
+    /// An `optional` has no list of items.
+    #[error("missing list of items")]
     MissingItems,
-    /// Something other than whitespace and a bracket is between lists of items.
+    /// Between lists of items is something other than whitespace and a bracket, or behind the one
+    /// list of an `optional` another one.
+    #[error("unexpected text")]
     UnexpectedByte,
-    /// Lists of items are too deep in one another.
+    /// The lists of items are more than 32 deep in one another.
+    #[error("more than 32 lists in one another")]
     TooDeep,
+    /// The 65,537th opening bracket or backslash: each item but a literal begins with one.
+    #[error("more than {MOST_ITEMS} items")]
+    TooManyItems,
 }
 
 /// What is wrong, and where.

@@ -4,7 +4,7 @@ ghost use Rattle.time_below.specs.Tree.{Tree};
 ghost use Rattle.time_describe.specs.Conversions.{composition, composed};
 ghost use Rattle.time_describe.specs.Grammar.{Parts, spelling, Means};
 ghost use Rattle.time_describe.specs.Limit.{most_items};
-ghost use Rattle.time_describe.specs.Reading.{described};
+ghost use Rattle.time_describe.specs.Reading.{described, IsWithinLimit};
 ghost use Rattle.time_describe.specs.Strftime as strftime;
 ghost use Rattle.time_describe.specs.StrftimeGrammar as strftime_grammar;
 ghost use Rattle.time_describe.specs.StrftimeGrammar.{Part};
@@ -12,7 +12,13 @@ ghost use Rattle.time_describe.specs.declared.strftime.fault.StrftimeReason.TheV
 
 /// Each text that the grammar spells is a description, of the items that the grammar says.
 pub fn what_is_spelled_is_described()
-    ensures { (ps : Parts) (all : List Tree) → Means 0 [] [] ps all → described (spelling ps []) ≡ Ok all }
+    ensures { (ps : Parts) (all : List Tree) → Means 0 [] [] ps all → IsWithinLimit (spelling ps []) → described (spelling ps []) ≡ Ok all }
+{}
+
+/// Nothing else is: each description is what the grammar spells, with these items.
+pub fn what_is_described_is_spelled()
+    ensures { (text : List ℕ) (all : List Tree) → described text ≡ Ok all
+        → (ps : Parts) × (spelling ps [] ≡ text) × Means 0 [] [] ps all × IsWithinLimit text }
 {}
 
 /// Each text that the grammar of strftime spells is a description, of the items that the grammar

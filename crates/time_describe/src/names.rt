@@ -1,22 +1,19 @@
-//! The names that stand in brackets: components, and what is chosen of them.
+//! The names that stand in brackets: components, and what modifiers choose of them.
 ghost use Rattle.std.specs.Prelude.{◌≡◌};
-ghost use Rattle.time_describe.specs.Names.{is_name, named, padding_named, month_repr_named, weekday_repr_named, week_number_repr_named, year_repr_named, year_range_named, precision_named, digits_named, bool_named, clock_named, case_named, sign_named, base_named, modified};
+ghost use Rattle.time_describe.specs.Names.{named, padding_modified, year_modified, month_modified, weekday_modified, week_number_modified, hour_modified, period_modified, subsecond_modified, offset_hour_modified, unix_timestamp_modified, ignore_modified, end_modified, modified};
 
 use crate::fault::Reason;
+use crate::values::{
+    base_named, bool_named, case_named, clock_named, count_named, digits_named, month_repr_named, padding_named, precision_named, sign_named, trailing_input_named, week_number_repr_named, weekday_repr_named, year_range_named, year_repr_named, is_name,
+};
 use time_below::format_description::modifier::{
-    MonthRepr, Padding, SubsecondDigits, UnixTimestampPrecision, WeekNumberRepr, WeekdayRepr,
-    YearRange, YearRepr,
+    MonthRepr, Padding, SubsecondDigits, TrailingInput, UnixTimestampPrecision, WeekNumberRepr,
+    WeekdayRepr, YearRange, YearRepr,
 };
 use time_below::format_description::{Component, modifier};
 
-/// Whether a word is this name, in capitals or small letters.
-fn is_name(word: &[u8], name: &[u8]) -> bool
-    ensures { result ≡ is_name word.now name.now }
-{
-    word.eq_ignore_ascii_case(name)
-}
-
-/// The component of this name, where nothing more is said.
+/// The component of this name, where nothing more is said. The count of an `ignore` is not given
+/// yet, and 0.
 #[tactic(auto, unfolding(crate::specs::Names::named))]
 pub fn named(word: &[u8]) -> Option<Component>
     ensures { result ≡ named word.now }
@@ -94,466 +91,282 @@ pub fn named(word: &[u8]) -> Option<Component>
             precision: UnixTimestampPrecision::Second,
             sign_is_mandatory: false,
         }))
+    } else if is_name(word, b"ignore") {
+        Some(Component::Ignore(modifier::Ignore { count: 0 }))
+    } else if is_name(word, b"end") {
+        Some(Component::End(modifier::End {
+            trailing_input: TrailingInput::Prohibit,
+        }))
     } else {
         None
     }
 }
 
-/// The padding of this name.
-#[tactic(auto, unfolding(crate::specs::Names::padding_named))]
-fn padding_named(word: &[u8]) -> Option<Padding>
-    ensures { result ≡ padding_named word.now }
+/// The padding that one more modifier chooses, where only that can be chosen.
+#[tactic(auto, unfolding(crate::specs::Names::padding_modified))]
+fn padding_modified(key: &[u8], value: &[u8]) -> Result<Padding, Reason>
+    ensures { result ≡ padding_modified key.now value.now }
 {
-    if is_name(word, b"zero") {
-        Some(Padding::Zero)
-    } else if is_name(word, b"space") {
-        Some(Padding::Space)
-    } else if is_name(word, b"none") {
-        Some(Padding::None)
+    if is_name(key, b"padding") {
+        padding_named(value).ok_or(Reason::InvalidValue)
     } else {
-        None
+        Err(Reason::UnknownModifier)
     }
 }
 
-/// How a month is written, by name.
-#[tactic(auto, unfolding(crate::specs::Names::month_repr_named))]
-fn month_repr_named(word: &[u8]) -> Option<MonthRepr>
-    ensures { result ≡ month_repr_named word.now }
+/// How year is written, with one more modifier.
+#[tactic(auto, unfolding(crate::specs::Names::year_modified))]
+fn year_modified(m: modifier::Year, key: &[u8], value: &[u8]) -> Result<modifier::Year, Reason>
+    ensures { result ≡ year_modified m key.now value.now }
 {
-    if is_name(word, b"numerical") {
-        Some(MonthRepr::Numerical)
-    } else if is_name(word, b"long") {
-        Some(MonthRepr::Long)
-    } else if is_name(word, b"short") {
-        Some(MonthRepr::Short)
+    if is_name(key, b"padding") {
+        let Some(padding) = padding_named(value) else {
+            return Err(Reason::InvalidValue);
+        };
+        Ok(modifier::Year { padding, ..m })
+    } else if is_name(key, b"repr") {
+        let Some(repr) = year_repr_named(value) else {
+            return Err(Reason::InvalidValue);
+        };
+        Ok(modifier::Year { repr, ..m })
+    } else if is_name(key, b"range") {
+        let Some(range) = year_range_named(value) else {
+            return Err(Reason::InvalidValue);
+        };
+        Ok(modifier::Year { range, ..m })
+    } else if is_name(key, b"base") {
+        let Some(iso_week_based) = base_named(value) else {
+            return Err(Reason::InvalidValue);
+        };
+        Ok(modifier::Year { iso_week_based, ..m })
+    } else if is_name(key, b"sign") {
+        let Some(sign_is_mandatory) = sign_named(value) else {
+            return Err(Reason::InvalidValue);
+        };
+        Ok(modifier::Year { sign_is_mandatory, ..m })
     } else {
-        None
+        Err(Reason::UnknownModifier)
     }
 }
 
-/// How a weekday is written, by name.
-#[tactic(auto, unfolding(crate::specs::Names::weekday_repr_named))]
-fn weekday_repr_named(word: &[u8]) -> Option<WeekdayRepr>
-    ensures { result ≡ weekday_repr_named word.now }
+/// How month is written, with one more modifier.
+#[tactic(auto, unfolding(crate::specs::Names::month_modified))]
+fn month_modified(m: modifier::Month, key: &[u8], value: &[u8]) -> Result<modifier::Month, Reason>
+    ensures { result ≡ month_modified m key.now value.now }
 {
-    if is_name(word, b"short") {
-        Some(WeekdayRepr::Short)
-    } else if is_name(word, b"long") {
-        Some(WeekdayRepr::Long)
-    } else if is_name(word, b"sunday") {
-        Some(WeekdayRepr::Sunday)
-    } else if is_name(word, b"monday") {
-        Some(WeekdayRepr::Monday)
+    if is_name(key, b"padding") {
+        let Some(padding) = padding_named(value) else {
+            return Err(Reason::InvalidValue);
+        };
+        Ok(modifier::Month { padding, ..m })
+    } else if is_name(key, b"repr") {
+        let Some(repr) = month_repr_named(value) else {
+            return Err(Reason::InvalidValue);
+        };
+        Ok(modifier::Month { repr, ..m })
+    } else if is_name(key, b"case_sensitive") {
+        let Some(case_sensitive) = bool_named(value) else {
+            return Err(Reason::InvalidValue);
+        };
+        Ok(modifier::Month { case_sensitive, ..m })
     } else {
-        None
+        Err(Reason::UnknownModifier)
     }
 }
 
-/// Which weeks are counted, by name.
-#[tactic(auto, unfolding(crate::specs::Names::week_number_repr_named))]
-fn week_number_repr_named(word: &[u8]) -> Option<WeekNumberRepr>
-    ensures { result ≡ week_number_repr_named word.now }
+/// How weekday is written, with one more modifier.
+#[tactic(auto, unfolding(crate::specs::Names::weekday_modified))]
+fn weekday_modified(m: modifier::Weekday, key: &[u8], value: &[u8]) -> Result<modifier::Weekday, Reason>
+    ensures { result ≡ weekday_modified m key.now value.now }
 {
-    if is_name(word, b"iso") {
-        Some(WeekNumberRepr::Iso)
-    } else if is_name(word, b"sunday") {
-        Some(WeekNumberRepr::Sunday)
-    } else if is_name(word, b"monday") {
-        Some(WeekNumberRepr::Monday)
+    if is_name(key, b"repr") {
+        let Some(repr) = weekday_repr_named(value) else {
+            return Err(Reason::InvalidValue);
+        };
+        Ok(modifier::Weekday { repr, ..m })
+    } else if is_name(key, b"one_indexed") {
+        let Some(one_indexed) = bool_named(value) else {
+            return Err(Reason::InvalidValue);
+        };
+        Ok(modifier::Weekday { one_indexed, ..m })
+    } else if is_name(key, b"case_sensitive") {
+        let Some(case_sensitive) = bool_named(value) else {
+            return Err(Reason::InvalidValue);
+        };
+        Ok(modifier::Weekday { case_sensitive, ..m })
     } else {
-        None
+        Err(Reason::UnknownModifier)
     }
 }
 
-/// What of a year is written, by name.
-#[tactic(auto, unfolding(crate::specs::Names::year_repr_named))]
-fn year_repr_named(word: &[u8]) -> Option<YearRepr>
-    ensures { result ≡ year_repr_named word.now }
+/// How week is written, with one more modifier.
+#[tactic(auto, unfolding(crate::specs::Names::week_number_modified))]
+fn week_number_modified(m: modifier::WeekNumber, key: &[u8], value: &[u8]) -> Result<modifier::WeekNumber, Reason>
+    ensures { result ≡ week_number_modified m key.now value.now }
 {
-    if is_name(word, b"full") {
-        Some(YearRepr::Full)
-    } else if is_name(word, b"century") {
-        Some(YearRepr::Century)
-    } else if is_name(word, b"last_two") {
-        Some(YearRepr::LastTwo)
+    if is_name(key, b"padding") {
+        let Some(padding) = padding_named(value) else {
+            return Err(Reason::InvalidValue);
+        };
+        Ok(modifier::WeekNumber { padding, ..m })
+    } else if is_name(key, b"repr") {
+        let Some(repr) = week_number_repr_named(value) else {
+            return Err(Reason::InvalidValue);
+        };
+        Ok(modifier::WeekNumber { repr, ..m })
     } else {
-        None
+        Err(Reason::UnknownModifier)
     }
 }
 
-/// How great a year may be, by name.
-#[tactic(auto, unfolding(crate::specs::Names::year_range_named))]
-fn year_range_named(word: &[u8]) -> Option<YearRange>
-    ensures { result ≡ year_range_named word.now }
+/// How hour is written, with one more modifier.
+#[tactic(auto, unfolding(crate::specs::Names::hour_modified))]
+fn hour_modified(m: modifier::Hour, key: &[u8], value: &[u8]) -> Result<modifier::Hour, Reason>
+    ensures { result ≡ hour_modified m key.now value.now }
 {
-    if is_name(word, b"standard") {
-        Some(YearRange::Standard)
-    } else if is_name(word, b"extended") {
-        Some(YearRange::Extended)
+    if is_name(key, b"padding") {
+        let Some(padding) = padding_named(value) else {
+            return Err(Reason::InvalidValue);
+        };
+        Ok(modifier::Hour { padding, ..m })
+    } else if is_name(key, b"repr") {
+        let Some(is_12_hour_clock) = clock_named(value) else {
+            return Err(Reason::InvalidValue);
+        };
+        Ok(modifier::Hour { is_12_hour_clock, ..m })
     } else {
-        None
+        Err(Reason::UnknownModifier)
     }
 }
 
-/// The unit in which a moment is counted, by name.
-#[tactic(auto, unfolding(crate::specs::Names::precision_named))]
-fn precision_named(word: &[u8]) -> Option<UnixTimestampPrecision>
-    ensures { result ≡ precision_named word.now }
+/// How half of the day is written, with one more modifier.
+#[tactic(auto, unfolding(crate::specs::Names::period_modified))]
+fn period_modified(m: modifier::Period, key: &[u8], value: &[u8]) -> Result<modifier::Period, Reason>
+    ensures { result ≡ period_modified m key.now value.now }
 {
-    if is_name(word, b"second") {
-        Some(UnixTimestampPrecision::Second)
-    } else if is_name(word, b"millisecond") {
-        Some(UnixTimestampPrecision::Millisecond)
+    if is_name(key, b"case") {
+        let Some(is_uppercase) = case_named(value) else {
+            return Err(Reason::InvalidValue);
+        };
+        Ok(modifier::Period { is_uppercase, ..m })
+    } else if is_name(key, b"case_sensitive") {
+        let Some(case_sensitive) = bool_named(value) else {
+            return Err(Reason::InvalidValue);
+        };
+        Ok(modifier::Period { case_sensitive, ..m })
     } else {
-        None
+        Err(Reason::UnknownModifier)
     }
 }
 
-/// How many decimals are written, by name.
-#[tactic(auto, unfolding(crate::specs::Names::digits_named))]
-fn digits_named(word: &[u8]) -> Option<SubsecondDigits>
-    ensures { result ≡ digits_named word.now }
+/// How decimals of the second is written, with one more modifier.
+#[tactic(auto, unfolding(crate::specs::Names::subsecond_modified))]
+fn subsecond_modified(m: modifier::Subsecond, key: &[u8], value: &[u8]) -> Result<modifier::Subsecond, Reason>
+    ensures { result ≡ subsecond_modified m key.now value.now }
 {
-    if is_name(word, b"1") {
-        Some(SubsecondDigits::One)
-    } else if is_name(word, b"2") {
-        Some(SubsecondDigits::Two)
-    } else if is_name(word, b"3") {
-        Some(SubsecondDigits::Three)
-    } else if is_name(word, b"4") {
-        Some(SubsecondDigits::Four)
-    } else if is_name(word, b"5") {
-        Some(SubsecondDigits::Five)
-    } else if is_name(word, b"6") {
-        Some(SubsecondDigits::Six)
-    } else if is_name(word, b"7") {
-        Some(SubsecondDigits::Seven)
-    } else if is_name(word, b"8") {
-        Some(SubsecondDigits::Eight)
-    } else if is_name(word, b"9") {
-        Some(SubsecondDigits::Nine)
-    } else if is_name(word, b"1+") {
-        Some(SubsecondDigits::OneOrMore)
+    if is_name(key, b"digits") {
+        let Some(digits) = digits_named(value) else {
+            return Err(Reason::InvalidValue);
+        };
+        Ok(modifier::Subsecond { digits })
     } else {
-        None
+        Err(Reason::UnknownModifier)
     }
 }
 
-/// Yes or no, by name.
-#[tactic(auto, unfolding(crate::specs::Names::bool_named))]
-fn bool_named(word: &[u8]) -> Option<bool>
-    ensures { result ≡ bool_named word.now }
+/// How hour of the offset is written, with one more modifier.
+#[tactic(auto, unfolding(crate::specs::Names::offset_hour_modified))]
+fn offset_hour_modified(m: modifier::OffsetHour, key: &[u8], value: &[u8]) -> Result<modifier::OffsetHour, Reason>
+    ensures { result ≡ offset_hour_modified m key.now value.now }
 {
-    if is_name(word, b"false") {
-        Some(false)
-    } else if is_name(word, b"true") {
-        Some(true)
+    if is_name(key, b"padding") {
+        let Some(padding) = padding_named(value) else {
+            return Err(Reason::InvalidValue);
+        };
+        Ok(modifier::OffsetHour { padding, ..m })
+    } else if is_name(key, b"sign") {
+        let Some(sign_is_mandatory) = sign_named(value) else {
+            return Err(Reason::InvalidValue);
+        };
+        Ok(modifier::OffsetHour { sign_is_mandatory, ..m })
     } else {
-        None
+        Err(Reason::UnknownModifier)
     }
 }
 
-/// Whether the clock has 12 hours, by name.
-#[tactic(auto, unfolding(crate::specs::Names::clock_named))]
-fn clock_named(word: &[u8]) -> Option<bool>
-    ensures { result ≡ clock_named word.now }
+/// How count of seconds is written, with one more modifier.
+#[tactic(auto, unfolding(crate::specs::Names::unix_timestamp_modified))]
+fn unix_timestamp_modified(m: modifier::UnixTimestamp, key: &[u8], value: &[u8]) -> Result<modifier::UnixTimestamp, Reason>
+    ensures { result ≡ unix_timestamp_modified m key.now value.now }
 {
-    if is_name(word, b"12") {
-        Some(true)
-    } else if is_name(word, b"24") {
-        Some(false)
+    if is_name(key, b"precision") {
+        let Some(precision) = precision_named(value) else {
+            return Err(Reason::InvalidValue);
+        };
+        Ok(modifier::UnixTimestamp { precision, ..m })
+    } else if is_name(key, b"sign") {
+        let Some(sign_is_mandatory) = sign_named(value) else {
+            return Err(Reason::InvalidValue);
+        };
+        Ok(modifier::UnixTimestamp { sign_is_mandatory, ..m })
     } else {
-        None
+        Err(Reason::UnknownModifier)
     }
 }
 
-/// Whether letters are capitals, by name.
-#[tactic(auto, unfolding(crate::specs::Names::case_named))]
-fn case_named(word: &[u8]) -> Option<bool>
-    ensures { result ≡ case_named word.now }
+/// How bytes to pass over is written, with one more modifier.
+#[tactic(auto, unfolding(crate::specs::Names::ignore_modified))]
+fn ignore_modified(m: modifier::Ignore, key: &[u8], value: &[u8]) -> Result<modifier::Ignore, Reason>
+    ensures { result ≡ ignore_modified m key.now value.now }
 {
-    if is_name(word, b"lower") {
-        Some(false)
-    } else if is_name(word, b"upper") {
-        Some(true)
+    if is_name(key, b"count") {
+        let Some(count) = count_named(value) else {
+            return Err(Reason::InvalidValue);
+        };
+        Ok(modifier::Ignore { count })
     } else {
-        None
+        Err(Reason::UnknownModifier)
     }
 }
 
-/// Whether a plus is written, by name.
-#[tactic(auto, unfolding(crate::specs::Names::sign_named))]
-fn sign_named(word: &[u8]) -> Option<bool>
-    ensures { result ≡ sign_named word.now }
+/// How end is written, with one more modifier.
+#[tactic(auto, unfolding(crate::specs::Names::end_modified))]
+fn end_modified(m: modifier::End, key: &[u8], value: &[u8]) -> Result<modifier::End, Reason>
+    ensures { result ≡ end_modified m key.now value.now }
 {
-    if is_name(word, b"automatic") {
-        Some(false)
-    } else if is_name(word, b"mandatory") {
-        Some(true)
+    if is_name(key, b"trailing_input") {
+        let Some(trailing_input) = trailing_input_named(value) else {
+            return Err(Reason::InvalidValue);
+        };
+        Ok(modifier::End { trailing_input })
     } else {
-        None
+        Err(Reason::UnknownModifier)
     }
 }
 
-/// Whether the year is that of the week calendar, by name.
-#[tactic(auto, unfolding(crate::specs::Names::base_named))]
-fn base_named(word: &[u8]) -> Option<bool>
-    ensures { result ≡ base_named word.now }
-{
-    if is_name(word, b"calendar") {
-        Some(false)
-    } else if is_name(word, b"iso_week") {
-        Some(true)
-    } else {
-        None
-    }
-}
-
-/// The component where one more thing is chosen, by its key and its value.
+/// The component with one more modifier, by its key and its value.
 #[tactic(auto, unfolding(crate::specs::Names::modified))]
 pub fn modified(component: Component, key: &[u8], value: &[u8]) -> Result<Component, Reason>
     ensures { result ≡ modified component key.now value.now }
 {
-    match component {
-        Component::Year(m) => {
-            if is_name(key, b"padding") {
-                let Some(padding) = padding_named(value) else {
-                    return Err(Reason::InvalidValue);
-                };
-                Ok(Component::Year(modifier::Year { padding, ..m }))
-            } else if is_name(key, b"repr") {
-                let Some(repr) = year_repr_named(value) else {
-                    return Err(Reason::InvalidValue);
-                };
-                Ok(Component::Year(modifier::Year { repr, ..m }))
-            } else if is_name(key, b"range") {
-                let Some(range) = year_range_named(value) else {
-                    return Err(Reason::InvalidValue);
-                };
-                Ok(Component::Year(modifier::Year { range, ..m }))
-            } else if is_name(key, b"base") {
-                let Some(iso_week_based) = base_named(value) else {
-                    return Err(Reason::InvalidValue);
-                };
-                Ok(Component::Year(modifier::Year {
-                    iso_week_based,
-                    ..m
-                }))
-            } else if is_name(key, b"sign") {
-                let Some(sign_is_mandatory) = sign_named(value) else {
-                    return Err(Reason::InvalidValue);
-                };
-                Ok(Component::Year(modifier::Year {
-                    sign_is_mandatory,
-                    ..m
-                }))
-            } else {
-                Err(Reason::UnknownModifier)
-            }
-        }
-        Component::Month(m) => {
-            if is_name(key, b"padding") {
-                let Some(padding) = padding_named(value) else {
-                    return Err(Reason::InvalidValue);
-                };
-                Ok(Component::Month(modifier::Month { padding, ..m }))
-            } else if is_name(key, b"repr") {
-                let Some(repr) = month_repr_named(value) else {
-                    return Err(Reason::InvalidValue);
-                };
-                Ok(Component::Month(modifier::Month { repr, ..m }))
-            } else if is_name(key, b"case_sensitive") {
-                let Some(case_sensitive) = bool_named(value) else {
-                    return Err(Reason::InvalidValue);
-                };
-                Ok(Component::Month(modifier::Month {
-                    case_sensitive,
-                    ..m
-                }))
-            } else {
-                Err(Reason::UnknownModifier)
-            }
-        }
-        Component::Day(m) => {
-            if is_name(key, b"padding") {
-                let Some(padding) = padding_named(value) else {
-                    return Err(Reason::InvalidValue);
-                };
-                Ok(Component::Day(modifier::Day { padding }))
-            } else {
-                Err(Reason::UnknownModifier)
-            }
-        }
-        Component::Ordinal(m) => {
-            if is_name(key, b"padding") {
-                let Some(padding) = padding_named(value) else {
-                    return Err(Reason::InvalidValue);
-                };
-                Ok(Component::Ordinal(modifier::Ordinal { padding }))
-            } else {
-                Err(Reason::UnknownModifier)
-            }
-        }
-        Component::Weekday(m) => {
-            if is_name(key, b"repr") {
-                let Some(repr) = weekday_repr_named(value) else {
-                    return Err(Reason::InvalidValue);
-                };
-                Ok(Component::Weekday(modifier::Weekday { repr, ..m }))
-            } else if is_name(key, b"one_indexed") {
-                let Some(one_indexed) = bool_named(value) else {
-                    return Err(Reason::InvalidValue);
-                };
-                Ok(Component::Weekday(modifier::Weekday { one_indexed, ..m }))
-            } else if is_name(key, b"case_sensitive") {
-                let Some(case_sensitive) = bool_named(value) else {
-                    return Err(Reason::InvalidValue);
-                };
-                Ok(Component::Weekday(modifier::Weekday {
-                    case_sensitive,
-                    ..m
-                }))
-            } else {
-                Err(Reason::UnknownModifier)
-            }
-        }
-        Component::WeekNumber(m) => {
-            if is_name(key, b"padding") {
-                let Some(padding) = padding_named(value) else {
-                    return Err(Reason::InvalidValue);
-                };
-                Ok(Component::WeekNumber(modifier::WeekNumber { padding, ..m }))
-            } else if is_name(key, b"repr") {
-                let Some(repr) = week_number_repr_named(value) else {
-                    return Err(Reason::InvalidValue);
-                };
-                Ok(Component::WeekNumber(modifier::WeekNumber { repr, ..m }))
-            } else {
-                Err(Reason::UnknownModifier)
-            }
-        }
-        Component::Hour(m) => {
-            if is_name(key, b"padding") {
-                let Some(padding) = padding_named(value) else {
-                    return Err(Reason::InvalidValue);
-                };
-                Ok(Component::Hour(modifier::Hour { padding, ..m }))
-            } else if is_name(key, b"repr") {
-                let Some(is_12_hour_clock) = clock_named(value) else {
-                    return Err(Reason::InvalidValue);
-                };
-                Ok(Component::Hour(modifier::Hour {
-                    is_12_hour_clock,
-                    ..m
-                }))
-            } else {
-                Err(Reason::UnknownModifier)
-            }
-        }
-        Component::Minute(m) => {
-            if is_name(key, b"padding") {
-                let Some(padding) = padding_named(value) else {
-                    return Err(Reason::InvalidValue);
-                };
-                Ok(Component::Minute(modifier::Minute { padding }))
-            } else {
-                Err(Reason::UnknownModifier)
-            }
-        }
-        Component::Period(m) => {
-            if is_name(key, b"case") {
-                let Some(is_uppercase) = case_named(value) else {
-                    return Err(Reason::InvalidValue);
-                };
-                Ok(Component::Period(modifier::Period { is_uppercase, ..m }))
-            } else if is_name(key, b"case_sensitive") {
-                let Some(case_sensitive) = bool_named(value) else {
-                    return Err(Reason::InvalidValue);
-                };
-                Ok(Component::Period(modifier::Period {
-                    case_sensitive,
-                    ..m
-                }))
-            } else {
-                Err(Reason::UnknownModifier)
-            }
-        }
-        Component::Second(m) => {
-            if is_name(key, b"padding") {
-                let Some(padding) = padding_named(value) else {
-                    return Err(Reason::InvalidValue);
-                };
-                Ok(Component::Second(modifier::Second { padding }))
-            } else {
-                Err(Reason::UnknownModifier)
-            }
-        }
-        Component::Subsecond(m) => {
-            if is_name(key, b"digits") {
-                let Some(digits) = digits_named(value) else {
-                    return Err(Reason::InvalidValue);
-                };
-                Ok(Component::Subsecond(modifier::Subsecond { digits }))
-            } else {
-                Err(Reason::UnknownModifier)
-            }
-        }
-        Component::OffsetHour(m) => {
-            if is_name(key, b"padding") {
-                let Some(padding) = padding_named(value) else {
-                    return Err(Reason::InvalidValue);
-                };
-                Ok(Component::OffsetHour(modifier::OffsetHour { padding, ..m }))
-            } else if is_name(key, b"sign") {
-                let Some(sign_is_mandatory) = sign_named(value) else {
-                    return Err(Reason::InvalidValue);
-                };
-                Ok(Component::OffsetHour(modifier::OffsetHour {
-                    sign_is_mandatory,
-                    ..m
-                }))
-            } else {
-                Err(Reason::UnknownModifier)
-            }
-        }
-        Component::OffsetMinute(m) => {
-            if is_name(key, b"padding") {
-                let Some(padding) = padding_named(value) else {
-                    return Err(Reason::InvalidValue);
-                };
-                Ok(Component::OffsetMinute(modifier::OffsetMinute { padding }))
-            } else {
-                Err(Reason::UnknownModifier)
-            }
-        }
-        Component::OffsetSecond(m) => {
-            if is_name(key, b"padding") {
-                let Some(padding) = padding_named(value) else {
-                    return Err(Reason::InvalidValue);
-                };
-                Ok(Component::OffsetSecond(modifier::OffsetSecond { padding }))
-            } else {
-                Err(Reason::UnknownModifier)
-            }
-        }
-        Component::UnixTimestamp(m) => {
-            if is_name(key, b"precision") {
-                let Some(precision) = precision_named(value) else {
-                    return Err(Reason::InvalidValue);
-                };
-                Ok(Component::UnixTimestamp(modifier::UnixTimestamp { precision, ..m }))
-            } else if is_name(key, b"sign") {
-                let Some(sign_is_mandatory) = sign_named(value) else {
-                    return Err(Reason::InvalidValue);
-                };
-                Ok(Component::UnixTimestamp(modifier::UnixTimestamp {
-                    sign_is_mandatory,
-                    ..m
-                }))
-            } else {
-                Err(Reason::UnknownModifier)
-            }
-        }
-        _ => Err(Reason::UnknownModifier),
-    }
+    Ok(match component {
+        Component::Year(m) => Component::Year(year_modified(m, key, value)?),
+        Component::Month(m) => Component::Month(month_modified(m, key, value)?),
+        Component::Day(_) => Component::Day(modifier::Day { padding: padding_modified(key, value)? }),
+        Component::Ordinal(_) => Component::Ordinal(modifier::Ordinal { padding: padding_modified(key, value)? }),
+        Component::Weekday(m) => Component::Weekday(weekday_modified(m, key, value)?),
+        Component::WeekNumber(m) => Component::WeekNumber(week_number_modified(m, key, value)?),
+        Component::Hour(m) => Component::Hour(hour_modified(m, key, value)?),
+        Component::Minute(_) => Component::Minute(modifier::Minute { padding: padding_modified(key, value)? }),
+        Component::Period(m) => Component::Period(period_modified(m, key, value)?),
+        Component::Second(_) => Component::Second(modifier::Second { padding: padding_modified(key, value)? }),
+        Component::Subsecond(m) => Component::Subsecond(subsecond_modified(m, key, value)?),
+        Component::OffsetHour(m) => Component::OffsetHour(offset_hour_modified(m, key, value)?),
+        Component::OffsetMinute(_) => Component::OffsetMinute(modifier::OffsetMinute { padding: padding_modified(key, value)? }),
+        Component::OffsetSecond(_) => Component::OffsetSecond(modifier::OffsetSecond { padding: padding_modified(key, value)? }),
+        Component::UnixTimestamp(m) => Component::UnixTimestamp(unix_timestamp_modified(m, key, value)?),
+        Component::Ignore(m) => Component::Ignore(ignore_modified(m, key, value)?),
+        Component::End(m) => Component::End(end_modified(m, key, value)?),
+        _ => return Err(Reason::UnknownModifier),
+    })
 }

@@ -3,7 +3,7 @@ ghost use Rattle.std.specs.Prelude.{◌≡◌, ◌==◌, ◌∷◌, ◌≤◌, [
 ghost use Rattle.std.specs.Char.{is_ascii_whitespace};
 ghost use Rattle.std.specs.List.{position_or_len, prefix_len, before_first, after_first};
 ghost use Rattle.time_describe.specs.Pieces.{InBrackets, ends_literal};
-ghost use Rattle.time_describe.specs.Reading.{is_special, is_escapable, ends_word, with_word, nest_of};
+ghost use Rattle.time_describe.specs.Reading.{is_special, is_escapable, ends_word, at_fault, with_word, is_whole, finished, nest_of};
 
 use crate::fault::{Fault, Reason};
 use crate::names::{modified, named};
@@ -95,7 +95,7 @@ pub fn literal_len(in_list: bool, bytes: &[u8]) -> usize
 }
 
 /// How many bytes come before the first that ends a word.
-fn word_len(bytes: &[u8]) -> usize
+pub fn word_len(bytes: &[u8]) -> usize
     ensures place { result ≡ position_or_len ends_word bytes.now }
     ensures inside { result ≤ length bytes.now }
 {
@@ -119,17 +119,40 @@ fn key_and_value(word: &[u8]) -> (&[u8], &[u8])
     }
 }
 
-/// The component after one more word.
-fn with_word(component: Option<Component>, word: &[u8]) -> Result<Component, Reason>
-    ensures { result ≡ with_word component word.now }
+/// The component with one more word, which begins where `left` bytes are left.
+fn with_word(component: Option<Component>, word: &[u8], left: usize) -> Result<Component, Fault>
+    ensures { result ≡ at_fault (with_word component word.now) left }
 {
-    match component {
+    let changed = match component {
         None => named(word).ok_or(Reason::UnknownName),
         Some(component) => {
             let (key, value) = key_and_value(word);
             modified(component, key, value)
         }
+    };
+    changed.map_err(|reason| Fault { reason, left })
+}
+
+/// Whether nothing is missing in a component: an `ignore` has its count.
+fn is_whole(component: Component) -> bool
+    ensures { result ≡ is_whole component }
+{
+    match component {
+        Component::Ignore(m) => m.count != 0,
+        _ => true,
     }
+}
+
+/// The component of brackets that are closed where `left` bytes are left.
+fn finished(component: Option<Component>, left: usize) -> Result<Component, Fault>
+    ensures { result ≡ at_fault (finished component) left }
+{
+    let reason = match component {
+        None => Reason::MissingName,
+        Some(component) if is_whole(component) => return Ok(component.current()),
+        Some(_) => Reason::MissingModifier,
+    };
+    Err(Fault { reason, left })
 }
 
 /// The first byte and those after it.
@@ -180,13 +203,8 @@ pub fn in_brackets(opened: usize, bytes: &[u8]) -> Result<(Bracketed, &[u8]), Fa
             return Err(unclosed);
         }
         if first == b']' {
-            let Some(component) = component else {
-                return Err(Fault {
-                    reason: Reason::MissingName,
-                    left: rest.len(),
-                });
-            };
-            return Ok((Bracketed::Component(component.current()), after));
+            let component = finished(component, rest.len())?;
+            return Ok((Bracketed::Component(component), after));
         }
         if first.is_ascii_whitespace() {
             rest = after;
@@ -201,15 +219,7 @@ pub fn in_brackets(opened: usize, bytes: &[u8]) -> Result<(Bracketed, &[u8]), Fa
             if let Some(nest) = nest_of(component, word) {
                 return Ok((Bracketed::Nest(nest), after));
             }
-            match with_word(component, word) {
-                Ok(changed) => component = Some(changed),
-                Err(reason) => {
-                    return Err(Fault {
-                        reason,
-                        left: rest.len(),
-                    });
-                }
-            }
+            component = Some(with_word(component, word, rest.len())?);
             rest = after;
         }
     }

@@ -4,7 +4,7 @@ use time_below::format_description::{Component, OwnedFormatItem};
 
 #[test]
 fn items_of_a_text(rt: HostRuntime) -> Result<(), Fail> {
-    let OwnedFormatItem::Compound(items) = parse(rt.alloc(), b"[year]-[ Month  repr:short ]\\[")?
+    let OwnedFormatItem::Compound(items) = parse_owned(rt.alloc(), b"[year]-[ Month  repr:short ]\\[")?
     else {
         return Err(Fail::from("no list"));
     };
@@ -41,7 +41,7 @@ fn places_of_faults(rt: HostRuntime) {
         (b"[first [a".as_slice(), Reason::UnclosedBracket, 7),
         (b"[first [a]".as_slice(), Reason::UnclosedBracket, 0),
     ] {
-        match parse(rt.alloc(), text) {
+        match parse_owned(rt.alloc(), text) {
             Ok(_) => assert!(rt; false, "{text:?}"),
             Err(error) => {
                 assert_eq!(rt;
@@ -56,7 +56,7 @@ fn places_of_faults(rt: HostRuntime) {
 
 #[test]
 fn lists_in_lists(rt: HostRuntime) -> Result<(), Fail> {
-    let OwnedFormatItem::Compound(items) = parse(
+    let OwnedFormatItem::Compound(items) = parse_owned(
         rt.alloc(),
         b"[first [a[optional [:[second]]]] [b] ]]",
     )?
@@ -75,14 +75,14 @@ fn the_greatest_depth(rt: HostRuntime) -> Result<(), Fail> {
         text.extend_from_slice(b"[optional [")?;
     }
     assert_eq!(rt;
-        parse(rt.alloc(), &text[..32 * 11]).err(),
+        parse_owned(rt.alloc(), &text[..32 * 11]).err(),
         Some(InvalidDescription::Invalid {
             reason: Reason::UnclosedBracket,
             index: 31 * 11 + 10
         })
     );
     assert_eq!(rt;
-        parse(rt.alloc(), &text).err(),
+        parse_owned(rt.alloc(), &text).err(),
         Some(InvalidDescription::Invalid {
             reason: Reason::TooDeep,
             index: 32 * 11 + 10
@@ -134,4 +134,27 @@ fn places_of_faults_of_strftime(rt: HostRuntime) {
             }
         }
     }
+}
+
+#[test]
+fn errors_in_words(rt: HostRuntime) -> Result<(), Fail> {
+    for (text, words) in [
+        (b"[yaer]".as_slice(), "unknown component `yaer` at byte 1"),
+        (b"[day pad:none]", "unknown modifier `pad:none` at byte 5"),
+        (b"[day padding:no]", "invalid modifier value `padding:no` at byte 5"),
+        (b"x\\y", "invalid escape sequence `\\y` at byte 1"),
+        (b"x\\", "invalid escape sequence `\\` at byte 1"),
+        (b"[first [a] x]", "unexpected text `x` at byte 11"),
+        (b"[optional [a] [b]]", "unexpected text `[` at byte 14"),
+        (b"[\xff]", "unknown component at byte 1"),
+        (b"[year", "unclosed bracket at byte 0"),
+        (b"[ ]", "missing component name at byte 2"),
+        (b"[ignore]", "missing modifier `count` at byte 7"),
+    ] {
+        let Err(error) = parse_owned(rt.alloc(), text) else {
+            return Err(Fail::from("no error"));
+        };
+        assert_eq!(rt; format!(in rt.alloc(); "{}", error.in_text(text))?.as_str(), words);
+    }
+    Ok(())
 }
