@@ -193,9 +193,9 @@ lists_first b bs e h n is a =
 brackets_first : {depth : ℕ} {E : List Tree → List ℕ → Type 0} {items : List Tree} {literal : List ℕ} (b : ℕ) (bs : List ℕ) → eqb b 91 ≡ true
     → AtName depth E (with_literal items literal) bs → Out depth E items literal (b ∷ bs)
 brackets_first b bs e h = elim h.name.of [
-      | inl c ↦ component_first b bs e h c.0 c.1 c.2 c.3
-      | inr l ↦ lists_first b bs e h l.0 l.1 l.2
-    ]
+  | inl c ↦ component_first b bs e h c.0 c.1 c.2 c.3
+  | inr l ↦ lists_first b bs e h l.0 l.1 l.2
+]
 
 -- ---- whitespace before them
 
@@ -206,7 +206,16 @@ wide_choices : {depth : ℕ} {E : List Tree → List ℕ → Type 0} {items : Li
     → words choices (gap ++ 93 ∷ after) ≡ bs → AreLoose choices → AreWhite gap → IsChosen c choices made → is_whole made ≡ true
     → Out depth E (items ++ of_component (current_component made) ∷ []) [] after → Strict depth E c items (b ∷ bs)
 wide_choices b bs c made [] gap after white is loose h chosen whole out = record {
-  choices = []; gap = b ∷ gap; made = made; after = after; spelled = ap (λ (s : List ℕ). b ∷ s) is; allowed = tt; white = (white, h); chosen = chosen; whole = whole; out = out;
+  choices = [];
+  gap = b ∷ gap;
+  made = made;
+  after = after;
+  spelled = ap (λ (s : List ℕ). b ∷ s) is;
+  allowed = tt;
+  white = (white, h);
+  chosen = chosen;
+  whole = whole;
+  out = out;
 }
 wide_choices b bs c made (w ∷ ws) gap after white is loose h chosen whole out = record {
   choices = record { gap = b ∷ w.gap; bytes = w.bytes } ∷ ws;
@@ -236,14 +245,22 @@ wide_lists : {depth : ℕ} {E : List Tree → List ℕ → Type 0} {items : List
     → (h : Between depth E n before items (b ∷ bs)) × IsApart h.lists
 wide_lists b bs n before ts t no_list gap after white is mean h made out = (
   record { lists = no_list; ts = ts; gap = b ∷ gap; tree = t; after = after; spelled = ap (λ (s : List ℕ). b ∷ s) is; mean = mean; white = (white, h); made = made; out = out },
-  tt
+  tt,
 )
 wide_lists b bs n before ts t (list g ps ls) gap after white is mean h made out = (
   record {
-    lists = list (b ∷ g) ps ls; ts = ts; gap = gap; tree = t; after = after; spelled = ap (λ (s : List ℕ). b ∷ s) is;
-    mean = ((white, mean.0), mean.1, mean.2, mean.3, mean.4, mean.5); white = h; made = made; out = out;
+    lists = list (b ∷ g) ps ls;
+    ts = ts;
+    gap = gap;
+    tree = t;
+    after = after;
+    spelled = ap (λ (s : List ℕ). b ∷ s) is;
+    mean = ((white, mean.0), mean.1, mean.2, mean.3, mean.4, mean.5);
+    white = h;
+    made = made;
+    out = out;
   },
-  some_byte b g
+  some_byte b g,
 )
 
 apart : {depth : ℕ} {E : List Tree → List ℕ → Type 0} {n : Nest} {before items : List Tree} (b : ℕ) (bs : List ℕ) → is_ascii_whitespace b ≡ true → Between depth E n before items bs
@@ -480,5 +497,5 @@ described_spelled text all e =
       h.parts,
       ap (spelling h.parts) (sym h.ends.0) ∙ h.spelled,
       subst (λ (ts : List Tree). Means 0 [] [] h.parts ts) h.ends.1 h.means,
-      w.0
+      w.0,
     )

@@ -4,8 +4,7 @@ ghost use Rattle.std.specs.Prelude.{◌≡◌, ◌≤◌, length};
 use crate::description::InvalidDescription;
 use crate::fault::Reason;
 use crate::pieces::word_len;
-use std::fmt;
-use std::str;
+use std::{fmt, str};
 
 /// The longest word that is displayed, in bytes.
 const LONGEST_WORD: usize = 64;

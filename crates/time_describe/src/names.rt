@@ -4,7 +4,9 @@ ghost use Rattle.time_describe.specs.Names.{named, padding_modified, year_modifi
 
 use crate::fault::Reason;
 use crate::values::{
-    base_named, bool_named, case_named, clock_named, count_named, digits_named, month_repr_named, padding_named, precision_named, sign_named, trailing_input_named, week_number_repr_named, weekday_repr_named, year_range_named, year_repr_named, is_name,
+    base_named, bool_named, case_named, clock_named, count_named, digits_named, is_name,
+    month_repr_named, padding_named, precision_named, sign_named, trailing_input_named,
+    week_number_repr_named, weekday_repr_named, year_range_named, year_repr_named,
 };
 use time_below::format_description::modifier::{
     MonthRepr, Padding, SubsecondDigits, TrailingInput, UnixTimestampPrecision, WeekNumberRepr,
@@ -138,12 +140,18 @@ fn year_modified(m: modifier::Year, key: &[u8], value: &[u8]) -> Result<modifier
         let Some(iso_week_based) = base_named(value) else {
             return Err(Reason::InvalidValue);
         };
-        Ok(modifier::Year { iso_week_based, ..m })
+        Ok(modifier::Year {
+            iso_week_based,
+            ..m
+        })
     } else if is_name(key, b"sign") {
         let Some(sign_is_mandatory) = sign_named(value) else {
             return Err(Reason::InvalidValue);
         };
-        Ok(modifier::Year { sign_is_mandatory, ..m })
+        Ok(modifier::Year {
+            sign_is_mandatory,
+            ..m
+        })
     } else {
         Err(Reason::UnknownModifier)
     }
@@ -168,7 +176,10 @@ fn month_modified(m: modifier::Month, key: &[u8], value: &[u8]) -> Result<modifi
         let Some(case_sensitive) = bool_named(value) else {
             return Err(Reason::InvalidValue);
         };
-        Ok(modifier::Month { case_sensitive, ..m })
+        Ok(modifier::Month {
+            case_sensitive,
+            ..m
+        })
     } else {
         Err(Reason::UnknownModifier)
     }
@@ -176,7 +187,11 @@ fn month_modified(m: modifier::Month, key: &[u8], value: &[u8]) -> Result<modifi
 
 /// How weekday is written, with one more modifier.
 #[tactic(auto, unfolding(crate::specs::Names::weekday_modified))]
-fn weekday_modified(m: modifier::Weekday, key: &[u8], value: &[u8]) -> Result<modifier::Weekday, Reason>
+fn weekday_modified(
+    m: modifier::Weekday,
+    key: &[u8],
+    value: &[u8],
+) -> Result<modifier::Weekday, Reason>
     ensures { result ≡ weekday_modified m key.now value.now }
 {
     if is_name(key, b"repr") {
@@ -193,7 +208,10 @@ fn weekday_modified(m: modifier::Weekday, key: &[u8], value: &[u8]) -> Result<mo
         let Some(case_sensitive) = bool_named(value) else {
             return Err(Reason::InvalidValue);
         };
-        Ok(modifier::Weekday { case_sensitive, ..m })
+        Ok(modifier::Weekday {
+            case_sensitive,
+            ..m
+        })
     } else {
         Err(Reason::UnknownModifier)
     }
@@ -201,7 +219,11 @@ fn weekday_modified(m: modifier::Weekday, key: &[u8], value: &[u8]) -> Result<mo
 
 /// How week is written, with one more modifier.
 #[tactic(auto, unfolding(crate::specs::Names::week_number_modified))]
-fn week_number_modified(m: modifier::WeekNumber, key: &[u8], value: &[u8]) -> Result<modifier::WeekNumber, Reason>
+fn week_number_modified(
+    m: modifier::WeekNumber,
+    key: &[u8],
+    value: &[u8],
+) -> Result<modifier::WeekNumber, Reason>
     ensures { result ≡ week_number_modified m key.now value.now }
 {
     if is_name(key, b"padding") {
@@ -233,7 +255,10 @@ fn hour_modified(m: modifier::Hour, key: &[u8], value: &[u8]) -> Result<modifier
         let Some(is_12_hour_clock) = clock_named(value) else {
             return Err(Reason::InvalidValue);
         };
-        Ok(modifier::Hour { is_12_hour_clock, ..m })
+        Ok(modifier::Hour {
+            is_12_hour_clock,
+            ..m
+        })
     } else {
         Err(Reason::UnknownModifier)
     }
@@ -241,7 +266,11 @@ fn hour_modified(m: modifier::Hour, key: &[u8], value: &[u8]) -> Result<modifier
 
 /// How half of the day is written, with one more modifier.
 #[tactic(auto, unfolding(crate::specs::Names::period_modified))]
-fn period_modified(m: modifier::Period, key: &[u8], value: &[u8]) -> Result<modifier::Period, Reason>
+fn period_modified(
+    m: modifier::Period,
+    key: &[u8],
+    value: &[u8],
+) -> Result<modifier::Period, Reason>
     ensures { result ≡ period_modified m key.now value.now }
 {
     if is_name(key, b"case") {
@@ -253,7 +282,10 @@ fn period_modified(m: modifier::Period, key: &[u8], value: &[u8]) -> Result<modi
         let Some(case_sensitive) = bool_named(value) else {
             return Err(Reason::InvalidValue);
         };
-        Ok(modifier::Period { case_sensitive, ..m })
+        Ok(modifier::Period {
+            case_sensitive,
+            ..m
+        })
     } else {
         Err(Reason::UnknownModifier)
     }
@@ -261,7 +293,11 @@ fn period_modified(m: modifier::Period, key: &[u8], value: &[u8]) -> Result<modi
 
 /// How decimals of the second is written, with one more modifier.
 #[tactic(auto, unfolding(crate::specs::Names::subsecond_modified))]
-fn subsecond_modified(m: modifier::Subsecond, key: &[u8], value: &[u8]) -> Result<modifier::Subsecond, Reason>
+fn subsecond_modified(
+    m: modifier::Subsecond,
+    key: &[u8],
+    value: &[u8],
+) -> Result<modifier::Subsecond, Reason>
     ensures { result ≡ subsecond_modified m key.now value.now }
 {
     if is_name(key, b"digits") {
@@ -276,7 +312,11 @@ fn subsecond_modified(m: modifier::Subsecond, key: &[u8], value: &[u8]) -> Resul
 
 /// How hour of the offset is written, with one more modifier.
 #[tactic(auto, unfolding(crate::specs::Names::offset_hour_modified))]
-fn offset_hour_modified(m: modifier::OffsetHour, key: &[u8], value: &[u8]) -> Result<modifier::OffsetHour, Reason>
+fn offset_hour_modified(
+    m: modifier::OffsetHour,
+    key: &[u8],
+    value: &[u8],
+) -> Result<modifier::OffsetHour, Reason>
     ensures { result ≡ offset_hour_modified m key.now value.now }
 {
     if is_name(key, b"padding") {
@@ -288,7 +328,10 @@ fn offset_hour_modified(m: modifier::OffsetHour, key: &[u8], value: &[u8]) -> Re
         let Some(sign_is_mandatory) = sign_named(value) else {
             return Err(Reason::InvalidValue);
         };
-        Ok(modifier::OffsetHour { sign_is_mandatory, ..m })
+        Ok(modifier::OffsetHour {
+            sign_is_mandatory,
+            ..m
+        })
     } else {
         Err(Reason::UnknownModifier)
     }
@@ -296,7 +339,11 @@ fn offset_hour_modified(m: modifier::OffsetHour, key: &[u8], value: &[u8]) -> Re
 
 /// How count of seconds is written, with one more modifier.
 #[tactic(auto, unfolding(crate::specs::Names::unix_timestamp_modified))]
-fn unix_timestamp_modified(m: modifier::UnixTimestamp, key: &[u8], value: &[u8]) -> Result<modifier::UnixTimestamp, Reason>
+fn unix_timestamp_modified(
+    m: modifier::UnixTimestamp,
+    key: &[u8],
+    value: &[u8],
+) -> Result<modifier::UnixTimestamp, Reason>
     ensures { result ≡ unix_timestamp_modified m key.now value.now }
 {
     if is_name(key, b"precision") {
@@ -308,7 +355,10 @@ fn unix_timestamp_modified(m: modifier::UnixTimestamp, key: &[u8], value: &[u8])
         let Some(sign_is_mandatory) = sign_named(value) else {
             return Err(Reason::InvalidValue);
         };
-        Ok(modifier::UnixTimestamp { sign_is_mandatory, ..m })
+        Ok(modifier::UnixTimestamp {
+            sign_is_mandatory,
+            ..m
+        })
     } else {
         Err(Reason::UnknownModifier)
     }
@@ -316,7 +366,11 @@ fn unix_timestamp_modified(m: modifier::UnixTimestamp, key: &[u8], value: &[u8])
 
 /// How bytes to pass over is written, with one more modifier.
 #[tactic(auto, unfolding(crate::specs::Names::ignore_modified))]
-fn ignore_modified(m: modifier::Ignore, key: &[u8], value: &[u8]) -> Result<modifier::Ignore, Reason>
+fn ignore_modified(
+    m: modifier::Ignore,
+    key: &[u8],
+    value: &[u8],
+) -> Result<modifier::Ignore, Reason>
     ensures { result ≡ ignore_modified m key.now value.now }
 {
     if is_name(key, b"count") {
@@ -352,19 +406,33 @@ pub fn modified(component: Component, key: &[u8], value: &[u8]) -> Result<Compon
     Ok(match component {
         Component::Year(m) => Component::Year(year_modified(m, key, value)?),
         Component::Month(m) => Component::Month(month_modified(m, key, value)?),
-        Component::Day(_) => Component::Day(modifier::Day { padding: padding_modified(key, value)? }),
-        Component::Ordinal(_) => Component::Ordinal(modifier::Ordinal { padding: padding_modified(key, value)? }),
+        Component::Day(_) => Component::Day(modifier::Day {
+            padding: padding_modified(key, value)?,
+        }),
+        Component::Ordinal(_) => Component::Ordinal(modifier::Ordinal {
+            padding: padding_modified(key, value)?,
+        }),
         Component::Weekday(m) => Component::Weekday(weekday_modified(m, key, value)?),
         Component::WeekNumber(m) => Component::WeekNumber(week_number_modified(m, key, value)?),
         Component::Hour(m) => Component::Hour(hour_modified(m, key, value)?),
-        Component::Minute(_) => Component::Minute(modifier::Minute { padding: padding_modified(key, value)? }),
+        Component::Minute(_) => Component::Minute(modifier::Minute {
+            padding: padding_modified(key, value)?,
+        }),
         Component::Period(m) => Component::Period(period_modified(m, key, value)?),
-        Component::Second(_) => Component::Second(modifier::Second { padding: padding_modified(key, value)? }),
+        Component::Second(_) => Component::Second(modifier::Second {
+            padding: padding_modified(key, value)?,
+        }),
         Component::Subsecond(m) => Component::Subsecond(subsecond_modified(m, key, value)?),
         Component::OffsetHour(m) => Component::OffsetHour(offset_hour_modified(m, key, value)?),
-        Component::OffsetMinute(_) => Component::OffsetMinute(modifier::OffsetMinute { padding: padding_modified(key, value)? }),
-        Component::OffsetSecond(_) => Component::OffsetSecond(modifier::OffsetSecond { padding: padding_modified(key, value)? }),
-        Component::UnixTimestamp(m) => Component::UnixTimestamp(unix_timestamp_modified(m, key, value)?),
+        Component::OffsetMinute(_) => Component::OffsetMinute(modifier::OffsetMinute {
+            padding: padding_modified(key, value)?,
+        }),
+        Component::OffsetSecond(_) => Component::OffsetSecond(modifier::OffsetSecond {
+            padding: padding_modified(key, value)?,
+        }),
+        Component::UnixTimestamp(m) => Component::UnixTimestamp(unix_timestamp_modified(
+            m, key, value,
+        )?),
         Component::Ignore(m) => Component::Ignore(ignore_modified(m, key, value)?),
         Component::End(m) => Component::End(end_modified(m, key, value)?),
         _ => return Err(Reason::UnknownModifier),

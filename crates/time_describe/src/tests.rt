@@ -4,7 +4,10 @@ use time_below::format_description::{Component, OwnedFormatItem};
 
 #[test]
 fn items_of_a_text(rt: HostRuntime) -> Result<(), Fail> {
-    let OwnedFormatItem::Compound(items) = parse_owned(rt.alloc(), b"[year]-[ Month  repr:short ]\\[")?
+    let OwnedFormatItem::Compound(items) = parse_owned(
+        rt.alloc(),
+        b"[year]-[ Month  repr:short ]\\[",
+    )?
     else {
         return Err(Fail::from("no list"));
     };
@@ -93,7 +96,8 @@ fn the_greatest_depth(rt: HostRuntime) -> Result<(), Fail> {
 
 #[test]
 fn items_of_a_strftime_text(rt: HostRuntime) -> Result<(), Fail> {
-    let OwnedFormatItem::Compound(items) = parse_strftime_owned(rt.alloc(), b"%e. %B, %F%%%:z")? else {
+    let OwnedFormatItem::Compound(items) = parse_strftime_owned(rt.alloc(), b"%e. %B, %F%%%:z")?
+    else {
         return Err(Fail::from("no list"));
     };
     assert_eq!(rt; items.len(), 13);
@@ -112,8 +116,16 @@ fn places_of_faults_of_strftime(rt: HostRuntime) {
     for (text, reason, index) in [
         (b"%H:%".as_slice(), StrftimeReason::Unfinished, 3),
         (b"%_".as_slice(), StrftimeReason::Unfinished, 0),
-        (b"at %i".as_slice(), StrftimeReason::UnknownConversion(b'i'), 4),
-        (b"%::z".as_slice(), StrftimeReason::UnknownConversion(b':'), 1),
+        (
+            b"at %i".as_slice(),
+            StrftimeReason::UnknownConversion(b'i'),
+            4,
+        ),
+        (
+            b"%::z".as_slice(),
+            StrftimeReason::UnknownConversion(b':'),
+            1,
+        ),
         (b"%T %Z".as_slice(), StrftimeReason::ZoneName, 4),
         (b"%Ey".as_slice(), StrftimeReason::LocaleModifier(b'E'), 1),
         (b"%5Y".as_slice(), StrftimeReason::FieldWidth(b'5'), 1),
@@ -121,7 +133,11 @@ fn places_of_faults_of_strftime(rt: HostRuntime) {
         (b"%^a".as_slice(), StrftimeReason::CaseFlag(b'^'), 1),
         (b"%+".as_slice(), StrftimeReason::PlusFlag, 1),
         (b"%-0d".as_slice(), StrftimeReason::SecondFlag(b'0'), 2),
-        (b"%-F".as_slice(), StrftimeReason::FlagWithoutNumber(b'F'), 2),
+        (
+            b"%-F".as_slice(),
+            StrftimeReason::FlagWithoutNumber(b'F'),
+            2,
+        ),
     ] {
         match parse_strftime_owned(rt.alloc(), text) {
             Ok(_) => assert!(rt; false, "{text:?}"),
@@ -141,7 +157,10 @@ fn errors_in_words(rt: HostRuntime) -> Result<(), Fail> {
     for (text, words) in [
         (b"[yaer]".as_slice(), "unknown component `yaer` at byte 1"),
         (b"[day pad:none]", "unknown modifier `pad:none` at byte 5"),
-        (b"[day padding:no]", "invalid modifier value `padding:no` at byte 5"),
+        (
+            b"[day padding:no]",
+            "invalid modifier value `padding:no` at byte 5",
+        ),
         (b"x\\y", "invalid escape sequence `\\y` at byte 1"),
         (b"x\\", "invalid escape sequence `\\` at byte 1"),
         (b"[first [a] x]", "unexpected text `x` at byte 11"),
@@ -154,7 +173,10 @@ fn errors_in_words(rt: HostRuntime) -> Result<(), Fail> {
         let Err(error) = parse_owned(rt.alloc(), text) else {
             return Err(Fail::from("no error"));
         };
-        assert_eq!(rt; format!(in rt.alloc(); "{}", error.in_text(text))?.as_str(), words);
+        assert_eq!(rt;
+            format!(in rt.alloc(); "{}", error.in_text(text))?.as_str(),
+            words
+        );
     }
     Ok(())
 }

@@ -246,7 +246,11 @@ fn with_digit(number: u16, digit: u8) -> Option<u16>
         return None;
     }
     let number = number as u32 * 10 + (digit - b'0') as u32;
-    if number < 65_536 { Some(number as u16) } else { None }
+    if number < 65_536 {
+        Some(number as u16)
+    } else {
+        None
+    }
 }
 
 /// The number, 0 to 65,535, that decimal digits write; of no digits, 0.
