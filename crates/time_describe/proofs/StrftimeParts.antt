@@ -57,11 +57,11 @@ literal_found b bs is =
 
 percent_found : (b : ℕ) (bs : List ℕ) (f : Front) → b ≡ 37 → Spells bs f → Found b bs f
 percent_found b bs f same w = record {
-      found = converted w.0;
-      spelled = ap (λ (v : List ℕ). 37 ∷ v ++ drop f.behind bs) w.1 ∙ ap (λ (v : List ℕ). 37 ∷ v) (take-append-drop f.behind bs) ∙ ap (λ (x : ℕ). x ∷ bs) (sym same);
-      means = w.2;
-      ends = λ e d ds here. absurd cc;
-    }
+  found = converted w.0;
+  spelled = ap (λ (v : List ℕ). 37 ∷ v ++ drop f.behind bs) w.1 ∙ ap (λ (v : List ℕ). 37 ∷ v) (take-append-drop f.behind bs) ∙ ap (λ (x : ℕ). x ∷ bs) (sym same);
+  means = w.2;
+  ends = λ e d ds here. absurd cc;
+}
 
 found_by : (is : Bool) (b : ℕ) (bs : List ℕ) (f : Front) → is_percent b ≡ is → first_part (b ∷ bs) ≡ Ok f → Found b bs f
 found_by true b bs f is e = percent_found b bs f (eqb-true b 37 is) (conversion_found bs f (sym (first_conversion b bs is) ∙ e))
@@ -124,9 +124,9 @@ literal_first false b xs ps items any means ends =
       behind = length xs;
       some = omega arith;
       part =
-        first_literal b (xs ++ spelling ps) w.0
-        ∙ ap (λ (v : List ℕ). front (literal_of (b ∷ v) ∷ []) (length v)) front_is
-        ∙ ap (λ (v : List Tree). front v (length xs)) same;
+          first_literal b (xs ++ spelling ps) w.0
+          ∙ ap (λ (v : List ℕ). front (literal_of (b ∷ v) ∷ []) (length v)) front_is
+          ∙ ap (λ (v : List Tree). front v (length xs)) same;
       back = ap (λ (m : ℕ). drop m (b ∷ (xs ++ spelling ps))) k ∙ drop-append_seam xs (spelling ps);
     }
   where

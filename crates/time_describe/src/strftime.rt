@@ -159,10 +159,7 @@ fn items(alloc: Global, text: &[u8]) -> Result<Vec<OwnedFormatItem>, Failure>
 ///
 /// Each run of bytes other than `%` is one literal, a text where it is UTF-8. Each conversion is
 /// the items that `specs/Conversions.antt` lists for it. There are at most 65,536 items.
-pub fn parse_strftime_owned(
-    alloc: Global,
-    text: &[u8],
-) -> Result<OwnedFormatItem, InvalidStrftime>
+pub fn parse_strftime_owned(alloc: Global, text: &[u8]) -> Result<OwnedFormatItem, InvalidStrftime>
     ensures found { IfOk result (λ item. tree_of (described text.now) ≡ Ok (owned_tree item)) }
     ensures says { IfErr result (Says (length text.now) (described text.now)) }
     ensures inside { IfErr result (IsWithin (length text.now)) }

@@ -1,5 +1,6 @@
 //! Texts that are no descriptions, by chance or by will: each has an answer, and the index of its fault is that of
 //! one of its bytes.
+use crate::texts::repeated;
 use std::alloc::{AllocError, Global};
 use std::process::Abort;
 use time_describe::{
@@ -33,15 +34,6 @@ fn fault(alloc: Global, text: &[u8]) -> Option<(Reason, usize)> {
         Err(InvalidDescription::Invalid { reason, index }) => Some((reason, index)),
         _ => None,
     }
-}
-
-/// So many times the same bytes.
-fn repeated(alloc: Global, bytes: &[u8], times: usize) -> Result<Vec<u8>, AllocError> {
-    let mut text = Vec::new(alloc);
-    for _ in 0..times {
-        text.extend_from_slice(bytes)?;
-    }
-    Ok(text)
 }
 
 #[test]

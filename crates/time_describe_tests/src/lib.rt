@@ -10,6 +10,8 @@ mod recipes;
 #[cfg(test)]
 mod spellings;
 #[cfg(test)]
+mod strftime;
+#[cfg(test)]
 mod texts;
 #[cfg(test)]
 mod worked;

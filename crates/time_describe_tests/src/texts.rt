@@ -1,6 +1,6 @@
 //! Descriptions from a text, and values that they format. No helper hands on a clause, so that a test proves no
 //! more than it compares.
-use std::alloc::Global;
+use std::alloc::{AllocError, Global};
 use std::convert::TryFrom;
 use std::default::Default;
 use std::process::Abort;
@@ -52,6 +52,15 @@ pub(crate) fn in_percents(rt: &impl Abort, alloc: Global, text: &str) -> OwnedFo
         Ok(item) => item,
         Err(error) => panic!(rt; "{text}: {error}"),
     }
+}
+
+/// So many times the same bytes.
+pub(crate) fn repeated(alloc: Global, bytes: &[u8], times: usize) -> Result<Vec<u8>, AllocError> {
+    let mut text = Vec::new(alloc);
+    for _ in 0..times {
+        text.extend_from_slice(bytes)?;
+    }
+    Ok(text)
 }
 
 /// Compares what a description formats with a text.

@@ -126,7 +126,10 @@ fn with_width<'a>(
 {
     match first_and_rest(bytes) {
         Some((letter, _)) if letter == b'N' => {
-            Ok((Part::Component(Component::Subsecond(modifier::Subsecond { digits })), 2))
+            Ok((
+                Part::Component(Component::Subsecond(modifier::Subsecond { digits })),
+                2,
+            ))
         }
         _ => {
             Err(Fault {

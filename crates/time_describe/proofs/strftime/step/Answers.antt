@@ -24,6 +24,6 @@ returns-clause-goes_on c =
     let few : length now ≤ most_items = omega (arith, length-map c.put_part.new.items.items owned_tree) in
     let rest = drop (c.in_ok-part.behind + 1) c.args.text.now in
     let all : take (length c.args.text.now - (c.in_ok-part.behind + 1)) rest ≡ rest =
-        take_all _ _ (omega (arith, length-drop (c.in_ok-part.behind + 1) c.args.text.now)) in
+    take_all _ _ (omega (arith, length-drop (c.in_ok-part.behind + 1) c.args.text.now)) in
     part_read (map owned_tree c.args.items.now.items) now c.args.text.now _ c.requires (sym c.in_ok-part.ensures.part) c.in_ok-put_part.ensures few
     ∙ ap (read now 0) (sym all)
