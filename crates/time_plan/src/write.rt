@@ -2,22 +2,21 @@
 ghost use Rattle.std.specs.Prelude.{◌≡◌, ◌∷◌, ◌++◌, ◌≤◌, MatchOption, length};
 ghost use Rattle.time_below.specs.Month.{month_number};
 ghost use Rattle.time_below.specs.Tree.{all_of};
-ghost use Rattle.time_below.specs.Width.{component_width, tree_width, trees_width};
-ghost use Rattle.time_fmt.specs.Description.{component_outcome, tree_outcome};
+ghost use Rattle.time_below.specs.Width.{tree_width, trees_width};
+ghost use Rattle.time_fmt.specs.Description.{tree_outcome};
 ghost use Rattle.time_fmt.specs.Ends.{Ends};
 ghost use Rattle.time_fmt.specs.Guarantee.{AppendsLeaf, AppendsTree};
 ghost use Rattle.time_fmt.specs.Outcome.{AppendsUpTo};
 ghost use Rattle.time_fmt.specs.Room.{HasRoom, Ready, Writes};
 ghost use Rattle.time_fmt.specs.Text.{padded_text};
 ghost use Rattle.time_plan.specs.Literal.{literal_bytes};
-ghost use Rattle.time_plan.specs.Shown.{shown_tree, AppendsIfSupplied};
+ghost use Rattle.time_plan.specs.Shown.{run_tree, shown_tree, AppendsIfSupplied};
 ghost use Rattle.time_plan.specs.Steps.{step_tree, step_trees};
 
 use crate::literal::Literal;
-use crate::shown::{Separators, Shown};
+use crate::shown::{Run, Separators, Shown};
 use crate::step::Step;
 use time_below::Month;
-use time_below::format_description::Component;
 use time_below::format_description::modifier::Padding;
 use time_digits::ru8;
 use time_fmt::writers::{
@@ -77,7 +76,7 @@ fn write_step<V: ComponentProvider>(
         output.old output.new result }
     ensures agrees { V.agrees state.new value.now }
 {
-    match write_shown(step.shown, output, value, state) {
+    match write_shown(&step.shown, output, value, state) {
         Some(first) => Some(first + write_literal(output, &step.literal)),
         None => None,
     }
@@ -87,40 +86,42 @@ fn write_step<V: ComponentProvider>(
 /// of what is refused, it writes nothing, and returns `None`.
 #[inline(always)]
 fn write_shown<V: ComponentProvider>(
-    shown: Shown,
+    shown: &Shown,
     output: &mut Vec<u8>,
     value: &V,
     state: &mut V::State,
 ) -> Option<usize>
-    requires ready { Ready output.old (tree_width (shown_tree shown)) (V.agrees state.old value.now) }
+    requires ready { Ready output.old (tree_width (shown_tree shown.now))
+        (V.agrees state.old value.now) }
     ensures writes { MatchOption result (output.new ≡ output.old)
-        (λ count. AppendsUpTo (tree_width (shown_tree shown)) output.old output.new (Ok count)
-        (tree_outcome (shown_tree shown) (V.facts value.now))) × V.agrees state.new value.now }
+        (λ count. AppendsUpTo (tree_width (shown_tree shown.now)) output.old output.new (Ok count)
+        (tree_outcome (shown_tree shown.now) (V.facts value.now))) × V.agrees state.new value.now }
 {
     match shown {
-        Shown::Component(component) => write_component(component, output, value, state),
-        Shown::Date(between) => write_date(between, output, value, state),
-        Shown::Time(between) => write_time(between, output, value, state),
+        Shown::Component(component) => write_often(*component, output, value, state),
+        Shown::Run(run) => write_run(run, output, value, state),
     }
 }
 
-/// Writes a component that is met often, or one that has no text, and returns the number of bytes. Of any
-/// other, and of one that is refused, it writes nothing, and returns `None`.
+/// Writes a run of components, and returns the number of bytes. Of a value without them it writes nothing,
+/// and returns `None`.
 #[inline(always)]
-fn write_component<V: ComponentProvider>(
-    component: Component,
+fn write_run<V: ComponentProvider>(
+    run: &Run,
     output: &mut Vec<u8>,
     value: &V,
     state: &mut V::State,
 ) -> Option<usize>
-    requires ready { Ready output.old (component_width component) (V.agrees state.old value.now) }
-    ensures writes { MatchOption result (output.new ≡ output.old)
-        (λ count. AppendsUpTo (component_width component) output.old output.new (Ok count)
-        (component_outcome component (V.facts value.now))) × V.agrees state.new value.now }
+    requires room { HasRoom output.old (tree_width (run_tree run.now)) }
+    requires agrees { V.agrees state.old value.now }
+    ensures appends { AppendsIfSupplied (run_tree run.now) (V.facts value.now)
+        output.old output.new result }
+    ensures agrees { V.agrees state.new value.now }
 {
-    match component {
-        Component::End(_) => Some(0),
-        met => write_often(met, output, value, state),
+    match run {
+        Run::Time(between) => write_time(*between, output, value, state),
+        Run::Date(between) => write_date(*between, output, value, state),
+        Run::Empty => Some(0),
     }
 }
 
@@ -133,9 +134,9 @@ fn write_date<V: ComponentProvider>(
     value: &V,
     state: &mut V::State,
 ) -> Option<usize>
-    requires room { HasRoom output.old (tree_width (shown_tree (Shown.Date between))) }
+    requires room { HasRoom output.old (tree_width (run_tree (Run.Date between))) }
     requires agrees { V.agrees state.old value.now }
-    ensures appends { AppendsIfSupplied (shown_tree (Shown.Date between)) (V.facts value.now)
+    ensures appends { AppendsIfSupplied (run_tree (Run.Date between)) (V.facts value.now)
         output.old output.new result }
     ensures agrees { V.agrees state.new value.now }
 {
@@ -167,9 +168,9 @@ fn write_time<V: ComponentProvider>(
     value: &V,
     state: &mut V::State,
 ) -> Option<usize>
-    requires room { HasRoom output.old (tree_width (shown_tree (Shown.Time between))) }
+    requires room { HasRoom output.old (tree_width (run_tree (Run.Time between))) }
     requires agrees { V.agrees state.old value.now }
-    ensures appends { AppendsIfSupplied (shown_tree (Shown.Time between)) (V.facts value.now)
+    ensures appends { AppendsIfSupplied (run_tree (Run.Time between)) (V.facts value.now)
         output.old output.new result }
     ensures agrees { V.agrees state.new value.now }
 {
@@ -219,7 +220,7 @@ fn write_seldom<V: ComponentProvider>(
         output.old output.new result }
     ensures agrees { V.agrees state.new value.now }
 {
-    match end_shown(step.shown, output, value, state) {
+    match end_shown(&step.shown, output, value, state) {
         Ok(_) => {
             write_literal(output, &step.literal);
             Ok(())
@@ -230,25 +231,23 @@ fn write_seldom<V: ComponentProvider>(
 
 /// Writes what a step shows, or returns its refusal.
 fn end_shown<V: ComponentProvider>(
-    shown: Shown,
+    shown: &Shown,
     output: &mut Vec<u8>,
     value: &V,
     state: &mut V::State,
 ) -> Result<(), Refused>
-    requires room { HasRoom output.old (tree_width (shown_tree shown)) }
+    requires room { HasRoom output.old (tree_width (shown_tree shown.now)) }
     requires agrees { V.agrees state.old value.now }
-    ensures ends { Ends (tree_width (shown_tree shown)) output.old output.new result
-        (tree_outcome (shown_tree shown) (V.facts value.now)) }
+    ensures ends { Ends (tree_width (shown_tree shown.now)) output.old output.new result
+        (tree_outcome (shown_tree shown.now) (V.facts value.now)) }
     ensures agrees { V.agrees state.new value.now }
 {
-    let written = match shown {
-        Shown::Component(component) => return end_component(component, output, value, state),
-        Shown::Date(between) => write_date(between, output, value, state),
-        Shown::Time(between) => write_time(between, output, value, state),
-    };
-    match written {
-        Some(_) => Ok(()),
-        None => Err(Refused::Unsupplied),
+    match shown {
+        Shown::Component(component) => end_component(*component, output, value, state),
+        Shown::Run(run) => match write_run(run, output, value, state) {
+            Some(_) => Ok(()),
+            None => Err(Refused::Unsupplied),
+        },
     }
 }
 
