@@ -1,6 +1,6 @@
 -- What a step shows of a value before its literal.
 use Rattle.std.specs.Global.{Global}
-use Rattle.std.specs.Prelude.{ℕ, ◌≡◌, List, [], ◌∷◌, false, Option, Some, None, Ok, Vec}
+use Rattle.std.specs.Prelude.{ℕ, ◌≡◌, [], ◌∷◌, false, Option, Some, None, Ok, Vec}
 use Rattle.time_below.specs.declared.format_description.component.Component.{Component}
 use Rattle.time_below.specs.declared.format_description.component.Component.TheVariants as component
 use Rattle.time_below.specs.declared.format_description.modifier.Padding.TheVariants as padding

@@ -62,25 +62,37 @@ impl Part {
         ensures { IfSome result (λ part. component ≡ part_component part) }
     {
         match component {
-            Component::CalendarYearFullExtendedRange(modifier::CalendarYearFullExtendedRange {
-                padding: Padding::Zero,
-                sign_is_mandatory: false,
-            }) => Some(Part::Year),
-            Component::MonthNumerical(modifier::MonthNumerical {
-                padding: Padding::Zero,
-            }) => Some(Part::Month),
-            Component::Day(modifier::Day {
-                padding: Padding::Zero,
-            }) => Some(Part::Day),
-            Component::Hour24(modifier::Hour24 {
-                padding: Padding::Zero,
-            }) => Some(Part::Hour),
-            Component::Minute(modifier::Minute {
-                padding: Padding::Zero,
-            }) => Some(Part::Minute),
-            Component::Second(modifier::Second {
-                padding: Padding::Zero,
-            }) => Some(Part::Second),
+            Component::CalendarYearFullExtendedRange(
+                modifier::CalendarYearFullExtendedRange {
+                    padding: Padding::Zero,
+                    sign_is_mandatory: false,
+                },
+            ) => Some(Part::Year),
+            Component::MonthNumerical(
+                modifier::MonthNumerical {
+                    padding: Padding::Zero,
+                },
+            ) => Some(Part::Month),
+            Component::Day(
+                modifier::Day {
+                    padding: Padding::Zero,
+                },
+            ) => Some(Part::Day),
+            Component::Hour24(
+                modifier::Hour24 {
+                    padding: Padding::Zero,
+                },
+            ) => Some(Part::Hour),
+            Component::Minute(
+                modifier::Minute {
+                    padding: Padding::Zero,
+                },
+            ) => Some(Part::Minute),
+            Component::Second(
+                modifier::Second {
+                    padding: Padding::Zero,
+                },
+            ) => Some(Part::Second),
             _ => None,
         }
     }

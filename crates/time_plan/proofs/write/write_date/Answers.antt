@@ -1,6 +1,5 @@
-use Rattle.std.proofs.Common.{rules, ◌≡◌, ◌<◌, ℕ, true, arith, ◌∙◌}
+use Rattle.std.proofs.Common.{rules, ◌≡◌, ◌<◌, true, arith, ◌∙◌}
 use Rattle.std.specs.Prelude.{is_some}
-use Rattle.time_below.specs.declared.format_description.modifier.Padding.TheVariants as padding
 use Rattle.time_plan.proofs.ThreeLemmas.{date_written, length-year, length-two_after}
 use Rattle.time_plan.proofs.write.write_date.Goals as goal
 
