@@ -10,7 +10,11 @@ import re
 import sys
 
 TOP = pathlib.Path(__file__).resolve().parent.parent
-RECIPES = ["crates/time_known_tests/src/front_page.rt", "crates/time_plan_tests/src/recipes.rt"]
+RECIPES = [
+    "crates/time_known_tests/src/front_page.rt",
+    "crates/time_describe_tests/src/recipes.rt",
+    "crates/time_plan_tests/src/recipes.rt",
+]
 
 
 def read(path):
@@ -92,7 +96,8 @@ def commands(page):
 def main():
     front, recipes = read("README.md"), read("docs/RECIPES.md")
     differing = pieces(front) + pieces(recipes) + commands(front)
-    differing += [it for it in re.findall(r"^pub fn \w+", "".join(map(read, RECIPES)), re.M) if it not in recipes]
+    functions = [it for path in RECIPES for it in re.findall(r"^pub fn \w+", read(path), re.M)]
+    differing += [it for it in functions if it not in recipes]
     for it in differing:
         print(f"the documents and the code differ: {it}")
     shown = len(blocks(front)) + len(blocks(recipes))
