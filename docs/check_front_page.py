@@ -10,7 +10,11 @@ import re
 import sys
 
 TOP = pathlib.Path(__file__).resolve().parent.parent
-RECIPES = ["crates/time_known_tests/src/front_page.rt", "crates/time_describe_tests/src/recipes.rt"]
+RECIPES = [
+    "crates/time_known_tests/src/front_page.rt",
+    "crates/time_describe_tests/src/recipes.rt",
+    "crates/time_plan_tests/src/recipes.rt",
+]
 
 
 def read(path):
