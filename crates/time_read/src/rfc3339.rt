@@ -1,0 +1,218 @@
+//! RFC 3339.
+ghost use Rattle.std.specs.Prelude.{◌≡◌, ◌<◌, ◌≤◌, ◌∷◌, ◌^◌, ℕ, List, IfOk, IfErr, drop, length, take};
+ghost use Rattle.std.specs.Int.{IsInRange};
+ghost use Rattle.std.specs.Str.Parse.{AllDigits, digits_value};
+ghost use Rattle.time_below.specs.Moment.{OffsetDateAndTime};
+ghost use Rattle.time_known.specs.Rfc3339Grammar.{Rfc3339Spells};
+ghost use Rattle.time_read.specs.Fault.{IsFirstFault, SpellsSome};
+ghost use Rattle.time_read.specs.Front.{TextFault};
+ghost use Rattle.time_read.specs.Lenient.{Rfc3339Means};
+ghost use Rattle.time_read.specs.Profiles.{ReadsAs, Tail};
+ghost use Rattle.time_read.specs.Shapes.{AtFraction, Skipped, next_after};
+ghost use Rattle.time_read.specs.declared.fault.Profile.TheVariants as profile;
+
+use crate::digits::{after, after_letter, letter};
+use crate::fault::{Expected, Fault, NotRead, Profile};
+use crate::offset::{rest_of_signed, rest_of_utc};
+use crate::parts::{clock_time, date_of, full_date};
+use time_below::{OffsetDateTime, Time, UtcOffset};
+
+// The powers of ten.
+const POWERS: [u32; 10] = [
+    1,
+    10,
+    100,
+    1_000,
+    10_000,
+    100_000,
+    1_000_000,
+    10_000_000,
+    100_000_000,
+    1_000_000_000,
+];
+
+/// The value that a text of RFC 3339, section 5.6, spells: capital letters, one to nine decimals, if any, no
+/// second 60 and no offset `-00:00`. Any other text is refused at the first place where it is none.
+pub fn read(text: &[u8]) -> Result<OffsetDateTime, NotRead>
+    ensures read { IfOk result (λ v. Rfc3339Spells v text.now) }
+    ensures refused { IfErr result (λ _. (v : OffsetDateAndTime) → ¬ Rfc3339Spells v text.now) }
+    ensures place { IfErr result (λ e. IsFirstFault (SpellsSome Rfc3339Spells)
+        (take e.at text.now) (drop e.at text.now) e.expected) }
+    ensures within { IfErr result (λ e. e.at ≤ length text.now) }
+{
+    read_by(text, Profile::Strict)
+}
+
+/// The value that a text of RFC 3339, section 5.6, means, also one with a small `t` or `z`, with more than
+/// nine decimals, of which the first nine count, or with the unknown offset `-00:00` (section 4.3), which
+/// is read as UTC. Any other text is refused at the first place where it is none.
+pub fn read_lenient(text: &[u8]) -> Result<OffsetDateTime, NotRead>
+    ensures read { IfOk result (λ v. Rfc3339Means v text.now) }
+    ensures refused { IfErr result (λ _. (v : OffsetDateAndTime) → ¬ Rfc3339Means v text.now) }
+    ensures place { IfErr result (λ e. IsFirstFault (SpellsSome Rfc3339Means)
+        (take e.at text.now) (drop e.at text.now) e.expected) }
+    ensures within { IfErr result (λ e. e.at ≤ length text.now) }
+{
+    read_by(text, Profile::Lenient)
+}
+
+// Reads a whole text by a profile.
+#[inline(always)]
+fn read_by(text: &[u8], profile: Profile) -> Result<OffsetDateTime, NotRead>
+    ensures read { IfOk result (λ v. ReadsAs profile v text.now) }
+    ensures refused { IfErr result (λ _. (v : OffsetDateAndTime) → ¬ ReadsAs profile v text.now) }
+    ensures place { IfErr result (λ e. IsFirstFault (SpellsSome (ReadsAs profile))
+        (take e.at text.now) (drop e.at text.now) e.expected) }
+    ensures within { IfErr result (λ e. e.at ≤ length text.now) }
+{
+    match date_time(text, profile) {
+        Ok(value) => Ok(value),
+        Err(fault) => Err(NotRead {
+            at: text.len() - fault.left,
+            expected: fault.expected,
+        }),
+    }
+}
+
+// Reads a whole text.
+#[inline(always)]
+fn date_time(text: &[u8], profile: Profile) -> Result<OffsetDateTime, Fault>
+    ensures read { IfOk result (λ v. ReadsAs profile v text.now) }
+    ensures fault { IfErr result (λ e. TextFault (SpellsSome (ReadsAs profile)) text.now e) }
+{
+    let (day, rest) = full_date(text)?;
+    let rest = letter(rest, b'T', profile)?;
+    let (clock, rest) = clock_time(rest)?;
+    let (nanosecond, offset) = fraction_and_offset(rest, profile)?;
+    let Ok(time) = Time::from_hms_nano(clock.hour, clock.minute, clock.second, nanosecond) else {
+        unreachable!()
+    };
+    Ok(OffsetDateTime::new_in_offset(date_of(day), time, offset))
+}
+
+// Reads a fraction, if there is one, and an offset, to the end of the text.
+#[inline(always)]
+fn fraction_and_offset(text: &[u8], profile: Profile) -> Result<(u32, UtcOffset), Fault>
+    ensures read { IfOk result (λ r. Tail profile (r.0, r.1) text.now) }
+    ensures range { IfOk result (λ r. r.0 < 10 ^ 9) }
+    ensures fault { IfErr result (λ e. TextFault (SpellsSome (Tail profile)) text.now e) }
+{
+    let (nanosecond, rest, expected) = fraction(text, profile)?;
+    if let Some(rest) = after_letter(rest, b'Z', profile) {
+        let offset = rest_of_utc(rest, profile)?;
+        return Ok((nanosecond, offset));
+    }
+    if let Some(rest) = after(rest, b'+') {
+        let offset = rest_of_signed(rest, false, profile)?;
+        return Ok((nanosecond, offset));
+    }
+    if let Some(rest) = after(rest, b'-') {
+        let offset = rest_of_signed(rest, true, profile)?;
+        return Ok((nanosecond, offset));
+    }
+    Err(Fault {
+        left: rest.len(),
+        expected,
+    })
+}
+
+// Reads a fraction, if there is one: its nanosecond, what is left, and what may come there.
+#[inline(always)]
+fn fraction(text: &[u8], profile: Profile) -> Result<(u32, &[u8], Expected), Fault>
+    ensures read { IfOk result (λ r. AtFraction profile text.now r.0 r.1.now r.2) }
+    ensures range { IfOk result (λ r. r.0 < 10 ^ 9) }
+    ensures fault { IfErr result (λ e. TextFault (SpellsSome (Tail profile)) text.now e) }
+{
+    match after(text, b'.') {
+        Some(rest) => decimals(rest, profile),
+        None => Ok((0, text, Expected::PointOrOffset(profile))),
+    }
+}
+
+// Reads the digits after a point: one to nine, or more where the profile is lenient.
+#[inline(always)]
+fn decimals(text: &[u8], profile: Profile) -> Result<(u32, &[u8], Expected), Fault>
+    ensures read { IfOk result (λ r. AtFraction profile (46 ∷ text.now) r.0 r.1.now r.2) }
+    ensures range { IfOk result (λ r. r.0 < 10 ^ 9) }
+    ensures fault { IfErr result (λ e. TextFault (SpellsSome (Tail profile)) (46 ∷ text.now) e) }
+{
+    let (number, count) = digits(text);
+    if count == 0 {
+        return Err(Fault {
+            left: text.len(),
+            expected: Expected::Digit(0, 9),
+        });
+    }
+    Ok((
+        number * POWERS[9 - count],
+        skip(&text[count..], profile),
+        next_after(count, profile),
+    ))
+}
+
+// What may follow this many digits of a fraction.
+#[inline(always)]
+fn next_after(count: usize, profile: Profile) -> Expected
+    ensures { result ≡ next_after profile count }
+{
+    match profile {
+        Profile::Strict => {
+            if count == 9 {
+                Expected::Offset(Profile::Strict)
+            } else {
+                Expected::DigitOrOffset(Profile::Strict)
+            }
+        }
+        Profile::Lenient => Expected::DigitOrOffset(Profile::Lenient),
+    }
+}
+
+// What follows the decimals that are cut.
+#[inline(always)]
+fn skip(text: &[u8], profile: Profile) -> &[u8]
+    ensures { Skipped profile text.now result.now }
+{
+    match profile {
+        Profile::Strict => text,
+        Profile::Lenient => after_digits(text),
+    }
+}
+
+// What follows the digits that begin a text.
+#[tactic(auto, using(crate::proofs::Fractions::skipped))]
+fn after_digits(text: &[u8]) -> &[u8]
+    ensures { Skipped profile.Lenient text.now result.now }
+{
+    let mut count = 0;
+    while count < text.len() {
+        let byte = text[count];
+        if byte < b'0' || b'9' < byte {
+            return &text[count..];
+        }
+        count += 1;
+    }
+    &text[count..]
+}
+
+// The number of up to nine digits that begin a text, and how many they are.
+#[inline(always)]
+fn digits(text: &[u8]) -> (u32, usize)
+    ensures most { result.1 ≤ 9 }
+    ensures within { result.1 ≤ length text.now }
+    ensures digits { AllDigits 10 (take result.1 text.now) }
+    ensures value { result.0 ≡ digits_value 10 (take result.1 text.now) }
+    ensures end { result.1 < 9 → (b : ℕ) (after : List ℕ) → drop result.1 text.now ≡ b ∷ after
+        → ¬ IsInRange 48 57 b }
+{
+    let mut number: u32 = 0;
+    let mut count = 0;
+    while count < 9 && count < text.len() {
+        let byte = text[count];
+        if byte < b'0' || b'9' < byte {
+            return (number, count);
+        }
+        number = 10 * number + (byte - b'0') as u32;
+        count += 1;
+    }
+    (number, count)
+}
