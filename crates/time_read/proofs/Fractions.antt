@@ -16,7 +16,7 @@ use Rattle.time_known.specs.Rfc3339Grammar.{TimeSecfrac}
 use Rattle.time_known.proofs.Rules.Texts.{digits_below}
 use Rattle.time_read.specs.Shapes.{AtFraction, Skipped, next_after}
 use Rattle.time_read.specs.declared.fault.Expected.TheVariants as expected
-use Rattle.time_read.specs.declared.rfc3339.TheConstants.{POWERS}
+use Rattle.time_read.specs.declared.decimals.TheConstants.{POWERS}
 use Rattle.time_read.specs.declared.fault.Profile.{Profile}
 use Rattle.time_read.specs.declared.fault.Profile.TheVariants as profile
 use Rattle.time_read.proofs.Tails.{fraction_of, cut_secfrac, digits_join, opens_in_fraction, opens_after_fraction}
@@ -141,15 +141,16 @@ skipped text count h none = rw (take_rest text count) (record {
 
 -- the product of the number and the power of ten that fills it
 pub product : (text : List ℕ) (count n : ℕ) → n ≡ digits_value 10 (take count text) → AllDigits 10 (take count text)
-    → 1 ≤ count → count ≤ 9 → count ≤ length text
+    → count ≤ 9 → count ≤ length text
     → (n * get_or POWERS (9 - count) 0 ≡ digits_value 10 (take count text) * 10 ^ (9 - count))
     × (n * get_or POWERS (9 - count) 0 < 10 ^ 9)
-product text count n e h some most within =
+product text count n e h most within =
     let power = power_is (9 - count) (omega arith) in
     let long : length (take count text) ≡ count = length-take-le count text within in
     let same : n * get_or POWERS (9 - count) 0 ≡ digits_value 10 (take count text) * 10 ^ (9 - count) =
     ap₂ (λ x y. x * y) e power in
-    let small : digits_value 10 (take count text) * 10 ^ (9 - count) < 10 ^ 9 =
-    subst (λ k. digits_value 10 (take count text) * 10 ^ (9 - k) < 10 ^ 9) long
-    (below (take count text) h (omega arith, omega arith)) in
-    (same, subst (λ k. k < 10 ^ 9) (sym same) small)
+    (same, subst (λ k. k < 10 ^ 9) (sym same) (small (take count text) count long h most)) where
+      small : (ds : List ℕ) (k : ℕ) → length ds ≡ k → AllDigits 10 ds → k ≤ 9 → digits_value 10 ds * 10 ^ (9 - k) < 10 ^ 9
+      small [] k l h m = omega arith
+      small (d ∷ ds) k l h m =
+          subst (λ j. digits_value 10 (d ∷ ds) * 10 ^ (9 - j) < 10 ^ 9) l (below (d ∷ ds) h (omega arith, omega arith))

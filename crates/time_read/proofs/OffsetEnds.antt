@@ -139,7 +139,7 @@ not_minus_zero true p text s e =
     let h : least_minute true 0 ≤ 0 = subst (λ (q : ℕ × ℕ). least_minute true q.0 ≤ q.1) zero some in
     omega arith
 
-offset_to : (b : Bool) (p : ℕ × ℕ) (text : List ℕ) → HoursAndMinutes b p text
+pub offset_to : (b : Bool) (p : ℕ × ℕ) (text : List ℕ) → HoursAndMinutes b p text
     → TimeOffset (signed_offset b p.0 p.1) (sign_byte b ∷ text)
 offset_to b p text s = inr (
   record {
@@ -248,7 +248,7 @@ hours_front b h m text rest last p q = front_then h m p q
 -- ---- what follows the first byte, by a profile
 
 -- an offset that means itself
-itself : {o : Offset} {text : List ℕ} → TimeOffset o text → MeansOffset o text
+pub itself : {o : Offset} {text : List ℕ} → TimeOffset o text → MeansOffset o text
 itself {text = text} h = record { plain = text; stands = inl refl; spelled = h }
 
 -- the offset zero, in numbers

@@ -47,7 +47,16 @@ abbrev pub TensAndUnits : ℕ → ℕ → ℕ × ℕ → Rule
 TensAndUnits least greatest =
     Seq (OneDigit (least / 10) (greatest / 10)) (λ tens. OneDigit (first_unit least tens) (last_unit greatest tens))
 
--- the same after a byte
+-- the numbers of a date and of a time of day, in any range
+abbrev pub DateNumbers : ℕ → ℕ → ℕ → Rule
+DateNumbers year month day =
+    Digits 4 year ▹ Literal (codes "-") ▹ Digits 2 month ▹ Literal (codes "-") ▹ Digits 2 day
+
+abbrev pub ClockNumbers : ℕ → ℕ → ℕ → Rule
+ClockNumbers hour minute second =
+    Digits 2 hour ▹ Literal (codes ":") ▹ Digits 2 minute ▹ Literal (codes ":") ▹ Digits 2 second
+
+-- a number of two digits after a byte
 abbrev pub TwoAfter : ℕ → ℕ → ℕ → ℕ → Rule
 TwoAfter before least greatest n = Literal (before ∷ []) ▹ Two least greatest n
 

@@ -41,7 +41,7 @@ fn offset_of(hours: i8, minutes: i8) -> UtcOffset
 // The offset of hours and minutes with one sign.
 #[inline(always)]
 #[tactic(auto, using(crate::proofs::OffsetEnds::settled_is))]
-fn signed_offset(is_negative: bool, hour: u8, minute: u8) -> UtcOffset
+pub(crate) fn signed_offset(is_negative: bool, hour: u8, minute: u8) -> UtcOffset
     requires hour { hour < 24 }
     requires minute { minute < 60 }
     ensures { result ≡ signed_offset is_negative hour minute }

@@ -1,7 +1,5 @@
 //! RFC 3339.
 ghost use Rattle.std.specs.Prelude.{◌≡◌, ◌<◌, ◌≤◌, ◌∷◌, ◌^◌, ℕ, List, IfOk, IfErr, drop, length, take};
-ghost use Rattle.std.specs.Int.{IsInRange};
-ghost use Rattle.std.specs.Str.Parse.{AllDigits, digits_value};
 ghost use Rattle.time_below.specs.Moment.{OffsetDateAndTime};
 ghost use Rattle.time_known.specs.Rfc3339Grammar.{Rfc3339Spells};
 ghost use Rattle.time_read.specs.Fault.{IsFirstFault, SpellsSome};
@@ -9,27 +7,14 @@ ghost use Rattle.time_read.specs.Front.{TextFault};
 ghost use Rattle.time_read.specs.Lenient.{Rfc3339Means};
 ghost use Rattle.time_read.specs.Profiles.{ReadsAs, Tail};
 ghost use Rattle.time_read.specs.Shapes.{AtFraction, Skipped, next_after};
-ghost use Rattle.time_read.specs.declared.fault.Profile.TheVariants as profile;
 
+use crate::decimals::{after_digits, nanosecond};
 use crate::digits::{after, after_letter, letter};
 use crate::fault::{Expected, Fault, NotRead, Profile};
 use crate::offset::{rest_of_signed, rest_of_utc};
 use crate::parts::{clock_time, date_of, full_date};
+use crate::usual::usual;
 use time_below::{OffsetDateTime, Time, UtcOffset};
-
-// The powers of ten.
-const POWERS: [u32; 10] = [
-    1,
-    10,
-    100,
-    1_000,
-    10_000,
-    100_000,
-    1_000_000,
-    10_000_000,
-    100_000_000,
-    1_000_000_000,
-];
 
 /// The value that a text of RFC 3339, section 5.6, spells: capital letters, one to nine decimals, if any, no
 /// second 60 and no offset `-00:00`. Any other text is refused at the first place where it is none.
@@ -65,6 +50,9 @@ fn read_by(text: &[u8], profile: Profile) -> Result<OffsetDateTime, NotRead>
         (take e.at text.now) (drop e.at text.now) e.expected) }
     ensures within { IfErr result (λ e. e.at ≤ length text.now) }
 {
+    if let Some(value) = usual(text) {
+        return Ok(value);
+    }
     match date_time(text, profile) {
         Ok(value) => Ok(value),
         Err(fault) => Err(NotRead {
@@ -74,8 +62,8 @@ fn read_by(text: &[u8], profile: Profile) -> Result<OffsetDateTime, NotRead>
     }
 }
 
-// Reads a whole text.
-#[inline(always)]
+// Reads a whole text, or finds its first fault.
+#[inline(never)]
 fn date_time(text: &[u8], profile: Profile) -> Result<OffsetDateTime, Fault>
     ensures read { IfOk result (λ v. ReadsAs profile v text.now) }
     ensures fault { IfErr result (λ e. TextFault (SpellsSome (ReadsAs profile)) text.now e) }
@@ -136,7 +124,7 @@ fn decimals(text: &[u8], profile: Profile) -> Result<(u32, &[u8], Expected), Fau
     ensures range { IfOk result (λ r. r.0 < 10 ^ 9) }
     ensures fault { IfErr result (λ e. TextFault (SpellsSome (Tail profile)) (46 ∷ text.now) e) }
 {
-    let (number, count) = digits(text);
+    let (nanosecond, count) = nanosecond(text);
     if count == 0 {
         return Err(Fault {
             left: text.len(),
@@ -144,7 +132,7 @@ fn decimals(text: &[u8], profile: Profile) -> Result<(u32, &[u8], Expected), Fau
         });
     }
     Ok((
-        number * POWERS[9 - count],
+        nanosecond,
         skip(&text[count..], profile),
         next_after(count, profile),
     ))
@@ -176,43 +164,4 @@ fn skip(text: &[u8], profile: Profile) -> &[u8]
         Profile::Strict => text,
         Profile::Lenient => after_digits(text),
     }
-}
-
-// What follows the digits that begin a text.
-#[tactic(auto, using(crate::proofs::Fractions::skipped))]
-fn after_digits(text: &[u8]) -> &[u8]
-    ensures { Skipped profile.Lenient text.now result.now }
-{
-    let mut count = 0;
-    while count < text.len() {
-        let byte = text[count];
-        if byte < b'0' || b'9' < byte {
-            return &text[count..];
-        }
-        count += 1;
-    }
-    &text[count..]
-}
-
-// The number of up to nine digits that begin a text, and how many they are.
-#[inline(always)]
-fn digits(text: &[u8]) -> (u32, usize)
-    ensures most { result.1 ≤ 9 }
-    ensures within { result.1 ≤ length text.now }
-    ensures digits { AllDigits 10 (take result.1 text.now) }
-    ensures value { result.0 ≡ digits_value 10 (take result.1 text.now) }
-    ensures end { result.1 < 9 → (b : ℕ) (after : List ℕ) → drop result.1 text.now ≡ b ∷ after
-        → ¬ IsInRange 48 57 b }
-{
-    let mut number: u32 = 0;
-    let mut count = 0;
-    while count < 9 && count < text.len() {
-        let byte = text[count];
-        if byte < b'0' || b'9' < byte {
-            return (number, count);
-        }
-        number = 10 * number + (byte - b'0') as u32;
-        count += 1;
-    }
-    (number, count)
 }

@@ -1,6 +1,10 @@
 use Rattle.std.proofs.Common.{arith, refl}
 use Rattle.time_read.proofs.Wholes.{place_is, left_within}
+use Rattle.time_read.proofs.UsualLemmas.{read_by_each}
 use Rattle.time_read.proofs.rfc3339.read_by.Goals as goal
+
+pub returns-in-Some-clause-read : goal.returns-in-Some-clause-read
+returns-in-Some-clause-read c = read_by_each c.args.profile c.in-Some.value c.args.text.now c.in-Some.ensures.read
 
 pub overflow_sub-result : goal.overflow_sub-result
 overflow_sub-result c = let w = left_within c.in-Err.ensures.fault in omega arith

@@ -1,7 +1,7 @@
 use Rattle.std.proofs.Common.{arith, get_or}
 use Rattle.std.proofs.lemmas.Int.Digits.{digits_more}
 use Rattle.std.proofs.lemmas.Str.{digit_value_digit}
-use Rattle.time_read.proofs.rfc3339.after_digits.Goals as goal
+use Rattle.time_read.proofs.decimals.after_digits.Goals as goal
 
 pub loop-count-preserved : goal.loop-count-preserved
 loop-count-preserved c =

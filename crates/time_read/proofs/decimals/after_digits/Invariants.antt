@@ -1,6 +1,6 @@
 use Rattle.std.proofs.Common.{◌≤◌, ◌-◌, length, take}
 use Rattle.std.specs.Str.Parse.{AllDigits}
-use Rattle.time_read.proofs.rfc3339.after_digits.Given as goal
+use Rattle.time_read.proofs.decimals.after_digits.Given as goal
 
 abbrev pub decreases-loop-count : goal.decreases-loop-count
 decreases-loop-count l = length l.text - l.count
