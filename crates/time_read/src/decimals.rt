@@ -36,14 +36,14 @@ fn digits(text: &[u8]) -> (u32, usize)
         if byte < b'0' || b'9' < byte {
             return (number, count);
         }
-        number = 10 * number + (byte - b'0') as u32;
+        number = 10 * number + (byte as u32 - 48);
         count += 1;
     }
     (number, count)
 }
 
 // The nanosecond of the up to nine digits that begin a text, and how many they are.
-#[inline(always)]
+#[inline(never)]
 pub(crate) fn nanosecond(text: &[u8]) -> (u32, usize)
     ensures most { result.1 ≤ 9 }
     ensures within { result.1 ≤ length text.now }

@@ -13,6 +13,9 @@ use crate::offset::{least_minute, signed_offset};
 use std::convert::TryFrom;
 use time_below::{Date, Month, OffsetDateTime, Time, UtcOffset};
 
+// The bytes of the shortest text.
+const SHORTEST: usize = 20;
+
 // Reads two digits.
 #[inline(always)]
 #[tactic(auto, using(crate::proofs::UsualLemmas::two_at))]
@@ -125,6 +128,9 @@ fn calendar_date(year: u16, month: u8, day: u8) -> Option<Date>
 pub(crate) fn usual(text: &[u8]) -> Option<OffsetDateTime>
     ensures read { IfSome result (λ v. Rfc3339Spells v text.now) }
 {
+    if text.len() < SHORTEST {
+        return None;
+    }
     let (year, month, day, rest) = date(text)?;
     let rest = after(rest, b'T')?;
     let (hour, minute, second, rest) = clock(rest)?;
