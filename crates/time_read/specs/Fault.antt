@@ -1,5 +1,5 @@
 -- The first place at which a text is none of a rule.
-use Rattle.std.specs.Prelude.{◌≡◌, ◌↔◌, ℕ, ◌+◌, ◌⊎◌, List, [], ◌∷◌, ◌++◌}
+use Rattle.std.specs.Prelude.{◌≡◌, ◌↔◌, ℕ, ◌+◌, ◌⊎◌, List, [], ◌∷◌, ◌++◌, slice_get, Some}
 use Rattle.std.specs.Int.{IsInRange}
 use Rattle.time_known.specs.Rules.{Rule}
 use Rattle.time_read.specs.declared.fault.Expected.{Expected}
@@ -42,3 +42,9 @@ pub record IsFirstFault (P : Rule) (right rest : List ℕ) (e : Expected) : Type
   pub begins : Begins P right
   pub expected : (b : ℕ) → Begins P (right ++ b ∷ []) ↔ Allows e b
   pub found : (b : ℕ) (after : List ℕ) → rest ≡ b ∷ after → ¬ Allows e b
+
+-- second 60 stands there, at its place in a text
+pub record IsSecond60 (at : ℕ) (text : List ℕ) : Type 0 where
+  pub place : at ≡ 17
+  pub tens : slice_get text 17 ≡ Some 54
+  pub units : slice_get text 18 ≡ Some 48

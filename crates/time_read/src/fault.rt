@@ -32,12 +32,14 @@ pub enum Expected {
 
 /// A text is none of its format: the first place at which it is none.
 #[derive(Debug, Clone, Copy, PartialEq, Eq, Error)]
-#[error("byte {at}: expected {expected}")]
+#[error("byte {at}: expected {expected}{}", if *.is_second_60 {", since second 60 has no value"} else {""})]
 pub struct NotRead {
     /// How many bytes are right.
     pub at: usize,
     /// What could have come after them.
     pub expected: Expected,
+    /// Whether second 60 stands there, which a leap second has and no value here.
+    pub is_second_60: bool,
 }
 
 // The place by the bytes that are left from there on.
@@ -60,6 +62,7 @@ fn letters(letter: u8, profile: Profile) -> &'static str {
 impl fmt::Display for Expected {
     fn fmt<W: fmt::Write>(&self, f: &mut fmt::Formatter<W>) -> fmt::Result {
         match *self {
+            Expected::Digit(first, last) if first == last => write!(f, "the digit {first}"),
             Expected::Digit(first, last) => write!(f, "a digit from {first} to {last}"),
             Expected::Byte(byte) => write!(f, "`{}`", char::from(byte)),
             Expected::Letter(letter, profile) => f.write_str(letters(letter, profile)),

@@ -1,8 +1,8 @@
 //! RFC 3339.
-ghost use Rattle.std.specs.Prelude.{◌≡◌, ◌<◌, ◌≤◌, ◌∷◌, ◌^◌, ℕ, List, IfOk, IfErr, drop, length, take};
+ghost use Rattle.std.specs.Prelude.{◌≡◌, ◌<◌, ◌≤◌, ◌∷◌, ◌^◌, ℕ, List, ◌↔◌, IfOk, IfErr, IsTrue, drop, length, take};
 ghost use Rattle.time_below.specs.Moment.{OffsetDateAndTime};
 ghost use Rattle.time_known.specs.Rfc3339Grammar.{Rfc3339Spells};
-ghost use Rattle.time_read.specs.Fault.{IsFirstFault, SpellsSome};
+ghost use Rattle.time_read.specs.Fault.{IsFirstFault, IsSecond60, SpellsSome};
 ghost use Rattle.time_read.specs.Front.{TextFault};
 ghost use Rattle.time_read.specs.Lenient.{Rfc3339Means};
 ghost use Rattle.time_read.specs.Profiles.{ReadsAs, Tail};
@@ -24,6 +24,7 @@ pub fn read(text: &[u8]) -> Result<OffsetDateTime, NotRead>
     ensures place { IfErr result (λ e. IsFirstFault (SpellsSome Rfc3339Spells)
         (take e.at text.now) (drop e.at text.now) e.expected) }
     ensures within { IfErr result (λ e. e.at ≤ length text.now) }
+    ensures second_60 { IfErr result (λ e. IsTrue e.is_second_60 ↔ IsSecond60 e.at text.now) }
 {
     read_by(text, Profile::Strict)
 }
@@ -37,6 +38,7 @@ pub fn read_lenient(text: &[u8]) -> Result<OffsetDateTime, NotRead>
     ensures place { IfErr result (λ e. IsFirstFault (SpellsSome Rfc3339Means)
         (take e.at text.now) (drop e.at text.now) e.expected) }
     ensures within { IfErr result (λ e. e.at ≤ length text.now) }
+    ensures second_60 { IfErr result (λ e. IsTrue e.is_second_60 ↔ IsSecond60 e.at text.now) }
 {
     read_by(text, Profile::Lenient)
 }
@@ -49,17 +51,29 @@ fn read_by(text: &[u8], profile: Profile) -> Result<OffsetDateTime, NotRead>
     ensures place { IfErr result (λ e. IsFirstFault (SpellsSome (ReadsAs profile))
         (take e.at text.now) (drop e.at text.now) e.expected) }
     ensures within { IfErr result (λ e. e.at ≤ length text.now) }
+    ensures second_60 { IfErr result (λ e. IsTrue e.is_second_60 ↔ IsSecond60 e.at text.now) }
 {
     if let Some(value) = usual(text) {
         return Ok(value);
     }
     match date_time(text, profile) {
         Ok(value) => Ok(value),
-        Err(fault) => Err(NotRead {
-            at: text.len() - fault.left,
-            expected: fault.expected,
-        }),
+        Err(fault) => {
+            let at = text.len() - fault.left;
+            Err(NotRead {
+                at,
+                expected: fault.expected,
+                is_second_60: is_second_60(text, at),
+            })
+        }
     }
+}
+
+// Whether second 60 stands there.
+fn is_second_60(text: &[u8], at: usize) -> bool
+    ensures { IsTrue result ↔ IsSecond60 at text.now }
+{
+    at == 17 && text.len() > 18 && text[17] == b'6' && text[18] == b'0'
 }
 
 // Reads a whole text, or finds its first fault.
