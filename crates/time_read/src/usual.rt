@@ -132,13 +132,13 @@ pub(crate) fn usual(text: &[u8]) -> Option<OffsetDateTime>
         return None;
     }
     let (year, month, day, rest) = date(text)?;
+    let Some(date) = calendar_date(year, month, day) else {
+        return None;
+    };
     let rest = after(rest, b'T')?;
     let (hour, minute, second, rest) = clock(rest)?;
     let (nanosecond, rest) = fraction(rest)?;
     let offset = offset(rest)?;
-    let Some(date) = calendar_date(year, month, day) else {
-        return None;
-    };
     let Ok(time) = Time::from_hms_nano(hour, minute, second, nanosecond) else {
         return None;
     };
