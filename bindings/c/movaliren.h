@@ -454,6 +454,15 @@ static inline void movaliren_add(struct movaliren_description *description, uint
     movaliren_add_item(description, item);
 }
 
+/* Adds a component by its usual choices: zeros before its number, no plus, and as many decimals as are
+ * needed. A weekday counts from 1, and the half of the day is in upper case. */
+static inline void movaliren_add_usual(struct movaliren_description *description, uint32_t kind)
+{
+    const uint8_t flag = kind == MOVALIREN_WEEKDAY_FROM_SUNDAY
+        || kind == MOVALIREN_WEEKDAY_FROM_MONDAY || kind == MOVALIREN_PERIOD;
+    movaliren_add(description, kind, MOVALIREN_ZERO, flag, 0);
+}
+
 /* Adds a text of these bytes. */
 static inline void movaliren_add_bytes(
     struct movaliren_description *description, const void *bytes, size_t len)
