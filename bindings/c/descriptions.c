@@ -258,6 +258,113 @@ static void try_building(void)
             }
 }
 
+/* What does not fit sets the reason, and changes nothing behind the arrays. */
+static void try_too_many(void)
+{
+    struct movaliren_item items[3];
+    char texts[] = "##########";
+    struct movaliren_description line = MOVALIREN_DESCRIPTION(items, texts);
+    memset(items, FILL, sizeof items);
+    line.items_room = 2, line.texts_room = 4;
+    movaliren_add_text(&line, "at ");
+    movaliren_add(&line, MOVALIREN_HOUR, MOVALIREN_ZERO, 0, 0);
+    int is_right = line.reason == 0 && line.items_len == 2 && line.texts_len == 3;
+    movaliren_add(&line, MOVALIREN_MINUTE, MOVALIREN_ZERO, 0, 0);
+    movaliren_add_text(&line, ":");
+    is_right = is_right && line.reason == MOVALIREN_ERROR_NO_ROOM && line.items_len <= 2
+        && is_filled((uint8_t *)&items[2], (uint8_t *)&items[3]) && line.texts_len <= 4
+        && !memcmp(texts + 4, "######", 7);
+    line = (struct movaliren_description)MOVALIREN_DESCRIPTION(items, texts);
+    line.texts_room = 4;
+    memcpy(texts, "##########", 10);
+    movaliren_add_text(&line, "12345");
+    movaliren_add_text(&line, "1");
+    is_right = is_right && line.reason == MOVALIREN_ERROR_NO_ROOM && !strcmp(texts, "##########");
+    if (!is_right) {
+        failures++;
+        puts("what does not fit is added");
+    }
+}
+
+/* A text of no bytes needs no bytes. */
+static void try_empty_texts(void)
+{
+    static const struct movaliren_moment moment = MOMENT(1997, 11, 2, 9, 55, 6, 0, 0, 0, 0);
+    struct movaliren_item items[3];
+    char texts[1], text[4];
+    struct movaliren_description line = MOVALIREN_DESCRIPTION(items, texts);
+    line.texts_room = 0;
+    movaliren_add_text(&line, "");
+    movaliren_add(&line, MOVALIREN_DAY, MOVALIREN_ZERO, 0, 0);
+    movaliren_add_bytes(&line, "none of these", 0);
+    const ptrdiff_t n = movaliren_format(
+        line.items, line.items_len, line.texts, line.texts_len, &moment, text, sizeof text);
+    if (line.reason || line.items_len != 3 || line.texts_len != 0 || n != 2 || memcmp(text, "02", 2)) {
+        failures++;
+        printf("empty texts: answer %td\n", n);
+    }
+}
+
+/* The texts of 2022-01-02T15:04:05.678 +06:07:08, a Sunday, without the flag and with it. Names and numbers are those
+ * of strftime; a number of the weekday is one more if it counts from 1. */
+static void try_kinds(void)
+{
+    static const struct movaliren_moment sunday = MOMENT(2022, 1, 2, 15, 4, 5, 678000000, 6, 7, 8);
+    static const struct {
+        uint32_t kind;
+        const char *plain, *flagged;
+        int is_flag_usual;
+    } rows[] = {
+        { MOVALIREN_DAY, "02", "02", 0 },
+        { MOVALIREN_MONTH_SHORT, "Jan", "Jan", 0 },
+        { MOVALIREN_MONTH_LONG, "January", "January", 0 },
+        { MOVALIREN_MONTH, "01", "01", 0 },
+        { MOVALIREN_ORDINAL, "002", "002", 0 },
+        { MOVALIREN_WEEKDAY_SHORT, "Sun", "Sun", 0 },
+        { MOVALIREN_WEEKDAY_LONG, "Sunday", "Sunday", 0 },
+        { MOVALIREN_WEEKDAY_FROM_SUNDAY, "0", "1", 1 },
+        { MOVALIREN_WEEKDAY_FROM_MONDAY, "6", "7", 1 },
+        { MOVALIREN_WEEK_ISO, "52", "52", 0 },
+        { MOVALIREN_WEEK_SUNDAY, "01", "01", 0 },
+        { MOVALIREN_WEEK_MONDAY, "00", "00", 0 },
+        { MOVALIREN_YEAR_EXTENDED, "2022", "+2022", 0 },
+        { MOVALIREN_YEAR, "2022", "+2022", 0 },
+        { MOVALIREN_CENTURY_EXTENDED, "20", "+20", 0 },
+        { MOVALIREN_CENTURY, "20", "+20", 0 },
+        { MOVALIREN_YEAR_LAST_TWO, "22", "22", 0 },
+        { MOVALIREN_ISO_YEAR_EXTENDED, "2021", "+2021", 0 },
+        { MOVALIREN_ISO_YEAR, "2021", "+2021", 0 },
+        { MOVALIREN_ISO_CENTURY_EXTENDED, "20", "+20", 0 },
+        { MOVALIREN_ISO_CENTURY, "20", "+20", 0 },
+        { MOVALIREN_ISO_YEAR_LAST_TWO, "21", "21", 0 },
+        { MOVALIREN_HOUR_12, "03", "03", 0 },
+        { MOVALIREN_HOUR, "15", "15", 0 },
+        { MOVALIREN_MINUTE, "04", "04", 0 },
+        { MOVALIREN_PERIOD, "pm", "PM", 1 },
+        { MOVALIREN_SECOND, "05", "05", 0 },
+        { MOVALIREN_SUBSECOND, "678", "678", 0 },
+        { MOVALIREN_OFFSET_HOUR, "06", "+06", 0 },
+        { MOVALIREN_OFFSET_MINUTE, "07", "07", 0 },
+        { MOVALIREN_OFFSET_SECOND, "08", "08", 0 },
+        { MOVALIREN_UNIX_SECOND, "1641113817", "+1641113817", 0 },
+        { MOVALIREN_UNIX_MILLISECOND, "1641113817678", "+1641113817678", 0 },
+    };
+    for (size_t i = 0; i < sizeof rows / sizeof *rows; i++) {
+        struct movaliren_item items[3];
+        char texts[1];
+        struct movaliren_description line = MOVALIREN_DESCRIPTION(items, texts);
+        movaliren_add(&line, rows[i].kind, MOVALIREN_ZERO, 0, 0);
+        movaliren_add(&line, rows[i].kind, MOVALIREN_ZERO, 1, 0);
+        movaliren_add_usual(&line, rows[i].kind);
+        const struct description plain = { items, 1, "" }, flagged = { items + 1, 1, "" },
+                                 usual = { items + 2, 1, "" };
+        expect_text(described, &plain, &sunday, rows[i].plain);
+        expect_text(described, &flagged, &sunday, rows[i].flagged);
+        expect_text(
+            described, &usual, &sunday, rows[i].is_flag_usual ? rows[i].flagged : rows[i].plain);
+    }
+}
+
 enum { MANY = 16000 };
 
 /* Each item of a long description is written, and so is the width of all of them. */
@@ -306,7 +413,10 @@ static void try_error_texts(void)
 {
     if (strcmp(movaliren_error_text(MOVALIREN_ERROR_DAY), "the month has no such day")
         || strcmp(movaliren_error_text(-100), "unknown error")
-        || strcmp(movaliren_error_text(0), "no error")) {
+        || strcmp(movaliren_error_text(PTRDIFF_MIN), "unknown error")
+        || strcmp(movaliren_error_text(0), "no error")
+        || strcmp(movaliren_error_text(35), "no error")
+        || strcmp(movaliren_error_text(PTRDIFF_MAX), "no error")) {
         failures++;
         puts("a reason has another text");
     }
@@ -320,6 +430,9 @@ int main(void)
     try_the_empty_description();
     try_widths();
     try_building();
+    try_too_many();
+    try_empty_texts();
+    try_kinds();
     try_many_items();
     try_choices();
     try_error_texts();
