@@ -1,6 +1,6 @@
 /* Refuses each allocation in turn: the call returns out of memory, the buffer is unchanged, and the
  * next call is right. No other call allocates, and each allocation is freed. */
-#include "movaliren.h"
+#include "items.h"
 
 #include <stdio.h>
 #include <stdlib.h>
@@ -58,18 +58,18 @@ static const struct movaliren_moment moment = { .year = 1997, .month = 11, .day 
                                      last = { .year = 9999, .month = 12, .day = 31 };
 static const struct movaliren_utc_moment epoch = { 0, 0 };
 static const struct movaliren_iso_config config = { 5, 1, 2, 255, 1, 1, 1, 0 };
-static const struct movaliren_item items[] = { { .kind = MOVALIREN_YEAR }, { .len = 1 },
-    { .kind = MOVALIREN_MONTH_LONG }, { .len = 1 }, { .kind = MOVALIREN_DAY } };
+static const struct movaliren_item items[] = { { .kind = MOVALIREN_YEAR }, TEXT(0, 1),
+    { .kind = MOVALIREN_MONTH_LONG }, TEXT(0, 1), { .kind = MOVALIREN_DAY } };
 static const struct movaliren_item usual[]
-    = { { .kind = MOVALIREN_YEAR }, { .len = 1 }, { .kind = MOVALIREN_MONTH } };
+    = { { .kind = MOVALIREN_YEAR }, TEXT(0, 1), { .kind = MOVALIREN_MONTH } };
 /* Nov 12 1997-11-12T09:55:06.120-06:00 */
-static const struct movaliren_item twenty[20] = { { .kind = MOVALIREN_MONTH_SHORT }, { .len = 1 },
-    { .kind = MOVALIREN_DAY }, { .len = 1 }, { .kind = MOVALIREN_YEAR_EXTENDED }, { .start = 1, .len = 1 },
-    { .kind = MOVALIREN_MONTH }, { .start = 1, .len = 1 }, { .kind = MOVALIREN_DAY },
-    { .start = 2, .len = 1 }, { .kind = MOVALIREN_HOUR }, { .start = 3, .len = 1 },
-    { .kind = MOVALIREN_MINUTE }, { .start = 3, .len = 1 }, { .kind = MOVALIREN_SECOND },
-    { .start = 4, .len = 1 }, { .kind = MOVALIREN_SUBSECOND, .digits = 3 },
-    { .kind = MOVALIREN_OFFSET_HOUR, .flag = 1 }, { .start = 3, .len = 1 },
+static const struct movaliren_item twenty[20] = { { .kind = MOVALIREN_MONTH_SHORT }, TEXT(0, 1),
+    { .kind = MOVALIREN_DAY }, TEXT(0, 1), { .kind = MOVALIREN_YEAR_EXTENDED }, TEXT(1, 1),
+    { .kind = MOVALIREN_MONTH }, TEXT(1, 1), { .kind = MOVALIREN_DAY },
+    TEXT(2, 1), { .kind = MOVALIREN_HOUR }, TEXT(3, 1),
+    { .kind = MOVALIREN_MINUTE }, TEXT(3, 1), { .kind = MOVALIREN_SECOND },
+    TEXT(4, 1), { .kind = MOVALIREN_SUBSECOND, .digits = 3 },
+    { .kind = MOVALIREN_OFFSET_HOUR, .flag = 1 }, TEXT(3, 1),
     { .kind = MOVALIREN_OFFSET_MINUTE } };
 
 static ptrdiff_t bytes_of(struct movaliren_progress progress)
@@ -166,7 +166,7 @@ static int is_written_to(size_t len, size_t room_len, int is_usual)
 {
     static const char names[2][MAY + 1] = { "May", "05" };
     const struct movaliren_item sized[]
-        = { { .len = len }, { .kind = is_usual ? MOVALIREN_MONTH : MOVALIREN_MONTH_LONG } };
+        = { TEXT(0, len), { .kind = is_usual ? MOVALIREN_MONTH : MOVALIREN_MONTH_LONG } };
     const char *name = names[is_usual];
     const size_t name_len = strlen(name), width = len + (is_usual ? name_len : MONTH_WIDTH);
     const int is_held = len + name_len <= room_len;

@@ -1,5 +1,5 @@
 /* Four threads of 16 KiB of stack, each with 50,000 calls of each kind, or as many as the argument says. */
-#include "movaliren.h"
+#include "items.h"
 
 #include <pthread.h>
 #include <stdio.h>
@@ -21,9 +21,9 @@ static void *work(void *argument)
         = { .year = 2026, .month = 11, .day = 22, .nanosecond = 1 };
     static const struct movaliren_iso_config config = MOVALIREN_ISO_DEFAULT,
                                              week = { 5, MOVALIREN_ISO_WEEK, 2, 9, 1, 1, 0, 0 };
-    static const struct movaliren_item items[] = { { .kind = MOVALIREN_DAY }, { .len = 1 },
-        { .kind = MOVALIREN_MONTH_LONG }, { .len = 1 }, { .kind = MOVALIREN_UNIX_MILLISECOND },
-        { .len = 1 }, { .kind = MOVALIREN_ISO_YEAR }, { .len = 1 }, { .kind = MOVALIREN_WEEK_ISO } };
+    static const struct movaliren_item items[] = { { .kind = MOVALIREN_DAY }, TEXT(0, 1),
+        { .kind = MOVALIREN_MONTH_LONG }, TEXT(0, 1), { .kind = MOVALIREN_UNIX_MILLISECOND },
+        TEXT(0, 1), { .kind = MOVALIREN_ISO_YEAR }, TEXT(0, 1), { .kind = MOVALIREN_WEEK_ISO } };
     uint8_t room[64];
     long *wrong = argument;
     for (long i = 0; i < calls; i++) {

@@ -111,6 +111,8 @@ fn refuses_an_offset_that_has_no_text() {
     assert_error(&Rfc2822Local(1), &moment, second);
     let late = UtcMoment::new(i64::MAX, 0);
     assert_error(&Rfc3339Local(i64::MAX), &late, Error::MomentSeconds);
+    let last = UtcMoment::new(31_494_784_780_799, 0);
+    assert_error(&Rfc3339Local(60), &last, Error::NoPlaceForYear);
 }
 
 #[test]
@@ -186,6 +188,10 @@ fn the_first_part_that_is_out_of_range_is_the_error() {
         (new_year.offset(26, 60, 60), Error::OffsetHours),
         (new_year.offset(0, 60, 60), Error::OffsetMinutes),
         (new_year.offset(0, 0, -60), Error::OffsetSeconds),
+        // Python's `divmod` gives -6 hours and 30 minutes for -05:30.
+        (new_year.offset(-6, 30, 0), Error::OffsetMinutes),
+        (new_year.offset(-6, 0, 30), Error::OffsetSeconds),
+        (new_year.offset(0, 30, -1), Error::OffsetSeconds),
         (
             Moment::new(10_000, 1, 1).offset(24, 0, 1),
             Error::NoPlaceForYear,
