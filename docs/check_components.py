@@ -3,8 +3,8 @@
 differs.
 
 A row of a component has its name, perhaps a constant, its choices, its width and its example, and a test formats it.
-A choice without a value has the usual one, which a table names beside the other values. A constant has the usual
-choices, but for its row's own of a choice that has none, and a test has it as a part. The heading over a row is that of
+A choice without a value has the usual one, which a table names beside the other values. A constant has the choices of
+its row, and a test has it as a part. The heading over a row is that of
 the component's group. The comment at a component is that at its choices and at its variant of version 3.
 
 In brackets a name has the modifiers that the code reads, and the first value of each is the usual one. A test formats
@@ -65,7 +65,7 @@ def tested():
 
 
 def shown():
-    rows = [(constant[1:-1], name, [(choice, usual.get(choice, value)) for choice, value in choices(fields)])
+    rows = [(constant[1:-1], name, choices(fields))
             for name, constant, fields, _, _ in ROW.findall(page) if constant not in ("", "-")]
     return sorted(rows + [(name, kind, choices(fields)) for name, kind, fields in CONSTANT.findall(page)])
 

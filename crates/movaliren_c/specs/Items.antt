@@ -93,10 +93,10 @@ component_of i =
     with_value (digits_at i.digits) (λ d.
     component_at i.kind p f d)))
 
--- the bytes of the texts that an item of kind 0 names, or a component
+-- the bytes of the texts that an item of kind 255 names, or a component; kind 0 is neither
 abbrev pub item_tree : List ℕ → Item → Result Tree Reason
 item_tree texts i =
-    if i.kind == 0
+    if i.kind == 255
     then (if nat_le i.start (length texts) && nat_le i.len (length texts - i.start)
     then Ok (byte_literal (slice_range texts i.start (i.start + i.len)))
     else Err reason.BadItem)

@@ -31,7 +31,7 @@ has_choices flag digits item = (item.padding == 0) && (item.flag == flag) && (it
 -- a literal, or a component that most texts have, of a value with a time of day and an offset, or without
 abbrev pub is_usual : Bool → Item → Bool
 is_usual has_time item =
-    if item.kind == 0 then true
+    if item.kind == 255 then true
     else (if is_usual_of_date item.kind then has_choices 0 0 item
     else (if is_usual_of_time item.kind then has_time && has_choices 0 0 item
     else (if item.kind == 28 then has_time && (has_choices 0 3 item || has_choices 0 6 item || has_choices 0 9 item)

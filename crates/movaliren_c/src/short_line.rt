@@ -67,7 +67,7 @@ fn usual_width(item: &Item, texts: &[u8], has_time: bool) -> Option<usize>
     ensures width { IfSome result (λ w. HasWidth w (item_tree texts.now item.now)) }
     ensures short { IfSome result (λ w. w ≤ 0xffff) }
 {
-    if item.kind == 0 {
+    if item.kind == 255 {
         return literal_width(item, texts);
     }
     if !has_choices(item, 0, 0) {
@@ -94,7 +94,7 @@ fn has_choices(item: &Item, flag: u8, digits: u8) -> bool
 /// The number of bytes of a literal, if the texts have them and there are not many.
 #[inline(always)]
 fn literal_width(item: &Item, texts: &[u8]) -> Option<usize>
-    requires literal { item.now.kind ≡ 0 }
+    requires literal { item.now.kind ≡ 255 }
     ensures width { IfSome result (λ w. HasWidth w (item_tree texts.now item.now)) }
     ensures short { IfSome result (λ w. w ≤ 0xffff) }
 {
@@ -201,7 +201,7 @@ fn put_item<S: ByteSink>(output: &mut S, item: &Item, texts: &[u8], value: &Loca
         (item_tree texts.now item.now) (facts_of_local has_time value.now) }
 {
     match item.kind {
-        0 => output.put_bytes(&texts[item.start..item.start + item.len]),
+        255 => output.put_bytes(&texts[item.start..item.start + item.len]),
         1 => put_pair(output, ru8::within(value.date().day())),
         2 => put_month_name(output, calendar_day(value.date())),
         4 => put_pair(output, ru8::within(value.date().month())),
