@@ -319,7 +319,8 @@ static void try_invalid_items(void)
             line.items, line.items_len, line.texts, line.texts_len, 2026, 1, 2, text, sizeof text);
         const ptrdiff_t width
             = movaliren_width(line.items, line.items_len, line.texts, line.texts_len);
-        if (line.reason != MOVALIREN_ERROR_BAD_ITEM || n != MOVALIREN_ERROR_BAD_ITEM || width != n) {
+        if (line.reason != MOVALIREN_ERROR_BAD_ITEM || n != MOVALIREN_ERROR_BAD_ITEM || width != n
+            || line.items_len != 1 || line.texts_len != 3) {
             failures++;
             printf("kind %u: reason %td, answer %td\n", (unsigned)rows[i].kind, line.reason, n);
         }
