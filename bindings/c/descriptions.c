@@ -269,11 +269,16 @@ static void try_too_many(void)
     struct movaliren_item items[3];
     char texts[] = "##########";
     struct movaliren_description line = MOVALIREN_DESCRIPTION(items, texts);
+    int is_right = line.items_room == 3 && line.texts_room == sizeof texts && line.reason == 0;
     memset(items, FILL, sizeof items);
-    line.items_room = 2, line.texts_room = 4;
+    line.items_room = 0;
+    movaliren_add(&line, MOVALIREN_HOUR, MOVALIREN_ZERO, 0, 0);
+    is_right = is_right && line.reason == MOVALIREN_ERROR_NO_ROOM && line.items_len == 0
+        && is_filled((uint8_t *)items, (uint8_t *)&items[3]);
+    line.reason = 0, line.items_room = 2, line.texts_room = 4;
     movaliren_add_text(&line, "at ");
     movaliren_add(&line, MOVALIREN_HOUR, MOVALIREN_ZERO, 0, 0);
-    int is_right = line.reason == 0 && line.items_len == 2 && line.texts_len == 3;
+    is_right = is_right && line.reason == 0 && line.items_len == 2 && line.texts_len == 3;
     movaliren_add(&line, MOVALIREN_MINUTE, MOVALIREN_ZERO, 0, 0);
     movaliren_add_text(&line, ":");
     is_right = is_right && line.reason == MOVALIREN_ERROR_NO_ROOM && line.items_len <= 2
@@ -282,9 +287,10 @@ static void try_too_many(void)
     line = (struct movaliren_description)MOVALIREN_DESCRIPTION(items, texts);
     line.texts_room = 4;
     memcpy(texts, "##########", 10);
-    movaliren_add_text(&line, "12345");
-    movaliren_add_text(&line, "1");
-    is_right = is_right && line.reason == MOVALIREN_ERROR_NO_ROOM && !strcmp(texts, "##########");
+    movaliren_add_text(&line, "123");
+    movaliren_add_text(&line, "45");
+    movaliren_add_text(&line, "4");
+    is_right = is_right && line.reason == MOVALIREN_ERROR_NO_ROOM && !strcmp(texts, "123#######");
     if (!is_right) {
         failures++;
         puts("what does not fit is added");
@@ -313,7 +319,8 @@ static void try_invalid_items(void)
             line.items, line.items_len, line.texts, line.texts_len, 2026, 1, 2, text, sizeof text);
         const ptrdiff_t width
             = movaliren_width(line.items, line.items_len, line.texts, line.texts_len);
-        if (line.reason != MOVALIREN_ERROR_BAD_ITEM || n != MOVALIREN_ERROR_BAD_ITEM || width != n) {
+        if (line.reason != MOVALIREN_ERROR_BAD_ITEM || n != MOVALIREN_ERROR_BAD_ITEM || width != n
+            || line.items_len != 1 || line.texts_len != 3) {
             failures++;
             printf("kind %u: reason %td, answer %td\n", (unsigned)rows[i].kind, line.reason, n);
         }

@@ -252,8 +252,12 @@ fn dates_before_1970_are_those_of_time_and_chrono() {
         let date = Date { year, month, day };
         let time = time::Date::from_calendar_date(year, month.try_into().unwrap(), day);
         assert_eq!(time.unwrap().to_date(), date);
-        let chrono = NaiveDate::from_ymd_opt(year, month.into(), day.into());
-        assert_eq!(chrono.unwrap().to_date(), date);
+        let chrono = NaiveDate::from_ymd_opt(year, month.into(), day.into()).unwrap();
+        assert_eq!(chrono.to_date(), date);
+        let midnight = Moment::new(year, month, day);
+        assert_eq!(time.unwrap().midnight().assume_utc().to_moment(), midnight);
+        let chrono: DateTime<Utc> = DateTime::from_utc(chrono.and_hms_opt(0, 0, 0).unwrap(), Utc);
+        assert_eq!(chrono.to_moment(), midnight);
     }
 }
 

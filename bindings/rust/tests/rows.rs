@@ -599,8 +599,8 @@ fn a_vector_that_is_appended_to_grows_as_seldom_as_by_push() {
 
 #[test]
 fn a_batch_reserves_the_width_of_its_texts() {
-    let mut lines = Vec::new();
-    let _ = Rfc3339.batch_into(&mut lines, &[EXAMPLE; 1_000], b'\n');
-    assert_eq!(lines.len(), 29_000);
+    let (mut lines, widest) = (Vec::new(), EXAMPLE.at(9, 55, 6, 123_456_789));
+    let _ = Rfc3339.batch_into(&mut lines, &[widest; 1_000], b'\n');
+    assert_eq!(lines.len(), 36_000);
     assert!((36_000..=72_000).contains(&lines.capacity()));
 }
