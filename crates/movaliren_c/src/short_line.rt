@@ -2,8 +2,8 @@
 ghost use Rattle.std.specs.Prelude.{◌≡◌, ◌≤◌, Bool, IfSome, IsTrue, Ok, drop, length, max, take, unsigned_abs};
 ghost use Rattle.std.specs.List.{All};
 ghost use Rattle.movaliren_c.specs.Answer.{IsText};
-ghost use Rattle.movaliren_c.specs.Items.{described, item_tree, trees_of, width_after, width_answer};
-ghost use Rattle.movaliren_c.specs.ShortLine.{AllFit, FitsAll, FitsItem, HasWidth, IsShortYear, PutsAll, PutsItem, facts_of_local, has_choices, is_frequent, is_usual};
+ghost use Rattle.movaliren_c.specs.Items.{IsWithinWidth, described, item_tree, trees_of, width_after, width_answer};
+ghost use Rattle.movaliren_c.specs.ShortLine.{AllFit, AllHave, FitsAll, FitsItem, HasWidth, IsShortYear, PutsAll, PutsItem, facts_of_local, has_choices, is_frequent, is_usual};
 ghost use Rattle.time_digits.specs.Digits.{fixed};
 ghost use Rattle.time_known.specs.Sink.{Fits, PutsJust};
 
@@ -147,8 +147,9 @@ pub fn write_line(
     requires short { width ≤ 0xffff_ffff }
     requires fits { width ≤ max (length room.old) 128 }
     requires year { IsShortYear value.now }
-    ensures { IsText (described (trees_of texts.now items.now) (Ok value.now)
+    ensures text { IsText (described (trees_of texts.now items.now) (Ok value.now)
         (facts_of_local has_time)) result room.old room.new }
+    ensures within { IsWithinWidth width (length room.old) result }
 {
     if width <= room.len() {
         return Ok(write_in_place(items, texts, value, room));
@@ -168,6 +169,7 @@ fn write_in_place(items: &[Item], texts: &[u8], value: &LocalMoment, room: &mut 
     ensures text { IsText (described (trees_of texts.now items.now) (Ok value.now)
         (facts_of_local has_time)) (Ok result) room.old room.new }
     ensures fits { result ≤ length room.old }
+    ensures within { AllHave result (trees_of texts.now items.now) }
 {
     let mut sink = RoomSink::new(room);
     put_items(&mut sink, items, texts, value);

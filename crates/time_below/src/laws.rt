@@ -12,6 +12,7 @@ ghost use Rattle.time_below.specs.TimeOfDay.{IsTimeOfDay};
 ghost use Rattle.time_below.specs.Offset.{Offset, IsOffset, Settles, settled};
 ghost use Rattle.time_below.specs.Moment.{Moment, DateAndTime, OffsetDateAndTime, IsMoment, IsTimestampSecond, IsNearTimestampSecond, utc_date, utc_time, utc_date_and_time, unix_seconds, local_unix_seconds};
 
+pub mod choices;
 pub mod clones;
 
 use crate::component_range::ComponentRange;

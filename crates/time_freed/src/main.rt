@@ -16,6 +16,9 @@ use time_known::{Iso8601, Rfc2822, Rfc3339, stamp_into};
 /// The lengths of texts: small ones, and one of so many bytes that an allocator maps it alone.
 const LENGTHS: &[usize] = &[33, 1_000, 10_000, 100_000];
 
+/// The lengths of texts that descriptions own.
+const OWNED_LENGTHS: &[usize] = &[33, 1_000];
+
 /// The hour, which a date does not supply.
 const HOUR: Component = Component::Hour24(Hour24 {
     padding: Padding::Zero,
@@ -174,9 +177,19 @@ fn owned_is_right(
 }
 
 /// Whether the texts of every length are right.
-fn lengths_are_right(alloc: Global, value: &OffsetDateTime) -> Result<bool, AllocError> {
+fn borrowed_are_right(alloc: Global, value: &OffsetDateTime) -> Result<bool, AllocError> {
     for &length in LENGTHS {
-        if !borrowed_is_right(alloc, value, length)? || !owned_is_right(alloc, value, length)? {
+        if !borrowed_is_right(alloc, value, length)? {
+            return Ok(false);
+        }
+    }
+    Ok(true)
+}
+
+/// Whether the texts of descriptions that own them are right.
+fn owned_are_right(alloc: Global, value: &OffsetDateTime) -> Result<bool, AllocError> {
+    for &length in OWNED_LENGTHS {
+        if !owned_is_right(alloc, value, length)? {
             return Ok(false);
         }
     }
@@ -223,8 +236,10 @@ fn main(rt: HostRuntime) -> io::Result<()> {
         return println!(rt; "no value");
     };
     let alloc = rt.alloc();
-    let lengths = lengths_are_right(alloc, &value);
-    print_right(&rt, "texts of any length", matches!(&lengths, Ok(true)))?;
+    let borrowed = borrowed_are_right(alloc, &value);
+    print_right(&rt, "borrowed texts", matches!(&borrowed, Ok(true)))?;
+    let owned = owned_are_right(alloc, &value);
+    print_right(&rt, "owned texts", matches!(&owned, Ok(true)))?;
     print_right(
         &rt,
         "bytes that are no text",

@@ -8,7 +8,7 @@ ghost use Rattle.time_below.specs.TimeOfDay.{TimeOfDay};
 
 use crate::component_range::ComponentRange;
 use crate::date::Date;
-use crate::format_description::{Component, Metadata};
+use crate::format_description::{Component, Group, Layer, Metadata};
 use crate::month::Month;
 use crate::offset_date_time::OffsetDateTime;
 use crate::period::Period;
@@ -51,13 +51,21 @@ pub fn clones_of_refusals(range: ComponentRange, copy: ComponentRange)
         → range_refusal copy ≡ range_refusal range }
 {}
 
-/// A clone of a component has the same choices, and one of what is known of a text is the same.
-pub fn clones_of_descriptions(
+/// A clone of a component has the same choices, one of a group or of what is known of a text is the same,
+/// and so is one of the layer at the head of a description.
+pub fn clones_of_descriptions<T>(
     component: Component,
     other: Component,
+    group: Group,
+    group_copy: Group,
     metadata: Metadata,
     copy: Metadata,
+    layer: Layer<'_, T>,
+    layer_copy: Layer<'_, T>,
 )
+    ensures layer { ⟦<Layer<'static, T> as Clone>⟧.is_clone layer.entry layer_copy.entry
+        → layer_copy.entry ≡ layer.entry }
+    ensures group { ⟦<Group as Clone>⟧.is_clone group group_copy → group_copy ≡ group }
     ensures component { ⟦<Component as Clone>⟧.is_clone component other → other ≡ component }
     ensures metadata { ⟦<Metadata as Clone>⟧.is_clone metadata copy → copy ≡ metadata }
 {}

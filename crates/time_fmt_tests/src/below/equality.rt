@@ -2,7 +2,12 @@
 use crate::texts::{DAY, assert_same, assert_that};
 use crate::values::wednesday;
 use std::default::Default;
-use time_below::format_description::{FormatDescriptionV3Inner, Metadata};
+use time_below::format_description::{
+    Component, FormatDescriptionV3Inner, Group, Layer, Metadata,
+};
+use time_below::laws::choices::{
+    clones_of_dates, clones_of_deprecated, clones_of_kinds, clones_of_times, clones_of_years,
+};
 use time_below::laws::clones::{
     clones_of_descriptions, clones_of_names, clones_of_refusals, clones_of_values,
 };
@@ -17,8 +22,8 @@ use time_digits::laws::{
     ri8_equality, ri16_equality, ri32_equality, ru8_equality, ru16_equality, ru32_equality,
 };
 use time_digits::{ri8, ri16, ri32, ru8, ru16, ru32};
-use time_fmt::laws::{errors_give_back_what_they_hold, errors_hold_what_they_are_made_of};
-use time_fmt::{Error, Format, Refused};
+use time_fmt::laws::{clones_of_lists, errors_give_back_what_they_hold, errors_hold_what_they_are_made_of};
+use time_fmt::{BorrowedItems, Error, Format, Literal, OwnedItems, Refused};
 use time_provide::laws::{
     date_state_equality, states_agree_with_their_values, states_keep_what_they_held,
     values_supply_their_components,
@@ -90,7 +95,26 @@ fn each_law_of_clones_is_called(_rt: HostRuntime) {
     let range = ComponentRange::conditional("day");
     clones_of_refusals(range, range);
     let nothing = Metadata::default();
-    clones_of_descriptions(DAY, DAY, nothing, nothing);
+    let text = Layer::<Component>::Text("a");
+    clones_of_descriptions(
+        DAY,
+        DAY,
+        Group::Date,
+        Group::Date,
+        nothing,
+        nothing,
+        text,
+        text,
+    );
+    let borrowed = BorrowedItems(&[]);
+    let owned = OwnedItems(&[]);
+    let literal = Literal(*b"a");
+    clones_of_lists(borrowed, owned, literal, borrowed, owned, literal);
+    clones_of_dates();
+    clones_of_years();
+    clones_of_times();
+    clones_of_deprecated();
+    clones_of_kinds();
 }
 
 #[test]
