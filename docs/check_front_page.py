@@ -66,7 +66,7 @@ COMMANDS = {
     "(cd crates/movaliren_c && rt lib) && make -C bindings/c install PREFIX=$HOME/.local":
         has("bindings/c/Makefile", "install: "),
     "export PKG_CONFIG_PATH=$HOME/.local/lib/pkgconfig LD_RUN_PATH=$HOME/.local/lib":
-        has("bindings/c/Makefile", "$(LIBDIR)/pkgconfig"),
+        has("bindings/c/Makefile", "$(TO_LIB)/pkgconfig"),
     "cc bindings/c/log.c -pthread $(pkg-config --cflags --libs movaliren)":
         has("bindings/c/log.c", "cc log.c -pthread $(pkg-config --cflags --libs movaliren)"),
     "(cd crates/movaliren_c && rt lib) && (cd bindings/rust && cargo run --offline --example show)":
