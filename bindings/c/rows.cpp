@@ -1,0 +1,154 @@
+// What movaliren.hpp gives: texts of time points of each kind of duration, errors, streams, descriptions, and
+// std::format where the library has it. Expected texts are the standards' examples and those of strftime.
+#include <cmath>
+#include <cstdio>
+#include <ctime>
+#include <iostream>
+#include <movaliren.hpp>
+#include <random>
+#include <sstream>
+
+using namespace std::chrono;
+using movaliren::errc;
+
+static int failed = 0;
+
+static void expect(std::string_view what, std::string_view text, std::string_view wanted)
+{
+    if (text != wanted) {
+        failed++;
+        std::cout << what << ": \"" << text << "\", not \"" << wanted << "\"\n";
+    }
+}
+
+static void expect_error(std::string_view what, std::error_code error, errc wanted)
+{
+    expect(what, error.message(), make_error_code(wanted).message());
+    if (error != wanted) {
+        failed++;
+        std::cout << what << ": another error\n";
+    }
+}
+
+template <class Duration> static movaliren::sys_time<Duration> at(Duration since)
+{
+    return movaliren::sys_time<Duration>(since);
+}
+
+static void texts()
+{
+    // RFC 3339, section 5.8, and RFC 2822, appendix A.1.1.
+    expect("centiseconds", movaliren::rfc3339(at(milliseconds(482196050520))).value(), "1985-04-12T23:20:50.52Z");
+    expect("an offset", movaliren::rfc3339(at(seconds(851042397)), hours(-8)).value(), "1996-12-19T16:39:57-08:00");
+    expect("RFC 2822", movaliren::rfc2822(at(seconds(880127706)), hours(-6)).value(),
+        "Fri, 21 Nov 1997 09:55:06 -0600");
+    expect("RFC 2822 in UTC", movaliren::rfc2822(at(minutes(14668795))).value(), "Fri, 21 Nov 1997 15:55:00 +0000");
+    expect("three decimals", movaliren::iso8601(at(milliseconds(879350106120)), 3).value(), "1997-11-12T15:55:06.120Z");
+    expect("a stamp", movaliren::stamp(at(nanoseconds(1))).value(), "1970-01-01T00:00:00.000000001Z");
+    const movaliren_iso_config date = { MOVALIREN_ISO_DATE, MOVALIREN_ISO_WEEK, 0, 0, 0, 1, 0, 0 };
+    expect("a week date", movaliren::iso8601(at(hours(0)), date).value(), "1970-W01-4");
+    const movaliren_moment moment = { 1937, 870000000, 1, 1, 12, 0, 27, 0, 20, 0 };
+    expect("a moment", movaliren::rfc3339(moment).value(), "1937-01-01T12:00:27.87+00:20");
+    expect("a moment by RFC 2822", movaliren::rfc2822(moment).value(), "Fri, 01 Jan 1937 12:00:27 +0020");
+    expect("a moment by a week date", movaliren::iso8601(moment, date).value(), "1936-W53-5");
+}
+
+static void durations()
+{
+    using picoseconds = duration<std::int64_t, std::pico>;
+    expect("hours", movaliren::rfc3339(at(hours(-1))).value(), "1969-12-31T23:00:00Z");
+    expect("below 1970", movaliren::rfc3339(at(milliseconds(-1))).value(), "1969-12-31T23:59:59.999Z");
+    expect("rounded down", movaliren::rfc3339(at(picoseconds(1999))).value(), "1970-01-01T00:00:00.000000001Z");
+    expect("rounded down below 1970", movaliren::rfc3339(at(picoseconds(-1))).value(), "1969-12-31T23:59:59.999999999Z");
+    expect("a double", movaliren::rfc3339(at(duration<double>(-0.25))).value(), "1969-12-31T23:59:59.75Z");
+    expect("nearly a second", movaliren::rfc3339(at(duration<long double>(std::nextafter(1.0L, 0.0L)))).value(),
+        "1970-01-01T00:00:00.999999999Z");
+    using gregorian_years = duration<std::int64_t, std::ratio<31556952>>;
+    expect_error("years", movaliren::rfc3339(at(gregorian_years(INT64_MAX))).error(), errc::moment_seconds);
+    expect_error("no number", movaliren::rfc3339(at(duration<double>(std::nan("")))).error(), errc::moment_seconds);
+    expect_error("infinity", movaliren::rfc3339(at(duration<double>(INFINITY))).error(), errc::moment_seconds);
+}
+
+static void errors()
+{
+    const auto far = movaliren::rfc2822(at(seconds(-2208988801)));
+    expect_error("the year 1899", far.error(), errc::no_place_for_year);
+    expect("an error's text", far.view(), "");
+    expect("an error's category", far.error().category().name(), "movaliren");
+    expect_error("an offset of 26 hours", movaliren::rfc3339(at(seconds(0)), hours(26)).error(), errc::offset_hours);
+    if (far || movaliren::rfc3339(at(seconds(0))).error()) {
+        failed++;
+        std::cout << "an error is a text, or a text an error\n";
+    }
+    try {
+        (void)far.value();
+        failed++;
+    } catch (const std::system_error &error) {
+        expect_error("thrown", error.code(), errc::no_place_for_year);
+    }
+    std::ostringstream out;
+    out << movaliren::rfc3339(at(seconds(0)));
+    expect("a stream", out.str(), "1970-01-01T00:00:00Z");
+    out << far;
+    expect("a stream after an error", out.fail() ? "failed" : "well", "failed");
+}
+
+static void descriptions()
+{
+    const auto day = movaliren::description().add(MOVALIREN_DAY, MOVALIREN_NO_PADDING).add(" of ").add(MOVALIREN_MONTH_LONG);
+    expect("a description", day.format(at(seconds(880127706))), "21 of November");
+    const movaliren_moment moment = { 1937, 0, 1, 1, 12, 0, 27, 0, 20, 0 };
+    expect("of a moment", day.format(moment), "1 of January");
+    expect("its width", std::to_string(day.width()), "15");
+    expect("nothing", movaliren::description().format(moment), "");
+    try {
+        movaliren::description().add(static_cast<movaliren_kind>(99)).format(moment);
+        failed++;
+    } catch (const std::system_error &error) {
+        expect_error("kind 99", error.code(), errc::bad_item);
+    }
+}
+
+// Random moments of the years 1000 to 9999 have the texts of strftime.
+static void random_moments()
+{
+    std::mt19937_64 random(20261126);
+    for (int row = 0; row < 10000; row++) {
+        const std::time_t second = static_cast<std::time_t>(random() % 284013820800u) - 30610224000;
+        const auto microsecond = static_cast<long>(random() % 1000000);
+        char text[64];
+        std::tm parts;
+        gmtime_r(&second, &parts);
+        auto n = std::strftime(text, sizeof text, "%Y-%m-%dT%H:%M:%S", &parts);
+        std::snprintf(text + n, sizeof text - n, ".%03ldZ", microsecond / 1000);
+        expect("a random moment", movaliren::iso8601(at(seconds(second) + microseconds(microsecond)), 3).value(), text);
+        if (failed)
+            return;
+    }
+}
+
+static void formatted()
+{
+#ifdef __cpp_lib_format
+    expect("std::format", std::format("{:>24}", movaliren::rfc3339(at(seconds(0)))), "    1970-01-01T00:00:00Z");
+    try {
+        (void)std::format("{}", movaliren::rfc2822(at(seconds(-2208988801))));
+        failed++;
+    } catch (const std::format_error &error) {
+        expect("std::format of an error", error.what(), make_error_code(errc::no_place_for_year).message());
+    }
+    std::cout << "std::format: checked\n";
+#endif
+}
+
+int main()
+{
+    texts();
+    durations();
+    errors();
+    descriptions();
+    random_moments();
+    formatted();
+    std::cout << "rows of C++: " << failed << " failed\n";
+    return failed != 0;
+}
