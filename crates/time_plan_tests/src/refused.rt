@@ -1,5 +1,6 @@
 //! Refusals, and bytes that are no UTF-8.
 use crate::texts::{DAY, HOUR, MINUTE, MONTH, SECOND, YEAR, assert_same, example};
+use std::alloc::{AllocError, Global};
 use std::default::Default;
 use std::test::Fail;
 use time_below::format_description::{BorrowedFormatItem as Item, Component};
@@ -29,6 +30,31 @@ fn is_unsupplied(answer: Result<usize, Format>) -> bool {
 /// Whether a component was refused whose number is outside its range.
 fn is_out_of_range(answer: Result<usize, Format>) -> bool {
     matches!(answer, Err(Format::ComponentRange(_)))
+}
+
+/// The plan, which is made once more after a failed allocation.
+fn plan_at_last(alloc: Global) -> Result<Plan, AllocError> {
+    match Plan::of_items(alloc, DATE_AND_TIME) {
+        Ok(plan) => Ok(plan),
+        Err(_) => Plan::of_items(alloc, DATE_AND_TIME),
+    }
+}
+
+/// The tests are also run with one allocation failing, each in turn: this one then passes at the second try.
+#[test]
+fn a_failed_allocation_does_not_hinder_the_next_call(rt: HostRuntime) -> Result<(), Fail> {
+    let plan = plan_at_last(rt.alloc())?;
+    let value = example(&rt);
+    let mut output = Vec::new(rt.alloc());
+    let mut state = DateState::default();
+    let first = plan.format_into(&mut output, &value, &mut state);
+    if first.is_err() {
+        assert_same(&rt, matches!(first, Err(Format::OutOfMemory)), true);
+        assert_same(&rt, output.len(), 0);
+        plan.format_into(&mut output, &value, &mut state)?;
+    }
+    assert_same(&rt, output.as_slice(), b"1997-11-12 09:55:06".as_slice());
+    Ok(())
 }
 
 #[test]
