@@ -1,10 +1,10 @@
 //! Refusals, and bytes that are no UTF-8.
-use crate::texts::{DAY, HOUR, MINUTE, MONTH, SECOND, YEAR, assert_same, example};
+use crate::texts::{DAY, HOUR, MINUTE, MONTH, SECOND, YEAR, assert_same, date, example};
 use std::alloc::{AllocError, Global};
 use std::default::Default;
 use std::test::Fail;
+use time_below::Month;
 use time_below::format_description::{BorrowedFormatItem as Item, Component};
-use time_below::{Date, Month};
 use time_fmt::{ComputeMetadata, DateState, Format, Formattable, parts};
 use time_plan::Plan;
 
@@ -80,7 +80,7 @@ fn a_year_past_9999_is_refused_by_its_component(rt: HostRuntime) -> Result<(), F
         Item::Component(year),
     ];
     let plan = Plan::of_items(rt.alloc(), &items)?;
-    let date = Date::from_calendar_date(10_000, Month::May, 3).expect(&rt, "a date");
+    let date = date(&rt, 10_000, Month::May, 3);
     let mut output = Vec::new(rt.alloc());
     let of_date = plan.format_into(&mut output, &date, &mut DateState::default());
     assert_same(&rt, is_out_of_range(of_date), true);
