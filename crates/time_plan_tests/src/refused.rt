@@ -40,7 +40,7 @@ fn plan_at_last(alloc: Global) -> Result<Plan, AllocError> {
     }
 }
 
-/// The tests are also run with one allocation failing, each in turn: this one then passes at the second try.
+/// Under `rt try --test --fail-alloc N` one allocation fails, and each call here is made once more.
 #[test]
 fn a_failed_allocation_does_not_hinder_the_next_call(rt: HostRuntime) -> Result<(), Fail> {
     let plan = plan_at_last(rt.alloc())?;
