@@ -25,7 +25,7 @@ from typing import NamedTuple
 
 HERE = pathlib.Path(__file__).resolve().parent
 TOP = HERE.parent
-LIBRARIES = "time_below time_digits time_provide time_fmt time_known time_plan"
+LIBRARIES = "time_below time_digits time_provide time_fmt time_known time_describe time_plan"
 COUNTED = 640, 1_920
 TIMED = 100_000, 500_000
 GROWN = 10, 30

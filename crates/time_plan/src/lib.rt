@@ -4,9 +4,11 @@
 mod flatten;
 pub mod laws;
 mod literal;
+mod parse;
 mod plan;
 mod shown;
 mod step;
 mod write;
 
 pub use plan::Plan;
+pub use time_describe::{InvalidDescription, InvalidStrftime};

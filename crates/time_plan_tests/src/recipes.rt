@@ -11,7 +11,7 @@ use time_below::format_description::Component::{
 };
 use time_fmt::Format;
 use time_fmt::parts::*;
-use time_plan::Plan;
+use time_plan::{InvalidDescription, Plan};
 
 /// The description of times such as `2026-11-22 09:55:06`, made once.
 pub fn plan_of_times(alloc: Global) -> Result<Plan, AllocError> {
@@ -31,6 +31,11 @@ pub fn plan_of_times(alloc: Global) -> Result<Plan, AllocError> {
             Item::Component(Second(SECOND)),
         ],
     )
+}
+
+/// The description that a configuration names, such as `[day]/[month]/[year]`, made once.
+pub fn plan_of_text(alloc: Global, text: &str) -> Result<Plan, InvalidDescription> {
+    Plan::parse(alloc, text.as_bytes())
 }
 
 /// Appends the times of all moments by it, a line each.

@@ -1,9 +1,10 @@
 //! Refusals, and bytes that are no UTF-8.
-use crate::texts::{DAY, HOUR, MINUTE, MONTH, SECOND, YEAR, assert_same, example};
+use crate::texts::{DAY, HOUR, MINUTE, MONTH, SECOND, YEAR, assert_same, date, example};
+use std::alloc::{AllocError, Global};
 use std::default::Default;
 use std::test::Fail;
+use time_below::Month;
 use time_below::format_description::{BorrowedFormatItem as Item, Component};
-use time_below::{Date, Month};
 use time_fmt::{ComputeMetadata, DateState, Format, Formattable, parts};
 use time_plan::Plan;
 
@@ -31,6 +32,31 @@ fn is_out_of_range(answer: Result<usize, Format>) -> bool {
     matches!(answer, Err(Format::ComponentRange(_)))
 }
 
+/// The plan, which is made once more after a failed allocation.
+fn plan_at_last(alloc: Global) -> Result<Plan, AllocError> {
+    match Plan::of_items(alloc, DATE_AND_TIME) {
+        Ok(plan) => Ok(plan),
+        Err(_) => Plan::of_items(alloc, DATE_AND_TIME),
+    }
+}
+
+/// Under `rt try --test --fail-alloc N` one allocation fails, and each call here is made once more.
+#[test]
+fn a_failed_allocation_does_not_hinder_the_next_call(rt: HostRuntime) -> Result<(), Fail> {
+    let plan = plan_at_last(rt.alloc())?;
+    let value = example(&rt);
+    let mut output = Vec::new(rt.alloc());
+    let mut state = DateState::default();
+    let first = plan.format_into(&mut output, &value, &mut state);
+    if first.is_err() {
+        assert_same(&rt, matches!(first, Err(Format::OutOfMemory)), true);
+        assert_same(&rt, output.len(), 0);
+        plan.format_into(&mut output, &value, &mut state)?;
+    }
+    assert_same(&rt, output.as_slice(), b"1997-11-12 09:55:06".as_slice());
+    Ok(())
+}
+
 #[test]
 fn what_the_value_lacks_is_refused_behind_the_text_before_it(rt: HostRuntime) -> Result<(), Fail> {
     let plan = Plan::of_items(rt.alloc(), DATE_AND_TIME)?;
@@ -54,7 +80,7 @@ fn a_year_past_9999_is_refused_by_its_component(rt: HostRuntime) -> Result<(), F
         Item::Component(year),
     ];
     let plan = Plan::of_items(rt.alloc(), &items)?;
-    let date = Date::from_calendar_date(10_000, Month::May, 3).expect(&rt, "a date");
+    let date = date(&rt, 10_000, Month::May, 3);
     let mut output = Vec::new(rt.alloc());
     let of_date = plan.format_into(&mut output, &date, &mut DateState::default());
     assert_same(&rt, is_out_of_range(of_date), true);

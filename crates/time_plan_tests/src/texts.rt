@@ -27,12 +27,23 @@ pub(crate) fn assert_same<T: PartialEq + Debug + Copy>(rt: &impl Abort, found: T
     assert_eq!(rt; found, wanted);
 }
 
+/// The date of a day that its month has.
+pub(crate) fn date(rt: &impl Abort, year: i32, month: Month, day: u8) -> Date {
+    let Ok(date) = Date::from_calendar_date(year, month, day) else {
+        panic!(rt; "no such date");
+    };
+    date
+}
+
 /// 1997-11-12 9:55:06.123456789 -06:30, a Wednesday.
 pub(crate) fn example(rt: &impl Abort) -> OffsetDateTime {
-    let date = Date::from_calendar_date(1997, Month::November, 12).expect(rt, "a date");
-    let time = Time::from_hms_nano(9, 55, 6, 123_456_789).expect(rt, "a time");
-    let offset = UtcOffset::from_hms(-6, -30, 0).expect(rt, "an offset");
-    OffsetDateTime::new_in_offset(date, time, offset)
+    let Ok(time) = Time::from_hms_nano(9, 55, 6, 123_456_789) else {
+        panic!(rt; "no such time");
+    };
+    let Ok(offset) = UtcOffset::from_hms(-6, -30, 0) else {
+        panic!(rt; "no such offset");
+    };
+    OffsetDateTime::new_in_offset(date(rt, 1997, Month::November, 12), time, offset)
 }
 
 /// Compares the text of the example by a description.

@@ -1,7 +1,8 @@
 //! The recipe's text.
-use super::{append_times, plan_of_times};
-use crate::texts::{assert_same, example};
+use super::{append_times, plan_of_text, plan_of_times};
+use crate::texts::{assert_same, assert_text, example};
 use std::test::Fail;
+use time_plan::{InvalidDescription, Plan};
 
 #[test]
 fn the_recipe_has_its_text(rt: HostRuntime) -> Result<(), Fail> {
@@ -11,5 +12,20 @@ fn the_recipe_has_its_text(rt: HostRuntime) -> Result<(), Fail> {
     append_times(&mut lines, &plan, &moments)?;
     let wanted = "1997-11-12 09:55:06\n1997-11-12 09:55:06\n";
     assert_same(&rt, lines.as_slice(), wanted.as_bytes());
+    Ok(())
+}
+
+#[test]
+fn a_text_has_a_plan_or_its_fault(rt: HostRuntime) -> Result<(), Fail> {
+    let plan = plan_of_text(rt.alloc(), "[year]-[month]-[day] [hour]:[minute]:[second]")?;
+    assert_text(&rt, rt.alloc(), &plan, b"1997-11-12 09:55:06")?;
+    let by_strftime = Plan::parse_strftime(rt.alloc(), b"%d/%b/%Y:%H:%M:%S %z")?;
+    assert_text(&rt, rt.alloc(), &by_strftime, b"12/Nov/1997:09:55:06 -0630")?;
+    let fault = plan_of_text(rt.alloc(), "[day]/[mnth]");
+    assert_same(
+        &rt,
+        matches!(fault, Err(InvalidDescription::Invalid { index: 7, .. })),
+        true,
+    );
     Ok(())
 }

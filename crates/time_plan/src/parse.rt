@@ -1,0 +1,58 @@
+//! Plans of descriptions that are texts.
+ghost use Rattle.std.specs.Prelude.{length, IfOk, IfErr};
+ghost use Rattle.std.specs.Result.{IsOkAnd};
+ghost use Rattle.time_describe.specs.Description as brackets;
+ghost use Rattle.time_describe.specs.Reading as reading;
+ghost use Rattle.time_describe.specs.Strftime as strftime;
+ghost use Rattle.time_describe.specs.StrftimeOutcome as conversions;
+ghost use Rattle.time_fmt.specs.Laws.{Means};
+
+use crate::plan::Plan;
+use std::alloc::Global;
+use time_describe::{InvalidDescription, InvalidStrftime, parse_owned, parse_strftime_owned};
+use time_fmt::{ComputeMetadata, Formattable};
+
+impl Plan {
+    /// The plan of a text in the syntax of `time`'s format descriptions, version 2, as
+    /// `[year]-[month]-[day]`.
+    ///
+    /// An error says the first fault and the index of its byte, or that an allocation failed.
+    pub fn parse(alloc: Global, text: &[u8]) -> Result<Plan, InvalidDescription>
+        ensures means { IfOk result (λ plan. IsOkAnd (brackets.tree_of (reading.described text.now))
+            (Means
+            (⟦<Plan as Formattable>⟧.outcome_of plan)
+            (⟦<Plan as ComputeMetadata>⟧.width_of plan)
+            (⟦<Plan as ComputeMetadata>⟧.is_guaranteed plan))) }
+        ensures says { IfErr result (brackets.Says (length text.now) (reading.described text.now)) }
+        ensures inside { IfErr result (brackets.IsWithin (length text.now)) }
+    {
+        match parse_owned(alloc, text) {
+            Ok(item) => match Plan::of(alloc, &item) {
+                Ok(plan) => Ok(plan),
+                Err(_) => Err(InvalidDescription::OutOfMemory),
+            },
+            Err(error) => Err(error),
+        }
+    }
+
+    /// The plan of a text in the syntax of strftime, as `%Y-%m-%d`.
+    ///
+    /// An error says the first fault and the index of its byte, or that an allocation failed.
+    pub fn parse_strftime(alloc: Global, text: &[u8]) -> Result<Plan, InvalidStrftime>
+        ensures means { IfOk result (λ plan. IsOkAnd (conversions.tree_of (strftime.described text.now))
+            (Means
+            (⟦<Plan as Formattable>⟧.outcome_of plan)
+            (⟦<Plan as ComputeMetadata>⟧.width_of plan)
+            (⟦<Plan as ComputeMetadata>⟧.is_guaranteed plan))) }
+        ensures says { IfErr result (conversions.Says (length text.now) (strftime.described text.now)) }
+        ensures inside { IfErr result (conversions.IsWithin (length text.now)) }
+    {
+        match parse_strftime_owned(alloc, text) {
+            Ok(item) => match Plan::of(alloc, &item) {
+                Ok(plan) => Ok(plan),
+                Err(_) => Err(InvalidStrftime::OutOfMemory),
+            },
+            Err(error) => Err(error),
+        }
+    }
+}
