@@ -6,7 +6,6 @@ use Rattle.time_below.specs.Tree.{Tree, of_component}
 use Rattle.time_below.specs.declared.format_description.component.Component.{Component}
 use Rattle.time_describe.specs.declared.fault.Fault.{Fault}
 use Rattle.time_describe.specs.declared.fault.Reason.{Reason}
-use Rattle.time_describe.specs.declared.fault.Reason.TheVariants.{UnclosedBracket, InvalidEscape, MissingName, UnexpectedByte, TooDeep, TooManyItems}
 use Rattle.time_describe.specs.declared.pieces.Nest.{Nest}
 use Rattle.time_describe.specs.declared.pieces.Nest.TheVariants as nests
 use Rattle.time_describe.specs.Literal.{literal_of}

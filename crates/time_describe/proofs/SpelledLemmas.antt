@@ -1,22 +1,22 @@
 -- What is described is spelled by parts of the grammar.
 use Rattle.std.proofs.lemmas.Bool.{eqb-true, ltb-true}
 use Rattle.std.proofs.lemmas.List.{append-nil}
-use Rattle.std.proofs.Common.{◌≡◌, ◌≢◌, ℕ, suc, ◌+◌, ◌<◌, Bool, true, false, eqb, ltb, ◌&&◌, ◌⊎◌, inl, inr, List, [], ◌∷◌, ◌++◌, length, Option, Some, None, Result, Ok, Err, refl, sym, ap, ◌∙◌, subst, append_assoc, arith}
+use Rattle.std.proofs.Common.{◌≡◌, ◌≢◌, ℕ, ◌+◌, ◌<◌, Bool, true, false, eqb, ltb, ◌&&◌, ◌⊎◌, inl, inr, List, [], ◌∷◌, ◌++◌, length, Option, Some, None, Result, Ok, Err, refl, sym, ap, ◌∙◌, subst, append_assoc}
 use Rattle.std.specs.Char.{is_ascii_whitespace}
 use Rattle.std.specs.List.{AllByRecursion}
 use Rattle.time_below.specs.Conversion.{current_component}
 use Rattle.time_below.specs.declared.format_description.component.Component.{Component}
-use Rattle.time_below.specs.Tree.{Tree, trees, of_component, all_of, first_of}
+use Rattle.time_below.specs.Tree.{Tree, trees, of_component, all_of}
 use Rattle.time_describe.specs.declared.fault.Fault.{Fault}
 use Rattle.time_describe.specs.declared.fault.Reason.{Reason}
 use Rattle.time_describe.specs.declared.pieces.Nest.{Nest}
 use Rattle.time_describe.specs.declared.pieces.Nest.TheVariants as nests
-use Rattle.time_describe.specs.Grammar.{Word, Inside, Parts, done, plain, escaped, in_brackets, with_lists, Lists, no_list, list, words, spelling, lists_spelling, AreWhite, IsWord, IsChoice, IsChosen, IsInside, IsApart, is_deep, Means, ListsMean}
+use Rattle.time_describe.specs.Grammar.{Word, Parts, done, plain, escaped, in_brackets, with_lists, Lists, no_list, list, words, spelling, lists_spelling, AreWhite, IsWord, IsChoice, IsChosen, IsApart, is_deep, Means, ListsMean}
 use Rattle.time_describe.specs.Literal.{literal_of}
 use Rattle.time_describe.specs.Marks.{past}
 use Rattle.time_describe.specs.Names.{named}
 use Rattle.time_describe.specs.Pieces.{ends_literal}
-use Rattle.time_describe.specs.Reading.{◌>>=◌, Frame, Place, outside, escape, brackets, between, read, at_fault, of_name, with_word, keyword, nest_of, word_place, ended, is_whole, finished, nested, takes_list, after_list, with_literal, is_special, is_escapable, ends_word, within_limit, IsWithinLimit, described}
+use Rattle.time_describe.specs.Reading.{◌>>=◌, Frame, Place, outside, escape, brackets, between, read, at_fault, of_name, with_word, keyword, word_place, ended, is_whole, nested, takes_list, after_list, with_literal, is_special, is_escapable, ends_word, within_limit, IsWithinLimit, described}
 use Rattle.time_describe.proofs.CaseLemmas.{by_test}
 
 -- what holds where reading gives these items

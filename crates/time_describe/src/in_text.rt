@@ -1,9 +1,10 @@
 //! Errors, displayed beside the text that was read.
-ghost use Rattle.std.specs.Prelude.{◌≡◌, ◌≤◌, length};
+ghost use Rattle.std.specs.Prelude.{◌≡◌, ◌≤◌, ℕ, length, take, drop, IfSome};
 
 use crate::description::InvalidDescription;
 use crate::fault::Reason;
 use crate::pieces::word_len;
+use std::error::Error;
 use std::{fmt, str};
 
 /// The longest word that is displayed, in bytes.
@@ -35,13 +36,18 @@ fn wrong_len(reason: Reason, bytes: &[u8]) -> usize
 }
 
 /// The word at an index of a text that a reason is about.
-fn wrong_word(reason: Reason, text: &[u8], index: usize) -> Option<&str> {
+fn wrong_word(reason: Reason, text: &[u8], index: usize) -> Option<&str>
+    ensures { IfSome result (λ word. (n : ℕ) × (word.now ≡ take n (drop index text.now))) }
+{
     let rest = text.get(index..)?;
     let word = &rest[..wrong_len(reason, rest)];
     if word.is_empty() || word.len() > LONGEST_WORD {
         return None;
     }
-    str::from_utf8(word).ok()
+    match str::from_utf8(word) {
+        Ok(word) => Some(word),
+        Err(_) => None,
+    }
 }
 
 impl fmt::Display for InText<'_> {
@@ -54,3 +60,5 @@ impl fmt::Display for InText<'_> {
         write!(f, "{}", self.error)
     }
 }
+
+impl Error for InText<'_> {}

@@ -19,6 +19,3 @@ pub use fault::Reason;
 pub use in_text::InText;
 pub use strftime::fault::StrftimeReason;
 pub use strftime::{InvalidStrftime, parse_strftime_owned};
-
-#[cfg(test)]
-mod tests;

@@ -4,14 +4,13 @@
 //! `%:z`. A number takes one flag: `-` for no padding, `_` for spaces, `0` for zeros. A year has at
 //! least four digits, unless a flag says otherwise.
 ghost use Rattle.std.specs.Prelude.{◌≡◌, ◌∷◌, ◌++◌, ◌<◌, [], length, map, Ok, IfOk, IfErr, OnOk};
-ghost use Rattle.time_below.specs.Tree.{owned_tree, of_component};
+ghost use Rattle.time_below.specs.Tree.{owned_tree};
 ghost use Rattle.time_describe.specs.Conversions.{composed, offset};
-ghost use Rattle.time_describe.specs.Literal.{literal_of};
 ghost use Rattle.time_describe.specs.Strftime.{described, read};
 ghost use Rattle.time_describe.specs.StrftimeOutcome.{items_of_part, tree_of, Says, IsWithin, Gives, GoesOn};
 
-use crate::building::put_component;
-use crate::literal::{MOST_ITEMS, literal};
+use crate::building::{put_component, put_literal};
+use crate::literal::MOST_ITEMS;
 use crate::pieces::first_and_rest;
 use std::alloc::{AllocError, Global};
 use thiserror::Error;
@@ -29,7 +28,7 @@ use part::{Part, component_of, first_part};
 #[derive(Clone, Copy, Debug, PartialEq, Eq, Error)]
 pub enum InvalidStrftime {
     /// An allocation failed.
-    #[error("out of memory")]
+    #[error("memory could not be reserved")]
     OutOfMemory,
     /// The text is no description: what is wrong first, and the index of its byte.
     #[error("{reason} at byte {index}")]
@@ -39,19 +38,6 @@ pub enum InvalidStrftime {
         /// The index of the byte, from 0 on.
         index: usize,
     },
-}
-
-/// Adds a literal.
-fn put_literal(
-    alloc: Global,
-    items: &mut Vec<OwnedFormatItem>,
-    bytes: &[u8],
-) -> Result<(), AllocError>
-    ensures { OnOk result (map owned_tree items.new.items ≡ map owned_tree items.old.items ++ literal_of bytes.now ∷ []) }
-{
-    let item = literal(alloc, bytes)?;
-    items.push(item)?;
-    Ok(())
 }
 
 /// Adds the hours of the offset with their sign, perhaps a colon, and the minutes.

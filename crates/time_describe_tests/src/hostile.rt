@@ -91,9 +91,9 @@ fn reads_long_texts(rt: HostRuntime) -> Result<(), AllocError> {
         let text = repeated(rt.alloc(), bytes, 100_000)?;
         assert_eq!(rt; fault(rt.alloc(), &text), None);
     }
-    let mut text = repeated(rt.alloc(), b"a", 100_000)?;
-    text[0] = b'[';
-    text[99_999] = b']';
+    let mut text = Vec::from_slice(rt.alloc(), b"[")?;
+    text.extend_from_slice(&repeated(rt.alloc(), b"a", 100_000)?)?;
+    text.push(b']')?;
     assert_eq!(rt; fault(rt.alloc(), &text), Some((Reason::UnknownName, 1)));
     let text = repeated(rt.alloc(), b"[day]", 16_384)?;
     assert_eq!(rt; fault(rt.alloc(), &text), None);

@@ -1,7 +1,6 @@
-use Rattle.std.proofs.Common.{◌≡◌, ℕ, ◌+◌, [], ◌∷◌, ◌++◌, length, Option, Some, None, List, sym, ap, ◌∙◌, arith, eq-eqb, ne_eqb}
+use Rattle.std.proofs.Common.{◌≡◌, ℕ, ◌+◌, [], ◌∷◌, length, List, sym, ap, ◌∙◌, arith, eq-eqb, ne_eqb}
 use Rattle.std.proofs.lemmas.Result.{err_from_is_err_and}
-use Rattle.time_below.specs.Tree.{of_component}
-use Rattle.time_describe.specs.Reading.{read, brackets, outside, at_fault, finished}
+use Rattle.time_describe.specs.Reading.{read, brackets, at_fault, finished}
 use Rattle.time_describe.proofs.ReadLemmas.{Word, no_byte, special_byte, closes, closes_wrongly, white_byte, word_read, word_made, word_refused, keyword_read, plain_word}
 use Rattle.time_describe.proofs.pieces.in_brackets.Goals as goal
 
