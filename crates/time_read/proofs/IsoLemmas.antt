@@ -1,5 +1,5 @@
 -- Texts of the default configuration of ISO 8601, of which stamps are some, as texts of RFC 3339.
-use Rattle.std.proofs.Common.{◌≡◌, ℕ, ◌-◌, ◌≤◌, List, [], ◌++◌, length, replicate, get_or}
+use Rattle.std.proofs.Common.{◌≡◌, ℕ, ◌-◌, ◌≤◌, List, [], ◌++◌, replicate, get_or}
 use Rattle.std.proofs.Common.{refl, sym, ap, ap₂, subst, ◌∙◌, arith, append_assoc, inl, inr, true, false, unsigned_abs}
 use Rattle.std.specs.Prelude.{codes}
 use Rattle.std.proofs.lemmas.List.{append-nil}
@@ -74,7 +74,7 @@ minus_zero = record {
   is = refl;
 }
 
-one_offset : {o p : Offset} (text : List ℕ) → SignedOffset 23 ColonMinute o text → SignedOffset 23 ColonMinute p text → o ≡ p
+pub one_offset : {o p : Offset} (text : List ℕ) → SignedOffset 23 ColonMinute o text → SignedOffset 23 ColonMinute p text → o ≡ p
 one_offset {o} {p} text f g =
     one_signed 23 ColonMinute (one_after (codes ":") (Digits 2) (reads_digits 2).same) text o p f g
 

@@ -10,7 +10,7 @@ use Rattle.std.proofs.lemmas.Str.Parse.{digit_from_value}
 use Rattle.time_known.specs.Rules.{Rule, Digits, Literal, ◌▹◌}
 use Rattle.time_known.proofs.Rules.Texts.{Reads, reads_digits, reads_after, width_literal}
 use Rattle.time_read.specs.Fault.{SpellsSome, Begins, IsFirstFault, IsLetter}
-use Rattle.time_read.specs.Front.{Front, FieldFault, TextFault}
+use Rattle.time_read.specs.Front.{Front, FieldFault}
 use Rattle.time_read.specs.Profiles.{TheLetter}
 use Rattle.time_read.specs.Shapes.{Seq, TheByte, OneDigit, Two, TwoAfter, TensAndUnits, first_unit, last_unit}
 use Rattle.time_read.proofs.Fields.{CanGoOn, begins_first, begins_after, field_as, field_first, field_after, front_as, front_then}

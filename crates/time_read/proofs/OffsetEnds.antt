@@ -349,7 +349,7 @@ z_by profile.Lenient b text (inr h) e = record {
   spelled = inl (refl, refl);
 }
 
-no_small_z : (o : Offset) (b : ℕ) (text : List ℕ) → b ≡ 122 → TimeOffset o (b ∷ text) → ⊥
+pub no_small_z : (o : Offset) (b : ℕ) (text : List ℕ) → b ≡ 122 → TimeOffset o (b ∷ text) → ⊥
 no_small_z o b text h (inl z) = let k : b ≡ 90 = ap (λ t. get_or t 0 0) z.0 in omega arith
 no_small_z o b text h (inr n) = small_not_sign n.0.is_negative (sym h ∙ ap (λ t. get_or t 0 0) (numbers_are n.0))
 

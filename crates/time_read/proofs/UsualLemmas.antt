@@ -9,13 +9,13 @@ use Rattle.std.proofs.lemmas.List.{append-nil, take_all, take-append-drop, lengt
 use Rattle.time_below.specs.Calendar.{IsDayOfMonth, date_of}
 use Rattle.time_below.specs.Offset.{signed_offset}
 use Rattle.time_known.specs.Parts.{FourDigitYear}
-use Rattle.time_known.specs.Rfc3339Grammar.{FullDate, WholeTime, OptionalSecfrac, TimeSecfrac, TimeOffset, Rfc3339Spells, FullTime}
+use Rattle.time_known.specs.Rfc3339Grammar.{FullDate, WholeTime, OptionalSecfrac, TimeSecfrac, TimeOffset, Rfc3339Spells}
 use Rattle.time_known.specs.Rules.{Rule, Digits, Literal, ◌▹◌}
 use Rattle.time_known.specs.Values.{OffsetDateAndTime, TimeOfDay, Offset, utc}
 use Rattle.time_read.specs.Front.{Front}
-use Rattle.time_read.specs.Lenient.{Rfc3339Means, MeansSecfrac, MeansOffset}
+use Rattle.time_read.specs.Lenient.{Rfc3339Means, MeansSecfrac}
 use Rattle.time_read.specs.Profiles.{ReadsAs}
-use Rattle.time_read.specs.Shapes.{Two, DateNumbers, ClockNumbers, sign_byte, HoursAndMinutes, TwoAfter, least_minute}
+use Rattle.time_read.specs.Shapes.{Two, DateNumbers, ClockNumbers, sign_byte, TwoAfter, least_minute}
 use Rattle.time_read.specs.declared.fault.Profile.{Profile}
 use Rattle.time_read.specs.declared.fault.Profile.TheVariants as profile
 use Rattle.time_read.proofs.Fractions.{secfrac}
