@@ -80,9 +80,6 @@ nothing_end text e t = record {
 
 -- ---- `Z`
 
-pub z_to : (text : List ℕ) → Literal [] text → SpellsSome TimeOffset (90 ∷ text)
-z_to text e = record { value = utc; spelled = inl (ap (λ t. 90 ∷ t) e, refl) }
-
 signs : (b : Bool) (rest : List ℕ) → (if b then codes "-" else codes "+") ++ rest ≡ sign_byte b ∷ rest
 signs true rest = refl
 signs false rest = refl

@@ -75,10 +75,6 @@ pub clock_numbers : (h m s : ℕ) {text r1 r2 r3 r4 last : List ℕ} → Front (
 clock_numbers h m s p e q f r =
     front_join (two_digits p) (front_join (byte_at 58 e) (front_join (two_digits q) (front_join (byte_at 58 f) (two_digits r))))
 
--- no fraction, and one
-pub no_fraction_at : (text : List ℕ) → Front (OptionalSecfrac 0) text text
-no_fraction_at text = record { front = []; whole = refl; is = inl (refl, refl) }
-
 pub fraction_at : (text : List ℕ) (count n : ℕ) → AllDigits 10 (take count text) → 1 ≤ count → count ≤ 9 → count ≤ length text
     → n ≡ digits_value 10 (take count text) * 10 ^ (9 - count) → {whole : List ℕ} → whole ≡ 46 ∷ text
     → Front (OptionalSecfrac n) whole (drop count text)
@@ -116,9 +112,6 @@ offset_at b h m {text} {r1} {r2} {r3} p e q f small few some =
     }) where
       all : Front (TwoAfter 58 (least_minute b h) 59 m) r1 r3 → r3 ≡ [] → TwoAfter 58 (least_minute b h) 59 m r1
       all g k = subst (TwoAfter 58 (least_minute b h) 59 m) (sym (g.whole ∙ ap (λ t. g.front ++ t) k ∙ append-nil g.front)) g.is
-
-pub utc_at : {text rest : List ℕ} → text ≡ 90 ∷ rest → rest ≡ [] → TimeOffset utc text
-utc_at e f = inl (e ∙ ap (λ t. 90 ∷ t) f, refl)
 
 -- ---- whole texts
 
