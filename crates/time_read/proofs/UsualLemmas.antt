@@ -11,7 +11,7 @@ use Rattle.time_below.specs.Offset.{signed_offset}
 use Rattle.time_known.specs.Parts.{FourDigitYear}
 use Rattle.time_known.specs.Rfc3339Grammar.{FullDate, WholeTime, OptionalSecfrac, TimeSecfrac, TimeOffset, Rfc3339Spells}
 use Rattle.time_known.specs.Rules.{Rule, Digits, Literal, ◌▹◌}
-use Rattle.time_known.specs.Values.{OffsetDateAndTime, TimeOfDay, Offset, utc}
+use Rattle.time_known.specs.Values.{OffsetDateAndTime, TimeOfDay, Offset}
 use Rattle.time_read.specs.Front.{Front}
 use Rattle.time_read.specs.Lenient.{Rfc3339Means, MeansSecfrac}
 use Rattle.time_read.specs.Profiles.{ReadsAs}
