@@ -15,6 +15,7 @@ use Rattle.time_known.specs.Rfc3339Grammar.{FullDate, TimeSecfrac, TimeOffset, C
 use Rattle.time_known.specs.Rules.{Digits, Literal, ◌▹◌}
 use Rattle.time_known.specs.Stamps.{HasStamp, stamp_text}
 use Rattle.time_known.specs.Values.{OrdinalDate, OffsetDateAndTime, Offset, utc}
+use Rattle.time_read.specs.Profiles.{in_utc}
 use Rattle.time_known.proofs.Rules.Offsets.{one_signed}
 use Rattle.time_known.proofs.Rules.Texts.{one_after, reads_digits, two_zeros}
 use Rattle.time_known.proofs.StampLemmas.{default_is_whole, stamps_are_completed}
@@ -137,9 +138,6 @@ pub iso_is_rfc : (v : OffsetDateAndTime) (text : List ℕ) → IsValue v → uns
 iso_is_rfc v text fits small e = iso_as v text small ((iso8601_is_written default_choices default_is_whole).written text v fits e)
 
 -- stamps
-abbrev pub in_utc : DateAndTime → OffsetDateAndTime
-in_utc v = record { date = v.date; time = v.time; offset = utc }
-
 pub stamp_is_rfc : (v : DateAndTime) (text : List ℕ) → HasStamp v → text ≡ stamp_text v → Rfc3339Spells (in_utc v) text
 stamp_is_rfc v text h e =
     subst (Rfc3339Spells (in_utc v)) (sym e) (iso_is_rfc (in_utc v) (stamp_text v)
