@@ -182,7 +182,7 @@ def changed(text, source):
 
 # ---- differences that docs/DIFFERENCES.md names
 
-def reason_of(text, ours, theirs):
+def reason_of(name, text, theirs):
     """Why one of the crates may differ, or None."""
     if theirs != "no" and re.search(rb"[tz]", text):
         return "small letters"
@@ -190,8 +190,10 @@ def reason_of(text, ours, theirs):
         return "the offset -00:00"
     if theirs != "no" and re.search(rb"\.\d{10}", text):
         return "more than nine decimals"
-    if text[17:19] == b"60":
+    if theirs != "no" and text[17:19] == b"60":
         return "second 60"
+    if name == "time" and theirs != "no" and text[-6:-2] == b"-00:":
+        return "the sign of -00:MM"
     return None
 
 
@@ -222,7 +224,7 @@ def main():
             same = ["ok", words[1], words[2], str(int(words[3]) * 3600 + int(words[4]) * 60)] if words[0] == "ok" else ["no"]
             if line.split() == same:
                 continue
-            reason = reason_of(text, strict, line)
+            reason = reason_of(name, text, line)
             found[name, reason] += 1
             if reason is None:
                 wrong.append((text, name, strict, line))

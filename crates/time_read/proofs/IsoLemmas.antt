@@ -1,5 +1,5 @@
 -- Texts of the default configuration of ISO 8601, of which stamps are some, as texts of RFC 3339.
-use Rattle.std.proofs.Common.{◌≡◌, ℕ, ◌-◌, ◌≤◌, List, [], ◌++◌, length, replicate, get_or}
+use Rattle.std.proofs.Common.{◌≡◌, ℕ, ◌-◌, ◌≤◌, List, [], ◌++◌, replicate, get_or}
 use Rattle.std.proofs.Common.{refl, sym, ap, ap₂, subst, ◌∙◌, arith, append_assoc, inl, inr, true, false, unsigned_abs}
 use Rattle.std.specs.Prelude.{codes}
 use Rattle.std.proofs.lemmas.List.{append-nil}
@@ -15,6 +15,7 @@ use Rattle.time_known.specs.Rfc3339Grammar.{FullDate, TimeSecfrac, TimeOffset, C
 use Rattle.time_known.specs.Rules.{Digits, Literal, ◌▹◌}
 use Rattle.time_known.specs.Stamps.{HasStamp, stamp_text}
 use Rattle.time_known.specs.Values.{OrdinalDate, OffsetDateAndTime, Offset, utc}
+use Rattle.time_read.specs.Profiles.{in_utc}
 use Rattle.time_known.proofs.Rules.Offsets.{one_signed}
 use Rattle.time_known.proofs.Rules.Texts.{one_after, reads_digits, two_zeros}
 use Rattle.time_known.proofs.StampLemmas.{default_is_whole, stamps_are_completed}
@@ -74,7 +75,7 @@ minus_zero = record {
   is = refl;
 }
 
-one_offset : {o p : Offset} (text : List ℕ) → SignedOffset 23 ColonMinute o text → SignedOffset 23 ColonMinute p text → o ≡ p
+pub one_offset : {o p : Offset} (text : List ℕ) → SignedOffset 23 ColonMinute o text → SignedOffset 23 ColonMinute p text → o ≡ p
 one_offset {o} {p} text f g =
     one_signed 23 ColonMinute (one_after (codes ":") (Digits 2) (reads_digits 2).same) text o p f g
 
@@ -137,9 +138,6 @@ pub iso_is_rfc : (v : OffsetDateAndTime) (text : List ℕ) → IsValue v → uns
 iso_is_rfc v text fits small e = iso_as v text small ((iso8601_is_written default_choices default_is_whole).written text v fits e)
 
 -- stamps
-abbrev pub in_utc : DateAndTime → OffsetDateAndTime
-in_utc v = record { date = v.date; time = v.time; offset = utc }
-
 pub stamp_is_rfc : (v : DateAndTime) (text : List ℕ) → HasStamp v → text ≡ stamp_text v → Rfc3339Spells (in_utc v) text
 stamp_is_rfc v text h e =
     subst (Rfc3339Spells (in_utc v)) (sym e) (iso_is_rfc (in_utc v) (stamp_text v)

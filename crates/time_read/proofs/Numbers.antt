@@ -10,7 +10,7 @@ use Rattle.std.proofs.lemmas.Str.Parse.{digit_from_value}
 use Rattle.time_known.specs.Rules.{Rule, Digits, Literal, ◌▹◌}
 use Rattle.time_known.proofs.Rules.Texts.{Reads, reads_digits, reads_after, width_literal}
 use Rattle.time_read.specs.Fault.{SpellsSome, Begins, IsFirstFault, IsLetter}
-use Rattle.time_read.specs.Front.{Front, FieldFault, TextFault}
+use Rattle.time_read.specs.Front.{Front, FieldFault}
 use Rattle.time_read.specs.Profiles.{TheLetter}
 use Rattle.time_read.specs.Shapes.{Seq, TheByte, OneDigit, Two, TwoAfter, TensAndUnits, first_unit, last_unit}
 use Rattle.time_read.proofs.Fields.{CanGoOn, begins_first, begins_after, field_as, field_first, field_after, front_as, front_then}
@@ -71,18 +71,6 @@ pub reads_one : (first last : ℕ) → Reads 1 (OneDigit first last)
 reads_one first last = record {
   width = λ n. record { width = λ text d. ap length d.0 };
   same = λ text m n d e. let h = head_is (48 + m) (48 + n) text d.0 e.0 in omega arith;
-}
-
--- the digit is not there
-pub one_fault : (first last : ℕ) (text : List ℕ) (e : Fault) → first ≤ last → IsFirstFault (SpellsSome (OneDigit first last)) [] text e.expected
-    → length text ≡ e.left → FieldFault 1 (SpellsSome (OneDigit first last)) text e
-one_fault first last text e h f left = record {
-  right = [];
-  rest = text;
-  whole = refl;
-  left = left;
-  short = omega arith;
-  first = f;
 }
 
 pub begins_one : (first last : ℕ) → first ≤ last → Begins (SpellsSome (OneDigit first last)) []
@@ -229,25 +217,6 @@ front_byte b h p = record {
   is = record { front = b ∷ []; rest = p.front; whole = refl; first = refl; second = p.is };
 }
 
--- the byte is not there
-pub byte_fault : (b : ℕ) (text : List ℕ) (e : Fault) → e.expected ≡ expected.Byte b → length text ≡ e.left
-    → ((after : List ℕ) → text ≡ b ∷ after → ⊥) → FieldFault 1 (SpellsSome (TheByte b)) text e
-byte_fault b text e h left none = record {
-  right = [];
-  rest = text;
-  whole = refl;
-  left = left;
-  short = omega arith;
-  first = subst (IsFirstFault (SpellsSome (TheByte b)) [] text) (sym h) (record {
-    begins = record { more = b ∷ []; whole = record { value = tt; spelled = refl } };
-    expected = λ c. (
-      λ g. ap (λ t. get_or t 0 0) g.whole.spelled,
-      λ a. record { more = []; whole = record { value = tt; spelled = ap (λ (x : ℕ). x ∷ []) a } },
-    );
-    found = λ c after s a. none after (s ∙ ap (λ (x : ℕ). x ∷ after) a);
-  });
-}
-
 -- ---- a letter
 
 pub reads_letter : (p : Profile) (l : ℕ) → Reads 1 (TheLetter p l)
@@ -359,9 +328,6 @@ four_to n (a ∷ b ∷ c ∷ x ∷ []) d =
           let t = two_is _ (u ∷ v ∷ []) d in
           (digits_value 10 (u ∷ v ∷ []), (d, (omega arith, omega (arith, t.value, t.tens_fit, t.units_fit))))
 four_to n (a ∷ b ∷ c ∷ x ∷ y ∷ ys) d = absurd (omega (arith, d.count))
-
-abbrev any_two : IsPair 0 99
-any_two = (omega arith, omega arith)
 
 four_goes_on : CanGoOn 2 (Two 0 99) (λ _. Two 0 99)
 four_goes_on = record { width = (reads_two 0 99).width; on = λ n front d. begins_two 0 99 (omega arith, omega arith) }

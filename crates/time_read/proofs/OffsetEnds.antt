@@ -80,9 +80,6 @@ nothing_end text e t = record {
 
 -- ---- `Z`
 
-pub z_to : (text : List ℕ) → Literal [] text → SpellsSome TimeOffset (90 ∷ text)
-z_to text e = record { value = utc; spelled = inl (ap (λ t. 90 ∷ t) e, refl) }
-
 signs : (b : Bool) (rest : List ℕ) → (if b then codes "-" else codes "+") ++ rest ≡ sign_byte b ∷ rest
 signs true rest = refl
 signs false rest = refl
@@ -349,7 +346,7 @@ z_by profile.Lenient b text (inr h) e = record {
   spelled = inl (refl, refl);
 }
 
-no_small_z : (o : Offset) (b : ℕ) (text : List ℕ) → b ≡ 122 → TimeOffset o (b ∷ text) → ⊥
+pub no_small_z : (o : Offset) (b : ℕ) (text : List ℕ) → b ≡ 122 → TimeOffset o (b ∷ text) → ⊥
 no_small_z o b text h (inl z) = let k : b ≡ 90 = ap (λ t. get_or t 0 0) z.0 in omega arith
 no_small_z o b text h (inr n) = small_not_sign n.0.is_negative (sym h ∙ ap (λ t. get_or t 0 0) (numbers_are n.0))
 

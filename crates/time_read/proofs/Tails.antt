@@ -15,7 +15,7 @@ use Rattle.time_known.specs.Rfc3339Grammar.{TimeOffset, TimeSecfrac, OptionalSec
 use Rattle.time_known.specs.Values.{Offset}
 use Rattle.time_read.specs.Fault.{Allows, BeginsOffset, IsLetter, SpellsSome, Begins, IsFirstFault}
 use Rattle.time_read.specs.Front.{Front, TextFault}
-use Rattle.time_read.specs.Lenient.{MeansSecfrac, MeansOffset, IsOffsetFor, IsCutTo}
+use Rattle.time_read.specs.Lenient.{MeansSecfrac, IsOffsetFor}
 use Rattle.time_read.specs.Profiles.{Secfrac, EndOffset, Tail, RestOfOffset, TheLetter}
 use Rattle.time_read.specs.Shapes.{sign_byte, AtFraction}
 use Rattle.time_read.specs.declared.fault.Expected.{Expected}
@@ -218,7 +218,7 @@ after_offset p o text h more =
     let l = offset_leads p o text h in
     subst IsAfterFraction (sym (ap (λ t. t ++ more) l.is)) (after_lead p l.first (l.rest ++ more) l.begins)
 
-after_offset_alone : (p : Profile) (o : Offset) (text : List ℕ) → EndOffset p o text → IsAfterFraction text
+pub after_offset_alone : (p : Profile) (o : Offset) (text : List ℕ) → EndOffset p o text → IsAfterFraction text
 after_offset_alone p o text h = subst IsAfterFraction (append-nil text) (after_offset p o text h [])
 
 -- an offset goes on after each first byte
@@ -228,7 +228,7 @@ lead_more p b (inr (inl e)) = subst (λ x. Begins (SpellsSome (EndOffset p)) (x 
 lead_more p b (inr (inr e)) = subst (λ x. Begins (SpellsSome (EndOffset p)) (x ∷ [])) (sym e) (begins_rest p true)
 
 -- a text that goes on after an optional fraction has one optional fraction
-same_front : (p : Profile) (m n : ℕ) (f g x y : List ℕ) → Secfrac p m f → Secfrac p n g → IsAfterFraction x → IsAfterFraction y
+pub same_front : (p : Profile) (m n : ℕ) (f g x y : List ℕ) → Secfrac p m f → Secfrac p n g → IsAfterFraction x → IsAfterFraction y
     → f ++ x ≡ g ++ y → f ≡ g
 same_front p m n f g x y s t h k e = at (decimals_of p m f s) (decimals_of p n g t) where
   point : (a u v w : List ℕ) → u ≡ [] → AreDecimals p a → IsAfterFraction v → u ++ v ≡ a ++ w → ⊥

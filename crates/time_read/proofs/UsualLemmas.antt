@@ -9,13 +9,13 @@ use Rattle.std.proofs.lemmas.List.{append-nil, take_all, take-append-drop, lengt
 use Rattle.time_below.specs.Calendar.{IsDayOfMonth, date_of}
 use Rattle.time_below.specs.Offset.{signed_offset}
 use Rattle.time_known.specs.Parts.{FourDigitYear}
-use Rattle.time_known.specs.Rfc3339Grammar.{FullDate, WholeTime, OptionalSecfrac, TimeSecfrac, TimeOffset, Rfc3339Spells, FullTime}
+use Rattle.time_known.specs.Rfc3339Grammar.{FullDate, WholeTime, OptionalSecfrac, TimeSecfrac, TimeOffset, Rfc3339Spells}
 use Rattle.time_known.specs.Rules.{Rule, Digits, Literal, ◌▹◌}
-use Rattle.time_known.specs.Values.{OffsetDateAndTime, TimeOfDay, Offset, utc}
+use Rattle.time_known.specs.Values.{OffsetDateAndTime, TimeOfDay, Offset}
 use Rattle.time_read.specs.Front.{Front}
-use Rattle.time_read.specs.Lenient.{Rfc3339Means, MeansSecfrac, MeansOffset}
+use Rattle.time_read.specs.Lenient.{Rfc3339Means, MeansSecfrac}
 use Rattle.time_read.specs.Profiles.{ReadsAs}
-use Rattle.time_read.specs.Shapes.{Two, DateNumbers, ClockNumbers, sign_byte, HoursAndMinutes, TwoAfter, least_minute}
+use Rattle.time_read.specs.Shapes.{Two, DateNumbers, ClockNumbers, sign_byte, TwoAfter, least_minute}
 use Rattle.time_read.specs.declared.fault.Profile.{Profile}
 use Rattle.time_read.specs.declared.fault.Profile.TheVariants as profile
 use Rattle.time_read.proofs.Fractions.{secfrac}
@@ -75,10 +75,6 @@ pub clock_numbers : (h m s : ℕ) {text r1 r2 r3 r4 last : List ℕ} → Front (
 clock_numbers h m s p e q f r =
     front_join (two_digits p) (front_join (byte_at 58 e) (front_join (two_digits q) (front_join (byte_at 58 f) (two_digits r))))
 
--- no fraction, and one
-pub no_fraction_at : (text : List ℕ) → Front (OptionalSecfrac 0) text text
-no_fraction_at text = record { front = []; whole = refl; is = inl (refl, refl) }
-
 pub fraction_at : (text : List ℕ) (count n : ℕ) → AllDigits 10 (take count text) → 1 ≤ count → count ≤ 9 → count ≤ length text
     → n ≡ digits_value 10 (take count text) * 10 ^ (9 - count) → {whole : List ℕ} → whole ≡ 46 ∷ text
     → Front (OptionalSecfrac n) whole (drop count text)
@@ -116,9 +112,6 @@ offset_at b h m {text} {r1} {r2} {r3} p e q f small few some =
     }) where
       all : Front (TwoAfter 58 (least_minute b h) 59 m) r1 r3 → r3 ≡ [] → TwoAfter 58 (least_minute b h) 59 m r1
       all g k = subst (TwoAfter 58 (least_minute b h) 59 m) (sym (g.whole ∙ ap (λ t. g.front ++ t) k ∙ append-nil g.front)) g.is
-
-pub utc_at : {text rest : List ℕ} → text ≡ 90 ∷ rest → rest ≡ [] → TimeOffset utc text
-utc_at e f = inl (e ∙ ap (λ t. 90 ∷ t) f, refl)
 
 -- ---- whole texts
 

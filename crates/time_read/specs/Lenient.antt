@@ -2,7 +2,7 @@
 -- (section 5.6, NOTE), with more than nine decimals, or with the unknown offset `-00:00` (section 4.3).
 use Rattle.std.specs.Prelude.{◌≡◌, ℕ, ◌⊎◌, List, [], ◌++◌, length, codes}
 use Rattle.std.specs.Str.Parse.{AllDigits}
-use Rattle.time_known.specs.Rfc3339Grammar.{FullDate, WholeTime, OptionalSecfrac, TimeOffset, Rfc3339Spells}
+use Rattle.time_known.specs.Rfc3339Grammar.{FullDate, WholeTime, OptionalSecfrac, TimeOffset}
 use Rattle.time_known.specs.Rules.{Rule, Literal, ◌▹◌}
 use Rattle.time_known.specs.Values.{OffsetDateAndTime, Offset}
 

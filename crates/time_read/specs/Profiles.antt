@@ -1,8 +1,9 @@
 -- What is read by each profile.
 use Rattle.std.specs.Prelude.{◌≡◌, ℕ, List, [], ◌∷◌}
+use Rattle.time_below.specs.Moment.{DateAndTime}
 use Rattle.time_known.specs.Rfc3339Grammar.{OptionalSecfrac, TimeOffset, Rfc3339Spells}
 use Rattle.time_known.specs.Rules.{Rule, ◌▹◌}
-use Rattle.time_known.specs.Values.{OffsetDateAndTime, Offset}
+use Rattle.time_known.specs.Values.{OffsetDateAndTime, Offset, utc}
 use Rattle.time_read.specs.Fault.{IsLetter, SpellsSome}
 use Rattle.time_read.specs.Lenient.{MeansSecfrac, MeansOffset, Rfc3339Means}
 use Rattle.time_read.specs.declared.fault.Profile.{Profile}
@@ -33,3 +34,7 @@ Tail p v = Secfrac p v.0 ▹ EndOffset p v.1
 -- what may follow the first byte of an offset
 abbrev pub RestOfOffset : Profile → ℕ → Rule
 RestOfOffset p first text = SpellsSome (EndOffset p) (first ∷ text)
+
+-- a date and time in UTC, as one with its offset
+abbrev pub in_utc : DateAndTime → OffsetDateAndTime
+in_utc v = record { date = v.date; time = v.time; offset = utc }

@@ -3,6 +3,8 @@
 #![tactic(auto)]
 
 #[cfg(test)]
+mod front_page;
+#[cfg(test)]
 mod rows;
 #[cfg(test)]
 mod there_and_back;

@@ -1,0 +1,6 @@
+use Rattle.time_read.proofs.LenientLemmas.{means_one_value}
+use Rattle.time_read.proofs.UsualLemmas.{means_itself}
+use Rattle.time_read.proofs.laws.lenient_texts.Goals as goal
+
+pub returns : goal.returns
+returns c = record { one_value = means_one_value; spelled = means_itself }
