@@ -12,11 +12,11 @@ use std::test::Fail;
 use time_digits::ru8;
 use time_fmt::{ComponentProvider, ComputeMetadata, Format};
 use time_known::Iso8601;
-use time_known::iso8601::DateKind::{Calendar, Ordinal, Week};
 use time_known::fields::OffsetFields;
+use time_known::iso8601::DateKind::{Calendar, Ordinal, Week};
 use time_known::iso8601::{
-    self, Config, DateKind, DecimalSign, FormattedComponents as Parts, OffsetPrecision, format_date,
-    format_offset, format_time,
+    self, Config, DateKind, DecimalSign, FormattedComponents as Parts, OffsetPrecision,
+    format_date, format_offset, format_time,
 };
 
 /// What a row chooses.
@@ -467,7 +467,10 @@ fn each_format_shows_its_configuration(rt: HostRuntime) -> Result<(), Fail> {
         let shown = format!(in alloc; "{:?}", Iso8601::new(config))?;
         let wanted = format!(in alloc; "Iso8601 {{ config: {config:?} }}")?;
         assert_same(&rt, shown.as_str(), wanted.as_str());
-        assert_that(&rt, shown.contains("date_kind: Week") == (config.date_kind() == Week));
+        assert_that(
+            &rt,
+            shown.contains("date_kind: Week") == (config.date_kind() == Week),
+        );
     }
     Ok(())
 }

@@ -169,8 +169,10 @@ fn assert_behind(rt: &impl Abort, alloc: Global, length: usize) -> Result<(), Fa
 
 #[test]
 fn a_stamp_stands_behind_each_power_of_two_up_to_a_megabyte(rt: HostRuntime) -> Result<(), Fail> {
-    for bits in 0..=20 {
-        assert_behind(&rt, rt.alloc(), 1 << bits)?;
+    let mut length = 1usize;
+    for _ in 0..=20 {
+        assert_behind(&rt, rt.alloc(), length)?;
+        length = length.saturating_mul(2);
     }
     Ok(())
 }

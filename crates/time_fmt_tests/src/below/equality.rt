@@ -2,9 +2,7 @@
 use crate::texts::{DAY, assert_same, assert_that};
 use crate::values::wednesday;
 use std::default::Default;
-use time_below::format_description::{
-    Component, FormatDescriptionV3Inner, Group, Layer, Metadata,
-};
+use time_below::format_description::{Component, FormatDescriptionV3Inner, Group, Layer, Metadata};
 use time_below::laws::choices::{
     clones_of_dates, clones_of_deprecated, clones_of_kinds, clones_of_times, clones_of_years,
 };
@@ -22,7 +20,9 @@ use time_digits::laws::{
     ri8_equality, ri16_equality, ri32_equality, ru8_equality, ru16_equality, ru32_equality,
 };
 use time_digits::{ri8, ri16, ri32, ru8, ru16, ru32};
-use time_fmt::laws::{clones_of_lists, errors_give_back_what_they_hold, errors_hold_what_they_are_made_of};
+use time_fmt::laws::{
+    clones_of_lists, errors_give_back_what_they_hold, errors_hold_what_they_are_made_of,
+};
 use time_fmt::{BorrowedItems, Error, Format, Literal, OwnedItems, Refused};
 use time_provide::laws::{
     date_state_equality, states_agree_with_their_values, states_keep_what_they_held,

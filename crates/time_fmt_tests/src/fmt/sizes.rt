@@ -54,8 +54,10 @@ fn assert_power(rt: &impl Abort, alloc: Global, length: usize) -> Result<(), Fai
 
 #[test]
 fn a_text_of_each_power_of_two_up_to_a_megabyte_is_written(rt: HostRuntime) -> Result<(), Fail> {
-    for bits in 0..=20 {
-        assert_power(&rt, rt.alloc(), 1 << bits)?;
+    let mut length = 1usize;
+    for _ in 0..=20 {
+        assert_power(&rt, rt.alloc(), length)?;
+        length = length.saturating_mul(2);
     }
     Ok(())
 }
