@@ -327,28 +327,29 @@ enum movaliren_kind {
     /* The week of the year, 0 to 53, in two places, where week 1 begins on the first Monday.
      * [padding] */
     MOVALIREN_WEEK_MONDAY = 12,
-    /* The year, -999,999 to 999,999, in four places, or a sign and all its digits.
-     * [padding; flag: always a sign] */
+    /* The year, -999,999 to 999,999, in at least four places, after a sign if it is negative or
+     * above 9,999. [padding; flag: always a sign] */
     MOVALIREN_YEAR_EXTENDED = 13,
     /* The year, -9,999 to 9,999, in four places. Every other year is refused.
      * [padding; flag: always a sign] */
     MOVALIREN_YEAR = 14,
-    /* The year without its last two digits, -9,999 to 9,999, in two places, or a sign and all its
-     * digits. [padding; flag: always a sign] */
+    /* The year without its last two digits, -9,999 to 9,999, in at least two places, after a sign
+     * if the year is negative or above 9,999. [padding; flag: always a sign] */
     MOVALIREN_CENTURY_EXTENDED = 15,
     /* The year without its last two digits, -99 to 99, in two places. Every other one is refused.
      * [padding; flag: always a sign] */
     MOVALIREN_CENTURY = 16,
     /* The last two digits of the year, 0 to 99, in two places, unsigned. [padding] */
     MOVALIREN_YEAR_LAST_TWO = 17,
-    /* The year of the week calendar, -999,999 to 999,999, in four places, or a sign and all its
-     * digits (ISO 8601-1:2019, week date). [padding; flag: always a sign] */
+    /* The year of the week calendar, -999,999 to 999,999, in at least four places, after a sign if
+     * it is negative or above 9,999 (ISO 8601-1:2019, week date). [padding; flag: always a sign] */
     MOVALIREN_ISO_YEAR_EXTENDED = 18,
     /* The year of the week calendar, -9,999 to 9,999, in four places. Every other year is refused.
      * [padding; flag: always a sign] */
     MOVALIREN_ISO_YEAR = 19,
-    /* The year of the week calendar without its last two digits, -9,999 to 9,999, in two places, or
-     * a sign and all its digits. [padding; flag: always a sign] */
+    /* The year of the week calendar without its last two digits, -9,999 to 9,999, in at least two
+     * places, after a sign if the year is negative or above 9,999.
+     * [padding; flag: always a sign] */
     MOVALIREN_ISO_CENTURY_EXTENDED = 20,
     /* The year of the week calendar without its last two digits, -99 to 99, in two places. Every
      * other one is refused. [padding; flag: always a sign] */

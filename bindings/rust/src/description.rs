@@ -43,24 +43,25 @@ pub enum Kind {
     WeekSunday = 11,
     /// The week of the year, 0 to 53, in two places, where week 1 begins on the first Monday.
     WeekMonday = 12,
-    /// The year, -999,999 to 999,999, in four places, or a sign and all its digits.
+    /// The year, -999,999 to 999,999, in at least four places, after a sign if it is negative or
+    /// above 9,999.
     YearExtended = 13,
     /// The year, -9,999 to 9,999, in four places. Every other year is refused.
     Year = 14,
-    /// The year without its last two digits, -9,999 to 9,999, in two places, or a sign and all
-    /// its digits.
+    /// The year without its last two digits, -9,999 to 9,999, in at least two places, after a sign
+    /// if the year is negative or above 9,999.
     CenturyExtended = 15,
     /// The year without its last two digits, -99 to 99, in two places. Every other one is refused.
     Century = 16,
     /// The last two digits of the year, 0 to 99, in two places, unsigned.
     YearLastTwo = 17,
-    /// The year of the week calendar, -999,999 to 999,999, in four places, or a sign and
-    /// all its digits (ISO 8601-1:2019, week date).
+    /// The year of the week calendar, -999,999 to 999,999, in at least four places, after a sign if
+    /// it is negative or above 9,999 (ISO 8601-1:2019, week date).
     IsoYearExtended = 18,
     /// The year of the week calendar, -9,999 to 9,999, in four places. Every other year is refused.
     IsoYear = 19,
-    /// The year of the week calendar without its last two digits, -9,999 to 9,999, in two places,
-    /// or a sign and all its digits.
+    /// The year of the week calendar without its last two digits, -9,999 to 9,999, in at least two
+    /// places, after a sign if the year is negative or above 9,999.
     IsoCenturyExtended = 20,
     /// The year of the week calendar without its last two digits, -99 to 99, in two places. Every
     /// other one is refused.

@@ -40,24 +40,25 @@ pub enum Component {
     WeekNumberSunday(modifier::WeekNumberSunday),
     /// The week of the year, 0 to 53, in two places, where week 1 begins on the first Monday.
     WeekNumberMonday(modifier::WeekNumberMonday),
-    /// The year, -999,999 to 999,999, in four places, or a sign and all its digits.
+    /// The year, -999,999 to 999,999, in at least four places, after a sign if it is negative or
+    /// above 9,999.
     CalendarYearFullExtendedRange(modifier::CalendarYearFullExtendedRange),
     /// The year, -9,999 to 9,999, in four places. Every other year is refused.
     CalendarYearFullStandardRange(modifier::CalendarYearFullStandardRange),
-    /// The year without its last two digits, -9,999 to 9,999, in two places, or a sign and all
-    /// its digits.
+    /// The year without its last two digits, -9,999 to 9,999, in at least two places, after a sign
+    /// if the year is negative or above 9,999.
     CalendarYearCenturyExtendedRange(modifier::CalendarYearCenturyExtendedRange),
     /// The year without its last two digits, -99 to 99, in two places. Every other one is refused.
     CalendarYearCenturyStandardRange(modifier::CalendarYearCenturyStandardRange),
     /// The last two digits of the year, 0 to 99, in two places, unsigned.
     CalendarYearLastTwo(modifier::CalendarYearLastTwo),
-    /// The year of the week calendar, -999,999 to 999,999, in four places, or a sign and
-    /// all its digits (ISO 8601-1:2019, week date).
+    /// The year of the week calendar, -999,999 to 999,999, in at least four places, after a sign if
+    /// it is negative or above 9,999 (ISO 8601-1:2019, week date).
     IsoYearFullExtendedRange(modifier::IsoYearFullExtendedRange),
     /// The year of the week calendar, -9,999 to 9,999, in four places. Every other year is refused.
     IsoYearFullStandardRange(modifier::IsoYearFullStandardRange),
-    /// The year of the week calendar without its last two digits, -9,999 to 9,999, in two places,
-    /// or a sign and all its digits.
+    /// The year of the week calendar without its last two digits, -9,999 to 9,999, in at least two
+    /// places, after a sign if the year is negative or above 9,999.
     IsoYearCenturyExtendedRange(modifier::IsoYearCenturyExtendedRange),
     /// The year of the week calendar without its last two digits, -99 to 99, in two places. Every
     /// other one is refused.

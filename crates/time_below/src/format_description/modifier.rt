@@ -129,7 +129,8 @@ pub struct WeekNumberMonday {
     pub padding: Padding,
 }
 
-/// The year, -999,999 to 999,999, in four places, or a sign and all its digits.
+/// The year, -999,999 to 999,999, in at least four places, after a sign if it is negative or above
+/// 9,999.
 #[derive(Clone, Copy)]
 pub struct CalendarYearFullExtendedRange {
     /// The padding before a number of fewer than four digits.
@@ -147,8 +148,8 @@ pub struct CalendarYearFullStandardRange {
     pub sign_is_mandatory: bool,
 }
 
-/// The year without its last two digits, -9,999 to 9,999, in two places, or a sign and all
-/// its digits.
+/// The year without its last two digits, -9,999 to 9,999, in at least two places, after a sign if
+/// the year is negative or above 9,999.
 #[derive(Clone, Copy)]
 pub struct CalendarYearCenturyExtendedRange {
     /// The padding before a number of one digit.
@@ -173,8 +174,8 @@ pub struct CalendarYearLastTwo {
     pub padding: Padding,
 }
 
-/// The year of the week calendar, -999,999 to 999,999, in four places, or a sign and
-/// all its digits (ISO 8601-1:2019, week date).
+/// The year of the week calendar, -999,999 to 999,999, in at least four places, after a sign if it
+/// is negative or above 9,999 (ISO 8601-1:2019, week date).
 #[derive(Clone, Copy)]
 pub struct IsoYearFullExtendedRange {
     /// The padding before a number of fewer than four digits.
@@ -192,8 +193,8 @@ pub struct IsoYearFullStandardRange {
     pub sign_is_mandatory: bool,
 }
 
-/// The year of the week calendar without its last two digits, -9,999 to 9,999, in two places,
-/// or a sign and all its digits.
+/// The year of the week calendar without its last two digits, -9,999 to 9,999, in at least two
+/// places, after a sign if the year is negative or above 9,999.
 #[derive(Clone, Copy)]
 pub struct IsoYearCenturyExtendedRange {
     /// The padding before a number of one digit.
