@@ -39,6 +39,7 @@ mod error;
 mod format;
 mod known;
 mod moment;
+mod pointers;
 #[allow(unsafe_code)]
 mod raw;
 #[allow(unsafe_code)]
