@@ -33,11 +33,14 @@ extern crate alloc;
 extern crate std;
 
 mod batch;
+mod component;
 mod config;
 mod description;
 mod error;
 mod format;
 mod known;
+#[doc(hidden)]
+pub mod list;
 mod moment;
 mod pointers;
 #[allow(unsafe_code)]
@@ -46,6 +49,7 @@ mod raw;
 mod text;
 
 pub use batch::{Batch, Progress};
+pub use component::{Component, CountFrom, Item, LetterCase, Sign};
 pub use config::{DateKind, DecimalSign, Iso8601By, OffsetPrecision, Parts, TimePrecision};
 pub use description::{Date, Description, Kind, Padding, SubsecondDigits};
 pub use error::Error;
