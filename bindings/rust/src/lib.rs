@@ -38,6 +38,7 @@ mod config;
 mod description;
 mod error;
 mod format;
+mod formatted;
 mod known;
 #[doc(hidden)]
 pub mod list;
@@ -54,6 +55,7 @@ pub use config::{DateKind, DecimalSign, Iso8601By, OffsetPrecision, Parts, TimeP
 pub use description::{Date, Description, Kind, Padding, SubsecondDigits};
 pub use error::Error;
 pub use format::Format;
+pub use formatted::Formatted;
 pub use known::{stamp, Iso8601, Rfc2822, Rfc2822Local, Rfc3339, Rfc3339Local, Stamp};
 pub use moment::{Moment, UtcMoment};
 pub use text::Text;
