@@ -64,3 +64,7 @@ pub use formatted::Formatted;
 pub use known::{stamp, Iso8601, Rfc2822, Rfc2822Local, Rfc3339, Rfc3339Local, Stamp};
 pub use moment::{Moment, UtcMoment};
 pub use text::Text;
+
+#[cfg(doctest)]
+#[doc = include_str!("../README.md")]
+struct Readme;
