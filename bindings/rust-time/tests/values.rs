@@ -1,8 +1,8 @@
 //! Texts and parts of 200,000 random values beside those of `time` and of `chrono`.
 use chrono::{DateTime, FixedOffset, NaiveDate, NaiveDateTime, SecondsFormat, Utc};
 use movaliren::{
-    Date, Description, Error, Format, Iso8601By, Kind, Moment, Rfc2822, Rfc2822Local,
-    Rfc3339, Rfc3339Local, Sign, Stamp, SubsecondDigits, TimePrecision, UtcMoment,
+    Date, Description, Error, Format, Iso8601By, Kind, Moment, Rfc2822, Rfc2822Local, Rfc3339,
+    Rfc3339Local, Sign, Stamp, SubsecondDigits, TimePrecision, UtcMoment,
 };
 use movaliren_time::{ToDate, ToMoment, ToUtcMoment};
 use std::fmt::Debug;
