@@ -156,7 +156,7 @@ fn is_alike(first: i8, second: i8) -> bool
     ensures value { result ≡ is_alike first second }
     ensures sign { IsTrue result → HasNoOtherSign first second }
 {
-    !(first < 0 && second > 0) && !(first > 0 && second < 0)
+    second == 0 || first == 0 || (first < 0) == (second < 0)
 }
 
 /// The offset of parts of one sign.
