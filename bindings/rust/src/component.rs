@@ -8,29 +8,29 @@ pub enum Sign {
     /// A minus where the number is negative, and a plus before a year with more than four digits. This is
     /// the usual choice.
     #[default]
-    Automatic = 0,
+    Automatic,
     /// A minus or a plus, always.
-    Mandatory = 1,
+    Mandatory,
 }
 
 /// The number of the first weekday.
 #[derive(Clone, Copy, Debug, Default, PartialEq, Eq, Hash)]
 pub enum CountFrom {
     /// 0, so that the last one has the number 6.
-    Zero = 0,
+    Zero,
     /// 1, so that the last one has the number 7. This is the usual choice.
     #[default]
-    One = 1,
+    One,
 }
 
 /// The case of the two letters for the half of the day.
 #[derive(Clone, Copy, Debug, Default, PartialEq, Eq, Hash)]
 pub enum LetterCase {
     /// `am` and `pm`.
-    Lower = 0,
+    Lower,
     /// `AM` and `PM`. This is the usual choice.
     #[default]
-    Upper = 1,
+    Upper,
 }
 
 /// A component with its choices.
@@ -221,7 +221,10 @@ impl Kind {
             Kind::MonthLong | Kind::WeekdayLong | Kind::Subsecond => 9,
             Kind::UnixSecond => 15,
             Kind::UnixMillisecond => 18,
-            _ => 2,
+            Kind::Day | Kind::Month | Kind::WeekIso | Kind::WeekSunday | Kind::WeekMonday => 2,
+            Kind::YearLastTwo | Kind::IsoYearLastTwo => 2,
+            Kind::Hour12 | Kind::Hour | Kind::Minute | Kind::Second | Kind::Period => 2,
+            Kind::OffsetMinute | Kind::OffsetSecond => 2,
         }
     }
 }
