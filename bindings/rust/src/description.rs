@@ -212,9 +212,9 @@ impl Description {
         self.component(Kind::Subsecond.digits(digits))
     }
 
-    /// Adds an item.
-    pub fn item(mut self, item: Item<'_>) -> Self {
-        self.add(item);
+    /// Adds an item: a literal or a component.
+    pub fn item<'a>(mut self, item: impl Into<Item<'a>>) -> Self {
+        self.add(item.into());
         self
     }
 

@@ -26,14 +26,17 @@ pub struct Formatted<V, F> {
 impl<V, F: Format<V>> fmt::Display for Formatted<V, F> {
     fn fmt(&self, f: &mut fmt::Formatter<'_>) -> fmt::Result {
         match self.format.text(&self.value) {
-            Ok(text) => f.pad(&text),
             // Longer than a text in place.
-            Err(Error::NoRoom) => match self.format.format(&self.value) {
-                Ok(text) => f.pad(&text),
-                Err(error) => write!(f, "<{error}>"),
-            },
-            Err(error) => write!(f, "<{error}>"),
+            Err(Error::NoRoom) => show(self.format.format(&self.value).as_deref(), f),
+            text => show(text.as_deref(), f),
         }
+    }
+}
+
+fn show(text: Result<&str, &Error>, f: &mut fmt::Formatter<'_>) -> fmt::Result {
+    match text {
+        Ok(text) => f.pad(text),
+        Err(error) => write!(f, "<{error}>"),
     }
 }
 

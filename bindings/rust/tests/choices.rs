@@ -105,7 +105,7 @@ fn a_description_can_be_a_constant() {
 
 #[test]
 fn a_constant_is_continued() {
-    let long = DAY.literal(", ").component(Kind::Hour);
+    let long = DAY.item(", ").item(Kind::Hour);
     assert_formats(&long, &EXAMPLE, "on 12 \u{2236} November 1997, 09");
     assert_eq!(long.width(), DAY.width() + 4);
 }
