@@ -10,7 +10,7 @@ use Rattle.time_digits.proofs.DigitLemmas.{fixed_step, fixed_digits, fixed-appen
 use Rattle.time_digits.proofs.FractionLemmas.{only_trimmed_fraction}
 use Rattle.time_digits.proofs.LengthLemmas.{length-fixed}
 use Rattle.time_digits.proofs.FractionLemmas.{length-trimmed_fraction}
-use Rattle.time_fmt.proofs.WriteLemmas.{whole_text}
+use Rattle.time_fmt.proofs.EndLemmas.{whole_text}
 use Rattle.time_fmt.proofs.DecimalLemmas.{take-fixed, length-first, length-subsecond_text, nine_decimals}
 
 -- nine digits are the first ones, and zeros

@@ -2,15 +2,14 @@
 ghost use Rattle.std.specs.Prelude.{◌≡◌, ◌∷◌, ◌++◌, ◌≤◌, MatchOption, length};
 ghost use Rattle.time_below.specs.Month.{month_number};
 ghost use Rattle.time_below.specs.Tree.{all_of};
-ghost use Rattle.time_below.specs.Width.{component_width, tree_width, trees_width};
-ghost use Rattle.time_fmt.specs.Description.{component_outcome, tree_outcome};
+ghost use Rattle.time_below.specs.Width.{tree_width, trees_width};
+ghost use Rattle.time_fmt.specs.Description.{tree_outcome};
 ghost use Rattle.time_fmt.specs.Ends.{Ends};
 ghost use Rattle.time_fmt.specs.Guarantee.{AppendsLeaf, AppendsTree};
-ghost use Rattle.time_fmt.specs.Outcome.{AppendsUpTo};
 ghost use Rattle.time_fmt.specs.Room.{HasRoom, Ready, Writes};
 ghost use Rattle.time_fmt.specs.Text.{padded_text};
 ghost use Rattle.time_plan.specs.Literal.{literal_bytes};
-ghost use Rattle.time_plan.specs.Shown.{shown_tree, AppendsIfSupplied};
+ghost use Rattle.time_plan.specs.Shown.{shown_tree};
 ghost use Rattle.time_plan.specs.Steps.{step_tree, step_trees};
 
 use crate::literal::Literal;
@@ -45,7 +44,11 @@ pub(crate) fn write_steps<V: ComponentProvider>(
     let mut taken = take_out(output);
     for step in steps {
         match write_step(step, &mut taken, value, state) {
-            Some(_) => {}
+            Some(Ok(())) => {}
+            Some(Err(refused)) => {
+                put_back(output, taken);
+                return Err(refused);
+            }
             None => {
                 let mut apart = taken;
                 match write_seldom(step, &mut apart, value, state) {
@@ -62,15 +65,15 @@ pub(crate) fn write_steps<V: ComponentProvider>(
     Ok(())
 }
 
-/// Writes a step that is met often, and returns the number of bytes. Of any other it writes nothing, and
-/// returns `None`. It becomes part of the loop.
+/// Writes a step that is met often, and returns its refusal, if it is refused. Of any other it writes
+/// nothing, and returns `None`. It becomes part of the loop.
 #[inline(always)]
 fn write_step<V: ComponentProvider>(
     step: &Step,
     output: &mut Vec<u8>,
     value: &V,
     state: &mut V::State,
-) -> Option<usize>
+) -> Option<Result<(), Refused>>
     requires room { HasRoom output.old (tree_width (step_tree step.now)) }
     requires agrees { V.agrees state.old value.now }
     ensures appends { AppendsLeaf (step_tree step.now) (V.facts value.now)
@@ -78,75 +81,60 @@ fn write_step<V: ComponentProvider>(
     ensures agrees { V.agrees state.new value.now }
 {
     match write_shown(step.shown, output, value, state) {
-        Some(first) => Some(first + write_literal(output, &step.literal)),
+        Some(Ok(())) => {
+            write_literal(output, &step.literal);
+            Some(Ok(()))
+        }
+        Some(Err(refused)) => Some(Err(refused)),
         None => None,
     }
 }
 
-/// Writes what a step shows, if that is met often, and returns the number of bytes. Of anything else, and
-/// of what is refused, it writes nothing, and returns `None`.
+/// Writes what a step shows, if that is met often, and returns its refusal, if it is refused. Of anything
+/// else it writes nothing, and returns `None`.
 #[inline(always)]
 fn write_shown<V: ComponentProvider>(
     shown: Shown,
     output: &mut Vec<u8>,
     value: &V,
     state: &mut V::State,
-) -> Option<usize>
+) -> Option<Result<(), Refused>>
     requires ready { Ready output.old (tree_width (shown_tree shown)) (V.agrees state.old value.now) }
     ensures writes { MatchOption result (output.new ≡ output.old)
-        (λ count. AppendsUpTo (tree_width (shown_tree shown)) output.old output.new (Ok count)
+        (λ answer. Ends (tree_width (shown_tree shown)) output.old output.new answer
         (tree_outcome (shown_tree shown) (V.facts value.now))) × V.agrees state.new value.now }
 {
     match shown {
-        Shown::Component(component) => write_component(component, output, value, state),
-        Shown::Date(between) => write_date(between, output, value, state),
-        Shown::Time(between) => write_time(between, output, value, state),
+        Shown::Component(Component::End(_)) => Some(Ok(())),
+        Shown::Component(component) => write_often(component, output, value, state),
+        Shown::Date(between) => Some(write_date(between, output, value, state)),
+        Shown::Time(between) => Some(write_time(between, output, value, state)),
     }
 }
 
-/// Writes a component that is met often, or one that has no text, and returns the number of bytes. Of any
-/// other, and of one that is refused, it writes nothing, and returns `None`.
-#[inline(always)]
-fn write_component<V: ComponentProvider>(
-    component: Component,
-    output: &mut Vec<u8>,
-    value: &V,
-    state: &mut V::State,
-) -> Option<usize>
-    requires ready { Ready output.old (component_width component) (V.agrees state.old value.now) }
-    ensures writes { MatchOption result (output.new ≡ output.old)
-        (λ count. AppendsUpTo (component_width component) output.old output.new (Ok count)
-        (component_outcome component (V.facts value.now))) × V.agrees state.new value.now }
-{
-    match component {
-        Component::End(_) => Some(0),
-        met => write_often(met, output, value, state),
-    }
-}
-
-/// Writes a date, and returns the number of bytes. Of a value without one it writes nothing, and returns
-/// `None`.
+/// Writes a date. A value without one is refused.
 #[inline(always)]
 fn write_date<V: ComponentProvider>(
     between: Separators,
     output: &mut Vec<u8>,
     value: &V,
     state: &mut V::State,
-) -> Option<usize>
+) -> Result<(), Refused>
     requires room { HasRoom output.old (tree_width (shown_tree (Shown.Date between))) }
     requires agrees { V.agrees state.old value.now }
-    ensures appends { AppendsIfSupplied (shown_tree (Shown.Date between)) (V.facts value.now)
-        output.old output.new result }
+    ensures ends { Ends (tree_width (shown_tree (Shown.Date between))) output.old output.new result
+        (tree_outcome (shown_tree (Shown.Date between)) (V.facts value.now)) }
     ensures agrees { V.agrees state.new value.now }
 {
     if !V::SUPPLIES_DATE {
-        return None;
+        return Err(Refused::Unsupplied);
     }
     let year = value.calendar_year(state);
     let day = value.day(state).expand();
     let month = number_of(value.month(state));
-    let first = fmt_calendar_year_full_extended_range(output, year, parts::YEAR);
-    Some(first + write_two_after(output, between, month, day))
+    fmt_calendar_year_full_extended_range(output, year, parts::YEAR);
+    write_two_after(output, between, month, day);
+    Ok(())
 }
 
 /// The number of a month, 1 to 12.
@@ -158,29 +146,29 @@ fn number_of(month: Month) -> ru8<0, 99>
     ru8::new(u8::from(month)).unwrap()
 }
 
-/// Writes a time of day, and returns the number of bytes. Of a value without one it writes nothing, and
-/// returns `None`.
+/// Writes a time of day. A value without one is refused.
 #[inline(always)]
 fn write_time<V: ComponentProvider>(
     between: Separators,
     output: &mut Vec<u8>,
     value: &V,
     state: &mut V::State,
-) -> Option<usize>
+) -> Result<(), Refused>
     requires room { HasRoom output.old (tree_width (shown_tree (Shown.Time between))) }
     requires agrees { V.agrees state.old value.now }
-    ensures appends { AppendsIfSupplied (shown_tree (Shown.Time between)) (V.facts value.now)
-        output.old output.new result }
+    ensures ends { Ends (tree_width (shown_tree (Shown.Time between))) output.old output.new result
+        (tree_outcome (shown_tree (Shown.Time between)) (V.facts value.now)) }
     ensures agrees { V.agrees state.new value.now }
 {
     if !V::SUPPLIES_TIME {
-        return None;
+        return Err(Refused::Unsupplied);
     }
     let hour = value.hour(state).expand();
     let minute = value.minute(state).expand();
     let second = value.second(state).expand();
-    let first = format_two_digits(output, hour, Padding::Zero);
-    Some(first + write_two_after(output, between, minute, second))
+    format_two_digits(output, hour, Padding::Zero);
+    write_two_after(output, between, minute, second);
+    Ok(())
 }
 
 /// Writes two numbers in two places, each behind its byte, and returns the number of bytes.
@@ -241,14 +229,10 @@ fn end_shown<V: ComponentProvider>(
         (tree_outcome (shown_tree shown) (V.facts value.now)) }
     ensures agrees { V.agrees state.new value.now }
 {
-    let written = match shown {
-        Shown::Component(component) => return end_component(component, output, value, state),
+    match shown {
+        Shown::Component(component) => end_component(component, output, value, state),
         Shown::Date(between) => write_date(between, output, value, state),
         Shown::Time(between) => write_time(between, output, value, state),
-    };
-    match written {
-        Some(_) => Ok(()),
-        None => Err(Refused::Unsupplied),
     }
 }
 

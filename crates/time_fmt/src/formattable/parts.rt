@@ -10,7 +10,7 @@ ghost use Rattle.time_fmt.specs.Outcome.{done, join};
 use crate::error::Format;
 use crate::formattable::{Formattable, make_room};
 use crate::metadata::ComputeMetadata;
-use crate::modifier::{Modifier, is_supplied};
+use crate::modifier::{Modifier, write_part};
 use crate::writers::{put_back, take_out, write_each};
 use time_below::format_description::Metadata;
 use time_provide::ComponentProvider;
@@ -126,15 +126,15 @@ impl<M: Modifier> Formattable for M {
     ghost outcome_of = { λ part. component_outcome (M.component_of part) };
 
     #[inline(always)]
+    #[tactic(auto, using(crate::proofs::EndLemmas::answered))]
     fn write_into<V: ComponentProvider>(
         &self,
         output: &mut Vec<u8>,
         value: &V,
         state: &mut V::State,
     ) -> Result<usize, Format> {
-        if !is_supplied::<M, V>(*self) {
-            return Err(Format::InsufficientTypeInformation);
-        }
-        self.write_supplied(output, value, state)
+        let begin = output.len();
+        write_part(*self, output, value, state)?;
+        Ok(output.len() - begin)
     }
 }

@@ -7,8 +7,8 @@ ghost use Rattle.time_digits.specs.Fraction.{trimmed_fraction};
 ghost use Rattle.time_fmt.specs.Room.{HasRoom, Writes};
 ghost use Rattle.time_fmt.specs.Text.{subsecond_text};
 
-use crate::error::Format;
 use crate::modifier::Modifier;
+use crate::refused::Refused;
 use crate::writers::digits::{
     format_five_digits_pad_zero, format_four_digits_pad_zero, format_single_digit,
     format_six_digits_pad_zero, format_two_digits, write_eight_digits,
@@ -73,16 +73,17 @@ impl Modifier for modifier::Subsecond {
         output: &mut Vec<u8>,
         value: &V,
         state: &mut V::State,
-    ) -> Result<usize, Format> {
+    ) -> Result<(), Refused> {
         let nanosecond = value.nanosecond(state);
         match self.digits {
-            SubsecondDigits::Three => Ok(write_three_decimals(output, nanosecond)),
+            SubsecondDigits::Three => write_three_decimals(output, nanosecond),
             // Mostly the last of the nine is not zero.
             SubsecondDigits::Nine | SubsecondDigits::OneOrMore if nanosecond.get() % 10 != 0 => {
-                Ok(write_nine_digits(output, nanosecond))
+                write_nine_digits(output, nanosecond)
             }
-            rare => Ok(write_rare_decimals(output, nanosecond, rare)),
-        }
+            rare => write_rare_decimals(output, nanosecond, rare),
+        };
+        Ok(())
     }
 }
 
