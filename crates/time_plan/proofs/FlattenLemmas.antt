@@ -3,9 +3,7 @@ use Rattle.std.proofs.Common.{◌≡◌, ℕ, ◌+◌, ◌-◌, ◌≤◌, ◌++
 use Rattle.std.specs.Prelude.{slice_get, OnOk, Result, Ok, Err, min}
 use Rattle.time_below.proofs.NodeLemmas.{and_assoc}
 use Rattle.time_below.specs.declared.format_description.component.Component.{Component}
-use Rattle.time_below.specs.declared.format_description.component.Component.TheVariants as component
 use Rattle.time_below.specs.declared.format_description.metadata.Metadata.{Metadata}
-use Rattle.time_below.specs.declared.format_description.modifier.TrailingInput.TheVariants as trailing
 use Rattle.time_below.specs.Facts.{Facts}
 use Rattle.time_below.specs.Metadata.{greatest_usize, tree_metadata, trees_metadata}
 use Rattle.time_below.specs.Tree.{Tree, Trees, of_component, all_of, first_of, end, more, trees}
@@ -15,6 +13,7 @@ use Rattle.time_fmt.specs.Outcome.{done, join}
 use Rattle.time_plan.specs.Literal.{literal_bytes, literal_tree}
 use Rattle.time_plan.specs.Shown.{shown_tree}
 use Rattle.time_plan.specs.Steps.{step_tree, step_trees, Extends, EndsThree}
+use Rattle.time_plan.specs.declared.shown.Run.TheVariants as run
 use Rattle.time_plan.specs.declared.shown.Shown.{Shown}
 use Rattle.time_plan.specs.declared.shown.Shown.TheVariants as shown
 use Rattle.time_plan.specs.declared.step.Step.{Step}
@@ -83,7 +82,7 @@ extends_three n old few new c s three is_n is_few extends =
 
 -- a literal behind no component
 pub literal_pushed : (xs : List Step) (s : Step) (b : Bool) (bs : List ℕ)
-    → s.shown ≡ shown.Component (component.End (record { trailing_input = trailing.Prohibit }))
+    → s.shown ≡ shown.Run run.Empty
     → literal_bytes s.literal ≡ bs → s.is_text ≡ b
     → Extends (step_trees xs) (step_trees (xs ++ s ∷ [])) (literal_tree b bs)
 literal_pushed xs s b bs nothing is_literal is_text = record {

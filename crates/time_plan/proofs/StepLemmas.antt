@@ -16,6 +16,7 @@ use Rattle.time_plan.specs.Shown.{part_component, three_parts, shown_tree}
 use Rattle.time_plan.specs.Steps.{step_tree}
 use Rattle.time_plan.specs.declared.shown.Part.{Part}
 use Rattle.time_plan.specs.declared.shown.Part.TheVariants as part
+use Rattle.time_plan.specs.declared.shown.Run.TheVariants as run
 use Rattle.time_plan.specs.declared.shown.Shown.{Shown}
 use Rattle.time_plan.specs.declared.shown.Shown.TheVariants as shown
 use Rattle.time_plan.specs.declared.step.Step.{Step}
@@ -84,15 +85,17 @@ three_are_text p q r first second f is_first is_second =
 -- what is shown is a text
 shown_text : (s : Shown) (f : Facts) → IsTextIf (is_guaranteed_text (shown_tree s)) (tree_outcome (shown_tree s) f)
 shown_text (shown.Component c) f = λ _. text_of_component c f
-shown_text (shown.Date b) f =
+shown_text (shown.Run run.Empty) f = λ _. empty_utf8
+shown_text (shown.Run (run.Date b)) f =
     three_are_text part.Year part.Month part.Day b.first b.second f b.first_is_text b.second_is_text
-shown_text (shown.Time b) f =
+shown_text (shown.Run (run.Time b)) f =
     three_are_text part.Hour part.Minute part.Second b.first b.second f b.first_is_text b.second_is_text
 
 pub shown_guaranteed : (s : Shown) → is_guaranteed_text (shown_tree s) ≡ true
 shown_guaranteed (shown.Component c) = refl
-shown_guaranteed (shown.Date b) = refl
-shown_guaranteed (shown.Time b) = refl
+shown_guaranteed (shown.Run run.Empty) = refl
+shown_guaranteed (shown.Run (run.Date b)) = refl
+shown_guaranteed (shown.Run (run.Time b)) = refl
 
 -- ---- steps
 

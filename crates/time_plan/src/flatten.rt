@@ -9,10 +9,9 @@ ghost use Rattle.time_plan.specs.Shown.{shown_tree};
 ghost use Rattle.time_plan.specs.Steps.{step_trees, Extends, EndsThree};
 
 use crate::literal::Literal;
-use crate::shown::{Part, Separators, Shown};
+use crate::shown::{Part, Run, Separators, Shown};
 use crate::step::Step;
 use std::alloc::{AllocError, Global};
-use time_below::format_description::modifier::{End, TrailingInput};
 use time_below::format_description::{Component, Layer, Node, component_width};
 
 /// Adds the nodes in order.
@@ -79,6 +78,23 @@ fn kept_of(component: Component) -> Component
     ensures outcome { (f : Facts) → component_outcome result f ≡ component_outcome component f }
     ensures width { component_width result ≡ component_width component }
 {
+    match component {
+        Component::Month(_)
+        | Component::Weekday(_)
+        | Component::WeekNumber(_)
+        | Component::Hour(_)
+        | Component::UnixTimestamp(_)
+        | Component::Year(_) => current_if_as_wide(component),
+        _ => component,
+    }
+}
+
+/// The current component in the place of any one, where it is as wide.
+#[cold]
+fn current_if_as_wide(component: Component) -> Component
+    ensures outcome { (f : Facts) → component_outcome result f ≡ component_outcome component f }
+    ensures width { component_width result ≡ component_width component }
+{
     let current = component.current();
     if component_width(&current) == component_width(&component) {
         current
@@ -92,6 +108,9 @@ fn three_of(steps: &[Step], component: Component) -> Option<Shown>
     ensures { IfSome result (EndsThree steps.now component) }
 {
     let last = Part::of(component)?;
+    if !last.is_last() {
+        return None;
+    }
     let [.., first, second] = steps else {
         return None;
     };
@@ -102,8 +121,8 @@ fn three_of(steps: &[Step], component: Component) -> Option<Shown>
         second: before_last,
     };
     match (first, second, last) {
-        (Part::Year, Part::Month, Part::Day) => Some(Shown::Date(between)),
-        (Part::Hour, Part::Minute, Part::Second) => Some(Shown::Time(between)),
+        (Part::Year, Part::Month, Part::Day) => Some(Shown::Run(Run::Date(between))),
+        (Part::Hour, Part::Minute, Part::Second) => Some(Shown::Run(Run::Time(between))),
         _ => None,
     }
 }
@@ -169,9 +188,7 @@ fn add_alone(steps: &mut Vec<Step>, literal: Literal, is_text: bool) -> Result<(
         (literal_tree is_text (literal_bytes literal))) }
 {
     steps.push(Step {
-        shown: Shown::Component(Component::End(End {
-            trailing_input: TrailingInput::Prohibit,
-        })),
+        shown: Shown::Run(Run::Empty),
         literal,
         is_text,
     })?;

@@ -9,14 +9,13 @@ ghost use Rattle.time_fmt.specs.Guarantee.{AppendsLeaf, AppendsTree};
 ghost use Rattle.time_fmt.specs.Room.{HasRoom, Ready, Writes};
 ghost use Rattle.time_fmt.specs.Text.{padded_text};
 ghost use Rattle.time_plan.specs.Literal.{literal_bytes};
-ghost use Rattle.time_plan.specs.Shown.{shown_tree};
+ghost use Rattle.time_plan.specs.Shown.{run_tree, shown_tree};
 ghost use Rattle.time_plan.specs.Steps.{step_tree, step_trees};
 
 use crate::literal::Literal;
-use crate::shown::{Separators, Shown};
+use crate::shown::{Run, Separators, Shown};
 use crate::step::Step;
 use time_below::Month;
-use time_below::format_description::Component;
 use time_below::format_description::modifier::Padding;
 use time_digits::ru8;
 use time_fmt::writers::{
@@ -80,7 +79,7 @@ fn write_step<V: ComponentProvider>(
         output.old output.new result }
     ensures agrees { V.agrees state.new value.now }
 {
-    match write_shown(step.shown, output, value, state) {
+    match write_shown(&step.shown, output, value, state) {
         Some(Ok(())) => {
             write_literal(output, &step.literal);
             Some(Ok(()))
@@ -90,25 +89,45 @@ fn write_step<V: ComponentProvider>(
     }
 }
 
-/// Writes what a step shows, if that is met often, and returns its refusal, if it is refused. Of anything
-/// else it writes nothing, and returns `None`.
+/// Writes what a step shows, if that is met often, and returns its refusal, if it is refused. Of any other
+/// component it writes nothing, and returns `None`.
 #[inline(always)]
 fn write_shown<V: ComponentProvider>(
-    shown: Shown,
+    shown: &Shown,
     output: &mut Vec<u8>,
     value: &V,
     state: &mut V::State,
 ) -> Option<Result<(), Refused>>
-    requires ready { Ready output.old (tree_width (shown_tree shown)) (V.agrees state.old value.now) }
+    requires ready { Ready output.old (tree_width (shown_tree shown.now))
+        (V.agrees state.old value.now) }
     ensures writes { MatchOption result (output.new ≡ output.old)
-        (λ answer. Ends (tree_width (shown_tree shown)) output.old output.new answer
-        (tree_outcome (shown_tree shown) (V.facts value.now))) × V.agrees state.new value.now }
+        (λ answer. Ends (tree_width (shown_tree shown.now)) output.old output.new answer
+        (tree_outcome (shown_tree shown.now) (V.facts value.now))) × V.agrees state.new value.now }
 {
     match shown {
-        Shown::Component(Component::End(_)) => Some(Ok(())),
-        Shown::Component(component) => write_often(component, output, value, state),
-        Shown::Date(between) => Some(write_date(between, output, value, state)),
-        Shown::Time(between) => Some(write_time(between, output, value, state)),
+        Shown::Component(component) => write_often(*component, output, value, state),
+        Shown::Run(run) => Some(write_run(run, output, value, state)),
+    }
+}
+
+/// Writes a run of components. A value without them is refused.
+#[inline(always)]
+fn write_run<V: ComponentProvider>(
+    run: &Run,
+    output: &mut Vec<u8>,
+    value: &V,
+    state: &mut V::State,
+) -> Result<(), Refused>
+    requires room { HasRoom output.old (tree_width (run_tree run.now)) }
+    requires agrees { V.agrees state.old value.now }
+    ensures ends { Ends (tree_width (run_tree run.now)) output.old output.new result
+        (tree_outcome (run_tree run.now) (V.facts value.now)) }
+    ensures agrees { V.agrees state.new value.now }
+{
+    match run {
+        Run::Time(between) => write_time(*between, output, value, state),
+        Run::Date(between) => write_date(*between, output, value, state),
+        Run::Empty => Ok(()),
     }
 }
 
@@ -120,10 +139,10 @@ fn write_date<V: ComponentProvider>(
     value: &V,
     state: &mut V::State,
 ) -> Result<(), Refused>
-    requires room { HasRoom output.old (tree_width (shown_tree (Shown.Date between))) }
+    requires room { HasRoom output.old (tree_width (run_tree (Run.Date between))) }
     requires agrees { V.agrees state.old value.now }
-    ensures ends { Ends (tree_width (shown_tree (Shown.Date between))) output.old output.new result
-        (tree_outcome (shown_tree (Shown.Date between)) (V.facts value.now)) }
+    ensures ends { Ends (tree_width (run_tree (Run.Date between))) output.old output.new result
+        (tree_outcome (run_tree (Run.Date between)) (V.facts value.now)) }
     ensures agrees { V.agrees state.new value.now }
 {
     if !V::SUPPLIES_DATE {
@@ -154,10 +173,10 @@ fn write_time<V: ComponentProvider>(
     value: &V,
     state: &mut V::State,
 ) -> Result<(), Refused>
-    requires room { HasRoom output.old (tree_width (shown_tree (Shown.Time between))) }
+    requires room { HasRoom output.old (tree_width (run_tree (Run.Time between))) }
     requires agrees { V.agrees state.old value.now }
-    ensures ends { Ends (tree_width (shown_tree (Shown.Time between))) output.old output.new result
-        (tree_outcome (shown_tree (Shown.Time between)) (V.facts value.now)) }
+    ensures ends { Ends (tree_width (run_tree (Run.Time between))) output.old output.new result
+        (tree_outcome (run_tree (Run.Time between)) (V.facts value.now)) }
     ensures agrees { V.agrees state.new value.now }
 {
     if !V::SUPPLIES_TIME {
@@ -207,7 +226,7 @@ fn write_seldom<V: ComponentProvider>(
         output.old output.new result }
     ensures agrees { V.agrees state.new value.now }
 {
-    match end_shown(step.shown, output, value, state) {
+    match end_shown(&step.shown, output, value, state) {
         Ok(_) => {
             write_literal(output, &step.literal);
             Ok(())
@@ -218,21 +237,20 @@ fn write_seldom<V: ComponentProvider>(
 
 /// Writes what a step shows, or returns its refusal.
 fn end_shown<V: ComponentProvider>(
-    shown: Shown,
+    shown: &Shown,
     output: &mut Vec<u8>,
     value: &V,
     state: &mut V::State,
 ) -> Result<(), Refused>
-    requires room { HasRoom output.old (tree_width (shown_tree shown)) }
+    requires room { HasRoom output.old (tree_width (shown_tree shown.now)) }
     requires agrees { V.agrees state.old value.now }
-    ensures ends { Ends (tree_width (shown_tree shown)) output.old output.new result
-        (tree_outcome (shown_tree shown) (V.facts value.now)) }
+    ensures ends { Ends (tree_width (shown_tree shown.now)) output.old output.new result
+        (tree_outcome (shown_tree shown.now) (V.facts value.now)) }
     ensures agrees { V.agrees state.new value.now }
 {
     match shown {
-        Shown::Component(component) => end_component(component, output, value, state),
-        Shown::Date(between) => write_date(between, output, value, state),
-        Shown::Time(between) => write_time(between, output, value, state),
+        Shown::Component(component) => end_component(*component, output, value, state),
+        Shown::Run(run) => write_run(run, output, value, state),
     }
 }
 
