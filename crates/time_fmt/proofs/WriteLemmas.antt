@@ -1,6 +1,6 @@
 -- Texts that were written one after another are one text, and one text is what an outcome appends; so are
 -- outcomes.
-use Rattle.std.proofs.Common.{◌≡◌, ℕ, ◌+◌, ◌++◌, List, [], length, length-append, append_assoc}
+use Rattle.std.proofs.Common.{◌≡◌, ℕ, ◌+◌, ◌-◌, ◌++◌, List, [], length, length-append, append_assoc}
 use Rattle.std.proofs.Common.{refl, sym, ap, ◌∙◌, arith, Option, Some, None, IsSomeAnd, Result, Ok, Err, Vec, vec_len}
 use Rattle.std.proofs.lemmas.List.{append-nil}
 use Rattle.std.specs.Global.{Global}
@@ -29,6 +29,17 @@ adds_after_room {o = o} old mid new items len appends =
       named = appends.named;
       grown = appends.grown ∙ ap (λ (n : ℕ). n + length o.bytes) len;
     }
+
+-- what is appended is as long as what the vector has grown by
+pub counted_by_length : {count : ℕ} {o : Outcome} {old new : Vec ℕ Global} (begin end : ℕ) → Appends old new (Ok count) o
+    → begin ≡ vec_len old → end ≡ vec_len new → Appends old new (Ok (end - begin)) o
+counted_by_length begin end appends from to = record {
+  appended = appends.appended;
+  counted = (appends.counted.0, omega (arith, appends.grown, from, to));
+  named = tt;
+  grown = appends.grown;
+  capacity = appends.capacity;
+}
 
 -- a refusal before any byte appends nothing
 pub appends_nothing : (output : Vec ℕ Global) (e : Format) (r : Refusal) → Names e r

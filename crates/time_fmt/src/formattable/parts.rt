@@ -31,6 +31,11 @@ impl<const N: usize> ComputeMetadata for Literal<N> {
             guaranteed_utf8: is_text(self.0.as_slice()),
         }
     }
+
+    #[inline]
+    fn width(&self) -> usize {
+        N
+    }
 }
 
 impl<const N: usize> Formattable for Literal<N> {
@@ -65,6 +70,11 @@ impl<A: ComputeMetadata, B: ComputeMetadata> ComputeMetadata for (A, B) {
     fn compute_metadata(&self) -> Metadata {
         self.0.compute_metadata() + self.1.compute_metadata()
     }
+
+    #[inline]
+    fn width(&self) -> usize {
+        self.0.width().saturating_add(self.1.width())
+    }
 }
 
 impl<A: Formattable, B: Formattable> Formattable for (A, B) {
@@ -96,14 +106,19 @@ impl<A: Formattable, B: Formattable> Formattable for (A, B) {
         value: &V,
         state: &mut V::State,
     ) -> Result<usize, Format> {
-        let width = self.compute_metadata().max_bytes_needed;
+        let width = self.width();
         if width == usize::MAX || make_room(output, width).is_err() {
             return Err(Format::OutOfMemory);
         }
         let mut taken = take_out(output);
+        let begin = taken.len();
         let written = self.write_into(&mut taken, value, state);
+        let end = taken.len();
         put_back(output, taken);
-        written
+        match written {
+            Ok(_) => Ok(end - begin),
+            Err(refusal) => Err(refusal),
+        }
     }
 }
 
@@ -119,6 +134,11 @@ impl<M: Modifier> ComputeMetadata for M {
             max_bytes_needed: self.group_and_width().1,
             guaranteed_utf8: true,
         }
+    }
+
+    #[inline]
+    fn width(&self) -> usize {
+        self.group_and_width().1
     }
 }
 
