@@ -12,7 +12,7 @@ ghost use Rattle.time_fmt.specs.Text.{padded_text};
 
 use crate::modifier::Modifier;
 use crate::refused::Refused;
-use crate::writers::digits::{fmt_sign, format_two_digits, write_number};
+use crate::writers::digits::{fmt_sign, format_two_digits};
 use crate::writers::plain::write_many;
 use time_below::format_description::modifier::Padding;
 use time_below::format_description::{Group, modifier};
@@ -203,13 +203,14 @@ impl Modifier for modifier::CalendarYearLastTwo {
     }
 
     #[inline(always)]
+    #[tactic(auto, using(crate::proofs::TextLemmas::text_lengths))]
     fn write_supplied<V: ComponentProvider>(
         self,
         output: &mut Vec<u8>,
         value: &V,
         state: &mut V::State,
     ) -> Result<(), Refused> {
-        write_number(output, last_two(value.calendar_year(state)), self.padding);
+        fmt_calendar_year_last_two(output, last_two(value.calendar_year(state)), self);
         Ok(())
     }
 }
@@ -236,13 +237,14 @@ impl Modifier for modifier::IsoYearLastTwo {
     }
 
     #[inline(always)]
+    #[tactic(auto, using(crate::proofs::TextLemmas::text_lengths))]
     fn write_supplied<V: ComponentProvider>(
         self,
         output: &mut Vec<u8>,
         value: &V,
         state: &mut V::State,
     ) -> Result<(), Refused> {
-        write_number(output, last_two(value.iso_year(state)), self.padding);
+        fmt_iso_year_last_two(output, last_two(value.iso_year(state)), self);
         Ok(())
     }
 }

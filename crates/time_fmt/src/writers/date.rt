@@ -10,7 +10,7 @@ ghost use Rattle.time_fmt.specs.Text.{padded_text};
 
 use crate::modifier::Modifier;
 use crate::refused::Refused;
-use crate::writers::digits::{format_three_digits, format_two_digits, write_number};
+use crate::writers::digits::{format_three_digits, format_two_digits};
 use crate::writers::plain::{put_back, take_out, write_each, write_three};
 use time_below::Month;
 use time_below::format_description::{Group, modifier};
@@ -42,7 +42,7 @@ impl Modifier for modifier::Day {
         value: &V,
         state: &mut V::State,
     ) -> Result<(), Refused> {
-        write_number(output, value.day(state).expand(), self.padding);
+        fmt_day(output, value.day(state), self);
         Ok(())
     }
 }
@@ -156,8 +156,7 @@ impl Modifier for modifier::MonthNumerical {
     ) -> Result<(), Refused> {
         // A day is mostly beside it, and the computation of the day gives the month too.
         let _day = value.day(state);
-        let month = ru8::new(u8::from(value.month(state))).unwrap();
-        write_number(output, month, self.padding);
+        fmt_month_numerical(output, value.month(state), self);
         Ok(())
     }
 }

@@ -9,7 +9,7 @@ ghost use Rattle.time_fmt.specs.Text.{padded_text};
 
 use crate::modifier::Modifier;
 use crate::refused::Refused;
-use crate::writers::digits::{fmt_sign, format_two_digits, write_number};
+use crate::writers::digits::{fmt_sign, format_two_digits};
 use time_below::format_description::{Group, modifier};
 use time_provide::ComponentProvider;
 use time_provide::ranges::{OffsetHours, OffsetMinutes, OffsetSeconds};
@@ -85,8 +85,7 @@ impl Modifier for modifier::OffsetMinute {
         value: &V,
         state: &mut V::State,
     ) -> Result<(), Refused> {
-        let minute = value.offset_minute(state).abs();
-        write_number(output, minute.expand(), self.padding);
+        fmt_offset_minute(output, value.offset_minute(state), self);
         Ok(())
     }
 }
@@ -121,8 +120,7 @@ impl Modifier for modifier::OffsetSecond {
         value: &V,
         state: &mut V::State,
     ) -> Result<(), Refused> {
-        let second = value.offset_second(state).abs();
-        write_number(output, second.expand(), self.padding);
+        fmt_offset_second(output, value.offset_second(state), self);
         Ok(())
     }
 }

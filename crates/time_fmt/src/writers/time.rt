@@ -8,7 +8,7 @@ ghost use Rattle.time_fmt.specs.Text.{padded_text, hour_12, period_text};
 
 use crate::modifier::Modifier;
 use crate::refused::Refused;
-use crate::writers::digits::{format_two_digits, write_number};
+use crate::writers::digits::format_two_digits;
 use crate::writers::plain::write;
 use time_below::Period;
 use time_below::format_description::{Group, modifier};
@@ -41,7 +41,7 @@ impl Modifier for modifier::Hour12 {
         value: &V,
         state: &mut V::State,
     ) -> Result<(), Refused> {
-        write_number(output, on_the_dial(value.hour(state)), self.padding);
+        fmt_hour_12(output, value.hour(state), self);
         Ok(())
     }
 }
@@ -70,7 +70,7 @@ impl Modifier for modifier::Hour24 {
         value: &V,
         state: &mut V::State,
     ) -> Result<(), Refused> {
-        write_number(output, value.hour(state).expand(), self.padding);
+        fmt_hour_24(output, value.hour(state), self);
         Ok(())
     }
 }
@@ -99,7 +99,7 @@ impl Modifier for modifier::Minute {
         value: &V,
         state: &mut V::State,
     ) -> Result<(), Refused> {
-        write_number(output, value.minute(state).expand(), self.padding);
+        fmt_minute(output, value.minute(state), self);
         Ok(())
     }
 }
@@ -164,7 +164,7 @@ impl Modifier for modifier::Second {
         value: &V,
         state: &mut V::State,
     ) -> Result<(), Refused> {
-        write_number(output, value.second(state).expand(), self.padding);
+        fmt_second(output, value.second(state), self);
         Ok(())
     }
 }

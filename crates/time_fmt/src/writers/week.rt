@@ -11,7 +11,7 @@ ghost use Rattle.time_fmt.specs.Text.{padded_text};
 
 use crate::modifier::Modifier;
 use crate::refused::Refused;
-use crate::writers::digits::{format_single_digit, format_two_digits, write_number};
+use crate::writers::digits::{format_single_digit, format_two_digits};
 use crate::writers::plain::{put_back, take_out, write_each, write_three};
 use time_below::Weekday;
 use time_below::format_description::{Group, modifier};
@@ -206,8 +206,7 @@ impl Modifier for modifier::WeekNumberIso {
         value: &V,
         state: &mut V::State,
     ) -> Result<(), Refused> {
-        let week = value.iso_week_number(state);
-        write_number(output, week.expand(), self.padding);
+        fmt_week_number_iso(output, value.iso_week_number(state), self);
         Ok(())
     }
 }
@@ -240,8 +239,7 @@ impl Modifier for modifier::WeekNumberSunday {
         value: &V,
         state: &mut V::State,
     ) -> Result<(), Refused> {
-        let week = value.sunday_based_week(state);
-        write_number(output, week.expand(), self.padding);
+        fmt_week_number_sunday(output, value.sunday_based_week(state), self);
         Ok(())
     }
 }
@@ -274,8 +272,7 @@ impl Modifier for modifier::WeekNumberMonday {
         value: &V,
         state: &mut V::State,
     ) -> Result<(), Refused> {
-        let week = value.monday_based_week(state);
-        write_number(output, week.expand(), self.padding);
+        fmt_week_number_monday(output, value.monday_based_week(state), self);
         Ok(())
     }
 }

@@ -52,8 +52,7 @@ impl Modifier for modifier::CalendarYearFullExtendedRange {
         value: &V,
         state: &mut V::State,
     ) -> Result<(), Refused> {
-        let year = value.calendar_year(state);
-        write_any_year(output, year, self.padding, self.sign_is_mandatory);
+        fmt_calendar_year_full_extended_range(output, value.calendar_year(state), self);
         Ok(())
     }
 }
@@ -124,8 +123,7 @@ impl Modifier for modifier::IsoYearFullExtendedRange {
         value: &V,
         state: &mut V::State,
     ) -> Result<(), Refused> {
-        let year = value.iso_year(state);
-        write_any_year(output, year, self.padding, self.sign_is_mandatory);
+        fmt_iso_year_full_extended_range(output, value.iso_year(state), self);
         Ok(())
     }
 }
@@ -250,16 +248,6 @@ fn write_year_digits(output: &mut Vec<u8>, year: ru32<0, 999_999>, padding: Padd
     } else {
         write_many(output, &four_to_six_digits(year))
     }
-}
-
-// Appends a year of either calendar.
-#[inline(always)]
-fn write_any_year(output: &mut Vec<u8>, year: Year, padding: Padding, sign_is_mandatory: bool)
-    requires room { HasRoom output.old 7 }
-    ensures ends { Ends 7 output.old output.new (Ok result)
-        (kind_outcome (extended_year padding sign_is_mandatory year)) }
-{
-    write_extended_year(output, year, padding, sign_is_mandatory);
 }
 
 // Appends a year of either calendar, if it has at most four digits.
