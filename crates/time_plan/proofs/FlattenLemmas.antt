@@ -1,5 +1,5 @@
 -- Steps that are made one after another.
-use Rattle.std.proofs.Common.{◌≡◌, ℕ, ◌+◌, ◌-◌, ◌≤◌, ◌++◌, ◌&&◌, Bool, true, false, List, [], ◌∷◌, length, refl, sym, ap, ◌∙◌, arith, map, take, subst, Some, None}
+use Rattle.std.proofs.Common.{◌≡◌, ℕ, ◌+◌, ◌-◌, ◌≤◌, ◌++◌, ◌&&◌, Bool, true, List, [], ◌∷◌, length, refl, sym, ap, ◌∙◌, arith, map, take, subst, Some, None}
 use Rattle.std.specs.Prelude.{slice_get, OnOk, Result, Ok, Err, min}
 use Rattle.time_below.proofs.NodeLemmas.{and_assoc}
 use Rattle.time_below.specs.declared.format_description.component.Component.{Component}

@@ -1,5 +1,5 @@
 -- Three parts with a byte between each two: as steps, and as texts.
-use Rattle.std.proofs.Common.{◌≡◌, ℕ, suc, ◌+◌, ◌-◌, ◌≤◌, ◌<◌, ◌++◌, ◌&&◌, true, false, List, [], ◌∷◌, length, refl, sym, ap, ◌∙◌, arith, take, drop}
+use Rattle.std.proofs.Common.{◌≡◌, ℕ, suc, ◌+◌, ◌-◌, ◌≤◌, ◌<◌, ◌++◌, ◌&&◌, true, false, List, [], ◌∷◌, length, sym, ap, ◌∙◌, arith, take, drop}
 use Rattle.std.proofs.Common.{append_assoc, length-append, get_or, drop-cons, subst, Ok, Vec}
 use Rattle.std.proofs.lemmas.List.{append-nil, take-append-drop, at_drop_all}
 use Rattle.std.specs.Global.{Global}
@@ -9,7 +9,7 @@ use Rattle.time_below.specs.declared.format_description.modifier.Padding.TheVari
 use Rattle.time_below.specs.Facts.{Facts, the_date, the_time}
 use Rattle.time_below.specs.Tree.{of_component}
 use Rattle.time_below.specs.Width.{tree_width, trees_width, are_guaranteed_text}
-use Rattle.time_fmt.specs.Description.{tree_outcome, trees_outcome, component_outcome}
+use Rattle.time_fmt.specs.Description.{tree_outcome, trees_outcome}
 use Rattle.time_fmt.specs.Kind.{kind_text, extended_year}
 use Rattle.time_fmt.specs.Ends.{Ends}
 use Rattle.time_fmt.specs.Outcome.{Outcome, done, join}

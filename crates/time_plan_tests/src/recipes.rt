@@ -15,19 +15,22 @@ use time_plan::Plan;
 
 /// The description of times such as `2026-11-22 09:55:06`, made once.
 pub fn plan_of_times(alloc: Global) -> Result<Plan, AllocError> {
-    Plan::of_items(alloc, &[
-        Item::Component(CalendarYearFullExtendedRange(YEAR)),
-        Item::StringLiteral("-"),
-        Item::Component(MonthNumerical(MONTH)),
-        Item::StringLiteral("-"),
-        Item::Component(Day(DAY)),
-        Item::StringLiteral(" "),
-        Item::Component(Hour24(HOUR)),
-        Item::StringLiteral(":"),
-        Item::Component(Minute(MINUTE)),
-        Item::StringLiteral(":"),
-        Item::Component(Second(SECOND)),
-    ])
+    Plan::of_items(
+        alloc,
+        &[
+            Item::Component(CalendarYearFullExtendedRange(YEAR)),
+            Item::StringLiteral("-"),
+            Item::Component(MonthNumerical(MONTH)),
+            Item::StringLiteral("-"),
+            Item::Component(Day(DAY)),
+            Item::StringLiteral(" "),
+            Item::Component(Hour24(HOUR)),
+            Item::StringLiteral(":"),
+            Item::Component(Minute(MINUTE)),
+            Item::StringLiteral(":"),
+            Item::Component(Second(SECOND)),
+        ],
+    )
 }
 
 /// Appends the times of all moments by it, a line each.

@@ -50,7 +50,12 @@ pub(crate) fn assert_text<D: Formattable>(
 }
 
 /// Compares the text by a list and by its plan, and the plan's width with that of the list.
-fn assert_list(rt: &impl Abort, alloc: Global, items: &[Item<'_>], wanted: &[u8]) -> Result<(), Fail> {
+fn assert_list(
+    rt: &impl Abort,
+    alloc: Global,
+    items: &[Item<'_>],
+    wanted: &[u8],
+) -> Result<(), Fail> {
     let plan = Plan::of_items(alloc, items)?;
     let list = BorrowedItems(items);
     assert_same(
@@ -120,13 +125,29 @@ const OLD_YEAR: Component = Component::Year(modifier::Year {
 fn a_plan_and_its_list_have_the_text_of_strftime(rt: HostRuntime) -> Result<(), Fail> {
     let rows: [(&[Item<'_>], &str); 6] = [
         (
-            &items!(YEAR, "-", MONTH, "-", DAY, " ", HOUR, ":", MINUTE, ":", SECOND),
+            &items!(
+                YEAR, "-", MONTH, "-", DAY, " ", HOUR, ":", MINUTE, ":", SECOND
+            ),
             "1997-11-12 09:55:06",
         ),
         (
             &items!(
-                WEEKDAY_SHORT, ", ", DAY, " ", MONTH_SHORT, " ", YEAR, " ", HOUR, ":", MINUTE, ":",
-                SECOND, " ", OFFSET_HOUR, OFFSET_MINUTE
+                WEEKDAY_SHORT,
+                ", ",
+                DAY,
+                " ",
+                MONTH_SHORT,
+                " ",
+                YEAR,
+                " ",
+                HOUR,
+                ":",
+                MINUTE,
+                ":",
+                SECOND,
+                " ",
+                OFFSET_HOUR,
+                OFFSET_MINUTE
             ),
             "Wed, 12 Nov 1997 09:55:06 -0630",
         ),
@@ -144,15 +165,26 @@ fn a_plan_and_its_list_have_the_text_of_strftime(rt: HostRuntime) -> Result<(), 
 /// Three components that look like a date or a time of day, and are none, and literals alone.
 #[test]
 fn what_is_nearly_a_date_has_its_own_text(rt: HostRuntime) -> Result<(), Fail> {
-    let byte = Item::Literal(b"-");
     let rows: [(&[Item<'_>], &str); 7] = [
         (&items!(YEAR, "--", MONTH, "-", DAY), "1997--11-12"),
         (&items!(YEAR, MONTH, DAY), "19971112"),
         (&items!(YEAR, "-", "-", MONTH, "-", DAY), "1997--11-12"),
         (&items!(HOUR, ":", MINUTE, ":", DAY, "."), "09:55:12."),
         (&items!(YEAR, "-", MONTH, "-", LONE_DAY), "1997-11-12"),
-        (&items!("at ", HOUR, "h", MINUTE, "m", SECOND, "s", "!"), "at 09h55m06s!"),
-        (&[item!(YEAR), byte, item!(MONTH), byte, item!(DAY)], "1997-11-12"),
+        (
+            &items!("at ", HOUR, "h", MINUTE, "m", SECOND, "s", "!"),
+            "at 09h55m06s!",
+        ),
+        (
+            &[
+                item!(YEAR),
+                Item::Literal(b"-"),
+                item!(MONTH),
+                Item::Literal(b"-"),
+                item!(DAY),
+            ],
+            "1997-11-12",
+        ),
     ];
     for (items, wanted) in rows.iter() {
         assert_list(&rt, rt.alloc(), items, wanted.as_bytes())?;

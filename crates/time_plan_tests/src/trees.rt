@@ -17,7 +17,12 @@ fn a_borrowed_tree_has_its_text(rt: HostRuntime) -> Result<(), Fail> {
     let choices = [Borrowed::Compound(&date), Borrowed::Component(DAY)];
     let first = Borrowed::First(&choices);
     let day = Borrowed::Component(DAY);
-    let items = [first, Borrowed::StringLiteral("/"), Borrowed::Optional(&day), Borrowed::First(&[])];
+    let items = [
+        first,
+        Borrowed::StringLiteral("/"),
+        Borrowed::Optional(&day),
+        Borrowed::First(&[]),
+    ];
     let plan = Plan::of(rt.alloc(), &Borrowed::Compound(&items))?;
     assert_text(&rt, rt.alloc(), &plan, b"1997/11/12")
 }
@@ -35,23 +40,29 @@ fn an_owned_tree_has_its_text(rt: HostRuntime) -> Result<(), Fail> {
         Owned::Literal(b"/".to_vec(alloc)?),
         Owned::Optional(Box::new(alloc, Owned::Component(DAY))?),
     ]?;
-    let plan = Plan::of(alloc, &Owned::First(vec![in alloc; Owned::Compound(items)]?))?;
+    let plan = Plan::of(
+        alloc,
+        &Owned::First(vec![in alloc; Owned::Compound(items)]?),
+    )?;
     assert_text(&rt, alloc, &plan, b"1997/11/12")
 }
 
 #[test]
 fn a_version_3_tree_has_its_text(rt: HostRuntime) -> Result<(), Fail> {
-    let (year, month) = (Inner::from(YEAR), Inner::from(MONTH));
-    let left_out = Inner::BorrowedOptional {
-        format: false,
-        item: &year,
-    };
-    let kept = Inner::BorrowedOptional {
-        format: true,
-        item: &month,
-    };
-    let items = [Inner::from(YEAR), left_out, Inner::BorrowedLiteral("/"), kept];
-    let description = FormatDescriptionV3::new(Inner::BorrowedCompound(&items));
-    let plan = Plan::of(rt.alloc(), description.inner())?;
-    assert_text(&rt, rt.alloc(), &plan, b"1997/11")
+    let alloc = rt.alloc();
+    let items = vec![in alloc;
+        Inner::from(YEAR),
+        Inner::OwnedOptional {
+            format: false,
+            item: Box::new(alloc, Inner::from(YEAR))?,
+        },
+        Inner::BorrowedLiteral("/"),
+        Inner::OwnedOptional {
+            format: true,
+            item: Box::new(alloc, Inner::from(MONTH))?,
+        },
+    ]?;
+    let description = FormatDescriptionV3::new(Inner::OwnedCompound(items));
+    let plan = Plan::of(alloc, description.inner())?;
+    assert_text(&rt, alloc, &plan, b"1997/11")
 }

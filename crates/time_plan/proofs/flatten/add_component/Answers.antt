@@ -1,4 +1,4 @@
-use Rattle.std.proofs.Common.{◌≡◌, ◌-◌, ℕ, length, arith}
+use Rattle.std.proofs.Common.{◌≡◌, ◌-◌, length, arith}
 use Rattle.time_plan.specs.Steps.{step_trees}
 use Rattle.time_plan.proofs.FlattenLemmas.{extends_alike, extends_three, on_ok}
 use Rattle.time_plan.proofs.flatten.add_component.Goals as goal

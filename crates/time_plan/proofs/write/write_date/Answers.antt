@@ -1,6 +1,5 @@
-use Rattle.std.proofs.Common.{rules, ◌≡◌, ◌<◌, ℕ, true, false, arith, ◌∙◌}
+use Rattle.std.proofs.Common.{rules, ◌≡◌, ◌<◌, true, false, arith, ◌∙◌}
 use Rattle.std.specs.Prelude.{is_some}
-use Rattle.time_below.specs.declared.format_description.modifier.Padding.TheVariants as padding
 use Rattle.time_fmt.specs.declared.refused.Refused.TheVariants as reason
 use Rattle.time_fmt.proofs.EndLemmas.{ends_refused}
 use Rattle.time_plan.proofs.ThreeLemmas.{date_written, length-year, length-two_after}
