@@ -25,6 +25,7 @@ PLACES = [
     ("config.rs", ENUM, r"^    [A-Z]\w+(?= = )|(?<= = )\d+(?=,$)"),
     ("config.rs", r".*", r"(?<=MAX_WIDTH: usize = )\d+"),
     ("description.rs", r"fn usual_flag.*?\n    \}", r"(?<=Kind::)\w+"),
+    ("component.rs", r"fn has_(?:sign|padding).*?\n    \}", r"(?<=Kind::)\w+"),
     ("parts.rt", r".*", r"(?<=: modifier::)\w+|(?<=one_indexed: )\w+|(?<=is_uppercase: )\w+"),
     ("known.rs", r".*", r"\d+(?= bytes;)|(?<=\[u8; )\d+"),
     ("moment.rs", STRUCT, rf"\w+(?=: )|{TYPE}"),

@@ -1,9 +1,9 @@
 #!/usr/bin/env python3
 """Compares the interface as the Rattle crate, the C header and the Rust crate declare it.
 
-Numbers of reasons, of kinds and of choices; the usual choices of each kind; the texts of reasons; the greatest lengths of texts; fields of structs, in
-order, with their types; functions, with their parameters in order and the types of these and of the result; and the
-version. Also whether the header declares each name that it, the C programs and the documents use, whether the rows and
+Numbers of reasons, of kinds and of choices; the choices of each kind, and the usual ones; the texts of reasons; the
+greatest lengths of texts; fields of structs, in order, with their types; functions, with their parameters in order and
+the types of these and of the result; and the version. Also whether the header declares each name that it, the C programs and the documents use, whether the rows and
 the test of memory call each function, and whether `bindings/counts` counts each function from C and from Rust, under
 its name, and each method of the formats. Prints each difference, and ends with status 1 if there is one.
 
@@ -63,8 +63,8 @@ CHOICES = [
 WIDTHS = {
     "rfc3339_width": "rfc3339", "rfc2822_width": "rfc2822", "stamp_width": "iso8601", "stamp_length": "stamp",
 }
-# A crate, a variable of the environment, and the mark of the header.
-NOT_IN_HEADER = {"movaliren_c", "MOVALIREN_LIB", "MOVALIREN_H"}
+# Crates, a variable of the environment, and the mark of the header.
+NOT_IN_HEADER = {"movaliren_c", "movaliren_time", "MOVALIREN_LIB", "MOVALIREN_H"}
 
 
 def read():
@@ -272,6 +272,15 @@ class Interfaces:
             sorted(kinds[words(kind)] for kind in findall(r"Kind::(\w+)", rust)),
         )
 
+    def choices_of_kinds(self):
+        """The kinds that have a choice: by the code, and by the Rust crate, which leaves the others as they are."""
+        kinds = numbers(r"(\w+) = (\d+)", braces("enum Kind", *self.rust))
+        rattle = findall(r"(\d+) => component!\(\w+: ([\w, ]+)\)", *self.rattle)
+        named = lambda name: {kinds.get(words(kind)) for kind in findall(r"Kind::(\w+)", only(rf"fn {name}.*?\n    \}}", *self.rust))}
+        having = lambda choice: {int(number) for number, choices in rattle if choice in choices.split(", ")}
+        self.same("the kinds that have a sign", having("sign_is_mandatory"), named("has_sign"))
+        self.same("the kinds that have a padding", having("padding"), set(kinds.values()) - named("has_padding"))
+
     @staticmethod
     def short_name(name):
         """Without the words that the header leaves out, or the Rattle crate."""
@@ -367,7 +376,8 @@ class Interfaces:
     def compared(self, stops=False):
         """All differences, or those of the first check that has one."""
         checks = (
-            self.functions, self.uses, self.structs, self.kinds, self.usual_flags, self.choices, self.reasons, self.texts, self.lengths,
+            self.functions, self.uses, self.structs, self.kinds, self.usual_flags, self.choices_of_kinds,
+            self.choices, self.reasons, self.texts, self.lengths,
             self.version, self.tests, self.counts,
         )
         for check in checks:

@@ -4,29 +4,43 @@
 //! An installed library is one archive, `libmovaliren.a`. The one that `rt lib` builds is
 //! `libmovaliren_c.a`, and needs the archive `liblibc_c.a` of the toolchain's kit after it: in the
 //! folder `RATTLE_C`, else in the folder `c` of the kit of `rt`.
+//!
+//! The version of the library is that of pkg-config, or of the header where there is one. It must be of the same
+//! interface as this crate.
+//!
+//! `cargo check` and `cargo doc` need no library, so where none is found this program warns. Then rustc is told to
+//! link one that it does not find, and stops where it makes code.
 use std::env;
+use std::fs;
 use std::path::{Path, PathBuf};
-use std::process::{exit, Command};
+use std::process::Command;
 
 const NOT_FOUND: &str = "\
-error: the library of Movaliren was not found. Do one of these:
+the library of Movaliren was not found, so nothing links. Do one of these:
   - build it in the repository:  (cd crates/movaliren_c && rt lib)
   - install it, where pkg-config finds it:  make -C bindings/c install PREFIX=..
   - set MOVALIREN_LIB to the folder of libmovaliren.a, libmovaliren.so or libmovaliren_c.a";
 
 const NO_KIT: &str = "\
-error: libmovaliren_c.a needs liblibc_c.a of the toolchain's kit, which was not found. Put `rt` on the
-PATH, or set RATTLE_C to the folder of liblibc_c.a";
+libmovaliren_c.a needs liblibc_c.a of the toolchain's kit, which was not found, so nothing links. Put `rt`
+on the PATH, or set RATTLE_C to the folder of liblibc_c.a";
+
+/// A library's file, its kind for rustc, and its name.
+const FILES: [(&str, &str, &str); 3] = [
+    ("libmovaliren_c.a", "static", "movaliren_c"),
+    ("libmovaliren.a", "static", "movaliren"),
+    ("libmovaliren.so", "dylib", "movaliren"),
+];
 
 fn folder_of(variable: &str) -> Option<PathBuf> {
     println!("cargo:rerun-if-env-changed={variable}");
     env::var_os(variable).map(PathBuf::from)
 }
 
-/// The folder `out` of the crate of the library in this repository.
-fn folder_beside() -> PathBuf {
+/// This path from the folder of this crate on.
+fn beside(path: &str) -> PathBuf {
     let here = env::var_os("CARGO_MANIFEST_DIR").expect("cargo sets CARGO_MANIFEST_DIR");
-    Path::new(&here).join("../../crates/movaliren_c/out")
+    Path::new(&here).join(path)
 }
 
 /// What the command prints, without the space around it, if it succeeds and prints something.
@@ -36,12 +50,16 @@ fn printed(command: &mut Command) -> Option<String> {
     (output.status.success() && !text.is_empty()).then_some(text)
 }
 
+/// What pkg-config says of the library by this option.
+fn asked(option: &str) -> Option<String> {
+    println!("cargo:rerun-if-env-changed=PKG_CONFIG_PATH");
+    let program = folder_of("PKG_CONFIG").unwrap_or_else(|| "pkg-config".into());
+    printed(Command::new(program).args([option, "movaliren"]))
+}
+
 /// The folders that pkg-config names: after `-L`, and the folder of libraries, for which it prints no
 /// `-L` where the linker looks there by itself.
 fn folders_installed() -> Vec<PathBuf> {
-    println!("cargo:rerun-if-env-changed=PKG_CONFIG_PATH");
-    let program = folder_of("PKG_CONFIG").unwrap_or_else(|| "pkg-config".into());
-    let asked = |word: &str| printed(Command::new(&program).args([word, "movaliren"]));
     let flags = asked("--libs-only-L").unwrap_or_default();
     flags
         .split_whitespace()
@@ -58,44 +76,106 @@ fn folder_of_kit() -> Option<PathBuf> {
     folder_of("RATTLE_C").or_else(in_kit)
 }
 
-/// Links the library if the folder has the file.
-fn is_linked(folder: &Path, file: &str, kind: &str, library: &str) -> bool {
-    let path = folder.join(file);
-    if !path.exists() {
-        return false;
+/// The version in a header of the library, if it is one.
+fn version_in(header: &Path) -> Option<String> {
+    let text = fs::read_to_string(header).ok()?;
+    println!("cargo:rerun-if-changed={}", header.display());
+    let quoted = text.split("#define MOVALIREN_VERSION \"").nth(1)?;
+    Some(quoted.split('"').next()?.to_owned())
+}
+
+/// The version of the header that stands beside a library in this folder, or where it is installed with it.
+fn version_beside(folder: &Path) -> Option<String> {
+    [".", "../include", "../../include"]
+        .iter()
+        .find_map(|place| version_in(&folder.join(place).join("movaliren.h")))
+}
+
+/// A version of three numbers.
+fn numbers(version: &str) -> Option<[u64; 3]> {
+    let mut parts = version.split('.').map(|part| part.parse().ok());
+    let numbers = [parts.next()??, parts.next()??, parts.next()??];
+    parts.next().is_none().then_some(numbers)
+}
+
+/// Whether a library of the version has what this crate calls: the first number that is not zero is the same, and no
+/// number after it is older.
+fn has_calls(version: &str) -> bool {
+    match (numbers(version), numbers(env!("CARGO_PKG_VERSION"))) {
+        (Some(theirs), Some(ours)) => {
+            let is_same = theirs[0] == ours[0] && (ours[0] > 0 || theirs[1] == ours[1]);
+            is_same && theirs >= ours
+        }
+        _ => false,
     }
-    println!("cargo:rerun-if-changed={}", path.display());
+}
+
+fn check_version(version: Option<String>, from: &str) -> Result<(), String> {
+    match version {
+        Some(version) if !has_calls(&version) => Err(format!(
+            "the library of Movaliren has the version {version} by {from}, and this crate calls that of {}, so \
+             nothing links. Install the library of this version",
+            env!("CARGO_PKG_VERSION")
+        )),
+        _ => Ok(()),
+    }
+}
+
+fn link(folder: &Path, file: &str, kind: &str, library: &str) {
+    println!("cargo:rerun-if-changed={}", folder.join(file).display());
     println!("cargo:rustc-link-search=native={}", folder.display());
     println!("cargo:rustc-link-lib={kind}={library}");
-    true
 }
 
-/// Links the library if the folder has it.
-fn is_in(folder: &Path) -> bool {
-    if is_linked(folder, "libmovaliren_c.a", "static", "movaliren_c") {
-        // It calls what the kit's archive has, so that archive follows it.
-        let has_kit = |kit: PathBuf| is_linked(&kit, "liblibc_c.a", "static", "libc_c");
-        if !folder_of_kit().map_or(false, has_kit) {
-            fail(NO_KIT);
-        }
-        return true;
+/// Links the library of this folder, if it has one.
+fn linked_in(folder: &Path) -> Result<(), String> {
+    let is_there = |file: &&(&str, _, _)| folder.join(file.0).exists();
+    let (file, kind, library) = FILES.iter().find(is_there).ok_or(NOT_FOUND)?;
+    let kit = match *library {
+        "movaliren_c" => Some(
+            folder_of_kit()
+                .filter(|kit| kit.join("liblibc_c.a").exists())
+                .ok_or(NO_KIT)?,
+        ),
+        _ => None,
+    };
+    link(folder, file, kind, library);
+    // The library calls what the kit's archive has, so that archive follows it.
+    if let Some(kit) = kit {
+        link(&kit, "liblibc_c.a", "static", "libc_c");
     }
-    is_linked(folder, "libmovaliren.a", "static", "movaliren")
-        || is_linked(folder, "libmovaliren.so", "dylib", "movaliren")
+    Ok(())
 }
 
-fn fail(message: &str) -> ! {
-    eprintln!("{message}");
-    exit(1)
+fn linked_installed() -> Result<(), String> {
+    let folders = folders_installed();
+    let is_there = |folder: &&PathBuf| FILES.iter().any(|file| folder.join(file.0).exists());
+    let folder = folders.iter().find(is_there).ok_or(NOT_FOUND)?;
+    check_version(asked("--modversion"), "pkg-config")?;
+    linked_in(folder)
+}
+
+fn linked() -> Result<(), String> {
+    if let Some(folder) = folder_of("MOVALIREN_LIB") {
+        check_version(version_beside(&folder), "its header")?;
+        return linked_in(&folder);
+    }
+    let folder = beside("../../crates/movaliren_c/out");
+    if folder.join("libmovaliren_c.a").exists() {
+        check_version(version_in(&beside("../c/movaliren.h")), "its header")?;
+        return linked_in(&folder);
+    }
+    linked_installed()
 }
 
 fn main() {
     println!("cargo:rerun-if-changed=build.rs");
-    let is_found = match folder_of("MOVALIREN_LIB") {
-        Some(folder) => is_in(&folder),
-        None => is_in(&folder_beside()) || folders_installed().iter().any(|folder| is_in(folder)),
-    };
-    if !is_found {
-        fail(NOT_FOUND);
+    if let Err(reason) = linked() {
+        for line in reason.lines() {
+            println!("cargo:warning={line}");
+        }
+        println!("cargo:rustc-link-lib=static=movaliren");
+        // There is no such file, so cargo runs this program again.
+        println!("cargo:rerun-if-changed=libmovaliren.a");
     }
 }

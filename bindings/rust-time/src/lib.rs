@@ -1,7 +1,7 @@
-//! Values of the crates `time` and `chrono` as values of `movaliren`, and a timer for
-//! `tracing-subscriber`.
+//! Values of the crates `time` and `chrono` as values of `movaliren`, a timer for `tracing-subscriber`,
+//! and moments for `serde`.
 //!
-//! Each of the three is a feature, and all are on by default. The conversions are traits, since neither
+//! Each of the four is a feature, and all are on by default. The conversions are traits, since neither
 //! side's types belong to this crate.
 //!
 //! ```
@@ -14,7 +14,12 @@
 //! # Ok::<(), movaliren::Error>(())
 //! ```
 #![forbid(unsafe_code)]
-#![warn(missing_docs)]
+#![warn(
+    missing_docs,
+    clippy::missing_errors_doc,
+    clippy::missing_panics_doc,
+    clippy::must_use_candidate
+)]
 
 use movaliren::{Date, Moment, UtcMoment};
 
@@ -22,6 +27,8 @@ use movaliren::{Date, Moment, UtcMoment};
 mod of_chrono;
 #[cfg(feature = "time")]
 mod of_time;
+#[cfg(feature = "serde")]
+pub mod rfc3339;
 #[cfg(feature = "tracing")]
 mod timer;
 
@@ -45,3 +52,7 @@ pub trait ToDate {
     /// Returns the date.
     fn to_date(&self) -> Date;
 }
+
+#[cfg(all(doctest, feature = "time", feature = "tracing", feature = "serde"))]
+#[doc = include_str!("../README.md")]
+struct Readme;

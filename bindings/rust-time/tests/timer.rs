@@ -45,6 +45,13 @@ fn a_time_may_be_longer_than_a_text_in_place() {
     assert!(line[long.len()..].ends_with("M  INFO timer: opened\n"));
 }
 
+#[test]
+fn the_format_of_a_timer_is_chosen_when_the_program_runs() {
+    let format: Arc<dyn Format<UtcMoment> + Send + Sync> =
+        Arc::new(Description::new().literal("at noon"));
+    assert_eq!(logged(format), "at noon  INFO timer: opened\n");
+}
+
 /// `tracing-subscriber` writes these words where its timer fails. No text of RFC 3339 has an offset of a second.
 #[test]
 fn a_time_that_has_no_text_is_unknown() {

@@ -1,8 +1,8 @@
 //! Texts and parts of 200,000 random values beside those of `time` and of `chrono`.
 use chrono::{DateTime, FixedOffset, NaiveDate, NaiveDateTime, SecondsFormat, Utc};
 use movaliren::{
-    Date, Description, Error, Format, Iso8601By, Kind, Moment, Padding, Rfc2822, Rfc2822Local,
-    Rfc3339, Rfc3339Local, Stamp, SubsecondDigits, TimePrecision, UtcMoment,
+    Date, Description, Error, Format, Iso8601By, Kind, Moment, Rfc2822, Rfc2822Local, Rfc3339,
+    Rfc3339Local, Sign, Stamp, SubsecondDigits, TimePrecision, UtcMoment,
 };
 use movaliren_time::{ToDate, ToMoment, ToUtcMoment};
 use std::fmt::Debug;
@@ -161,7 +161,7 @@ fn dates_are_those_of_chrono() {
         .literal("-W")
         .component(Kind::WeekIso)
         .literal("-")
-        .component_with(Kind::WeekdayFromMonday, Default::default(), true);
+        .component(Kind::WeekdayFromMonday);
     for chrono in values().map(chrono_of) {
         let date = chrono.naive_utc().date();
         let theirs = date.format("%G-W%V-%u").to_string();
@@ -183,7 +183,7 @@ fn parts_before_1970_and_offsets_with_seconds_are_those_of_time() {
         "[offset_hour sign:mandatory]:[offset_minute]:[offset_second]"
     );
     let ours = Description::new()
-        .component_with(Kind::OffsetHour, Padding::Zero, true)
+        .component(Kind::OffsetHour.sign(Sign::Mandatory))
         .literal(":")
         .component(Kind::OffsetMinute)
         .literal(":")
@@ -217,7 +217,7 @@ fn parts_before_1970_and_offsets_with_seconds_are_those_of_chrono() {
         .component(Kind::Second)
         .literal(".")
         .subsecond(SubsecondDigits::Nine)
-        .component_with(Kind::OffsetHour, Padding::Zero, true)
+        .component(Kind::OffsetHour.sign(Sign::Mandatory))
         .literal(":")
         .component(Kind::OffsetMinute)
         .literal(":")

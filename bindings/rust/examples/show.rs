@@ -21,7 +21,7 @@ fn main() -> Result<(), Box<dyn std::error::Error>> {
     println!("stamp         {}", String::from_utf8_lossy(&text));
 
     let description = Description::new()
-        .component_with(Kind::Day, Padding::NoPadding, false)
+        .component(Kind::Day.padding(Padding::NoPadding))
         .literal(" ")
         .component(Kind::MonthLong)
         .literal(", week ")

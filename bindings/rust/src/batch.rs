@@ -4,8 +4,9 @@ use crate::{raw, Error};
 use alloc::vec::Vec;
 
 /// How far a batch came.
-#[derive(Clone, Copy, Debug, PartialEq, Eq)]
+#[derive(Clone, Copy, Debug, PartialEq, Eq, Hash)]
 #[must_use]
+#[non_exhaustive]
 pub struct Progress {
     /// The number of values that were written.
     pub moments: usize,

@@ -83,6 +83,7 @@ pub enum DecimalSign {
 /// # Ok::<(), movaliren::Error>(())
 /// ```
 #[derive(Clone, Copy, Debug, PartialEq, Eq, Hash)]
+#[must_use]
 pub struct Iso8601By(IsoConfig);
 
 impl Default for Iso8601By {
@@ -107,21 +108,18 @@ impl Iso8601By {
     }
 
     /// Sets the parts that are written.
-    #[must_use]
     pub const fn parts(mut self, parts: Parts) -> Self {
         self.0.components = parts as u8;
         self
     }
 
     /// Sets the kind of date.
-    #[must_use]
     pub const fn date_kind(mut self, kind: DateKind) -> Self {
         self.0.date_kind = kind as u8;
         self
     }
 
     /// Sets the smallest unit of the time, and the number of its decimals. 0 writes none.
-    #[must_use]
     pub const fn time_precision(mut self, precision: TimePrecision, decimals: u8) -> Self {
         self.0.time_precision = precision as u8;
         self.0.decimals = decimals;
@@ -129,28 +127,24 @@ impl Iso8601By {
     }
 
     /// Sets the smallest unit of the offset.
-    #[must_use]
     pub const fn offset_precision(mut self, precision: OffsetPrecision) -> Self {
         self.0.offset_precision = precision as u8;
         self
     }
 
     /// Sets whether separators are written.
-    #[must_use]
     pub const fn separators(mut self, use_separators: bool) -> Self {
         self.0.use_separators = use_separators as u8;
         self
     }
 
     /// Sets whether the year has a sign and six digits, or four digits.
-    #[must_use]
     pub const fn six_digit_year(mut self, is_six_digits: bool) -> Self {
         self.0.year_is_six_digits = is_six_digits as u8;
         self
     }
 
     /// Sets the sign before the decimals.
-    #[must_use]
     pub const fn decimal_sign(mut self, sign: DecimalSign) -> Self {
         self.0.comma = sign as u8;
         self
@@ -161,6 +155,7 @@ impl Iso8601By {
 
     /// The most bytes that a text has. Each text with an offset other than zero has as many.
     #[inline]
+    #[must_use]
     pub const fn width(&self) -> usize {
         let config = &self.0;
         let has_date = matches!(config.components, 1 | 4 | 5);

@@ -1,8 +1,8 @@
 //! Descriptions: texts and components in order.
 use crate::format::Format;
-use crate::raw::{self, Item};
-use crate::{Moment, UtcMoment};
-use alloc::vec::Vec;
+use crate::raw;
+use crate::{Component, Item, Moment, UtcMoment};
+use alloc::borrow::Cow;
 
 /// What is written before a number with fewer digits than its width.
 #[derive(Clone, Copy, Debug, Default, PartialEq, Eq, Hash)]
@@ -18,6 +18,7 @@ pub enum Padding {
 
 /// A component. One with a range refuses a value outside it.
 #[derive(Clone, Copy, Debug, PartialEq, Eq, Hash)]
+#[non_exhaustive]
 pub enum Kind {
     /// The day of the month, 1 to 31, in two places.
     Day = 1,
@@ -94,7 +95,7 @@ pub enum Kind {
 
 impl Kind {
     /// The flag of the usual choices.
-    const fn usual_flag(self) -> bool {
+    pub(crate) const fn usual_flag(self) -> bool {
         matches!(
             self,
             Kind::WeekdayFromSunday | Kind::WeekdayFromMonday | Kind::Period
@@ -141,11 +142,14 @@ pub struct Date {
 
 /// A list of literals and components. It formats a [`Moment`], a [`UtcMoment`] and a [`Date`].
 ///
+/// Two descriptions are equal if their items are. [`description!`](crate::description) makes one that is
+/// a constant.
+///
 /// ```
 /// use movaliren::{Date, Description, Format, Kind, Padding};
 ///
 /// let description = Description::new()
-///     .component_with(Kind::Day, Padding::NoPadding, false)
+///     .component(Kind::Day.padding(Padding::NoPadding))
 ///     .literal(" ")
 ///     .component(Kind::MonthLong)
 ///     .literal(" ")
@@ -155,52 +159,48 @@ pub struct Date {
 /// assert_eq!(description.width(), 18);
 /// # Ok::<(), movaliren::Error>(())
 /// ```
-#[derive(Clone, Debug, Default)]
+#[derive(Clone, Debug, Default, PartialEq, Eq, Hash)]
+#[must_use]
 pub struct Description {
-    items: Vec<Item>,
-    texts: Vec<u8>,
+    items: Cow<'static, [raw::Item]>,
+    texts: Cow<'static, [u8]>,
     width: usize,
 }
 
 impl Description {
     /// Returns the empty description.
-    pub fn new() -> Self {
-        Self::default()
+    pub const fn new() -> Self {
+        Description::borrowed(&[], &[], 0)
+    }
+
+    pub(crate) const fn borrowed(
+        items: &'static [raw::Item],
+        texts: &'static [u8],
+        width: usize,
+    ) -> Self {
+        Description {
+            items: Cow::Borrowed(items),
+            texts: Cow::Borrowed(texts),
+            width,
+        }
     }
 
     /// Adds a literal, which is written as it is.
-    #[must_use]
-    pub fn literal(mut self, text: &str) -> Self {
-        let start = self.texts.len();
-        self.texts.extend_from_slice(text.as_bytes());
-        self.then(Item {
-            start,
-            len: text.len(),
-            ..Item::NONE
-        })
+    pub fn literal(self, text: &str) -> Self {
+        self.item(Item::Literal(text))
     }
 
-    /// Adds a component by its usual choices: zeros before its number, and no plus.
+    /// Adds a component: a [`Kind`] by its usual choices, or a [`Component`] by its own.
     ///
-    /// A weekday counts from 1, and the half of the day is in upper case.
-    #[must_use]
-    pub fn component(self, kind: Kind) -> Self {
-        self.component_with(kind, Padding::Zero, kind.usual_flag())
-    }
-
-    /// Adds a component with this padding.
+    /// ```
+    /// use movaliren::{Description, Format, Kind, Moment, Sign};
     ///
-    /// The flag puts a plus before a year, a century, the hours of an offset or the time since
-    /// 1970. With it a weekday counts from 1, without it from 0. With it the half of the day is in upper
-    /// case, without it in lower case.
-    #[must_use]
-    pub fn component_with(self, kind: Kind, padding: Padding, flag: bool) -> Self {
-        self.then(Item {
-            kind: kind as u32,
-            padding: padding as u8,
-            flag: flag as u8,
-            ..Item::NONE
-        })
+    /// let year = Description::new().component(Kind::Year.sign(Sign::Mandatory));
+    /// assert_eq!(year.text(&Moment::new(2026, 11, 22))?, "+2026");
+    /// # Ok::<(), movaliren::Error>(())
+    /// ```
+    pub fn component(self, component: impl Into<Component>) -> Self {
+        self.item(Item::Component(component.into()))
     }
 
     /// Adds the decimals of the second. A number of decimals that no text has does not compile:
@@ -208,34 +208,62 @@ impl Description {
     /// ```compile_fail,E0308
     /// movaliren::Description::new().subsecond(Some(0));
     /// ```
-    #[must_use]
     pub fn subsecond(self, digits: SubsecondDigits) -> Self {
-        self.then(Item {
-            kind: Kind::Subsecond as u32,
-            digits: digits as u8,
-            ..Item::NONE
-        })
+        self.component(Kind::Subsecond.digits(digits))
+    }
+
+    /// Adds an item.
+    pub fn item(mut self, item: Item<'_>) -> Self {
+        self.add(item);
+        self
     }
 
     /// The greatest number of bytes that a text has.
     #[inline]
-    pub fn width(&self) -> usize {
+    #[must_use]
+    pub const fn width(&self) -> usize {
         self.width
     }
 
     #[inline]
-    pub(crate) fn parts(&self) -> (&[Item], &[u8]) {
+    pub(crate) fn parts(&self) -> (&[raw::Item], &[u8]) {
         (&self.items, &self.texts)
     }
 
     /// The width of a list is the sum of those of its items, up to `isize::MAX`.
-    fn then(mut self, item: Item) -> Self {
-        let most = isize::MAX as usize;
-        // An item that is made here has a width.
-        let width = raw::width(&[item], &self.texts).unwrap_or(most);
-        self.items.push(item);
-        self.width = self.width.saturating_add(width).min(most);
-        self
+    fn add(&mut self, item: Item<'_>) {
+        let raw = item.raw(self.texts.len());
+        if let Item::Literal(text) = item {
+            self.texts.to_mut().extend_from_slice(text.as_bytes());
+        }
+        debug_assert_eq!(raw::width(&[raw], &self.texts), Ok(item.width()));
+        self.items.to_mut().push(raw);
+        let width = self.width.saturating_add(item.width());
+        self.width = width.min(isize::MAX as usize);
+    }
+}
+
+impl<'a, I: Into<Item<'a>>> Extend<I> for Description {
+    fn extend<T: IntoIterator<Item = I>>(&mut self, items: T) {
+        items.into_iter().for_each(|item| self.add(item.into()));
+    }
+}
+
+/// ```
+/// use movaliren::{Description, Format, Item, Kind, Moment};
+///
+/// let moment = Moment::new(2026, 11, 22);
+/// let description: Description = [Kind::Year, Kind::Month, Kind::Day].into_iter().collect();
+/// assert_eq!(description.text(&moment)?, "20261122");
+/// let parts = [Item::from("on "), Item::from(Kind::Day)];
+/// assert_eq!(Description::from_iter(parts).text(&moment)?, "on 22");
+/// # Ok::<(), movaliren::Error>(())
+/// ```
+impl<'a, I: Into<Item<'a>>> FromIterator<I> for Description {
+    fn from_iter<T: IntoIterator<Item = I>>(items: T) -> Self {
+        let mut description = Description::new();
+        description.extend(items);
+        description
     }
 }
 
@@ -255,10 +283,13 @@ described!(Moment, UtcMoment, Date);
 #[cfg(test)]
 mod tests {
     use super::*;
+    use crate::description;
+
+    const LIST: Description = description!["", Kind::Day, "a", Kind::MonthLong, "\u{2236}",];
 
     #[test]
     fn the_width_is_that_of_the_whole_list() {
-        let mut description = Description::new();
+        let mut description = LIST;
         for text in ["", "a", "hours and minutes"] {
             for kind in [
                 Kind::Day,
@@ -266,9 +297,9 @@ mod tests {
                 Kind::YearExtended,
                 Kind::UnixSecond,
             ] {
-                description = description.literal(text).component(kind);
                 let (items, texts) = description.parts();
                 assert_eq!(raw::width(items, texts), Ok(description.width()));
+                description = description.literal(text).component(kind);
             }
         }
     }

@@ -7,6 +7,29 @@ use alloc::vec::Vec;
 ///
 /// Each method either writes the whole text or returns an error. This trait is sealed: the formats of
 /// this crate implement it.
+///
+/// `&F`, `Box<F>`, `Rc<F>` and `Arc<F>` of a format are formats, so one is chosen when the program runs:
+///
+/// ```
+/// use movaliren::{Format, Moment, Rfc2822, Rfc3339};
+///
+/// fn chosen(is_mail: bool) -> Box<dyn Format<Moment>> {
+///     if is_mail {
+///         Box::new(Rfc2822)
+///     } else {
+///         Box::new(Rfc3339)
+///     }
+/// }
+///
+/// assert_eq!(chosen(false).text(&Moment::new(2026, 11, 22))?, "2026-11-22T00:00:00Z");
+/// # Ok::<(), movaliren::Error>(())
+/// ```
+///
+/// # Errors
+///
+/// Each method returns the reason why the value has no text. An [`Error`] names the part that is out of
+/// its range, or the one that the format cannot represent. A [`Description`](crate::Description) returns
+/// [`Error::OutOfMemory`] where an allocation fails.
 pub trait Format<V>: raw::Call<V> {
     /// The greatest number of bytes that a text has.
     fn width(&self) -> usize;
@@ -14,11 +37,19 @@ pub trait Format<V>: raw::Call<V> {
     /// Writes the text of the value to the start of the buffer, and returns the number of its bytes.
     ///
     /// The bytes after the text are unchanged. After an error the whole buffer is.
+    ///
+    /// # Errors
+    ///
+    /// The value has no text, or the buffer is shorter than it: [`Error::NoRoom`].
     fn write(&self, buffer: &mut [u8], value: &V) -> Result<usize, Error> {
         raw::write(self, value, buffer)
     }
 
     /// Writes the text of the value to the start of the buffer, and returns it.
+    ///
+    /// # Errors
+    ///
+    /// Those of [`Format::write`].
     ///
     /// ```
     /// use movaliren::{Error, Format, Moment, Rfc3339};
@@ -37,6 +68,10 @@ pub trait Format<V>: raw::Call<V> {
 
     /// Writes the text of the value to the start of the buffer, and returns it as a `str`.
     ///
+    /// # Errors
+    ///
+    /// Those of [`Format::write`].
+    ///
     /// ```
     /// use movaliren::{Format, Moment, Rfc2822};
     ///
@@ -51,7 +86,9 @@ pub trait Format<V>: raw::Call<V> {
 
     /// Returns the text of the value in place, without an allocation for it.
     ///
-    /// A text of more than [`Text::CAPACITY`] bytes is [`Error::NoRoom`].
+    /// # Errors
+    ///
+    /// The value has no text, or it has more than [`Text::CAPACITY`] bytes: [`Error::NoRoom`].
     ///
     /// ```
     /// use movaliren::{Format, Iso8601, Moment};
@@ -67,6 +104,10 @@ pub trait Format<V>: raw::Call<V> {
     /// Appends the text of the value, and returns the number of its bytes.
     ///
     /// Reserves the width first. After an error the contents are unchanged.
+    ///
+    /// # Errors
+    ///
+    /// The value has no text, or an allocation failed: [`Error::OutOfMemory`].
     fn format_into(&self, output: &mut Vec<u8>, value: &V) -> Result<usize, Error> {
         raw::append(self, value, self.width(), output)
     }
@@ -74,6 +115,10 @@ pub trait Format<V>: raw::Call<V> {
     /// Appends the text of the value to a `String`, and returns the number of its bytes.
     ///
     /// Reserves the width first. After an error the contents are unchanged.
+    ///
+    /// # Errors
+    ///
+    /// Those of [`Format::format_into`].
     ///
     /// ```
     /// use movaliren::{Format, Moment, Rfc3339};
@@ -88,6 +133,10 @@ pub trait Format<V>: raw::Call<V> {
     }
 
     /// Returns the text of the value as a new `String`.
+    ///
+    /// # Errors
+    ///
+    /// Those of [`Format::format_into`].
     fn format(&self, value: &V) -> Result<String, Error> {
         let mut output = String::new();
         self.format_into_string(&mut output, value)?;

@@ -47,6 +47,11 @@ pub struct Rfc2822Local(pub i64);
 
 /// Returns the stamp of a moment in UTC.
 ///
+/// # Errors
+///
+/// - [`Error::MomentSeconds`] or [`Error::Nanosecond`]: a number of the moment is out of its range.
+/// - [`Error::NoPlaceForYear`]: the year is outside 0 to 9999.
+///
 /// ```
 /// use movaliren::{stamp, UtcMoment};
 ///
@@ -65,6 +70,7 @@ macro_rules! known {
         impl $name {
             /// The greatest number of bytes that a text has.
             #[inline]
+            #[must_use]
             pub const fn width(&self) -> usize {
                 $width
             }

@@ -26,29 +26,45 @@
     unsafe_op_in_unsafe_fn,
     clippy::undocumented_unsafe_blocks
 )]
-#![warn(missing_docs)]
+#![warn(
+    missing_docs,
+    clippy::missing_errors_doc,
+    clippy::missing_panics_doc,
+    clippy::must_use_candidate
+)]
 
 extern crate alloc;
 #[cfg(feature = "std")]
 extern crate std;
 
 mod batch;
+mod component;
 mod config;
 mod description;
 mod error;
 mod format;
+mod formatted;
 mod known;
+#[doc(hidden)]
+pub mod list;
 mod moment;
+mod pointers;
 #[allow(unsafe_code)]
 mod raw;
 #[allow(unsafe_code)]
 mod text;
 
 pub use batch::{Batch, Progress};
+pub use component::{Component, CountFrom, Item, LetterCase, Sign};
 pub use config::{DateKind, DecimalSign, Iso8601By, OffsetPrecision, Parts, TimePrecision};
 pub use description::{Date, Description, Kind, Padding, SubsecondDigits};
 pub use error::Error;
 pub use format::Format;
+pub use formatted::Formatted;
 pub use known::{stamp, Iso8601, Rfc2822, Rfc2822Local, Rfc3339, Rfc3339Local, Stamp};
 pub use moment::{Moment, UtcMoment};
 pub use text::Text;
+
+#[cfg(doctest)]
+#[doc = include_str!("../README.md")]
+struct Readme;

@@ -9,6 +9,7 @@ use core::cmp::Ordering;
 /// The default is the start of 1970 in UTC.
 #[repr(C)]
 #[derive(Clone, Copy, Debug, PartialEq, Eq, Hash)]
+#[must_use]
 pub struct Moment {
     year: i32,
     nanosecond: u32,
@@ -41,7 +42,6 @@ impl Moment {
     }
 
     /// Sets the local time.
-    #[must_use]
     pub const fn at(self, hour: u8, minute: u8, second: u8, nanosecond: u32) -> Self {
         Moment {
             hour,
@@ -56,7 +56,6 @@ impl Moment {
     ///
     /// Its parts have one sign: half past five behind UTC is -5 and -30. Minutes of the opposite sign are
     /// [`Error::OffsetMinutes`] when the moment is formatted, and seconds [`Error::OffsetSeconds`].
-    #[must_use]
     pub const fn offset(self, hours: i8, minutes: i8, seconds: i8) -> Self {
         Moment {
             offset_hours: hours,
@@ -67,41 +66,49 @@ impl Moment {
     }
 
     /// Returns the year.
+    #[must_use]
     pub const fn year(&self) -> i32 {
         self.year
     }
 
     /// Returns the month, from 1.
+    #[must_use]
     pub const fn month(&self) -> u8 {
         self.month
     }
 
     /// Returns the day of the month, from 1.
+    #[must_use]
     pub const fn day(&self) -> u8 {
         self.day
     }
 
     /// Returns the hour.
+    #[must_use]
     pub const fn hour(&self) -> u8 {
         self.hour
     }
 
     /// Returns the minute.
+    #[must_use]
     pub const fn minute(&self) -> u8 {
         self.minute
     }
 
     /// Returns the second.
+    #[must_use]
     pub const fn second(&self) -> u8 {
         self.second
     }
 
     /// Returns the nanosecond of the second.
+    #[must_use]
     pub const fn nanosecond(&self) -> u32 {
         self.nanosecond
     }
 
     /// Returns the hours, minutes and seconds of the offset, as they were set.
+    #[must_use]
     pub const fn offset_hms(&self) -> (i8, i8, i8) {
         (self.offset_hours, self.offset_minutes, self.offset_seconds)
     }
@@ -148,6 +155,7 @@ impl PartialOrd for Moment {
 /// Both numbers are tested when the moment is formatted. The default is the start of 1970.
 #[repr(C)]
 #[derive(Clone, Copy, Debug, Default, PartialEq, Eq, PartialOrd, Ord, Hash)]
+#[must_use]
 pub struct UtcMoment {
     /// The seconds since 1970-01-01T00:00:00 UTC, without leap seconds.
     pub seconds: i64,

@@ -6,13 +6,16 @@
 //! bytes of a buffer or leaves them as they were, so none becomes uninitialized.
 use crate::known::{Iso8601, Rfc2822, Rfc2822Local, Rfc3339, Rfc3339Local, Stamp};
 use crate::{Date, Description, Error, Iso8601By, Moment, Progress, UtcMoment};
+use alloc::boxed::Box;
+use alloc::rc::Rc;
 use alloc::string::String;
+use alloc::sync::Arc;
 use alloc::vec::Vec;
 use core::mem::MaybeUninit;
 use core::{slice, str};
 
 #[repr(C)]
-#[derive(Clone, Copy, Debug)]
+#[derive(Clone, Copy, Debug, PartialEq, Eq, Hash)]
 pub(crate) struct Item {
     pub(crate) kind: u32,
     pub(crate) padding: u8,
@@ -256,6 +259,18 @@ const _: () = assert!(core::mem::size_of::<library::Progress>() == 24);
 /// Memory that a call writes to. No result depends on what it held.
 type Buffer = [MaybeUninit<u8>];
 
+/// What a caller of `call` and `call_all` has. Only this crate can name it, so no other code calls them:
+///
+/// ```compile_fail,E0061
+/// use movaliren::{Format, Moment};
+///
+/// fn call<F: Format<Moment>>(format: F) {
+///     let _ = format.call(&Moment::default(), &mut []);
+/// }
+/// ```
+#[derive(Clone, Copy)]
+pub struct Inside;
+
 /// A format, by the function of the library that writes its text.
 ///
 /// # Safety
@@ -263,7 +278,8 @@ type Buffer = [MaybeUninit<u8>];
 /// After `Ok(count)` the buffer has this many bytes, and the first `count` of them are initialized
 /// and are UTF-8. No byte of the buffer is made uninitialized.
 pub unsafe trait Call<V> {
-    fn call(&self, value: &V, buffer: &mut Buffer) -> Result<usize, Error>;
+    #[doc(hidden)]
+    fn call(&self, value: &V, buffer: &mut Buffer, _: Inside) -> Result<usize, Error>;
 }
 
 /// A format, by the function of the library that writes many texts.
@@ -273,8 +289,31 @@ pub unsafe trait Call<V> {
 /// The buffer has as many bytes as `Progress` counts, and the first ones are initialized. No byte of
 /// the buffer is made uninitialized.
 pub unsafe trait CallAll<V> {
-    fn call_all(&self, values: &[V], end: u8, buffer: &mut Buffer) -> Progress;
+    #[doc(hidden)]
+    fn call_all(&self, values: &[V], end: u8, buffer: &mut Buffer, _: Inside) -> Progress;
 }
+
+macro_rules! behind_pointers {
+    ($($pointer:ty),*) => { $(
+        // SAFETY: this is the call of the format that is pointed to.
+        unsafe impl<V, F: Call<V> + ?Sized> Call<V> for $pointer {
+            #[inline]
+            fn call(&self, value: &V, buffer: &mut Buffer, _: Inside) -> Result<usize, Error> {
+                (**self).call(value, buffer, Inside)
+            }
+        }
+
+        // SAFETY: this is the call of the format that is pointed to.
+        unsafe impl<V, F: CallAll<V> + ?Sized> CallAll<V> for $pointer {
+            #[inline]
+            fn call_all(&self, values: &[V], end: u8, buffer: &mut Buffer, _: Inside) -> Progress {
+                (**self).call_all(values, end, buffer, Inside)
+            }
+        }
+    )* };
+}
+
+behind_pointers!(&F, Box<F>, Rc<F>, Arc<F>);
 
 #[inline]
 fn count_of(answer: isize) -> Result<usize, Error> {
@@ -304,7 +343,7 @@ macro_rules! calls {
         // are ASCII.
         unsafe impl Call<Moment> for $format {
             #[inline]
-            fn call(&self, value: &Moment, buffer: &mut Buffer) -> Result<usize, Error> {
+            fn call(&self, value: &Moment, buffer: &mut Buffer, _: Inside) -> Result<usize, Error> {
                 // SAFETY: `Moment` has the header's layout, and pointer and length are the buffer's.
                 count_of(unsafe { library::$function(value, pointer(buffer), buffer.len()) })
             }
@@ -313,7 +352,7 @@ macro_rules! calls {
         // SAFETY: the function returns how many bytes it has written to the start of the buffer.
         unsafe impl CallAll<Moment> for $format {
             #[inline]
-            fn call_all(&self, values: &[Moment], end: u8, buffer: &mut Buffer) -> Progress {
+            fn call_all(&self, values: &[Moment], end: u8, buffer: &mut Buffer, _: Inside) -> Progress {
                 // SAFETY: `Moment` has the header's layout, and both pointers come with the
                 // lengths of their slices.
                 progress_of(unsafe {
@@ -335,7 +374,7 @@ calls! {
 // ASCII.
 unsafe impl Call<Moment> for Iso8601By {
     #[inline]
-    fn call(&self, value: &Moment, buffer: &mut Buffer) -> Result<usize, Error> {
+    fn call(&self, value: &Moment, buffer: &mut Buffer, _: Inside) -> Result<usize, Error> {
         // SAFETY: both structs have the header's layout; pointer and length are the buffer's.
         count_of(unsafe {
             library::movaliren_iso8601_by(self.config(), value, pointer(buffer), buffer.len())
@@ -346,7 +385,7 @@ unsafe impl Call<Moment> for Iso8601By {
 // SAFETY: the function returns how many bytes it has written to the start of the buffer.
 unsafe impl CallAll<Moment> for Iso8601By {
     #[inline]
-    fn call_all(&self, values: &[Moment], end: u8, buffer: &mut Buffer) -> Progress {
+    fn call_all(&self, values: &[Moment], end: u8, buffer: &mut Buffer, _: Inside) -> Progress {
         // SAFETY: both structs have the header's layout, and both pointers come with the lengths
         // of their slices.
         progress_of(unsafe {
@@ -368,7 +407,7 @@ macro_rules! utc_calls {
         // are ASCII.
         unsafe impl Call<UtcMoment> for $format {
             #[inline]
-            fn call(&self, value: &UtcMoment, buffer: &mut Buffer) -> Result<usize, Error> {
+            fn call(&self, value: &UtcMoment, buffer: &mut Buffer, _: Inside) -> Result<usize, Error> {
                 let (seconds, nanosecond) = (value.seconds, value.nanosecond);
                 // SAFETY: pointer and length are the buffer's.
                 count_of(unsafe {
@@ -380,7 +419,7 @@ macro_rules! utc_calls {
         // SAFETY: the function returns how many bytes it has written to the start of the buffer.
         unsafe impl CallAll<UtcMoment> for $format {
             #[inline]
-            fn call_all(&self, values: &[UtcMoment], end: u8, buffer: &mut Buffer) -> Progress {
+            fn call_all(&self, values: &[UtcMoment], end: u8, buffer: &mut Buffer, _: Inside) -> Progress {
                 // SAFETY: `UtcMoment` has the header's layout, and both pointers come with the
                 // lengths of their slices.
                 progress_of(unsafe {
@@ -403,7 +442,7 @@ utc_calls! {
 // ASCII.
 unsafe impl Call<UtcMoment> for Iso8601By {
     #[inline]
-    fn call(&self, value: &UtcMoment, buffer: &mut Buffer) -> Result<usize, Error> {
+    fn call(&self, value: &UtcMoment, buffer: &mut Buffer, _: Inside) -> Result<usize, Error> {
         // SAFETY: `IsoConfig` has the header's layout; pointer and length are the buffer's.
         count_of(unsafe {
             library::movaliren_iso8601_by_utc(
@@ -420,7 +459,7 @@ unsafe impl Call<UtcMoment> for Iso8601By {
 // SAFETY: the function returns how many bytes it has written to the start of the buffer.
 unsafe impl CallAll<UtcMoment> for Iso8601By {
     #[inline]
-    fn call_all(&self, values: &[UtcMoment], end: u8, buffer: &mut Buffer) -> Progress {
+    fn call_all(&self, values: &[UtcMoment], end: u8, buffer: &mut Buffer, _: Inside) -> Progress {
         // SAFETY: both structs have the header's layout, and both pointers come with the lengths
         // of their slices.
         progress_of(unsafe {
@@ -442,7 +481,7 @@ macro_rules! local_calls {
         // are ASCII.
         unsafe impl Call<UtcMoment> for $format {
             #[inline]
-            fn call(&self, value: &UtcMoment, buffer: &mut Buffer) -> Result<usize, Error> {
+            fn call(&self, value: &UtcMoment, buffer: &mut Buffer, _: Inside) -> Result<usize, Error> {
                 let (seconds, nanosecond) = (value.seconds, value.nanosecond);
                 // SAFETY: pointer and length are the buffer's.
                 count_of(unsafe {
@@ -454,7 +493,7 @@ macro_rules! local_calls {
         // SAFETY: the function returns how many bytes it has written to the start of the buffer.
         unsafe impl CallAll<UtcMoment> for $format {
             #[inline]
-            fn call_all(&self, values: &[UtcMoment], end: u8, buffer: &mut Buffer) -> Progress {
+            fn call_all(&self, values: &[UtcMoment], end: u8, buffer: &mut Buffer, _: Inside) -> Progress {
                 // SAFETY: `UtcMoment` has the header's layout, and both pointers come with the
                 // lengths of their slices.
                 progress_of(unsafe {
@@ -476,7 +515,7 @@ local_calls! {
 // whole literals, which are UTF-8, and components, which are ASCII.
 unsafe impl Call<Moment> for Description {
     #[inline]
-    fn call(&self, value: &Moment, buffer: &mut Buffer) -> Result<usize, Error> {
+    fn call(&self, value: &Moment, buffer: &mut Buffer, _: Inside) -> Result<usize, Error> {
         let (items, texts) = self.parts();
         // SAFETY: both structs have the header's layout, and each pointer comes with the length
         // of its slice.
@@ -498,7 +537,7 @@ unsafe impl Call<Moment> for Description {
 // whole literals, which are UTF-8, and components, which are ASCII.
 unsafe impl Call<UtcMoment> for Description {
     #[inline]
-    fn call(&self, value: &UtcMoment, buffer: &mut Buffer) -> Result<usize, Error> {
+    fn call(&self, value: &UtcMoment, buffer: &mut Buffer, _: Inside) -> Result<usize, Error> {
         let (items, texts) = self.parts();
         // SAFETY: `Item` has the header's layout, and each pointer comes with the length of its
         // slice.
@@ -521,7 +560,7 @@ unsafe impl Call<UtcMoment> for Description {
 // whole literals, which are UTF-8, and components, which are ASCII.
 unsafe impl Call<Date> for Description {
     #[inline]
-    fn call(&self, value: &Date, buffer: &mut Buffer) -> Result<usize, Error> {
+    fn call(&self, value: &Date, buffer: &mut Buffer, _: Inside) -> Result<usize, Error> {
         let (items, texts) = self.parts();
         // SAFETY: `Item` has the header's layout, and each pointer comes with the length of its
         // slice.
@@ -562,7 +601,7 @@ pub(crate) fn write<V>(
     value: &V,
     room: &mut [u8],
 ) -> Result<usize, Error> {
-    format.call(value, lent(room))
+    format.call(value, lent(room), Inside)
 }
 
 /// Writes the text of the value to the start of the slice, and returns it.
@@ -585,7 +624,7 @@ pub(crate) fn write_all<V>(
     end: u8,
     room: &mut [u8],
 ) -> Progress {
-    format.call_all(values, end, lent(room))
+    format.call_all(values, end, lent(room), Inside)
 }
 
 /// Appends the text of the value, which has at most this many bytes.
@@ -596,7 +635,7 @@ pub(crate) fn append<V>(
     output: &mut Vec<u8>,
 ) -> Result<usize, Error> {
     output.try_reserve(width).map_err(|_| Error::OutOfMemory)?;
-    let count = format.call(value, output.spare_capacity_mut())?;
+    let count = format.call(value, output.spare_capacity_mut(), Inside)?;
     // SAFETY: the first `count` bytes after the vector's own are within its capacity and
     // initialized, as `Call` promises of its buffer.
     unsafe { output.set_len(output.len() + count) };
@@ -618,7 +657,7 @@ pub(crate) fn append_all<V>(
             stopped: Some(Error::OutOfMemory),
         };
     }
-    let progress = format.call_all(values, end, output.spare_capacity_mut());
+    let progress = format.call_all(values, end, output.spare_capacity_mut(), Inside);
     // SAFETY: this many bytes after the vector's own are within its capacity and initialized, as
     // `CallAll` promises of its buffer.
     unsafe { output.set_len(output.len() + progress.bytes) };

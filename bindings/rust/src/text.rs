@@ -22,6 +22,7 @@ use core::{fmt, ops, str};
 /// # Ok::<(), movaliren::Error>(())
 /// ```
 #[derive(Clone, Copy)]
+#[must_use]
 pub struct Text {
     /// The first `len` of them are UTF-8.
     bytes: [u8; Text::CAPACITY],
@@ -42,6 +43,7 @@ impl Text {
 
     /// The text as a `str`.
     #[inline]
+    #[must_use]
     pub fn as_str(&self) -> &str {
         // SAFETY: `written` had these bytes as a `str`, and nothing changes them.
         unsafe { str::from_utf8_unchecked(self.as_bytes()) }
@@ -49,6 +51,7 @@ impl Text {
 
     /// The bytes of the text.
     #[inline]
+    #[must_use]
     pub fn as_bytes(&self) -> &[u8] {
         &self.bytes[..usize::from(self.len)]
     }

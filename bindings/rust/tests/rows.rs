@@ -242,8 +242,8 @@ fn a_description_writes_its_items_of_each_kind_of_value() {
         .subsecond(SubsecondDigits::Three);
     assert_text(&clock, &EXAMPLE, "09\u{2236}55.120");
     let period = Description::new()
-        .component_with(Kind::Hour12, Padding::Space, false)
-        .component_with(Kind::Period, Padding::Zero, true);
+        .component(Kind::Hour12.padding(Padding::Space))
+        .component(Kind::Period);
     assert_text(&period, &EXAMPLE, " 9AM");
 }
 
@@ -474,8 +474,8 @@ fn the_width_of_a_configuration_is_the_length_of_its_texts() {
     assert_eq!(widest, Some(Iso8601By::MAX_WIDTH));
 }
 
-/// The texts of 2022-01-02T15:04:05.678 +06:07:08, without the flag and with it. Names and numbers are those of
-/// `strftime`; a number of the weekday is one more if it counts from 1.
+/// The texts of 2022-01-02T15:04:05.678 +06:07:08, without a plus, from 0 and in lower case; and with one, from 1 and
+/// in upper case. Names and numbers are those of `strftime`; a number of the weekday is one more if it counts from 1.
 const KINDS: [(Kind, &str, &str); 33] = [
     (Kind::Day, "02", "02"),
     (Kind::MonthShort, "Jan", "Jan"),
@@ -516,12 +516,24 @@ const SUNDAY: Moment = Moment::new(2022, 1, 2)
     .at(15, 4, 5, 678_000_000)
     .offset(6, 7, 8);
 
+fn plain_choices(kind: Kind) -> Component {
+    kind.sign(Sign::Automatic)
+        .count_from(CountFrom::Zero)
+        .letter_case(LetterCase::Lower)
+}
+
+fn other_choices(kind: Kind) -> Component {
+    kind.sign(Sign::Mandatory)
+        .count_from(CountFrom::One)
+        .letter_case(LetterCase::Upper)
+}
+
 #[test]
 fn each_kind_has_its_texts() {
     for (kind, plain, flagged) in KINDS {
-        let with = |flag| Description::new().component_with(kind, Padding::Zero, flag);
-        assert_text(&with(false), &SUNDAY, plain);
-        assert_text(&with(true), &SUNDAY, flagged);
+        let with = |component| Description::new().component(component);
+        assert_text(&with(plain_choices(kind)), &SUNDAY, plain);
+        assert_text(&with(other_choices(kind)), &SUNDAY, flagged);
     }
 }
 
@@ -548,7 +560,7 @@ fn each_padding_fills_the_places_before_a_number() {
         (Kind::WeekMonday, Padding::NoPadding, "0"),
         (millisecond, Padding::Space, "1641113817678"),
     ] {
-        let description = Description::new().component_with(kind, padding, false);
+        let description = Description::new().component(kind.padding(padding));
         assert_text(&description, &SUNDAY, text);
     }
     assert_eq!(Padding::default(), Padding::Zero);

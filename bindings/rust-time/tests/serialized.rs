@@ -1,0 +1,46 @@
+//! Moments that `serde_json` writes.
+use movaliren::{Error, Moment, UtcMoment};
+use serde::Serialize;
+
+#[derive(Serialize)]
+struct Entry {
+    #[serde(serialize_with = "movaliren_time::rfc3339::serialize")]
+    local: Moment,
+    #[serde(serialize_with = "movaliren_time::rfc3339::serialize")]
+    utc: UtcMoment,
+    #[serde(serialize_with = "movaliren_time::rfc3339::option::serialize")]
+    closed: Option<Moment>,
+}
+
+const NOVEMBER: Moment = Moment::new(1997, 11, 12)
+    .at(9, 55, 6, 120_000_000)
+    .offset(-6, 0, 0);
+
+fn entry(local: Moment, closed: Option<Moment>) -> Entry {
+    let utc = UtcMoment::new(-1, 999_999_999);
+    Entry { local, utc, closed }
+}
+
+#[test]
+fn moments_are_written_as_rfc_3339() {
+    let text = serde_json::to_string(&entry(NOVEMBER, Some(Moment::default()))).unwrap();
+    assert_eq!(
+        text,
+        r#"{"local":"1997-11-12T09:55:06.12-06:00","utc":"1969-12-31T23:59:59.999999999Z","closed":"1970-01-01T00:00:00Z"}"#
+    );
+    let text = serde_json::to_string(&entry(NOVEMBER, None)).unwrap();
+    assert!(text.ends_with(r#""closed":null}"#));
+}
+
+#[test]
+fn a_moment_without_a_text_is_the_error_of_the_serializer() {
+    let late = Moment::new(10_000, 1, 1);
+    for (entry, error) in [
+        (entry(late, None), Error::NoPlaceForYear),
+        (entry(NOVEMBER, Some(late)), Error::NoPlaceForYear),
+        (entry(NOVEMBER.at(24, 0, 0, 0), None), Error::Hour),
+    ] {
+        let said = serde_json::to_string(&entry).unwrap_err().to_string();
+        assert_eq!(said, error.to_string());
+    }
+}

@@ -1,0 +1,256 @@
+//! Formats that are chosen when the program runs, descriptions that are constants, and values as `Display`.
+use movaliren::*;
+use std::collections::HashSet;
+use std::rc::Rc;
+use std::sync::Arc;
+
+const EXAMPLE: Moment = Moment::new(1997, 11, 12)
+    .at(9, 55, 6, 120_000_000)
+    .offset(-6, 0, 0);
+const RFC_3339: &str = "1997-11-12T09:55:06.12-06:00";
+const RFC_2822: &str = "Wed, 12 Nov 1997 09:55:06 -0600";
+
+const DAY: Description = description![
+    "on ",
+    Kind::Day.padding(Padding::NoPadding),
+    " \u{2236} ",
+    Kind::MonthLong,
+    "",
+    Item::Literal(SPACE),
+    Kind::Year
+];
+const SPACE: &str = " ";
+
+fn assert_formats<V>(format: impl Format<V>, value: &V, text: &str) {
+    assert_eq!(format.format(value).as_deref(), Ok(text));
+    assert_eq!(format.text(value).as_deref(), Ok(text));
+    let mut line = String::new();
+    assert_eq!(format.format_into_string(&mut line, value), Ok(text.len()));
+    assert_eq!(line, text);
+    assert!(line.capacity() >= format.width() && format.width() >= text.len());
+}
+
+#[test]
+fn a_format_behind_a_pointer_is_a_format() {
+    let by_reference: &dyn Format<Moment> = &&Rfc3339;
+    assert_formats(by_reference, &EXAMPLE, RFC_3339);
+    assert_formats(Box::new(Rfc3339), &EXAMPLE, RFC_3339);
+    assert_formats(Rc::new(Rfc3339), &EXAMPLE, RFC_3339);
+    assert_formats(Arc::new(Rfc3339), &EXAMPLE, RFC_3339);
+    let description = Arc::new(Description::new().literal("a"));
+    assert_formats(&description, &EXAMPLE, "a");
+    assert_eq!(Arc::new(Rfc2822).display_of(&EXAMPLE), RFC_2822);
+}
+
+trait DisplayOf {
+    fn display_of(&self, value: &Moment) -> String;
+}
+
+impl<F: Format<Moment>> DisplayOf for F {
+    fn display_of(&self, value: &Moment) -> String {
+        value.display(self).to_string()
+    }
+}
+
+#[test]
+fn a_format_is_chosen_when_the_program_runs() {
+    let chosen = |name: &str| -> Box<dyn Format<Moment> + Send + Sync> {
+        match name {
+            "rfc3339" => Box::new(Rfc3339),
+            "rfc2822" => Box::new(Rfc2822),
+            _ => Box::new(Description::new().literal(name)),
+        }
+    };
+    for (name, width, text) in [
+        ("rfc3339", 35, RFC_3339),
+        ("rfc2822", 31, RFC_2822),
+        ("other", 5, "other"),
+    ] {
+        assert_formats(&*chosen(name), &EXAMPLE, text);
+        assert_formats(chosen(name), &EXAMPLE, text);
+        assert_eq!(chosen(name).width(), width);
+    }
+    let shared: Arc<dyn Format<Moment>> = Arc::from(chosen("rfc3339") as Box<dyn Format<Moment>>);
+    assert_formats(shared.clone(), &EXAMPLE, RFC_3339);
+    let error = shared.format(&Moment::new(1997, 11, 31));
+    assert_eq!(error, Err(Error::Day));
+}
+
+#[test]
+fn a_batch_behind_a_pointer_writes_its_texts() {
+    let formats: [Box<dyn Batch<Moment>>; 2] = [Box::new(Rfc3339), Box::new(&Rfc2822)];
+    for (format, text) in formats.iter().zip([RFC_3339, RFC_2822]) {
+        let mut lines = Vec::new();
+        let progress = format.batch_into(&mut lines, &[EXAMPLE; 2], b'\n');
+        assert_eq!((progress.moments, progress.stopped), (2, None));
+        assert_eq!(lines, format!("{text}\n{text}\n").as_bytes());
+        let mut room = vec![0; text.len() + 1];
+        let progress = format.batch_to(&mut room, &[EXAMPLE; 2], b'\n');
+        let stopped = (progress.moments, progress.stopped);
+        assert_eq!(stopped, (1, Some(Error::NoRoom)));
+        assert_eq!(room, format!("{text}\n").as_bytes());
+    }
+}
+
+#[test]
+fn a_description_can_be_a_constant() {
+    static CLOCK: Description = description![Kind::Hour, ":", Kind::Minute,];
+    const NOTHING: Description = description![];
+    assert_formats(DAY, &EXAMPLE, "on 12 \u{2236} November 1997");
+    assert_formats(&CLOCK, &EXAMPLE, "09:55");
+    assert_formats(NOTHING, &EXAMPLE, "");
+    assert_eq!(DAY.width(), 3 + 2 + 5 + 9 + 1 + 5);
+    assert_eq!(NOTHING, Description::new());
+}
+
+#[test]
+fn a_constant_is_continued() {
+    let long = DAY.literal(", ").component(Kind::Hour);
+    assert_formats(&long, &EXAMPLE, "on 12 \u{2236} November 1997, 09");
+    assert_eq!(long.width(), DAY.width() + 4);
+}
+
+/// The same description by its calls, as a constant, and out of items.
+#[test]
+fn descriptions_of_the_same_items_are_equal() {
+    let called = Description::new()
+        .literal("on ")
+        .component(Kind::Day.padding(Padding::NoPadding))
+        .literal(" \u{2236} ")
+        .component(Kind::MonthLong)
+        .literal("")
+        .literal(" ")
+        .component(Component::new(Kind::Year));
+    let items = [
+        Item::from("on "),
+        Kind::Day.padding(Padding::NoPadding).into(),
+        " \u{2236} ".into(),
+        Kind::MonthLong.into(),
+        "".into(),
+        " ".into(),
+        Kind::Year.into(),
+    ];
+    let mut extended: Description = items[..3].iter().copied().collect();
+    extended.extend(items[3..].iter().copied());
+    assert_eq!(called, DAY);
+    assert_eq!(extended, DAY);
+    let set = HashSet::from([called, extended, DAY]);
+    assert_eq!(set.len(), 1);
+    for other in [
+        Description::new(),
+        items[..6].iter().copied().collect(),
+        DAY.literal(""),
+    ] {
+        assert!(!set.contains(&other));
+    }
+    assert_ne!(description!["ab"], description!["a", "b"]);
+    assert_ne!(description![Kind::Day], description![Kind::Month]);
+}
+
+const KINDS: [Kind; 33] = {
+    use Kind::*;
+    [
+        Day,
+        MonthShort,
+        MonthLong,
+        Month,
+        Ordinal,
+        WeekdayShort,
+        WeekdayLong,
+        WeekdayFromSunday,
+        WeekdayFromMonday,
+        WeekIso,
+        WeekSunday,
+        WeekMonday,
+        YearExtended,
+        Year,
+        CenturyExtended,
+        Century,
+        YearLastTwo,
+        IsoYearExtended,
+        IsoYear,
+        IsoCenturyExtended,
+        IsoCentury,
+        IsoYearLastTwo,
+        Hour12,
+        Hour,
+        Minute,
+        Period,
+        Second,
+        Subsecond,
+        OffsetHour,
+        OffsetMinute,
+        OffsetSecond,
+        UnixSecond,
+        UnixMillisecond,
+    ]
+};
+
+/// Each number of the first moment has one digit, so each padding has a text of its own. The second has a number that
+/// is not negative, so a plus is seen.
+#[test]
+fn a_choice_changes_a_component_where_it_changes_the_text() {
+    let low = Moment::new(1, 1, 1)
+        .at(1, 1, 1, 100_000_000)
+        .offset(1, 1, 1);
+    let late = Moment::new(2022, 1, 2).at(15, 4, 5, 678_000_000);
+    for kind in KINDS {
+        let usual = Component::new(kind);
+        for (value, component) in [
+            (&low, usual.padding(Padding::Space)),
+            (&low, usual.padding(Padding::NoPadding)),
+            (&late, usual.sign(Sign::Mandatory)),
+            (&late, usual.count_from(CountFrom::Zero)),
+            (&late, usual.letter_case(LetterCase::Lower)),
+            (&late, usual.digits(SubsecondDigits::Nine)),
+        ] {
+            let text = |item: Component| Description::new().component(item).format(value);
+            let is_same = text(component) == text(usual);
+            assert_eq!(component == usual, is_same, "{component:?}");
+        }
+        let again = usual
+            .padding(Padding::default())
+            .sign(Sign::default())
+            .count_from(CountFrom::default())
+            .letter_case(LetterCase::default())
+            .digits(SubsecondDigits::default());
+        assert_eq!(again, usual);
+    }
+}
+
+#[test]
+fn a_value_is_shown_by_a_format() {
+    assert_eq!(EXAMPLE.display(Rfc3339).to_string(), RFC_3339);
+    let utc = UtcMoment::new(879_350_106, 0);
+    assert_eq!(utc.display(&Rfc3339).to_string(), "1997-11-12T15:55:06Z");
+    let date = Date {
+        year: 1997,
+        month: 11,
+        day: 12,
+    };
+    assert_eq!(
+        format!("[{:>26}]", date.display(DAY)),
+        "[     on 12 \u{2236} November 1997]"
+    );
+    let long = Description::new().literal(&"\u{2236}".repeat(100));
+    assert_eq!(date.display(&long).to_string(), "\u{2236}".repeat(100));
+    assert_eq!(format!("{:.3}", date.display(long)), "\u{2236}".repeat(3));
+}
+
+/// `Display` does not fail, so `to_string` does not panic.
+#[test]
+fn a_value_without_a_text_is_shown_as_the_reason() {
+    let none = Moment::new(1997, 11, 31);
+    let text = none.display(Rfc3339).to_string();
+    assert_eq!(text, "<the month has no such day>");
+    let long = Description::new()
+        .literal(&"-".repeat(100))
+        .component(Kind::Hour);
+    let date = Date {
+        year: 1997,
+        month: 11,
+        day: 12,
+    };
+    let text = date.display(long).to_string();
+    assert_eq!(text, "<the value lacks a component of the format>");
+}
