@@ -16,6 +16,7 @@ fn append_block<J: LineJob>(
     block: &[u8],
     end: usize,
 ) -> Result<(), AllocError>
+    requires ready { J.is_ready job.old }
     requires held { IsOneLine pending.old.items }
     requires found { EndsAt block.now end }
     ensures stays { Stays (J.becomes job.old) (J.becomes job.new) }

@@ -12,13 +12,19 @@ pub trait LineJob {
     /// What a line may become. It has its line feed, except perhaps for the last one.
     ghost becomes: { Self → List ℕ → List ℕ → Type 0 };
 
+    /// What is so once it is prepared.
+    ghost is_ready: { Self → Type 0 };
+
     /// Is called when lines have come, before they are taken.
     fn prepare(&mut self) -> Result<(), FilterError>
-        ensures stays { Stays (becomes self.old) (becomes self.new) };
+        ensures stays { Stays (becomes self.old) (becomes self.new) }
+        ensures ready { OnOk result (is_ready self.new) };
 
     /// Appends what the line becomes.
     fn append(&mut self, output: &mut Vec<u8>, line: &[u8]) -> Result<(), AllocError>
+        requires ready { is_ready self.old }
         ensures stays { Stays (becomes self.old) (becomes self.new) }
+        ensures ready { OnOk result (is_ready self.new) }
         ensures appended { OnOk result
             (Adds (becomes self.old line.now) output.old.items output.new.items) };
 }
@@ -37,6 +43,7 @@ pub(crate) fn append_lines<J: LineJob>(
     output: &mut Vec<u8>,
     text: &[u8],
 ) -> Result<usize, AllocError>
+    requires ready { J.is_ready job.old }
     ensures stays { Stays (J.becomes job.old) (J.becomes job.new) }
     ensures inside { IfOk result (λ count. count ≤ length text.now) }
     ensures rest { IfOk result (λ count. drop count text.now ≡ unended_of text.now) }
