@@ -1,0 +1,39 @@
+-- What is shown stays the same.
+use Rattle.std.proofs.Common.{ℕ, ◌↔◌, List, Option, inl, inr, Some, None}
+use Rattle.time_below.specs.Facts.{Facts}
+use Rattle.time_below.specs.Moment.{Moment}
+use Rattle.time_below.specs.Offset.{Offset}
+use Rattle.time_fmt.specs.Outcome.{Outcome}
+use Rattle.time_lines.specs.Number.{Number, number_at, number_start}
+use Rattle.time_lines.specs.Shown.{SameShown, ShowsAt}
+use Rattle.time_lines.specs.Unix.{NumberBecomes, StartBecomes, UnixBecomes}
+use Rattle.time_lines.specs.declared.number.Unit.{Unit as UnixUnit}
+use Rattle.line_streams.specs.Filter.{Stays}
+
+-- a place that may have the same offsets shows the same
+pub place_shows : (f : Facts → Outcome) (has has' : Moment → Offset → Type 0)
+    → ((m : Moment) (o : Offset) → has m o ↔ has' m o)
+    → SameShown (λ m text. (o : Offset) × has m o × ShowsAt f o m text) (λ m text. (o : Offset) × has' m o × ShowsAt f o m text)
+place_shows f has has' same m text =
+    (λ s. (s.0, (same m s.0).0 s.1, s.2), λ s. (s.0, (same m s.0).1 s.1, s.2))
+
+number_becomes : (shows shows' : Moment → Option (List ℕ) → Type 0) (unit : UnixUnit) (number : Number) (line text : List ℕ)
+    → ((m : Moment) (t : Option (List ℕ)) → shows m t → shows' m t) → NumberBecomes shows unit number line text
+    → NumberBecomes shows' unit number line text
+number_becomes shows shows' unit number line text leads (inl b) = inl (b.0, (b.1.0, leads _ _ b.1.1, b.1.2))
+number_becomes shows shows' unit number line text leads (inr b) = inr (λ has. leads _ _ (b.0 has), b.1)
+
+start_becomes : (shows shows' : Moment → Option (List ℕ) → Type 0) (unit : UnixUnit) (start : Option ℕ) (line text : List ℕ)
+    → ((m : Moment) (t : Option (List ℕ)) → shows m t → shows' m t) → StartBecomes shows unit start line text
+    → StartBecomes shows' unit start line text
+start_becomes shows shows' unit None line text leads b = b
+start_becomes shows shows' unit (Some start) line text leads b =
+    number_becomes shows shows' unit (number_at line start) line text leads b
+
+-- a line becomes the same where the same is shown
+pub unix_stays : (shows shows' : Moment → Option (List ℕ) → Type 0) (unit : UnixUnit) (least : ℕ) → SameShown shows shows'
+    → Stays (UnixBecomes shows unit least) (UnixBecomes shows' unit least)
+unix_stays shows shows' unit least same line text = (
+  λ b. start_becomes shows shows' unit (number_start least line) line text (λ m t. (same m t).0) b,
+  λ b. start_becomes shows' shows unit (number_start least line) line text (λ m t. (same m t).1) b,
+)
