@@ -6,6 +6,7 @@ use crate::lines::LineJob;
 use std::io::{ErrorKind, Read, Stdin, Stdout, Write};
 
 /// Standard input and standard output. Nothing is known of what they give and take.
+#[derive(Drop)]
 pub struct StandardStreams {
     pub input: Stdin,
     pub output: Stdout,

@@ -4,6 +4,7 @@ use Rattle.time_below.specs.Facts.{Facts}
 use Rattle.time_below.specs.Moment.{Moment}
 use Rattle.time_below.specs.Offset.{Offset}
 use Rattle.time_fmt.specs.Outcome.{Outcome}
+use Rattle.time_lines.specs.Now.{NowBecomes}
 use Rattle.time_lines.specs.Number.{Number, number_at, number_start}
 use Rattle.time_lines.specs.Shown.{SameShown, ShowsAt}
 use Rattle.time_lines.specs.Unix.{NumberBecomes, StartBecomes, UnixBecomes}
@@ -37,3 +38,15 @@ unix_stays shows shows' unit least same line text = (
   λ b. start_becomes shows shows' unit (number_start least line) line text (λ m t. (same m t).0) b,
   λ b. start_becomes shows' shows unit (number_start least line) line text (λ m t. (same m t).1) b,
 )
+
+now_becomes : (shows shows' : Moment → Option (List ℕ) → Type 0) (line text : List ℕ)
+    → ((m : Moment) (t : Option (List ℕ)) → shows m t → shows' m t) → NowBecomes shows line text → NowBecomes shows' line text
+now_becomes shows shows' line text leads b =
+    (b.0, (b.1.0, (b.1.1.0, leads b.1.0 b.1.1.0 b.1.1.1, b.1.1.2)), b.2)
+
+-- the same stands before a line where the same is shown
+pub now_stays : (shows shows' : Moment → Option (List ℕ) → Type 0) → SameShown shows shows'
+    → Stays (NowBecomes shows) (NowBecomes shows')
+now_stays shows shows' same line text =
+    (λ b. now_becomes shows shows' line text (λ m t. (same m t).0) b,
+    λ b. now_becomes shows' shows line text (λ m t. (same m t).1) b)

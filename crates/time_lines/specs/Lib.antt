@@ -1,3 +1,4 @@
+pub mod Now
 pub mod Number
 pub mod Shown
 pub mod Unix

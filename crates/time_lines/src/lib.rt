@@ -1,10 +1,12 @@
 //! Lines in which moments are written as text: what a line becomes, as jobs of `line_streams`.
 #![tactic(auto)]
 
+mod now;
 mod number;
 mod shown;
 mod unix;
 
+pub use now::NowJob;
 pub use number::Unit;
 pub use shown::{AtOffset, InPlace, InUtc, Place, Shown};
 pub use unix::UnixJob;
