@@ -23,6 +23,8 @@ pub enum Job {
     Now,
     /// Its first number of at least so many digits, Unix time in this unit, is replaced.
     Unix { unit: Unit, least: usize },
+    /// Its first text of RFC 3339 is replaced.
+    Read,
 }
 
 /// What is asked for.
@@ -44,6 +46,7 @@ Descriptions:
   rfc2822        Tue, 14 Nov 2023 22:13:20 +0000
   iso8601        2023-11-14T22:13:20.123000000Z
   stamp          the same, always in UTC: sorts as the moments do
+  unix           1700000000, always seconds since 1970
   a text with %  as of strftime: '%Y-%m-%d %H:%M:%S'
   other texts    '[year]-[month]-[day] [hour]:[minute]'";
 
@@ -145,6 +148,13 @@ fn command<'a>(alloc: Global) -> Result<Command<'a>, Error> {
         ),
     )?;
     let unix = with_quiet(alloc, with_numbers(alloc, unix)?)?;
+    let read = with_options(
+        alloc,
+        Command::new(alloc, "read").about(
+            "Replaces the first text of RFC 3339 of each line, such as 2023-11-14T22:13:20Z",
+        ),
+    )?;
+    let read = with_quiet(alloc, read)?;
     Ok(
         Command::new(alloc, "movaliren")
             .version("0.1.0")
@@ -152,7 +162,8 @@ fn command<'a>(alloc: Global) -> Result<Command<'a>, Error> {
             .subcommand_required(true)
             .arg_required_else_help(true)
             .subcommand(now)?
-            .subcommand(unix)?,
+            .subcommand(unix)?
+            .subcommand(read)?,
     )
 }
 
@@ -197,6 +208,7 @@ pub fn read<'a>(alloc: Global, words: &'a [String]) -> Result<Asked<'a>, Error> 
     };
     let job = match name {
         "now" => Job::Now,
+        "read" => Job::Read,
         _ => Job::Unix {
             unit: unit_of(below),
             least: least_of(below),

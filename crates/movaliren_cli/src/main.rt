@@ -1,10 +1,12 @@
 //! Formats the moments of the lines of standard input.
 //!
 //! `movaliren now` puts before each line the moment at which it was read. `movaliren unix` replaces the
-//! first number of each line, which is Unix time, by its text.
+//! first number of each line, which is Unix time, by its text. `movaliren read` does so with the first text
+//! of RFC 3339.
 #![tactic(auto)]
 
 mod arguments;
+mod description;
 mod offset;
 mod place;
 mod say;
@@ -19,8 +21,9 @@ use std::default::Default;
 use std::env;
 use std::process::ExitCode;
 use time_fmt::Formattable;
+use time_fmt::parts::UNIX_TIMESTAMP;
 use time_known::{Iso8601, Rfc2822, Rfc3339};
-use time_lines::{AtOffset, InPlace, InUtc, NowJob, Place, Shown, UnixJob};
+use time_lines::{AtOffset, InPlace, InUtc, NowJob, ReadJob, Shown, UnixJob};
 
 /// Does the job for each line of standard input.
 fn run_job<J: LineJob>(rt: &HostRuntime, job: &mut J) -> Result<(), FilterError> {
@@ -29,6 +32,14 @@ fn run_job<J: LineJob>(rt: &HostRuntime, job: &mut J) -> Result<(), FilterError>
         output: rt.stdout(),
     };
     line_streams::run(rt.alloc(), job, &mut streams)
+}
+
+/// Says how many lines passed as they were, after a run that came to the end of its input.
+fn end(rt: &HostRuntime, asked: &Asked, outcome: Result<(), FilterError>, passed: u64) -> ExitCode {
+    if outcome.is_ok() && !asked.is_quiet {
+        say_passed(rt, passed);
+    }
+    fail(rt, outcome)
 }
 
 /// Does what is asked for, with what is shown of moments.
@@ -51,10 +62,12 @@ fn run<S: Shown + Drop>(rt: &HostRuntime, asked: &Asked, shown: S) -> ExitCode {
                 passed: 0,
             };
             let outcome = run_job(rt, &mut job);
-            if outcome.is_ok() && !asked.is_quiet {
-                say_passed(rt, job.passed);
-            }
-            fail(rt, outcome)
+            end(rt, asked, outcome, job.passed)
+        }
+        Job::Read => {
+            let mut job = ReadJob { shown, passed: 0 };
+            let outcome = run_job(rt, &mut job);
+            end(rt, asked, outcome, job.passed)
         }
     }
 }
@@ -125,7 +138,17 @@ fn run_described(rt: &HostRuntime, asked: &Asked) -> ExitCode {
                 description: Iso8601::default(),
             },
         ),
-        _ => refuse(rt, "no such description"),
+        "unix" => run(
+            rt,
+            asked,
+            InUtc {
+                description: UNIX_TIMESTAMP,
+            },
+        ),
+        text => match description::plan_of(rt.alloc(), text) {
+            Ok(plan) => run_by(rt, asked, plan),
+            Err(refusal) => say::refuse_description(rt, text, refusal),
+        },
     }
 }
 

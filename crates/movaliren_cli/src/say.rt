@@ -1,9 +1,12 @@
 //! What is said on standard error, and the status with which the program ends.
+use crate::description::Refusal;
 use clap::Error as UsageError;
 use clap::error::ErrorKind;
 use jiff_core::Error as ZoneError;
 use line_streams::FilterError;
+use std::alloc::AllocError;
 use std::process::ExitCode;
+use time_plan::{InvalidDescription, InvalidStrftime};
 
 /// The status of a failure.
 const FAILURE: u8 = 1;
@@ -89,4 +92,54 @@ pub fn refuse_local(rt: &HostRuntime, fault: ZoneError) -> ExitCode {
         }
     }
     ExitCode::from(USAGE)
+}
+
+/// The text with its control characters as spaces, and below it a mark at this byte.
+fn marked(rt: &HostRuntime, text: &str, index: usize) -> Result<String, AllocError> {
+    let mut shown = String::from_str(rt.alloc(), "  ")?;
+    for letter in text.chars() {
+        shown.push(if letter.is_control() { ' ' } else { letter })?;
+    }
+    shown.push_str("\n  ")?;
+    for (at, _) in text.char_indices() {
+        if at >= index {
+            break;
+        }
+        shown.push(' ')?;
+    }
+    shown.push('^')?;
+    Ok(shown)
+}
+
+/// Prints a description that is wrong, with its place marked.
+fn show_mark(rt: &HostRuntime, text: &str, index: usize) -> ExitCode {
+    match marked(rt, text, index) {
+        Ok(shown) => {
+            let _ = eprintln!(rt; "{shown}");
+            ExitCode::from(USAGE)
+        }
+        Err(_) => fail(rt, Err(FilterError::Memory)),
+    }
+}
+
+/// Says why a text is no description, and marks the place.
+pub fn refuse_description(rt: &HostRuntime, text: &str, refusal: Refusal) -> ExitCode {
+    match refusal {
+        Refusal::Name => {
+            let _ = eprintln!(rt;
+                "movaliren: no format has the name '{text}': there are rfc3339, rfc2822, iso8601, stamp and unix, and texts with % or ["
+            );
+            ExitCode::from(USAGE)
+        }
+        Refusal::Brackets(InvalidDescription::OutOfMemory) => fail(rt, Err(FilterError::Memory)),
+        Refusal::Brackets(InvalidDescription::Invalid { reason, index }) => {
+            let _ = eprintln!(rt; "movaliren: {reason}:");
+            show_mark(rt, text, index)
+        }
+        Refusal::Strftime(InvalidStrftime::OutOfMemory) => fail(rt, Err(FilterError::Memory)),
+        Refusal::Strftime(InvalidStrftime::Invalid { reason, index }) => {
+            let _ = eprintln!(rt; "movaliren: {reason}:");
+            show_mark(rt, text, index)
+        }
+    }
 }

@@ -3,13 +3,12 @@ use Rattle.std.proofs.Common.{ℕ, suc, ◌≡◌, ◌+◌, ◌-◌, ◌<◌, �
 use Rattle.std.proofs.lemmas.List.{drop-drop, take-append-drop}
 use Rattle.line_streams.specs.Filter.{Adds}
 use Rattle.line_streams.proofs.LinesLemmas.{slice-end}
-use Rattle.time_lines.specs.Shown.{bytes_of}
+use Rattle.time_lines.specs.Shown.{Replaces, bytes_of}
 use Rattle.std.proofs.lemmas.List.Folds.{length-prefix_len}
 use Rattle.std.specs.Char.{is_ascii_digit}
 use Rattle.std.specs.Str.Parse.{digits_value}
 use Rattle.time_below.specs.Moment.{Moment, IsMoment}
 use Rattle.time_lines.specs.Number.{HasMoment, decimals_of, digit_count, digits_of, first_place, has_minus, moment_after, moment_of, number_at, with_sign}
-use Rattle.time_lines.specs.Unix.{NumberBecomes, replaced}
 use Rattle.time_lines.specs.declared.number.Unit.{Unit as UnixUnit}
 
 one_less : (length at : ℕ) → at < length → length - at ≡ suc (length - (at + 1))
@@ -51,26 +50,24 @@ pub number_has : (unit : UnixUnit) (line : List ℕ) (start count : ℕ) (m : Mo
 number_has unit line start count m is short real same =
     (omega (arith, is, short, length-prefix_len is_ascii_digit (drop start line)), subst IsMoment same real)
 
--- a text took the place of the number
-pub number_is_replaced : (shows : Moment → Option (List ℕ) → Type 0) (unit : UnixUnit) (line : List ℕ) (start : ℕ) (m : Moment)
-    (o0 o1 o2 o3 after : List ℕ) (shown : Option (List ℕ)) → HasMoment unit (number_at line start)
-    → m ≡ moment_of unit (number_at line start) → shows m shown → is_some shown ≡ true
-    → after ≡ (number_at line start).after → o1 ≡ o0 ++ (number_at line start).before → o2 ≡ o1 ++ bytes_of shown → o3 ≡ o2 ++ after
-    → Adds (NumberBecomes shows unit (number_at line start) line) o0 o3
-number_is_replaced shows unit line start m o0 o1 o2 o3 after None has same is some left first second third = absurd (no_text (sym some))
-number_is_replaced shows unit line start m o0 o1 o2 o3 after (Some text) has same is some left first second third = (
-  replaced (number_at line start) text,
-  third ∙ rw (second, first, left) (append_assoc _ text _ ∙ append_assoc o0 _ _),
+-- a text took the place of what named the moment
+pub text_is_put : (shows : Moment → Option (List ℕ) → Type 0) (P : Type 0) (m n : Moment) (before after line : List ℕ)
+    (o0 o1 o2 o3 : List ℕ) (shown : Option (List ℕ)) → P → m ≡ n → shows m shown → is_some shown ≡ true
+    → o1 ≡ o0 ++ before → o2 ≡ o1 ++ bytes_of shown → o3 ≡ o2 ++ after → Adds (Replaces shows P n before after line) o0 o3
+text_is_put shows P m n before after line o0 o1 o2 o3 None has same is some first second third = absurd (no_text (sym some))
+text_is_put shows P m n before after line o0 o1 o2 o3 (Some text) has same is some first second third = (
+  before ++ (text ++ after),
+  third ∙ rw (second, first) (append_assoc _ text _ ∙ append_assoc o0 _ _),
   inl (has, (text, subst (λ x. shows x (Some text)) same is, refl)),
 )
 
 -- nothing took its place
-pub number_is_left : (shows : Moment → Option (List ℕ) → Type 0) (unit : UnixUnit) (line : List ℕ) (start from : ℕ) (m : Moment)
-    (o0 o1 o2 o3 : List ℕ) (shown : Option (List ℕ)) → m ≡ moment_of unit (number_at line start) → shows m shown
-    → is_some shown ≡ false → o1 ≡ o0 ++ take from line → o2 ≡ o1 ++ bytes_of shown
-    → o3 ≡ o2 ++ take (length line - from) (drop from line) → Adds (NumberBecomes shows unit (number_at line start) line) o0 o3
-number_is_left shows unit line start from m o0 o1 o2 o3 (Some text) same is none first second third = absurd (no_none none)
-number_is_left shows unit line start from m o0 o1 o2 o3 None same is none first second third = (
+pub line_is_left : (shows : Moment → Option (List ℕ) → Type 0) (P : Type 0) (m n : Moment) (before after line : List ℕ) (from : ℕ)
+    (o0 o1 o2 o3 : List ℕ) (shown : Option (List ℕ)) → m ≡ n → shows m shown → is_some shown ≡ false
+    → o1 ≡ o0 ++ take from line → o2 ≡ o1 ++ bytes_of shown → o3 ≡ o2 ++ take (length line - from) (drop from line)
+    → Adds (Replaces shows P n before after line) o0 o3
+line_is_left shows P m n before after line from o0 o1 o2 o3 (Some text) same is none first second third = absurd (no_none none)
+line_is_left shows P m n before after line from o0 o1 o2 o3 None same is none first second third = (
   line,
   third
       ∙ rw (second, first, slice-end from line, append-nil (o0 ++ take from line))

@@ -6,8 +6,9 @@ use Rattle.time_below.specs.Offset.{Offset}
 use Rattle.time_fmt.specs.Outcome.{Outcome}
 use Rattle.time_lines.specs.Now.{NowBecomes}
 use Rattle.time_lines.specs.Number.{Number, number_at, number_start}
-use Rattle.time_lines.specs.Shown.{SameShown, ShowsAt}
-use Rattle.time_lines.specs.Unix.{NumberBecomes, StartBecomes, UnixBecomes}
+use Rattle.time_lines.specs.Read.{ReadBecomes}
+use Rattle.time_lines.specs.Shown.{Replaces, SameShown, ShowsAt}
+use Rattle.time_lines.specs.Unix.{StartBecomes, UnixBecomes}
 use Rattle.time_lines.specs.declared.number.Unit.{Unit as UnixUnit}
 use Rattle.line_streams.specs.Filter.{Stays}
 
@@ -18,18 +19,18 @@ pub place_shows : (f : Facts → Outcome) (has has' : Moment → Offset → Type
 place_shows f has has' same m text =
     (λ s. (s.0, (same m s.0).0 s.1, s.2), λ s. (s.0, (same m s.0).1 s.1, s.2))
 
-number_becomes : (shows shows' : Moment → Option (List ℕ) → Type 0) (unit : UnixUnit) (number : Number) (line text : List ℕ)
-    → ((m : Moment) (t : Option (List ℕ)) → shows m t → shows' m t) → NumberBecomes shows unit number line text
-    → NumberBecomes shows' unit number line text
-number_becomes shows shows' unit number line text leads (inl b) = inl (b.0, (b.1.0, leads _ _ b.1.1, b.1.2))
-number_becomes shows shows' unit number line text leads (inr b) = inr (λ has. leads _ _ (b.0 has), b.1)
+replaces : (shows shows' : Moment → Option (List ℕ) → Type 0) (P : Type 0) (m : Moment) (before after line text : List ℕ)
+    → ((m : Moment) (t : Option (List ℕ)) → shows m t → shows' m t) → Replaces shows P m before after line text
+    → Replaces shows' P m before after line text
+replaces shows shows' P m before after line text leads (inl b) = inl (b.0, (b.1.0, leads _ _ b.1.1, b.1.2))
+replaces shows shows' P m before after line text leads (inr b) = inr (λ has. leads _ _ (b.0 has), b.1)
 
 start_becomes : (shows shows' : Moment → Option (List ℕ) → Type 0) (unit : UnixUnit) (start : Option ℕ) (line text : List ℕ)
     → ((m : Moment) (t : Option (List ℕ)) → shows m t → shows' m t) → StartBecomes shows unit start line text
     → StartBecomes shows' unit start line text
 start_becomes shows shows' unit None line text leads b = b
 start_becomes shows shows' unit (Some start) line text leads b =
-    number_becomes shows shows' unit (number_at line start) line text leads b
+    replaces shows shows' _ _ _ _ line text leads b
 
 -- a line becomes the same where the same is shown
 pub unix_stays : (shows shows' : Moment → Option (List ℕ) → Type 0) (unit : UnixUnit) (least : ℕ) → SameShown shows shows'
@@ -47,6 +48,21 @@ now_becomes shows shows' line text leads b =
 -- the same stands before a line where the same is shown
 pub now_stays : (shows shows' : Moment → Option (List ℕ) → Type 0) → SameShown shows shows'
     → Stays (NowBecomes shows) (NowBecomes shows')
-now_stays shows shows' same line text =
-    (λ b. now_becomes shows shows' line text (λ m t. (same m t).0) b,
-    λ b. now_becomes shows' shows line text (λ m t. (same m t).1) b)
+now_stays shows shows' same line text = (
+  λ b. now_becomes shows shows' line text (λ m t. (same m t).0) b,
+  λ b. now_becomes shows' shows line text (λ m t. (same m t).1) b,
+)
+
+read_becomes : (shows shows' : Moment → Option (List ℕ) → Type 0) (line text : List ℕ)
+    → ((m : Moment) (t : Option (List ℕ)) → shows m t → shows' m t) → ReadBecomes shows line text → ReadBecomes shows' line text
+read_becomes shows shows' line text leads (inl b) =
+    inl (b.0, b.1, b.2, b.3, replaces shows shows' _ _ _ _ line text leads b.4)
+read_becomes shows shows' line text leads (inr b) = inr b
+
+-- a line becomes the same where the same is shown
+pub read_stays : (shows shows' : Moment → Option (List ℕ) → Type 0) → SameShown shows shows'
+    → Stays (ReadBecomes shows) (ReadBecomes shows')
+read_stays shows shows' same line text = (
+  λ b. read_becomes shows shows' line text (λ m t. (same m t).0) b,
+  λ b. read_becomes shows' shows line text (λ m t. (same m t).1) b,
+)

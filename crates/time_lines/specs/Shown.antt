@@ -1,15 +1,11 @@
 -- What is shown of a moment.
-use Rattle.std.specs.Prelude.{ℕ, ◌≡◌, ◌↔◌, ◌++◌, Bool, List, [], Option, Some, None, is_some}
+use Rattle.std.specs.Prelude.{ℕ, ◌≡◌, ◌↔◌, ◌++◌, ◌⊎◌, Bool, List, [], Option, Some, None, is_some}
 use Rattle.time_below.specs.Facts.{facts_of_offset_date_time}
 use Rattle.time_below.specs.Moment.{Moment, OffsetDateAndTime, IsMoment, utc_date, utc_time}
 use Rattle.std.specs.Prelude.{◌+ℤ◌}
 use Rattle.time_below.specs.Offset.{Offset, offset_seconds}
 use Rattle.time_below.specs.Facts.{Facts}
 use Rattle.time_fmt.specs.Outcome.{Outcome}
-
--- what may be shown of each moment: a text, or nothing
-abbrev pub ShowsBy : Type 1
-ShowsBy = Moment → Option (List ℕ) → Type 0
 
 -- the same may be shown as before
 abbrev pub SameShown : (Moment → Option (List ℕ) → Type 0) → (Moment → Option (List ℕ) → Type 0) → Type 0
@@ -31,6 +27,13 @@ text_of outcome = elim outcome.refusal [
   | None ↦ Some outcome.bytes
   | Some refusal ↦ None
 ]
+
+-- what a line becomes between two parts of which a moment is named, if it is one: what is shown of the moment takes its
+-- place, and the line stays as it is where there is none or nothing is shown of it
+abbrev pub Replaces : (Moment → Option (List ℕ) → Type 0) → Type 0 → Moment → List ℕ → List ℕ → List ℕ → List ℕ → Type 0
+Replaces shows P m before after line text =
+    (P × ((shown : List ℕ) × shows m (Some shown) × (text ≡ before ++ (shown ++ after))))
+    ⊎ ((P → shows m None) × (text ≡ line))
 
 -- a moment by the clock at an offset, read as if it were UTC
 abbrev pub moved : Moment → Offset → Moment

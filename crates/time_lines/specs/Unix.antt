@@ -1,19 +1,14 @@
 -- What a line becomes whose first number is Unix time.
-use Rattle.std.specs.Prelude.{ℕ, ◌≡◌, ◌++◌, ◌⊎◌, List, Option, Some, None}
+use Rattle.std.specs.Prelude.{ℕ, ◌≡◌, List, Option, Some, None}
 use Rattle.time_below.specs.Moment.{Moment}
 use Rattle.time_lines.specs.Number.{Number, HasMoment, moment_of, number_at, number_start}
+use Rattle.time_lines.specs.Shown.{Replaces}
 use Rattle.time_lines.specs.declared.number.Unit.{Unit as UnixUnit}
 
--- the line with a text in place of its number
-abbrev pub replaced : Number → List ℕ → List ℕ
-replaced number text = number.before ++ (text ++ number.after)
-
--- what the line of a number becomes: the text of its moment takes its place; a number of no moment, or whose moment
--- has no text, leaves the line as it is
+-- what the line of a number becomes
 abbrev pub NumberBecomes : (Moment → Option (List ℕ) → Type 0) → UnixUnit → Number → List ℕ → List ℕ → Type 0
 NumberBecomes shows unit number line text =
-    (HasMoment unit number × ((shown : List ℕ) × shows (moment_of unit number) (Some shown) × (text ≡ replaced number shown)))
-    ⊎ ((HasMoment unit number → shows (moment_of unit number) None) × (text ≡ line))
+    Replaces shows (HasMoment unit number) (moment_of unit number) number.before number.after line text
 
 -- what a line becomes whose first number of at least so many digits begins here; one without stays as it is
 abbrev pub StartBecomes : (Moment → Option (List ℕ) → Type 0) → UnixUnit → Option ℕ → List ℕ → List ℕ → Type 0

@@ -3,10 +3,15 @@
 
 mod now;
 mod number;
+mod read;
 mod shown;
 mod unix;
 
 pub use now::NowJob;
 pub use number::Unit;
+pub use read::ReadJob;
 pub use shown::{AtOffset, InPlace, InUtc, Place, Shown};
 pub use unix::UnixJob;
+
+#[cfg(test)]
+mod tests;

@@ -68,7 +68,7 @@ fn append_number<S: Shown>(
 }
 
 /// Counts one more.
-fn count(number: &mut u64) {
+pub(crate) fn count(number: &mut u64) {
     *number = number.saturating_add(1);
 }
 
