@@ -25,7 +25,7 @@ from typing import NamedTuple
 
 HERE = pathlib.Path(__file__).resolve().parent
 TOP = HERE.parent
-LIBRARIES = "time_below time_digits time_provide time_fmt time_known"
+LIBRARIES = "time_below time_digits time_provide time_fmt time_known time_plan"
 COUNTED = 640, 1_920
 TIMED = 100_000, 500_000
 GROWN = 10, 30
@@ -73,6 +73,11 @@ ISO = texts("i", [
 ])
 TYPES = texts("t", [
     "`Date`", "`Time`", "`UtcOffset`", "`PlainDateTime`", "`OffsetDateTime`", "`UtcDateTime`", "`Timestamp`",
+])
+# Texts of `LISTS` and of `TYPES` by their plans, and what it costs to make one.
+PLANS = texts("q", [
+    "a borrowed list of 11 items", "borrowed, the date nested", "`Sat, 19 Aug 6169 21:36:48 +0000`",
+    "`6169-08-19 21:36:48.321 +00:00`", "a borrowed list of 11 items, of a `Timestamp`", "the plan of 11 items is made",
 ])
 # Each constant with its component, in the code's order.
 COMPONENTS = re.findall(
@@ -326,6 +331,7 @@ class Bench:
         self.all_texts()
         self.behind("ISO 8601", ISO)
         self.behind("List of a type", TYPES)
+        self.behind("By a plan", PLANS)
         self.components()
         self.growth()
         self.answers()

@@ -60,10 +60,11 @@ def comment(said, choices=()):
 def in_header():
     """The enum, with what is said of each component and its choices."""
     said = {name: re.sub(r"\s*///\s*", " ", doc).strip() for name, doc in docs().items()}
-    lines = [comment("len bytes of the texts, from start on"), "    MOVALIREN_TEXT = 0,"]
+    lines = []
     for number, name, choices in kinds():
         kind = re.sub(r"(?<=[a-z])(?=[A-Z0-9])", "_", short(name)).upper()
         lines += [comment(said[name], choices), f"    MOVALIREN_{kind} = {number},"]
+    lines += [comment("len bytes of the texts, from start on"), "    MOVALIREN_TEXT = 255,"]
     return "enum movaliren_kind {\n" + "\n".join(lines).rstrip(",") + "\n};"
 
 

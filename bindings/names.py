@@ -1,7 +1,7 @@
 #!/usr/bin/env python3
 """Compares the interface as the Rattle crate, the C header and the Rust crate declare it.
 
-Numbers of reasons, of kinds and of choices; the texts of reasons; the greatest lengths of texts; fields of structs, in
+Numbers of reasons, of kinds and of choices; the usual choices of each kind; the texts of reasons; the greatest lengths of texts; fields of structs, in
 order, with their types; functions, with their parameters in order and the types of these and of the result; and the
 version. Also whether the header declares each name that it, the C programs and the documents use, whether the rows and
 the test of memory call each function, and whether `bindings/counts` counts each function from C and from Rust, under
@@ -30,6 +30,8 @@ COUNTED = HERE / "c/clock.cpp"
 SPEED = HERE / "rust-time/examples/speed"
 METHODS = [RUST / "format.rs", RUST / "batch.rs"]
 MEMORY = HERE / "c/memory.c"
+# The usual choices of each component, as constants.
+PARTS = TOP / "crates/time_fmt/src/parts.rt"
 ROWS = [HERE / "c/rows.c", HERE / "c/descriptions.c"]
 
 COMMENTS = {
@@ -68,7 +70,7 @@ NOT_IN_HEADER = {"movaliren_c", "MOVALIREN_LIB", "MOVALIREN_H"}
 def read():
     """The texts that are compared, by their paths."""
     paths = [
-        HEADER, CARGO, HERE / "c/expect.h", *HERE.glob("c/*.c"), *HERE.glob("c/*.cpp"), *RUST.glob("*.rs"),
+        HEADER, CARGO, PARTS, HERE / "c/expect.h", *HERE.glob("c/*.c"), *HERE.glob("c/*.cpp"), *RUST.glob("*.rs"),
         *SPEED.glob("*.rs"),
         *CRATE.glob("src/**/*.rt"), *CRATE.glob("specs/*.antt"), TOP / "README.md", *TOP.glob("docs/*.md"),
         *(TOP / f"crates/time_known/specs/{name}.antt" for name in ("Rfc3339", "Rfc2822", "Stamps")),
@@ -166,12 +168,13 @@ class Interfaces:
     def __init__(self, texts):
         of = {suffix: [] for suffix in (*COMMENTS, ".md")}
         for path, text in texts.items():
-            if path.parent != SPEED:
+            if path.parent != SPEED and path != PARTS:
                 of[path.suffix].append(code(text, path.suffix) if path.suffix in (".rt", ".antt", ".rs") else text)
         self.rattle, self.specs, self.rust = of[".rt"], of[".antt"], of[".rs"]
         self.users = of[".h"] + of[".c"] + of[".cpp"] + of[".md"]
         self.c, self.cargo, self.counted = (code(texts[path], path.suffix) for path in (HEADER, CARGO, COUNTED))
         self.speed = code("\n".join(texts[path] for path in sorted(texts) if path.parent == SPEED), ".rs")
+        self.parts = code(texts[PARTS], ".rt")
         self.methods = [texts[path] for path in METHODS]
         self.memory, self.rows = texts[MEMORY], [texts[path] for path in ROWS]
         self.differences = []
@@ -206,7 +209,7 @@ class Interfaces:
             self.same(f"the greatest length of {name} at an offset", rust.pop(f"{name}local", None), rust.get(name))
         specs = numbers(rf"^({'|'.join(WIDTHS)}) = (\d+)$", *self.specs)
         self.same("the greatest length of a text", {WIDTHS[name]: specs.get(words(name)) for name in WIDTHS}, rust)
-        rust["iso8601by"] = sum(255 + int(number) for number in findall(r"(\d+) \+ self\.0\.decimals", *self.rust))
+        rust["iso8601by"] = sum(map(int, findall(r"MAX_WIDTH: usize = (\d+)", *self.rust)))
         self.same("the length of a buffer", numbers(r"MOVALIREN_(\w+)_ROOM = (\d+)", self.c), rust)
         self.same("the array of a stamp", [rust.get("stamp")], [int(n) for n in findall(r"\[u8; (\d+)\]", *self.rust)])
 
@@ -245,6 +248,29 @@ class Interfaces:
         for number, name in rattle:
             short = self.short_name(names.get(int(number), ""))
             self.same(f"the component of kind {number}", short, self.short_name(words(name)))
+
+    def usual_flags(self):
+        """The kinds whose usual choices have the flag: by the header, the Rust crate, and the constants of parts. Of two
+        constants of a component the first has the usual choices."""
+        numbers_of = {name: int(number) for number, name in findall(r"(\d+) => component!\((\w+):", *self.rattle)}
+        constants = {}
+        for component, choices in findall(r"^pub const \w+: modifier::(\w+) =.*?\{(.*?)\};", self.parts):
+            constants.setdefault(component, set(re.findall(r"(\w+): ([\w:]+)", choices)))
+        self.same("the components with constants", sorted(numbers_of), sorted(constants))
+        flags = {("one_indexed", "true"), ("is_uppercase", "true"), ("sign_is_mandatory", "true")}
+        others = {("padding", "Padding::Zero"), ("digits", "SubsecondDigits::OneOrMore")}
+        unlike = [name for name, choices in constants.items()
+                  for choice in choices if choice[0] in ("padding", "digits") and choice not in others]
+        self.same("the usual choices that no flag has", [], unlike)
+        kinds = numbers(r"MOVALIREN_(\w+) = (\d+)", braces("enum movaliren_kind", self.c))
+        header = only(r"flag = (kind == .*?);", self.c)
+        rust = only(r"fn usual_flag.*?\n    \}", *self.rust)
+        self.same(
+            "the kinds whose usual choices have the flag",
+            sorted(numbers_of[name] for name, choices in constants.items() if choices & flags and name in numbers_of),
+            sorted(kinds[words(kind)] for kind in findall(r"kind == MOVALIREN_(\w+)", header)),
+            sorted(kinds[words(kind)] for kind in findall(r"Kind::(\w+)", rust)),
+        )
 
     @staticmethod
     def short_name(name):
@@ -341,7 +367,7 @@ class Interfaces:
     def compared(self, stops=False):
         """All differences, or those of the first check that has one."""
         checks = (
-            self.functions, self.uses, self.structs, self.kinds, self.choices, self.reasons, self.texts, self.lengths,
+            self.functions, self.uses, self.structs, self.kinds, self.usual_flags, self.choices, self.reasons, self.texts, self.lengths,
             self.version, self.tests, self.counts,
         )
         for check in checks:

@@ -3,9 +3,12 @@
 differs.
 
 A row of a component has its name, perhaps a constant, its choices, its width and its example, and a test formats it.
-A choice without a value has the usual one, which a table names beside the other values. A constant has the usual
-choices, but for its row's own of a choice that has none, and a test has it as a part. The heading over a row is that of
+A choice without a value has the usual one, which a table names beside the other values. A constant has the choices of
+its row, and a test has it as a part. The heading over a row is that of
 the component's group. The comment at a component is that at its choices and at its variant of version 3.
+
+In brackets a name has the modifiers that the code reads, and the first value of each is the usual one. A test formats
+each component in both syntaxes.
 """
 
 import pathlib
@@ -15,6 +18,8 @@ import sys
 TOP = pathlib.Path(__file__).resolve().parent.parent
 BELOW = TOP / "crates/time_below/src/format_description"
 TESTS = TOP / "crates/time_fmt_tests/src/fmt/components_table.rt"
+DESCRIBE = TOP / "crates/time_describe/src"
+SPELLINGS = TOP / "crates/time_describe_tests/src/spellings.rt"
 USUAL = re.compile(r"^\| `([a-z_]+)` \| `(\w+)` \| `(.*?)` \|", re.M)
 ROW = re.compile(r"^\| `(\w+)` \|(?: (`[A-Z_0-9]+`|-) \|)? (`[a-z_]+.*?) \| .* \| (\d+) \| (-|`.*`) \|$", re.M)
 CONSTANT = re.compile(r"^\| `([A-Z_0-9]+)` \| `(\w+)` \| (.*) \|$", re.M)
@@ -26,6 +31,14 @@ PART = re.compile(r"^        ([A-Z_0-9]+) (\w+) \"<", re.M)
 VARIANT = re.compile(r"((?: {4}///[^\n]*\n)+)    (\w+)\(modifier::\w+\),")
 STRUCT = re.compile(r"((?:///[^\n]*\n)+)#\[[^\n]*\]\npub struct (\w+) \{")
 ARM = re.compile(r"((?:\s*\|?\s*Component::\w+\(_\))+) => \{?\s*Group::(\w+)")
+NAME = re.compile(r"^\| `([a-z_]+)` \| (`[a-z_]+:.*?`)(?:, which is required)? \|$", re.M)
+SPELLED = re.compile(r"^\| (`\w+`(?:, `\w+`)?) \| `(\[.*?\])` \| (-|`%.*?`) \|$", re.M)
+SPELLED_TESTED = re.compile(r"^ {4}\(\s*\"(\[.*?\])\",\s*\"(.*?)\",\s*\"(.*?)\",?\s*\),$", re.M)
+NAMED = re.compile(r"is_name\(word, b\"(.*?)\"\) \{\s*Some\(Component::(\w+)\(modifier::\w+ \{(.*?)\}\)\)", re.S)
+FUNCTION = re.compile(r"^(?:pub )?fn (\w+)\(.*?^\}", re.S | re.M)
+KEY = re.compile(r"is_name\(key, b\"(\w+)\"\) \{\s*(?:let Some\((\w+)\) = )?(\w+)\(value\)")
+VALUE = re.compile(r"is_name\(word, b\"(.*?)\"\) \{\s*Some\(([\w:]+)\)")
+DISPATCH = re.compile(r"Component::(\w+)\(\w\) =>.*?(\w+_modified)\(", re.S)
 HEADINGS = {
     "Date": "Date", "Time": "Time", "Offset from UTC": "Offset", "Moment": "Timestamp", "No group": "None",
 }
@@ -52,7 +65,7 @@ def tested():
 
 
 def shown():
-    rows = [(constant[1:-1], name, [(choice, usual.get(choice, value)) for choice, value in choices(fields)])
+    rows = [(constant[1:-1], name, choices(fields))
             for name, constant, fields, _, _ in ROW.findall(page) if constant not in ("", "-")]
     return sorted(rows + [(name, kind, choices(fields)) for name, kind, fields in CONSTANT.findall(page)])
 
@@ -96,6 +109,42 @@ def grouped():
     return sorted((name, group) for name, group in groups if name in current)
 
 
+def modifiers():
+    """Each name of the page with its modifiers, and the values of each, the usual one first."""
+    named = [(name, key, values.split("/")) for name, rest in NAME.findall(page)
+             for key, values in re.findall(r"`([a-z_]+):(.*?)`", rest)]
+    return sorted((name, key, values[0], sorted(values)) for name, key, values in named if ".." not in values)
+
+
+def modifiers_read():
+    """The same of the code; a key without named values is left out."""
+    code, tables = ((DESCRIBE / file).read_text() for file in ("names.rt", "values.rt"))
+    values = {it[1]: VALUE.findall(it[0]) for it in FUNCTION.finditer(tables)}
+    keys = {it[1]: KEY.findall(it[0]) for it in FUNCTION.finditer(code)}
+    function = dict(DISPATCH.findall(code))
+    rows = []
+    for name, component, fields in NAMED.findall(code):
+        usual_of = dict(re.findall(r"(\w+): ([\w:]+)", fields))
+        for key, field, table in keys[function[component]]:
+            named = {variant: value for value, variant in values[table]}
+            if named:
+                rows.append((name, key, named[usual_of[field or key]], sorted(named.values())))
+    return sorted(rows)
+
+
+def spelled():
+    return [(brackets, "" if conversion == "-" else conversion[1:-1]) for _, brackets, conversion in SPELLED.findall(page)]
+
+
+def spelled_in_tests():
+    return [(brackets, conversion) for brackets, conversion, _ in SPELLED_TESTED.findall(SPELLINGS.read_text())]
+
+
+def spelled_components():
+    """Each component that is not deprecated has a spelling."""
+    return sorted({name for names, _, _ in SPELLED.findall(page) for name in re.findall(r"`(\w+)`", names)})
+
+
 def compared(what, ours, theirs, first="the table", second="the code"):
     for row in ours:
         if row not in theirs:
@@ -118,6 +167,9 @@ def main():
         compared("constants", [(name, kind) for name, kind, _ in defined()], parted(), "the code", "the tests"),
         compared("groups", headed(), grouped()),
         compared("choices", *values()),
+        compared("modifiers in brackets", modifiers(), modifiers_read()),
+        compared("spellings", spelled(), spelled_in_tests(), second="the tests"),
+        compared("spelled components", spelled_components(), [name for name, _ in headed()]),
         compared("comments", comments, said("modifier.rt", STRUCT), "component.rt", "modifier.rt"),
         compared("comments", comments, said("format_description_v3.rt", VARIANT), "component.rt", "version 3"),
     ]

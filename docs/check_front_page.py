@@ -10,7 +10,11 @@ import re
 import sys
 
 TOP = pathlib.Path(__file__).resolve().parent.parent
-RECIPES = "crates/time_known_tests/src/front_page.rt"
+RECIPES = [
+    "crates/time_known_tests/src/front_page.rt",
+    "crates/time_describe_tests/src/recipes.rt",
+    "crates/time_plan_tests/src/recipes.rt",
+]
 
 
 def read(path):
@@ -26,7 +30,7 @@ def sources():
     """The files that the gate compiles, by the language of the blocks that show them."""
     rust = [*TOP.glob("bindings/rust*/examples/*.rs"), *TOP.glob("bindings/rust*/src/*.rs")]
     texts = [path.read_text() for path in rust]
-    rattle = [read("crates/time_example/src/main.rt"), read(RECIPES)]
+    rattle = [read("crates/time_example/src/main.rt"), *map(read, RECIPES)]
     return {
         "rust": [*rattle, *texts, *map(without_marks, texts)],
         "c": [path.read_text() for path in (TOP / "bindings/c").glob("*.c")],
@@ -92,7 +96,8 @@ def commands(page):
 def main():
     front, recipes = read("README.md"), read("docs/RECIPES.md")
     differing = pieces(front) + pieces(recipes) + commands(front)
-    differing += [it for it in re.findall(r"^pub fn \w+", read(RECIPES), re.M) if it not in recipes]
+    functions = [it for path in RECIPES for it in re.findall(r"^pub fn \w+", read(path), re.M)]
+    differing += [it for it in functions if it not in recipes]
     for it in differing:
         print(f"the documents and the code differ: {it}")
     shown = len(blocks(front)) + len(blocks(recipes))

@@ -54,14 +54,14 @@ static void try_descriptions(void)
         const char *text;
         int error;
     } rows[] = {
-        BY(described, &parts, ":.", "09:55:06.12", 0, { .kind = MOVALIREN_HOUR }, { .len = 1 },
-            { .kind = MOVALIREN_MINUTE }, { .len = 1 }, { .kind = MOVALIREN_SECOND },
-            { .start = 1, .len = 1 }, { .kind = MOVALIREN_SUBSECOND }),
-        BY(described, &parts, "/", "12/11", 0, { .kind = MOVALIREN_DAY }, { .len = 1 },
+        BY(described, &parts, ":.", "09:55:06.12", 0, { .kind = MOVALIREN_HOUR }, TEXT(0, 1),
+            { .kind = MOVALIREN_MINUTE }, TEXT(0, 1), { .kind = MOVALIREN_SECOND },
+            TEXT(1, 1), { .kind = MOVALIREN_SUBSECOND }),
+        BY(described, &parts, "/", "12/11", 0, { .kind = MOVALIREN_DAY }, TEXT(0, 1),
             { .kind = MOVALIREN_MONTH }),
         BY(described, &parts, " ", "Wed Wednesday Nov November", 0,
-            { .kind = MOVALIREN_WEEKDAY_SHORT }, { .len = 1 }, { .kind = MOVALIREN_WEEKDAY_LONG },
-            { .len = 1 }, { .kind = MOVALIREN_MONTH_SHORT }, { .len = 1 },
+            { .kind = MOVALIREN_WEEKDAY_SHORT }, TEXT(0, 1), { .kind = MOVALIREN_WEEKDAY_LONG },
+            TEXT(0, 1), { .kind = MOVALIREN_MONTH_SHORT }, TEXT(0, 1),
             { .kind = MOVALIREN_MONTH_LONG }),
         BY(described_date, &before, "", "-  44", 0,
             { .kind = MOVALIREN_YEAR_EXTENDED, .padding = MOVALIREN_SPACE }),
@@ -80,13 +80,13 @@ static void try_descriptions(void)
             { .kind = MOVALIREN_WEEK_MONDAY }, { .kind = MOVALIREN_WEEK_ISO },
             { .kind = MOVALIREN_ORDINAL }),
         BY(described, &parts, "", "120", 0, { .kind = MOVALIREN_SUBSECOND, .digits = 3 }),
-        BY(described_utc, &half, " ", "-1 0", 0, { .kind = MOVALIREN_UNIX_SECOND }, { .len = 1 },
+        BY(described_utc, &half, " ", "-1 0", 0, { .kind = MOVALIREN_UNIX_SECOND }, TEXT(0, 1),
             { .kind = MOVALIREN_UNIX_MILLISECOND }),
         BY(described_utc, &least, "", "-31619087596800", 0, { .kind = MOVALIREN_UNIX_SECOND }),
         BY(described_utc, &least, "", "-31619087596800000", 0,
             { .kind = MOVALIREN_UNIX_MILLISECOND }),
-        BY(described_date, &parts, "on  at ", 0, MOVALIREN_ERROR_INSUFFICIENT, { .len = 3 },
-            { .kind = MOVALIREN_DAY }, { .start = 3, .len = 4 }, { .kind = MOVALIREN_HOUR }),
+        BY(described_date, &parts, "on  at ", 0, MOVALIREN_ERROR_INSUFFICIENT, TEXT(0, 3),
+            { .kind = MOVALIREN_DAY }, TEXT(3, 4), { .kind = MOVALIREN_HOUR }),
         BY(described_date, &no_day, "", 0, MOVALIREN_ERROR_DAY, { .kind = MOVALIREN_DAY }),
         BY(described_date, &no_day, "", 0, MOVALIREN_ERROR_BAD_ITEM, { .kind = MOVALIREN_DAY },
             { .kind = 34 }),
@@ -96,9 +96,14 @@ static void try_descriptions(void)
             { .kind = MOVALIREN_PERIOD, .flag = 2 }),
         BY(described, &parts, "", 0, MOVALIREN_ERROR_BAD_ITEM,
             { .kind = MOVALIREN_SUBSECOND, .digits = 10 }),
-        BY(described, &parts, "ab", 0, MOVALIREN_ERROR_BAD_ITEM, { .start = 1, .len = 2 }),
+        BY(described, &parts, "ab", 0, MOVALIREN_ERROR_BAD_ITEM, TEXT(1, 2)),
+        BY(described, &parts, "ab", 0, MOVALIREN_ERROR_BAD_ITEM, { .kind = 0 }),
+        BY(described, &parts, "ab", 0, MOVALIREN_ERROR_BAD_ITEM, { .kind = MOVALIREN_DAY },
+            { .kind = 0, .len = 1 }),
+        BY(described, &parts, "ab", 0, MOVALIREN_ERROR_BAD_ITEM, { .kind = 254 }),
+        BY(described, &parts, "ab", 0, MOVALIREN_ERROR_BAD_ITEM, { .kind = 256 + 255 }),
         BY(described, &parts, "ab", 0, MOVALIREN_ERROR_BAD_ITEM,
-            { .start = (size_t)-1, .len = 2 }),
+            TEXT((size_t)-1, 2)),
     };
     for (size_t i = 0; i < sizeof rows / sizeof *rows; i++)
         if (rows[i].text)
@@ -131,15 +136,15 @@ static void try_usual_items(void)
         int error;
     } rows[] = {
         BY(described, &parts, " -T:.", "Nov 12 1997-11-12T09:55:06.120-06:00", 0,
-            { .kind = MOVALIREN_MONTH_SHORT }, { .len = 1 }, { .kind = MOVALIREN_DAY }, { .len = 1 },
-            { .kind = MOVALIREN_YEAR_EXTENDED }, { .start = 1, .len = 1 }, { .kind = MOVALIREN_MONTH },
-            { .start = 1, .len = 1 }, { .kind = MOVALIREN_DAY }, { .start = 2, .len = 1 },
-            { .kind = MOVALIREN_HOUR }, { .start = 3, .len = 1 }, { .kind = MOVALIREN_MINUTE },
-            { .start = 3, .len = 1 }, { .kind = MOVALIREN_SECOND }, { .start = 4, .len = 1 },
+            { .kind = MOVALIREN_MONTH_SHORT }, TEXT(0, 1), { .kind = MOVALIREN_DAY }, TEXT(0, 1),
+            { .kind = MOVALIREN_YEAR_EXTENDED }, TEXT(1, 1), { .kind = MOVALIREN_MONTH },
+            TEXT(1, 1), { .kind = MOVALIREN_DAY }, TEXT(2, 1),
+            { .kind = MOVALIREN_HOUR }, TEXT(3, 1), { .kind = MOVALIREN_MINUTE },
+            TEXT(3, 1), { .kind = MOVALIREN_SECOND }, TEXT(4, 1),
             { .kind = MOVALIREN_SUBSECOND, .digits = 3 }, { .kind = MOVALIREN_OFFSET_HOUR, .flag = 1 },
-            { .start = 3, .len = 1 }, { .kind = MOVALIREN_OFFSET_MINUTE }),
+            TEXT(3, 1), { .kind = MOVALIREN_OFFSET_MINUTE }),
         BY(described_utc, &half, "-", "1969-999500-999500000+0000", 0, { .kind = MOVALIREN_YEAR },
-            { .len = 1 }, { .kind = MOVALIREN_SUBSECOND, .digits = 6 }, { .len = 1 },
+            TEXT(0, 1), { .kind = MOVALIREN_SUBSECOND, .digits = 6 }, TEXT(0, 1),
             { .kind = MOVALIREN_SUBSECOND, .digits = 9 }, { .kind = MOVALIREN_OFFSET_HOUR, .flag = 1 },
             { .kind = MOVALIREN_OFFSET_MINUTE }),
         BY(described, &behind, "", "-0030", 0, { .kind = MOVALIREN_OFFSET_HOUR, .flag = 1 },
@@ -147,7 +152,7 @@ static void try_usual_items(void)
         BY(described, &seconds, "", "+0708", 0, { .kind = MOVALIREN_OFFSET_HOUR, .flag = 1 },
             { .kind = MOVALIREN_OFFSET_MINUTE }),
         BY(described_date, &parts, "of the year ", "12of the year 1997", 0, { .kind = MOVALIREN_DAY },
-            { .len = 12 }, { .kind = MOVALIREN_YEAR }),
+            TEXT(0, 12), { .kind = MOVALIREN_YEAR }),
         BY(described_date, &first, "", "0000", 0, { .kind = MOVALIREN_YEAR }),
         BY(described_date, &before, "", "-0001", 0, { .kind = MOVALIREN_YEAR }),
         BY(described_date, &last, "", "99999999", 0, { .kind = MOVALIREN_YEAR },
@@ -155,18 +160,18 @@ static void try_usual_items(void)
         BY(described_date, &after, "", "01+10000", 0, { .kind = MOVALIREN_MONTH },
             { .kind = MOVALIREN_YEAR_EXTENDED }),
         /* bytes before a component that is refused, and usual items before one that is not usual or invalid */
-        BY(described_date, &after, "in ", 0, MOVALIREN_ERROR_OUT_OF_RANGE, { .len = 3 },
+        BY(described_date, &after, "in ", 0, MOVALIREN_ERROR_OUT_OF_RANGE, TEXT(0, 3),
             { .kind = MOVALIREN_MONTH }, { .kind = MOVALIREN_YEAR }),
         BY(described_date, &parts, "", 0, MOVALIREN_ERROR_INSUFFICIENT, { .kind = MOVALIREN_DAY },
             { .kind = MOVALIREN_MINUTE }),
-        BY(described, &parts, "-", "1997-12", 0, { .kind = MOVALIREN_YEAR }, { .len = 1 },
-            { .kind = MOVALIREN_SUBSECOND }, { .start = 1 }, { .kind = MOVALIREN_TEXT }),
+        BY(described, &parts, "-", "1997-12", 0, { .kind = MOVALIREN_YEAR }, TEXT(0, 1),
+            { .kind = MOVALIREN_SUBSECOND }, TEXT(1, 0), TEXT(0, 0)),
         BY(described, &parts, "-", 0, MOVALIREN_ERROR_BAD_ITEM, { .kind = MOVALIREN_YEAR },
-            { .len = 1 }, { .kind = MOVALIREN_DAY, .flag = 2 }),
+            TEXT(0, 1), { .kind = MOVALIREN_DAY, .flag = 2 }),
         BY(described, &no_day, "-", 0, MOVALIREN_ERROR_BAD_ITEM, { .kind = MOVALIREN_YEAR },
-            { .len = 1 }, { .kind = MOVALIREN_DAY, .digits = 10 }),
+            TEXT(0, 1), { .kind = MOVALIREN_DAY, .digits = 10 }),
         BY(described, &no_day, "-", 0, MOVALIREN_ERROR_BAD_ITEM, { .kind = MOVALIREN_DAY },
-            { .start = 1, .len = 1 }),
+            TEXT(1, 1)),
         BY(described, &no_day, "", 0, MOVALIREN_ERROR_DAY, { .kind = MOVALIREN_DAY }),
         BY(described_utc, &too_late, "", 0, MOVALIREN_ERROR_MOMENT_SECONDS, { .kind = MOVALIREN_DAY }),
         /* choices that the kind does not use, and others than most texts have */
@@ -177,12 +182,12 @@ static void try_usual_items(void)
             { .kind = MOVALIREN_YEAR, .flag = 1 }),
         BY(described, &seconds, "", "07", 0, { .kind = MOVALIREN_OFFSET_HOUR }),
         /* literals of no bytes, of which one begins behind the texts, and of as many as are put */
-        BY(described, &parts, "-", "1112", 0, { .kind = MOVALIREN_MONTH }, { .start = 1 },
-            { .kind = MOVALIREN_DAY }, { .len = 0 }),
+        BY(described, &parts, "-", "1112", 0, { .kind = MOVALIREN_MONTH }, TEXT(1, 0),
+            { .kind = MOVALIREN_DAY }, TEXT(0, 0)),
         BY(described, &parts, "-", 0, MOVALIREN_ERROR_BAD_ITEM, { .kind = MOVALIREN_MONTH },
-            { .start = 2 }, { .kind = MOVALIREN_DAY }),
-        BY(described, &parts, X126, X126 "12", 0, { .len = 126 }, { .kind = MOVALIREN_DAY }),
-        BY(described, &parts, "a" X126, "a" X126 "12", 0, { .len = 127 }, { .kind = MOVALIREN_DAY }),
+            TEXT(2, 0), { .kind = MOVALIREN_DAY }),
+        BY(described, &parts, X126, X126 "12", 0, TEXT(0, 126), { .kind = MOVALIREN_DAY }),
+        BY(described, &parts, "a" X126, "a" X126 "12", 0, TEXT(0, 127), { .kind = MOVALIREN_DAY }),
     };
     for (size_t i = 0; i < sizeof rows / sizeof *rows; i++)
         if (rows[i].text)
@@ -221,7 +226,7 @@ static void try_the_empty_description(void)
 static void try_widths(void)
 {
     static const struct movaliren_item items[]
-        = { { .kind = MOVALIREN_MONTH_LONG }, { .len = 2 }, { .kind = MOVALIREN_SUBSECOND } };
+        = { { .kind = MOVALIREN_MONTH_LONG }, TEXT(0, 2), { .kind = MOVALIREN_SUBSECOND } };
     if (movaliren_width(items, 3, "ab", 2) != 20
         || movaliren_width(items, 3, "a", 1) != MOVALIREN_ERROR_BAD_ITEM) {
         failures++;
@@ -241,10 +246,10 @@ static ptrdiff_t built(size_t items_room, size_t texts_room)
     movaliren_add(&line, MOVALIREN_DAY, MOVALIREN_SPACE, 0, 0);
     movaliren_add_text(&line, ". ");
     movaliren_add(&line, MOVALIREN_MONTH, MOVALIREN_ZERO, 0, 0);
-    if (line.reason)
-        return line.reason;
     ptrdiff_t n = movaliren_format(
         line.items, line.items_len, line.texts, line.texts_len, &moment, text, sizeof text);
+    if (line.reason)
+        return n == MOVALIREN_ERROR_BAD_ITEM || items_room == 0 ? line.reason : -101;
     return n == 6 && !memcmp(text, "12. 11", 6) ? n : -100;
 }
 
@@ -256,6 +261,149 @@ static void try_building(void)
                 failures++;
                 printf("built over %zu items and %zu bytes\n", items, texts);
             }
+}
+
+/* What does not fit sets the reason, and changes nothing behind the arrays. */
+static void try_too_many(void)
+{
+    struct movaliren_item items[3];
+    char texts[] = "##########";
+    struct movaliren_description line = MOVALIREN_DESCRIPTION(items, texts);
+    int is_right = line.items_room == 3 && line.texts_room == sizeof texts && line.reason == 0;
+    memset(items, FILL, sizeof items);
+    line.items_room = 0;
+    movaliren_add(&line, MOVALIREN_HOUR, MOVALIREN_ZERO, 0, 0);
+    is_right = is_right && line.reason == MOVALIREN_ERROR_NO_ROOM && line.items_len == 0
+        && is_filled((uint8_t *)items, (uint8_t *)&items[3]);
+    line.reason = 0, line.items_room = 2, line.texts_room = 4;
+    movaliren_add_text(&line, "at ");
+    movaliren_add(&line, MOVALIREN_HOUR, MOVALIREN_ZERO, 0, 0);
+    is_right = is_right && line.reason == 0 && line.items_len == 2 && line.texts_len == 3;
+    movaliren_add(&line, MOVALIREN_MINUTE, MOVALIREN_ZERO, 0, 0);
+    movaliren_add_text(&line, ":");
+    is_right = is_right && line.reason == MOVALIREN_ERROR_NO_ROOM && line.items_len <= 2
+        && is_filled((uint8_t *)&items[2], (uint8_t *)&items[3]) && line.texts_len <= 4
+        && !memcmp(texts + 4, "######", 7);
+    line = (struct movaliren_description)MOVALIREN_DESCRIPTION(items, texts);
+    line.texts_room = 4;
+    memcpy(texts, "##########", 10);
+    movaliren_add_text(&line, "123");
+    movaliren_add_text(&line, "45");
+    movaliren_add_text(&line, "4");
+    is_right = is_right && line.reason == MOVALIREN_ERROR_NO_ROOM && !strcmp(texts, "123#######");
+    if (!is_right) {
+        failures++;
+        puts("what does not fit is added");
+    }
+}
+
+/* An invalid item sets the reason, which stays, and leaves no description that a call accepts. */
+static void try_invalid_items(void)
+{
+    static const struct {
+        uint32_t kind;
+        uint8_t padding, flag, digits;
+    } rows[] = {
+        { 0, 0, 0, 0 }, { 34, 0, 0, 0 }, { 99, 0, 0, 0 }, { MOVALIREN_TEXT, 0, 0, 0 },
+        { MOVALIREN_DAY, 3, 0, 0 }, { MOVALIREN_PERIOD, 0, 2, 0 }, { MOVALIREN_SUBSECOND, 0, 0, 10 },
+    };
+    for (size_t i = 0; i < sizeof rows / sizeof *rows; i++) {
+        struct movaliren_item items[4];
+        char texts[4], text[64];
+        struct movaliren_description line = MOVALIREN_DESCRIPTION(items, texts);
+        movaliren_add_text(&line, "on ");
+        movaliren_add(&line, rows[i].kind, rows[i].padding, rows[i].flag, rows[i].digits);
+        movaliren_add(&line, MOVALIREN_DAY, MOVALIREN_ZERO, 0, 0);
+        movaliren_add_text(&line, "too long");
+        const ptrdiff_t n = movaliren_format_date(
+            line.items, line.items_len, line.texts, line.texts_len, 2026, 1, 2, text, sizeof text);
+        const ptrdiff_t width
+            = movaliren_width(line.items, line.items_len, line.texts, line.texts_len);
+        if (line.reason != MOVALIREN_ERROR_BAD_ITEM || n != MOVALIREN_ERROR_BAD_ITEM || width != n
+            || line.items_len != 1 || line.texts_len != 3) {
+            failures++;
+            printf("kind %u: reason %td, answer %td\n", (unsigned)rows[i].kind, line.reason, n);
+        }
+    }
+}
+
+/* A text of no bytes needs no bytes. */
+static void try_empty_texts(void)
+{
+    static const struct movaliren_moment moment = MOMENT(1997, 11, 2, 9, 55, 6, 0, 0, 0, 0);
+    struct movaliren_item items[3];
+    char texts[1], text[4];
+    struct movaliren_description line = MOVALIREN_DESCRIPTION(items, texts);
+    line.texts_room = 0;
+    movaliren_add_text(&line, "");
+    movaliren_add(&line, MOVALIREN_DAY, MOVALIREN_ZERO, 0, 0);
+    movaliren_add_bytes(&line, "none of these", 0);
+    const ptrdiff_t n = movaliren_format(
+        line.items, line.items_len, line.texts, line.texts_len, &moment, text, sizeof text);
+    if (line.reason || line.items_len != 3 || line.texts_len != 0 || n != 2 || memcmp(text, "02", 2)) {
+        failures++;
+        printf("empty texts: answer %td\n", n);
+    }
+}
+
+/* The texts of 2022-01-02T15:04:05.678 +06:07:08, a Sunday, without the flag and with it. Names and numbers are those
+ * of strftime; a number of the weekday is one more if it counts from 1. */
+static void try_kinds(void)
+{
+    static const struct movaliren_moment sunday = MOMENT(2022, 1, 2, 15, 4, 5, 678000000, 6, 7, 8);
+    static const struct {
+        uint32_t kind;
+        const char *plain, *flagged;
+        int is_flag_usual;
+    } rows[] = {
+        { MOVALIREN_DAY, "02", "02", 0 },
+        { MOVALIREN_MONTH_SHORT, "Jan", "Jan", 0 },
+        { MOVALIREN_MONTH_LONG, "January", "January", 0 },
+        { MOVALIREN_MONTH, "01", "01", 0 },
+        { MOVALIREN_ORDINAL, "002", "002", 0 },
+        { MOVALIREN_WEEKDAY_SHORT, "Sun", "Sun", 0 },
+        { MOVALIREN_WEEKDAY_LONG, "Sunday", "Sunday", 0 },
+        { MOVALIREN_WEEKDAY_FROM_SUNDAY, "0", "1", 1 },
+        { MOVALIREN_WEEKDAY_FROM_MONDAY, "6", "7", 1 },
+        { MOVALIREN_WEEK_ISO, "52", "52", 0 },
+        { MOVALIREN_WEEK_SUNDAY, "01", "01", 0 },
+        { MOVALIREN_WEEK_MONDAY, "00", "00", 0 },
+        { MOVALIREN_YEAR_EXTENDED, "2022", "+2022", 0 },
+        { MOVALIREN_YEAR, "2022", "+2022", 0 },
+        { MOVALIREN_CENTURY_EXTENDED, "20", "+20", 0 },
+        { MOVALIREN_CENTURY, "20", "+20", 0 },
+        { MOVALIREN_YEAR_LAST_TWO, "22", "22", 0 },
+        { MOVALIREN_ISO_YEAR_EXTENDED, "2021", "+2021", 0 },
+        { MOVALIREN_ISO_YEAR, "2021", "+2021", 0 },
+        { MOVALIREN_ISO_CENTURY_EXTENDED, "20", "+20", 0 },
+        { MOVALIREN_ISO_CENTURY, "20", "+20", 0 },
+        { MOVALIREN_ISO_YEAR_LAST_TWO, "21", "21", 0 },
+        { MOVALIREN_HOUR_12, "03", "03", 0 },
+        { MOVALIREN_HOUR, "15", "15", 0 },
+        { MOVALIREN_MINUTE, "04", "04", 0 },
+        { MOVALIREN_PERIOD, "pm", "PM", 1 },
+        { MOVALIREN_SECOND, "05", "05", 0 },
+        { MOVALIREN_SUBSECOND, "678", "678", 0 },
+        { MOVALIREN_OFFSET_HOUR, "06", "+06", 0 },
+        { MOVALIREN_OFFSET_MINUTE, "07", "07", 0 },
+        { MOVALIREN_OFFSET_SECOND, "08", "08", 0 },
+        { MOVALIREN_UNIX_SECOND, "1641113817", "+1641113817", 0 },
+        { MOVALIREN_UNIX_MILLISECOND, "1641113817678", "+1641113817678", 0 },
+    };
+    for (size_t i = 0; i < sizeof rows / sizeof *rows; i++) {
+        struct movaliren_item items[3];
+        char texts[1];
+        struct movaliren_description line = MOVALIREN_DESCRIPTION(items, texts);
+        movaliren_add(&line, rows[i].kind, MOVALIREN_ZERO, 0, 0);
+        movaliren_add(&line, rows[i].kind, MOVALIREN_ZERO, 1, 0);
+        movaliren_add_usual(&line, rows[i].kind);
+        const struct description plain = { items, 1, "" }, flagged = { items + 1, 1, "" },
+                                 usual = { items + 2, 1, "" };
+        expect_text(described, &plain, &sunday, rows[i].plain);
+        expect_text(described, &flagged, &sunday, rows[i].flagged);
+        expect_text(
+            described, &usual, &sunday, rows[i].is_flag_usual ? rows[i].flagged : rows[i].plain);
+    }
 }
 
 enum { MANY = 16000 };
@@ -306,7 +454,10 @@ static void try_error_texts(void)
 {
     if (strcmp(movaliren_error_text(MOVALIREN_ERROR_DAY), "the month has no such day")
         || strcmp(movaliren_error_text(-100), "unknown error")
-        || strcmp(movaliren_error_text(0), "no error")) {
+        || strcmp(movaliren_error_text(PTRDIFF_MIN), "unknown error")
+        || strcmp(movaliren_error_text(0), "no error")
+        || strcmp(movaliren_error_text(35), "no error")
+        || strcmp(movaliren_error_text(PTRDIFF_MAX), "no error")) {
         failures++;
         puts("a reason has another text");
     }
@@ -320,6 +471,10 @@ int main(void)
     try_the_empty_description();
     try_widths();
     try_building();
+    try_too_many();
+    try_invalid_items();
+    try_empty_texts();
+    try_kinds();
     try_many_items();
     try_choices();
     try_error_texts();

@@ -41,11 +41,11 @@ int main(void)
     struct movaliren_description line = MOVALIREN_DESCRIPTION(items, texts);
     movaliren_add(&line, MOVALIREN_DAY, MOVALIREN_NO_PADDING, 0, 0);
     movaliren_add_text(&line, " ");
-    movaliren_add(&line, MOVALIREN_MONTH_LONG, MOVALIREN_ZERO, 0, 0);
+    movaliren_add_usual(&line, MOVALIREN_MONTH_LONG);
     movaliren_add_text(&line, ", week ");
-    movaliren_add(&line, MOVALIREN_ISO_YEAR, MOVALIREN_ZERO, 0, 0);
+    movaliren_add_usual(&line, MOVALIREN_ISO_YEAR);
     movaliren_add_text(&line, "-W");
-    movaliren_add(&line, MOVALIREN_WEEK_ISO, MOVALIREN_ZERO, 0, 0);
+    movaliren_add_usual(&line, MOVALIREN_WEEK_ISO);
     if (line.reason)
         return 1;
     printf("%-13s %td\n", "width", movaliren_width(items, line.items_len, texts, line.texts_len));

@@ -2,7 +2,7 @@
 #ifndef EXPECT_H
 #define EXPECT_H
 
-#include "movaliren.h"
+#include "items.h"
 
 #include <stdio.h>
 #include <string.h>

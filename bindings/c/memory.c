@@ -1,6 +1,6 @@
 /* Refuses each allocation in turn: the call returns out of memory, the buffer is unchanged, and the
  * next call is right. No other call allocates, and each allocation is freed. */
-#include "movaliren.h"
+#include "items.h"
 
 #include <stdio.h>
 #include <stdlib.h>
@@ -50,16 +50,27 @@ void __wrap_free(void *pointer)
     __real_free(pointer);
 }
 
-enum { ROOM = 300, CALLS = 29 };
+enum { ROOM = 300, CALLS = 35 };
 
 static const struct movaliren_moment moment = { .year = 1997, .month = 11, .day = 12, .hour = 9,
-    .minute = 55, .second = 6, .nanosecond = 120000000, .offset_hours = -6 };
+    .minute = 55, .second = 6, .nanosecond = 120000000, .offset_hours = -6 },
+                                     year_0 = { .month = 1, .day = 1 },
+                                     last = { .year = 9999, .month = 12, .day = 31 };
 static const struct movaliren_utc_moment epoch = { 0, 0 };
 static const struct movaliren_iso_config config = { 5, 1, 2, 255, 1, 1, 1, 0 };
-static const struct movaliren_item items[] = { { .kind = MOVALIREN_YEAR }, { .len = 1 },
-    { .kind = MOVALIREN_MONTH_LONG }, { .len = 1 }, { .kind = MOVALIREN_DAY } };
+static const struct movaliren_item items[] = { { .kind = MOVALIREN_YEAR }, TEXT(0, 1),
+    { .kind = MOVALIREN_MONTH_LONG }, TEXT(0, 1), { .kind = MOVALIREN_DAY } };
 static const struct movaliren_item usual[]
-    = { { .kind = MOVALIREN_YEAR }, { .len = 1 }, { .kind = MOVALIREN_MONTH } };
+    = { { .kind = MOVALIREN_YEAR }, TEXT(0, 1), { .kind = MOVALIREN_MONTH } };
+/* Nov 12 1997-11-12T09:55:06.120-06:00 */
+static const struct movaliren_item twenty[20] = { { .kind = MOVALIREN_MONTH_SHORT }, TEXT(0, 1),
+    { .kind = MOVALIREN_DAY }, TEXT(0, 1), { .kind = MOVALIREN_YEAR_EXTENDED }, TEXT(1, 1),
+    { .kind = MOVALIREN_MONTH }, TEXT(1, 1), { .kind = MOVALIREN_DAY },
+    TEXT(2, 1), { .kind = MOVALIREN_HOUR }, TEXT(3, 1),
+    { .kind = MOVALIREN_MINUTE }, TEXT(3, 1), { .kind = MOVALIREN_SECOND },
+    TEXT(4, 1), { .kind = MOVALIREN_SUBSECOND, .digits = 3 },
+    { .kind = MOVALIREN_OFFSET_HOUR, .flag = 1 }, TEXT(3, 1),
+    { .kind = MOVALIREN_OFFSET_MINUTE } };
 
 static ptrdiff_t bytes_of(struct movaliren_progress progress)
 {
@@ -98,7 +109,13 @@ static ptrdiff_t call(int which, uint8_t *room)
     case 25: return bytes_of(movaliren_rfc2822_local_batch(&epoch, 1, 60, '\n', room, ROOM));
     case 26: return movaliren_format(usual, 3, dash, 1, &moment, room, ROOM);
     case 27: return movaliren_format_utc(usual, 3, dash, 1, 0, 0, room, ROOM);
-    default: return movaliren_format_date(usual, 3, dash, 1, 2026, 1, 1, room, ROOM);
+    case 28: return movaliren_format_date(usual, 3, dash, 1, 2026, 1, 1, room, ROOM);
+    case 29: return movaliren_format(twenty, 20, " -T:.", 5, &moment, room, ROOM);
+    case 30: return movaliren_format_utc(twenty, 20, " -T:.", 5, -1, 999500000, room, ROOM);
+    case 31: return movaliren_format(twenty, 20, " -T:.", 5, &year_0, room, ROOM);
+    case 32: return movaliren_format_utc(twenty, 20, " -T:.", 5, -62167219200, 0, room, ROOM);
+    case 33: return movaliren_format(twenty, 20, " -T:.", 5, &last, room, ROOM);
+    default: return movaliren_format_date(usual, 3, dash, 1, 0, 1, 1, room, ROOM);
     }
 }
 
@@ -138,20 +155,51 @@ static int is_freed_after_errors(void)
         == MOVALIREN_ERROR_INSUFFICIENT && !live;
 }
 
-enum { LONG = 100000, MAY = 3, MONTH_WIDTH = 9 };
+enum { MOST = 1 << 20, MAY = 3, MONTH_WIDTH = 9, LITERAL = 65535, ARRAY = 128 };
 
-/* Whether a long text is written to a buffer that holds it, but not its width. */
-static int is_long_text_written(void)
+static uint8_t letters[MOST], text_room[2 * MOST + 1];
+
+/* Whether a text of so many letters, and the name of May or its number after it, is written to a buffer of so many
+ * bytes, or refused. Usual items allocate where the literal is long, or where the width is above the bytes of the buffer
+ * and of an array. Others always do, and all once, as many bytes as the width. */
+static int is_written_to(size_t len, size_t room_len, int is_usual)
 {
-    static const struct movaliren_item long_items[] = { { .len = LONG }, { .kind = MOVALIREN_MONTH_LONG } };
-    static char letters[LONG], long_room[LONG + MAY];
-    const void *texts = memset(letters, 'x', LONG);
-    void *room = long_room;
-    bytes = 0;
-    const ptrdiff_t count
-        = movaliren_format_date(long_items, 2, texts, LONG, 2026, 5, 1, room, LONG + MAY);
-    return count == LONG + MAY && !memcmp(long_room, letters, LONG)
-        && !memcmp(long_room + LONG, "May", MAY) && bytes == LONG + MONTH_WIDTH && !live;
+    static const char names[2][MAY + 1] = { "May", "05" };
+    const struct movaliren_item sized[]
+        = { TEXT(0, len), { .kind = is_usual ? MOVALIREN_MONTH : MOVALIREN_MONTH_LONG } };
+    const char *name = names[is_usual];
+    const size_t name_len = strlen(name), width = len + (is_usual ? name_len : MONTH_WIDTH);
+    const int is_held = len + name_len <= room_len;
+    const int is_short = is_usual && len <= LITERAL && (width <= room_len || width <= ARRAY);
+    const struct movaliren_moment may = { .year = 2026, .month = 5, .day = 1 };
+    memset(text_room, '#', room_len + 1);
+    asked = 0, bytes = 0;
+    const ptrdiff_t count = movaliren_format(sized, 2, letters, len, &may, text_room, room_len);
+    int is_well = asked == !is_short && bytes == (is_short ? 0 : width) && !live;
+    if (is_held)
+        is_well &= count == (ptrdiff_t)(len + name_len) && !memcmp(text_room, letters, len)
+            && !memcmp(text_room + len, name, name_len) && text_room[len + name_len] == '#';
+    else
+        is_well &= count == MOVALIREN_ERROR_NO_ROOM && text_room[0] == '#' && text_room[room_len] == '#';
+    if (!is_well)
+        printf("%zu letters in %zu bytes: %td, %ld allocations\n", len, room_len, count, asked);
+    return is_well;
+}
+
+/* Whether each length of a power of two, up to a megabyte, is written to a buffer of each, of the text and of one byte
+ * less. */
+static int are_sizes_written(void)
+{
+    int is_well = 1;
+    memset(letters, 'x', MOST);
+    for (size_t len = 1; len <= MOST; len *= 2)
+        for (int is_usual = 0; is_usual < 2; is_usual++) {
+            const size_t text_len = len + (is_usual ? 2 : MAY);
+            for (size_t room_len = 1; room_len <= 2 * MOST; room_len *= 2)
+                is_well &= is_written_to(len, room_len, is_usual);
+            is_well &= is_written_to(len, text_len, is_usual) & is_written_to(len, text_len - 1, is_usual);
+        }
+    return is_well;
 }
 
 int main(void)
@@ -163,7 +211,7 @@ int main(void)
         wrong += !is_refused_well(which, which < 3, which < 3 ? width : 0);
     refused = 0;
     wrong += !is_freed_after_errors();
-    wrong += !is_long_text_written();
+    wrong += !are_sizes_written();
     printf("memory: %d wrong\n", wrong);
     return wrong != 0;
 }

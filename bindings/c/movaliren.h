@@ -9,16 +9,21 @@
  *     else
  *         line[n] = 0, puts(line);
  *
- * Each call returns the number of bytes that it wrote to the start of the buffer `room`. These are the
- * whole text, without a zero at the end; the bytes after them are unchanged. Or it returns a negative
- * movaliren_error, and the buffer is unchanged. A number out of its range is an error, and is never
- * changed to one in range. A call reads its arguments, keeps nothing and prints nothing. Threads may
- * call at the same time without a lock.
+ * A call that writes one text returns the number of bytes that it wrote to the start of the buffer
+ * `room`. These are the whole text, without a zero at the end; the bytes after them are unchanged. Or it
+ * returns a negative movaliren_error, and the buffer is unchanged. A batch returns how many texts it
+ * wrote, and movaliren_width a width. A number out of its range is an error, and is never changed to one
+ * in range. A call reads its arguments, keeps nothing and prints nothing. Threads may call at the same
+ * time without a lock.
  *
- * Only movaliren_format, movaliren_format_utc and movaliren_format_date allocate: at most once, freed
- * before they return. They may not be called from a signal handler, nor in the forked child of a
- * process with threads. They allocate through two symbols, which the library defines by malloc and
- * free. A program that links the static library may define both itself. is_there is 1, or 0 if out of
+ * Only movaliren_format, movaliren_format_utc and movaliren_format_date allocate: at most once, the bytes
+ * of the description's width, freed before they return. They allocate nothing for at most 65535 usual
+ * items, a year of 0 to 9999, and a width of at most 128 bytes or those of the buffer. Usual items are
+ * texts of at most 65535 bytes, and DAY, MONTH, MONTH_SHORT, YEAR, YEAR_EXTENDED, HOUR, MINUTE, SECOND
+ * and OFFSET_MINUTE by zeros alone for padding, flag and digits, SUBSECOND by 3, 6 or 9 digits, and
+ * OFFSET_HOUR by the flag. A call that may allocate may not be made from a signal handler, nor in the
+ * forked child of a process with threads. They allocate through two symbols, which the library defines
+ * by malloc and free. A program that links the static library may define both itself. is_there is 1, or 0 if out of
  * memory, and block is never null:
  *
  *     struct { uint64_t is_there; void *block; } rattle_alloc(size_t size, size_t alignment);
@@ -88,9 +93,9 @@ static inline const char *movaliren_error_text(ptrdiff_t reason)
     case MOVALIREN_ERROR_OFFSET_HOURS:
         return "the hours of the offset are outside -25 to 25";
     case MOVALIREN_ERROR_OFFSET_MINUTES:
-        return "the minutes of the offset are outside -59 to 59";
+        return "the minutes of the offset are outside -59 to 59, or of another sign than its hours";
     case MOVALIREN_ERROR_OFFSET_SECONDS:
-        return "the seconds of the offset are outside -59 to 59";
+        return "the seconds of the offset are outside -59 to 59, or of another sign than its hours or minutes";
     case MOVALIREN_ERROR_MOMENT_SECONDS:
         return "the seconds are outside the years -999999 to 999999";
     case MOVALIREN_ERROR_NO_PLACE_FOR_YEAR:
@@ -132,8 +137,9 @@ enum {
 
 /* ---- moments */
 
-/* A local date and time, and its offset from UTC. Where the signs of the offset's parts differ, the
- * largest part that is not zero decides. Parts are tested in the order date, time, offset. */
+/* A local date and time, and its offset from UTC. The parts of the offset have one sign: half past five
+ * behind UTC is -5 and -30. A part of the opposite sign of one before it is the error of that part. Parts
+ * are tested in the order date, time, offset. */
 struct movaliren_moment {
     int32_t year;          /* -999999 to 999999 */
     uint32_t nanosecond;   /* 0 to 999999999 */
@@ -143,8 +149,8 @@ struct movaliren_moment {
     uint8_t minute;        /* 0 to 59 */
     uint8_t second;        /* 0 to 59: a leap second is an error */
     int8_t offset_hours;   /* -25 to 25 */
-    int8_t offset_minutes; /* -59 to 59 */
-    int8_t offset_seconds; /* -59 to 59 */
+    int8_t offset_minutes; /* -59 to 59, not of the opposite sign of offset_hours */
+    int8_t offset_seconds; /* -59 to 59, not of the opposite sign of either */
 };
 
 /* The seconds since 1970-01-01T00:00:00 UTC without leap seconds, of the years -999999 to 999999, and
@@ -183,7 +189,6 @@ ptrdiff_t movaliren_stamp(int64_t seconds, uint32_t nanosecond, void *room, size
 /* ---- configurations of ISO 8601 */
 
 enum movaliren_components {
-    MOVALIREN_ISO_NONE = 0, /* nothing: always MOVALIREN_ERROR_INSUFFICIENT */
     MOVALIREN_ISO_DATE = 1,
     MOVALIREN_ISO_TIME = 2,
     MOVALIREN_ISO_OFFSET = 3,
@@ -204,7 +209,7 @@ enum movaliren_precision {
     MOVALIREN_ISO_SECOND = 2
 };
 
-/* Another number than these is MOVALIREN_ERROR_BAD_CONFIG. */
+/* Another number than these is MOVALIREN_ERROR_BAD_CONFIG, and so is a configuration of zeros alone. */
 struct movaliren_iso_config {
     uint8_t components;         /* movaliren_components */
     uint8_t date_kind;          /* movaliren_date_kind */
@@ -246,7 +251,8 @@ ptrdiff_t movaliren_iso8601_by_utc(const struct movaliren_iso_config *config, in
 
 /* A moment by its local date and time, which is this many seconds ahead of UTC, as tm_gmtoff. An offset
  * of more than 25:59:59 either way is MOVALIREN_ERROR_OFFSET_HOURS. The formats refuse an offset with
- * seconds. The moment is tested before the offset. */
+ * seconds. The moment is tested first, then the offset. A local date outside the years -999999 to 999999
+ * is MOVALIREN_ERROR_NO_PLACE_FOR_YEAR. */
 ptrdiff_t movaliren_rfc3339_local(
     int64_t seconds, uint32_t nanosecond, int64_t offset, void *room, size_t room_len);
 ptrdiff_t movaliren_rfc2822_local(
@@ -294,8 +300,6 @@ struct movaliren_progress movaliren_rfc2822_local_batch(const struct movaliren_u
 
 /* What an item writes. The choices that its kind uses stand in brackets. */
 enum movaliren_kind {
-    /* len bytes of the texts, from start on */
-    MOVALIREN_TEXT = 0,
     /* The day of the month, 1 to 31, in two places. [padding] */
     MOVALIREN_DAY = 1,
     /* The first three letters of the month's English name. */
@@ -376,14 +380,16 @@ enum movaliren_kind {
     MOVALIREN_UNIX_SECOND = 32,
     /* The milliseconds since 1970-01-01T00:00:00 UTC, rounded toward zero, at most 17 digits.
      * [flag: always a sign] */
-    MOVALIREN_UNIX_MILLISECOND = 33
+    MOVALIREN_UNIX_MILLISECOND = 33,
+    /* len bytes of the texts, from start on */
+    MOVALIREN_TEXT = 255
 };
 
 /* What fills the places before a number. */
 enum movaliren_padding { MOVALIREN_ZERO = 0, MOVALIREN_SPACE = 1, MOVALIREN_NO_PADDING = 2 };
 
 /* An item of a description. Another number than these, or a text that is not within the texts, is
- * MOVALIREN_ERROR_BAD_ITEM. padding, flag and digits of a component are tested even if its kind does
+ * MOVALIREN_ERROR_BAD_ITEM, and so is an item of zeros alone. padding, flag and digits of a component are tested even if its kind does
  * not use them. */
 struct movaliren_item {
     uint32_t kind;   /* movaliren_kind */
@@ -420,15 +426,19 @@ ptrdiff_t movaliren_width(const struct movaliren_item *items, size_t items_len,
  *     struct movaliren_description line = MOVALIREN_DESCRIPTION(items, texts);
  *     movaliren_add(&line, MOVALIREN_DAY, MOVALIREN_NO_PADDING, 0, 0);
  *     movaliren_add_text(&line, " of ");
- *     movaliren_add(&line, MOVALIREN_MONTH_LONG, MOVALIREN_ZERO, 0, 0);
+ *     movaliren_add_usual(&line, MOVALIREN_MONTH_LONG);
  *     if (line.reason == 0)
- *         n = movaliren_format(line.items, line.items_len, line.texts, line.texts_len, &moment, ..); */
+ *         n = movaliren_format(line.items, line.items_len, line.texts, line.texts_len, &moment, ..);
+ *
+ * After an item that did not fit, or is invalid, nothing more is added, and `reason` says why. Then the
+ * first item is one that each call refuses as MOVALIREN_ERROR_BAD_ITEM, so that no part of the text is
+ * written where `reason` is not tested. */
 struct movaliren_description {
     struct movaliren_item *items;
     size_t items_len, items_room;
     char *texts;
     size_t texts_len, texts_room;
-    ptrdiff_t reason; /* MOVALIREN_ERROR_NO_ROOM after an item did not fit: nothing more is added */
+    ptrdiff_t reason; /* 0, MOVALIREN_ERROR_NO_ROOM or MOVALIREN_ERROR_BAD_ITEM */
 };
 
 /* The empty description over two arrays, as an initialiser. */
@@ -437,21 +447,48 @@ struct movaliren_description {
         items, 0, sizeof(items) / sizeof *(items), texts, 0, sizeof(texts), 0          \
     }
 
+/* Ends the description for the first reason. */
+static inline void movaliren_refuse(struct movaliren_description *description, ptrdiff_t reason)
+{
+    const struct movaliren_item invalid = { 0, 0, 0, 0, 0, 0, 0 };
+    if (description->reason == 0)
+        description->reason = reason;
+    if (description->items_room > 0) {
+        description->items[0] = invalid;
+        description->items_len = 1;
+    }
+}
+
 static inline void movaliren_add_item(
     struct movaliren_description *description, struct movaliren_item item)
 {
+    if (description->reason != 0)
+        return;
     if (description->items_len == description->items_room)
-        description->reason = MOVALIREN_ERROR_NO_ROOM;
-    if (description->reason == 0)
+        movaliren_refuse(description, MOVALIREN_ERROR_NO_ROOM);
+    else
         description->items[description->items_len++] = item;
 }
 
-/* Adds a component. */
+/* Adds a component. An invalid kind or choice is MOVALIREN_ERROR_BAD_ITEM. */
 static inline void movaliren_add(struct movaliren_description *description, uint32_t kind,
     uint8_t padding, uint8_t flag, uint8_t digits)
 {
     const struct movaliren_item item = { kind, padding, flag, digits, 0, 0, 0 };
-    movaliren_add_item(description, item);
+    const int is_component = MOVALIREN_DAY <= kind && kind <= MOVALIREN_UNIX_MILLISECOND;
+    if (is_component && padding <= MOVALIREN_NO_PADDING && flag <= 1 && digits <= 9)
+        movaliren_add_item(description, item);
+    else
+        movaliren_refuse(description, MOVALIREN_ERROR_BAD_ITEM);
+}
+
+/* Adds a component by its usual choices: zeros before its number, no plus, and as many decimals as are
+ * needed. A weekday counts from 1, and the half of the day is in upper case. */
+static inline void movaliren_add_usual(struct movaliren_description *description, uint32_t kind)
+{
+    const uint8_t flag = kind == MOVALIREN_WEEKDAY_FROM_SUNDAY
+        || kind == MOVALIREN_WEEKDAY_FROM_MONDAY || kind == MOVALIREN_PERIOD;
+    movaliren_add(description, kind, MOVALIREN_ZERO, flag, 0);
 }
 
 /* Adds a text of these bytes. */
@@ -460,7 +497,7 @@ static inline void movaliren_add_bytes(
 {
     const struct movaliren_item item = { MOVALIREN_TEXT, 0, 0, 0, 0, description->texts_len, len };
     if (len > description->texts_room - description->texts_len)
-        description->reason = MOVALIREN_ERROR_NO_ROOM;
+        movaliren_refuse(description, MOVALIREN_ERROR_NO_ROOM);
     movaliren_add_item(description, item);
     if (description->reason == 0) {
         memcpy(description->texts + description->texts_len, bytes, len);

@@ -1,5 +1,5 @@
 //! The lines that `tracing-subscriber` writes with a timer.
-use movaliren::{Description, Kind, Text};
+use movaliren::{Description, Format, Kind, Rfc3339Local, Text, UtcMoment};
 use movaliren_time::Timer;
 use std::io;
 use std::sync::{Arc, Mutex};
@@ -18,12 +18,12 @@ impl io::Write for Lines {
     }
 }
 
-/// What an event is written as, by this description of its time.
-fn logged(description: Description) -> String {
+/// What an event is written as, by this format of its time.
+fn logged(format: impl Format<UtcMoment> + Send + Sync + 'static) -> String {
     let lines = Lines::default();
     let writer = lines.clone();
     let subscriber = tracing_subscriber::fmt()
-        .with_timer(Timer::new(description))
+        .with_timer(Timer::new(format))
         .with_writer(move || writer.clone())
         .finish();
     tracing::subscriber::with_default(subscriber, || tracing::info!("opened"));
@@ -42,5 +42,12 @@ fn a_time_may_be_longer_than_a_text_in_place() {
     let long = "-".repeat(Text::CAPACITY);
     let line = logged(Description::new().literal(&long).component(Kind::Period));
     assert!(line.starts_with(&long));
-    assert!(line[long.len()..].ends_with("m  INFO timer: opened\n"));
+    assert!(line[long.len()..].ends_with("M  INFO timer: opened\n"));
+}
+
+/// `tracing-subscriber` writes these words where its timer fails. No text of RFC 3339 has an offset of a second.
+#[test]
+fn a_time_that_has_no_text_is_unknown() {
+    let line = logged(Rfc3339Local(1));
+    assert_eq!(line, "<unknown time>  INFO timer: opened\n");
 }

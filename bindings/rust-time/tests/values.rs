@@ -1,8 +1,8 @@
-//! Texts of 200,000 random values beside those of `time` and of `chrono`.
-use chrono::{DateTime, FixedOffset, NaiveDateTime, SecondsFormat, Utc};
+//! Texts and parts of 200,000 random values beside those of `time` and of `chrono`.
+use chrono::{DateTime, FixedOffset, NaiveDate, NaiveDateTime, SecondsFormat, Utc};
 use movaliren::{
-    Description, Error, Format, Iso8601By, Kind, Rfc2822, Rfc2822Local, Rfc3339, Rfc3339Local,
-    Stamp, TimePrecision, UtcMoment,
+    Date, Description, Error, Format, Iso8601By, Kind, Moment, Padding, Rfc2822, Rfc2822Local,
+    Rfc3339, Rfc3339Local, Stamp, SubsecondDigits, TimePrecision, UtcMoment,
 };
 use movaliren_time::{ToDate, ToMoment, ToUtcMoment};
 use std::fmt::Debug;
@@ -39,11 +39,22 @@ fn values() -> impl Iterator<Item = (i64, u32, i32)> {
     })
 }
 
+/// Seconds of the years 0 to 9999, a nanosecond, and an offset of any seconds below 24 hours. The local year may be
+/// another one.
+fn values_of_all_years() -> impl Iterator<Item = (i64, u32, i32)> {
+    let mut numbers = Numbers(362_436_069);
+    (0..VALUES).map(move |_| {
+        let seconds = numbers.below(315_569_520_000) as i64 - 62_167_219_200;
+        let offset = numbers.below(172_799) as i32 - 86_399;
+        (seconds, numbers.below(1_000_000_000) as u32, offset)
+    })
+}
+
 fn time_of((seconds, nanosecond, offset): (i64, u32, i32)) -> Option<OffsetDateTime> {
     let utc = OffsetDateTime::from_unix_timestamp(seconds).unwrap();
     let utc = utc.replace_nanosecond(nanosecond).unwrap();
     let local = utc.to_offset(time::UtcOffset::from_whole_seconds(offset).unwrap());
-    (local.year() <= 9_999).then_some(local)
+    (0..10_000).contains(&local.year()).then_some(local)
 }
 
 fn chrono_of((seconds, nanosecond, offset): (i64, u32, i32)) -> DateTime<FixedOffset> {
@@ -164,4 +175,114 @@ fn refuses_a_leap_second_of_chrono() {
     let leap: DateTime<Utc> = DateTime::from_utc(utc, Utc);
     assert_eq!(Rfc3339.text(&leap.to_moment()), Err(Error::Nanosecond));
     assert_eq!(Stamp.text(&leap.to_utc_moment()), Err(Error::Nanosecond));
+}
+
+#[test]
+fn parts_before_1970_and_offsets_with_seconds_are_those_of_time() {
+    let theirs = time::macros::format_description!(
+        "[offset_hour sign:mandatory]:[offset_minute]:[offset_second]"
+    );
+    let ours = Description::new()
+        .component_with(Kind::OffsetHour, Padding::Zero, true)
+        .literal(":")
+        .component(Kind::OffsetMinute)
+        .literal(":")
+        .component(Kind::OffsetSecond);
+    for time in values_of_all_years().filter_map(time_of) {
+        let moment = time.to_moment();
+        let parts = (moment.year(), moment.month(), moment.day());
+        assert_eq!(parts, (time.year(), time.month().into(), time.day()));
+        let parts = (moment.hour(), moment.minute(), moment.second());
+        assert_eq!(parts, (time.hour(), time.minute(), time.second()));
+        assert_eq!(moment.nanosecond(), time.nanosecond());
+        assert_same(ours.format(&moment), time.format(theirs));
+        let utc = UtcMoment::new(time.unix_timestamp(), time.nanosecond());
+        assert_eq!(time.to_utc_moment(), utc);
+    }
+}
+
+#[test]
+fn parts_before_1970_and_offsets_with_seconds_are_those_of_chrono() {
+    let ours = Description::new()
+        .component(Kind::YearExtended)
+        .literal("-")
+        .component(Kind::Month)
+        .literal("-")
+        .component(Kind::Day)
+        .literal(" ")
+        .component(Kind::Hour)
+        .literal(":")
+        .component(Kind::Minute)
+        .literal(":")
+        .component(Kind::Second)
+        .literal(".")
+        .subsecond(SubsecondDigits::Nine)
+        .component_with(Kind::OffsetHour, Padding::Zero, true)
+        .literal(":")
+        .component(Kind::OffsetMinute)
+        .literal(":")
+        .component(Kind::OffsetSecond);
+    for value in values_of_all_years() {
+        let chrono = chrono_of(value);
+        let theirs = chrono.format("%Y-%m-%d %H:%M:%S%.9f%::z").to_string();
+        assert_eq!(ours.text(&chrono.to_moment()).unwrap(), &*theirs);
+        assert_eq!(chrono.to_utc_moment(), UtcMoment::new(value.0, value.1));
+    }
+}
+
+/// The date and time in UTC of 200,000 moments, and each first second of a year.
+#[test]
+fn the_parts_of_a_moment_in_utc_are_those_of_chrono() {
+    let first = |year| {
+        let date = NaiveDate::from_ymd_opt(year, 1, 1)?.and_hms_opt(0, 0, 0)?;
+        Some((date.timestamp(), 0, 0))
+    };
+    let values = values_of_all_years().chain((0..10_000).filter_map(first));
+    for (seconds, nanosecond, _) in values {
+        let chrono = chrono_of((seconds, nanosecond, 0));
+        let moment = Moment::try_from(UtcMoment::new(seconds, nanosecond));
+        assert_eq!(moment, Ok(chrono.to_moment()));
+    }
+}
+
+#[test]
+fn dates_before_1970_are_those_of_time_and_chrono() {
+    for year in -9_999..10_000 {
+        let (month, day) = (1 + (year & 7) as u8, 1 + (year & 15) as u8);
+        let date = Date { year, month, day };
+        let time = time::Date::from_calendar_date(year, month.try_into().unwrap(), day);
+        assert_eq!(time.unwrap().to_date(), date);
+        let chrono = NaiveDate::from_ymd_opt(year, month.into(), day.into()).unwrap();
+        assert_eq!(chrono.to_date(), date);
+        let midnight = Moment::new(year, month, day);
+        assert_eq!(time.unwrap().midnight().assume_utc().to_moment(), midnight);
+        let chrono: DateTime<Utc> = DateTime::from_utc(chrono.and_hms_opt(0, 0, 0).unwrap(), Utc);
+        assert_eq!(chrono.to_moment(), midnight);
+    }
+}
+
+/// The parts of the offset have one sign.
+#[test]
+fn an_offset_of_less_than_an_hour_keeps_its_sign() {
+    for (offset, parts) in [
+        (-30 * 60, (0, -30, 0)),
+        (-1, (0, 0, -1)),
+        (-(5 * 3_600 + 30 * 60), (-5, -30, 0)),
+        (86_399, (23, 59, 59)),
+    ] {
+        let value = (0, 0, offset);
+        assert_eq!(chrono_of(value).to_moment().offset_hms(), parts);
+        assert_eq!(time_of(value).unwrap().to_moment().offset_hms(), parts);
+    }
+}
+
+#[test]
+fn refuses_a_second_of_the_offset_by_rfc_3339() {
+    let moment = chrono_of((-1, 0, -1)).to_moment();
+    let error = Err(Error::NoPlaceForOffsetSecond);
+    assert_eq!(Rfc3339.text(&moment), error);
+    assert_eq!(
+        Rfc3339.text(&time_of((-1, 0, -1)).unwrap().to_moment()),
+        error
+    );
 }

@@ -156,11 +156,46 @@ impl Iso8601By {
         self
     }
 
-    /// The greatest number of bytes that a text has.
+    /// The most bytes that a text of any configuration has.
+    pub const MAX_WIDTH: usize = 284;
+
+    /// The most bytes that a text has. Each text with an offset other than zero has as many.
     #[inline]
     pub const fn width(&self) -> usize {
-        // 13 bytes of the date, 10 and the decimals of the time, 6 of the offset.
-        29 + self.0.decimals as usize
+        let config = &self.0;
+        let has_date = matches!(config.components, 1 | 4 | 5);
+        let has_time = matches!(config.components, 2 | 4 | 5 | 6);
+        let has_offset = matches!(config.components, 3 | 5 | 6);
+        // Without a date before it or separators in it, a time begins with a letter.
+        let has_letter = has_time && (has_date || config.use_separators == 0);
+        let date = has_date as usize * self.date_width();
+        let time = has_letter as usize + has_time as usize * self.time_width();
+        date + time + has_offset as usize * self.offset_width()
+    }
+
+    /// The year, and after it four digits, a week with its letter and a weekday, or three digits.
+    const fn date_width(&self) -> usize {
+        let year = if self.0.year_is_six_digits == 1 { 7 } else { 4 };
+        let (rest, separators) = if self.0.date_kind == DateKind::Ordinal as u8 {
+            (3, 1)
+        } else {
+            (4, 2)
+        };
+        year + rest + separators * self.0.use_separators as usize
+    }
+
+    /// Two digits for each unit, and the decimals after their sign.
+    const fn time_width(&self) -> usize {
+        let separators = self.0.time_precision as usize;
+        let decimals = self.0.decimals as usize;
+        let sign = (decimals > 0) as usize;
+        2 + 2 * separators + separators * self.0.use_separators as usize + sign + decimals
+    }
+
+    /// The sign and two digits, and the minutes.
+    const fn offset_width(&self) -> usize {
+        let minutes = self.0.offset_precision as usize;
+        3 + minutes * (2 + self.0.use_separators as usize)
     }
 
     #[inline]

@@ -91,6 +91,16 @@ pub enum Kind {
     UnixMillisecond = 33,
 }
 
+impl Kind {
+    /// The flag of the usual choices.
+    const fn usual_flag(self) -> bool {
+        matches!(
+            self,
+            Kind::WeekdayFromSunday | Kind::WeekdayFromMonday | Kind::Period
+        )
+    }
+}
+
 /// The number of decimals of a second.
 #[derive(Clone, Copy, Debug, Default, PartialEq, Eq, Hash)]
 pub enum SubsecondDigits {
@@ -169,16 +179,19 @@ impl Description {
         })
     }
 
-    /// Adds a component, with zeros before it and no plus.
+    /// Adds a component by its usual choices: zeros before its number, and no plus.
+    ///
+    /// A weekday counts from 1, and the half of the day is in upper case.
     #[must_use]
     pub fn component(self, kind: Kind) -> Self {
-        self.component_with(kind, Padding::Zero, false)
+        self.component_with(kind, Padding::Zero, kind.usual_flag())
     }
 
     /// Adds a component with this padding.
     ///
     /// The flag puts a plus before a year, a century, the hours of an offset or the time since
-    /// 1970. A weekday is then counted from 1, and the half of the day is in upper case.
+    /// 1970. With it a weekday counts from 1, without it from 0. With it the half of the day is in upper
+    /// case, without it in lower case.
     #[must_use]
     pub fn component_with(self, kind: Kind, padding: Padding, flag: bool) -> Self {
         self.then(Item {

@@ -21,13 +21,13 @@ pub enum Error {
     Nanosecond,
     /// The hours of the offset are outside -25 to 25.
     OffsetHours,
-    /// The minutes of the offset are outside -59 to 59.
+    /// The minutes of the offset are outside -59 to 59, or of another sign than its hours.
     OffsetMinutes,
-    /// The seconds of the offset are outside -59 to 59.
+    /// The seconds of the offset are outside -59 to 59, or of another sign than its hours or minutes.
     OffsetSeconds,
     /// The seconds are outside the years -999999 to 999999.
     MomentSeconds,
-    /// The format cannot represent the year.
+    /// The format cannot represent the year, or the local date is outside the years -999999 to 999999.
     NoPlaceForYear,
     /// The format cannot represent the hours of the offset.
     NoPlaceForOffsetHour,
@@ -94,8 +94,8 @@ impl fmt::Display for Error {
             Error::Second => "the second is outside 0 to 59",
             Error::Nanosecond => "the nanosecond is outside 0 to 999999999",
             Error::OffsetHours => "the hours of the offset are outside -25 to 25",
-            Error::OffsetMinutes => "the minutes of the offset are outside -59 to 59",
-            Error::OffsetSeconds => "the seconds of the offset are outside -59 to 59",
+            Error::OffsetMinutes => "the minutes of the offset are outside -59 to 59, or of another sign than its hours",
+            Error::OffsetSeconds => "the seconds of the offset are outside -59 to 59, or of another sign than its hours or minutes",
             Error::MomentSeconds => "the seconds are outside the years -999999 to 999999",
             Error::NoPlaceForYear => "the format cannot represent the year",
             Error::NoPlaceForOffsetHour => "the format cannot represent the hours of the offset",

@@ -54,7 +54,8 @@ impl Moment {
 
     /// Sets the offset, of at most 25:59:59 either way. The local time stays.
     ///
-    /// If the signs differ, the largest part that is not zero decides.
+    /// Its parts have one sign: half past five behind UTC is -5 and -30. Minutes of the opposite sign are
+    /// [`Error::OffsetMinutes`] when the moment is formatted, and seconds [`Error::OffsetSeconds`].
     #[must_use]
     pub const fn offset(self, hours: i8, minutes: i8, seconds: i8) -> Self {
         Moment {

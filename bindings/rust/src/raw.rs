@@ -26,7 +26,7 @@ pub(crate) struct Item {
 impl Item {
     /// The text of no bytes.
     pub(crate) const NONE: Item = Item {
-        kind: 0,
+        kind: 255,
         padding: 0,
         flag: 0,
         digits: 0,

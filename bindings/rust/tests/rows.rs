@@ -111,6 +111,8 @@ fn refuses_an_offset_that_has_no_text() {
     assert_error(&Rfc2822Local(1), &moment, second);
     let late = UtcMoment::new(i64::MAX, 0);
     assert_error(&Rfc3339Local(i64::MAX), &late, Error::MomentSeconds);
+    let last = UtcMoment::new(31_494_784_780_799, 0);
+    assert_error(&Rfc3339Local(60), &last, Error::NoPlaceForYear);
 }
 
 #[test]
@@ -186,6 +188,10 @@ fn the_first_part_that_is_out_of_range_is_the_error() {
         (new_year.offset(26, 60, 60), Error::OffsetHours),
         (new_year.offset(0, 60, 60), Error::OffsetMinutes),
         (new_year.offset(0, 0, -60), Error::OffsetSeconds),
+        // Python's `divmod` gives -6 hours and 30 minutes for -05:30.
+        (new_year.offset(-6, 30, 0), Error::OffsetMinutes),
+        (new_year.offset(-6, 0, 30), Error::OffsetSeconds),
+        (new_year.offset(0, 30, -1), Error::OffsetSeconds),
         (
             Moment::new(10_000, 1, 1).offset(24, 0, 1),
             Error::NoPlaceForYear,
@@ -363,75 +369,238 @@ fn a_configuration_can_be_a_constant() {
     assert_eq!(Iso8601By::default(), Iso8601By::new());
 }
 
+/// Each text has one choice that the others do not have.
 #[test]
-fn a_moment_has_the_parts_that_were_set() {
-    let parts = (EXAMPLE.year(), EXAMPLE.month(), EXAMPLE.day());
-    assert_eq!(parts, (1997, 11, 12));
-    let parts = (
-        EXAMPLE.hour(),
-        EXAMPLE.minute(),
-        EXAMPLE.second(),
-        EXAMPLE.nanosecond(),
-    );
-    assert_eq!(parts, (9, 55, 6, 120_000_000));
-    assert_eq!(EXAMPLE.offset_hms(), (-6, 0, 0));
-}
-
-#[test]
-fn moments_are_in_the_order_of_their_parts() {
-    let moments = [
-        Moment::new(-1, 12, 31),
-        Moment::new(0, 1, 31),
-        Moment::new(0, 2, 1),
-        Moment::new(0, 2, 1).at(0, 0, 0, 1),
-        Moment::new(0, 2, 1).at(0, 0, 1, 0),
-        Moment::new(0, 2, 1).at(0, 1, 0, 0).offset(-1, 0, 0),
-        Moment::new(0, 2, 1).at(0, 1, 0, 0),
-        Moment::new(0, 2, 2),
-    ];
-    assert!(moments.windows(2).all(|pair| pair[0] < pair[1]));
-}
-
-#[test]
-fn the_defaults_are_the_start_of_1970() {
-    let epoch = "1970-01-01T00:00:00.000000000Z";
-    assert_text(&Iso8601, &Moment::default(), epoch);
-    assert_text(&Stamp, &UtcMoment::default(), epoch);
-}
-
-#[test]
-fn stamps_sort() {
-    use std::time::{Duration, UNIX_EPOCH};
-    let epoch = UtcMoment::from(UNIX_EPOCH);
-    let before = UtcMoment::from(UNIX_EPOCH - Duration::from_nanos(1));
-    let whole = UtcMoment::from(UNIX_EPOCH - Duration::from_secs(2));
-    assert!(stamp(&whole).unwrap() < stamp(&before).unwrap());
-    assert!(stamp(&before).unwrap() < stamp(&epoch).unwrap());
-    assert!(stamp(&epoch).unwrap() < stamp(&UtcMoment::now()).unwrap());
-}
-
-#[test]
-fn each_time_of_the_system_is_a_moment_and_back() {
-    use std::time::{Duration, SystemTime, UNIX_EPOCH};
-    let most = UNIX_EPOCH + Duration::new(i64::MAX as u64, 999_999_999);
-    let least = UNIX_EPOCH - Duration::from_secs(i64::MAX as u64);
-    for (time, moment) in [
-        (UNIX_EPOCH, UtcMoment::new(0, 0)),
+fn each_choice_of_a_configuration_changes_the_text() {
+    let config = Iso8601By::new()
+        .time_precision(TimePrecision::Minute, 1)
+        .decimal_sign(DecimalSign::Comma)
+        .six_digit_year(true)
+        .date_kind(DateKind::Week);
+    let short = config
+        .time_precision(TimePrecision::Hour, 0)
+        .offset_precision(OffsetPrecision::Hour)
+        .separators(false);
+    for (config, text) in [
+        (config, "+001997-W46-3T09:55,1-06:00"),
+        (config.parts(Parts::Date), "+001997-W46-3"),
+        (config.parts(Parts::Time), "09:55,1"),
+        (config.parts(Parts::Offset), "-06:00"),
+        (config.parts(Parts::DateTime), "+001997-W46-3T09:55,1"),
+        (config.parts(Parts::TimeOffset), "09:55,1-06:00"),
+        (short.parts(Parts::DateTimeOffset), "+001997W463T09-06"),
         (
-            UNIX_EPOCH - Duration::from_nanos(1),
-            UtcMoment::new(-1, 999_999_999),
+            config.date_kind(DateKind::Calendar),
+            "+001997-11-12T09:55,1-06:00",
         ),
-        (UNIX_EPOCH - Duration::from_secs(2), UtcMoment::new(-2, 0)),
-        (most, UtcMoment::new(i64::MAX, 999_999_999)),
-        (least, UtcMoment::new(-i64::MAX, 0)),
         (
-            least + Duration::from_nanos(1),
-            UtcMoment::new(-i64::MAX, 1),
+            config.date_kind(DateKind::Ordinal),
+            "+001997-316T09:55,1-06:00",
+        ),
+        (
+            config.time_precision(TimePrecision::Hour, 1),
+            "+001997-W46-3T09,9-06:00",
+        ),
+        (
+            config.time_precision(TimePrecision::Second, 2),
+            "+001997-W46-3T09:55:06,12-06:00",
+        ),
+        (
+            config.time_precision(TimePrecision::Minute, 0),
+            "+001997-W46-3T09:55-06:00",
+        ),
+        (
+            config.offset_precision(OffsetPrecision::Hour),
+            "+001997-W46-3T09:55,1-06",
+        ),
+        (
+            short.offset_precision(OffsetPrecision::Minute),
+            "+001997W463T09-0600",
+        ),
+        (config.separators(false), "+001997W463T0955,1-0600"),
+        (short.separators(true), "+001997-W46-3T09-06"),
+        (config.six_digit_year(false), "1997-W46-3T09:55,1-06:00"),
+        (
+            config.decimal_sign(DecimalSign::Point),
+            "+001997-W46-3T09:55.1-06:00",
         ),
     ] {
-        assert_eq!(UtcMoment::from(time), moment);
-        assert_eq!(SystemTime::try_from(moment), Ok(time));
+        assert_text(&config, &EXAMPLE, text);
+        assert_eq!(config.width(), text.len());
     }
-    let error = SystemTime::try_from(UtcMoment::new(0, 1_000_000_000));
-    assert_eq!(error, Err(Error::Nanosecond));
+    assert_eq!(config.separators(false).separators(true), config);
+}
+
+fn configurations() -> impl Iterator<Item = Iso8601By> {
+    use {DateKind::*, DecimalSign::*, TimePrecision::*};
+    let parts = [
+        Parts::Date,
+        Parts::Time,
+        Parts::Offset,
+        Parts::DateTime,
+        Parts::DateTimeOffset,
+        Parts::TimeOffset,
+    ];
+    (0..6 * 3 * 3 * 2 * 2 * 2 * 2 * 5).map(move |number| {
+        let mut rest = number;
+        let mut choose = |choices: usize| {
+            let choice = rest % choices;
+            rest /= choices;
+            choice
+        };
+        Iso8601By::new()
+            .parts(parts[choose(6)])
+            .date_kind([Calendar, Week, Ordinal][choose(3)])
+            .time_precision(
+                [Hour, Minute, Second][choose(3)],
+                [0, 1, 9, 100, 255][choose(5)],
+            )
+            .offset_precision([OffsetPrecision::Hour, OffsetPrecision::Minute][choose(2)])
+            .separators(choose(2) == 1)
+            .six_digit_year(choose(2) == 1)
+            .decimal_sign([Point, Comma][choose(2)])
+    })
+}
+
+#[test]
+fn the_width_of_a_configuration_is_the_length_of_its_texts() {
+    let (local, utc) = (EXAMPLE.at(23, 59, 59, 1), EXAMPLE.offset(0, 0, 0));
+    for config in configurations() {
+        let text = config.format(&local).unwrap();
+        assert_eq!(text.len(), config.width(), "{text} by {config:?}");
+        assert!(config.format(&utc).unwrap().len() <= config.width());
+    }
+    let widest = configurations().map(|config| config.width()).max();
+    assert_eq!(widest, Some(Iso8601By::MAX_WIDTH));
+}
+
+/// The texts of 2022-01-02T15:04:05.678 +06:07:08, without the flag and with it. Names and numbers are those of
+/// `strftime`; a number of the weekday is one more if it counts from 1.
+const KINDS: [(Kind, &str, &str); 33] = [
+    (Kind::Day, "02", "02"),
+    (Kind::MonthShort, "Jan", "Jan"),
+    (Kind::MonthLong, "January", "January"),
+    (Kind::Month, "01", "01"),
+    (Kind::Ordinal, "002", "002"),
+    (Kind::WeekdayShort, "Sun", "Sun"),
+    (Kind::WeekdayLong, "Sunday", "Sunday"),
+    (Kind::WeekdayFromSunday, "0", "1"),
+    (Kind::WeekdayFromMonday, "6", "7"),
+    (Kind::WeekIso, "52", "52"),
+    (Kind::WeekSunday, "01", "01"),
+    (Kind::WeekMonday, "00", "00"),
+    (Kind::YearExtended, "2022", "+2022"),
+    (Kind::Year, "2022", "+2022"),
+    (Kind::CenturyExtended, "20", "+20"),
+    (Kind::Century, "20", "+20"),
+    (Kind::YearLastTwo, "22", "22"),
+    (Kind::IsoYearExtended, "2021", "+2021"),
+    (Kind::IsoYear, "2021", "+2021"),
+    (Kind::IsoCenturyExtended, "20", "+20"),
+    (Kind::IsoCentury, "20", "+20"),
+    (Kind::IsoYearLastTwo, "21", "21"),
+    (Kind::Hour12, "03", "03"),
+    (Kind::Hour, "15", "15"),
+    (Kind::Minute, "04", "04"),
+    (Kind::Period, "pm", "PM"),
+    (Kind::Second, "05", "05"),
+    (Kind::Subsecond, "678", "678"),
+    (Kind::OffsetHour, "06", "+06"),
+    (Kind::OffsetMinute, "07", "07"),
+    (Kind::OffsetSecond, "08", "08"),
+    (Kind::UnixSecond, "1641113817", "+1641113817"),
+    (Kind::UnixMillisecond, "1641113817678", "+1641113817678"),
+];
+
+const SUNDAY: Moment = Moment::new(2022, 1, 2)
+    .at(15, 4, 5, 678_000_000)
+    .offset(6, 7, 8);
+
+#[test]
+fn each_kind_has_its_texts() {
+    for (kind, plain, flagged) in KINDS {
+        let with = |flag| Description::new().component_with(kind, Padding::Zero, flag);
+        assert_text(&with(false), &SUNDAY, plain);
+        assert_text(&with(true), &SUNDAY, flagged);
+    }
+}
+
+/// Zeros, no plus, weekdays from 1, and `AM` and `PM`.
+#[test]
+fn each_kind_has_its_usual_text() {
+    for (kind, plain, flagged) in KINDS {
+        let usual = match kind {
+            Kind::WeekdayFromSunday | Kind::WeekdayFromMonday | Kind::Period => flagged,
+            _ => plain,
+        };
+        assert_text(&Description::new().component(kind), &SUNDAY, usual);
+    }
+}
+
+#[test]
+fn each_padding_fills_the_places_before_a_number() {
+    let (day, millisecond) = (Kind::Day, Kind::UnixMillisecond);
+    for (kind, padding, text) in [
+        (day, Padding::Zero, "02"),
+        (day, Padding::Space, " 2"),
+        (day, Padding::NoPadding, "2"),
+        (Kind::Ordinal, Padding::Space, "  2"),
+        (Kind::WeekMonday, Padding::NoPadding, "0"),
+        (millisecond, Padding::Space, "1641113817678"),
+    ] {
+        let description = Description::new().component_with(kind, padding, false);
+        assert_text(&description, &SUNDAY, text);
+    }
+    assert_eq!(Padding::default(), Padding::Zero);
+}
+
+#[test]
+fn a_literal_of_no_bytes_writes_nothing() {
+    let description = Description::new()
+        .literal("")
+        .literal("a")
+        .literal("")
+        .literal("bc")
+        .literal("");
+    assert_eq!(description.width(), 3);
+    assert_text(&description, &EXAMPLE, "abc");
+    assert_text(&Description::new().literal(""), &EXAMPLE, "");
+}
+
+#[test]
+fn a_text_in_place_is_found_by_its_str() {
+    use std::collections::{BTreeSet, HashSet};
+    let text = Rfc3339.text(&EXAMPLE).unwrap();
+    let hashed = HashSet::from([text]);
+    assert!(hashed.contains("1997-11-12T09:55:06.12-06:00"));
+    assert!(!hashed.contains("1997-11-12T09:55:06.12-06:0"));
+    assert!(BTreeSet::from([text]).contains("1997-11-12T09:55:06.12-06:00"));
+}
+
+/// The memory grows by doubling, and no more than the width is asked for.
+#[test]
+fn a_vector_that_is_appended_to_grows_as_seldom_as_by_push() {
+    let mut line = Vec::new();
+    Rfc3339.format_into(&mut line, &EXAMPLE).unwrap();
+    assert!((35..=70).contains(&line.capacity()));
+    let mut growths = 0;
+    for _ in 1..1_000 {
+        let before = line.capacity();
+        Rfc3339.format_into(&mut line, &EXAMPLE).unwrap();
+        growths += usize::from(line.capacity() != before);
+    }
+    assert_eq!(line.len(), 28_000);
+    assert!(growths <= 10 && line.capacity() <= 2 * (28_000 + 35));
+    let mut kept = Vec::with_capacity(35);
+    let place = kept.as_ptr();
+    Rfc3339.format_into(&mut kept, &EXAMPLE).unwrap();
+    assert_eq!((kept.capacity(), kept.as_ptr()), (35, place));
+}
+
+#[test]
+fn a_batch_reserves_the_width_of_its_texts() {
+    let (mut lines, widest) = (Vec::new(), EXAMPLE.at(9, 55, 6, 123_456_789));
+    let _ = Rfc3339.batch_into(&mut lines, &[widest; 1_000], b'\n');
+    assert_eq!(lines.len(), 36_000);
+    assert!((36_000..=72_000).contains(&lines.capacity()));
 }

@@ -1,20 +1,21 @@
 -- What a local date and time means.
-use Rattle.std.proofs.Common.{◌≡◌, ℕ, ◌+◌, ◌*◌, ◌/◌, ◌%◌, ◌<◌, ◌≤◌, ℤ, pos, neg_ℤ, ◌≤ℤ◌, ◌⊎◌, inl, inr, ◌+ℤ◌, ◌-ℤ◌, ◌*ℤ◌, unsigned_abs, Bool, true, false}
+use Rattle.std.proofs.Common.{◌≡◌, ℕ, ◌+◌, ◌*◌, ◌/◌, ◌%◌, ◌<◌, ℤ, pos, neg_ℤ, ◌≤ℤ◌, ◌⊎◌, inl, inr, ◌+ℤ◌, ◌-ℤ◌, ◌*ℤ◌, unsigned_abs, Bool, true, false}
 use Rattle.std.proofs.Common.{Result, Ok, Err, refl, sym, ap, ◌∙◌, subst, arith}
 use Rattle.std.specs.Prelude.{int_lt, int_le, nat_lt}
 use Rattle.std.proofs.lemmas.Bool.{and_parts}
 use Rattle.std.proofs.lemmas.Bool.Decides.{nat_tests}
 use Rattle.std.proofs.lemmas.Int.{ints, by_lt_z}
-use Rattle.movaliren_c.proofs.OffsetLemmas.{settled_signed}
-use Rattle.movaliren_c.specs.Utc.{Means, value_at, with_offset, utc_value, offset_of_seconds, east_value, moved_east, local_value}
-use Rattle.movaliren_c.specs.Value.{checked, last_second, with_value, timestamp_value}
+use Rattle.movaliren_c.proofs.OffsetLemmas.{real_offset}
+use Rattle.movaliren_c.specs.Utc.{Means, value_at, with_offset, utc_value, offset_of_seconds, east_value, local_at, moved_east, local_value}
+use Rattle.movaliren_c.specs.Value.{checked, is_in_years, last_second, with_value, timestamp_value}
 use Rattle.movaliren_c.specs.declared.reason.Reason.{Reason}
+use Rattle.movaliren_c.specs.declared.reason.Reason.TheVariants as reason
 use Rattle.time_below.specs.Moment.{Moment, DateAndTime, OffsetDateAndTime, IsMoment, seconds_before, unix_seconds, utc_date_and_time}
 use Rattle.time_below.specs.Calendar.{OrdinalDate}
 use Rattle.time_below.specs.TimeOfDay.{TimeOfDay}
 use Rattle.time_below.specs.Offset.{Offset, AreOffsetParts, IsOffset, offset_seconds, signed, utc}
 use Rattle.time_below.proofs.MomentLemmas.{IsDate-utc_date, IsTimeOfDay-utc_time, unix_seconds-utc, only_utc}
-use Rattle.time_below.proofs.OffsetLemmas.{abs_signed, IsOffset-parts, signed_size}
+use Rattle.time_below.proofs.OffsetLemmas.{signed_size}
 
 -- ---- what a value that there is comes of
 
@@ -55,6 +56,39 @@ at_offset s n o t h =
     let m = is_moment s n given.0 given.1 in
     (given.0, m.0, m.1, m.2, sym (same_value (with_offset o (utc_date_and_time given.0)) t given.2))
 
+-- ---- local dates
+
+-- a value that is there is within the years
+years_of_value : (s : ℤ) (n : ℕ) (o : Offset) (t : OffsetDateAndTime) → value_at s n o ≡ Ok t → is_in_years s ≡ true
+unfolding value_at
+years_of_value s n o t h =
+    let given = value_of_given (timestamp_value s n) (λ m. Ok (with_offset o (utc_date_and_time m))) t h in
+    (test_that_passed _ _ _ given.0 given.1).0
+
+pub local_there : (s : ℤ) (n : ℕ) (o : Offset) (t : OffsetDateAndTime) → value_at s n o ≡ Ok t → local_at s n o ≡ Ok t
+local_there s n o t h =
+    let years : is_in_years s ≡ true = years_of_value s n o t h in
+    rw years h
+
+no_year : (b : Bool) (m : Moment) (o : Offset) (r : Reason) (rest : Result OffsetDateAndTime Reason)
+    → with_value (checked b reason.MomentSeconds (Ok m)) (λ x. Ok (with_offset o (utc_date_and_time x))) ≡ Err r
+    → checked b reason.NoPlaceForYear rest ≡ Err reason.NoPlaceForYear
+no_year true m o r rest h = absurd (let e = h in cc)
+no_year false m o r rest h = refl
+
+test_of_below : (n : ℕ) → n < 1_000_000_000 → nat_lt n 1_000_000_000 ≡ true
+test_of_below n h = grind (arith, nat_tests)
+
+-- with a nanosecond in range there is no value where the year is out of range
+pub local_refused : (s : ℤ) (n : ℕ) (o : Offset) (r : Reason) → n < 1_000_000_000 → value_at s n o ≡ Err r
+    → local_at s n o ≡ Err reason.NoPlaceForYear
+unfolding value_at
+local_refused s n o r below h =
+    let m : Moment = record { seconds = s; nanosecond = n } in
+    let P : Bool → Type 0 = λ b. with_value (checked (is_in_years s) reason.MomentSeconds (checked b reason.Nanosecond (Ok m)))
+    (λ x. Ok (with_offset o (utc_date_and_time x))) ≡ Err r in
+    no_year (is_in_years s) m o r (value_at s n o) (subst P (test_of_below n below) h)
+
 -- ---- offsets
 
 sum_of : (b : Bool) (h m s n : ℕ) → 3600 * h + 60 * m + s ≡ n
@@ -69,13 +103,6 @@ offset_back : (east : ℤ) → offset_seconds (offset_of_seconds east) ≡ east
 offset_back east =
     let n = unsigned_abs east in
     sum_of (int_lt east (pos 0)) (n / 3600) (n % 3600 / 60) (n % 60) n (parts_of n) ∙ sym (signed_size east)
-
-real_offset : (b : Bool) (h m s : ℕ) → h ≤ 25 → m ≤ 59 → s ≤ 59
-    → IsOffset (record { hours = signed b h; minutes = signed b m; seconds = signed b s })
-real_offset b h m s x y z =
-    subst IsOffset (settled_signed b h m s)
-    (IsOffset-parts (signed b h) (signed b m) (signed b s) _ _ refl refl
-    (omega (arith, x, abs_signed b h), omega (arith, y, abs_signed b m), omega (arith, z, abs_signed b s)))
 
 -- the offset of so many seconds is one, and has so many seconds
 offset_of : (east : ℤ) (o : Offset) → east_value east ≡ Ok o → IsOffset o × (offset_seconds o ≡ east)
@@ -117,9 +144,10 @@ local_means s n east t h =
     let first = value_of_given (timestamp_value s n) (λ m. moved_east m east) t h in
     let m = first.0 in
     let is = is_moment s n m first.1 in
-    let second = value_of_given (east_value east) (λ o. value_at (m.seconds +ℤ east) m.nanosecond o) t first.2 in
+    let second = value_of_given (east_value east) (λ o. local_at (m.seconds +ℤ east) m.nanosecond o) t first.2 in
     let o = offset_of east second.0 second.1 in
-    let means = means_at m.seconds (m.seconds +ℤ east) m.nanosecond east second.0 t second.2 refl o.0 o.1 in
+    let there = test_that_passed _ _ _ t second.2 in
+    let means = means_at m.seconds (m.seconds +ℤ east) m.nanosecond east second.0 t there.1 refl o.0 o.1 in
     subst (λ x. Means x n east t) is.1 (subst (λ x. Means m.seconds x east t) is.2 means)
 
 plus_none : (s : ℤ) → s ≡ s +ℤ pos 0

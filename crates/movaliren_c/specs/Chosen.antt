@@ -24,8 +24,8 @@ use Rattle.time_known.specs.declared.iso8601.config.Usual.{Usual}
 
 abbrev pub components_at : ℕ → Result FormattedComponents Reason
 components_at n =
-    numbered 0 (components.None ∷ components.Date ∷ components.Time ∷ components.Offset ∷ components.DateTime ∷
-    components.DateTimeOffset ∷ components.TimeOffset ∷ []) reason.BadConfig n
+    numbered 1 (components.Date ∷ components.Time ∷ components.Offset ∷ components.DateTime ∷ components.DateTimeOffset ∷
+    components.TimeOffset ∷ []) reason.BadConfig n
 
 abbrev pub date_kind_at : ℕ → Result DateKind Reason
 date_kind_at n = numbered 0 (kind.Calendar ∷ kind.Week ∷ kind.Ordinal ∷ []) reason.BadConfig n

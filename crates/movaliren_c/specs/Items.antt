@@ -1,8 +1,8 @@
 -- What a description that crosses as data means: a tree for each item, or the reason why there is
 -- none.
 use Rattle.std.specs.Global.{Global}
-use Rattle.std.specs.Prelude.{ℕ, ◌≡◌, min, ◌+◌, ◌-◌, Bool, true, ◌==◌, ◌&&◌, nat_le, nat_lt, List, [], ◌∷◌, map, length}
-use Rattle.std.specs.Prelude.{slice_range, Result, Ok, Err, IsOkAnd, Vec, if◌then◌else◌}
+use Rattle.std.specs.Prelude.{ℕ, ◌≡◌, ◌≢◌, ◌≤◌, min, ◌+◌, ◌-◌, Bool, true, ◌==◌, ◌&&◌, nat_le, nat_lt, List, [], ◌∷◌, map, length}
+use Rattle.std.specs.Prelude.{slice_range, Result, Ok, Err, IfOk, IsOkAnd, Vec, if◌then◌else◌}
 use Rattle.movaliren_c.specs.Answer.{IsText, IsTextInMemory, gives}
 use Rattle.movaliren_c.specs.Value.{flag_at, numbered, with_value}
 use Rattle.movaliren_c.specs.declared.item.Item.{Item}
@@ -93,10 +93,10 @@ component_of i =
     with_value (digits_at i.digits) (λ d.
     component_at i.kind p f d)))
 
--- the bytes of the texts that an item of kind 0 names, or a component
+-- the bytes of the texts that an item of kind 255 names, or a component; kind 0 is neither
 abbrev pub item_tree : List ℕ → Item → Result Tree Reason
 item_tree texts i =
-    if i.kind == 0
+    if i.kind == 255
     then (if nat_le i.start (length texts) && nat_le i.len (length texts - i.start)
     then Ok (byte_literal (slice_range texts i.start (i.start + i.len)))
     else Err reason.BadItem)
@@ -137,11 +137,17 @@ width_after before description = with_value description (λ ts. Ok (min (before 
 abbrev pub width_answer : Result (List Tree) Reason → Result ℕ Reason
 width_answer description = width_after 0 description
 
--- The text of a description is written, or the reason for no text is returned and the buffer is unchanged. No memory
--- is needed where the width is 0.
+-- A text has no more bytes than the width, and a buffer of so many bytes is large enough.
+pub record IsWithinWidth (width room : ℕ) (answer : Result ℕ Reason) : Type 0 where
+  pub within : IfOk answer (λ count. count ≤ width)
+  pub fits : width ≤ room → answer ≢ Err reason.NoRoom
+
+-- The text of a description is written, or the reason for no text is returned and the buffer is unchanged. Where there
+-- is a value, its text is within the description's width. No memory is needed where the width is 0.
 pub record IsDescribed {V : Type 0} (description : Result (List Tree) Reason) (value : Result V Reason) (facts : V → Facts)
     (answer : Result ℕ Reason) (before after : List ℕ) : Type 0 where
   pub text : IsTextInMemory (described description value facts) answer before after
+  pub within : IfOk value (λ _. IfOk (width_answer description) (λ width. IsWithinWidth width (length before) answer))
   pub nothing_needed : width_answer description ≡ Ok 0
       → IsText (described description value facts) answer before after
 

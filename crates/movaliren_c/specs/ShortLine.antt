@@ -8,7 +8,7 @@ use Rattle.time_below.specs.Moment.{OffsetDateAndTime, local_unix_seconds}
 use Rattle.time_below.specs.Tree.{Tree, trees}
 use Rattle.time_below.specs.Width.{tree_width, trees_width}
 use Rattle.time_fmt.specs.Description.{tree_outcome, trees_outcome}
-use Rattle.time_known.specs.Sink.{Buffer, Fits, Puts, PutsUpTo}
+use Rattle.time_known.specs.Sink.{Buffer, Fits, PutsUpTo}
 
 -- ---- usual items
 
@@ -31,7 +31,7 @@ has_choices flag digits item = (item.padding == 0) && (item.flag == flag) && (it
 -- a literal, or a component that most texts have, of a value with a time of day and an offset, or without
 abbrev pub is_usual : Bool → Item → Bool
 is_usual has_time item =
-    if item.kind == 0 then true
+    if item.kind == 255 then true
     else (if is_usual_of_date item.kind then has_choices 0 0 item
     else (if is_usual_of_time item.kind then has_time && has_choices 0 0 item
     else (if item.kind == 28 then has_time && (has_choices 0 3 item || has_choices 0 6 item || has_choices 0 9 item)
@@ -64,6 +64,10 @@ HasWidth width item = IsOkAnd item (λ t. tree_width t ≡ width)
 abbrev pub AllFit : ℕ → Result (List Tree) Reason → Type 0
 AllFit width description = IsOkAnd description (λ ts. trees_width (trees ts) ≤ width)
 
+-- a description that is there has at least this width
+abbrev pub AllHave : ℕ → Result (List Tree) Reason → Type 0
+AllHave width description = IsOkAnd description (λ ts. width ≤ trees_width (trees ts))
+
 -- ---- texts
 
 -- an item that is there fits the sink
@@ -79,8 +83,8 @@ abbrev pub PutsItem : Buffer → Buffer → Result Tree Reason → Facts → Typ
 PutsItem old new item f =
     IsOkAnd item (λ t. ((tree_outcome t f).refusal ≡ None) × PutsUpTo (tree_width t) old new (tree_outcome t f).bytes)
 
--- the whole text of a description was put
+-- the whole text of a description was put, which is within its width
 abbrev pub PutsAll : Buffer → Buffer → Result (List Tree) Reason → Facts → Type 0
 PutsAll old new (Ok ts) f = ((trees_outcome (trees ts) f).refusal ≡ None)
-    × Puts old new (trees_outcome (trees ts) f).bytes
+    × PutsUpTo (trees_width (trees ts)) old new (trees_outcome (trees ts) f).bytes
 PutsAll old new (Err r) f = ⊥

@@ -1,6 +1,6 @@
 -- The value that seconds since 1970 and a nanosecond give, in UTC or at an offset.
 use Rattle.std.specs.Prelude.{◌≡◌, ℕ, ◌/◌, ◌%◌, ℤ, ◌+ℤ◌, pos, unsigned_abs, nat_lt, int_lt, Result, Ok}
-use Rattle.movaliren_c.specs.Value.{checked, with_value, timestamp_value}
+use Rattle.movaliren_c.specs.Value.{checked, is_in_years, with_value, timestamp_value}
 use Rattle.movaliren_c.specs.declared.reason.Reason.{Reason}
 use Rattle.movaliren_c.specs.declared.reason.Reason.TheVariants as reason
 use Rattle.time_below.specs.Calendar.{IsDate}
@@ -37,10 +37,16 @@ abbrev pub east_value : ℤ → Result Offset Reason
 east_value east =
     checked (nat_lt (unsigned_abs east) 93_600) reason.OffsetHours (Ok (offset_of_seconds east))
 
+-- the date and time of local clocks, so long after 1970 by them, and this offset; no format has a place for a year outside
+-- -999,999 to 999,999
+abbrev pub local_at : ℤ → ℕ → Offset → Result OffsetDateAndTime Reason
+local_at seconds nanosecond o =
+    checked (is_in_years seconds) reason.NoPlaceForYear (value_at seconds nanosecond o)
+
 -- a moment by the local date and time where clocks are this many seconds ahead of UTC
 abbrev pub moved_east : Moment → ℤ → Result OffsetDateAndTime Reason
 moved_east m east =
-    with_value (east_value east) (λ o. value_at (m.seconds +ℤ east) m.nanosecond o)
+    with_value (east_value east) (λ o. local_at (m.seconds +ℤ east) m.nanosecond o)
 
 -- the moment is tested first, then the offset, then the local date
 abbrev pub local_value : ℤ → ℕ → ℤ → Result OffsetDateAndTime Reason

@@ -1,5 +1,5 @@
 -- The value that the parts of a moment give, or the first part that is outside its range.
-use Rattle.std.specs.Prelude.{ℕ, ◌+◌, ℤ, Bool, true, false, ◌&&◌, ◌==◌, nat_le, nat_lt, int_le, pos, neg_ℤ, unsigned_abs, List, [], ◌∷◌}
+use Rattle.std.specs.Prelude.{ℕ, ◌+◌, ℤ, Bool, true, false, ◌&&◌, not, ◌==◌, nat_le, nat_lt, int_le, int_lt, pos, neg_ℤ, unsigned_abs, List, [], ◌∷◌}
 use Rattle.std.specs.Prelude.{Result, Ok, Err, if◌then◌else◌}
 use Rattle.movaliren_c.specs.declared.reason.Reason.{Reason}
 use Rattle.movaliren_c.specs.declared.reason.Reason.TheVariants as reason
@@ -7,7 +7,7 @@ use Rattle.movaliren_c.specs.declared.moment.Moment.{Moment}
 use Rattle.time_below.specs.Calendar.{OrdinalDate, date_of, days_in_month, is_leap_year}
 use Rattle.time_below.specs.Moment as moments
 use Rattle.time_below.specs.Moment.{DateAndTime, OffsetDateAndTime, seconds_before, utc_date_and_time}
-use Rattle.time_below.specs.Offset.{Offset, settled}
+use Rattle.time_below.specs.Offset.{Offset}
 use Rattle.time_below.specs.TimeOfDay.{TimeOfDay}
 
 -- the rest, if the test holds
@@ -48,17 +48,25 @@ time_value m =
       nanosecond = m.nanosecond;
     })))))
 
--- the number, if it is at most so far from zero
-abbrev pub offset_part : Reason → ℕ → ℤ → Result ℤ Reason
-offset_part r greatest number = checked (nat_le (unsigned_abs number) greatest) r (Ok number)
+-- neither of two parts is above zero where the other one is below
+abbrev pub is_alike : ℤ → ℤ → Bool
+is_alike a b = not (int_lt a (pos 0) && int_lt (pos 0) b) && not (int_lt (pos 0) a && int_lt b (pos 0))
 
--- the largest part that is not zero decides the sign, if the signs of the parts differ
+-- a part is at most so far from zero, and has not the opposite sign of one of two parts before it
+abbrev pub is_offset_part : ℕ → ℤ → ℤ → ℤ → Bool
+is_offset_part greatest a b part = nat_le (unsigned_abs part) greatest && is_alike a part && is_alike b part
+
+-- the parts have one sign at most
 abbrev pub offset_value : Moment → Result Offset Reason
 offset_value m =
-    with_value (offset_part reason.OffsetHours 25 m.offset_hours) (λ hours.
-    with_value (offset_part reason.OffsetMinutes 59 m.offset_minutes) (λ minutes.
-    with_value (offset_part reason.OffsetSeconds 59 m.offset_seconds) (λ seconds.
-    Ok (settled hours minutes seconds))))
+    checked (is_offset_part 25 (pos 0) (pos 0) m.offset_hours) reason.OffsetHours
+    (checked (is_offset_part 59 m.offset_hours (pos 0) m.offset_minutes) reason.OffsetMinutes
+    (checked (is_offset_part 59 m.offset_hours m.offset_minutes m.offset_seconds) reason.OffsetSeconds
+    (Ok (record {
+      hours = m.offset_hours;
+      minutes = m.offset_minutes;
+      seconds = m.offset_seconds;
+    }))))
 
 -- the ranges are tested in this order: date, time, offset
 abbrev pub moment_value : Moment → Result OffsetDateAndTime Reason
@@ -72,10 +80,14 @@ moment_value m =
 abbrev pub last_second : ℕ
 last_second = 31_494_784_780_799
 
+-- so many seconds since 1970 are within the years -999,999 to 999,999
+abbrev pub is_in_years : ℤ → Bool
+is_in_years seconds = int_le (neg_ℤ (pos seconds_before)) seconds && int_le seconds (pos last_second)
+
 -- the moment of this many seconds since 1970 and a nanosecond
 abbrev pub timestamp_value : ℤ → ℕ → Result moments.Moment Reason
 timestamp_value seconds nanosecond =
-    checked (int_le (neg_ℤ (pos seconds_before)) seconds && int_le seconds (pos last_second)) reason.MomentSeconds
+    checked (is_in_years seconds) reason.MomentSeconds
     (checked (nat_lt nanosecond 1_000_000_000) reason.Nanosecond
     (Ok (record { seconds = seconds; nanosecond = nanosecond })))
 

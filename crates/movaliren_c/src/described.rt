@@ -1,8 +1,8 @@
 //! Descriptions that cross as data.
 ghost use Rattle.std.specs.List.{All};
-ghost use Rattle.std.specs.Prelude.{◌≡◌, ◌+◌, ◌≤◌, IsTrue, MatchOption, Ok, drop, length, vec_len};
+ghost use Rattle.std.specs.Prelude.{◌≡◌, ◌+◌, ◌≤◌, IfSome, IsTrue, MatchOption, Ok, drop, length, vec_len};
 ghost use Rattle.movaliren_c.specs.Answer.{Answers, IsText, IsTextInMemory};
-ghost use Rattle.movaliren_c.specs.Items.{HasRoomFor, IsAppended, IsDescribed, described, part_tree, trees_of, width_after, width_answer};
+ghost use Rattle.movaliren_c.specs.Items.{HasRoomFor, IsAppended, IsDescribed, IsWithinWidth, described, part_tree, trees_of, width_after, width_answer};
 ghost use Rattle.movaliren_c.specs.ShortLine.{is_usual};
 ghost use Rattle.movaliren_c.specs.Value.{date_value, moment_value, timestamp_value};
 ghost use Rattle.time_below.specs.Facts.{facts_of_date, facts_of_offset_date_time, facts_of_timestamp};
@@ -130,9 +130,10 @@ fn write_usual<V: ComponentProvider, T: DescribedValue<V>>(
     requires usual { All (λ item. IsTrue (is_usual T.HAS_TIME item)) items.now }
     requires width { width_answer (trees_of texts.now items.now) ≡ Ok width }
     requires short { width ≤ 0xffff_ffff }
-    ensures { MatchOption result (room.new ≡ room.old) (λ answer. IsText
+    ensures text { MatchOption result (room.new ≡ room.old) (λ answer. IsText
         (described (trees_of texts.now items.now) (Ok value.now) T.facts)
         answer room.old room.new) }
+    ensures within { IfSome result (λ answer. IsWithinWidth width (length room.old) answer) }
 {
     if width == 0 || width > room.len().max(LONGEST_COPY) {
         return None;
@@ -158,6 +159,7 @@ where
     requires width { width_answer (trees_of texts.now items.now) ≡ Ok width }
     ensures text { IsTextInMemory (described (trees_of texts.now items.now) (Ok value.now) V.facts)
         result room.old room.new }
+    ensures within { IsWithinWidth width (length room.old) result }
     ensures nothing_needed { width ≡ 0
         → IsText (described (trees_of texts.now items.now) (Ok value.now) V.facts)
         result room.old room.new }

@@ -6,7 +6,7 @@ use crate::reason::{Reason, flag_at};
 use time_below::format_description::modifier::{Padding, SubsecondDigits};
 use time_below::format_description::{Component, modifier};
 
-/// An item of a description: kind 0 is `len` bytes of the texts from `start` on, any other a
+/// An item of a description: kind 255 is `len` bytes of the texts from `start` on, any other a
 /// component with its choices.
 #[repr(C)]
 #[derive(Clone, Copy)]
@@ -166,7 +166,7 @@ fn component_of(item: &Item) -> Result<Component, Reason>
 pub fn part_of<'a>(item: &Item, texts: &'a [u8]) -> Result<Part<'a>, Reason>
     ensures { tree_of result ≡ item_tree texts.now item.now }
 {
-    if item.kind == 0 {
+    if item.kind == 255 {
         if item.start > texts.len() || item.len > texts.len() - item.start {
             return Err(Reason::BadItem);
         }

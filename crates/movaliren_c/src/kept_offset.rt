@@ -1,8 +1,8 @@
-//! Offsets that keep the parts of their arguments.
-ghost use Rattle.std.specs.Prelude.{◌≡◌, ◌<◌, ◌≤◌, IfOk, unsigned_abs};
-ghost use Rattle.time_below.specs.Offset.{is_negative, signed, utc};
+//! Offsets by their parts.
+ghost use Rattle.std.specs.Prelude.{◌≡◌, ◌<◌, ◌≤◌, IfOk, IsTrue, unsigned_abs};
+ghost use Rattle.time_below.specs.Offset.{HasNoOtherSign, IsOffset, is_negative, is_utc, signed, utc};
 ghost use Rattle.movaliren_c.specs.Utc.{east_value};
-ghost use Rattle.movaliren_c.specs.Value.{offset_part, offset_value};
+ghost use Rattle.movaliren_c.specs.Value.{is_alike, is_offset_part, offset_value};
 ghost use Rattle.time_known.specs.Fields.{offset_fields};
 
 use crate::moment::Moment;
@@ -12,8 +12,7 @@ use time_below::UtcOffset;
 use time_digits::ru8;
 use time_known::fields::OffsetFields;
 
-/// An offset from UTC by its parts, whose signs may differ. Its value is the offset that these
-/// settle to: each part keeps its size, and the largest that is not zero its sign.
+/// An offset from UTC by its parts, which have one sign at most.
 #[derive(Drop)]
 pub struct KeptOffset {
     hours: i8,
@@ -22,24 +21,38 @@ pub struct KeptOffset {
 }
 
 impl Model for KeptOffset {
-    ghost use Rattle.time_below.specs.Offset.{Offset, AreOffsetParts, settled};
+    ghost use Rattle.time_below.specs.Offset.{Offset, IsOffset};
 
     ghost Value = { Offset };
 
-    ghost view = { λ o. settled o.hours o.minutes o.seconds };
+    ghost view = { λ o. record { hours = o.hours; minutes = o.minutes; seconds = o.seconds } };
 
-    ghost invariant = { λ o. AreOffsetParts o.hours o.minutes o.seconds };
+    ghost invariant = { λ o. IsOffset (record {
+      hours = o.hours;
+      minutes = o.minutes;
+      seconds = o.seconds;
+    }) };
 }
 
 impl KeptOffset {
-    /// The offset of the moment, or the first of its parts that is outside its range.
+    /// The offset of the moment, or the first of its parts that is outside its range or has the opposite
+    /// sign of one before it.
     #[inline(always)]
     pub fn of_moment(moment: &Moment) -> Result<KeptOffset, Reason>
         ensures { result ≡ offset_value moment.now }
     {
-        let hours = offset_part(Reason::OffsetHours, 25, moment.offset_hours)?;
-        let minutes = offset_part(Reason::OffsetMinutes, 59, moment.offset_minutes)?;
-        let seconds = offset_part(Reason::OffsetSeconds, 59, moment.offset_seconds)?;
+        let hours = moment.offset_hours;
+        if !is_offset_part(25, 0, 0, hours) {
+            return Err(Reason::OffsetHours);
+        }
+        let minutes = moment.offset_minutes;
+        if !is_offset_part(59, hours, 0, minutes) {
+            return Err(Reason::OffsetMinutes);
+        }
+        let seconds = moment.offset_seconds;
+        if !is_offset_part(59, hours, minutes, seconds) {
+            return Err(Reason::OffsetSeconds);
+        }
         Ok(KeptOffset {
             hours,
             minutes,
@@ -48,6 +61,7 @@ impl KeptOffset {
     }
 
     /// The offset of this many seconds east of UTC, if it is at most 25:59:59 either way.
+    #[tactic(auto, using(crate::proofs::OffsetLemmas::real_offset))]
     pub fn of_seconds(east: i64) -> Result<KeptOffset, Reason>
         ensures value { result ≡ east_value east }
         ensures range { IfOk result (λ _. unsigned_abs east < 93_600) }
@@ -93,7 +107,7 @@ impl KeptOffset {
         ensures { result ≡ offset_fields self.now }
     {
         OffsetFields {
-            is_utc: self.hours == 0 && self.minutes == 0 && self.seconds == 0,
+            is_utc: self.is_utc(),
             is_negative: self.is_negative(),
             hours: ru8::within(self.hours.unsigned_abs()),
             minutes: ru8::within(self.minutes.unsigned_abs()),
@@ -101,41 +115,59 @@ impl KeptOffset {
         }
     }
 
-    /// Whether some part is below zero, which is whether the first that is not zero is.
+    /// Whether all parts are zero.
+    #[inline(always)]
+    fn is_utc(&self) -> bool
+        ensures { result ≡ is_utc self.now }
+    {
+        self.hours == 0 && self.minutes == 0 && self.seconds == 0
+    }
+
+    /// Whether some part is below zero.
     #[inline(always)]
     fn is_negative(&self) -> bool
         ensures { result ≡ is_negative self.now }
     {
-        if self.hours != 0 {
-            return self.hours < 0;
-        }
-        if self.minutes != 0 {
-            return self.minutes < 0;
-        }
-        self.seconds < 0
+        self.hours < 0 || self.minutes < 0 || self.seconds < 0
     }
 
-    /// Returns the offset with parts of one sign.
+    /// Returns the same offset, for the formatter.
     pub fn offset(&self) -> UtcOffset
         ensures { result ≡ self.now }
     {
-        match UtcOffset::from_hms(self.hours, self.minutes, self.seconds) {
-            Ok(offset) => offset,
-            Err(_) => unreachable!(),
-        }
+        offset_of(self.hours, self.minutes, self.seconds)
     }
 }
 
-/// The number, if it is at most so far from zero.
+/// Whether a part is at most so far from zero, and has not the opposite sign of one of two parts before it.
 #[inline(always)]
-fn offset_part(reason: Reason, greatest: u8, number: i8) -> Result<i8, Reason>
-    ensures value { result ≡ offset_part reason greatest number }
-    ensures range { IfOk result (λ n. unsigned_abs n ≤ greatest) }
+fn is_offset_part(greatest: u8, first: i8, second: i8, part: i8) -> bool
+    ensures value { result ≡ is_offset_part greatest first second part }
+    ensures range { IsTrue result → unsigned_abs part ≤ greatest }
+    ensures first { IsTrue result → HasNoOtherSign first part }
+    ensures second { IsTrue result → HasNoOtherSign second part }
 {
-    if number.unsigned_abs() > greatest {
-        return Err(reason);
+    part.unsigned_abs() <= greatest && is_alike(first, part) && is_alike(second, part)
+}
+
+/// Whether neither of two parts is above zero where the other one is below.
+#[inline(always)]
+fn is_alike(first: i8, second: i8) -> bool
+    ensures value { result ≡ is_alike first second }
+    ensures sign { IsTrue result → HasNoOtherSign first second }
+{
+    !(first < 0 && second > 0) && !(first > 0 && second < 0)
+}
+
+/// The offset of parts of one sign.
+fn offset_of(hours: i8, minutes: i8, seconds: i8) -> UtcOffset
+    requires { IsOffset (record { hours = hours; minutes = minutes; seconds = seconds }) }
+    ensures { result ≡ record { hours = hours; minutes = minutes; seconds = seconds } }
+{
+    match UtcOffset::from_hms(hours, minutes, seconds) {
+        Ok(offset) => offset,
+        Err(_) => unreachable!(),
     }
-    Ok(number)
 }
 
 /// A part of this size, with a sign.

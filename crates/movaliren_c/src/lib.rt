@@ -1,9 +1,11 @@
 //! Moments as text, for C: RFC 3339, RFC 2822, ISO 8601, stamps, and descriptions that cross as
 //! data.
 //!
-//! Each export returns the number of bytes at the start of the buffer, which are the whole text, or
-//! a negative number that names the error; the buffer is then unchanged. No export has a condition,
-//! and only long or unusual descriptions allocate.
+//! An export of one text returns the number of bytes at the start of the buffer, which are the whole
+//! text, or a negative number that names the error; the buffer is then unchanged. A batch returns how
+//! many texts are there, and why it stopped. `movaliren_width` returns a width. No export has a
+//! condition. Only the exports of descriptions allocate, and not for usual items (`short_line`), a year
+//! of 0 to 9999, and a width of at most 128 bytes or those of the buffer.
 #![tactic(auto)]
 
 mod batch;

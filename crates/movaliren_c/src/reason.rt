@@ -27,13 +27,13 @@ pub enum Reason {
     Nanosecond = 7,
     /// The hours of the offset are outside -25 to 25.
     OffsetHours = 8,
-    /// The minutes of the offset are outside -59 to 59.
+    /// The minutes of the offset are outside -59 to 59, or of another sign than its hours.
     OffsetMinutes = 9,
-    /// The seconds of the offset are outside -59 to 59.
+    /// The seconds of the offset are outside -59 to 59, or of another sign than its hours or minutes.
     OffsetSeconds = 10,
     /// The seconds of the moment are outside those of the years -999,999 to 999,999.
     MomentSeconds = 11,
-    /// The format has no place for the year.
+    /// The format has no place for the year, or the local date is outside -999,999 to 999,999.
     NoPlaceForYear = 12,
     /// The format has no place for the hours of the offset.
     NoPlaceForOffsetHour = 13,
@@ -41,7 +41,7 @@ pub enum Reason {
     NoPlaceForOffsetMinute = 14,
     /// The format has no place for the seconds of the offset.
     NoPlaceForOffsetSecond = 15,
-    /// The value lacks a component, or the configuration writes none.
+    /// The value lacks a component.
     Insufficient = 16,
     /// A component is outside the range that the description has for it.
     OutOfRange = 17,

@@ -2,8 +2,8 @@
 ghost use Rattle.std.specs.Prelude.{◌≡◌, ◌≤◌, Bool, IfSome, IsTrue, Ok, drop, length, max, take, unsigned_abs};
 ghost use Rattle.std.specs.List.{All};
 ghost use Rattle.movaliren_c.specs.Answer.{IsText};
-ghost use Rattle.movaliren_c.specs.Items.{described, item_tree, trees_of, width_after, width_answer};
-ghost use Rattle.movaliren_c.specs.ShortLine.{AllFit, FitsAll, FitsItem, HasWidth, IsShortYear, PutsAll, PutsItem, facts_of_local, has_choices, is_frequent, is_usual};
+ghost use Rattle.movaliren_c.specs.Items.{IsWithinWidth, described, item_tree, trees_of, width_after, width_answer};
+ghost use Rattle.movaliren_c.specs.ShortLine.{AllFit, AllHave, FitsAll, FitsItem, HasWidth, IsShortYear, PutsAll, PutsItem, facts_of_local, has_choices, is_frequent, is_usual};
 ghost use Rattle.time_digits.specs.Digits.{fixed};
 ghost use Rattle.time_known.specs.Sink.{Fits, PutsJust};
 
@@ -67,7 +67,7 @@ fn usual_width(item: &Item, texts: &[u8], has_time: bool) -> Option<usize>
     ensures width { IfSome result (λ w. HasWidth w (item_tree texts.now item.now)) }
     ensures short { IfSome result (λ w. w ≤ 0xffff) }
 {
-    if item.kind == 0 {
+    if item.kind == 255 {
         return literal_width(item, texts);
     }
     if !has_choices(item, 0, 0) {
@@ -94,7 +94,7 @@ fn has_choices(item: &Item, flag: u8, digits: u8) -> bool
 /// The number of bytes of a literal, if the texts have them and there are not many.
 #[inline(always)]
 fn literal_width(item: &Item, texts: &[u8]) -> Option<usize>
-    requires literal { item.now.kind ≡ 0 }
+    requires literal { item.now.kind ≡ 255 }
     ensures width { IfSome result (λ w. HasWidth w (item_tree texts.now item.now)) }
     ensures short { IfSome result (λ w. w ≤ 0xffff) }
 {
@@ -147,8 +147,9 @@ pub fn write_line(
     requires short { width ≤ 0xffff_ffff }
     requires fits { width ≤ max (length room.old) 128 }
     requires year { IsShortYear value.now }
-    ensures { IsText (described (trees_of texts.now items.now) (Ok value.now)
+    ensures text { IsText (described (trees_of texts.now items.now) (Ok value.now)
         (facts_of_local has_time)) result room.old room.new }
+    ensures within { IsWithinWidth width (length room.old) result }
 {
     if width <= room.len() {
         return Ok(write_in_place(items, texts, value, room));
@@ -168,6 +169,7 @@ fn write_in_place(items: &[Item], texts: &[u8], value: &LocalMoment, room: &mut 
     ensures text { IsText (described (trees_of texts.now items.now) (Ok value.now)
         (facts_of_local has_time)) (Ok result) room.old room.new }
     ensures fits { result ≤ length room.old }
+    ensures within { AllHave result (trees_of texts.now items.now) }
 {
     let mut sink = RoomSink::new(room);
     put_items(&mut sink, items, texts, value);
@@ -201,7 +203,7 @@ fn put_item<S: ByteSink>(output: &mut S, item: &Item, texts: &[u8], value: &Loca
         (item_tree texts.now item.now) (facts_of_local has_time value.now) }
 {
     match item.kind {
-        0 => output.put_bytes(&texts[item.start..item.start + item.len]),
+        255 => output.put_bytes(&texts[item.start..item.start + item.len]),
         1 => put_pair(output, ru8::within(value.date().day())),
         2 => put_month_name(output, calendar_day(value.date())),
         4 => put_pair(output, ru8::within(value.date().month())),

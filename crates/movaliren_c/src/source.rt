@@ -1,6 +1,6 @@
 //! Where the values of moments come from.
 ghost use Rattle.std.specs.Prelude.{◌≡◌, ◌<◌, ◌+ℤ◌, Result, unsigned_abs};
-ghost use Rattle.movaliren_c.specs.Utc.{local_value, moved_east, utc_value};
+ghost use Rattle.movaliren_c.specs.Utc.{local_at, local_value, moved_east, utc_value};
 ghost use Rattle.movaliren_c.specs.Value.{moment_value};
 ghost use Rattle.movaliren_c.specs.declared.reason.Reason.{Reason};
 ghost use Rattle.time_below.specs.Moment.{OffsetDateAndTime};
@@ -74,13 +74,26 @@ impl Source for AtOffset {
     }
 }
 
+/// The moment at this offset, or the reason why it has no local date there.
 #[inline(always)]
 fn moved_east(moment: Timestamp, east: i64) -> Result<LocalMoment, Reason>
     ensures { result ≡ moved_east moment east }
 {
     match KeptOffset::of_seconds(east) {
-        Ok(offset) => value_at(seconds_moved(moment, east), moment.as_parts().1, offset),
+        Ok(offset) => local_at(seconds_moved(moment, east), moment.as_parts().1, offset),
         Err(reason) => Err(reason),
+    }
+}
+
+/// The date and time of local clocks, this long after 1970 by them, with this offset.
+#[inline(always)]
+fn local_at(seconds: i64, nanosecond: u32, offset: KeptOffset) -> Result<LocalMoment, Reason>
+    requires { nanosecond < 1_000_000_000 }
+    ensures { result ≡ local_at seconds nanosecond offset }
+{
+    match value_at(seconds, nanosecond, offset) {
+        Ok(value) => Ok(value),
+        Err(_) => Err(Reason::NoPlaceForYear),
     }
 }
 

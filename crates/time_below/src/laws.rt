@@ -1,16 +1,29 @@
-//! Laws of equality, of the calendar and of offsets: what their definitions come to. Each body is empty.
-ghost use Rattle.std.specs.Prelude.{◌≡◌, ◌↔◌, ◌+◌, ◌%◌, ℕ, ℤ, pos, ◌+ℤ◌, IsTrue};
+//! Laws of equality, of clones and conversions, of the calendar and of offsets: what their definitions come to.
+//! Each body is empty.
+ghost use Rattle.std.specs.Prelude.{◌≡◌, ◌↔◌, ◌+◌, ◌%◌, ℕ, ℤ, pos, ◌+ℤ◌, IsTrue, fold};
 ghost use Rattle.std.specs.Int.{IsInRange};
 ghost use Rattle.time_below.specs.Calendar.{OrdinalDate, IsDate, IsYear, IsDayNumber, IsDayOfMonth, day_number, date_at, next_day, month_of, day_of, date_of, weekday_of, iso_year_of, iso_week_of, days_of_name, monday_based_week_of, sunday_based_week_of};
 ghost use Rattle.time_below.specs.ComponentRange.{range_refusal};
+ghost use Rattle.time_below.specs.Conversion.{current_component};
+ghost use Rattle.time_below.specs.Metadata.{of_both, of_nothing};
+ghost use Rattle.time_below.specs.Month.{IsMadeOf, month_number};
+ghost use Rattle.time_below.specs.Tree.{of_component, v3_tree};
 ghost use Rattle.time_below.specs.TimeOfDay.{IsTimeOfDay};
 ghost use Rattle.time_below.specs.Offset.{Offset, IsOffset, Settles, settled};
 ghost use Rattle.time_below.specs.Moment.{Moment, DateAndTime, OffsetDateAndTime, IsMoment, IsTimestampSecond, IsNearTimestampSecond, utc_date, utc_time, utc_date_and_time, unix_seconds, local_unix_seconds};
 
+pub mod choices;
+pub mod clones;
+
 use crate::component_range::ComponentRange;
+use crate::format_description::{Component, FormatDescriptionV3Inner, Metadata};
 use crate::month::Month;
 use crate::period::Period;
 use crate::weekday::Weekday;
+use std::convert::TryFrom;
+use std::default::Default;
+use std::iter::Sum;
+use std::ops::Add;
 
 /// Two months are equal exactly if they are the same.
 pub fn month_equality(a: Month, b: Month)
@@ -30,6 +43,26 @@ pub fn period_equality(a: Period, b: Period)
 /// Two refusals of a component are equal exactly if they have the same name and the same condition.
 pub fn range_equality(a: ComponentRange, b: ComponentRange)
     ensures { IsTrue (⟦<ComponentRange as PartialEq>⟧.eq a b) ↔ (range_refusal a ≡ range_refusal b) }
+{}
+
+/// A month is made of its number, and the number of a month is that of the definition.
+pub fn month_conversions(number: u8, month: Month, made: Result<Month, ComponentRange>)
+    ensures made { ⟦<Month as TryFrom<u8>>⟧.try_from_gives number made ↔ IsMadeOf number made }
+    ensures number { ⟦<u8 as From<Month>>⟧.from_gives month number ↔ (number ≡ month_number month) }
+{}
+
+/// A component becomes the current one in its place, and no other, in the third version.
+pub fn component_conversion(component: Component, inner: &FormatDescriptionV3Inner<'_>)
+    ensures { ⟦<FormatDescriptionV3Inner<'static> as From<Component>>⟧.from_gives component inner.now
+        ↔ (v3_tree inner.now ≡ of_component (current_component component)) }
+{}
+
+/// What is known of no text, of one text after another, and of texts in order.
+pub fn metadata_of_texts(a: Metadata, b: Metadata, texts: &[Metadata], of_all: Metadata)
+    ensures nothing { ⟦<Metadata as Default>⟧.is_default of_all ↔ (of_all ≡ of_nothing) }
+    ensures both { ⟦<Metadata as Add<Metadata>>⟧.add_gives a b of_all ↔ (of_all ≡ of_both a b) }
+    ensures all { ⟦<Metadata as Sum<Metadata>>⟧.sum_gives texts.now of_all
+        ↔ (of_all ≡ fold of_both of_nothing texts.now) }
 {}
 
 /// Each date has one day number, and each day number from -999999-01-01 to 999999-12-31 one date.

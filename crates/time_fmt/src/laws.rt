@@ -1,18 +1,25 @@
 //! Laws of descriptions: the contract of each function is the law, and its body does nothing.
-ghost use Rattle.std.specs.Prelude.{◌≡◌, map, true};
+ghost use Rattle.std.specs.Prelude.{◌≡◌, ◌↔◌, map, true};
 ghost use Rattle.time_below.specs.Tree.{all_of, borrowed_tree, owned_tree, v3_tree, trees};
 ghost use Rattle.time_below.specs.Width.{component_width};
+ghost use Rattle.time_fmt.specs.Ends.{refusal_of};
+ghost use Rattle.time_fmt.specs.Errors.{format_in, range_in};
 ghost use Rattle.time_fmt.specs.Laws.{Means, EqualTreesHaveEqualOutcomes, FirstIsItsFirstItem, ListIsItsItemsInOrder, OutcomesAreAMonoid, MetadataIsACommutativeMonoid};
 ghost use Rattle.time_fmt.specs.Longest.{ReachesWidth};
+ghost use Rattle.time_fmt.specs.Outcome.{Names};
 
 pub mod choices;
 pub mod parts;
 
-use crate::formattable::{BorrowedItems, Formattable, OwnedItems};
+use crate::error::{Error, Format};
+use crate::formattable::{BorrowedItems, Formattable, Literal, OwnedItems};
 use crate::metadata::ComputeMetadata;
+use crate::refused::Refused;
+use std::convert::TryFrom;
 use time_below::format_description::{
     BorrowedFormatItem, Component, FormatDescriptionV3, OwnedFormatItem,
 };
+use time_below::{ComponentRange, DifferentVariant};
 
 /// The width of a component is that of the table, and it has the guarantee. Where it is not
 /// deprecated, its text on one of two values is as long as the width.
@@ -94,4 +101,51 @@ pub fn outcomes_are_a_monoid()
 /// What is known of texts may be added in any order.
 pub fn metadata_is_a_commutative_monoid()
     ensures { MetadataIsACommutativeMonoid }
+{}
+
+/// An error becomes the variant that holds it, and is given back by that variant alone. A refusal of the
+/// engine becomes the error of its name.
+pub fn errors_hold_what_they_are_made_of(
+    range: &ComponentRange,
+    format: &Format,
+    error: &Error,
+    refused: Refused,
+)
+    ensures range { ⟦<Format as From<ComponentRange>>⟧.from_gives range.now format.now
+        ↔ (format.now ≡ Format.ComponentRange range.now) }
+    ensures format { ⟦<Error as From<Format>>⟧.from_gives format.now error.now
+        ↔ (error.now ≡ Error.Format format.now) }
+    ensures refused { ⟦<Format as From<Refused>>⟧.from_gives refused format.now
+        ↔ Names format.now (refusal_of refused) }
+{}
+
+/// What is given back is the range in an error, or the error of a format in an outer one; of each other
+/// variant it is `DifferentVariant`.
+pub fn errors_give_back_what_they_hold(
+    format: &Format,
+    error: &Error,
+    range: &Result<ComponentRange, DifferentVariant>,
+    inner: &Result<Format, DifferentVariant>,
+)
+    ensures range { ⟦<ComponentRange as TryFrom<Format>>⟧.try_from_gives format.now range.now
+        ↔ (range.now ≡ range_in format.now) }
+    ensures format { ⟦<Format as TryFrom<Error>>⟧.try_from_gives error.now inner.now
+        ↔ (inner.now ≡ format_in error.now) }
+{}
+
+/// A clone of a list of items or of a literal is the same.
+pub fn clones_of_lists<const N: usize>(
+    borrowed: BorrowedItems<'_>,
+    owned: OwnedItems<'_>,
+    literal: Literal<N>,
+    borrowed_copy: BorrowedItems<'_>,
+    owned_copy: OwnedItems<'_>,
+    literal_copy: Literal<N>,
+)
+    ensures borrowed { ⟦<BorrowedItems<'static> as Clone>⟧.is_clone borrowed.entry borrowed_copy.entry
+        → borrowed_copy.entry.0.now ≡ borrowed.entry.0.now }
+    ensures owned { ⟦<OwnedItems<'static> as Clone>⟧.is_clone owned.entry owned_copy.entry
+        → owned_copy.entry.0.now ≡ owned.entry.0.now }
+    ensures literal { ⟦<Literal<N> as Clone>⟧.is_clone literal.entry literal_copy.entry
+        → literal_copy.entry.0 ≡ literal.entry.0 }
 {}

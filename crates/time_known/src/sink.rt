@@ -4,9 +4,8 @@ ghost use Rattle.time_fmt.specs.Decimals.{decimals};
 ghost use Rattle.time_fmt.specs.Room.{HasRoom, Writes, WritesUpTo};
 ghost use Rattle.time_known.specs.Sink.{Buffer, Fits, Puts, PutsUpTo};
 
-use crate::pieces::{put_back, take_out};
 use time_digits::ru8;
-use time_fmt::writers::{format_decimals, write};
+use time_fmt::writers::{format_decimals, put_back, take_out, write};
 
 /// A sink of a text, piece by piece.
 pub trait Sink {

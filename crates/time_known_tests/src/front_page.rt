@@ -1,5 +1,5 @@
 //! The recipes of `docs/RECIPES.md`, which shows each of them word for word.
-ghost use Rattle.std.specs.Prelude.{◌≡◌, vec_capacity};
+ghost use Rattle.std.specs.Prelude.{◌≡◌, IfSome, vec_capacity};
 
 mod tests;
 
@@ -90,17 +90,37 @@ pub fn append_unix_time(line: &mut Vec<u8>, seconds: i64) -> Option<Result<usize
     Some(Rfc3339.format_into(line, &timestamp, &mut TimestampState::default()))
 }
 
-/// The moment of these Unix seconds as a local date and time at this offset, if it is one.
-pub fn at_offset(seconds: i64, offset: UtcOffset) -> Option<OffsetDateTime> {
+/// The moment as a local date and time at this offset, if its local year is within -999,999 to 999,999.
+/// The nanosecond stays.
+pub fn at_offset(moment: Timestamp, offset: UtcOffset) -> Option<OffsetDateTime>
+    ensures { IfSome result (λ local. local.time.nanosecond ≡ moment.nanosecond) }
+{
+    let (seconds, nanosecond) = moment.as_parts();
     let (offset_hours, offset_minutes, offset_seconds) = offset.as_hms();
     let local_seconds = seconds
         .saturating_add(offset_hours as i64 * 3600)
         .saturating_add(offset_minutes as i64 * 60)
         .saturating_add(offset_seconds as i64);
-    let Ok(local) = Timestamp::new(local_seconds, 0) else {
+    let Ok(local) = Timestamp::new(local_seconds, nanosecond) else {
         return None;
     };
     Some(OffsetDateTime::new_in_offset(local.date(), local.time(), offset))
+}
+
+/// Appends a day such as `November 22`, by a state that is shared with other calls for this date.
+pub fn append_day(line: &mut Vec<u8>, date: &Date, state: &mut DateState) -> Result<usize, Format>
+    requires { ⟦<Date as ComponentProvider>⟧.agrees state.old date.now }
+    ensures { ⟦<Date as ComponentProvider>⟧.agrees state.new date.now }
+{
+    text!(MONTH_LONG, b" ", DAY).format_into(line, date, state)
+}
+
+/// Appends a heading such as `Sunday, November 22`, by two calls that share one state.
+pub fn append_heading(line: &mut Vec<u8>, date: &Date) -> Result<(), Format> {
+    let mut state = DateState::default();
+    text!(WEEKDAY, b", ").format_into(line, date, &mut state)?;
+    append_day(line, date, &mut state)?;
+    Ok(())
 }
 
 /// Writes a text into a vector that is kept for all texts, in place of the text before. Never

@@ -8,11 +8,14 @@ use crate::values::{Unit, Value, WEDNESDAY, moment, precision, wednesday};
 use std::alloc::Global;
 use std::default::Default;
 use std::process::Abort;
+use std::test::Fail;
+use time_digits::ru8;
 use time_fmt::{ComponentProvider, ComputeMetadata, Format};
 use time_known::Iso8601;
 use time_known::iso8601::DateKind::{Calendar, Ordinal, Week};
+use time_known::fields::OffsetFields;
 use time_known::iso8601::{
-    Config, DateKind, DecimalSign, FormattedComponents as Parts, OffsetPrecision, format_date,
+    self, Config, DateKind, DecimalSign, FormattedComponents as Parts, OffsetPrecision, format_date,
     format_offset, format_time,
 };
 
@@ -455,4 +458,36 @@ fn refuses_each_part_by_itself(rt: HostRuntime) {
     let names = refused_parts(&with_parts(Parts::Time), &mut output, &value);
     assert_that(&rt, matches!(&names, Ok(("year", "offset_second"))));
     assert_same(&rt, output.len(), 0);
+}
+
+#[test]
+fn each_format_shows_its_configuration(rt: HostRuntime) -> Result<(), Fail> {
+    let alloc = rt.alloc();
+    for config in [Config::default(), Config::default().set_date_kind(Week)] {
+        let shown = format!(in alloc; "{:?}", Iso8601::new(config))?;
+        let wanted = format!(in alloc; "Iso8601 {{ config: {config:?} }}")?;
+        assert_same(&rt, shown.as_str(), wanted.as_str());
+        assert_that(&rt, shown.contains("date_kind: Week") == (config.date_kind() == Week));
+    }
+    Ok(())
+}
+
+/// The parts that are there have their widths, as of an offset alone.
+#[test]
+fn parts_have_the_width_of_those_that_are_there(rt: HostRuntime) {
+    let config = Config::default();
+    let mut parts = iso8601::Parts {
+        date: None,
+        time: None,
+        offset: None,
+    };
+    assert_same(&rt, parts.width(&config), 0);
+    parts.offset = Some(OffsetFields {
+        is_utc: false,
+        is_negative: true,
+        hours: ru8::within(6),
+        minutes: ru8::within(0),
+        seconds: ru8::within(0),
+    });
+    assert_same(&rt, parts.width(&config), 6);
 }

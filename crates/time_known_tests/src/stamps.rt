@@ -157,6 +157,24 @@ fn a_stamp_keeps_room_for_35_bytes(rt: HostRuntime) -> Result<(), Fail> {
     Ok(())
 }
 
+/// Appends a stamp to an output of this many bytes that has no room left.
+fn assert_behind(rt: &impl Abort, alloc: Global, length: usize) -> Result<(), Fail> {
+    let mut output = vec![in alloc; b'x'; length]?;
+    let answer = append_stamp(rt, &mut output, EPOCH);
+    assert_that(rt, matches!(&answer, Ok(30)));
+    assert_same(rt, output.len(), length + 30);
+    assert_that(rt, output.capacity() <= (2 * length).max(length + 35));
+    Ok(())
+}
+
+#[test]
+fn a_stamp_stands_behind_each_power_of_two_up_to_a_megabyte(rt: HostRuntime) -> Result<(), Fail> {
+    for bits in 0..=20 {
+        assert_behind(&rt, rt.alloc(), 1 << bits)?;
+    }
+    Ok(())
+}
+
 /// The seconds and the nanosecond of a moment.
 fn order_of(rt: &impl Abort, parts: Parts) -> (i64, u32) {
     let value = utc(rt, parts);

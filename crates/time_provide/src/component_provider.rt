@@ -19,8 +19,8 @@ use time_below::{Month, Period, Weekday};
 /// Gives the components of a value, group by group.
 ///
 /// A method may keep in the state what it computed. It may be called where the value supplies its
-/// group and the state agrees with the value, and the state agrees afterwards. So does the group, in
-/// that it is real: a date of the calendar with its own components, a time of day in its ranges, an
+/// group and the state agrees with the value, and the state agrees afterwards. It still holds what it
+/// held. The group is real: a date of the calendar with its own components, a time of day in its ranges, an
 /// offset in its ranges and of one sign, a moment in its range.
 pub trait ComponentProvider {
     /// What earlier calls for the same value computed.
@@ -31,6 +31,9 @@ pub trait ComponentProvider {
 
     /// The state holds nothing but components of the value.
     ghost agrees: { Self.State → Self → Type 0 };
+
+    /// What the first state holds, the second holds.
+    ghost keeps: { Self.State → Self.State → Type 0 };
 
     ghost SUPPLIES_DATE: { Bool };
 
@@ -58,14 +61,16 @@ pub trait ComponentProvider {
         requires agrees { agrees state.old self.now }
         ensures value { result ≡ (the_date (facts self.now)).day }
         ensures range { IsInRange 1 31 result }
-        ensures agrees { AgreesOnDate (agrees state.new self.now) (facts self.now) };
+        ensures agrees { AgreesOnDate (agrees state.new self.now) (facts self.now) }
+        ensures kept { keeps state.old state.new };
 
     /// The month.
     fn month(&self, state: &mut Self::State) -> Month
         requires supplied { IsTrue SUPPLIES_DATE }
         requires agrees { agrees state.old self.now }
         ensures value { month_number result ≡ (the_date (facts self.now)).month }
-        ensures agrees { AgreesOnDate (agrees state.new self.now) (facts self.now) };
+        ensures agrees { AgreesOnDate (agrees state.new self.now) (facts self.now) }
+        ensures kept { keeps state.old state.new };
 
     /// The day of the year, 1 to 366.
     fn ordinal(&self, state: &mut Self::State) -> Ordinal
@@ -73,14 +78,16 @@ pub trait ComponentProvider {
         requires agrees { agrees state.old self.now }
         ensures value { result ≡ (the_date (facts self.now)).ordinal }
         ensures range { IsInRange 1 366 result }
-        ensures agrees { AgreesOnDate (agrees state.new self.now) (facts self.now) };
+        ensures agrees { AgreesOnDate (agrees state.new self.now) (facts self.now) }
+        ensures kept { keeps state.old state.new };
 
     /// The day of the week.
     fn weekday(&self, state: &mut Self::State) -> Weekday
         requires supplied { IsTrue SUPPLIES_DATE }
         requires agrees { agrees state.old self.now }
         ensures value { days_from_monday result ≡ (the_date (facts self.now)).weekday }
-        ensures agrees { AgreesOnDate (agrees state.new self.now) (facts self.now) };
+        ensures agrees { AgreesOnDate (agrees state.new self.now) (facts self.now) }
+        ensures kept { keeps state.old state.new };
 
     /// The week of the week calendar, 1 to 53 (ISO 8601-1:2019, week date).
     fn iso_week_number(&self, state: &mut Self::State) -> IsoWeekNumber
@@ -88,7 +95,8 @@ pub trait ComponentProvider {
         requires agrees { agrees state.old self.now }
         ensures value { result ≡ (the_date (facts self.now)).iso_week }
         ensures range { IsInRange 1 53 result }
-        ensures agrees { AgreesOnDate (agrees state.new self.now) (facts self.now) };
+        ensures agrees { AgreesOnDate (agrees state.new self.now) (facts self.now) }
+        ensures kept { keeps state.old state.new };
 
     /// The week of the year, 0 to 53, where week 1 begins on the first Monday.
     fn monday_based_week(&self, state: &mut Self::State) -> MondayBasedWeek
@@ -96,7 +104,8 @@ pub trait ComponentProvider {
         requires agrees { agrees state.old self.now }
         ensures value { result ≡ (the_date (facts self.now)).monday_based_week }
         ensures range { result ≤ 53 }
-        ensures agrees { AgreesOnDate (agrees state.new self.now) (facts self.now) };
+        ensures agrees { AgreesOnDate (agrees state.new self.now) (facts self.now) }
+        ensures kept { keeps state.old state.new };
 
     /// The week of the year, 0 to 53, where week 1 begins on the first Sunday.
     fn sunday_based_week(&self, state: &mut Self::State) -> SundayBasedWeek
@@ -104,7 +113,8 @@ pub trait ComponentProvider {
         requires agrees { agrees state.old self.now }
         ensures value { result ≡ (the_date (facts self.now)).sunday_based_week }
         ensures range { result ≤ 53 }
-        ensures agrees { AgreesOnDate (agrees state.new self.now) (facts self.now) };
+        ensures agrees { AgreesOnDate (agrees state.new self.now) (facts self.now) }
+        ensures kept { keeps state.old state.new };
 
     /// The year, -999,999 to 999,999.
     fn calendar_year(&self, state: &mut Self::State) -> Year
@@ -112,7 +122,8 @@ pub trait ComponentProvider {
         requires agrees { agrees state.old self.now }
         ensures value { result ≡ (the_date (facts self.now)).year }
         ensures range { unsigned_abs result ≤ 999_999 }
-        ensures agrees { AgreesOnDate (agrees state.new self.now) (facts self.now) };
+        ensures agrees { AgreesOnDate (agrees state.new self.now) (facts self.now) }
+        ensures kept { keeps state.old state.new };
 
     /// The year of the week calendar, -999,999 to 999,999.
     fn iso_year(&self, state: &mut Self::State) -> Year
@@ -120,7 +131,8 @@ pub trait ComponentProvider {
         requires agrees { agrees state.old self.now }
         ensures value { result ≡ (the_date (facts self.now)).iso_year }
         ensures range { unsigned_abs result ≤ 999_999 }
-        ensures agrees { AgreesOnDate (agrees state.new self.now) (facts self.now) };
+        ensures agrees { AgreesOnDate (agrees state.new self.now) (facts self.now) }
+        ensures kept { keeps state.old state.new };
 
     /// The hour of the day, 0 to 23.
     fn hour(&self, state: &mut Self::State) -> Hours
@@ -128,7 +140,8 @@ pub trait ComponentProvider {
         requires agrees { agrees state.old self.now }
         ensures value { result ≡ (the_time (facts self.now)).hour }
         ensures range { result ≤ 23 }
-        ensures agrees { AgreesOnTime (agrees state.new self.now) (facts self.now) };
+        ensures agrees { AgreesOnTime (agrees state.new self.now) (facts self.now) }
+        ensures kept { keeps state.old state.new };
 
     /// The minute of the hour, 0 to 59.
     fn minute(&self, state: &mut Self::State) -> Minutes
@@ -136,14 +149,16 @@ pub trait ComponentProvider {
         requires agrees { agrees state.old self.now }
         ensures value { result ≡ (the_time (facts self.now)).minute }
         ensures range { result ≤ 59 }
-        ensures agrees { AgreesOnTime (agrees state.new self.now) (facts self.now) };
+        ensures agrees { AgreesOnTime (agrees state.new self.now) (facts self.now) }
+        ensures kept { keeps state.old state.new };
 
     /// The half of the day: before noon, or from noon on.
     fn period(&self, state: &mut Self::State) -> Period
         requires supplied { IsTrue SUPPLIES_TIME }
         requires agrees { agrees state.old self.now }
         ensures value { result ≡ period_of (the_time (facts self.now)) }
-        ensures agrees { AgreesOnTime (agrees state.new self.now) (facts self.now) };
+        ensures agrees { AgreesOnTime (agrees state.new self.now) (facts self.now) }
+        ensures kept { keeps state.old state.new };
 
     /// The second of the minute, 0 to 59.
     fn second(&self, state: &mut Self::State) -> Seconds
@@ -151,7 +166,8 @@ pub trait ComponentProvider {
         requires agrees { agrees state.old self.now }
         ensures value { result ≡ (the_time (facts self.now)).second }
         ensures range { result ≤ 59 }
-        ensures agrees { AgreesOnTime (agrees state.new self.now) (facts self.now) };
+        ensures agrees { AgreesOnTime (agrees state.new self.now) (facts self.now) }
+        ensures kept { keeps state.old state.new };
 
     /// The nanosecond of the second, 0 to 999,999,999.
     fn nanosecond(&self, state: &mut Self::State) -> Nanoseconds
@@ -159,21 +175,24 @@ pub trait ComponentProvider {
         requires agrees { agrees state.old self.now }
         ensures value { result ≡ (the_time (facts self.now)).nanosecond }
         ensures range { result ≤ 999_999_999 }
-        ensures agrees { AgreesOnTime (agrees state.new self.now) (facts self.now) };
+        ensures agrees { AgreesOnTime (agrees state.new self.now) (facts self.now) }
+        ensures kept { keeps state.old state.new };
 
     /// Whether some part of the offset is below zero.
     fn offset_is_negative(&self, state: &mut Self::State) -> bool
         requires supplied { IsTrue SUPPLIES_OFFSET }
         requires agrees { agrees state.old self.now }
         ensures value { result ≡ is_negative (the_offset (facts self.now)) }
-        ensures agrees { AgreesOnOffset (agrees state.new self.now) (facts self.now) };
+        ensures agrees { AgreesOnOffset (agrees state.new self.now) (facts self.now) }
+        ensures kept { keeps state.old state.new };
 
     /// Whether all parts of the offset are zero.
     fn offset_is_utc(&self, state: &mut Self::State) -> bool
         requires supplied { IsTrue SUPPLIES_OFFSET }
         requires agrees { agrees state.old self.now }
         ensures value { result ≡ is_utc (the_offset (facts self.now)) }
-        ensures agrees { AgreesOnOffset (agrees state.new self.now) (facts self.now) };
+        ensures agrees { AgreesOnOffset (agrees state.new self.now) (facts self.now) }
+        ensures kept { keeps state.old state.new };
 
     /// The hour of the offset from UTC, -25 to 25.
     fn offset_hour(&self, state: &mut Self::State) -> OffsetHours
@@ -181,7 +200,8 @@ pub trait ComponentProvider {
         requires agrees { agrees state.old self.now }
         ensures value { result ≡ (the_offset (facts self.now)).hours }
         ensures range { unsigned_abs result ≤ 25 }
-        ensures agrees { AgreesOnOffset (agrees state.new self.now) (facts self.now) };
+        ensures agrees { AgreesOnOffset (agrees state.new self.now) (facts self.now) }
+        ensures kept { keeps state.old state.new };
 
     /// The minute of the offset from UTC, -59 to 59.
     fn offset_minute(&self, state: &mut Self::State) -> OffsetMinutes
@@ -189,7 +209,8 @@ pub trait ComponentProvider {
         requires agrees { agrees state.old self.now }
         ensures value { result ≡ (the_offset (facts self.now)).minutes }
         ensures range { unsigned_abs result ≤ 59 }
-        ensures agrees { AgreesOnOffset (agrees state.new self.now) (facts self.now) };
+        ensures agrees { AgreesOnOffset (agrees state.new self.now) (facts self.now) }
+        ensures kept { keeps state.old state.new };
 
     /// The second of the offset from UTC, -59 to 59.
     fn offset_second(&self, state: &mut Self::State) -> OffsetSeconds
@@ -197,7 +218,8 @@ pub trait ComponentProvider {
         requires agrees { agrees state.old self.now }
         ensures value { result ≡ (the_offset (facts self.now)).seconds }
         ensures range { unsigned_abs result ≤ 59 }
-        ensures agrees { AgreesOnOffset (agrees state.new self.now) (facts self.now) };
+        ensures agrees { AgreesOnOffset (agrees state.new self.now) (facts self.now) }
+        ensures kept { keeps state.old state.new };
 
     /// The seconds since 1970-01-01T00:00:00 UTC, rounded down, at most 14 digits.
     fn unix_timestamp_seconds(&self, state: &mut Self::State) -> i64
@@ -205,7 +227,8 @@ pub trait ComponentProvider {
         requires agrees { agrees state.old self.now }
         ensures value { result ≡ (the_moment (facts self.now)).seconds }
         ensures range { unsigned_abs result < 100_000_000_000_000 }
-        ensures agrees { AgreesOnMoment (agrees state.new self.now) (facts self.now) };
+        ensures agrees { AgreesOnMoment (agrees state.new self.now) (facts self.now) }
+        ensures kept { keeps state.old state.new };
 
     /// The milliseconds since 1970-01-01T00:00:00 UTC, rounded toward zero, at most 17 digits.
     fn unix_timestamp_milliseconds(&self, state: &mut Self::State) -> i64
@@ -213,7 +236,8 @@ pub trait ComponentProvider {
         requires agrees { agrees state.old self.now }
         ensures value { result ≡ milliseconds (the_moment (facts self.now)) }
         ensures range { unsigned_abs result < 100_000_000_000_000_000 }
-        ensures agrees { AgreesOnMoment (agrees state.new self.now) (facts self.now) };
+        ensures agrees { AgreesOnMoment (agrees state.new self.now) (facts self.now) }
+        ensures kept { keeps state.old state.new };
 
     // The groups that are there are those that the constants name.
     ghost supplies_date: { (value : Self) → is_some (facts value).date ≡ SUPPLIES_DATE };

@@ -4,7 +4,7 @@ ghost use Rattle.std.specs.Int.{IsInRange};
 ghost use Rattle.time_below.specs.Calendar.{month_of, day_of, iso_year_of, iso_week_of};
 ghost use Rattle.time_below.specs.Facts.{date_facts};
 ghost use Rattle.time_below.specs.Month.{month_number};
-ghost use Rattle.time_provide.specs.Agreement.{Agrees};
+ghost use Rattle.time_provide.specs.Agreement.{Agrees, Keeps};
 
 use crate::ranges::{Day, IsoWeekNumber, Year};
 use time_below::{Date, Month};
@@ -27,6 +27,7 @@ impl DateState {
         ensures held { self.new ≡ record self.old { day = Some result; month = self.new.month } }
         ensures range { IsInRange 1 31 result }
         ensures agrees { Agrees self.new (date_facts date) }
+        ensures kept { Keeps self.old self.new }
     {
         if let Some(day) = self.day {
             let _in_range = day.get();
@@ -45,6 +46,7 @@ impl DateState {
         ensures value { month_number result ≡ month_of date }
         ensures held { self.new ≡ record self.old { month = Some result } }
         ensures agrees { Agrees self.new (date_facts date) }
+        ensures kept { Keeps self.old self.new }
     {
         if let Some(month) = self.month {
             return month;
@@ -62,6 +64,7 @@ impl DateState {
             ≡ record self.old { iso_week = Some result; iso_year = self.new.iso_year } }
         ensures range { IsInRange 1 53 result }
         ensures agrees { Agrees self.new (date_facts date) }
+        ensures kept { Keeps self.old self.new }
     {
         if let Some(week) = self.iso_week {
             let _in_range = week.get();
@@ -78,6 +81,7 @@ impl DateState {
             ≡ record self.old { iso_week = self.new.iso_week; iso_year = Some result } }
         ensures range { unsigned_abs result ≤ 999_999 }
         ensures agrees { Agrees self.new (date_facts date) }
+        ensures kept { Keeps self.old self.new }
     {
         if let Some(year) = self.iso_year {
             let _in_range = year.get();
@@ -96,6 +100,7 @@ impl DateState {
         ensures year_range { unsigned_abs result.0 ≤ 999_999 }
         ensures week_range { IsInRange 1 53 result.1 }
         ensures agrees { Agrees self.new (date_facts date) }
+        ensures kept { Keeps self.old self.new }
     {
         let (year, week) = date.iso_year_week();
         let year = ri32::within(year);

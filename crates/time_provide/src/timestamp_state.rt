@@ -1,7 +1,7 @@
 //! What the methods of a moment computed before.
 ghost use Rattle.std.specs.Prelude.{◌≡◌};
 ghost use Rattle.time_below.specs.Moment.{utc_date, utc_time};
-ghost use Rattle.time_provide.specs.Agreement.{AgreesWithMoment};
+ghost use Rattle.time_provide.specs.Agreement.{AgreesWithMoment, KeepsOfMoment};
 
 use crate::date_state::DateState;
 use time_below::{Date, Time, Timestamp};
@@ -21,6 +21,7 @@ impl TimestampState {
         ensures value { result ≡ utc_date moment.seconds }
         ensures held { self.new ≡ record self.old { date = Some result } }
         ensures agrees { AgreesWithMoment self.new moment }
+        ensures kept { KeepsOfMoment self.old self.new }
     {
         if let Some(date) = self.date {
             return date;
@@ -36,6 +37,7 @@ impl TimestampState {
         ensures value { result ≡ utc_time moment }
         ensures held { self.new ≡ record self.old { time = Some result } }
         ensures agrees { AgreesWithMoment self.new moment }
+        ensures kept { KeepsOfMoment self.old self.new }
     {
         if let Some(time) = self.time {
             return time;

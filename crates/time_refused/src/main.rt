@@ -11,12 +11,19 @@ use std::io;
 use time_below::format_description::modifier::{Day, MonthNumerical, Padding};
 use time_below::format_description::{BorrowedFormatItem, Component};
 use time_below::{Date, Month, OffsetDateTime, Time, UtcOffset};
+use time_describe::{InvalidDescription, InvalidStrftime, parse_owned, parse_strftime_owned};
 use time_fmt::{BorrowedItems, Format, Formattable};
 use time_known::Rfc3339;
 use time_provide::DateState;
 
 /// The text of the example by RFC 3339, of 25 bytes.
 const STAMP: &str = "1997-11-12T09:55:06-06:00";
+
+/// A description with a list in lists and an escape.
+const BRACKETS: &[u8] = b"[year]-[first [[optional [[month repr:short]]]] [x]]\\[[day]]";
+
+/// A description with a conversion that is several.
+const PATTERN: &[u8] = b"%F at %H:%M";
 
 /// What came of a call.
 #[derive(Clone, Copy, PartialEq, Eq)]
@@ -125,6 +132,34 @@ fn format_text<D: Formattable>(
     }
 }
 
+/// Formats by a description in brackets, which is read once more after a failed allocation.
+fn read_brackets(alloc: Global, value: &OffsetDateTime) -> Came {
+    match parse_owned(alloc, BRACKETS) {
+        Ok(description) => return format_text(alloc, &description, value, "1997-Nov[12]"),
+        Err(InvalidDescription::OutOfMemory) => {}
+        Err(InvalidDescription::Invalid { .. }) => return Came::Wrong,
+    }
+    match parse_owned(alloc, BRACKETS) {
+        Ok(description) => format_text(alloc, &description, value, "1997-Nov[12]").after_refusal(),
+        Err(_) => Came::Wrong,
+    }
+}
+
+/// The same of a description in the syntax of strftime.
+fn read_pattern(alloc: Global, value: &OffsetDateTime) -> Came {
+    match parse_strftime_owned(alloc, PATTERN) {
+        Ok(description) => return format_text(alloc, &description, value, "1997-11-12 at 09:55"),
+        Err(InvalidStrftime::OutOfMemory) => {}
+        Err(InvalidStrftime::Invalid { .. }) => return Came::Wrong,
+    }
+    match parse_strftime_owned(alloc, PATTERN) {
+        Ok(description) => {
+            format_text(alloc, &description, value, "1997-11-12 at 09:55").after_refusal()
+        }
+        Err(_) => Came::Wrong,
+    }
+}
+
 /// Writes what came of a call.
 fn print_came(rt: &HostRuntime, call: &str, came: Came) -> io::Result<()> {
     println!(rt; "{call}: {}", came.name())
@@ -156,5 +191,15 @@ fn main(rt: HostRuntime) -> io::Result<()> {
     let came = format_text(alloc, &torn, &value, "\u{fffd}");
     print_came(&rt, "the text of a byte that is none", came)?;
     let came = format_text(alloc, &nothing, &value, "");
-    print_came(&rt, "the text of an empty list", came)
+    print_came(&rt, "the text of an empty list", came)?;
+    print_came(
+        &rt,
+        "a description in brackets",
+        read_brackets(alloc, &value),
+    )?;
+    print_came(
+        &rt,
+        "a description of strftime",
+        read_pattern(alloc, &value),
+    )
 }

@@ -27,7 +27,6 @@ fn components_at(number: u8) -> Result<FormattedComponents, Reason>
     ensures { result ≡ components_at number }
 {
     match number {
-        0 => Ok(FormattedComponents::None),
         1 => Ok(FormattedComponents::Date),
         2 => Ok(FormattedComponents::Time),
         3 => Ok(FormattedComponents::Offset),

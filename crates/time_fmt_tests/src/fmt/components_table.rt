@@ -33,27 +33,27 @@ pub(super) const COMPONENTS: &[(Component, &str, usize)] = components! {
     WeekNumberSunday { padding: Zero } "45" 2,
     WeekNumberMonday { padding: Zero } "45" 2,
     CalendarYearFullExtendedRange { padding: Zero, sign_is_mandatory: false } "1997" 7,
-    CalendarYearFullStandardRange { padding: Zero, sign_is_mandatory: true } "+1997" 5,
+    CalendarYearFullStandardRange { padding: Zero, sign_is_mandatory: false } "1997" 5,
     CalendarYearCenturyExtendedRange { padding: Zero, sign_is_mandatory: false } "19" 5,
-    CalendarYearCenturyStandardRange { padding: Zero, sign_is_mandatory: true } "+19" 3,
+    CalendarYearCenturyStandardRange { padding: Zero, sign_is_mandatory: false } "19" 3,
     CalendarYearLastTwo { padding: Zero } "97" 2,
     IsoYearFullExtendedRange { padding: Zero, sign_is_mandatory: false } "1997" 7,
-    IsoYearFullStandardRange { padding: Zero, sign_is_mandatory: true } "+1997" 5,
+    IsoYearFullStandardRange { padding: Zero, sign_is_mandatory: false } "1997" 5,
     IsoYearCenturyExtendedRange { padding: Zero, sign_is_mandatory: false } "19" 5,
-    IsoYearCenturyStandardRange { padding: Zero, sign_is_mandatory: true } "+19" 3,
+    IsoYearCenturyStandardRange { padding: Zero, sign_is_mandatory: false } "19" 3,
     IsoYearLastTwo { padding: Zero } "97" 2,
-    Hour12 { padding: Space } " 9" 2,
+    Hour12 { padding: Zero } "09" 2,
     Hour24 { padding: Zero } "09" 2,
     Minute { padding: Zero } "55" 2,
     Period { is_uppercase: true, case_sensitive: true } "AM" 2,
-    Second { padding: Padding::None } "6" 2,
+    Second { padding: Zero } "06" 2,
     Subsecond { digits: SubsecondDigits::Three } "120" 3,
     Subsecond { digits: SubsecondDigits::OneOrMore } "12" 9,
-    OffsetHour { padding: Zero, sign_is_mandatory: true } "-06" 3,
+    OffsetHour { padding: Zero, sign_is_mandatory: false } "-06" 3,
     OffsetMinute { padding: Zero } "00" 2,
     OffsetSecond { padding: Zero } "00" 2,
     UnixTimestampSecond { sign_is_mandatory: false } "879350106" 15,
-    UnixTimestampMillisecond { sign_is_mandatory: true } "+879350106120" 18,
+    UnixTimestampMillisecond { sign_is_mandatory: false } "879350106120" 18,
     Ignore { count: 3 } "" 0,
     End { trailing_input: TrailingInput::Prohibit } "" 0,
 };
@@ -85,9 +85,39 @@ pub(super) const DEPRECATED: &[(Component, &str, usize)] = components! {
 const OTHER_CHOICES: &[(Component, &str, usize)] = components! {
     MonthLong { case_sensitive: false } "November" 9,
     WeekdayMonday { one_indexed: false } "2" 1,
-    Second { padding: Zero } "06" 2,
-    OffsetHour { padding: Zero, sign_is_mandatory: false } "-06" 3,
+    CalendarYearFullStandardRange { padding: Zero, sign_is_mandatory: true } "+1997" 5,
+    CalendarYearCenturyStandardRange { padding: Zero, sign_is_mandatory: true } "+19" 3,
+    IsoYearFullStandardRange { padding: Zero, sign_is_mandatory: true } "+1997" 5,
+    IsoYearCenturyStandardRange { padding: Zero, sign_is_mandatory: true } "+19" 3,
+    Hour12 { padding: Space } " 9" 2,
+    Second { padding: Padding::None } "6" 2,
+    OffsetHour { padding: Zero, sign_is_mandatory: true } "-06" 3,
+    UnixTimestampMillisecond { sign_is_mandatory: true } "+879350106000" 18,
 };
+
+/// Weeks and weekdays that tell the three ways of counting apart, of 2005-01-02: a Sunday before the first Monday
+/// of its year, in the last week of 2004 (ISO 8601-1:2019, week date).
+pub(super) const SUNDAY: &[(Component, &str, usize)] = components! {
+    WeekdaySunday { one_indexed: true } "1" 1,
+    WeekdayMonday { one_indexed: true } "7" 1,
+    WeekNumberIso { padding: Zero } "53" 2,
+    WeekNumberSunday { padding: Zero } "01" 2,
+    WeekNumberMonday { padding: Zero } "00" 2,
+    CalendarYearFullExtendedRange { padding: Zero, sign_is_mandatory: false } "2005" 7,
+    CalendarYearLastTwo { padding: Zero } "05" 2,
+    IsoYearFullExtendedRange { padding: Zero, sign_is_mandatory: false } "2004" 7,
+    IsoYearLastTwo { padding: Zero } "04" 2,
+    Weekday { repr: WeekdayRepr::Sunday, one_indexed: true, case_sensitive: true } "1" 1,
+    Weekday { repr: WeekdayRepr::Monday, one_indexed: true, case_sensitive: true } "7" 1,
+    WeekNumber { padding: Zero, repr: WeekNumberRepr::Iso } "53" 2,
+    WeekNumber { padding: Zero, repr: WeekNumberRepr::Sunday } "01" 2,
+    WeekNumber { padding: Zero, repr: WeekNumberRepr::Monday } "00" 2,
+};
+
+#[test]
+fn weeks_of_a_sunday_are_counted_from_three_days(rt: HostRuntime) {
+    assert_components(&rt, rt.alloc(), Value::Date(2005, 1, 2), SUNDAY);
+}
 
 #[test]
 fn each_component_has_the_text_and_the_width_of_the_table(rt: HostRuntime) {

@@ -14,7 +14,7 @@ use time_provide::DateState;
 const WIDTH: usize = 8_388_608;
 
 /// All addresses that are left, in pieces of 16 GiB down to 4 MiB, of which no byte is written.
-pub(super) fn all_that_is_left(alloc: Global) -> Result<Vec<Vec<u8>>, AllocError> {
+fn all_that_is_left(alloc: Global) -> Result<Vec<Vec<u8>>, AllocError> {
     let mut taken = Vec::with_capacity(alloc, 65_536)?;
     for bits in [34, 32, 30, 28, 26, 24, 22] {
         for _ in 0..65_536 {

@@ -33,6 +33,33 @@ fn a_text_stands_behind_a_megabyte(rt: HostRuntime) -> Result<(), Fail> {
     Ok(())
 }
 
+/// Appends a text of this many bytes to an output of as many that has no room left, and makes it as a text of its
+/// own. Neither is out of memory, or holds more bytes than it has.
+fn assert_power(rt: &impl Abort, alloc: Global, length: usize) -> Result<(), Fail> {
+    let letters = vec![in alloc; b'x'; length]?;
+    let item = BorrowedFormatItem::Literal(letters.as_slice());
+    let mut output = vec![in alloc; b'y'; length]?;
+    let (Ok(count), Ok(text)) = append(rt, alloc, &mut output, &item, WEDNESDAY) else {
+        panic!(rt; "no text of {length} bytes");
+    };
+    assert_same(rt, (count, output.len()), (length, 2 * length));
+    assert_that(rt, output.as_slice().ends_with(letters.as_slice()));
+    assert_that(rt, text.as_str().as_bytes() == letters.as_slice());
+    assert_that(
+        rt,
+        output.capacity() <= 2 * length && text.capacity() <= length,
+    );
+    Ok(())
+}
+
+#[test]
+fn a_text_of_each_power_of_two_up_to_a_megabyte_is_written(rt: HostRuntime) -> Result<(), Fail> {
+    for bits in 0..=20 {
+        assert_power(&rt, rt.alloc(), 1 << bits)?;
+    }
+    Ok(())
+}
+
 /// Compares the bytes with this many of these letters.
 fn assert_repeated(rt: &impl Abort, bytes: &[u8], letter: &[u8], count: usize) {
     let mut found = 0usize;

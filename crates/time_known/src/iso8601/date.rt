@@ -18,12 +18,12 @@ use crate::accepted::OutOfRange;
 use crate::days::ordinal_digits;
 use crate::iso8601::config::{Config, DateKind};
 use crate::iso8601::parts::{DateParts, RestOfDate, date_of};
-use crate::pieces::{put_back, take_out};
 use crate::put::{put_both, put_four_digits, put_month_and_day, put_pair};
 use crate::sink::Sink;
 use time_digits::num_fmt::six_digits_zero_padded;
 use time_digits::{ru8, ru16, single_digit};
 use time_fmt::Format;
+use time_fmt::writers::{put_back, take_out};
 use time_provide::ComponentProvider;
 use time_provide::ranges::{Ordinal, Year};
 

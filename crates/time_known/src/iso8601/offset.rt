@@ -13,10 +13,10 @@ ghost use Rattle.time_known.specs.Sink.{Fits};
 use crate::accepted::OutOfRange;
 use crate::fields::{OffsetFields, offset_of};
 use crate::iso8601::config::{Config, OffsetPrecision};
-use crate::pieces::{put_back, take_out};
 use crate::put::{put_offset_hours, put_pair};
 use crate::sink::Sink;
 use time_fmt::Format;
+use time_fmt::writers::{put_back, take_out};
 use time_provide::ComponentProvider;
 
 /// Appends the offset, whether or not the configuration formats offsets: `Z` for UTC if it formats

@@ -21,10 +21,10 @@ use crate::iso8601::date::{put_date_part, write_date_by};
 use crate::iso8601::offset::put_offset_part;
 use crate::iso8601::time::{put_time_part, write_time};
 use crate::iso8601::usual_text::write_usual;
-use crate::pieces::{put_back, take_out};
 use crate::sink::Sink;
 use time_digits::ru8;
 use time_fmt::Format;
+use time_fmt::writers::{put_back, take_out};
 use time_provide::ComponentProvider;
 use time_provide::ranges::{IsoWeekNumber, Ordinal, Year};
 

@@ -18,11 +18,11 @@ ghost use Rattle.time_known.specs.WellKnown.{clock_text};
 use crate::fields::{TimeFields, time_of};
 use crate::iso8601::config::{Config, DecimalSign, TimePrecision};
 use crate::iso8601::usual_text::put_fraction_by;
-use crate::pieces::{put_back, take_out};
 use crate::put::{put_clock, put_pair};
 use crate::sink::Sink;
 use time_digits::ru8;
 use time_fmt::Format;
+use time_fmt::writers::{put_back, take_out};
 use time_provide::ComponentProvider;
 
 pub(super) const NANOSECONDS_PER_SECOND: u64 = 1_000_000_000;

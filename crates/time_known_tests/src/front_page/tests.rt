@@ -1,6 +1,6 @@
 //! The texts of the recipes.
 use super::{
-    append_clock, append_date, append_entry, append_log_time, append_mail_date,
+    append_clock, append_date, append_entry, append_heading, append_log_time, append_mail_date,
     append_milliseconds, append_stamp, append_unix_time, append_week_date, at_offset, reason,
     stamp_text, write_kept,
 };
@@ -9,9 +9,12 @@ use crate::values::moment;
 use std::default::Default;
 use std::process::Abort;
 use std::test::Fail;
-use time_below::{OffsetDateTime, UtcDateTime, UtcOffset};
+use time_below::{OffsetDateTime, Timestamp, UtcDateTime, UtcOffset};
 use time_fmt::{DateState, Format};
 use time_known::Rfc3339;
+
+/// The first second of the year -999,999.
+const FIRST: i64 = -31_619_087_596_800;
 
 /// 2026-11-22 9:55:06.12 UTC, a Sunday.
 fn sunday(rt: &impl Abort) -> OffsetDateTime {
@@ -36,6 +39,8 @@ fn writes_a_time_and_dates_by_parts_a_list_and_a_configuration(rt: HostRuntime) 
     assert_line(&rt, written, &mut line, "22 November 2026");
     let written = append_week_date(&mut line, &sunday.date());
     assert_line(&rt, written, &mut line, "2026-W47-7");
+    assert_that(&rt, append_heading(&mut line, &sunday.date()).is_ok());
+    assert_same(&rt, line.as_slice(), b"Sunday, November 22");
 }
 
 #[test]
@@ -67,13 +72,16 @@ fn gives_unix_seconds_an_offset(rt: HostRuntime) {
     let Ok(offset) = UtcOffset::from_hms(-6, 0, 0) else {
         panic!(rt; "no offset");
     };
-    let Some(moment) = at_offset(0, offset) else {
+    let (Ok(half), Ok(least)) = (Timestamp::new(-1, 500_000_000), Timestamp::new(FIRST, 0)) else {
         panic!(rt; "no moment");
+    };
+    let Some(moment) = at_offset(half, offset) else {
+        panic!(rt; "no local date");
     };
     let mut line = Vec::new(rt.alloc());
     let written = append_stamp(&mut line, &moment);
-    assert_line(&rt, written, &mut line, "1969-12-31T18:00:00-06:00");
-    assert_that(&rt, at_offset(i64::MAX, offset).is_none());
+    assert_line(&rt, written, &mut line, "1969-12-31T17:59:59.5-06:00");
+    assert_that(&rt, at_offset(least, offset).is_none());
 }
 
 #[test]

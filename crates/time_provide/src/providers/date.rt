@@ -2,7 +2,7 @@
 ghost use Rattle.std.proofs.Common.{rules};
 ghost use Rattle.std.specs.Prelude.{◌≡◌, refl, true, false, pos};
 ghost use Rattle.time_below.specs.Facts.{date_facts, facts_of_date};
-ghost use Rattle.time_provide.specs.Agreement.{Agrees};
+ghost use Rattle.time_provide.specs.Agreement.{Agrees, Keeps};
 
 use crate::component_provider::ComponentProvider;
 use crate::date_state::DateState;
@@ -19,6 +19,8 @@ impl ComponentProvider for Date {
     ghost facts = { facts_of_date };
 
     ghost agrees = { λ state date. Agrees state (date_facts date) };
+
+    ghost keeps = { Keeps };
 
     ghost SUPPLIES_DATE = { true };
 

@@ -2,7 +2,7 @@
 ghost use Rattle.std.proofs.Common.{rules};
 ghost use Rattle.std.specs.Prelude.{◌≡◌, refl, true, false};
 ghost use Rattle.time_below.specs.Facts.{date_facts, facts_of_offset_date_time};
-ghost use Rattle.time_provide.specs.Agreement.{Agrees};
+ghost use Rattle.time_provide.specs.Agreement.{Agrees, Keeps};
 
 use crate::component_provider::ComponentProvider;
 use crate::date_state::DateState;
@@ -18,6 +18,8 @@ impl ComponentProvider for OffsetDateTime {
     ghost facts = { facts_of_offset_date_time };
 
     ghost agrees = { λ state value. Agrees state (date_facts value.date) };
+
+    ghost keeps = { Keeps };
 
     ghost SUPPLIES_DATE = { true };
 

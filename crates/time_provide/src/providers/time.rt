@@ -17,6 +17,8 @@ impl ComponentProvider for Time {
 
     ghost agrees = { λ _ _. Unit {0} };
 
+    ghost keeps = { λ _ _. Unit {0} };
+
     ghost SUPPLIES_DATE = { false };
 
     const SUPPLIES_DATE: bool = false;

@@ -2,7 +2,7 @@
 ghost use Rattle.std.proofs.Common.{rules};
 ghost use Rattle.std.specs.Prelude.{◌≡◌, refl, true, false};
 ghost use Rattle.time_below.specs.Facts.{facts_of_timestamp};
-ghost use Rattle.time_provide.specs.Agreement.{AgreesWithMoment};
+ghost use Rattle.time_provide.specs.Agreement.{AgreesWithMoment, KeepsOfMoment};
 
 use crate::component_provider::ComponentProvider;
 use crate::ranges::{
@@ -19,6 +19,8 @@ impl ComponentProvider for Timestamp {
     ghost facts = { facts_of_timestamp };
 
     ghost agrees = { AgreesWithMoment };
+
+    ghost keeps = { KeepsOfMoment };
 
     ghost SUPPLIES_DATE = { true };
 

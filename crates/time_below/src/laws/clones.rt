@@ -1,0 +1,71 @@
+//! A clone of each value is that value.
+ghost use Rattle.std.specs.Prelude.{◌≡◌};
+ghost use Rattle.time_below.specs.Calendar.{OrdinalDate};
+ghost use Rattle.time_below.specs.ComponentRange.{range_refusal};
+ghost use Rattle.time_below.specs.Moment.{Moment, DateAndTime, OffsetDateAndTime};
+ghost use Rattle.time_below.specs.Offset.{Offset};
+ghost use Rattle.time_below.specs.TimeOfDay.{TimeOfDay};
+
+use crate::component_range::ComponentRange;
+use crate::date::Date;
+use crate::format_description::{Component, Group, Layer, Metadata};
+use crate::month::Month;
+use crate::offset_date_time::OffsetDateTime;
+use crate::period::Period;
+use crate::plain_date_time::PlainDateTime;
+use crate::time::Time;
+use crate::timestamp::Timestamp;
+use crate::utc_date_time::UtcDateTime;
+use crate::utc_offset::UtcOffset;
+use crate::weekday::Weekday;
+
+/// A clone of a value of the seven types is that value.
+pub fn clones_of_values()
+    ensures date { (v c : OrdinalDate) → ⟦<Date as Clone>⟧.is_clone v c → c ≡ v }
+    ensures time { (v c : TimeOfDay) → ⟦<Time as Clone>⟧.is_clone v c → c ≡ v }
+    ensures plain_date_time { (v c : DateAndTime) → ⟦<PlainDateTime as Clone>⟧.is_clone v c → c ≡ v }
+    ensures offset { (v c : Offset) → ⟦<UtcOffset as Clone>⟧.is_clone v c → c ≡ v }
+    ensures utc_date_time { (v c : DateAndTime) → ⟦<UtcDateTime as Clone>⟧.is_clone v c → c ≡ v }
+    ensures offset_date_time { (v c : OffsetDateAndTime)
+        → ⟦<OffsetDateTime as Clone>⟧.is_clone v c → c ≡ v }
+    ensures timestamp { (v c : Moment) → ⟦<Timestamp as Clone>⟧.is_clone v c → c ≡ v }
+{}
+
+/// A clone of a name, or of a half of the day, is the same.
+pub fn clones_of_names(
+    month: Month,
+    other: Month,
+    weekday: Weekday,
+    day: Weekday,
+    period: Period,
+    half: Period,
+)
+    ensures month { ⟦<Month as Clone>⟧.is_clone month other → other ≡ month }
+    ensures weekday { ⟦<Weekday as Clone>⟧.is_clone weekday day → day ≡ weekday }
+    ensures period { ⟦<Period as Clone>⟧.is_clone period half → half ≡ period }
+{}
+
+/// A clone of a refusal has the same name and the same condition.
+pub fn clones_of_refusals(range: ComponentRange, copy: ComponentRange)
+    ensures { ⟦<ComponentRange as Clone>⟧.is_clone range copy
+        → range_refusal copy ≡ range_refusal range }
+{}
+
+/// A clone of a component has the same choices, one of a group or of what is known of a text is the same,
+/// and so is one of the layer at the head of a description.
+pub fn clones_of_descriptions<T>(
+    component: Component,
+    other: Component,
+    group: Group,
+    group_copy: Group,
+    metadata: Metadata,
+    copy: Metadata,
+    layer: Layer<'_, T>,
+    layer_copy: Layer<'_, T>,
+)
+    ensures layer { ⟦<Layer<'static, T> as Clone>⟧.is_clone layer.entry layer_copy.entry
+        → layer_copy.entry ≡ layer.entry }
+    ensures group { ⟦<Group as Clone>⟧.is_clone group group_copy → group_copy ≡ group }
+    ensures component { ⟦<Component as Clone>⟧.is_clone component other → other ≡ component }
+    ensures metadata { ⟦<Metadata as Clone>⟧.is_clone metadata copy → copy ≡ metadata }
+{}

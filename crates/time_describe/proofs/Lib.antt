@@ -1,0 +1,13 @@
+pub mod SpelledLemmas
+pub mod LiteralLemmas
+pub mod CaseLemmas
+pub mod InsideLemmas
+pub mod ValueLemmas
+pub mod PlaceLemmas
+pub mod ReadLemmas
+pub mod FrameLemmas
+pub mod GrammarLemmas
+pub mod StrftimeLemmas
+pub mod StrftimeConversions
+pub mod StrftimeParts
+pub mod StrftimeLaws

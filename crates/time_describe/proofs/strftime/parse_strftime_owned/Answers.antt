@@ -1,0 +1,11 @@
+use Rattle.std.proofs.Common.{subst}
+use Rattle.time_describe.specs.declared.strftime.fault.Failure.{Failure}
+use Rattle.time_describe.specs.Strftime.{described}
+use Rattle.time_describe.specs.StrftimeOutcome.{Fails}
+use Rattle.time_describe.proofs.StrftimeLaws.{index_inside}
+use Rattle.time_describe.proofs.strftime.parse_strftime_owned.Goals as goal
+
+pub returns-in-Err-Invalid-clause-inside : goal.returns-in-Err-Invalid-clause-inside
+returns-in-Err-Invalid-clause-inside c =
+    let is = subst (λ (e : Failure). Fails e (described c.args.text.now)) c.in-Err-Invalid.field-0-is c.in-Err-Invalid.ensures in
+    index_inside c.args.text.now c.in-Err-Invalid.fault c.saturating_sub.result is c.saturating_sub.ensures

@@ -1,0 +1,14 @@
+pub mod Values
+pub mod Names
+pub mod Marks
+pub mod Reading
+pub mod Pieces
+pub mod Outcome
+pub mod Description
+pub mod Grammar
+pub mod Literal
+pub mod Limit
+pub mod Conversions
+pub mod Strftime
+pub mod StrftimeOutcome
+pub mod StrftimeGrammar

@@ -1,0 +1,24 @@
+//! Descriptions from a text, as `[year]-[month]-[day]`.
+#![tactic(auto)]
+
+mod building;
+mod description;
+mod fault;
+mod frame;
+mod in_text;
+pub mod laws;
+mod literal;
+mod marks;
+mod names;
+mod pieces;
+mod strftime;
+mod values;
+
+pub use description::{InvalidDescription, parse_owned};
+pub use fault::Reason;
+pub use in_text::InText;
+pub use strftime::fault::StrftimeReason;
+pub use strftime::{InvalidStrftime, parse_strftime_owned};
+
+#[cfg(test)]
+mod tests;

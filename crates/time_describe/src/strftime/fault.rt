@@ -1,0 +1,76 @@
+//! Why a text is no description in the syntax of strftime.
+ghost use Rattle.std.specs.Prelude.{◌≡◌};
+ghost use Rattle.time_describe.specs.declared.strftime.fault.Failure.TheVariants.{OutOfMemory, Invalid};
+
+use crate::literal::MOST_ITEMS;
+use std::alloc::{AllocError, AllocFailed};
+use thiserror::Error;
+
+/// What is wrong at a place of a text in the syntax of strftime.
+#[derive(Clone, Copy, Debug, PartialEq, Eq, Error)]
+pub enum StrftimeReason {
+    /// The text ends within a conversion.
+    #[error("unfinished conversion `%`")]
+    Unfinished,
+    /// No conversion has this letter.
+    #[error("unknown conversion `%{}`", .0.escape_ascii())]
+    UnknownConversion(u8),
+    /// `%Z`, the name of a time zone: values have an offset and no name of it.
+    #[error("unsupported conversion `%Z`")]
+    ZoneName,
+    /// `E` or `O`, which ask for a locale's own eras and digits.
+    #[error("unsupported modifier `%{}`", .0.escape_ascii())]
+    LocaleModifier(u8),
+    /// A field width, other than the three of `%3N`, `%6N` and `%9N`: its first digit.
+    #[error("unsupported field width `%{}`", .0.escape_ascii())]
+    FieldWidth(u8),
+    /// `^` or `#`, which change the case of letters.
+    #[error("unsupported flag `%{}`", .0.escape_ascii())]
+    CaseFlag(u8),
+    /// `+`, a flag of POSIX.1-2008 and a conversion of other systems.
+    #[error("unsupported flag `%+`")]
+    PlusFlag,
+    /// A flag after another one.
+    #[error("second flag `{}`", .0.escape_ascii())]
+    SecondFlag(u8),
+    /// A flag before this letter, whose conversion takes none.
+    #[error("no flag is allowed before `{}`", .0.escape_ascii())]
+    FlagWithoutNumber(u8),
+    /// The part that begins here has the 65,537th item.
+    #[error("more than {MOST_ITEMS} items")]
+    TooManyItems,
+}
+
+/// What is wrong, and where.
+#[derive(Clone, Copy, Debug, PartialEq, Eq)]
+pub struct Fault {
+    /// What is wrong.
+    pub reason: StrftimeReason,
+    /// How many bytes the text has from there to its end.
+    pub left: usize,
+}
+
+/// Why nothing was made of a text.
+#[derive(Clone, Copy, Debug, PartialEq, Eq)]
+pub enum Failure {
+    /// An allocation failed.
+    OutOfMemory,
+    /// The text is no description.
+    Invalid(Fault),
+}
+
+impl From<AllocError> for Failure {
+    ghost from_gives = { λ _ e. e ≡ OutOfMemory };
+
+    fn from(_error: AllocError) -> Failure {
+        Failure::OutOfMemory
+    }
+}
+
+impl From<Fault> for Failure {
+    ghost from_gives = { λ fault e. e ≡ Invalid fault };
+
+    fn from(fault: Fault) -> Failure {
+        Failure::Invalid(fault)
+    }
+}

@@ -1,0 +1,44 @@
+//! The recipes of `docs/RECIPES.md` on descriptions from a text, which shows each of them word for word.
+
+mod tests;
+
+use std::alloc::Global;
+use std::default::Default;
+use time_below::format_description::OwnedFormatItem;
+use time_below::{Date, OffsetDateTime};
+use time_describe::{parse_owned, parse_strftime_owned};
+use time_fmt::{DateState, Format, Formattable};
+
+/// The description of a configuration, such as `[day padding:none] [month repr:long]`, or a message
+/// such as ``unknown component `dai` at byte 1``. The message is empty if memory ran out for it too.
+pub fn description_of(alloc: Global, text: &str) -> Result<OwnedFormatItem, String> {
+    let text = text.as_bytes();
+    match parse_owned(alloc, text) {
+        Ok(description) => Ok(description),
+        Err(error) => match format!(in alloc; "{}", error.in_text(text)) {
+            Ok(message) => Err(message),
+            Err(_) => Err(String::new(alloc)),
+        },
+    }
+}
+
+/// Appends a date by a description that was read before, such as `22 November`.
+pub fn append_described(
+    line: &mut Vec<u8>,
+    description: &OwnedFormatItem,
+    date: &Date,
+) -> Result<usize, Format> {
+    description.format_into(line, date, &mut DateState::default())
+}
+
+/// Appends the moment of an entry of a web server's log, such as `22/Nov/2026:09:55:06 +0000`.
+pub fn append_by_pattern(
+    line: &mut Vec<u8>,
+    alloc: Global,
+    moment: &OffsetDateTime,
+) -> Option<Result<usize, Format>> {
+    let Ok(description) = parse_strftime_owned(alloc, b"%d/%b/%Y:%H:%M:%S %z") else {
+        return None;
+    };
+    Some(description.format_into(line, moment, &mut DateState::default()))
+}

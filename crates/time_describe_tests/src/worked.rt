@@ -1,0 +1,105 @@
+//! Descriptions in brackets, and the texts that standards and the documentation of `time` give for them.
+use crate::texts::{Numbers, assert_formats, in_brackets, moment, wednesday};
+
+/// Examples of RFC 3339 (5.8), RFC 2822 (A.1.1), RFC 9110 (5.6.7) and ISO 8601 (week date, ordinal date).
+const OF_STANDARDS: &[(&str, Numbers, &str)] = &[
+    (
+        "[year]-[month]-[day]T[hour]:[minute]:[second][offset_hour sign:mandatory]:[offset_minute]",
+        ((1996, 12, 19), (16, 39, 57, 0), (-8, 0, 0)),
+        "1996-12-19T16:39:57-08:00",
+    ),
+    (
+        "[year]-[month]-[day]T[hour]:[minute]:[second].[subsecond]Z",
+        ((1985, 4, 12), (23, 20, 50, 520_000_000), (0, 0, 0)),
+        "1985-04-12T23:20:50.52Z",
+    ),
+    (
+        "[weekday repr:short], [day padding:none] [month repr:short] [year] [hour]:[minute]:[second] [offset_hour sign:mandatory][offset_minute]",
+        ((1997, 11, 21), (9, 55, 6, 0), (-6, 0, 0)),
+        "Fri, 21 Nov 1997 09:55:06 -0600",
+    ),
+    (
+        "[weekday repr:short], [day] [month repr:short] [year repr:full] [hour repr:24]:[minute]:[second] GMT",
+        ((1994, 11, 6), (8, 49, 37, 0), (0, 0, 0)),
+        "Sun, 06 Nov 1994 08:49:37 GMT",
+    ),
+    (
+        "[weekday], [day]-[month repr:short]-[year repr:last_two] [hour]:[minute]:[second] GMT",
+        ((1994, 11, 6), (8, 49, 37, 0), (0, 0, 0)),
+        "Sunday, 06-Nov-94 08:49:37 GMT",
+    ),
+    (
+        "[weekday repr:short] [month repr:short] [day padding:space] [hour]:[minute]:[second] [year]",
+        ((1994, 11, 6), (8, 49, 37, 0), (0, 0, 0)),
+        "Sun Nov  6 08:49:37 1994",
+    ),
+    (
+        "[year base:iso_week]-W[week_number]-[weekday repr:monday]",
+        ((2010, 1, 3), (0, 0, 0, 0), (0, 0, 0)),
+        "2009-W53-7",
+    ),
+    (
+        "[year]-[ordinal]",
+        ((1985, 4, 12), (0, 0, 0, 0), (0, 0, 0)),
+        "1985-102",
+    ),
+];
+
+/// Examples of the documentation of `time`, at the `format` of each type.
+const OF_TIME: &[(&str, &str)] = &[
+    ("[year]-[month]-[day]", "2020-01-02"),
+    ("[hour]:[minute]:[second]", "03:04:05"),
+    ("[offset_hour sign:mandatory]:[offset_minute]", "+06:07"),
+    (
+        "[year]-[month]-[day] [hour]:[minute]:[second]",
+        "2020-01-02 03:04:05",
+    ),
+    (
+        "[year]-[month]-[day] [hour]:[minute]:[second] [offset_hour sign:mandatory]:[offset_minute]:[offset_second]",
+        "2020-01-02 03:04:05 +06:07:08",
+    ),
+];
+
+/// What the syntax has beside components, at 1997-11-12 9:55:06.12 -6:00.
+const OF_SYNTAX: &[(&str, &str)] = &[
+    ("", ""),
+    ("no component", "no component"),
+    ("a]b", "a]b"),
+    (r"\[[day]\] c\\d", r"[12] c\d"),
+    ("[ Day\t padding:none\n PADDING:Zero ]", "12"),
+    ("[optional [[day]/]][month]", "12/11"),
+    ("[first [[month repr:short]] [[month]]]", "Nov"),
+    ("[first]x", "x"),
+    ("[first [a[optional [b]]] [c]]", "ab"),
+    (
+        "[day][ignore count:65535][end trailing_input:discard]",
+        "12",
+    ),
+    ("Üm [day]", "Üm 12"),
+];
+
+#[test]
+fn formats_the_examples_of_standards(rt: HostRuntime) {
+    for &(text, numbers, wanted) in OF_STANDARDS {
+        let item = in_brackets(&rt, rt.alloc(), text);
+        assert_formats(&rt, rt.alloc(), &item, &moment(&rt, numbers), wanted);
+    }
+}
+
+#[test]
+fn formats_the_examples_of_time(rt: HostRuntime) {
+    let value = moment(&rt, ((2020, 1, 2), (3, 4, 5, 0), (6, 7, 8)));
+    for &(text, wanted) in OF_TIME {
+        let item = in_brackets(&rt, rt.alloc(), text);
+        assert_formats(&rt, rt.alloc(), &item, &value, wanted);
+    }
+}
+
+#[test]
+fn formats_literals_and_lists(rt: HostRuntime) {
+    let value = wednesday(&rt);
+    for &(text, wanted) in OF_SYNTAX {
+        let item = in_brackets(&rt, rt.alloc(), text);
+        assert_formats(&rt, rt.alloc(), &item, &value, wanted);
+    }
+}

@@ -1,0 +1,216 @@
+-- Steps that are made one after another.
+use Rattle.std.proofs.Common.{◌≡◌, ℕ, ◌+◌, ◌-◌, ◌≤◌, ◌++◌, ◌&&◌, Bool, true, List, [], ◌∷◌, length, refl, sym, ap, ◌∙◌, arith, map, take, subst, Some, None}
+use Rattle.std.specs.Prelude.{slice_get, OnOk, Result, Ok, Err, min}
+use Rattle.time_below.proofs.NodeLemmas.{and_assoc}
+use Rattle.time_below.specs.declared.format_description.component.Component.{Component}
+use Rattle.time_below.specs.declared.format_description.metadata.Metadata.{Metadata}
+use Rattle.time_below.specs.Facts.{Facts}
+use Rattle.time_below.specs.Metadata.{greatest_usize, tree_metadata, trees_metadata}
+use Rattle.time_below.specs.Tree.{Tree, Trees, of_component, all_of, first_of, end, more, trees}
+use Rattle.time_below.specs.Width.{component_width, tree_width, trees_width, is_guaranteed_text, are_guaranteed_text}
+use Rattle.time_fmt.specs.Description.{tree_outcome, trees_outcome, component_outcome}
+use Rattle.time_fmt.specs.Outcome.{done, join}
+use Rattle.time_plan.specs.Literal.{literal_bytes, literal_tree}
+use Rattle.time_plan.specs.Shown.{shown_tree}
+use Rattle.time_plan.specs.Steps.{step_tree, step_trees, Extends, EndsThree}
+use Rattle.time_plan.specs.declared.shown.Run.TheVariants as run
+use Rattle.time_plan.specs.declared.shown.Shown.{Shown}
+use Rattle.time_plan.specs.declared.shown.Shown.TheVariants as shown
+use Rattle.time_plan.specs.declared.step.Step.{Step}
+use Rattle.time_plan.proofs.StepLemmas.{join_assoc, join_nothing, step_outcome, step_width, step_is_text, and_true}
+use Rattle.time_plan.proofs.StepLemmas.{literal_outcome, literal_width, literal_text, shown_guaranteed}
+
+-- ---- one step more
+
+pub outcome_pushed : (xs : List Step) (s : Step) (f : Facts) → trees_outcome (step_trees (xs ++ s ∷ [])) f
+    ≡ join (trees_outcome (step_trees xs) f) (tree_outcome (step_tree s) f)
+outcome_pushed [] s f = join_nothing (tree_outcome (step_tree s) f)
+outcome_pushed (x ∷ xs) s f =
+    ap (join (tree_outcome (step_tree x) f)) (outcome_pushed xs s f)
+    ∙ sym (join_assoc (tree_outcome (step_tree x) f) (trees_outcome (step_trees xs) f) (tree_outcome (step_tree s) f))
+
+pub width_pushed : (xs : List Step) (s : Step)
+    → trees_width (step_trees (xs ++ s ∷ [])) ≡ trees_width (step_trees xs) + tree_width (step_tree s)
+width_pushed [] s = omega arith
+width_pushed (x ∷ xs) s = omega (arith, width_pushed xs s)
+
+pub text_pushed : (xs : List Step) (s : Step) → are_guaranteed_text (step_trees (xs ++ s ∷ []))
+    ≡ (are_guaranteed_text (step_trees xs) && is_guaranteed_text (step_tree s))
+text_pushed [] s = and_true (is_guaranteed_text (step_tree s))
+text_pushed (x ∷ xs) s =
+    ap (λ b. is_guaranteed_text (step_tree x) && b) (text_pushed xs s)
+    ∙ sym (and_assoc (is_guaranteed_text (step_tree x)) (are_guaranteed_text (step_trees xs)) (is_guaranteed_text (step_tree s)))
+
+-- a step without a literal
+pub shown_pushed : (xs : List Step) (s : Step) → literal_bytes s.literal ≡ [] → s.is_text ≡ true
+    → Extends (step_trees xs) (step_trees (xs ++ s ∷ [])) (shown_tree s.shown)
+shown_pushed xs s no_literal is_text = record {
+  outcome = λ f. outcome_pushed xs s f
+      ∙ ap (join (trees_outcome (step_trees xs) f))
+      (step_outcome s f ∙ ap (λ bs. join (tree_outcome (shown_tree s.shown) f) (done bs)) no_literal
+      ∙ join_nothing (tree_outcome (shown_tree s.shown) f));
+  width = omega (arith, width_pushed xs s, step_width s, ap length no_literal);
+  text = text_pushed xs s
+      ∙ ap (λ b. are_guaranteed_text (step_trees xs) && b)
+      (step_is_text s ∙ is_text ∙ sym (shown_guaranteed s.shown));
+}
+
+-- a component by one with its outcomes and its width
+pub extends_alike : (old new : Trees) (kept c : Component) → Extends old new (of_component kept)
+    → ((f : Facts) → component_outcome kept f ≡ component_outcome c f) → component_width kept ≡ component_width c
+    → Extends old new (of_component c)
+extends_alike old new kept c extends same as_wide = record {
+  outcome = λ f. extends.outcome f ∙ ap (join (trees_outcome old f)) (same f);
+  width = omega (arith, extends.width, as_wide);
+  text = extends.text;
+}
+
+-- a component that ends three, which are shown in the place of the last two steps
+pub extends_three : (n : ℕ) (old few : List Step) (new : Trees) (c : Component) (s : Shown)
+    → EndsThree old c s → n ≡ length old - 2 → few ≡ take n old → Extends (step_trees few) new (shown_tree s)
+    → Extends (step_trees old) new (of_component c)
+extends_three n old few new c s three is_n is_few extends =
+    let same : few ≡ take (length old - 2) old = is_few ∙ ap (λ (k : ℕ). take k old) is_n in
+    let so : Extends (step_trees (take (length old - 2) old)) new (shown_tree s) =
+    subst (λ (xs : List Step). Extends (step_trees xs) new (shown_tree s)) same extends in
+    record {
+      outcome = λ f. so.outcome f ∙ three.outcome f;
+      width = omega (arith, so.width, three.width);
+      text = so.text ∙ ap (λ b. are_guaranteed_text (step_trees (take (length old - 2) old)) && b) (shown_guaranteed s)
+          ∙ ap (λ b. b && true) three.text;
+    }
+
+-- a literal behind no component
+pub literal_pushed : (xs : List Step) (s : Step) (b : Bool) (bs : List ℕ)
+    → s.shown ≡ shown.Run run.Empty
+    → literal_bytes s.literal ≡ bs → s.is_text ≡ b
+    → Extends (step_trees xs) (step_trees (xs ++ s ∷ [])) (literal_tree b bs)
+literal_pushed xs s b bs nothing is_literal is_text = record {
+  outcome = λ f. outcome_pushed xs s f
+      ∙ ap (join (trees_outcome (step_trees xs) f))
+      (step_outcome s f ∙ ap (λ c. join (tree_outcome (shown_tree c) f) (done (literal_bytes s.literal))) nothing
+      ∙ ap done is_literal ∙ sym (literal_outcome b bs f));
+  width = omega (
+    arith,
+    width_pushed xs s,
+    step_width s,
+    ap length is_literal,
+    literal_width b bs,
+    ap (λ c. tree_width (shown_tree c)) nothing,
+  );
+  text = text_pushed xs s
+      ∙ ap (λ b. are_guaranteed_text (step_trees xs) && b) (step_is_text s ∙ is_text ∙ sym (literal_text b bs));
+}
+
+-- a literal put behind what the last step shows, which had none
+pub literal_behind : (xs : List Step) (s t : Step) (b : Bool) (bs : List ℕ) → t.shown ≡ s.shown
+    → literal_bytes s.literal ≡ [] → s.is_text ≡ true → literal_bytes t.literal ≡ bs → t.is_text ≡ b
+    → Extends (step_trees (xs ++ s ∷ [])) (step_trees (xs ++ t ∷ [])) (literal_tree b bs)
+literal_behind xs s t b bs same no_literal was_text is_literal is_text =
+    let before = shown_pushed xs s no_literal was_text in
+    record {
+      outcome = λ f.
+          let o = trees_outcome (step_trees xs) f in
+          let c = tree_outcome (shown_tree s.shown) f in
+          outcome_pushed xs t f
+          ∙ ap (join o) (step_outcome t f
+          ∙ ap (λ d. join (tree_outcome (shown_tree d) f) (done (literal_bytes t.literal))) same
+          ∙ ap (λ x. join c (done x)) is_literal)
+          ∙ sym (join_assoc o c (done bs))
+          ∙ ap (λ a. join a (done bs)) (sym (before.outcome f))
+          ∙ ap (join (trees_outcome (step_trees (xs ++ s ∷ [])) f)) (sym (literal_outcome b bs f));
+      width = omega (
+        arith,
+        width_pushed xs t,
+        step_width t,
+        ap length is_literal,
+        literal_width b bs,
+        before.width,
+        ap (λ d. tree_width (shown_tree d)) same,
+      );
+      text = text_pushed xs t
+          ∙ ap (λ b. are_guaranteed_text (step_trees xs) && b) (step_is_text t ∙ is_text ∙ sym (literal_text b bs))
+          ∙ ap (λ a. a && is_guaranteed_text (literal_tree b bs))
+          (sym (before.text ∙ ap (λ b. are_guaranteed_text (step_trees xs) && b) (shown_guaranteed s.shown)
+          ∙ and_true (are_guaranteed_text (step_trees xs))));
+    }
+
+-- nothing more
+pub extends_nothing : (ts : Trees) (t : Tree) → ((f : Facts) → tree_outcome t f ≡ done []) → tree_width t ≡ 0
+    → is_guaranteed_text t ≡ true → Extends ts ts t
+extends_nothing ts t none no_width is_text = record {
+  outcome = λ f. sym (ap (join (trees_outcome ts f)) (none f) ∙ join_nothing (trees_outcome ts f));
+  width = omega (arith, no_width);
+  text = sym (ap (λ b. are_guaranteed_text ts && b) is_text ∙ and_true (are_guaranteed_text ts));
+}
+
+-- ---- a list of nodes
+
+-- what the steps mean, and then what is left, is what they meant first and then all
+pub record Flattened (old now all left : Trees) (all_size left_size : ℕ) : Type 0 where
+  pub size : left_size ≤ all_size
+  pub outcome : (f : Facts) → join (trees_outcome now f) (trees_outcome left f)
+      ≡ join (trees_outcome old f) (trees_outcome all f)
+  pub width : trees_width now + trees_width left ≡ trees_width old + trees_width all
+  pub text : (are_guaranteed_text now && are_guaranteed_text left) ≡ (are_guaranteed_text old && are_guaranteed_text all)
+
+pub flattened_first : (old all : Trees) (size : ℕ) → Flattened old old all all size size
+flattened_first old all size = record { size = omega arith; outcome = λ f. refl; width = refl; text = refl }
+
+pub flattened_more : {all_size left_size rest_size : ℕ} (old now new all left others : Trees) (t : Tree)
+    → Flattened old now all left all_size left_size → left ≡ more t others → rest_size ≤ left_size
+    → Extends now new t → Flattened old new all others all_size rest_size
+flattened_more old now new all left others t so_far next smaller step = record {
+  size = omega (arith, so_far.size, smaller);
+  outcome = λ f.
+      ap (λ o. join o (trees_outcome others f)) (step.outcome f)
+      ∙ join_assoc (trees_outcome now f) (tree_outcome t f) (trees_outcome others f)
+      ∙ ap (λ ts. join (trees_outcome now f) (trees_outcome ts f)) (sym next)
+      ∙ so_far.outcome f;
+  width = omega (arith, so_far.width, step.width, ap trees_width next);
+  text = ap (λ b. b && are_guaranteed_text others) step.text
+      ∙ and_assoc (are_guaranteed_text now) (is_guaranteed_text t) (are_guaranteed_text others)
+      ∙ ap (λ ts. are_guaranteed_text now && are_guaranteed_text ts) (sym next)
+      ∙ so_far.text;
+}
+
+pub flattened_all : {all_size left_size : ℕ} (old now all left : Trees)
+    → Flattened old now all left all_size left_size → left ≡ end → Extends old now (all_of all)
+flattened_all old now all left so_far none = record {
+  outcome = λ f. sym (ap (λ ts. join (trees_outcome now f) (trees_outcome ts f)) none ∙ join_nothing (trees_outcome now f))
+      ∙ so_far.outcome f;
+  width = omega (arith, so_far.width, ap trees_width none);
+  text = sym (ap (λ ts. are_guaranteed_text now && are_guaranteed_text ts) none ∙ and_true (are_guaranteed_text now))
+      ∙ so_far.text;
+}
+
+-- ---- the first of a list
+
+pub no_first_extends : {A : Type 0} (tree : A → Tree) (nodes : List A) (ts : Trees) → slice_get nodes 0 ≡ None
+    → Extends ts ts (first_of (trees (map tree nodes)))
+no_first_extends tree [] ts none = extends_nothing ts _ (λ f. refl) refl refl
+no_first_extends tree (x ∷ xs) ts none = let no : ⊥ = cc in absurd no
+
+pub first_extends : {A : Type 0} (tree : A → Tree) (nodes : List A) (x : A) (old new : Trees)
+    → slice_get nodes 0 ≡ Some x → Extends old new (tree x) → Extends old new (first_of (trees (map tree nodes)))
+first_extends tree [] x old new h extends = let no : ⊥ = cc in absurd no
+first_extends {A} tree (y ∷ ys) x old new h extends =
+    let same : y ≡ x = cc in
+    let P : A → Type 0 = λ z. Extends old new (tree z) in
+    let first = subst P (sym same) extends in
+    record { outcome = first.outcome; width = first.width; text = first.text }
+
+-- what follows from a fact of a success is a fact of it
+pub on_ok : {E : Type 0} {P Q : Type 0} (r : Result Unit E) → (P → Q) → OnOk r P → OnOk r Q
+on_ok (Ok u) follows h = follows h
+on_ok (Err e) follows h = h
+
+-- ---- what is known of a plan
+
+-- steps that were made of a tree from nothing have its metadata
+pub same_metadata : (m : Metadata) (new : Trees) (t : Tree) → m ≡ tree_metadata t → Extends end new t → m ≡ trees_metadata new
+same_metadata m new t is extends =
+    let width : tree_width t ≡ trees_width new = omega (arith, extends.width) in
+    is ∙ ap (λ (w : ℕ). record { max_bytes_needed = min w greatest_usize; guaranteed_utf8 = is_guaranteed_text t }) width
+    ∙ ap (λ (b : Bool). record { max_bytes_needed = min (trees_width new) greatest_usize; guaranteed_utf8 = b })
+    (sym extends.text)

@@ -1,0 +1,4 @@
+mod FlattenLemmas
+mod StepLemmas
+mod ThreeLemmas
+mod WriteLemmas

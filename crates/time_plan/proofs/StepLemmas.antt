@@ -1,0 +1,131 @@
+-- What a step means, and what is known of its text.
+use Rattle.std.proofs.Common.{◌≡◌, ℕ, ◌+◌, ◌&&◌, Bool, true, false, List, [], ◌∷◌, length, refl, ap, ◌∙◌, arith, append_assoc}
+use Rattle.std.proofs.Common.{Option, Some, None}
+use Rattle.std.proofs.lemmas.List.{append-nil}
+use Rattle.std.proofs.lemmas.Str.{IsUtf8-from_is_utf8, is_utf8-from_IsUtf8}
+use Rattle.std.specs.Str.{is_utf8}
+use Rattle.time_below.specs.Facts.{Facts}
+use Rattle.time_below.specs.Tree.{of_component, text_literal, more, end}
+use Rattle.time_below.specs.Width.{tree_width, is_guaranteed_text}
+use Rattle.time_fmt.specs.Description.{tree_outcome}
+use Rattle.time_fmt.specs.Guarantee.{IsTextIf}
+use Rattle.time_fmt.specs.Outcome.{Outcome, Refusal, done, join}
+use Rattle.time_fmt.proofs.GuaranteeLemmas.{text_of_component, text_more, empty_utf8}
+use Rattle.time_plan.specs.Literal.{literal_bytes, literal_tree}
+use Rattle.time_plan.specs.Shown.{part_component, three_parts, shown_tree}
+use Rattle.time_plan.specs.Steps.{step_tree}
+use Rattle.time_plan.specs.declared.shown.Part.{Part}
+use Rattle.time_plan.specs.declared.shown.Part.TheVariants as part
+use Rattle.time_plan.specs.declared.shown.Run.TheVariants as run
+use Rattle.time_plan.specs.declared.shown.Shown.{Shown}
+use Rattle.time_plan.specs.declared.shown.Shown.TheVariants as shown
+use Rattle.time_plan.specs.declared.step.Step.{Step}
+
+-- ---- outcomes
+
+-- joining outcomes is associative
+regrouped : (x : List ℕ) (r : Option Refusal) (y : List ℕ) (s : Option Refusal) (c : Outcome)
+    → join (join (record { bytes = x; refusal = r }) (record { bytes = y; refusal = s })) c
+    ≡ join (record { bytes = x; refusal = r }) (join (record { bytes = y; refusal = s }) c)
+regrouped x (Some r) y s c = refl
+regrouped x None y (Some s) c = refl
+regrouped x None y None c = ap (λ (bs : List ℕ). record { bytes = bs; refusal = c.refusal }) (append_assoc x y c.bytes)
+
+pub join_assoc : (a b c : Outcome) → join (join a b) c ≡ join a (join b c)
+join_assoc a b c = regrouped a.bytes a.refusal b.bytes b.refusal c
+
+nothing_behind : (x : List ℕ) (r : Option Refusal)
+    → join (record { bytes = x; refusal = r }) (done []) ≡ record { bytes = x; refusal = r }
+nothing_behind x (Some r) = refl
+nothing_behind x None = ap (λ (bs : List ℕ). record { bytes = bs; refusal = None }) (append-nil x)
+
+-- nothing changes an outcome behind it
+pub join_nothing : (a : Outcome) → join a (done []) ≡ a
+join_nothing a = nothing_behind a.bytes a.refusal
+
+-- ---- literals
+
+pub literal_outcome : (b : Bool) (bs : List ℕ) (f : Facts) → tree_outcome (literal_tree b bs) f ≡ done bs
+literal_outcome true bs f = refl
+literal_outcome false bs f = refl
+
+pub literal_width : (b : Bool) (bs : List ℕ) → tree_width (literal_tree b bs) ≡ length bs
+literal_width true bs = refl
+literal_width false bs = refl
+
+pub literal_text : (b : Bool) (bs : List ℕ) → is_guaranteed_text (literal_tree b bs) ≡ b
+literal_text true bs = refl
+literal_text false bs = refl
+
+text_literal_is_text : (b : Bool) (bs : List ℕ) (f : Facts) → (b ≡ true → is_utf8 bs ≡ true)
+    → IsTextIf (is_guaranteed_text (literal_tree b bs)) (tree_outcome (literal_tree b bs) f)
+text_literal_is_text true bs f h = λ _. IsUtf8-from_is_utf8 bs (h refl)
+text_literal_is_text false bs f h = λ no. let never : ⊥ = cc in absurd never
+
+-- no bytes are a text
+pub nothing_is_utf8 : is_utf8 [] ≡ true
+nothing_is_utf8 = is_utf8-from_IsUtf8 [] empty_utf8
+
+-- ---- what is shown
+
+-- three parts are a text where the bytes between them are
+three_are_text : (p q r : Part) (first second : ℕ) (f : Facts) → is_utf8 (first ∷ []) ≡ true → is_utf8 (second ∷ []) ≡ true
+    → IsTextIf (is_guaranteed_text (three_parts p first q second r)) (tree_outcome (three_parts p first q second r) f)
+three_are_text p q r first second f is_first is_second =
+    let third = more (of_component (part_component r)) end in
+    let from_second_byte = more (text_literal (second ∷ [])) third in
+    let from_second = more (of_component (part_component q)) from_second_byte in
+    let from_first_byte = more (text_literal (first ∷ [])) from_second in
+    text_more (of_component (part_component p)) from_first_byte f (λ _. text_of_component (part_component p) f)
+    (text_more (text_literal (first ∷ [])) from_second f (λ _. IsUtf8-from_is_utf8 (first ∷ []) is_first)
+    (text_more (of_component (part_component q)) from_second_byte f (λ _. text_of_component (part_component q) f)
+    (text_more (text_literal (second ∷ [])) third f (λ _. IsUtf8-from_is_utf8 (second ∷ []) is_second)
+    (text_more (of_component (part_component r)) end f (λ _. text_of_component (part_component r) f) (λ _. empty_utf8)))))
+
+-- what is shown is a text
+shown_text : (s : Shown) (f : Facts) → IsTextIf (is_guaranteed_text (shown_tree s)) (tree_outcome (shown_tree s) f)
+shown_text (shown.Component c) f = λ _. text_of_component c f
+shown_text (shown.Run run.Empty) f = λ _. empty_utf8
+shown_text (shown.Run (run.Date b)) f =
+    three_are_text part.Year part.Month part.Day b.first b.second f b.first_is_text b.second_is_text
+shown_text (shown.Run (run.Time b)) f =
+    three_are_text part.Hour part.Minute part.Second b.first b.second f b.first_is_text b.second_is_text
+
+pub shown_guaranteed : (s : Shown) → is_guaranteed_text (shown_tree s) ≡ true
+shown_guaranteed (shown.Component c) = refl
+shown_guaranteed (shown.Run run.Empty) = refl
+shown_guaranteed (shown.Run (run.Date b)) = refl
+shown_guaranteed (shown.Run (run.Time b)) = refl
+
+-- ---- steps
+
+-- a step gives what it shows, and then its literal
+pub step_outcome : (s : Step) (f : Facts)
+    → tree_outcome (step_tree s) f ≡ join (tree_outcome (shown_tree s.shown) f) (done (literal_bytes s.literal))
+step_outcome s f =
+    ap (λ o. join (tree_outcome (shown_tree s.shown) f) o)
+    (ap (λ o. join o (done [])) (literal_outcome s.is_text (literal_bytes s.literal) f)
+    ∙ join_nothing (done (literal_bytes s.literal)))
+
+pub step_width : (s : Step)
+    → tree_width (step_tree s) ≡ tree_width (shown_tree s.shown) + length (literal_bytes s.literal)
+step_width s = omega (arith, literal_width s.is_text (literal_bytes s.literal))
+
+pub and_true : (b : Bool) → (b && true) ≡ b
+and_true true = refl
+and_true false = refl
+
+pub step_is_text : (s : Step) → is_guaranteed_text (step_tree s) ≡ s.is_text
+step_is_text s =
+    ap (λ b. b && (is_guaranteed_text (literal_tree s.is_text (literal_bytes s.literal)) && true))
+    (shown_guaranteed s.shown)
+    ∙ and_true (is_guaranteed_text (literal_tree s.is_text (literal_bytes s.literal)))
+    ∙ literal_text s.is_text (literal_bytes s.literal)
+
+-- the text of a step is UTF-8 under its guarantee
+pub step_text : (s : Step) (f : Facts) → IsTextIf (is_guaranteed_text (step_tree s)) (tree_outcome (step_tree s) f)
+step_text s f =
+    text_more (shown_tree s.shown) (more (literal_tree s.is_text (literal_bytes s.literal)) end) f
+    (shown_text s.shown f)
+    (text_more (literal_tree s.is_text (literal_bytes s.literal)) end f
+    (text_literal_is_text s.is_text (literal_bytes s.literal) f s.utf8) (λ _. empty_utf8))

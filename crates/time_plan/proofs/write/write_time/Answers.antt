@@ -1,0 +1,42 @@
+use Rattle.std.proofs.Common.{rules, ◌≡◌, ◌<◌, true, arith, ◌∙◌}
+use Rattle.std.specs.Prelude.{is_some}
+use Rattle.time_below.specs.declared.format_description.modifier.Padding.TheVariants as padding
+use Rattle.time_fmt.proofs.TextLemmas.{two_places}
+use Rattle.time_plan.proofs.ThreeLemmas.{time_written, length-two_after}
+use Rattle.time_plan.proofs.write.write_time.Goals as goal
+
+pub format_two_digits-first-requires : goal.format_two_digits-first-requires
+format_two_digits-first-requires g c =
+    let hour : c.expand-hour.result < 100 = omega (arith, c.hour.ensures.range, c.expand-hour.ensures) in
+    record { room = omega (arith, c.requires.room, two_places padding.Zero c.expand-hour.result hour) }
+
+pub write_two_after-requires : goal.write_two_after-requires
+write_two_after-requires g c =
+    let hour : c.expand-hour.result < 100 = omega (arith, c.hour.ensures.range, c.expand-hour.ensures) in
+    let minute : c.expand-minute.result < 100 = omega (arith, c.minute.ensures.range, c.expand-minute.ensures) in
+    let second : c.expand-second.result < 100 = omega (arith, c.second.ensures.range, c.expand-second.ensures) in
+    record {
+      room = omega (
+        arith,
+        c.requires.room,
+        c.format_two_digits-first.ensures.writes.grown,
+        c.format_two_digits-first.ensures.writes.capacity,
+        two_places padding.Zero c.expand-hour.result hour,
+        length-two_after c.args.between.first c.args.between.second c.expand-minute.result c.expand-second.result
+            minute second,
+      );
+    }
+
+pub returns-clause-appends : goal.returns-clause-appends
+returns-clause-appends g c =
+    let f = g.V.ComponentProvider.facts c.args.value.now in
+    let there : is_some f.time ≡ true =
+    search rules in
+    time_written c.args.between.first c.args.between.second c.expand-hour.result c.expand-minute.result
+    c.expand-second.result f c.args.output.now c.format_two_digits-first.new.output c.write_two_after.new.output
+    there (c.expand-hour.ensures ∙ c.hour.ensures.value) (c.expand-minute.ensures ∙ c.minute.ensures.value)
+    (c.expand-second.ensures ∙ c.second.ensures.value)
+    (omega (arith, c.hour.ensures.range, c.expand-hour.ensures))
+    (omega (arith, c.minute.ensures.range, c.expand-minute.ensures))
+    (omega (arith, c.second.ensures.range, c.expand-second.ensures))
+    c.format_two_digits-first.ensures.writes c.write_two_after.ensures.writes

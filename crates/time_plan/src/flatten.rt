@@ -1,0 +1,196 @@
+//! The steps of a tree.
+ghost use Rattle.std.specs.Prelude.{◌≡◌, ◌∷◌, ◌++◌, [], true, OnOk, IfSome, IsUtf8, map};
+ghost use Rattle.time_below.specs.Facts.{Facts};
+ghost use Rattle.time_below.specs.Tree.{of_component, all_of, trees};
+ghost use Rattle.time_below.specs.Width.{component_width};
+ghost use Rattle.time_fmt.specs.Description.{component_outcome};
+ghost use Rattle.time_plan.specs.Literal.{literal_bytes, literal_tree};
+ghost use Rattle.time_plan.specs.Shown.{shown_tree};
+ghost use Rattle.time_plan.specs.Steps.{step_trees, Extends, EndsThree};
+
+use crate::literal::Literal;
+use crate::shown::{Part, Run, Separators, Shown};
+use crate::step::Step;
+use std::alloc::{AllocError, Global};
+use time_below::format_description::{Component, Layer, Node, component_width};
+
+/// Adds the nodes in order.
+#[cycle(flatten)]
+pub(crate) fn add_nodes<T: Node>(
+    alloc: Global,
+    steps: &mut Vec<Step>,
+    nodes: &[T],
+) -> Result<(), AllocError>
+    ensures extends { OnOk result (Extends (step_trees steps.old.items) (step_trees steps.new.items)
+        (all_of (trees (map T.tree nodes.now)))) }
+{
+    for node in nodes {
+        add_node(alloc, steps, node)?;
+    }
+    Ok(())
+}
+
+/// Adds the steps of a node.
+#[cycle(flatten)]
+pub(crate) fn add_node<T: Node>(
+    alloc: Global,
+    steps: &mut Vec<Step>,
+    node: &T,
+) -> Result<(), AllocError>
+    ensures extends { OnOk result (Extends (step_trees steps.old.items) (step_trees steps.new.items)
+        (T.tree node.now)) }
+{
+    match node.layer() {
+        Layer::Bytes(bytes) => add_literal(alloc, steps, bytes, false),
+        Layer::Text(text) => add_literal(alloc, steps, text.as_bytes(), true),
+        Layer::Component(component) => add_component(alloc, steps, component),
+        Layer::All(nodes) => add_nodes(alloc, steps, nodes),
+        Layer::First(nodes) => match nodes.first() {
+            Some(node) => add_node(alloc, steps, node),
+            None => Ok(()),
+        },
+        Layer::Optional(node) => add_node(alloc, steps, node),
+        Layer::Nothing => Ok(()),
+    }
+}
+
+/// Adds a component. Where it ends a date or a time of day, that is one step in the place of three.
+fn add_component(
+    alloc: Global,
+    steps: &mut Vec<Step>,
+    component: Component,
+) -> Result<(), AllocError>
+    ensures extends { OnOk result (Extends (step_trees steps.old.items) (step_trees steps.new.items)
+        (of_component component)) }
+{
+    let kept = kept_of(component);
+    match three_of(steps.as_slice(), kept) {
+        Some(three) => {
+            steps.truncate(steps.len() - 2);
+            add_shown(alloc, steps, three)
+        }
+        None => add_shown(alloc, steps, Shown::Component(kept)),
+    }
+}
+
+/// The current component in the place of a deprecated one, where it is as wide.
+fn kept_of(component: Component) -> Component
+    ensures outcome { (f : Facts) → component_outcome result f ≡ component_outcome component f }
+    ensures width { component_width result ≡ component_width component }
+{
+    match component {
+        Component::Month(_)
+        | Component::Weekday(_)
+        | Component::WeekNumber(_)
+        | Component::Hour(_)
+        | Component::UnixTimestamp(_)
+        | Component::Year(_) => current_if_as_wide(component),
+        _ => component,
+    }
+}
+
+/// The current component in the place of any one, where it is as wide.
+#[cold]
+fn current_if_as_wide(component: Component) -> Component
+    ensures outcome { (f : Facts) → component_outcome result f ≡ component_outcome component f }
+    ensures width { component_width result ≡ component_width component }
+{
+    let current = component.current();
+    if component_width(&current) == component_width(&component) {
+        current
+    } else {
+        component
+    }
+}
+
+/// The date or the time of day that the last two steps begin and the component ends.
+fn three_of(steps: &[Step], component: Component) -> Option<Shown>
+    ensures { IfSome result (EndsThree steps.now component) }
+{
+    let last = Part::of(component)?;
+    if !last.is_last() {
+        return None;
+    }
+    let [.., first, second] = steps else {
+        return None;
+    };
+    let (first, before_second) = first.part()?;
+    let (second, before_last) = second.part()?;
+    let between = Separators {
+        first: before_second,
+        second: before_last,
+    };
+    match (first, second, last) {
+        (Part::Year, Part::Month, Part::Day) => Some(Shown::Run(Run::Date(between))),
+        (Part::Hour, Part::Minute, Part::Second) => Some(Shown::Run(Run::Time(between))),
+        _ => None,
+    }
+}
+
+/// Adds a step without a literal.
+fn add_shown(alloc: Global, steps: &mut Vec<Step>, shown: Shown) -> Result<(), AllocError>
+    ensures extends { OnOk result (Extends (step_trees steps.old.items) (step_trees steps.new.items)
+        (shown_tree shown)) }
+{
+    steps.push(Step {
+        shown,
+        literal: Literal::Bytes(Vec::new(alloc)),
+        is_text: true,
+    })?;
+    Ok(())
+}
+
+/// Adds a literal to the last step, or behind no component.
+fn add_literal(
+    alloc: Global,
+    steps: &mut Vec<Step>,
+    bytes: &[u8],
+    is_text: bool,
+) -> Result<(), AllocError>
+    requires utf8 { is_text ≡ true → IsUtf8 bytes.now }
+    ensures extends { OnOk result (Extends (step_trees steps.old.items) (step_trees steps.new.items)
+        (literal_tree is_text bytes.now)) }
+{
+    let literal = Literal::of(alloc, bytes)?;
+    match steps.pop() {
+        Some(last) => add_behind(steps, last, literal, is_text),
+        None => add_alone(steps, literal, is_text),
+    }
+}
+
+/// Puts a literal behind what the last step shows, if that has none yet, or behind no component.
+fn add_behind(
+    steps: &mut Vec<Step>,
+    last: Step,
+    literal: Literal,
+    is_text: bool,
+) -> Result<(), AllocError>
+    requires utf8 { is_text ≡ true → IsUtf8 (literal_bytes literal) }
+    ensures extends { OnOk result (Extends (step_trees (steps.old.items ++ last ∷ []))
+        (step_trees steps.new.items) (literal_tree is_text (literal_bytes literal))) }
+{
+    if last.is_text && last.literal.is_nothing() {
+        steps.push(Step {
+            shown: last.shown,
+            literal,
+            is_text,
+        })?;
+        return Ok(());
+    }
+    steps.push(last)?;
+    add_alone(steps, literal, is_text)
+}
+
+/// Adds a literal behind no component.
+fn add_alone(steps: &mut Vec<Step>, literal: Literal, is_text: bool) -> Result<(), AllocError>
+    requires utf8 { is_text ≡ true → IsUtf8 (literal_bytes literal) }
+    ensures extends { OnOk result (Extends (step_trees steps.old.items) (step_trees steps.new.items)
+        (literal_tree is_text (literal_bytes literal))) }
+{
+    steps.push(Step {
+        shown: Shown::Run(Run::Empty),
+        literal,
+        is_text,
+    })?;
+    Ok(())
+}

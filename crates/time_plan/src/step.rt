@@ -1,0 +1,37 @@
+//! A step of a plan.
+ghost use Rattle.std.specs.Prelude.{◌≡◌, true};
+ghost use Rattle.std.specs.Str.{is_utf8};
+ghost use Rattle.time_plan.specs.Literal.{literal_bytes};
+
+use crate::literal::Literal;
+use crate::shown::{Part, Shown};
+
+/// What is shown of a value, and the literal behind it.
+#[derive(Drop)]
+pub struct Step {
+    /// What is shown.
+    pub shown: Shown,
+    /// What is written behind it.
+    pub literal: Literal,
+    /// Whether the literal was a text.
+    pub is_text: bool,
+    ghost utf8: { is_text ≡ true → is_utf8 (literal_bytes literal) ≡ true },
+}
+
+impl Step {
+    ghost use Rattle.std.specs.Prelude.{IfSome};
+    ghost use Rattle.time_plan.specs.Steps.{IsPart};
+
+    /// The part that the step shows, and the text of one byte behind it.
+    pub(crate) fn part(&self) -> Option<(Part, u8)>
+        ensures { IfSome result (λ found. IsPart self.now found.0 found.1) }
+    {
+        match (self.shown, &self.literal, self.is_text) {
+            (Shown::Component(component), Literal::Byte(byte), true) => match Part::of(component) {
+                Some(part) => Some((part, *byte)),
+                None => None,
+            },
+            _ => None,
+        }
+    }
+}

@@ -1,0 +1,288 @@
+//! The loop over the steps of a plan.
+ghost use Rattle.std.specs.Prelude.{◌≡◌, ◌∷◌, ◌++◌, ◌≤◌, MatchOption, length};
+ghost use Rattle.time_below.specs.Month.{month_number};
+ghost use Rattle.time_below.specs.Tree.{all_of};
+ghost use Rattle.time_below.specs.Width.{tree_width, trees_width};
+ghost use Rattle.time_fmt.specs.Description.{tree_outcome};
+ghost use Rattle.time_fmt.specs.Ends.{Ends};
+ghost use Rattle.time_fmt.specs.Guarantee.{AppendsLeaf, AppendsTree};
+ghost use Rattle.time_fmt.specs.Outcome.{AppendsUpTo};
+ghost use Rattle.time_fmt.specs.Room.{HasRoom, Ready, Writes};
+ghost use Rattle.time_fmt.specs.Text.{padded_text};
+ghost use Rattle.time_plan.specs.Literal.{literal_bytes};
+ghost use Rattle.time_plan.specs.Shown.{run_tree, shown_tree, AppendsIfSupplied};
+ghost use Rattle.time_plan.specs.Steps.{step_tree, step_trees};
+
+use crate::literal::Literal;
+use crate::shown::{Run, Separators, Shown};
+use crate::step::Step;
+use time_below::Month;
+use time_below::format_description::modifier::Padding;
+use time_digits::ru8;
+use time_fmt::writers::{
+    fmt_calendar_year_full_extended_range, format_two_digits, put_back, take_out, write_bytes,
+};
+use time_fmt::{Refused, end_component, parts, write_often};
+use time_provide::ComponentProvider;
+
+/// Writes the steps in order, up to the first that is refused, and returns its refusal. The vector is
+/// taken out of its borrow meanwhile, so that its address and its length stay in registers from one
+/// step to the next.
+#[inline(never)]
+pub(crate) fn write_steps<V: ComponentProvider>(
+    steps: &[Step],
+    output: &mut Vec<u8>,
+    value: &V,
+    state: &mut V::State,
+) -> Result<(), Refused>
+    requires room { HasRoom output.old (trees_width (step_trees steps.now)) }
+    requires agrees { V.agrees state.old value.now }
+    ensures appends { AppendsTree (all_of (step_trees steps.now)) (V.facts value.now)
+        output.old output.new result }
+    ensures agrees { V.agrees state.new value.now }
+{
+    let mut taken = take_out(output);
+    for step in steps {
+        match write_step(step, &mut taken, value, state) {
+            Some(_) => {}
+            None => {
+                let mut apart = taken;
+                match write_seldom(step, &mut apart, value, state) {
+                    Ok(_) => taken = apart,
+                    Err(refused) => {
+                        put_back(output, apart);
+                        return Err(refused);
+                    }
+                }
+            }
+        }
+    }
+    put_back(output, taken);
+    Ok(())
+}
+
+/// Writes a step that is met often, and returns the number of bytes. Of any other it writes nothing, and
+/// returns `None`. It becomes part of the loop.
+#[inline(always)]
+fn write_step<V: ComponentProvider>(
+    step: &Step,
+    output: &mut Vec<u8>,
+    value: &V,
+    state: &mut V::State,
+) -> Option<usize>
+    requires room { HasRoom output.old (tree_width (step_tree step.now)) }
+    requires agrees { V.agrees state.old value.now }
+    ensures appends { AppendsLeaf (step_tree step.now) (V.facts value.now)
+        output.old output.new result }
+    ensures agrees { V.agrees state.new value.now }
+{
+    match write_shown(&step.shown, output, value, state) {
+        Some(first) => Some(first + write_literal(output, &step.literal)),
+        None => None,
+    }
+}
+
+/// Writes what a step shows, if that is met often, and returns the number of bytes. Of anything else, and
+/// of what is refused, it writes nothing, and returns `None`.
+#[inline(always)]
+fn write_shown<V: ComponentProvider>(
+    shown: &Shown,
+    output: &mut Vec<u8>,
+    value: &V,
+    state: &mut V::State,
+) -> Option<usize>
+    requires ready { Ready output.old (tree_width (shown_tree shown.now))
+        (V.agrees state.old value.now) }
+    ensures writes { MatchOption result (output.new ≡ output.old)
+        (λ count. AppendsUpTo (tree_width (shown_tree shown.now)) output.old output.new (Ok count)
+        (tree_outcome (shown_tree shown.now) (V.facts value.now))) × V.agrees state.new value.now }
+{
+    match shown {
+        Shown::Component(component) => write_often(*component, output, value, state),
+        Shown::Run(run) => write_run(run, output, value, state),
+    }
+}
+
+/// Writes a run of components, and returns the number of bytes. Of a value without them it writes nothing,
+/// and returns `None`.
+#[inline(always)]
+fn write_run<V: ComponentProvider>(
+    run: &Run,
+    output: &mut Vec<u8>,
+    value: &V,
+    state: &mut V::State,
+) -> Option<usize>
+    requires room { HasRoom output.old (tree_width (run_tree run.now)) }
+    requires agrees { V.agrees state.old value.now }
+    ensures appends { AppendsIfSupplied (run_tree run.now) (V.facts value.now)
+        output.old output.new result }
+    ensures agrees { V.agrees state.new value.now }
+{
+    match run {
+        Run::Time(between) => write_time(*between, output, value, state),
+        Run::Date(between) => write_date(*between, output, value, state),
+        Run::Empty => Some(0),
+    }
+}
+
+/// Writes a date, and returns the number of bytes. Of a value without one it writes nothing, and returns
+/// `None`.
+#[inline(always)]
+fn write_date<V: ComponentProvider>(
+    between: Separators,
+    output: &mut Vec<u8>,
+    value: &V,
+    state: &mut V::State,
+) -> Option<usize>
+    requires room { HasRoom output.old (tree_width (run_tree (Run.Date between))) }
+    requires agrees { V.agrees state.old value.now }
+    ensures appends { AppendsIfSupplied (run_tree (Run.Date between)) (V.facts value.now)
+        output.old output.new result }
+    ensures agrees { V.agrees state.new value.now }
+{
+    if !V::SUPPLIES_DATE {
+        return None;
+    }
+    let year = value.calendar_year(state);
+    let day = value.day(state).expand();
+    let month = number_of(value.month(state));
+    let first = fmt_calendar_year_full_extended_range(output, year, parts::YEAR);
+    Some(first + write_two_after(output, between, month, day))
+}
+
+/// The number of a month, 1 to 12.
+#[inline(always)]
+fn number_of(month: Month) -> ru8<0, 99>
+    ensures number { result ≡ month_number month }
+    ensures range { result ≤ 12 }
+{
+    ru8::new(u8::from(month)).unwrap()
+}
+
+/// Writes a time of day, and returns the number of bytes. Of a value without one it writes nothing, and
+/// returns `None`.
+#[inline(always)]
+fn write_time<V: ComponentProvider>(
+    between: Separators,
+    output: &mut Vec<u8>,
+    value: &V,
+    state: &mut V::State,
+) -> Option<usize>
+    requires room { HasRoom output.old (tree_width (run_tree (Run.Time between))) }
+    requires agrees { V.agrees state.old value.now }
+    ensures appends { AppendsIfSupplied (run_tree (Run.Time between)) (V.facts value.now)
+        output.old output.new result }
+    ensures agrees { V.agrees state.new value.now }
+{
+    if !V::SUPPLIES_TIME {
+        return None;
+    }
+    let hour = value.hour(state).expand();
+    let minute = value.minute(state).expand();
+    let second = value.second(state).expand();
+    let first = format_two_digits(output, hour, Padding::Zero);
+    Some(first + write_two_after(output, between, minute, second))
+}
+
+/// Writes two numbers in two places, each behind its byte, and returns the number of bytes.
+#[inline(always)]
+#[tactic(auto, using(time_fmt::proofs::TextLemmas::signed_parts))]
+fn write_two_after(
+    output: &mut Vec<u8>,
+    between: Separators,
+    first: ru8<0, 99>,
+    second: ru8<0, 99>,
+) -> usize
+    requires room { HasRoom output.old (length
+        (between.first ∷ (padded_text Padding.Zero 2 first
+        ++ (between.second ∷ padded_text Padding.Zero 2 second)))) }
+    ensures writes { Writes output.old output.new result
+        (between.first ∷ (padded_text Padding.Zero 2 first
+        ++ (between.second ∷ padded_text Padding.Zero 2 second))) }
+{
+    output.push_reserved(between.first);
+    let count = format_two_digits(output, first, Padding::Zero);
+    output.push_reserved(between.second);
+    2 + count + format_two_digits(output, second, Padding::Zero)
+}
+
+/// Writes any step, or returns the refusal of what it shows.
+#[inline(never)]
+fn write_seldom<V: ComponentProvider>(
+    step: &Step,
+    output: &mut Vec<u8>,
+    value: &V,
+    state: &mut V::State,
+) -> Result<(), Refused>
+    requires room { HasRoom output.old (tree_width (step_tree step.now)) }
+    requires agrees { V.agrees state.old value.now }
+    ensures appends { AppendsTree (step_tree step.now) (V.facts value.now)
+        output.old output.new result }
+    ensures agrees { V.agrees state.new value.now }
+{
+    match end_shown(&step.shown, output, value, state) {
+        Ok(_) => {
+            write_literal(output, &step.literal);
+            Ok(())
+        }
+        Err(refused) => Err(refused),
+    }
+}
+
+/// Writes what a step shows, or returns its refusal.
+fn end_shown<V: ComponentProvider>(
+    shown: &Shown,
+    output: &mut Vec<u8>,
+    value: &V,
+    state: &mut V::State,
+) -> Result<(), Refused>
+    requires room { HasRoom output.old (tree_width (shown_tree shown.now)) }
+    requires agrees { V.agrees state.old value.now }
+    ensures ends { Ends (tree_width (shown_tree shown.now)) output.old output.new result
+        (tree_outcome (shown_tree shown.now) (V.facts value.now)) }
+    ensures agrees { V.agrees state.new value.now }
+{
+    match shown {
+        Shown::Component(component) => end_component(*component, output, value, state),
+        Shown::Run(run) => match write_run(run, output, value, state) {
+            Some(_) => Ok(()),
+            None => Err(Refused::Unsupplied),
+        },
+    }
+}
+
+/// Writes the literal behind a component, and returns the number of bytes.
+#[inline(always)]
+fn write_literal(output: &mut Vec<u8>, literal: &Literal) -> usize
+    requires room { HasRoom output.old (length (literal_bytes literal.now)) }
+    ensures writes { Writes output.old output.new result (literal_bytes literal.now) }
+{
+    match literal {
+        Literal::Byte(byte) => {
+            output.push_reserved(*byte);
+            1
+        }
+        Literal::Bytes(bytes) => write_several(output, bytes),
+    }
+}
+
+/// Writes a literal of any length. The vector is taken out once more.
+#[inline(always)]
+fn write_several(output: &mut Vec<u8>, bytes: &[u8]) -> usize
+    requires room { HasRoom output.old (length bytes.now) }
+    ensures writes { Writes output.old output.new result bytes.now }
+{
+    if bytes.is_empty() {
+        return 0;
+    }
+    if bytes.len() == 2 {
+        let (first, second) = (bytes[0], bytes[1]);
+        output.push_reserved(first);
+        output.push_reserved(second);
+        return 2;
+    }
+    let mut taken = take_out(output);
+    let count = write_bytes(&mut taken, bytes);
+    put_back(output, taken);
+    count
+}

@@ -1,0 +1,49 @@
+//! The recipe of a plan in `docs/RECIPES.md`, which shows it word for word.
+#[cfg(test)]
+mod tests;
+
+use std::alloc::{AllocError, Global};
+use std::default::Default;
+use time_below::OffsetDateTime;
+use time_below::format_description::BorrowedFormatItem as Item;
+use time_below::format_description::Component::{
+    CalendarYearFullExtendedRange, Day, Hour24, Minute, MonthNumerical, Second,
+};
+use time_fmt::Format;
+use time_fmt::parts::*;
+use time_plan::Plan;
+
+/// The description of times such as `2026-11-22 09:55:06`, made once.
+pub fn plan_of_times(alloc: Global) -> Result<Plan, AllocError> {
+    Plan::of_items(
+        alloc,
+        &[
+            Item::Component(CalendarYearFullExtendedRange(YEAR)),
+            Item::StringLiteral("-"),
+            Item::Component(MonthNumerical(MONTH)),
+            Item::StringLiteral("-"),
+            Item::Component(Day(DAY)),
+            Item::StringLiteral(" "),
+            Item::Component(Hour24(HOUR)),
+            Item::StringLiteral(":"),
+            Item::Component(Minute(MINUTE)),
+            Item::StringLiteral(":"),
+            Item::Component(Second(SECOND)),
+        ],
+    )
+}
+
+/// Appends the times of all moments by it, a line each.
+pub fn append_times(
+    lines: &mut Vec<u8>,
+    plan: &Plan,
+    moments: &[OffsetDateTime],
+) -> Result<(), Format> {
+    for moment in moments {
+        plan.format_into(lines, moment, &mut DateState::default())?;
+        if lines.push(b'\n').is_err() {
+            return Err(Format::OutOfMemory);
+        }
+    }
+    Ok(())
+}

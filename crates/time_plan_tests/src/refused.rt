@@ -1,0 +1,81 @@
+//! Refusals, and bytes that are no UTF-8.
+use crate::texts::{DAY, HOUR, MINUTE, MONTH, SECOND, YEAR, assert_same, example};
+use std::default::Default;
+use std::test::Fail;
+use time_below::format_description::{BorrowedFormatItem as Item, Component};
+use time_below::{Date, Month};
+use time_fmt::{ComputeMetadata, DateState, Format, Formattable, parts};
+use time_plan::Plan;
+
+const DATE_AND_TIME: &[Item<'_>] = &[
+    Item::Component(YEAR),
+    Item::StringLiteral("-"),
+    Item::Component(MONTH),
+    Item::StringLiteral("-"),
+    Item::Component(DAY),
+    Item::StringLiteral(" "),
+    Item::Component(HOUR),
+    Item::StringLiteral(":"),
+    Item::Component(MINUTE),
+    Item::StringLiteral(":"),
+    Item::Component(SECOND),
+];
+
+/// Whether a component was refused that the value does not supply.
+fn is_unsupplied(answer: Result<usize, Format>) -> bool {
+    matches!(answer, Err(Format::InsufficientTypeInformation))
+}
+
+/// Whether a component was refused whose number is outside its range.
+fn is_out_of_range(answer: Result<usize, Format>) -> bool {
+    matches!(answer, Err(Format::ComponentRange(_)))
+}
+
+#[test]
+fn what_the_value_lacks_is_refused_behind_the_text_before_it(rt: HostRuntime) -> Result<(), Fail> {
+    let plan = Plan::of_items(rt.alloc(), DATE_AND_TIME)?;
+    let value = example(&rt);
+    let mut output = Vec::new(rt.alloc());
+    let of_date = plan.format_into(&mut output, &value.date(), &mut DateState::default());
+    assert_same(&rt, is_unsupplied(of_date), true);
+    assert_same(&rt, output.as_slice(), b"1997-11-12 ".as_slice());
+    let of_time = plan.format_into(&mut output, &value.time(), &mut ());
+    assert_same(&rt, is_unsupplied(of_time), true);
+    assert_same(&rt, output.as_slice(), b"1997-11-12 ".as_slice());
+    Ok(())
+}
+
+#[test]
+fn a_year_past_9999_is_refused_by_its_component(rt: HostRuntime) -> Result<(), Fail> {
+    let year = Component::CalendarYearFullStandardRange(parts::YEAR_STANDARD);
+    let items = [
+        Item::Component(DAY),
+        Item::StringLiteral("/"),
+        Item::Component(year),
+    ];
+    let plan = Plan::of_items(rt.alloc(), &items)?;
+    let date = Date::from_calendar_date(10_000, Month::May, 3).expect(&rt, "a date");
+    let mut output = Vec::new(rt.alloc());
+    let of_date = plan.format_into(&mut output, &date, &mut DateState::default());
+    assert_same(&rt, is_out_of_range(of_date), true);
+    assert_same(&rt, output.as_slice(), b"03/".as_slice());
+    Ok(())
+}
+
+#[test]
+fn bytes_that_are_no_utf_8_are_kept_and_shown(rt: HostRuntime) -> Result<(), Fail> {
+    let items = [
+        Item::Component(DAY),
+        Item::Literal(b"\xff"),
+        Item::Literal(b"\xc3\xa4"),
+    ];
+    let plan = Plan::of_items(rt.alloc(), &items)?;
+    let value = example(&rt);
+    let mut output = Vec::new(rt.alloc());
+    plan.format_into(&mut output, &value, &mut DateState::default())?;
+    assert_same(&rt, output.as_slice(), b"12\xff\xc3\xa4".as_slice());
+    let text = plan.format(rt.alloc(), &value, &mut DateState::default())?;
+    assert_same(&rt, text.as_str(), "12\u{fffd}\u{e4}");
+    assert_same(&rt, plan.compute_metadata().guaranteed_utf8, false);
+    Ok(())
+}

@@ -1,0 +1,208 @@
+-- Whole texts of RFC 3339.
+use Rattle.std.proofs.Common.{◌≡◌, ℕ, ◌-◌, ◌≤◌, List, [], ◌∷◌, length, length-append, take, drop}
+use Rattle.std.proofs.Common.{refl, sym, ap, subst, ◌∙◌, arith, inl, inr}
+use Rattle.std.proofs.lemmas.List.{take_at, drop_at}
+use Rattle.time_known.specs.Rfc3339Grammar.{FullDate, WholeTime}
+use Rattle.time_known.specs.Rules.{Rule, Literal, ◌▹◌}
+use Rattle.time_known.specs.Values.{OrdinalDate, OffsetDateAndTime, Offset}
+use Rattle.time_read.specs.Fault.{SpellsSome, IsFirstFault, IsLetter}
+use Rattle.time_read.specs.Front.{Front, FieldFault, TextFault}
+use Rattle.time_read.specs.Lenient.{EitherT}
+use Rattle.time_read.specs.Profiles.{ReadsAs, Tail, TheLetter}
+use Rattle.time_read.specs.Shapes.{Seq, OfClock}
+use Rattle.time_read.specs.declared.fault.Profile.{Profile}
+use Rattle.time_read.specs.declared.fault.Profile.TheVariants as profile
+use Rattle.time_read.specs.declared.fault.Fault.{Fault}
+use Rattle.time_read.specs.declared.parts.Clock.{Clock}
+use Rattle.time_read.proofs.Fields.{CanGoOn, begins_first, text_as, text_first, text_after}
+use Rattle.time_read.proofs.Numbers.{reads_letter, begins_letter}
+use Rattle.time_read.proofs.PartLemmas.{reads_full_date, reads_clock, begins_clock}
+use Rattle.time_read.proofs.Tails.{begins_any_tail}
+
+-- a time of day and an offset, and these after a letter
+abbrev ClockAndTail : Profile → Clock × (ℕ × Offset) → Rule
+ClockAndTail p = Seq OfClock (λ _. Tail p)
+
+abbrev AfterT : Profile → Unit {0} × (Clock × (ℕ × Offset)) → Rule
+AfterT p = Seq (TheLetter p 84) (λ _. ClockAndTail p)
+
+abbrev WholeText : Profile → OrdinalDate × (Unit {0} × (Clock × (ℕ × Offset))) → Rule
+WholeText p = Seq FullDate (λ _. AfterT p)
+
+abbrev pub value_of : OrdinalDate → Clock → ℕ → Offset → OffsetDateAndTime
+value_of d c n o = record {
+  date = d;
+  time = record { hour = c.hour; minute = c.minute; second = c.second; nanosecond = n };
+  offset = o;
+}
+
+-- the rule of the letter, and of what is read, in other words
+abbrev LetterT : Profile → Rule
+LetterT profile.Strict = Literal (84 ∷ [])
+LetterT profile.Lenient = EitherT
+
+abbrev ReadInParts : Profile → OffsetDateAndTime → Rule
+ReadInParts p v = FullDate v.date ▹ LetterT p ▹ WholeTime v.time ▹ Tail p (v.time.nanosecond, v.offset)
+
+letter_to : (p : Profile) (text : List ℕ) → TheLetter p 84 tt text → LetterT p text
+letter_to profile.Strict text t = t.whole ∙ ap (λ (x : ℕ). x ∷ []) t.is
+letter_to profile.Lenient text t = at t.is where
+  at : IsLetter profile.Lenient 84 t.byte → EitherT text
+  at (inl e) = inl (t.whole ∙ ap (λ (x : ℕ). x ∷ []) e)
+  at (inr e) = inr (t.whole ∙ ap (λ (x : ℕ). x ∷ []) e)
+
+to_letter : (p : Profile) (text : List ℕ) → LetterT p text → TheLetter p 84 tt text
+to_letter profile.Strict text e = record { byte = 84; whole = e; is = refl }
+to_letter profile.Lenient text (inl e) = record { byte = 84; whole = e; is = inl refl }
+to_letter profile.Lenient text (inr e) = record { byte = 116; whole = e; is = inr refl }
+
+in_parts : (p : Profile) (v : OffsetDateAndTime) (text : List ℕ) → ReadsAs p v text → ReadInParts p v text
+in_parts profile.Strict v text s = s
+in_parts profile.Lenient v text s = s
+
+of_parts : (p : Profile) (v : OffsetDateAndTime) (text : List ℕ) → ReadInParts p v text → ReadsAs p v text
+of_parts profile.Strict v text s = s
+of_parts profile.Lenient v text s = s
+
+whole_to : (p : Profile) (q : OrdinalDate × (Unit {0} × (Clock × (ℕ × Offset)))) (text : List ℕ) → WholeText p q text
+    → ReadsAs p (value_of q.0 q.1.1.0 q.1.1.1.0 q.1.1.1.1) text
+whole_to p q text s =
+    let t = s.second in
+    let c = t.second in
+    of_parts p _ text (record {
+      front = s.front;
+      rest = s.rest;
+      whole = s.whole;
+      first = s.first;
+      second = record {
+        front = t.front;
+        rest = t.rest;
+        whole = t.whole;
+        first = letter_to p t.front t.first;
+        second = record {
+          front = c.front;
+          rest = c.rest;
+          whole = c.whole;
+          first = record {
+            spelled = c.first.spelled;
+            hour_fits = c.first.hour_fits;
+            minute_fits = c.first.minute_fits;
+            second_fits = c.first.second_fits;
+          };
+          second = c.second;
+        };
+      };
+    })
+
+to_whole : (p : Profile) (v : OffsetDateAndTime) (text : List ℕ) → ReadInParts p v text → SpellsSome (WholeText p) text
+to_whole p v text s =
+    let t = s.second in
+    let c = t.second in
+    record {
+      value = (
+        v.date,
+        (tt, (record { hour = v.time.hour; minute = v.time.minute; second = v.time.second }, (v.time.nanosecond, v.offset))),
+      );
+      spelled = record {
+        front = s.front;
+        rest = s.rest;
+        whole = s.whole;
+        first = s.first;
+        second = record {
+          front = t.front;
+          rest = t.rest;
+          whole = t.whole;
+          first = to_letter p t.front t.first;
+          second = record {
+            front = c.front;
+            rest = c.rest;
+            whole = c.whole;
+            first = record {
+              spelled = c.first.spelled;
+              hour_fits = c.first.hour_fits;
+              minute_fits = c.first.minute_fits;
+              second_fits = c.first.second_fits;
+            };
+            second = c.second;
+          };
+        };
+      };
+    }
+
+clock_goes_on : (p : Profile) → CanGoOn 8 OfClock (λ _. Tail p)
+clock_goes_on p = record { width = reads_clock.width; on = λ c front s. begins_any_tail p }
+
+letter_goes_on : (p : Profile) → CanGoOn 1 (TheLetter p 84) (λ _. ClockAndTail p)
+letter_goes_on p = record {
+  width = (reads_letter p 84).width;
+  on = λ u front s. begins_first (clock_goes_on p) begins_clock;
+}
+
+date_goes_on : (p : Profile) → CanGoOn 10 FullDate (λ _. AfterT p)
+date_goes_on p = record {
+  width = reads_full_date.width;
+  on = λ d front s. begins_first (letter_goes_on p) (begins_letter p 84);
+}
+
+as_whole : (p : Profile) {text : List ℕ} {e : Fault} → TextFault (SpellsSome (WholeText p)) text e
+    → TextFault (SpellsSome (ReadsAs p)) text e
+as_whole p f =
+    text_as (λ t s. record { value = _; spelled = whole_to p s.value t s.spelled })
+    (λ t s. to_whole p s.value t (in_parts p s.value t s.spelled)) f
+
+pub whole_date : (p : Profile) (text : List ℕ) (e : Fault) → FieldFault 10 (SpellsSome FullDate) text e
+    → TextFault (SpellsSome (ReadsAs p)) text e
+whole_date p text e f = as_whole p (text_first (date_goes_on p) f)
+
+after_date : (p : Profile) (d : OrdinalDate) {text rest : List ℕ} {e : Fault} → Front (FullDate d) text rest
+    → TextFault (SpellsSome (AfterT p)) rest e → TextFault (SpellsSome (ReadsAs p)) text e
+after_date p d h f = as_whole p (text_after {Q = λ _. AfterT p} reads_full_date d h f)
+
+pub whole_letter : (p : Profile) (d : OrdinalDate) (text rest : List ℕ) (e : Fault) → Front (FullDate d) text rest
+    → FieldFault 1 (SpellsSome (TheLetter p 84)) rest e → TextFault (SpellsSome (ReadsAs p)) text e
+whole_letter p d text rest e h f = after_date p d h (text_first (letter_goes_on p) f)
+
+after_letter : (p : Profile) (d : OrdinalDate) {text rest last : List ℕ} {e : Fault} → Front (FullDate d) text rest
+    → Front (TheLetter p 84 tt) rest last → TextFault (SpellsSome (ClockAndTail p)) last e → TextFault (SpellsSome (ReadsAs p)) text e
+after_letter p d h l f = after_date p d h (text_after {Q = λ _. ClockAndTail p} (reads_letter p 84) tt l f)
+
+pub whole_clock : (p : Profile) (d : OrdinalDate) (text rest last : List ℕ) (e : Fault) → Front (FullDate d) text rest
+    → Front (TheLetter p 84 tt) rest last → FieldFault 8 (SpellsSome OfClock) last e → TextFault (SpellsSome (ReadsAs p)) text e
+whole_clock p d text rest last e h l f = after_letter p d h l (text_first (clock_goes_on p) f)
+
+pub whole_tail : (p : Profile) (d : OrdinalDate) (c : Clock) (text rest last end : List ℕ) (e : Fault) → Front (FullDate d) text rest
+    → Front (TheLetter p 84 tt) rest last → Front (OfClock c) last end → TextFault (SpellsSome (Tail p)) end e
+    → TextFault (SpellsSome (ReadsAs p)) text e
+whole_tail p d c text rest last end e h l q f = after_letter p d h l (text_after {Q = λ _. Tail p} reads_clock c q f)
+
+pub whole_is : (p : Profile) (d : OrdinalDate) (c : Clock) (n : ℕ) (o : Offset) (text rest last end : List ℕ)
+    → Front (FullDate d) text rest → Front (TheLetter p 84 tt) rest last → Front (OfClock c) last end → Tail p (n, o) end
+    → ReadsAs p (value_of d c n o) text
+whole_is p d c n o text rest last end h l q t =
+    whole_to p (d, (tt, (c, (n, o)))) text (record {
+      front = h.front;
+      rest = rest;
+      whole = h.whole;
+      first = h.is;
+      second = record {
+        front = l.front;
+        rest = last;
+        whole = l.whole;
+        first = l.is;
+        second = record { front = q.front; rest = end; whole = q.whole; first = q.is; second = t };
+      };
+    })
+
+-- the place by the bytes that are left
+pub place_is : (P : Rule) (text : List ℕ) (e : Fault) (at : ℕ) → at ≡ length text - e.left → TextFault P text e
+    → IsFirstFault P (take at text) (drop at text) e.expected
+place_is P text e at h f =
+    let n : length f.right ≡ at = omega (arith, ap length f.whole, length-append f.right f.rest, f.left) in
+    let right : f.right ≡ take at text = sym (ap (take at) f.whole ∙ take_at f.right f.rest at n) in
+    let rest : f.rest ≡ drop at text = sym (ap (drop at) f.whole ∙ drop_at f.right f.rest at n) in
+    subst (λ (t : List ℕ). IsFirstFault P t (drop at text) e.expected) right
+    (subst (λ (t : List ℕ). IsFirstFault P f.right t e.expected) rest f.first)
+
+-- no more bytes are left than there are
+pub left_within : {P : Rule} {text : List ℕ} {e : Fault} → TextFault P text e → e.left ≤ length text
+left_within f = omega (arith, f.left, ap length f.whole, length-append f.right f.rest)

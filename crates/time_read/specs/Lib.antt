@@ -1,0 +1,5 @@
+pub mod Fault
+pub mod Front
+pub mod Lenient
+pub mod Profiles
+pub mod Shapes

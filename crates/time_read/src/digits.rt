@@ -1,0 +1,174 @@
+//! Bytes and digits at the front of a text.
+ghost use Rattle.std.specs.Prelude.{◌≡◌, ◌≢◌, ℕ, List, IfSome, IfNone, ◌+◌, ◌-◌, ◌*◌, ◌/◌, ◌<◌, ◌≤◌, ◌∷◌, ◌↔◌, IfOk, IfErr, IsTrue, min};
+ghost use Rattle.time_known.specs.Rules.{Digits};
+ghost use Rattle.time_read.specs.Fault.{IsLetter, SpellsSome};
+ghost use Rattle.time_read.specs.Front.{Front, FieldFault};
+ghost use Rattle.time_read.specs.Profiles.{TheLetter};
+ghost use Rattle.time_read.specs.Shapes.{TheByte, OneDigit, Two, TwoAfter, first_unit, last_unit};
+
+use crate::fault::{Expected, Fault, Profile};
+
+// What follows this byte, if a text begins with it.
+#[inline(always)]
+pub(crate) fn after(text: &[u8], wanted: u8) -> Option<&[u8]>
+    ensures some { IfSome result (λ rest. text.now ≡ wanted ∷ rest.now) }
+    ensures none { IfNone result ((rest : List ℕ) → text.now ≢ wanted ∷ rest) }
+{
+    if let [first, rest @ ..] = text {
+        if *first == wanted {
+            return Some(rest);
+        }
+    }
+    None
+}
+
+// Whether a byte is this capital letter, or its small form where the profile is lenient.
+#[inline(always)]
+fn is_letter(byte: u8, letter: u8, profile: Profile) -> bool
+    requires { letter ≤ 90 }
+    ensures { IsTrue result ↔ IsLetter profile letter byte }
+{
+    match profile {
+        Profile::Strict => byte == letter,
+        Profile::Lenient => byte == letter || byte == letter + 32,
+    }
+}
+
+// What follows this letter, if a text begins with it.
+#[inline(always)]
+#[tactic(auto, using(crate::proofs::Numbers::letter_at))]
+pub(crate) fn after_letter(text: &[u8], letter: u8, profile: Profile) -> Option<&[u8]>
+    requires { letter ≤ 90 }
+    ensures some { IfSome result (λ rest. Front (TheLetter profile letter tt) text.now rest.now) }
+    ensures none { IfNone result ((b : ℕ) (rest : List ℕ)
+        → text.now ≡ b ∷ rest → ¬ IsLetter profile letter b) }
+{
+    if let [first, rest @ ..] = text {
+        if is_letter(*first, letter, profile) {
+            return Some(rest);
+        }
+    }
+    None
+}
+
+// Reads this letter.
+#[inline(always)]
+pub(crate) fn letter(text: &[u8], letter: u8, profile: Profile) -> Result<&[u8], Fault>
+    requires { letter ≤ 90 }
+    ensures read { IfOk result (λ rest. Front (TheLetter profile letter tt) text.now rest.now) }
+    ensures fault { IfErr result (λ e.
+        FieldFault 1 (SpellsSome (TheLetter profile letter)) text.now e) }
+{
+    match after_letter(text, letter, profile) {
+        Some(rest) => Ok(rest),
+        None => Err(Fault {
+            left: text.len(),
+            expected: Expected::Letter(letter, profile),
+        }),
+    }
+}
+
+// Reads this byte.
+#[inline(always)]
+pub(crate) fn byte(text: &[u8], wanted: u8) -> Result<&[u8], Fault>
+    ensures read { IfOk result (λ rest. text.now ≡ wanted ∷ rest.now) }
+    ensures fault { IfErr result (λ e. FieldFault 1 (SpellsSome (TheByte wanted)) text.now e) }
+{
+    if let [first, rest @ ..] = text {
+        if *first == wanted {
+            return Ok(rest);
+        }
+    }
+    Err(Fault {
+        left: text.len(),
+        expected: Expected::Byte(wanted),
+    })
+}
+
+// Reads a digit from the first to the last.
+#[inline(always)]
+pub(crate) fn digit(text: &[u8], first: u8, last: u8) -> Result<(u8, &[u8]), Fault>
+    requires order { first ≤ last }
+    requires digits { last < 10 }
+    ensures read { IfOk result (λ r. Front (OneDigit first last r.0) text.now r.1.now) }
+    ensures range { IfOk result (λ r. r.0 ≤ last) }
+    ensures fault { IfErr result (λ e. FieldFault 1 (SpellsSome (OneDigit first last)) text.now e) }
+{
+    if let [byte, rest @ ..] = text {
+        if 48 + first <= *byte && *byte <= 48 + last {
+            return Ok((*byte - 48, rest));
+        }
+    }
+    Err(Fault {
+        left: text.len(),
+        expected: Expected::Digit(first, last),
+    })
+}
+
+// The first and the last digit that may follow the tens of a number from the least to the greatest.
+#[inline(always)]
+fn units(least: u8, greatest: u8, tens: u8) -> (u8, u8)
+    requires tens { 10 * tens ≤ greatest }
+    requires pairs { greatest < 100 }
+    ensures first { result.0 ≡ first_unit least tens }
+    ensures last { result.1 ≡ last_unit greatest tens }
+{
+    let first = if 10 * tens < least {
+        least - 10 * tens
+    } else {
+        0
+    };
+    let last = if 10 * tens + 9 < greatest {
+        9
+    } else {
+        greatest - 10 * tens
+    };
+    (first, last)
+}
+
+// Reads two digits of a number from the least to the greatest.
+#[inline(always)]
+pub(crate) fn pair(text: &[u8], least: u8, greatest: u8) -> Result<(u8, &[u8]), Fault>
+    requires order { least ≤ greatest }
+    requires pairs { greatest < 100 }
+    ensures read { IfOk result (λ r. Front (Two least greatest r.0) text.now r.1.now) }
+    ensures range { IfOk result (λ r. r.0 ≤ greatest) }
+    ensures fault { IfErr result (λ e. FieldFault 2 (SpellsSome (Two least greatest)) text.now e) }
+{
+    let (tens, rest) = digit(text, least / 10, greatest / 10)?;
+    let (first, last) = units(least, greatest, tens);
+    let (ones, rest) = digit(rest, first, last)?;
+    Ok((10 * tens + ones, rest))
+}
+
+// Reads this byte, and then two digits of a number from the least to the greatest.
+#[inline(always)]
+pub(crate) fn pair_after(
+    text: &[u8],
+    before: u8,
+    least: u8,
+    greatest: u8,
+) -> Result<(u8, &[u8]), Fault>
+    requires order { least ≤ greatest }
+    requires pairs { greatest < 100 }
+    ensures read { IfOk result (λ r. Front (TwoAfter before least greatest r.0) text.now r.1.now) }
+    ensures range { IfOk result (λ r. r.0 ≤ greatest) }
+    ensures fault { IfErr result (λ e.
+        FieldFault 3 (SpellsSome (TwoAfter before least greatest)) text.now e) }
+{
+    let rest = byte(text, before)?;
+    let (number, rest) = pair(rest, least, greatest)?;
+    Ok((number, rest))
+}
+
+// Reads four digits.
+#[inline(always)]
+pub(crate) fn four_digits(text: &[u8]) -> Result<(u16, &[u8]), Fault>
+    ensures read { IfOk result (λ r. Front (Digits 4 r.0) text.now r.1.now) }
+    ensures range { IfOk result (λ r. r.0 < 10_000) }
+    ensures fault { IfErr result (λ e. FieldFault 4 (SpellsSome (Digits 4)) text.now e) }
+{
+    let (high, rest) = pair(text, 0, 99)?;
+    let (low, rest) = pair(rest, 0, 99)?;
+    Ok((100 * high as u16 + low as u16, rest))
+}

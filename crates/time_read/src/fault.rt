@@ -1,0 +1,79 @@
+//! Where a text could not be read.
+use std::fmt;
+use thiserror::Error;
+
+/// Which texts are read.
+#[derive(Debug, Clone, Copy, PartialEq, Eq)]
+pub enum Profile {
+    /// The texts of the grammar alone.
+    Strict,
+    /// These, and the texts of other writers that mean one of them.
+    Lenient,
+}
+
+/// What could have come next in a text.
+#[derive(Debug, Clone, Copy, PartialEq, Eq)]
+pub enum Expected {
+    /// A digit from the first to the last, by their numbers 0 to 9.
+    Digit(u8, u8),
+    /// This byte.
+    Byte(u8),
+    /// This capital letter, or its small form where the profile is lenient.
+    Letter(u8, Profile),
+    /// What begins an offset: `+`, `-` or the letter `Z`.
+    Offset(Profile),
+    /// A point, or what begins an offset.
+    PointOrOffset(Profile),
+    /// A digit, or what begins an offset.
+    DigitOrOffset(Profile),
+    /// Nothing: the text is complete.
+    End,
+}
+
+/// A text is none of its format: the first place at which it is none.
+#[derive(Debug, Clone, Copy, PartialEq, Eq, Error)]
+#[error("byte {at}: expected {expected}{}", if *.is_second_60 {", since second 60 has no value"} else {""})]
+pub struct NotRead {
+    /// How many bytes are right.
+    pub at: usize,
+    /// What could have come after them.
+    pub expected: Expected,
+    /// Whether second 60 stands there, which a leap second has and no value here.
+    pub is_second_60: bool,
+}
+
+// The place by the bytes that are left from there on.
+#[derive(Clone, Copy)]
+pub(crate) struct Fault {
+    pub(crate) left: usize,
+    pub(crate) expected: Expected,
+}
+
+// The letters that a profile takes, in words.
+fn letters(letter: u8, profile: Profile) -> &'static str {
+    match (letter, profile) {
+        (b'T', Profile::Strict) => "`T`",
+        (b'T', Profile::Lenient) => "`T` or `t`",
+        (_, Profile::Strict) => "`Z`",
+        (_, Profile::Lenient) => "`Z`, `z`",
+    }
+}
+
+impl fmt::Display for Expected {
+    fn fmt<W: fmt::Write>(&self, f: &mut fmt::Formatter<W>) -> fmt::Result {
+        match *self {
+            Expected::Digit(first, last) if first == last => write!(f, "the digit {first}"),
+            Expected::Digit(first, last) => write!(f, "a digit from {first} to {last}"),
+            Expected::Byte(byte) => write!(f, "`{}`", char::from(byte)),
+            Expected::Letter(letter, profile) => f.write_str(letters(letter, profile)),
+            Expected::Offset(profile) => write!(f, "{}, `+` or `-`", letters(b'Z', profile)),
+            Expected::PointOrOffset(profile) => {
+                write!(f, "`.`, {}, `+` or `-`", letters(b'Z', profile))
+            }
+            Expected::DigitOrOffset(profile) => {
+                write!(f, "a digit, {}, `+` or `-`", letters(b'Z', profile))
+            }
+            Expected::End => f.write_str("the end"),
+        }
+    }
+}

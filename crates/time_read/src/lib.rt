@@ -1,0 +1,13 @@
+//! Texts of the well-known formats, read back. No call allocates.
+#![tactic(auto)]
+
+mod decimals;
+mod digits;
+mod fault;
+pub mod laws;
+mod offset;
+mod parts;
+pub mod rfc3339;
+mod usual;
+
+pub use fault::{Expected, NotRead, Profile};

@@ -1,0 +1,115 @@
+//! Offsets at the end of a text.
+ghost use Rattle.std.specs.Prelude.{◌≡◌, ◌<◌, ◌≤◌, ◌∷◌, ℕ, [], IfOk, IfErr, OnOk, pos};
+ghost use Rattle.time_below.specs.Offset.{AreOffsetParts, settled, signed_offset};
+ghost use Rattle.time_read.specs.Fault.{IsLetter, SpellsSome};
+ghost use Rattle.time_read.specs.Front.{Front, FieldFault, TextFault};
+ghost use Rattle.time_read.specs.Profiles.{EndOffset, RestOfOffset};
+ghost use Rattle.time_read.specs.Shapes.{HoursAndMinutes, IsTrailing, is_some, least_minute, sign_byte};
+
+use crate::digits::{pair, pair_after};
+use crate::fault::{Expected, Fault, Profile};
+use time_below::UtcOffset;
+
+// Reads the end of a text.
+#[inline(always)]
+fn end(text: &[u8]) -> Result<(), Fault>
+    ensures read { OnOk result (text.now ≡ []) }
+    ensures fault { IfErr result (λ e. IsTrailing text.now e) }
+{
+    if text.is_empty() {
+        Ok(())
+    } else {
+        Err(Fault {
+            left: text.len(),
+            expected: Expected::End,
+        })
+    }
+}
+
+// The offset of hours and minutes.
+#[inline(always)]
+fn offset_of(hours: i8, minutes: i8) -> UtcOffset
+    requires { AreOffsetParts hours minutes (pos 0) }
+    ensures { result ≡ settled hours minutes (pos 0) }
+{
+    let Ok(offset) = UtcOffset::from_hms(hours, minutes, 0) else {
+        unreachable!()
+    };
+    offset
+}
+
+// The offset of hours and minutes with one sign.
+#[inline(always)]
+#[tactic(auto, using(crate::proofs::OffsetEnds::settled_is))]
+pub(crate) fn signed_offset(is_negative: bool, hour: u8, minute: u8) -> UtcOffset
+    requires hour { hour < 24 }
+    requires minute { minute < 60 }
+    ensures { result ≡ signed_offset is_negative hour minute }
+{
+    if is_negative {
+        offset_of(-(hour as i8), -(minute as i8))
+    } else {
+        offset_of(hour as i8, minute as i8)
+    }
+}
+
+// Whether an offset with this sign may not be zero.
+#[inline(always)]
+fn is_some(profile: Profile, is_negative: bool) -> bool
+    ensures { result ≡ is_some profile is_negative }
+{
+    match profile {
+        Profile::Strict => is_negative,
+        Profile::Lenient => false,
+    }
+}
+
+// The least minute of an offset that may not be zero, or may.
+#[inline(always)]
+pub(crate) fn least_minute(some: bool, hour: u8) -> u8
+    ensures least { result ≡ least_minute some hour }
+    ensures small { result ≤ 1 }
+{
+    if some && hour == 0 { 1 } else { 0 }
+}
+
+// Reads the hours and the minutes of an offset after its sign, with a colon between them.
+#[inline(always)]
+fn hours_and_minutes(text: &[u8], some: bool) -> Result<(u8, u8, &[u8]), Fault>
+    ensures read { IfOk result (λ r. Front (HoursAndMinutes some (r.0, r.1)) text.now r.2.now) }
+    ensures hour { IfOk result (λ r. r.0 < 24) }
+    ensures minute { IfOk result (λ r. r.1 < 60) }
+    ensures fault { IfErr result (λ e. FieldFault 5 (SpellsSome (HoursAndMinutes some)) text.now e) }
+{
+    let (hour, rest) = pair(text, 0, 23)?;
+    let (minute, rest) = pair_after(rest, b':', least_minute(some, hour), 59)?;
+    Ok((hour, minute, rest))
+}
+
+// Reads what is left after the letter `Z`.
+#[inline(always)]
+pub(crate) fn rest_of_utc(text: &[u8], profile: Profile) -> Result<UtcOffset, Fault>
+    ensures read { IfOk result (λ o.
+        (b : ℕ) → IsLetter profile 90 b → EndOffset profile o (b ∷ text.now)) }
+    ensures fault { IfErr result (λ e.
+        (b : ℕ) → IsLetter profile 90 b → TextFault (RestOfOffset profile b) text.now e) }
+{
+    end(text)?;
+    Ok(signed_offset(false, 0, 0))
+}
+
+// Reads what is left of an offset after its sign.
+#[inline(always)]
+pub(crate) fn rest_of_signed(
+    text: &[u8],
+    is_negative: bool,
+    profile: Profile,
+) -> Result<UtcOffset, Fault>
+    ensures read { IfOk result (λ o. EndOffset profile o (sign_byte is_negative ∷ text.now)) }
+    ensures fault { IfErr result (λ e.
+        TextFault (RestOfOffset profile (sign_byte is_negative)) text.now e) }
+{
+    let (hour, minute, rest) = hours_and_minutes(text, is_some(profile, is_negative))?;
+    end(rest)?;
+    Ok(signed_offset(is_negative, hour, minute))
+}
