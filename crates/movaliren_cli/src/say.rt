@@ -6,7 +6,7 @@ use jiff_core::Error as ZoneError;
 use line_streams::FilterError;
 use std::alloc::AllocError;
 use std::process::ExitCode;
-use time_plan::{InvalidDescription, InvalidStrftime};
+use time_describe::{InvalidDescription, InvalidStrftime};
 
 /// The status of a failure.
 const FAILURE: u8 = 1;
@@ -125,6 +125,7 @@ fn show_mark(rt: &HostRuntime, text: &str, index: usize) -> ExitCode {
 /// Says why a text is no description, and marks the place.
 pub fn refuse_description(rt: &HostRuntime, text: &str, refusal: Refusal) -> ExitCode {
     match refusal {
+        Refusal::Memory => fail(rt, Err(FilterError::Memory)),
         Refusal::Name => {
             let _ = eprintln!(rt;
                 "movaliren: no format has the name '{text}': there are rfc3339, rfc2822, iso8601, stamp and unix, and texts with % or ["
