@@ -5,7 +5,7 @@
 
 PROGRAM is the one that `rt run` leaves in crates/movaliren_cli/out. Instructions are counted by callgrind, as the
 difference of two runs; times are user and system, the least of five rounds over a million lines, in turns, written to
-a null device. With --check nothing is timed, and the status is 1 where a count is above its limit.
+a null device. With --check nothing is timed, and the status is 1 where a count is above its aim.
 """
 import os
 import pathlib
@@ -21,9 +21,9 @@ MORE = 10_000
 LINE = "{} audit event number {} of user 512\n"
 AUDIT = "type=EXECVE msg=audit({}.123:456): argc={}\n"
 DOCKER = "2026-11-22T09:55:06.123456789Z up {} {}\n"
-PLAIN = "{:.0}no number here, and so it passes {}\n"
+PLAIN = "no number is here, {1}, so this passes\n"
 
-# What is asked for, what a line is, and the most instructions that it may cost.
+# What is asked for, what a line is, and the most instructions that it should cost.
 ROWS = [
     ("`unix`, RFC 3339", ["unix"], LINE, 300),
     ("`unix --offset +05:30`", ["unix", "--offset", "+05:30"], LINE, None),
@@ -90,7 +90,7 @@ def main():
     named = [it for it in sys.argv[1:] if not it.startswith("-")]
     program = os.path.abspath(named[0] if named else TOP / "crates/movaliren_cli/out/movaliren_cli")
     over = 0
-    print("|A line of `movaliren`|Instructions|Limit|\n|---|---|---|")
+    print("|A line of `movaliren`|Instructions|Aim|\n|---|---|---|")
     for what, words, line, most in ROWS:
         count = cost([program, *words], line)
         over += most is not None and count > most

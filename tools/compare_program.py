@@ -118,7 +118,9 @@ def zones(program, count):
         forms = date(seconds, "%Y-%m-%dT%H:%M:%S%:z", zone)
         # Before standard time an offset may have seconds, which RFC 3339 refuses.
         odd = set(at for at, it in enumerate(date(seconds, "%::z", zone)) if not it.endswith(":00"))
-        wanted = [str(seconds[at]) if at in odd else it.replace("+00:00", "Z") for at, it in enumerate(forms)]
+        # `date` writes -00:00 where a zone file says that the local time is not known.
+        wanted = [str(seconds[at]) if at in odd else it.replace("+00:00", "Z").replace("-00:00", "Z")
+                  for at, it in enumerate(forms)]
         for words, env in ((["--zone", zone], None), (["--local"], zone)):
             text = "".join(f"{it}\n" for it in seconds).encode()
             ours = run([program, "unix", "-q", "-d", "1", *words], text, env).decode().splitlines()
