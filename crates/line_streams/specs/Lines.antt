@@ -1,5 +1,5 @@
 -- The lines of a text. A line ends at a line feed, and a last line without one counts if it is not empty.
-use Rattle.std.specs.Prelude.{ℕ, List, [], ◌∷◌, ◌++◌, ◌≡◌, ◌≢◌, ◌==◌, if◌then◌else◌}
+use Rattle.std.specs.Prelude.{ℕ, List, [], ◌∷◌, ◌+◌, ◌++◌, ◌≡◌, ◌≢◌, ◌==◌, take, drop, if◌then◌else◌}
 use Rattle.std.specs.List.{flat_map, AllByRecursion, onto_first}
 
 -- the byte that ends a line
@@ -51,3 +51,9 @@ pub record LinesSpell (bytes : List ℕ) : Type 0 where
   pub whole : AllByRecursion IsOneLine (whole_lines_of bytes)
   pub unended : IsOneLine (unended_of bytes)
   pub last : lines_of bytes ≡ whole_lines_of bytes ++ last_line_of (unended_of bytes)
+
+-- the first line feed of a text is at this place
+pub record EndsAt (bytes : List ℕ) (end : ℕ) : Type 0 where
+  pub front : IsOneLine (take end bytes)
+  pub line : take (end + 1) bytes ≡ with_line_feed (take end bytes)
+  pub whole : bytes ≡ with_line_feed (take end bytes) ++ drop (end + 1) bytes

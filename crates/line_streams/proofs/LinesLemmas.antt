@@ -4,14 +4,14 @@ use Rattle.std.proofs.Common.{get_or, Option, Some, None, true, inl, inr, refl, 
 use Rattle.std.proofs.Common.{append_assoc, arith}
 use Rattle.std.proofs.Math.Seq.{drop-cons}
 use Rattle.std.proofs.lemmas.Grind.{common_steps, pieces}
-use Rattle.std.proofs.lemmas.List.{take_all, take-append-drop}
+use Rattle.std.proofs.lemmas.List.{take_all, take_more, take-append-drop}
 use Rattle.std.proofs.lemmas.List.Quantifiers.{position-Some}
 use Rattle.std.proofs.lemmas.Bool.{cases_lt}
 use Rattle.std.specs.Option.{MatchOption}
 use Rattle.std.proofs.lemmas.Bool.Decides.{eqb_tells}
 use Rattle.std.specs.List.{flat_map, AllByRecursion, onto_first, position, position_or_len}
-use Rattle.time_show.specs.Lines.{line_feed, lines_of, whole_lines_of, unended_of, onto_whole, onto_rest, last_line_of}
-use Rattle.time_show.specs.Lines.{with_line_feed, IsOneLine, LinesSpell}
+use Rattle.line_streams.specs.Lines.{line_feed, lines_of, whole_lines_of, unended_of, onto_whole, onto_rest, last_line_of}
+use Rattle.line_streams.specs.Lines.{with_line_feed, EndsAt, IsOneLine, LinesSpell}
 
 -- the end of a list, as a slice gives it
 pub slice-end : (i : ℕ) (xs : List ℕ) → take (length xs - i) (drop i xs) ≡ drop i xs
@@ -122,12 +122,12 @@ lines_of-rest bytes =
     ∙ rw (append-nil (unended_of bytes), lines_of-one (unended_of bytes) (unended_of-is_one bytes))
 
 -- a line with its line feed is one whole line
-whole_lines_of-ended : (line : List ℕ) → IsOneLine line → whole_lines_of (line ++ line_feed ∷ []) ≡ line ∷ []
+pub whole_lines_of-ended : (line : List ℕ) → IsOneLine line → whole_lines_of (line ++ line_feed ∷ []) ≡ line ∷ []
 whole_lines_of-ended [] p = refl
 whole_lines_of-ended (b ∷ line) p = grind (arith, whole_lines_of-ended line p.1, p.0)
 
 -- nothing comes after the line feed of one line
-unended_of-ended : (line : List ℕ) → IsOneLine line → unended_of (line ++ line_feed ∷ []) ≡ []
+pub unended_of-ended : (line : List ℕ) → IsOneLine line → unended_of (line ++ line_feed ∷ []) ≡ []
 unended_of-ended [] p = refl
 unended_of-ended (b ∷ line) p = grind (arith, whole_lines_of-ended line p.1, unended_of-ended line p.1, p.0)
 
@@ -176,11 +176,6 @@ one_line-front (b ∷ bytes) = elim (eqb_tells b line_feed) [
 one_line-none : (bytes : List ℕ) → length bytes ≤ position_or_len (λ b. b == line_feed) bytes → IsOneLine bytes
 one_line-none bytes le = rw (take_all (position_or_len (λ b. b == line_feed) bytes) bytes le) at (one_line-front bytes)
 
--- the first line feed that is found
-pub record EndsAt (bytes : List ℕ) (end : ℕ) : Type 0 where
-  pub front : IsOneLine (take end bytes)
-  pub whole : bytes ≡ take end bytes ++ line_feed ∷ drop (end + 1) bytes
-
 -- a text round the place of a line feed
 found-at : (bytes : List ℕ) (end : ℕ) → end < length bytes → get_or bytes end 0 ≡ line_feed
     → bytes ≡ take end bytes ++ line_feed ∷ drop (end + 1) bytes
@@ -205,10 +200,12 @@ pub line-found : (bytes : List ℕ) (place : Option ℕ) → place ≡ position 
 line-found bytes None e = one_line-none bytes (grind arith)
 line-found bytes (Some end) e =
     let found = position-Some (λ b. b == line_feed) bytes end 0 (sym e) in
+    let feed : get_or bytes end 0 ≡ line_feed = is_line_feed (get_or bytes end 0) found.1 in
     record {
       front = ends-front bytes end e;
+      line = take_more bytes end 0 found.0 ∙ ap (λ b. take end bytes ++ b ∷ []) feed;
       whole =
-          found-at bytes end found.0 (is_line_feed (get_or bytes end 0) found.1);
+          found-at bytes end found.0 feed ∙ sym (append_assoc (take end bytes) (line_feed ∷ []) (drop (end + 1) bytes));
     }
 
 -- bytes with no line feed, after a text, leave its whole lines
