@@ -64,7 +64,7 @@ WIDTHS = {
     "rfc3339_width": "rfc3339", "rfc2822_width": "rfc2822", "stamp_width": "iso8601", "stamp_length": "stamp",
 }
 # Crates, a variable of the environment, and the mark of the header.
-NOT_IN_HEADER = {"movaliren_c", "movaliren_time", "MOVALIREN_LIB", "MOVALIREN_H"}
+NOT_IN_HEADER = {"movaliren_c", "movaliren_cli", "movaliren_time", "MOVALIREN_LIB", "MOVALIREN_H"}
 
 
 def read():

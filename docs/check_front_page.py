@@ -53,6 +53,13 @@ def example_output():
     return read("crates/time_example/stdout")
 
 
+def line_of_cli():
+    """What `movaliren unix` makes of a line of its stored run."""
+    lines, texts = (read(f"crates/movaliren_cli/{name}").splitlines() for name in ("stdin", "stdout"))
+    line = "msg=audit(1700000000.123:456): argc=3"
+    return texts[lines.index(line)] + "\n" if line in lines else None
+
+
 def has(path, text):
     return lambda: text in read(path) or None
 
@@ -62,6 +69,12 @@ LINE = "time 9 55 6 120000000"
 COMMANDS = {
     f"printf '{LINE}\\n' | (cd crates/time_show && rt run)": lambda: answer_of(LINE),
     f"printf '{LINE}\\n' | (cd crates/time_show && rt try)": lambda: answer_of(LINE) and True,
+    "printf 'msg=audit(1700000000.123:456): argc=3\\n' | (cd crates/movaliren_cli && rt try -- unix)": line_of_cli,
+    "make -C crates/movaliren_cli install PREFIX=$HOME/.local": has("crates/movaliren_cli/Makefile", "install: "),
+    "movaliren unix --zone Europe/Berlin '%Y-%m-%d %H:%M:%S%z' <audit.log":
+        has("crates/movaliren_cli/src/arguments.rt", '"zone"'),
+    "docker logs -t web | movaliren read --local '[hour]:[minute]:[second]'":
+        has("crates/movaliren_cli/src/arguments.rt", '"local"'),
     "./gate --tests": has("gate", "--tests"),
     "(cd crates/time_example && rt try <stdin)": example_output,
     "(cd crates/movaliren_c && rt lib) && make -C bindings/c install PREFIX=$HOME/.local":

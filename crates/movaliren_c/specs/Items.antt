@@ -1,9 +1,10 @@
 -- What a description that crosses as data means: a tree for each item, or the reason why there is
 -- none.
 use Rattle.std.specs.Global.{Global}
-use Rattle.std.specs.Prelude.{ℕ, ◌≡◌, ◌≢◌, ◌≤◌, min, ◌+◌, ◌-◌, Bool, true, ◌==◌, ◌&&◌, nat_le, nat_lt, List, [], ◌∷◌, map, length}
+use Rattle.std.specs.Prelude.{ℕ, ◌≡◌, ◌≢◌, ◌≤◌, min, max, ◌+◌, ◌-◌, Bool, true, ◌==◌, ◌&&◌, nat_le, nat_lt, List, [], ◌∷◌, map, length}
 use Rattle.std.specs.Prelude.{slice_range, Result, Ok, Err, IfOk, IsOkAnd, Vec, if◌then◌else◌}
 use Rattle.movaliren_c.specs.Answer.{IsText, IsTextInMemory, gives}
+use Rattle.movaliren_c.specs.ShortLine.{AreUsual, HasShortYear}
 use Rattle.movaliren_c.specs.Value.{flag_at, numbered, with_value}
 use Rattle.movaliren_c.specs.declared.item.Item.{Item}
 use Rattle.movaliren_c.specs.declared.item.Part.{Part}
@@ -142,14 +143,26 @@ pub record IsWithinWidth (width room : ℕ) (answer : Result ℕ Reason) : Type 
   pub within : IfOk answer (λ count. count ≤ width)
   pub fits : width ≤ room → answer ≢ Err reason.NoRoom
 
+-- Usual items of a value with a time of day and an offset, or without, a year of four digits without a sign, and a width
+-- of at most 128 bytes or those of the buffer.
+pub record IsShort {V : Type 0} (has_time : Bool) (texts : List ℕ) (items : List Item) (value : Result V Reason)
+    (facts : V → Facts) (room : ℕ) : Type 0 where
+  pub usual : AreUsual has_time items
+  pub year : IfOk value (λ v. HasShortYear (facts v))
+  pub width : IfOk (width_answer (trees_of texts items)) (λ width. width ≤ max room 128)
+
 -- The text of a description is written, or the reason for no text is returned and the buffer is unchanged. Where there
--- is a value, its text is within the description's width. No memory is needed where the width is 0.
-pub record IsDescribed {V : Type 0} (description : Result (List Tree) Reason) (value : Result V Reason) (facts : V → Facts)
-    (answer : Result ℕ Reason) (before after : List ℕ) : Type 0 where
-  pub text : IsTextInMemory (described description value facts) answer before after
-  pub within : IfOk value (λ _. IfOk (width_answer description) (λ width. IsWithinWidth width (length before) answer))
-  pub nothing_needed : width_answer description ≡ Ok 0
-      → IsText (described description value facts) answer before after
+-- is a value, its text is within the description's width. No memory is needed where the width is 0, nor for a short text
+-- of usual items.
+pub record IsDescribed {V : Type 0} (has_time : Bool) (texts : List ℕ) (items : List Item) (value : Result V Reason)
+    (facts : V → Facts) (answer : Result ℕ Reason) (before after : List ℕ) : Type 0 where
+  pub text : IsTextInMemory (described (trees_of texts items) value facts) answer before after
+  pub within : IfOk value (λ _. IfOk (width_answer (trees_of texts items)) (λ width. IsWithinWidth width (length before)
+      answer))
+  pub nothing_needed : width_answer (trees_of texts items) ≡ Ok 0
+      → IsText (described (trees_of texts items) value facts) answer before after
+  pub short : IsShort has_time texts items value facts (length before)
+      → IsText (described (trees_of texts items) value facts) answer before after
 
 -- the description is valid, and the vector has capacity for its texts
 abbrev pub HasRoomFor : Vec ℕ Global → Result (List Tree) Reason → Type 0

@@ -1,5 +1,6 @@
 -- Descriptions of usual items, whose texts are put straight into a buffer.
-use Rattle.std.specs.Prelude.{ℕ, ◌≡◌, ◌≤◌, Bool, true, false, ◌==◌, ◌&&◌, ◌||◌, List, Some, None}
+use Rattle.std.specs.List.{All}
+use Rattle.std.specs.Prelude.{ℕ, ℤ, ◌≡◌, ◌≤◌, nat_le, Bool, true, false, ◌==◌, ◌&&◌, ◌||◌, List, length, Some, None, IfSome, IsTrue}
 use Rattle.std.specs.Prelude.{Result, Ok, Err, IsOkAnd, pos, ◌≤ℤ◌, if◌then◌else◌}
 use Rattle.movaliren_c.specs.declared.item.Item.{Item}
 use Rattle.movaliren_c.specs.declared.reason.Reason.{Reason}
@@ -28,15 +29,21 @@ is_frequent digits = (digits == 3) || (digits == 6) || (digits == 9)
 abbrev pub has_choices : ℕ → ℕ → Item → Bool
 has_choices flag digits item = (item.padding == 0) && (item.flag == flag) && (item.digits == digits)
 
--- a literal, or a component that most texts have, of a value with a time of day and an offset, or without
+-- a literal of at most 65,535 bytes, or a component that most texts have, of a value with a time of day and an offset, or
+-- without
 abbrev pub is_usual : Bool → Item → Bool
 is_usual has_time item =
-    if item.kind == 255 then true
+    if item.kind == 255 then nat_le item.len 65_535
     else (if is_usual_of_date item.kind then has_choices 0 0 item
     else (if is_usual_of_time item.kind then has_time && has_choices 0 0 item
     else (if item.kind == 28 then has_time && (has_choices 0 3 item || has_choices 0 6 item || has_choices 0 9 item)
     else (if item.kind == 29 then has_time && has_choices 1 0 item
     else false))))
+
+-- a description of at most 65,535 usual items
+pub record AreUsual (has_time : Bool) (items : List Item) : Type 0 where
+  pub count : length items ≤ 65_535
+  pub each : All (λ item. IsTrue (is_usual has_time item)) items
 
 -- the facts of a local date, and of its time of day and its offset, if it has them
 abbrev pub facts_of_local : Bool → OffsetDateAndTime → Facts
@@ -51,8 +58,12 @@ facts_of_local has_time v =
     }
 
 -- a year of four digits without a sign
-abbrev pub IsShortYear : OffsetDateAndTime → Type 0
-IsShortYear v = (pos 0 ≤ℤ v.date.year) × (v.date.year ≤ℤ pos 9_999)
+abbrev pub IsShortYear : ℤ → Type 0
+IsShortYear year = (pos 0 ≤ℤ year) × (year ≤ℤ pos 9_999)
+
+-- the facts of a date of such a year
+abbrev pub HasShortYear : Facts → Type 0
+HasShortYear f = IfSome f.date (λ date. IsShortYear date.year)
 
 -- ---- widths
 

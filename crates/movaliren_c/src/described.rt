@@ -1,9 +1,9 @@
 //! Descriptions that cross as data.
 ghost use Rattle.std.specs.List.{All};
-ghost use Rattle.std.specs.Prelude.{◌≡◌, ◌+◌, ◌≤◌, IfSome, IsTrue, MatchOption, Ok, drop, length, vec_len};
+ghost use Rattle.std.specs.Prelude.{◌≡◌, ◌+◌, ◌≤◌, IfNone, IfSome, IsTrue, MatchOption, Ok, drop, false, length, max, true, vec_len};
 ghost use Rattle.movaliren_c.specs.Answer.{Answers, IsText, IsTextInMemory};
 ghost use Rattle.movaliren_c.specs.Items.{HasRoomFor, IsAppended, IsDescribed, IsWithinWidth, described, part_tree, trees_of, width_after, width_answer};
-ghost use Rattle.movaliren_c.specs.ShortLine.{is_usual};
+ghost use Rattle.movaliren_c.specs.ShortLine.{HasShortYear, is_usual};
 ghost use Rattle.movaliren_c.specs.Value.{date_value, moment_value, timestamp_value};
 ghost use Rattle.time_below.specs.Facts.{facts_of_date, facts_of_offset_date_time, facts_of_timestamp};
 ghost use Rattle.time_below.specs.Width.{tree_width, is_guaranteed_text};
@@ -38,7 +38,7 @@ pub extern "C" fn movaliren_format(
     moment: &Moment,
     room: &mut [u8],
 ) -> isize
-    ensures { Answers result (λ answer. IsDescribed (trees_of texts.now items.now)
+    ensures { Answers result (λ answer. IsDescribed true texts.now items.now
         (moment_value moment.now) facts_of_offset_date_time answer room.old room.new) }
 {
     answer_number(write_value_described(alloc, items, texts, moment_value(moment), room))
@@ -54,7 +54,7 @@ pub extern "C" fn movaliren_format_utc(
     nanosecond: u32,
     room: &mut [u8],
 ) -> isize
-    ensures { Answers result (λ answer. IsDescribed (trees_of texts.now items.now)
+    ensures { Answers result (λ answer. IsDescribed true texts.now items.now
         (timestamp_value seconds nanosecond) facts_of_timestamp answer room.old room.new) }
 {
     let value = timestamp_value(seconds, nanosecond);
@@ -72,7 +72,7 @@ pub extern "C" fn movaliren_format_date(
     day: u8,
     room: &mut [u8],
 ) -> isize
-    ensures { Answers result (λ answer. IsDescribed (trees_of texts.now items.now)
+    ensures { Answers result (λ answer. IsDescribed false texts.now items.now
         (date_value year month day) facts_of_date answer room.old room.new) }
 {
     let value = CalendarDate::new(year, month, day);
@@ -97,7 +97,7 @@ fn write_value_described<V: ComponentProvider + Drop, T: DescribedValue<V> + Dro
 ) -> Result<usize, Reason>
 where
     V::State: Drop,
-    ensures { IsDescribed (trees_of texts.now items.now) value T.facts result room.old room.new }
+    ensures { IsDescribed T.HAS_TIME texts.now items.now value T.facts result room.old room.new }
 {
     let start = usual_start(items, texts, T::HAS_TIME);
     match width(items, texts, start) {
@@ -134,6 +134,8 @@ fn write_usual<V: ComponentProvider, T: DescribedValue<V>>(
         (described (trees_of texts.now items.now) (Ok value.now) T.facts)
         answer room.old room.new) }
     ensures within { IfSome result (λ answer. IsWithinWidth width (length room.old) answer) }
+    ensures complete { IfNone result (HasShortYear (T.facts value.now)
+        → width ≤ max (length room.old) 128 → width ≡ 0) }
 {
     if width == 0 || width > room.len().max(LONGEST_COPY) {
         return None;

@@ -1,9 +1,9 @@
 //! Short texts by items of the usual kinds, which allocate nothing.
-ghost use Rattle.std.specs.Prelude.{◌≡◌, ◌≤◌, Bool, IfSome, IsTrue, Ok, drop, length, max, take, unsigned_abs};
+ghost use Rattle.std.specs.Prelude.{◌≡◌, ◌≢◌, ◌↔◌, ◌≤◌, Bool, IfNone, IfSome, IsErr, IsFalse, IsOk, IsTrue, Ok, drop, length, max, take, unsigned_abs};
 ghost use Rattle.std.specs.List.{All};
 ghost use Rattle.movaliren_c.specs.Answer.{IsText};
 ghost use Rattle.movaliren_c.specs.Items.{IsWithinWidth, described, item_tree, trees_of, width_after, width_answer};
-ghost use Rattle.movaliren_c.specs.ShortLine.{AllFit, AllHave, FitsAll, FitsItem, HasWidth, IsShortYear, PutsAll, PutsItem, facts_of_local, has_choices, is_frequent, is_usual};
+ghost use Rattle.movaliren_c.specs.ShortLine.{AllFit, AllHave, AreUsual, FitsAll, FitsItem, HasWidth, IsShortYear, PutsAll, PutsItem, facts_of_local, has_choices, is_frequent, is_usual};
 ghost use Rattle.time_digits.specs.Digits.{fixed};
 ghost use Rattle.time_known.specs.Sink.{Fits, PutsJust};
 
@@ -40,6 +40,9 @@ pub fn usual_start(items: &[Item], texts: &[u8], has_time: bool) -> UsualStart
     ensures within { result.count ≤ length items.now }
     ensures short { result.width ≤ 0xffff_ffff }
     ensures usual { All (λ item. IsTrue (is_usual has_time item)) (take result.count items.now) }
+    ensures complete { AreUsual has_time items.now
+        → IsOk (width_answer (trees_of texts.now items.now))
+        → result.count ≡ length items.now }
     ensures width { width_answer (trees_of texts.now items.now)
         ≡ width_after result.width (trees_of texts.now (drop result.count items.now)) }
 {
@@ -64,6 +67,8 @@ pub fn usual_start(items: &[Item], texts: &[u8], has_time: bool) -> UsualStart
 #[tactic(auto, unfolding(crate::specs::Items::component_of, crate::specs::Items::date_component, crate::specs::Items::year_component, crate::specs::Items::time_component))]
 fn usual_width(item: &Item, texts: &[u8], has_time: bool) -> Option<usize>
     ensures usual { IfSome result (λ _. IsTrue (is_usual has_time item.now)) }
+    ensures complete { IfNone result (IsTrue (is_usual has_time item.now)
+        → IsErr (item_tree texts.now item.now)) }
     ensures width { IfSome result (λ w. HasWidth w (item_tree texts.now item.now)) }
     ensures short { IfSome result (λ w. w ≤ 0xffff) }
 {
@@ -95,6 +100,9 @@ fn has_choices(item: &Item, flag: u8, digits: u8) -> bool
 #[inline(always)]
 fn literal_width(item: &Item, texts: &[u8]) -> Option<usize>
     requires literal { item.now.kind ≡ 255 }
+    ensures usual { IfSome result (λ _. item.now.len ≤ 65_535) }
+    ensures complete { IfNone result (item.now.len ≤ 65_535
+        → IsErr (item_tree texts.now item.now)) }
     ensures width { IfSome result (λ w. HasWidth w (item_tree texts.now item.now)) }
     ensures short { IfSome result (λ w. w ≤ 0xffff) }
 {
@@ -108,7 +116,10 @@ fn literal_width(item: &Item, texts: &[u8]) -> Option<usize>
 #[inline(always)]
 #[tactic(auto, unfolding(crate::specs::Items::component_of, crate::specs::Items::time_component))]
 fn chosen_width(item: &Item, texts: &[u8], has_time: bool) -> Option<usize>
+    requires component { item.now.kind ≢ 255 }
+    requires chosen { IsFalse (has_choices 0 0 item.now) }
     ensures usual { IfSome result (λ _. IsTrue (is_usual has_time item.now)) }
+    ensures complete { IfNone result (IsFalse (is_usual has_time item.now)) }
     ensures width { IfSome result (λ w. HasWidth w (item_tree texts.now item.now)) }
     ensures short { IfSome result (λ w. w ≤ 0xffff) }
 {
@@ -126,7 +137,7 @@ fn chosen_width(item: &Item, texts: &[u8], has_time: bool) -> Option<usize>
 
 /// Whether the year of the value has at most four digits and no sign.
 pub fn has_short_year(value: &LocalMoment) -> bool
-    ensures { IsTrue result → IsShortYear value.now }
+    ensures { IsTrue result ↔ IsShortYear value.now.date.year }
 {
     let year = value.date().year();
     0 <= year && year <= 9_999
@@ -146,7 +157,7 @@ pub fn write_line(
     requires width { width_answer (trees_of texts.now items.now) ≡ Ok width }
     requires short { width ≤ 0xffff_ffff }
     requires fits { width ≤ max (length room.old) 128 }
-    requires year { IsShortYear value.now }
+    requires year { IsShortYear value.now.date.year }
     ensures text { IsText (described (trees_of texts.now items.now) (Ok value.now)
         (facts_of_local has_time)) result room.old room.new }
     ensures within { IsWithinWidth width (length room.old) result }
@@ -165,7 +176,7 @@ fn write_in_place(items: &[Item], texts: &[u8], value: &LocalMoment, room: &mut 
     ghost has_time: { Bool }
     requires usual { All (λ item. IsTrue (is_usual has_time item)) items.now }
     requires room { AllFit (length room.old) (trees_of texts.now items.now) }
-    requires year { IsShortYear value.now }
+    requires year { IsShortYear value.now.date.year }
     ensures text { IsText (described (trees_of texts.now items.now) (Ok value.now)
         (facts_of_local has_time)) (Ok result) room.old room.new }
     ensures fits { result ≤ length room.old }
@@ -181,7 +192,7 @@ fn write_in_place(items: &[Item], texts: &[u8], value: &LocalMoment, room: &mut 
 fn put_items<S: ByteSink>(output: &mut S, items: &[Item], texts: &[u8], value: &LocalMoment)
     ghost has_time: { Bool }
     requires usual { All (λ item. IsTrue (is_usual has_time item)) items.now }
-    requires year { IsShortYear value.now }
+    requires year { IsShortYear value.now.date.year }
     requires room { FitsAll (S.buffer output.old) (trees_of texts.now items.now) }
     ensures puts { PutsAll (S.buffer output.old) (S.buffer output.new)
         (trees_of texts.now items.now) (facts_of_local has_time value.now) }
@@ -197,7 +208,7 @@ fn put_items<S: ByteSink>(output: &mut S, items: &[Item], texts: &[u8], value: &
 fn put_item<S: ByteSink>(output: &mut S, item: &Item, texts: &[u8], value: &LocalMoment)
     ghost has_time: { Bool }
     requires usual { IsTrue (is_usual has_time item.now) }
-    requires year { IsShortYear value.now }
+    requires year { IsShortYear value.now.date.year }
     requires room { FitsItem (S.buffer output.old) (item_tree texts.now item.now) }
     ensures puts { PutsItem (S.buffer output.old) (S.buffer output.new)
         (item_tree texts.now item.now) (facts_of_local has_time value.now) }
@@ -237,7 +248,7 @@ fn put_decimals<S: ByteSink>(output: &mut S, digits: u8, nanosecond: Nanoseconds
 /// The year of the value.
 #[inline(always)]
 fn year_of(value: &LocalMoment) -> ru16<0, 9_999>
-    requires { IsShortYear value.now }
+    requires { IsShortYear value.now.date.year }
     ensures { result ≡ unsigned_abs value.now.date.year }
 {
     ru16::within(value.date().year().unsigned_abs() as u16)

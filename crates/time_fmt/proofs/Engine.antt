@@ -14,8 +14,8 @@ use Rattle.time_fmt.specs.Ends.{refusal_of}
 use Rattle.time_fmt.specs.Guarantee.{IsTextIf, AppendsTree}
 use Rattle.time_fmt.specs.Outcome.{Outcome, Refusal}
 use Rattle.time_fmt.specs.Room.{HasRoom, Writes}
-use Rattle.time_fmt.proofs.EndLemmas.{ends_complete}
-use Rattle.time_fmt.proofs.WriteLemmas.{appends_text, join_refused, join_done}
+use Rattle.time_fmt.proofs.EndLemmas.{whole_text}
+use Rattle.time_fmt.proofs.WriteLemmas.{join_refused, join_done}
 use Rattle.time_fmt.proofs.GuaranteeLemmas.{text_more, text_stops, empty_utf8}
 
 -- a list was written so far without a refusal: its rest is the rest of the outcome, and fits the capacity
@@ -154,7 +154,7 @@ all_along tree nodes i old now f past along =
 pub appends_bytes : {count : ℕ} {old new : Vec ℕ Global} (bytes : List ℕ) (f : Facts) → Writes old new count bytes
     → AppendsTree (byte_literal bytes) f old new (Ok tt)
 appends_bytes bytes f w = record {
-  ends = ends_complete (record { appends = appends_text w; within = omega (arith, w.grown) });
+  ends = whole_text w (omega arith);
   text = λ guaranteed. let never : ⊥ = cc in absurd never;
 }
 

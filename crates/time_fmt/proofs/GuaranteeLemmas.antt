@@ -1,6 +1,6 @@
 -- Texts of components are ASCII, and texts one after another are UTF-8 where each of them is.
 use Rattle.std.proofs.Common.{◌≡◌, ℕ, ◌+◌, ◌-◌, ◌<◌, ◌≤◌, Bool, true, false, ◌&&◌, nat_lt, List, [], ◌∷◌, length}
-use Rattle.std.proofs.Common.{IsAscii, IsUtf8, IsTrue, MatchOption, Option, Some, None, if◌then◌else◌, refl, arith, Result, Ok}
+use Rattle.std.proofs.Common.{IsAscii, IsUtf8, IsTrue, MatchOption, Option, Some, None, if◌then◌else◌, refl, arith, Result}
 use Rattle.std.proofs.Common.{Vec, vec_len}
 use Rattle.std.specs.Global.{Global}
 use Rattle.std.specs.Prelude.{codes, nat_le}
@@ -11,7 +11,7 @@ use Rattle.std.proofs.lemmas.List.Sums.{AllPass-from_list_all}
 use Rattle.std.proofs.lemmas.Str.{IsAscii-append, IsAscii-take, IsUtf8-append, IsUtf8-from_ascii}
 use Rattle.std.proofs.lemmas.Str.Ascii.{IsAscii-from_all, IsAscii-nil}
 use Rattle.time_below.specs.ComponentRange.{conditional_range}
-use Rattle.time_below.specs.Conversion.{current_component, is_current}
+use Rattle.time_below.specs.Conversion.{current_component}
 use Rattle.time_below.specs.declared.period.Period.{Period}
 use Rattle.time_below.specs.declared.period.Period.TheVariants.{Am, Pm}
 use Rattle.time_below.specs.declared.format_description.component.Component.{Component}
@@ -30,16 +30,16 @@ use Rattle.time_digits.proofs.LengthLemmas.{IsAscii-padded, IsAscii-number}
 use Rattle.time_fmt.specs.DateText.{month_names, month_name, weekday_names, weekday_name, indexed}
 use Rattle.time_fmt.specs.Description.{has_group, kind_of, supplied_outcome, current_outcome, component_outcome}
 use Rattle.time_fmt.specs.Description.{tree_outcome, trees_outcome}
+use Rattle.time_fmt.specs.Ends.{Ends}
 use Rattle.time_fmt.specs.Guarantee.{IsTextIf, AppendsLeaf}
 use Rattle.time_fmt.specs.Kind as kind
 use Rattle.time_fmt.specs.Kind.{Kind, kind_text, kind_outcome}
-use Rattle.time_fmt.specs.Outcome.{Outcome, AppendsIf, AppendsUpTo, Adds, done, refused, join, insufficient, out_of_range}
+use Rattle.time_fmt.specs.Outcome.{Outcome, Adds, done, refused, join, insufficient, out_of_range}
 use Rattle.time_fmt.specs.Text.{padded_text, sign_text, period_text, subsecond_text}
 use Rattle.time_fmt.specs.declared.error.Format.{Format}
-use Rattle.time_fmt.proofs.ConversionLemmas.{current_is_kept}
-use Rattle.time_fmt.proofs.EndLemmas.{ends_complete}
+use Rattle.time_fmt.specs.declared.refused.Refused.{Refused}
 use Rattle.time_fmt.proofs.TextLemmas.{passes_at}
-use Rattle.time_fmt.proofs.WriteLemmas.{added_alone, written_if, unwritten_if}
+use Rattle.time_fmt.proofs.WriteLemmas.{added_alone}
 
 -- ---- texts
 
@@ -129,23 +129,13 @@ empty_utf8 = IsUtf8-from_ascii [] IsAscii-nil
 pub text_of_component : (c : Component) (f : Facts) → IsUtf8 (component_outcome c f).bytes
 text_of_component c f = IsUtf8-from_ascii (component_outcome c f).bytes (ascii_current (current_component c) f)
 
--- a component that was written is that of its tree
-pub leaf_of_written : (written : Option ℕ) (c : Component) (f : Facts) (old new : Vec ℕ Global)
-    → MatchOption written (new ≡ old)
-    (λ n. AppendsUpTo (component_width c) old new (Ok n) (component_outcome c f))
+-- a component that was written or refused is that of its tree
+pub leaf_of_written : {N : Type 0} (written : Option (Result Unit Refused)) (c : Component) (f : Facts)
+    (old new : Vec ℕ Global) → (N → new ≡ old)
+    → MatchOption written N (λ answer. Ends (component_width c) old new answer (component_outcome c f))
     → AppendsLeaf (of_component c) f old new written
-leaf_of_written None c f old new unchanged = unchanged
-leaf_of_written (Some n) c f old new appends =
-    record { ends = ends_complete appends; text = λ _. text_of_component c f }
-
--- so is one that is not deprecated
-pub leaf_of_current : (written : Option ℕ) (c : Component) (f : Facts) (old new : Vec ℕ Global)
-    → AppendsIf (is_current c) (component_width c) old new written (current_outcome c f)
-    → AppendsLeaf (of_component c) f old new written
-leaf_of_current None c f old new unwritten = unwritten_if (component_width c) (is_current c) (current_outcome c f) old new unwritten
-leaf_of_current (Some n) c f old new appends =
-    let written = written_if (is_current c) (current_outcome c f) old new appends in
-    leaf_of_written (Some n) c f old new (rw (current_is_kept c written.0) written.1)
+leaf_of_written None c f old new same nothing = same nothing
+leaf_of_written (Some answer) c f old new same ends = record { ends = ends; text = λ _. text_of_component c f }
 
 -- a list has a text if its first tree has one, and so have the others
 pub text_more : (t : Tree) (ts : Trees) (f : Facts) → IsTextIf (is_guaranteed_text t) (tree_outcome t f)

@@ -17,7 +17,7 @@ use Rattle.time_digits.proofs.DigitLemmas.{decimal_longer, padded_whole}
 use Rattle.time_digits.proofs.LengthLemmas.{length-padded, length-padded-le}
 use Rattle.time_fmt.specs.DateText.{month_names, month_name, weekday_names, weekday_name, short_name, indexed}
 use Rattle.time_fmt.specs.Text.{padded_text, sign_text}
-use Rattle.time_fmt.proofs.WriteLemmas.{whole_text, in_range, beyond_range}
+use Rattle.time_fmt.proofs.EndLemmas.{whole_text, in_range, beyond_range}
 
 -- ---- numbers
 

@@ -10,7 +10,7 @@ use Rattle.time_digits.proofs.DigitLemmas.{fixed_step, fixed_digits, fixed-appen
 use Rattle.time_digits.proofs.FractionLemmas.{only_trimmed_fraction}
 use Rattle.time_digits.proofs.LengthLemmas.{length-fixed}
 use Rattle.time_digits.proofs.FractionLemmas.{length-trimmed_fraction}
-use Rattle.time_fmt.proofs.WriteLemmas.{whole_text}
+use Rattle.time_fmt.proofs.EndLemmas.{whole_text}
 use Rattle.time_fmt.proofs.DecimalLemmas.{take-fixed, length-first, length-subsecond_text, nine_decimals}
 
 -- nine digits are the first ones, and zeros
@@ -84,12 +84,12 @@ length-six n zeros some = ap length (sym (six_are n zeros some)) ∙ length-firs
 -- a fraction that ends after the ninth, the third or the sixth digit
 pub ruleset whole_fractions = (nine_are, three_are, six_are, length-nine, length-three, length-six)
 
--- what the decimals of a component are, and how many
-pub ruleset subsecond_lengths = (
-  length-subsecond_text,
-  length-trimmed_fraction,
-  nine_are,
-  nine_decimals,
-  length-nine,
-  whole_text,
-)
+-- the first three of nine digits
+pub length-three_decimals : (n : ℕ) → length (take 3 (fixed 9 n)) ≡ 3
+length-three_decimals n = length-first 3 6 n
+
+-- three decimals, or nine of which the last is no zero
+pub ruleset usual_decimals = (nine_are, nine_decimals, length-nine, length-fixed, length-three_decimals)
+
+-- how many decimals a component has
+pub ruleset subsecond_lengths = (length-subsecond_text, length-trimmed_fraction, whole_text)

@@ -1,6 +1,6 @@
 -- The guarantee that the bytes of an outcome are UTF-8.
 use Rattle.std.specs.Global.{Global}
-use Rattle.std.specs.Prelude.{ℕ, ◌≡◌, Bool, IsTrue, IsUtf8, Option, Some, None, Result, Ok, Vec}
+use Rattle.std.specs.Prelude.{ℕ, ◌≡◌, Bool, IsTrue, IsUtf8, Option, Some, None, Result, Vec}
 use Rattle.time_below.specs.Facts.{Facts}
 use Rattle.time_below.specs.Tree.{Tree}
 use Rattle.time_below.specs.Width.{tree_width, is_guaranteed_text}
@@ -19,7 +19,7 @@ pub record AppendsTree (t : Tree) (f : Facts) (old new : Vec ℕ Global) (answer
   pub ends : Ends (tree_width t) old new answer (tree_outcome t f)
   pub text : IsTextIf (is_guaranteed_text t) (tree_outcome t f)
 
--- what a tree gives without a refusal, or nothing is written
-abbrev pub AppendsLeaf : Tree → Facts → Vec ℕ Global → Vec ℕ Global → Option ℕ → Type 0
+-- what a tree gives, or nothing is written
+abbrev pub AppendsLeaf : Tree → Facts → Vec ℕ Global → Vec ℕ Global → Option (Result Unit Refused) → Type 0
 AppendsLeaf t f old new None = new ≡ old
-AppendsLeaf t f old new (Some count) = AppendsTree t f old new (Ok tt)
+AppendsLeaf t f old new (Some answer) = AppendsTree t f old new answer

@@ -1,6 +1,6 @@
 -- Outcomes: bytes, and perhaps a refusal after them.
-use Rattle.std.specs.Prelude.{ℕ, ◌≡◌, ◌+◌, ◌≤◌, List, [], ◌++◌, length, Option, Some, None, IsSome, Result, Ok, IfOk, IfErr}
-use Rattle.std.specs.Prelude.{IsSomeAnd, Bool, true, false, vec_len, vec_capacity, Vec}
+use Rattle.std.specs.Prelude.{ℕ, ◌≡◌, ◌+◌, ◌≤◌, List, [], ◌++◌, length, Option, Some, None, Result, IfOk, IfErr, IsSomeAnd}
+use Rattle.std.specs.Prelude.{vec_len, vec_capacity, Vec}
 use Rattle.std.specs.Global.{Global}
 use Rattle.time_below.specs.ComponentRange.{RangeRefusal, range_refusal}
 use Rattle.time_fmt.specs.declared.error.Format.{Format}
@@ -48,22 +48,6 @@ pub record Appends (old new : Vec ℕ Global) (answer : Result ℕ Format) (o : 
 -- the bytes of the outcome are appended, and are at most this many
 pub record AppendsUpTo (width : ℕ) (old new : Vec ℕ Global) (answer : Result ℕ Format) (o : Outcome) : Type 0 where
   pub appends : Appends old new answer o
-  pub within : vec_len new ≤ vec_len old + width
-
--- the bytes of the outcome are appended, and are at most this many; or it is refused, and nothing is written
-abbrev pub AppendsUnlessRefused : ℕ → Vec ℕ Global → Vec ℕ Global → Option ℕ → Outcome → Type 0
-AppendsUnlessRefused width old new None o = (new ≡ old) × IsSome o.refusal
-AppendsUnlessRefused width old new (Some count) o = AppendsUpTo width old new (Ok count) o
-
--- so it is under a condition, without which nothing is written
-abbrev pub AppendsIf : Bool → ℕ → Vec ℕ Global → Vec ℕ Global → Option ℕ → Outcome → Type 0
-AppendsIf true width old new written o = AppendsUnlessRefused width old new written o
-AppendsIf false width old new written o = (new ≡ old) × (written ≡ None)
-
--- the bytes of the outcome are appended, or a refusal leaves all unchanged
-pub record AppendsWhole (width : ℕ) (old new : Vec ℕ Global) (answer : Result ℕ Format) (o : Outcome) : Type 0 where
-  pub appends : Appends old new answer o
-  pub whole : IfErr answer (λ _. new ≡ old)
   pub within : vec_len new ≤ vec_len old + width
 
 -- the bytes of the outcome are appended, and the capacity may change

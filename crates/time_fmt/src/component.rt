@@ -1,100 +1,113 @@
 //! The engine for one component.
-ghost use Rattle.std.specs.Prelude.{◌≡◌, ◌+◌, ◌≤◌, IsUtf8, MatchOption, vec_len};
+ghost use Rattle.std.specs.Prelude.{◌≡◌, ◌+◌, ◌≤◌, IsUtf8, MatchOption, false, vec_len};
 ghost use Rattle.time_below.specs.Conversion.{is_current};
 ghost use Rattle.time_below.specs.Width.{component_width};
-ghost use Rattle.time_fmt.specs.Description.{component_outcome, current_outcome};
+ghost use Rattle.time_fmt.specs.Description.{component_outcome};
 ghost use Rattle.time_fmt.specs.Ends.{Ends};
-ghost use Rattle.time_fmt.specs.Outcome.{Appends, AppendsIf, AppendsUpTo, AppendsUnlessRefused};
+ghost use Rattle.time_fmt.specs.Outcome.{Appends};
 ghost use Rattle.time_fmt.specs.Room.{HasRoom, Ready};
 
 use crate::error::Format;
-use crate::modifier::{Modifier, is_supplied, supplies};
+use crate::modifier::{Modifier, write_part};
 use crate::refused::Refused;
 use time_below::format_description::Component;
 use time_provide::ComponentProvider;
 
-/// Appends the text of a component that is met often, whose writer becomes part of the loop over a list,
-/// and returns the number of bytes. Of any other component, and of one that is refused, writes nothing
-/// and returns `None`.
+/// Appends the text of a component that is met often, whose writer becomes part of the loop over a list.
+/// Returns its refusal, if it is refused. Of any other component writes nothing and returns `None`.
 #[inline(always)]
 pub fn write_often<V: ComponentProvider>(
     component: Component,
     output: &mut Vec<u8>,
     value: &V,
     state: &mut V::State,
-) -> Option<usize>
+) -> Option<Result<(), Refused>>
     requires ready { Ready output.old (component_width component) (V.agrees state.old value.now) }
     ensures writes { MatchOption result (output.new ≡ output.old)
-        (λ count. AppendsUpTo (component_width component) output.old output.new (Ok count)
+        (λ answer. Ends (component_width component) output.old output.new answer
         (component_outcome component (V.facts value.now))) × V.agrees state.new value.now }
 {
     match component {
-        Component::Day(part) => write_here(part, output, value, state),
-        Component::MonthShort(part) => write_here(part, output, value, state),
-        Component::MonthNumerical(part) => write_here(part, output, value, state),
-        Component::WeekdayShort(part) => write_here(part, output, value, state),
-        Component::CalendarYearFullExtendedRange(part) => write_here(part, output, value, state),
-        Component::Hour12(part) => write_here(part, output, value, state),
-        Component::Hour24(part) => write_here(part, output, value, state),
-        Component::Minute(part) => write_here(part, output, value, state),
-        Component::Period(part) => write_here(part, output, value, state),
-        Component::Second(part) => write_here(part, output, value, state),
-        Component::Subsecond(part) => write_here(part, output, value, state),
-        Component::OffsetHour(part) => write_here(part, output, value, state),
-        Component::OffsetMinute(part) => write_here(part, output, value, state),
+        Component::Day(part) => Some(write_part(part, output, value, state)),
+        Component::MonthShort(part) => Some(write_part(part, output, value, state)),
+        Component::MonthNumerical(part) => Some(write_part(part, output, value, state)),
+        Component::WeekdayShort(part) => Some(write_part(part, output, value, state)),
+        Component::CalendarYearFullExtendedRange(part) => Some(write_part(
+            part, output, value, state,
+        )),
+        Component::Hour12(part) => Some(write_part(part, output, value, state)),
+        Component::Hour24(part) => Some(write_part(part, output, value, state)),
+        Component::Minute(part) => Some(write_part(part, output, value, state)),
+        Component::Period(part) => Some(write_part(part, output, value, state)),
+        Component::Second(part) => Some(write_part(part, output, value, state)),
+        Component::Subsecond(part) => Some(write_part(part, output, value, state)),
+        Component::OffsetHour(part) => Some(write_part(part, output, value, state)),
+        Component::OffsetMinute(part) => Some(write_part(part, output, value, state)),
         _ => None,
     }
 }
 
-/// Appends the text of a component that is not deprecated, and returns the number of bytes. If it is
-/// refused, or deprecated, writes nothing and returns `None`.
+/// Appends the text of a component that is not deprecated. Returns its refusal, if it is refused. Of one
+/// that is deprecated writes nothing and returns `None`.
 #[inline(always)]
 pub(crate) fn write_current<V: ComponentProvider>(
     component: Component,
     output: &mut Vec<u8>,
     value: &V,
     state: &mut V::State,
-) -> Option<usize>
+) -> Option<Result<(), Refused>>
     requires ready { Ready output.old (component_width component) (V.agrees state.old value.now) }
-    ensures writes { AppendsIf (is_current component) (component_width component)
-        output.old output.new result (current_outcome component (V.facts value.now))
-        × V.agrees state.new value.now }
+    ensures writes { MatchOption result ((output.new ≡ output.old) × (is_current component ≡ false))
+        (λ answer. Ends (component_width component) output.old output.new answer
+        (component_outcome component (V.facts value.now))) × V.agrees state.new value.now }
 {
     match component {
-        Component::Day(part) => write_rare(part, output, value, state),
-        Component::MonthShort(part) => write_rare(part, output, value, state),
-        Component::MonthLong(part) => write_rare(part, output, value, state),
-        Component::MonthNumerical(part) => write_rare(part, output, value, state),
-        Component::Ordinal(part) => write_rare(part, output, value, state),
-        Component::WeekdayShort(part) => write_rare(part, output, value, state),
-        Component::WeekdayLong(part) => write_rare(part, output, value, state),
-        Component::WeekdaySunday(part) => write_rare(part, output, value, state),
-        Component::WeekdayMonday(part) => write_rare(part, output, value, state),
-        Component::WeekNumberIso(part) => write_rare(part, output, value, state),
-        Component::WeekNumberSunday(part) => write_rare(part, output, value, state),
-        Component::WeekNumberMonday(part) => write_rare(part, output, value, state),
-        Component::CalendarYearFullExtendedRange(part) => write_rare(part, output, value, state),
-        Component::CalendarYearFullStandardRange(part) => write_rare(part, output, value, state),
-        Component::CalendarYearCenturyExtendedRange(part) => write_rare(part, output, value, state),
-        Component::CalendarYearCenturyStandardRange(part) => write_rare(part, output, value, state),
-        Component::CalendarYearLastTwo(part) => write_rare(part, output, value, state),
-        Component::IsoYearFullExtendedRange(part) => write_rare(part, output, value, state),
-        Component::IsoYearFullStandardRange(part) => write_rare(part, output, value, state),
-        Component::IsoYearCenturyExtendedRange(part) => write_rare(part, output, value, state),
-        Component::IsoYearCenturyStandardRange(part) => write_rare(part, output, value, state),
-        Component::IsoYearLastTwo(part) => write_rare(part, output, value, state),
-        Component::Hour12(part) => write_rare(part, output, value, state),
-        Component::Hour24(part) => write_rare(part, output, value, state),
-        Component::Minute(part) => write_rare(part, output, value, state),
-        Component::Period(part) => write_rare(part, output, value, state),
-        Component::Second(part) => write_rare(part, output, value, state),
-        Component::Subsecond(part) => write_rare(part, output, value, state),
-        Component::OffsetHour(part) => write_rare(part, output, value, state),
-        Component::OffsetMinute(part) => write_rare(part, output, value, state),
-        Component::OffsetSecond(part) => write_rare(part, output, value, state),
-        Component::UnixTimestampSecond(part) => write_rare(part, output, value, state),
-        Component::UnixTimestampMillisecond(part) => write_rare(part, output, value, state),
-        Component::Ignore(_) | Component::End(_) => Some(0),
+        Component::Day(part) => Some(write_rare(part, output, value, state)),
+        Component::MonthShort(part) => Some(write_rare(part, output, value, state)),
+        Component::MonthLong(part) => Some(write_rare(part, output, value, state)),
+        Component::MonthNumerical(part) => Some(write_rare(part, output, value, state)),
+        Component::Ordinal(part) => Some(write_rare(part, output, value, state)),
+        Component::WeekdayShort(part) => Some(write_rare(part, output, value, state)),
+        Component::WeekdayLong(part) => Some(write_rare(part, output, value, state)),
+        Component::WeekdaySunday(part) => Some(write_rare(part, output, value, state)),
+        Component::WeekdayMonday(part) => Some(write_rare(part, output, value, state)),
+        Component::WeekNumberIso(part) => Some(write_rare(part, output, value, state)),
+        Component::WeekNumberSunday(part) => Some(write_rare(part, output, value, state)),
+        Component::WeekNumberMonday(part) => Some(write_rare(part, output, value, state)),
+        Component::CalendarYearFullExtendedRange(part) => Some(write_rare(
+            part, output, value, state,
+        )),
+        Component::CalendarYearFullStandardRange(part) => Some(write_rare(
+            part, output, value, state,
+        )),
+        Component::CalendarYearCenturyExtendedRange(part) => Some(write_rare(
+            part, output, value, state,
+        )),
+        Component::CalendarYearCenturyStandardRange(part) => Some(write_rare(
+            part, output, value, state,
+        )),
+        Component::CalendarYearLastTwo(part) => Some(write_rare(part, output, value, state)),
+        Component::IsoYearFullExtendedRange(part) => Some(write_rare(part, output, value, state)),
+        Component::IsoYearFullStandardRange(part) => Some(write_rare(part, output, value, state)),
+        Component::IsoYearCenturyExtendedRange(part) => Some(write_rare(
+            part, output, value, state,
+        )),
+        Component::IsoYearCenturyStandardRange(part) => Some(write_rare(
+            part, output, value, state,
+        )),
+        Component::IsoYearLastTwo(part) => Some(write_rare(part, output, value, state)),
+        Component::Hour12(part) => Some(write_rare(part, output, value, state)),
+        Component::Hour24(part) => Some(write_rare(part, output, value, state)),
+        Component::Minute(part) => Some(write_rare(part, output, value, state)),
+        Component::Period(part) => Some(write_rare(part, output, value, state)),
+        Component::Second(part) => Some(write_rare(part, output, value, state)),
+        Component::Subsecond(part) => Some(write_rare(part, output, value, state)),
+        Component::OffsetHour(part) => Some(write_rare(part, output, value, state)),
+        Component::OffsetMinute(part) => Some(write_rare(part, output, value, state)),
+        Component::OffsetSecond(part) => Some(write_rare(part, output, value, state)),
+        Component::UnixTimestampSecond(part) => Some(write_rare(part, output, value, state)),
+        Component::UnixTimestampMillisecond(part) => Some(write_rare(part, output, value, state)),
+        Component::Ignore(_) | Component::End(_) => Some(Ok(())),
         Component::Month(_)
         | Component::Weekday(_)
         | Component::WeekNumber(_)
@@ -111,41 +124,18 @@ fn write_rare<M: Modifier, V: ComponentProvider>(
     output: &mut Vec<u8>,
     value: &V,
     state: &mut V::State,
-) -> Option<usize>
+) -> Result<(), Refused>
     requires ready { Ready output.old (component_width (M.component_of part))
         (V.agrees state.old value.now) }
-    ensures writes { AppendsUnlessRefused (component_width (M.component_of part))
-        output.old output.new result (component_outcome (M.component_of part) (V.facts value.now))
+    ensures writes { Ends (component_width (M.component_of part)) output.old output.new result
+        (component_outcome (M.component_of part) (V.facts value.now))
         × V.agrees state.new value.now }
 {
-    write_here(part, output, value, state)
+    write_part(part, output, value, state)
 }
 
-// Writes any component that is not deprecated, by its own choices, and nothing if it is refused.
-#[inline(always)]
-fn write_here<M: Modifier, V: ComponentProvider>(
-    part: M,
-    output: &mut Vec<u8>,
-    value: &V,
-    state: &mut V::State,
-) -> Option<usize>
-    requires ready { Ready output.old (component_width (M.component_of part))
-        (V.agrees state.old value.now) }
-    ensures writes { AppendsUnlessRefused (component_width (M.component_of part))
-        output.old output.new result (component_outcome (M.component_of part) (V.facts value.now))
-        × V.agrees state.new value.now }
-{
-    if !is_supplied::<M, V>(part) {
-        return None;
-    }
-    match part.write_supplied(output, value, state) {
-        Ok(count) => Some(count),
-        Err(_) => None,
-    }
-}
-
-/// Appends the text of any component, of a deprecated one that of the current one in its place. If it is
-/// refused, writes nothing and returns the refusal.
+/// Appends the text of any component, of a deprecated one that of the current one in its place. Returns
+/// its refusal, if it is refused.
 #[inline]
 pub fn end_component<V: ComponentProvider>(
     component: Component,
@@ -159,11 +149,10 @@ pub fn end_component<V: ComponentProvider>(
         (component_outcome component (V.facts value.now)) }
     ensures agrees { V.agrees state.new value.now }
 {
-    let current = component.current();
-    match write_current(current, output, value, state) {
-        Some(_) => Ok(()),
-        None if supplies::<V>(current.group()) => Err(Refused::YearOutOfRange),
-        None => Err(Refused::Unsupplied),
+    match write_current(component.current(), output, value, state) {
+        Some(answer) => answer,
+        // No current component is deprecated.
+        None => Ok(()),
     }
 }
 

@@ -22,6 +22,14 @@ pub trait ComputeMetadata {
         ensures width { result.max_bytes_needed ≡ min (width_of self.now) usize.MAX }
         ensures text { result.guaranteed_utf8 ≡ is_guaranteed self.now }
         ensures reached { reaches_width self.now };
+
+    /// The most bytes that the text may have, alone. No more than `inline` in the impls: what becomes part
+    /// of a large text is counted before anything is folded.
+    fn width(&self) -> usize
+        ensures { result ≡ min (width_of self.now) usize.MAX }
+    {
+        self.compute_metadata().max_bytes_needed
+    }
 }
 
 impl ComputeMetadata for Component {

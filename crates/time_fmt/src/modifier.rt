@@ -4,11 +4,11 @@ ghost use Rattle.time_below.specs.Conversion.{is_current};
 ghost use Rattle.time_below.specs.declared.format_description.component.Component.{Component};
 ghost use Rattle.time_below.specs.Group.{group_of};
 ghost use Rattle.time_below.specs.Width.{component_width};
-ghost use Rattle.time_fmt.specs.Description.{supplied_outcome, has_group, is_supplied};
-ghost use Rattle.time_fmt.specs.Outcome.{AppendsWhole};
-ghost use Rattle.time_fmt.specs.Room.{HasRoom};
+ghost use Rattle.time_fmt.specs.Description.{component_outcome, supplied_outcome, has_group, is_supplied};
+ghost use Rattle.time_fmt.specs.Ends.{Ends};
+ghost use Rattle.time_fmt.specs.Room.{HasRoom, Ready};
 
-use crate::error::Format;
+use crate::refused::Refused;
 use time_below::format_description::Group;
 use time_provide::ComponentProvider;
 
@@ -31,21 +31,41 @@ pub trait Modifier: Copy {
     /// Appends its text, of a value that supplies its group. The output needs spare capacity for
     /// its width. Allocates nothing.
     ///
-    /// Returns the number of bytes appended, or the refusal of the component, which has no bytes.
+    /// Returns the refusal of the component, which has no bytes, if it is refused.
     fn write_supplied<V: ComponentProvider>(
         self,
         output: &mut Vec<u8>,
         value: &V,
         state: &mut V::State,
-    ) -> Result<usize, Format>
+    ) -> Result<(), Refused>
         requires supplied { IsTrue (is_supplied V.SUPPLIES_DATE V.SUPPLIES_TIME
             V.SUPPLIES_OFFSET V.SUPPLIES_TIMESTAMP (group_of (component_of self))) }
         requires room { HasRoom output.old (component_width (component_of self)) }
         requires agrees { V.agrees state.old value.now }
-        ensures appends { AppendsWhole (component_width (component_of self))
-            output.old output.new result
+        ensures ends { Ends (component_width (component_of self)) output.old output.new result
             (supplied_outcome (component_of self) (V.facts value.now)) }
         ensures agrees { V.agrees state.new value.now };
+}
+
+/// Appends the text of any component that is not deprecated, by its choices. Returns its refusal, if it is
+/// refused.
+#[inline(always)]
+pub(crate) fn write_part<M: Modifier, V: ComponentProvider>(
+    part: M,
+    output: &mut Vec<u8>,
+    value: &V,
+    state: &mut V::State,
+) -> Result<(), Refused>
+    requires ready { Ready output.old (component_width (M.component_of part))
+        (V.agrees state.old value.now) }
+    ensures writes { Ends (component_width (M.component_of part)) output.old output.new result
+        (component_outcome (M.component_of part) (V.facts value.now))
+        × V.agrees state.new value.now }
+{
+    if !is_supplied::<M, V>(part) {
+        return Err(Refused::Unsupplied);
+    }
+    part.write_supplied(output, value, state)
 }
 
 /// Whether the values of a type supply the group of a component, which is not deprecated. No more than

@@ -1,11 +1,11 @@
-//! The refusals of the engine.
+//! What components refuse.
 ghost use Rattle.time_fmt.specs.Ends.{refusal_of};
 ghost use Rattle.time_fmt.specs.Outcome.{Names};
 
 use crate::error::Format;
 use time_below::ComponentRange;
 
-/// What the engine refuses. A `Result<(), Refused>` is returned in registers, where one with the
+/// Why a component has no text. A `Result<(), Refused>` is returned in registers, where one with the
 /// library's error lies in memory.
 #[derive(Clone, Copy)]
 pub enum Refused {
@@ -18,6 +18,9 @@ pub enum Refused {
 impl From<Refused> for Format {
     ghost from_gives = { λ refused format. Names format (refusal_of refused) };
 
+    // A call, so that the paths of texts that are not refused stay small.
+    #[cold]
+    #[inline(never)]
     fn from(refused: Refused) -> Format {
         match refused {
             Refused::Unsupplied => Format::InsufficientTypeInformation,

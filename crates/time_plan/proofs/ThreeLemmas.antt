@@ -11,11 +11,12 @@ use Rattle.time_below.specs.Tree.{of_component}
 use Rattle.time_below.specs.Width.{tree_width, trees_width, are_guaranteed_text}
 use Rattle.time_fmt.specs.Description.{tree_outcome, trees_outcome}
 use Rattle.time_fmt.specs.Kind.{kind_text, extended_year}
-use Rattle.time_fmt.specs.Outcome.{Outcome, Appends, AppendsUpTo, done, join}
+use Rattle.time_fmt.specs.Ends.{Ends}
+use Rattle.time_fmt.specs.Outcome.{Outcome, done, join}
 use Rattle.time_fmt.specs.Room.{Writes}
 use Rattle.time_fmt.specs.Text.{padded_text}
+use Rattle.time_fmt.proofs.EndLemmas.{whole_text}
 use Rattle.time_fmt.proofs.TextLemmas.{two_places, signed_four_to_six}
-use Rattle.time_fmt.proofs.WriteLemmas.{appends_text, appends_both}
 use Rattle.time_plan.specs.Literal.{literal_bytes}
 use Rattle.time_plan.specs.Shown.{part_component, three_parts, shown_tree}
 use Rattle.time_plan.specs.Steps.{step_tree, step_trees, IsPart, EndsThree}
@@ -25,6 +26,7 @@ use Rattle.time_plan.specs.declared.shown.Shown.{Shown}
 use Rattle.time_plan.specs.declared.step.Step.{Step}
 use Rattle.time_plan.proofs.StepLemmas.{join_assoc, join_nothing, step_outcome, step_width, step_is_text, and_true}
 use Rattle.time_plan.proofs.FlattenLemmas.{outcome_pushed, width_pushed, text_pushed}
+use Rattle.time_plan.proofs.WriteLemmas.{text_behind}
 
 -- ---- steps
 
@@ -154,14 +156,10 @@ three_written : {m n : ℕ} (p q r : Part) (x y width : ℕ) (f : Facts) (a b c 
     → tree_outcome (of_component (part_component r)) f ≡ done c
     → length a + length (x ∷ (b ++ (y ∷ c))) ≤ width
     → Writes old mid m a → Writes mid new n (x ∷ (b ++ (y ∷ c)))
-    → AppendsUpTo width old new (Ok (m + n)) (tree_outcome (three_parts p x q y r) f)
-three_written {m} {n} p q r x y width f a b c old mid new is_a is_b is_c fits first others =
-    let both = appends_both (done a) (done (x ∷ (b ++ (y ∷ c)))) (appends_text first) (appends_text others) in
-    record {
-      appends = subst (λ (o : Outcome). Appends old new (Ok (m + n)) o)
-          (sym (three_done p q r x y f a b c is_a is_b is_c)) both;
-      within = omega (arith, first.grown, others.grown, fits);
-    }
+    → Ends width old new (Ok tt) (tree_outcome (three_parts p x q y r) f)
+three_written p q r x y width f a b c old mid new is_a is_b is_c fits first others =
+    subst (λ (o : Outcome). Ends width old new (Ok tt) o) (sym (three_done p q r x y f a b c is_a is_b is_c))
+    (text_behind (whole_text first (omega arith)) others fits)
 
 -- two numbers, each behind its byte
 pub length-two_after : (x y m n : ℕ) → m < 100 → n < 100
@@ -185,7 +183,7 @@ pub time_written : {m n : ℕ} (x y hour minute second : ℕ) (f : Facts) (old m
     → hour < 100 → minute < 100 → second < 100
     → Writes old mid m (padded_text padding.Zero 2 hour)
     → Writes mid new n (x ∷ (padded_text padding.Zero 2 minute ++ (y ∷ padded_text padding.Zero 2 second)))
-    → AppendsUpTo 8 old new (Ok (m + n)) (tree_outcome (three_parts part.Hour x part.Minute y part.Second) f)
+    → Ends 8 old new (Ok tt) (tree_outcome (three_parts part.Hour x part.Minute y part.Second) f)
 time_written x y hour minute second f old mid new there is_hour is_minute is_second h m s first others =
     three_written part.Hour part.Minute part.Second x y 8 f (padded_text padding.Zero 2 hour)
     (padded_text padding.Zero 2 minute) (padded_text padding.Zero 2 second) old mid new
@@ -199,7 +197,7 @@ pub date_written : {m n : ℕ} (x y : ℕ) (year : ℤ) (month day : ℕ) (f : F
     → unsigned_abs year ≤ 999_999 → month < 100 → day < 100
     → Writes old mid m (kind_text (extended_year padding.Zero false year))
     → Writes mid new n (x ∷ (padded_text padding.Zero 2 month ++ (y ∷ padded_text padding.Zero 2 day)))
-    → AppendsUpTo 13 old new (Ok (m + n)) (tree_outcome (three_parts part.Year x part.Month y part.Day) f)
+    → Ends 13 old new (Ok tt) (tree_outcome (three_parts part.Year x part.Month y part.Day) f)
 date_written x y year month day f old mid new there is_year is_month is_day small m d first others =
     three_written part.Year part.Month part.Day x y 13 f (kind_text (extended_year padding.Zero false year))
     (padded_text padding.Zero 2 month) (padded_text padding.Zero 2 day) old mid new

@@ -1,5 +1,5 @@
 -- Steps that are written one after another.
-use Rattle.std.proofs.Common.{◌≡◌, ℕ, ◌+◌, ◌++◌, List, refl, sym, ap, ◌∙◌, arith, append_assoc, subst}
+use Rattle.std.proofs.Common.{◌≡◌, ℕ, ◌+◌, ◌≤◌, ◌++◌, List, length, refl, sym, ap, ◌∙◌, arith, append_assoc, subst}
 use Rattle.std.proofs.Common.{Ok, Err, Vec, length-append}
 use Rattle.std.specs.Global.{Global}
 use Rattle.time_below.specs.Facts.{Facts}
@@ -8,36 +8,29 @@ use Rattle.time_fmt.specs.declared.refused.Refused.{Refused}
 use Rattle.time_fmt.specs.Description.{tree_outcome}
 use Rattle.time_fmt.specs.Ends.{Ends, refusal_of}
 use Rattle.time_fmt.specs.Guarantee.{AppendsTree}
-use Rattle.time_fmt.specs.Outcome.{Outcome, Appends, AppendsUpTo, done}
+use Rattle.time_fmt.specs.Outcome.{Outcome, done}
 use Rattle.time_fmt.specs.Room.{Writes}
-use Rattle.time_fmt.proofs.WriteLemmas.{appends_text, appends_both, join_refused, join_done}
-use Rattle.time_fmt.proofs.EndLemmas.{ends_complete}
+use Rattle.time_fmt.proofs.WriteLemmas.{join_refused, join_done}
 use Rattle.time_plan.specs.Shown.{shown_tree}
 use Rattle.time_plan.specs.Steps.{step_tree}
 use Rattle.time_plan.specs.Literal.{literal_bytes}
 use Rattle.time_plan.specs.declared.step.Step.{Step}
 use Rattle.time_plan.proofs.StepLemmas.{step_outcome, step_width, step_text}
 
--- the literal behind what was written of the component
-pub step_completed : {count more_count : ℕ} (s : Step) (f : Facts) (old mid new : Vec ℕ Global)
-    → AppendsUpTo (tree_width (shown_tree s.shown)) old mid (Ok count) (tree_outcome (shown_tree s.shown) f)
-    → Writes mid new more_count (literal_bytes s.literal)
-    → AppendsUpTo (tree_width (step_tree s)) old new (Ok (count + more_count)) (tree_outcome (step_tree s) f)
-step_completed {count} {more_count} s f old mid new first second =
-    let both = appends_both (tree_outcome (shown_tree s.shown) f) (done (literal_bytes s.literal)) first.appends (appends_text second) in
-    record {
-      appends = subst (λ (o : Outcome). Appends old new (Ok (count + more_count)) o) (sym (step_outcome s f)) both;
-      within = omega (arith, first.within, second.grown, step_width s);
-    }
+-- a text behind what ended without a refusal
+pub text_behind : {u : Unit} {width greatest count : ℕ} {o : Outcome} {bs : List ℕ} {old mid new : Vec ℕ Global}
+    → Ends width old mid (Ok u) o → Writes mid new count bs → width + length bs ≤ greatest
+    → Ends greatest old new (Ok tt) (done (o.bytes ++ bs))
+text_behind {o = o} {bs = bs} {old = old} first second fits = record {
+  appended = second.appended ∙ ap (λ (items : List ℕ). items ++ bs) first.appended
+      ∙ append_assoc old.items o.bytes bs;
+  refusal = refl;
+  grown = omega (arith, first.grown, second.grown, length-append o.bytes bs);
+  capacity = second.capacity ∙ first.capacity;
+  within = omega (arith, first.within, second.grown, fits);
+}
 
-pub step_appends : {count more_count : ℕ} (s : Step) (f : Facts) (old mid new : Vec ℕ Global)
-    → AppendsUpTo (tree_width (shown_tree s.shown)) old mid (Ok count) (tree_outcome (shown_tree s.shown) f)
-    → Writes mid new more_count (literal_bytes s.literal)
-    → AppendsTree (step_tree s) f old new (Ok tt)
-step_appends s f old mid new first second =
-    record { ends = ends_complete (step_completed s f old mid new first second); text = step_text s f }
-
--- so is one that ends without a refusal
+-- so is the literal of a step
 pub step_ended : {more_count : ℕ} {u : Unit} (s : Step) (f : Facts) (old mid new : Vec ℕ Global)
     → Ends (tree_width (shown_tree s.shown)) old mid (Ok u) (tree_outcome (shown_tree s.shown) f)
     → Writes mid new more_count (literal_bytes s.literal)
@@ -47,14 +40,8 @@ step_ended s f old mid new first second =
     let bs = literal_bytes s.literal in
     let is : tree_outcome (step_tree s) f ≡ done (c.bytes ++ bs) = step_outcome s f
     ∙ join_done c (done bs) (sym first.refusal) in
-    let ends : Ends (tree_width (step_tree s)) old new (Ok tt) (done (c.bytes ++ bs)) = record {
-      appended = second.appended ∙ ap (λ (items : List ℕ). items ++ bs) first.appended
-          ∙ append_assoc old.items c.bytes bs;
-      refusal = refl;
-      grown = omega (arith, first.grown, second.grown, length-append c.bytes bs);
-      capacity = second.capacity ∙ first.capacity;
-      within = omega (arith, first.within, second.grown, step_width s);
-    } in
+    let ends : Ends (tree_width (step_tree s)) old new (Ok tt) (done (c.bytes ++ bs)) =
+    text_behind first second (omega (arith, step_width s)) in
     record {
       ends = subst (λ (o : Outcome). Ends (tree_width (step_tree s)) old new (Ok tt) o) (sym is) ends;
       text = step_text s f;

@@ -1,14 +1,9 @@
 -- What a step shows of a value before its literal.
-use Rattle.std.specs.Global.{Global}
-use Rattle.std.specs.Prelude.{ℕ, ◌≡◌, [], ◌∷◌, false, Option, Some, None, Ok, Vec}
+use Rattle.std.specs.Prelude.{ℕ, [], ◌∷◌, false}
 use Rattle.time_below.specs.declared.format_description.component.Component.{Component}
 use Rattle.time_below.specs.declared.format_description.component.Component.TheVariants as component
 use Rattle.time_below.specs.declared.format_description.modifier.Padding.TheVariants as padding
-use Rattle.time_below.specs.Facts.{Facts}
 use Rattle.time_below.specs.Tree.{Tree, text_literal, of_component, all_of, nothing, end, more}
-use Rattle.time_below.specs.Width.{tree_width}
-use Rattle.time_fmt.specs.Description.{tree_outcome}
-use Rattle.time_fmt.specs.Outcome.{AppendsUpTo, refused, insufficient}
 use Rattle.time_plan.specs.declared.shown.Part.{Part}
 use Rattle.time_plan.specs.declared.shown.Part.TheVariants as part
 use Rattle.time_plan.specs.declared.shown.Run.{Run}
@@ -41,8 +36,3 @@ run_tree (run.Time between) = three_parts part.Hour between.first part.Minute be
 abbrev pub shown_tree : Shown → Tree
 shown_tree (shown.Component c) = of_component c
 shown_tree (shown.Run r) = run_tree r
-
--- what the tree gives was appended; or the value lacks its group, and nothing was
-abbrev pub AppendsIfSupplied : Tree → Facts → Vec ℕ Global → Vec ℕ Global → Option ℕ → Type 0
-AppendsIfSupplied t f old new None = (new ≡ old) × (tree_outcome t f ≡ refused insufficient)
-AppendsIfSupplied t f old new (Some count) = AppendsUpTo (tree_width t) old new (Ok count) (tree_outcome t f)

@@ -6,11 +6,10 @@ ghost use Rattle.time_below.specs.Width.{tree_width, trees_width};
 ghost use Rattle.time_fmt.specs.Description.{tree_outcome};
 ghost use Rattle.time_fmt.specs.Ends.{Ends};
 ghost use Rattle.time_fmt.specs.Guarantee.{AppendsLeaf, AppendsTree};
-ghost use Rattle.time_fmt.specs.Outcome.{AppendsUpTo};
 ghost use Rattle.time_fmt.specs.Room.{HasRoom, Ready, Writes};
 ghost use Rattle.time_fmt.specs.Text.{padded_text};
 ghost use Rattle.time_plan.specs.Literal.{literal_bytes};
-ghost use Rattle.time_plan.specs.Shown.{run_tree, shown_tree, AppendsIfSupplied};
+ghost use Rattle.time_plan.specs.Shown.{run_tree, shown_tree};
 ghost use Rattle.time_plan.specs.Steps.{step_tree, step_trees};
 
 use crate::literal::Literal;
@@ -44,7 +43,11 @@ pub(crate) fn write_steps<V: ComponentProvider>(
     let mut taken = take_out(output);
     for step in steps {
         match write_step(step, &mut taken, value, state) {
-            Some(_) => {}
+            Some(Ok(())) => {}
+            Some(Err(refused)) => {
+                put_back(output, taken);
+                return Err(refused);
+            }
             None => {
                 let mut apart = taken;
                 match write_seldom(step, &mut apart, value, state) {
@@ -61,15 +64,15 @@ pub(crate) fn write_steps<V: ComponentProvider>(
     Ok(())
 }
 
-/// Writes a step that is met often, and returns the number of bytes. Of any other it writes nothing, and
-/// returns `None`. It becomes part of the loop.
+/// Writes a step that is met often, and returns its refusal, if it is refused. Of any other it writes
+/// nothing, and returns `None`. It becomes part of the loop.
 #[inline(always)]
 fn write_step<V: ComponentProvider>(
     step: &Step,
     output: &mut Vec<u8>,
     value: &V,
     state: &mut V::State,
-) -> Option<usize>
+) -> Option<Result<(), Refused>>
     requires room { HasRoom output.old (tree_width (step_tree step.now)) }
     requires agrees { V.agrees state.old value.now }
     ensures appends { AppendsLeaf (step_tree step.now) (V.facts value.now)
@@ -77,77 +80,80 @@ fn write_step<V: ComponentProvider>(
     ensures agrees { V.agrees state.new value.now }
 {
     match write_shown(&step.shown, output, value, state) {
-        Some(first) => Some(first + write_literal(output, &step.literal)),
+        Some(Ok(())) => {
+            write_literal(output, &step.literal);
+            Some(Ok(()))
+        }
+        Some(Err(refused)) => Some(Err(refused)),
         None => None,
     }
 }
 
-/// Writes what a step shows, if that is met often, and returns the number of bytes. Of anything else, and
-/// of what is refused, it writes nothing, and returns `None`.
+/// Writes what a step shows, if that is met often, and returns its refusal, if it is refused. Of any other
+/// component it writes nothing, and returns `None`.
 #[inline(always)]
 fn write_shown<V: ComponentProvider>(
     shown: &Shown,
     output: &mut Vec<u8>,
     value: &V,
     state: &mut V::State,
-) -> Option<usize>
+) -> Option<Result<(), Refused>>
     requires ready { Ready output.old (tree_width (shown_tree shown.now))
         (V.agrees state.old value.now) }
     ensures writes { MatchOption result (output.new ≡ output.old)
-        (λ count. AppendsUpTo (tree_width (shown_tree shown.now)) output.old output.new (Ok count)
+        (λ answer. Ends (tree_width (shown_tree shown.now)) output.old output.new answer
         (tree_outcome (shown_tree shown.now) (V.facts value.now))) × V.agrees state.new value.now }
 {
     match shown {
         Shown::Component(component) => write_often(*component, output, value, state),
-        Shown::Run(run) => write_run(run, output, value, state),
+        Shown::Run(run) => Some(write_run(run, output, value, state)),
     }
 }
 
-/// Writes a run of components, and returns the number of bytes. Of a value without them it writes nothing,
-/// and returns `None`.
+/// Writes a run of components. A value without them is refused.
 #[inline(always)]
 fn write_run<V: ComponentProvider>(
     run: &Run,
     output: &mut Vec<u8>,
     value: &V,
     state: &mut V::State,
-) -> Option<usize>
+) -> Result<(), Refused>
     requires room { HasRoom output.old (tree_width (run_tree run.now)) }
     requires agrees { V.agrees state.old value.now }
-    ensures appends { AppendsIfSupplied (run_tree run.now) (V.facts value.now)
-        output.old output.new result }
+    ensures ends { Ends (tree_width (run_tree run.now)) output.old output.new result
+        (tree_outcome (run_tree run.now) (V.facts value.now)) }
     ensures agrees { V.agrees state.new value.now }
 {
     match run {
         Run::Time(between) => write_time(*between, output, value, state),
         Run::Date(between) => write_date(*between, output, value, state),
-        Run::Empty => Some(0),
+        Run::Empty => Ok(()),
     }
 }
 
-/// Writes a date, and returns the number of bytes. Of a value without one it writes nothing, and returns
-/// `None`.
+/// Writes a date. A value without one is refused.
 #[inline(always)]
 fn write_date<V: ComponentProvider>(
     between: Separators,
     output: &mut Vec<u8>,
     value: &V,
     state: &mut V::State,
-) -> Option<usize>
+) -> Result<(), Refused>
     requires room { HasRoom output.old (tree_width (run_tree (Run.Date between))) }
     requires agrees { V.agrees state.old value.now }
-    ensures appends { AppendsIfSupplied (run_tree (Run.Date between)) (V.facts value.now)
-        output.old output.new result }
+    ensures ends { Ends (tree_width (run_tree (Run.Date between))) output.old output.new result
+        (tree_outcome (run_tree (Run.Date between)) (V.facts value.now)) }
     ensures agrees { V.agrees state.new value.now }
 {
     if !V::SUPPLIES_DATE {
-        return None;
+        return Err(Refused::Unsupplied);
     }
     let year = value.calendar_year(state);
     let day = value.day(state).expand();
     let month = number_of(value.month(state));
-    let first = fmt_calendar_year_full_extended_range(output, year, parts::YEAR);
-    Some(first + write_two_after(output, between, month, day))
+    fmt_calendar_year_full_extended_range(output, year, parts::YEAR);
+    write_two_after(output, between, month, day);
+    Ok(())
 }
 
 /// The number of a month, 1 to 12.
@@ -159,29 +165,29 @@ fn number_of(month: Month) -> ru8<0, 99>
     ru8::new(u8::from(month)).unwrap()
 }
 
-/// Writes a time of day, and returns the number of bytes. Of a value without one it writes nothing, and
-/// returns `None`.
+/// Writes a time of day. A value without one is refused.
 #[inline(always)]
 fn write_time<V: ComponentProvider>(
     between: Separators,
     output: &mut Vec<u8>,
     value: &V,
     state: &mut V::State,
-) -> Option<usize>
+) -> Result<(), Refused>
     requires room { HasRoom output.old (tree_width (run_tree (Run.Time between))) }
     requires agrees { V.agrees state.old value.now }
-    ensures appends { AppendsIfSupplied (run_tree (Run.Time between)) (V.facts value.now)
-        output.old output.new result }
+    ensures ends { Ends (tree_width (run_tree (Run.Time between))) output.old output.new result
+        (tree_outcome (run_tree (Run.Time between)) (V.facts value.now)) }
     ensures agrees { V.agrees state.new value.now }
 {
     if !V::SUPPLIES_TIME {
-        return None;
+        return Err(Refused::Unsupplied);
     }
     let hour = value.hour(state).expand();
     let minute = value.minute(state).expand();
     let second = value.second(state).expand();
-    let first = format_two_digits(output, hour, Padding::Zero);
-    Some(first + write_two_after(output, between, minute, second))
+    format_two_digits(output, hour, Padding::Zero);
+    write_two_after(output, between, minute, second);
+    Ok(())
 }
 
 /// Writes two numbers in two places, each behind its byte, and returns the number of bytes.
@@ -244,10 +250,7 @@ fn end_shown<V: ComponentProvider>(
 {
     match shown {
         Shown::Component(component) => end_component(*component, output, value, state),
-        Shown::Run(run) => match write_run(run, output, value, state) {
-            Some(_) => Ok(()),
-            None => Err(Refused::Unsupplied),
-        },
+        Shown::Run(run) => write_run(run, output, value, state),
     }
 }
 

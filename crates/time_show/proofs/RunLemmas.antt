@@ -6,14 +6,14 @@ use Rattle.std.specs.Io.KnownBytes.{Appends, Consumes, IsAtEnd}
 use Rattle.time_show.specs.declared.run.ShowError.TheVariants.{Write}
 use Rattle.time_show.specs.Answer.{IsAnswer, AreAnswers, BreaksOff}
 use Rattle.time_show.specs.LineBuffer.{kept_of, kept_with}
-use Rattle.time_show.specs.Lines.{line_feed, lines_of, whole_lines_of, unended_of, last_line_of, IsOneLine}
+use Rattle.line_streams.specs.Lines.{line_feed, lines_of, whole_lines_of, unended_of, last_line_of, IsOneLine}
 use Rattle.time_show.specs.OutputBuffer.{buffered, Accepts, AppendsStart, CutsOff}
 use Rattle.time_show.specs.Run.{RunState, state, output_of, AnsweredUpTo, AcceptsAnswer, CutsAnswerOff, AnswersOn}
 use Rattle.time_show.specs.Run.{CutsAnswersOff, AnswersRest, CutsRestOff, Ran}
 use Rattle.time_show.proofs.OutputBufferLemmas.{Appends-then, Accepts-none, Accepts-flushed, Accepts-then}
 use Rattle.time_show.proofs.OutputBufferLemmas.{CutsOff-after, CutsOff-flushed}
-use Rattle.time_show.proofs.LinesLemmas.{lines_of-rest, whole_lines_of-append, whole_lines_of-fed, unended_of-fed}
-use Rattle.time_show.proofs.LinesLemmas.{whole_lines_of-more, unended_of-more}
+use Rattle.line_streams.proofs.LinesLemmas.{lines_of-rest, whole_lines_of-append, whole_lines_of-fed, unended_of-fed}
+use Rattle.line_streams.proofs.LinesLemmas.{whole_lines_of-more, unended_of-more}
 
 -- the answers to some lines, and the answer to one more
 pub AreAnswers-more : (lines : List (List ℕ)) (line text answer : List ℕ) →

@@ -1,4 +1,3 @@
-pub mod Lines
 pub mod Fields
 pub mod Command
 pub mod Value

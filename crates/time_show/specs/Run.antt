@@ -5,7 +5,7 @@ use Rattle.time_show.specs.declared.run.ShowError.{ShowError}
 use Rattle.time_show.specs.declared.run.ShowError.TheVariants.{Read, Write}
 use Rattle.time_show.specs.Answer.{IsAnswer, AreAnswers, BreaksOff}
 use Rattle.time_show.specs.LineBuffer.{kept_of}
-use Rattle.time_show.specs.Lines.{lines_of, whole_lines_of, unended_of}
+use Rattle.line_streams.specs.Lines.{lines_of, whole_lines_of, unended_of}
 use Rattle.time_show.specs.OutputBuffer.{Output, buffered, Accepts, CutsOff}
 
 -- what is kept of the line whose end has not come, what the output holds, if it shows it, and what waits to be written

@@ -6,10 +6,10 @@ ghost use Rattle.time_show.specs.LineBuffer.{kept_of, kept_with};
 ghost use Rattle.time_show.specs.Reply.{reply_text};
 ghost use Rattle.time_show.specs.Run.{state, AcceptsAnswer, CutsAnswerOff, AnswersOn, CutsAnswersOff, AnswersRest, CutsRestOff, Ran};
 
-use crate::bytes::place_of_end;
 use crate::line_buffer::LineBuffer;
 use crate::output::{OutputBuffer, WriteFailed};
 use crate::reply::{Reply, reply_to};
+use line_streams::place_of_end;
 use std::alloc::Global;
 use std::io::{Read, Write};
 

@@ -31,11 +31,19 @@ pub(super) fn write_nodes<T: Node, V: ComponentProvider>(
     let mut taken = take_out(output);
     for node in nodes {
         match write_leaf(node, &mut taken, value, state) {
-            Some(_) => {}
+            Some(Ok(())) => {}
+            Some(Err(refused)) => {
+                put_back(output, taken);
+                return Err(refused);
+            }
             None => {
                 let mut apart = taken;
                 match write_seldom(node, &mut apart, value, state) {
-                    Some(_) => taken = apart,
+                    Some(Ok(())) => taken = apart,
+                    Some(Err(refused)) => {
+                        put_back(output, apart);
+                        return Err(refused);
+                    }
                     None => {
                         put_back(output, apart);
                         write_node(node, output, value, state)?;
@@ -49,15 +57,15 @@ pub(super) fn write_nodes<T: Node, V: ComponentProvider>(
     Ok(())
 }
 
-/// Writes a literal, or a component that is met often, and returns the number of bytes. Of any other
-/// node it writes nothing, and returns `None`. It becomes part of the loop over a list.
+/// Writes a literal, or a component that is met often, and returns its refusal, if it is refused. Of any
+/// other node it writes nothing, and returns `None`. It becomes part of the loop over a list.
 #[inline(always)]
 fn write_leaf<T: Node, V: ComponentProvider>(
     node: &T,
     output: &mut Vec<u8>,
     value: &V,
     state: &mut V::State,
-) -> Option<usize>
+) -> Option<Result<(), Refused>>
     requires room { HasRoom output.old (tree_width (T.tree node.now)) }
     requires agrees { V.agrees state.old value.now }
     ensures appends { AppendsLeaf (T.tree node.now) (V.facts value.now)
@@ -65,22 +73,28 @@ fn write_leaf<T: Node, V: ComponentProvider>(
     ensures agrees { V.agrees state.new value.now }
 {
     match node.layer() {
-        Layer::Bytes(bytes) => Some(write_literal(output, bytes)),
-        Layer::Text(text) => Some(write_literal(output, text.as_bytes())),
+        Layer::Bytes(bytes) => {
+            write_literal(output, bytes);
+            Some(Ok(()))
+        }
+        Layer::Text(text) => {
+            write_literal(output, text.as_bytes());
+            Some(Ok(()))
+        }
         Layer::Component(component) => write_often(component, output, value, state),
         _ => None,
     }
 }
 
-/// Writes a component that is neither deprecated nor refused, and returns the number of bytes. Of any
-/// other node it writes nothing, and returns `None`.
+/// Writes a component that is not deprecated, and returns its refusal, if it is refused. Of any other node
+/// it writes nothing, and returns `None`.
 #[inline(always)]
 fn write_seldom<T: Node, V: ComponentProvider>(
     node: &T,
     output: &mut Vec<u8>,
     value: &V,
     state: &mut V::State,
-) -> Option<usize>
+) -> Option<Result<(), Refused>>
     requires room { HasRoom output.old (tree_width (T.tree node.now)) }
     requires agrees { V.agrees state.old value.now }
     ensures appends { AppendsLeaf (T.tree node.now) (V.facts value.now)

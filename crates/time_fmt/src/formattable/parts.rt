@@ -10,7 +10,7 @@ ghost use Rattle.time_fmt.specs.Outcome.{done, join};
 use crate::error::Format;
 use crate::formattable::{Formattable, make_room};
 use crate::metadata::ComputeMetadata;
-use crate::modifier::{Modifier, is_supplied};
+use crate::modifier::{Modifier, write_part};
 use crate::writers::{put_back, take_out, write_each};
 use time_below::format_description::Metadata;
 use time_provide::ComponentProvider;
@@ -30,6 +30,11 @@ impl<const N: usize> ComputeMetadata for Literal<N> {
             max_bytes_needed: N,
             guaranteed_utf8: is_text(self.0.as_slice()),
         }
+    }
+
+    #[inline]
+    fn width(&self) -> usize {
+        N
     }
 }
 
@@ -65,6 +70,11 @@ impl<A: ComputeMetadata, B: ComputeMetadata> ComputeMetadata for (A, B) {
     fn compute_metadata(&self) -> Metadata {
         self.0.compute_metadata() + self.1.compute_metadata()
     }
+
+    #[inline]
+    fn width(&self) -> usize {
+        self.0.width().saturating_add(self.1.width())
+    }
 }
 
 impl<A: Formattable, B: Formattable> Formattable for (A, B) {
@@ -96,14 +106,19 @@ impl<A: Formattable, B: Formattable> Formattable for (A, B) {
         value: &V,
         state: &mut V::State,
     ) -> Result<usize, Format> {
-        let width = self.compute_metadata().max_bytes_needed;
+        let width = self.width();
         if width == usize::MAX || make_room(output, width).is_err() {
             return Err(Format::OutOfMemory);
         }
         let mut taken = take_out(output);
+        let begin = taken.len();
         let written = self.write_into(&mut taken, value, state);
+        let end = taken.len();
         put_back(output, taken);
-        written
+        match written {
+            Ok(_) => Ok(end - begin),
+            Err(refusal) => Err(refusal),
+        }
     }
 }
 
@@ -120,21 +135,26 @@ impl<M: Modifier> ComputeMetadata for M {
             guaranteed_utf8: true,
         }
     }
+
+    #[inline]
+    fn width(&self) -> usize {
+        self.group_and_width().1
+    }
 }
 
 impl<M: Modifier> Formattable for M {
     ghost outcome_of = { λ part. component_outcome (M.component_of part) };
 
     #[inline(always)]
+    #[tactic(auto, using(crate::proofs::EndLemmas::answered))]
     fn write_into<V: ComponentProvider>(
         &self,
         output: &mut Vec<u8>,
         value: &V,
         state: &mut V::State,
     ) -> Result<usize, Format> {
-        if !is_supplied::<M, V>(*self) {
-            return Err(Format::InsufficientTypeInformation);
-        }
-        self.write_supplied(output, value, state)
+        let begin = output.len();
+        write_part(*self, output, value, state)?;
+        Ok(output.len() - begin)
     }
 }

@@ -5,16 +5,15 @@
 
 ghost use Rattle.std.specs.Prelude.{◌≡◌, ◌%◌, int_lt, length, pos, unsigned_abs};
 ghost use Rattle.time_below.specs.declared.format_description.component.Component.TheVariants as component;
+ghost use Rattle.time_fmt.specs.Ends.{Ends};
 ghost use Rattle.time_fmt.specs.Kind.{kind_text, kind_outcome, extended_century, standard_century, century_of};
-ghost use Rattle.time_fmt.specs.Outcome.{AppendsWhole};
 ghost use Rattle.time_fmt.specs.Room.{HasRoom, Writes};
 ghost use Rattle.time_fmt.specs.Text.{padded_text};
 
-use crate::error::Format;
 use crate::modifier::Modifier;
-use crate::writers::digits::{fmt_sign, format_two_digits, write_number};
+use crate::refused::Refused;
+use crate::writers::digits::{fmt_sign, format_two_digits};
 use crate::writers::plain::write_many;
-use time_below::ComponentRange;
 use time_below::format_description::modifier::Padding;
 use time_below::format_description::{Group, modifier};
 use time_digits::num_fmt::one_to_four_digits_no_padding;
@@ -55,9 +54,10 @@ impl Modifier for modifier::CalendarYearCenturyExtendedRange {
         output: &mut Vec<u8>,
         value: &V,
         state: &mut V::State,
-    ) -> Result<usize, Format> {
+    ) -> Result<(), Refused> {
         let year = value.calendar_year(state);
-        Ok(write_any_century(output, year, self.padding, self.sign_is_mandatory))
+        write_any_century(output, year, self.padding, self.sign_is_mandatory);
+        Ok(())
     }
 }
 
@@ -94,7 +94,7 @@ impl Modifier for modifier::CalendarYearCenturyStandardRange {
         output: &mut Vec<u8>,
         value: &V,
         state: &mut V::State,
-    ) -> Result<usize, Format> {
+    ) -> Result<(), Refused> {
         let year = value.calendar_year(state);
         write_accepted_century(output, year, self.padding, self.sign_is_mandatory)
     }
@@ -134,9 +134,10 @@ impl Modifier for modifier::IsoYearCenturyExtendedRange {
         output: &mut Vec<u8>,
         value: &V,
         state: &mut V::State,
-    ) -> Result<usize, Format> {
+    ) -> Result<(), Refused> {
         let year = value.iso_year(state);
-        Ok(write_any_century(output, year, self.padding, self.sign_is_mandatory))
+        write_any_century(output, year, self.padding, self.sign_is_mandatory);
+        Ok(())
     }
 }
 
@@ -174,7 +175,7 @@ impl Modifier for modifier::IsoYearCenturyStandardRange {
         output: &mut Vec<u8>,
         value: &V,
         state: &mut V::State,
-    ) -> Result<usize, Format> {
+    ) -> Result<(), Refused> {
         let year = value.iso_year(state);
         write_accepted_century(output, year, self.padding, self.sign_is_mandatory)
     }
@@ -202,13 +203,15 @@ impl Modifier for modifier::CalendarYearLastTwo {
     }
 
     #[inline(always)]
+    #[tactic(auto, using(crate::proofs::TextLemmas::text_lengths))]
     fn write_supplied<V: ComponentProvider>(
         self,
         output: &mut Vec<u8>,
         value: &V,
         state: &mut V::State,
-    ) -> Result<usize, Format> {
-        Ok(write_number(output, last_two(value.calendar_year(state)), self.padding))
+    ) -> Result<(), Refused> {
+        fmt_calendar_year_last_two(output, last_two(value.calendar_year(state)), self);
+        Ok(())
     }
 }
 
@@ -234,13 +237,15 @@ impl Modifier for modifier::IsoYearLastTwo {
     }
 
     #[inline(always)]
+    #[tactic(auto, using(crate::proofs::TextLemmas::text_lengths))]
     fn write_supplied<V: ComponentProvider>(
         self,
         output: &mut Vec<u8>,
         value: &V,
         state: &mut V::State,
-    ) -> Result<usize, Format> {
-        Ok(write_number(output, last_two(value.iso_year(state)), self.padding))
+    ) -> Result<(), Refused> {
+        fmt_iso_year_last_two(output, last_two(value.iso_year(state)), self);
+        Ok(())
     }
 }
 
@@ -291,20 +296,15 @@ fn write_century_digits(output: &mut Vec<u8>, century: ru16<0, 9_999>, padding: 
 }
 
 // Appends the century of a year of either calendar.
-fn write_any_century(
-    output: &mut Vec<u8>,
-    year: Year,
-    padding: Padding,
-    sign_is_mandatory: bool,
-) -> usize
+fn write_any_century(output: &mut Vec<u8>, year: Year, padding: Padding, sign_is_mandatory: bool)
     requires room { HasRoom output.old 5 }
-    ensures appends { AppendsWhole 5 output.old output.new (Ok result)
+    ensures ends { Ends 5 output.old output.new (Ok result)
         (kind_outcome (extended_century padding sign_is_mandatory
         (int_lt year (pos 0)) (century_of year))) }
 {
     let number = year.get();
     let century = ru16::new((number.unsigned_abs() / 100) as u16).unwrap();
-    write_extended_century(output, century, number < 0, padding, sign_is_mandatory)
+    write_extended_century(output, century, number < 0, padding, sign_is_mandatory);
 }
 
 // Appends the century of a year of either calendar, if it has at most two digits.
@@ -313,19 +313,20 @@ fn write_accepted_century(
     year: Year,
     padding: Padding,
     sign_is_mandatory: bool,
-) -> Result<usize, Format>
+) -> Result<(), Refused>
     requires room { HasRoom output.old 3 }
-    ensures appends { AppendsWhole 3 output.old output.new result
+    ensures ends { Ends 3 output.old output.new result
         (kind_outcome (standard_century padding sign_is_mandatory
         (int_lt year (pos 0)) (century_of year))) }
 {
     let number = year.get();
     let century = number.unsigned_abs() / 100;
     if century > 99 {
-        return Err(Format::ComponentRange(ComponentRange::conditional("year")));
+        return Err(Refused::YearOutOfRange);
     }
     let century = ru8::new(century as u8).unwrap();
-    Ok(write_standard_century(output, century, number < 0, padding, sign_is_mandatory))
+    write_standard_century(output, century, number < 0, padding, sign_is_mandatory);
+    Ok(())
 }
 
 // The last two digits of the year.

@@ -8,9 +8,9 @@ ghost use Rattle.time_fmt.specs.DateText.{month_name, short_name};
 ghost use Rattle.time_fmt.specs.Room.{HasRoom, Writes};
 ghost use Rattle.time_fmt.specs.Text.{padded_text};
 
-use crate::error::Format;
 use crate::modifier::Modifier;
-use crate::writers::digits::{format_three_digits, format_two_digits, write_number};
+use crate::refused::Refused;
+use crate::writers::digits::{format_three_digits, format_two_digits};
 use crate::writers::plain::{put_back, take_out, write_each, write_three};
 use time_below::Month;
 use time_below::format_description::{Group, modifier};
@@ -41,8 +41,9 @@ impl Modifier for modifier::Day {
         output: &mut Vec<u8>,
         value: &V,
         state: &mut V::State,
-    ) -> Result<usize, Format> {
-        Ok(write_number(output, value.day(state).expand(), self.padding))
+    ) -> Result<(), Refused> {
+        fmt_day(output, value.day(state), self);
+        Ok(())
     }
 }
 
@@ -71,8 +72,9 @@ impl Modifier for modifier::MonthShort {
         output: &mut Vec<u8>,
         value: &V,
         state: &mut V::State,
-    ) -> Result<usize, Format> {
-        Ok(fmt_month_short(output, value.month(state), self))
+    ) -> Result<(), Refused> {
+        fmt_month_short(output, value.month(state), self);
+        Ok(())
     }
 }
 
@@ -116,8 +118,9 @@ impl Modifier for modifier::MonthLong {
         output: &mut Vec<u8>,
         value: &V,
         state: &mut V::State,
-    ) -> Result<usize, Format> {
-        Ok(fmt_month_long(output, value.month(state), self))
+    ) -> Result<(), Refused> {
+        fmt_month_long(output, value.month(state), self);
+        Ok(())
     }
 }
 
@@ -150,11 +153,11 @@ impl Modifier for modifier::MonthNumerical {
         output: &mut Vec<u8>,
         value: &V,
         state: &mut V::State,
-    ) -> Result<usize, Format> {
+    ) -> Result<(), Refused> {
         // A day is mostly beside it, and the computation of the day gives the month too.
         let _day = value.day(state);
-        let month = ru8::new(u8::from(value.month(state))).unwrap();
-        Ok(write_number(output, month, self.padding))
+        fmt_month_numerical(output, value.month(state), self);
+        Ok(())
     }
 }
 
@@ -181,8 +184,9 @@ impl Modifier for modifier::Ordinal {
         output: &mut Vec<u8>,
         value: &V,
         state: &mut V::State,
-    ) -> Result<usize, Format> {
-        Ok(fmt_ordinal(output, value.ordinal(state), self))
+    ) -> Result<(), Refused> {
+        fmt_ordinal(output, value.ordinal(state), self);
+        Ok(())
     }
 }
 

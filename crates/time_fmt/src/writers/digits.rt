@@ -1,7 +1,6 @@
 //! Numbers, and the signs before them.
 ghost use Rattle.std.specs.Prelude.{◌<◌, ◌≤◌, length, decimal, replicate};
 ghost use Rattle.time_digits.specs.Digits.{fixed, zero_padded};
-ghost use Rattle.time_fmt.specs.Outcome.{AppendsWhole, done};
 ghost use Rattle.time_fmt.specs.Room.{HasRoom, Writes};
 ghost use Rattle.time_fmt.specs.Text.{padded_text, sign_text};
 
@@ -51,18 +50,6 @@ pub fn format_two_digits(output: &mut Vec<u8>, value: ru8<0, 99>, padding: Paddi
         Padding::Zero => write_pair(output, two_digits_zero_padded(value)),
         rare => write_two_rarely(output, value, rare),
     }
-}
-
-/// Appends the text of a component that is a number in two places. Its clauses are those of
-/// `write_supplied` for such a component, so that the impl has nothing else to prove.
-#[inline(always)]
-#[tactic(auto, using(crate::proofs::TextLemmas::text_lengths))]
-pub(super) fn write_number(output: &mut Vec<u8>, value: ru8<0, 99>, padding: Padding) -> usize
-    requires room { HasRoom output.old 2 }
-    ensures appends { AppendsWhole 2 output.old output.new (Ok result)
-        (done (padded_text padding 2 value)) }
-{
-    format_two_digits(output, value, padding)
 }
 
 // Appends two places of rare padding to a vector that is taken out, since most numbers have zeros

@@ -7,9 +7,9 @@ ghost use Rattle.time_fmt.specs.Kind.{kind_text, offset_hour};
 ghost use Rattle.time_fmt.specs.Room.{HasRoom, Writes};
 ghost use Rattle.time_fmt.specs.Text.{padded_text};
 
-use crate::error::Format;
 use crate::modifier::Modifier;
-use crate::writers::digits::{fmt_sign, format_two_digits, write_number};
+use crate::refused::Refused;
+use crate::writers::digits::{fmt_sign, format_two_digits};
 use time_below::format_description::{Group, modifier};
 use time_provide::ComponentProvider;
 use time_provide::ranges::{OffsetHours, OffsetMinutes, OffsetSeconds};
@@ -48,9 +48,10 @@ impl Modifier for modifier::OffsetHour {
         output: &mut Vec<u8>,
         value: &V,
         state: &mut V::State,
-    ) -> Result<usize, Format> {
+    ) -> Result<(), Refused> {
         let is_negative = value.offset_is_negative(state);
-        Ok(fmt_offset_hour(output, is_negative, value.offset_hour(state), self))
+        fmt_offset_hour(output, is_negative, value.offset_hour(state), self);
+        Ok(())
     }
 }
 
@@ -83,9 +84,9 @@ impl Modifier for modifier::OffsetMinute {
         output: &mut Vec<u8>,
         value: &V,
         state: &mut V::State,
-    ) -> Result<usize, Format> {
-        let minute = value.offset_minute(state).abs();
-        Ok(write_number(output, minute.expand(), self.padding))
+    ) -> Result<(), Refused> {
+        fmt_offset_minute(output, value.offset_minute(state), self);
+        Ok(())
     }
 }
 
@@ -118,8 +119,8 @@ impl Modifier for modifier::OffsetSecond {
         output: &mut Vec<u8>,
         value: &V,
         state: &mut V::State,
-    ) -> Result<usize, Format> {
-        let second = value.offset_second(state).abs();
-        Ok(write_number(output, second.expand(), self.padding))
+    ) -> Result<(), Refused> {
+        fmt_offset_second(output, value.offset_second(state), self);
+        Ok(())
     }
 }

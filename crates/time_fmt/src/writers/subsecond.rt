@@ -7,8 +7,8 @@ ghost use Rattle.time_digits.specs.Fraction.{trimmed_fraction};
 ghost use Rattle.time_fmt.specs.Room.{HasRoom, Writes};
 ghost use Rattle.time_fmt.specs.Text.{subsecond_text};
 
-use crate::error::Format;
 use crate::modifier::Modifier;
+use crate::refused::Refused;
 use crate::writers::digits::{
     format_five_digits_pad_zero, format_four_digits_pad_zero, format_single_digit,
     format_six_digits_pad_zero, format_two_digits, write_eight_digits,
@@ -22,9 +22,8 @@ use time_provide::ComponentProvider;
 use time_provide::ranges::Nanoseconds;
 
 /// Appends the first decimals of the second, one to nine, or as many as are needed, at least one.
-#[cold]
-#[inline(never)]
-#[tactic(auto, using(crate::proofs::DecimalLemmas::first_decimals))]
+#[inline(always)]
+#[tactic(auto, using(crate::proofs::TrimLemmas::usual_decimals))]
 pub fn fmt_subsecond(
     output: &mut Vec<u8>,
     nanosecond: Nanoseconds,
@@ -34,8 +33,67 @@ pub fn fmt_subsecond(
     ensures writes { Writes output.old output.new result
         (subsecond_text modifier.digits nanosecond) }
 {
-    let number = nanosecond.get();
     match modifier.digits {
+        SubsecondDigits::Three => write_three_decimals(output, nanosecond),
+        // Mostly the last of the nine is not zero.
+        SubsecondDigits::Nine | SubsecondDigits::OneOrMore if nanosecond.get() % 10 != 0 => {
+            write_nine_digits(output, nanosecond)
+        }
+        rare => write_rare_decimals(output, nanosecond, rare),
+    }
+}
+
+impl Modifier for modifier::Subsecond {
+    ghost component_of = { component.Subsecond };
+
+    #[inline]
+    fn group_and_width(self) -> (Group, usize) {
+        (Group::Time, subsecond_width(self.digits))
+    }
+
+    #[inline(always)]
+    #[tactic(auto, using(crate::proofs::TrimLemmas::subsecond_lengths))]
+    fn write_supplied<V: ComponentProvider>(
+        self,
+        output: &mut Vec<u8>,
+        value: &V,
+        state: &mut V::State,
+    ) -> Result<(), Refused> {
+        fmt_subsecond(output, value.nanosecond(state), self);
+        Ok(())
+    }
+}
+
+// Any number of decimals, apart, since few texts have another than three or as many as are needed.
+#[inline]
+fn write_rare_decimals(
+    output: &mut Vec<u8>,
+    nanosecond: Nanoseconds,
+    digits: SubsecondDigits,
+) -> usize
+    requires room { HasRoom output.old (length (subsecond_text digits nanosecond)) }
+    ensures writes { Writes output.old output.new result (subsecond_text digits nanosecond) }
+{
+    let mut taken = take_out(output);
+    let count = write_first_decimals(&mut taken, nanosecond, digits);
+    put_back(output, taken);
+    count
+}
+
+// Any number of decimals, of a vector that was taken out.
+#[cold]
+#[inline(never)]
+#[tactic(auto, using(crate::proofs::DecimalLemmas::first_decimals))]
+fn write_first_decimals(
+    output: &mut Vec<u8>,
+    nanosecond: Nanoseconds,
+    digits: SubsecondDigits,
+) -> usize
+    requires room { HasRoom output.old (length (subsecond_text digits nanosecond)) }
+    ensures writes { Writes output.old output.new result (subsecond_text digits nanosecond) }
+{
+    let number = nanosecond.get();
+    match digits {
         SubsecondDigits::One => {
             format_single_digit(output, ru8::new((number / 100_000_000) as u8).unwrap())
         }
@@ -56,50 +114,6 @@ pub fn fmt_subsecond(
         SubsecondDigits::Nine => write_nine_digits(output, nanosecond),
         SubsecondDigits::OneOrMore => write_fraction(output, nanosecond),
     }
-}
-
-impl Modifier for modifier::Subsecond {
-    ghost component_of = { component.Subsecond };
-
-    #[inline]
-    fn group_and_width(self) -> (Group, usize) {
-        (Group::Time, subsecond_width(self.digits))
-    }
-
-    #[inline(always)]
-    #[tactic(auto, using(crate::proofs::TrimLemmas::subsecond_lengths))]
-    fn write_supplied<V: ComponentProvider>(
-        self,
-        output: &mut Vec<u8>,
-        value: &V,
-        state: &mut V::State,
-    ) -> Result<usize, Format> {
-        let nanosecond = value.nanosecond(state);
-        match self.digits {
-            SubsecondDigits::Three => Ok(write_three_decimals(output, nanosecond)),
-            // Mostly the last of the nine is not zero.
-            SubsecondDigits::Nine | SubsecondDigits::OneOrMore if nanosecond.get() % 10 != 0 => {
-                Ok(write_nine_digits(output, nanosecond))
-            }
-            rare => Ok(write_rare_decimals(output, nanosecond, rare)),
-        }
-    }
-}
-
-// Any number of decimals, apart, since few texts have another than three or as many as are needed.
-#[inline]
-fn write_rare_decimals(
-    output: &mut Vec<u8>,
-    nanosecond: Nanoseconds,
-    digits: SubsecondDigits,
-) -> usize
-    requires room { HasRoom output.old (length (subsecond_text digits nanosecond)) }
-    ensures writes { Writes output.old output.new result (subsecond_text digits nanosecond) }
-{
-    let mut taken = take_out(output);
-    let count = fmt_subsecond(&mut taken, nanosecond, modifier::Subsecond { digits });
-    put_back(output, taken);
-    count
 }
 
 /// Appends the first three of the nine digits. Allocates nothing and refuses nothing.

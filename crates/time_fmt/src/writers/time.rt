@@ -6,9 +6,9 @@ ghost use Rattle.time_below.specs.declared.format_description.component.Componen
 ghost use Rattle.time_fmt.specs.Room.{HasRoom, Writes};
 ghost use Rattle.time_fmt.specs.Text.{padded_text, hour_12, period_text};
 
-use crate::error::Format;
 use crate::modifier::Modifier;
-use crate::writers::digits::{format_two_digits, write_number};
+use crate::refused::Refused;
+use crate::writers::digits::format_two_digits;
 use crate::writers::plain::write;
 use time_below::Period;
 use time_below::format_description::{Group, modifier};
@@ -40,8 +40,9 @@ impl Modifier for modifier::Hour12 {
         output: &mut Vec<u8>,
         value: &V,
         state: &mut V::State,
-    ) -> Result<usize, Format> {
-        Ok(write_number(output, on_the_dial(value.hour(state)), self.padding))
+    ) -> Result<(), Refused> {
+        fmt_hour_12(output, value.hour(state), self);
+        Ok(())
     }
 }
 
@@ -68,8 +69,9 @@ impl Modifier for modifier::Hour24 {
         output: &mut Vec<u8>,
         value: &V,
         state: &mut V::State,
-    ) -> Result<usize, Format> {
-        Ok(write_number(output, value.hour(state).expand(), self.padding))
+    ) -> Result<(), Refused> {
+        fmt_hour_24(output, value.hour(state), self);
+        Ok(())
     }
 }
 
@@ -96,8 +98,9 @@ impl Modifier for modifier::Minute {
         output: &mut Vec<u8>,
         value: &V,
         state: &mut V::State,
-    ) -> Result<usize, Format> {
-        Ok(write_number(output, value.minute(state).expand(), self.padding))
+    ) -> Result<(), Refused> {
+        fmt_minute(output, value.minute(state), self);
+        Ok(())
     }
 }
 
@@ -131,8 +134,9 @@ impl Modifier for modifier::Period {
         output: &mut Vec<u8>,
         value: &V,
         state: &mut V::State,
-    ) -> Result<usize, Format> {
-        Ok(fmt_period(output, value.period(state), self))
+    ) -> Result<(), Refused> {
+        fmt_period(output, value.period(state), self);
+        Ok(())
     }
 }
 
@@ -159,8 +163,9 @@ impl Modifier for modifier::Second {
         output: &mut Vec<u8>,
         value: &V,
         state: &mut V::State,
-    ) -> Result<usize, Format> {
-        Ok(write_number(output, value.second(state).expand(), self.padding))
+    ) -> Result<(), Refused> {
+        fmt_second(output, value.second(state), self);
+        Ok(())
     }
 }
 

@@ -6,8 +6,8 @@ ghost use Rattle.time_below.specs.declared.format_description.component.Componen
 ghost use Rattle.time_fmt.specs.Kind.{kind_text, timestamp};
 ghost use Rattle.time_fmt.specs.Room.{HasRoom, Writes};
 
-use crate::error::Format;
 use crate::modifier::Modifier;
+use crate::refused::Refused;
 use crate::writers::digits::{fmt_sign, format_u64_pad_none};
 use time_below::format_description::{Group, modifier};
 use time_provide::ComponentProvider;
@@ -41,8 +41,9 @@ impl Modifier for modifier::UnixTimestampSecond {
         output: &mut Vec<u8>,
         value: &V,
         state: &mut V::State,
-    ) -> Result<usize, Format> {
-        Ok(fmt_unix_timestamp_second(output, value.unix_timestamp_seconds(state), self))
+    ) -> Result<(), Refused> {
+        fmt_unix_timestamp_second(output, value.unix_timestamp_seconds(state), self);
+        Ok(())
     }
 }
 
@@ -75,8 +76,9 @@ impl Modifier for modifier::UnixTimestampMillisecond {
         output: &mut Vec<u8>,
         value: &V,
         state: &mut V::State,
-    ) -> Result<usize, Format> {
-        Ok(fmt_unix_timestamp_millisecond(output, value.unix_timestamp_milliseconds(state), self))
+    ) -> Result<(), Refused> {
+        fmt_unix_timestamp_millisecond(output, value.unix_timestamp_milliseconds(state), self);
+        Ok(())
     }
 }
 

@@ -9,9 +9,9 @@ ghost use Rattle.time_fmt.specs.DateText.{weekday_name, short_name, indexed};
 ghost use Rattle.time_fmt.specs.Room.{HasRoom, Writes};
 ghost use Rattle.time_fmt.specs.Text.{padded_text};
 
-use crate::error::Format;
 use crate::modifier::Modifier;
-use crate::writers::digits::{format_single_digit, format_two_digits, write_number};
+use crate::refused::Refused;
+use crate::writers::digits::{format_single_digit, format_two_digits};
 use crate::writers::plain::{put_back, take_out, write_each, write_three};
 use time_below::Weekday;
 use time_below::format_description::{Group, modifier};
@@ -49,8 +49,9 @@ impl Modifier for modifier::WeekdayShort {
         output: &mut Vec<u8>,
         value: &V,
         state: &mut V::State,
-    ) -> Result<usize, Format> {
-        Ok(fmt_weekday_short(output, value.weekday(state), self))
+    ) -> Result<(), Refused> {
+        fmt_weekday_short(output, value.weekday(state), self);
+        Ok(())
     }
 }
 
@@ -93,8 +94,9 @@ impl Modifier for modifier::WeekdayLong {
         output: &mut Vec<u8>,
         value: &V,
         state: &mut V::State,
-    ) -> Result<usize, Format> {
-        Ok(fmt_weekday_long(output, value.weekday(state), self))
+    ) -> Result<(), Refused> {
+        fmt_weekday_long(output, value.weekday(state), self);
+        Ok(())
     }
 }
 
@@ -131,8 +133,9 @@ impl Modifier for modifier::WeekdaySunday {
         output: &mut Vec<u8>,
         value: &V,
         state: &mut V::State,
-    ) -> Result<usize, Format> {
-        Ok(fmt_weekday_sunday(output, value.weekday(state), self))
+    ) -> Result<(), Refused> {
+        fmt_weekday_sunday(output, value.weekday(state), self);
+        Ok(())
     }
 }
 
@@ -169,8 +172,9 @@ impl Modifier for modifier::WeekdayMonday {
         output: &mut Vec<u8>,
         value: &V,
         state: &mut V::State,
-    ) -> Result<usize, Format> {
-        Ok(fmt_weekday_monday(output, value.weekday(state), self))
+    ) -> Result<(), Refused> {
+        fmt_weekday_monday(output, value.weekday(state), self);
+        Ok(())
     }
 }
 
@@ -201,9 +205,9 @@ impl Modifier for modifier::WeekNumberIso {
         output: &mut Vec<u8>,
         value: &V,
         state: &mut V::State,
-    ) -> Result<usize, Format> {
-        let week = value.iso_week_number(state);
-        Ok(write_number(output, week.expand(), self.padding))
+    ) -> Result<(), Refused> {
+        fmt_week_number_iso(output, value.iso_week_number(state), self);
+        Ok(())
     }
 }
 
@@ -234,9 +238,9 @@ impl Modifier for modifier::WeekNumberSunday {
         output: &mut Vec<u8>,
         value: &V,
         state: &mut V::State,
-    ) -> Result<usize, Format> {
-        let week = value.sunday_based_week(state);
-        Ok(write_number(output, week.expand(), self.padding))
+    ) -> Result<(), Refused> {
+        fmt_week_number_sunday(output, value.sunday_based_week(state), self);
+        Ok(())
     }
 }
 
@@ -267,9 +271,9 @@ impl Modifier for modifier::WeekNumberMonday {
         output: &mut Vec<u8>,
         value: &V,
         state: &mut V::State,
-    ) -> Result<usize, Format> {
-        let week = value.monday_based_week(state);
-        Ok(write_number(output, week.expand(), self.padding))
+    ) -> Result<(), Refused> {
+        fmt_week_number_monday(output, value.monday_based_week(state), self);
+        Ok(())
     }
 }
 

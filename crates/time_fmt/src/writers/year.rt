@@ -5,16 +5,15 @@
 
 ghost use Rattle.std.specs.Prelude.{length};
 ghost use Rattle.time_below.specs.declared.format_description.component.Component.TheVariants as component;
+ghost use Rattle.time_fmt.specs.Ends.{Ends};
 ghost use Rattle.time_fmt.specs.Kind.{kind_text, kind_outcome, extended_year, standard_year};
-ghost use Rattle.time_fmt.specs.Outcome.{AppendsWhole};
 ghost use Rattle.time_fmt.specs.Room.{HasRoom, Writes};
 ghost use Rattle.time_fmt.specs.Text.{padded_text};
 
-use crate::error::Format;
 use crate::modifier::Modifier;
+use crate::refused::Refused;
 use crate::writers::digits::{fmt_sign, format_four_digits};
 use crate::writers::plain::{put_back, take_out, write_many};
-use time_below::ComponentRange;
 use time_below::format_description::modifier::Padding;
 use time_below::format_description::{Group, modifier};
 use time_digits::num_fmt::four_to_six_digits;
@@ -52,9 +51,9 @@ impl Modifier for modifier::CalendarYearFullExtendedRange {
         output: &mut Vec<u8>,
         value: &V,
         state: &mut V::State,
-    ) -> Result<usize, Format> {
-        let year = value.calendar_year(state);
-        Ok(write_any_year(output, year, self.padding, self.sign_is_mandatory))
+    ) -> Result<(), Refused> {
+        fmt_calendar_year_full_extended_range(output, value.calendar_year(state), self);
+        Ok(())
     }
 }
 
@@ -87,7 +86,7 @@ impl Modifier for modifier::CalendarYearFullStandardRange {
         output: &mut Vec<u8>,
         value: &V,
         state: &mut V::State,
-    ) -> Result<usize, Format> {
+    ) -> Result<(), Refused> {
         let year = value.calendar_year(state);
         write_accepted_year(output, year, self.padding, self.sign_is_mandatory)
     }
@@ -123,9 +122,9 @@ impl Modifier for modifier::IsoYearFullExtendedRange {
         output: &mut Vec<u8>,
         value: &V,
         state: &mut V::State,
-    ) -> Result<usize, Format> {
-        let year = value.iso_year(state);
-        Ok(write_any_year(output, year, self.padding, self.sign_is_mandatory))
+    ) -> Result<(), Refused> {
+        fmt_iso_year_full_extended_range(output, value.iso_year(state), self);
+        Ok(())
     }
 }
 
@@ -158,7 +157,7 @@ impl Modifier for modifier::IsoYearFullStandardRange {
         output: &mut Vec<u8>,
         value: &V,
         state: &mut V::State,
-    ) -> Result<usize, Format> {
+    ) -> Result<(), Refused> {
         let year = value.iso_year(state);
         write_accepted_year(output, year, self.padding, self.sign_is_mandatory)
     }
@@ -251,36 +250,22 @@ fn write_year_digits(output: &mut Vec<u8>, year: ru32<0, 999_999>, padding: Padd
     }
 }
 
-// Appends a year of either calendar.
-#[inline(always)]
-fn write_any_year(
-    output: &mut Vec<u8>,
-    year: Year,
-    padding: Padding,
-    sign_is_mandatory: bool,
-) -> usize
-    requires room { HasRoom output.old 7 }
-    ensures appends { AppendsWhole 7 output.old output.new (Ok result)
-        (kind_outcome (extended_year padding sign_is_mandatory year)) }
-{
-    write_extended_year(output, year, padding, sign_is_mandatory)
-}
-
 // Appends a year of either calendar, if it has at most four digits.
 fn write_accepted_year(
     output: &mut Vec<u8>,
     year: Year,
     padding: Padding,
     sign_is_mandatory: bool,
-) -> Result<usize, Format>
+) -> Result<(), Refused>
     requires room { HasRoom output.old 5 }
-    ensures appends { AppendsWhole 5 output.old output.new result
+    ensures ends { Ends 5 output.old output.new result
         (kind_outcome (standard_year padding sign_is_mandatory year)) }
 {
     let number = year.get();
     if number.unsigned_abs() > 9_999 {
-        return Err(Format::ComponentRange(ComponentRange::conditional("year")));
+        return Err(Refused::YearOutOfRange);
     }
     let year = ri16::new(number as i16).unwrap();
-    Ok(write_standard_year(output, year, padding, sign_is_mandatory))
+    write_standard_year(output, year, padding, sign_is_mandatory);
+    Ok(())
 }

@@ -1,7 +1,7 @@
 //! Lines and their answers, over memory.
 ghost use Rattle.std.specs.Prelude.{ℕ, List, IfOk};
 ghost use Rattle.time_show.specs.Answer.{AreAnswers};
-ghost use Rattle.time_show.specs.Lines.{lines_of};
+ghost use Rattle.line_streams.specs.Lines.{lines_of};
 
 use crate::laws::lines_spell_their_text;
 use crate::run::{ShowError, run};

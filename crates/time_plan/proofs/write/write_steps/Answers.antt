@@ -3,13 +3,21 @@ use Rattle.time_below.proofs.NodeLemmas.{next_of}
 use Rattle.time_fmt.proofs.Engine.{all_along, list_refused, written_along}
 use Rattle.time_plan.specs.Steps.{step_tree}
 use Rattle.time_plan.proofs.write.write_steps.Goals as goal
-use Rattle.time_plan.proofs.write.write_steps.Goals.{in-Some, in-None+in-Ok}
+use Rattle.time_plan.proofs.write.write_steps.Goals.{in-Some-Ok, in-None+in-Ok}
+
+pub returns-in-Some-Err-clause-appends : goal.returns-in-Some-Err-clause-appends
+returns-in-Some-Err-clause-appends g c =
+    let next = next_of step_tree c.args.steps.now c.loop-step.step-index c.step-item.result c.loop-step-test.true
+    c.step-item.is in
+    rw c.put_back.ensures.put
+    (list_refused c.args.output.now c.loop-step.taken c.write_step.new.output _ _ _ _ _ c.loop-step.invariant next
+    (rw (c.in-Some-Err.field-0-is, ← c.in-Some-Err.refused-is) at c.in-Some-Err.ensures.appends))
 
 pub returns-in-Err-clause-appends : goal.returns-in-Err-clause-appends
 returns-in-Err-clause-appends g c =
     let next = next_of step_tree c.args.steps.now c.loop-step.step-index c.step-item.result c.loop-step-test.true
     c.step-item.is in
-    rw c.put_back.ensures.put
+    rw c.put_back-in-Err.ensures.put
     (list_refused c.args.output.now c.loop-step.taken c.write_seldom.new.output _ _ _ _ _ c.loop-step.invariant next
     (rw c.in-None.ensures.appends at c.in-Err.ensures.appends))
 
@@ -25,11 +33,11 @@ loop-step-preserved g c =
     c.step-item.is in
     let same : 0 ≤ 0 = omega arith in
     elim c.match-write_step.branch [
-      | in-Some w ↦
+      | in-Some-Ok w ↦
           rw (w.taken-is, w.state-is)
           (written_along {agrees_after = g.V.ComponentProvider.agrees c.write_step.new.state c.args.value.now}
           c.args.output.now c.loop-step.taken c.write_step.new.output _ _ _ _ _ c.loop-step.invariant next same
-          w.in-Some.ensures.appends w.in-Some.ensures.agrees)
+          (rw w.in-Some-Ok.field-0-is at w.in-Some-Ok.ensures.appends) w.in-Some-Ok.ensures.agrees)
       | in-None+in-Ok w ↦
           rw (w.taken-is, w.state-is)
           (written_along {agrees_after = g.V.ComponentProvider.agrees w.write_seldom.new.state c.args.value.now}

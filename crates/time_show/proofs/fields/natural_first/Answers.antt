@@ -1,6 +1,6 @@
 use Rattle.std.proofs.Common.{inl, inr, ◌+◌, arith}
 use Rattle.time_show.proofs.FieldsLemmas.{natural_missed, natural_last, natural_before, natural_small}
-use Rattle.time_show.proofs.LinesLemmas.{slice-end}
+use Rattle.line_streams.proofs.LinesLemmas.{slice-end}
 use Rattle.time_show.proofs.fields.natural_first.Goals as goal
 
 pub returns-then-count-eq0-clause-value : goal.returns-then-count-eq0-clause-value

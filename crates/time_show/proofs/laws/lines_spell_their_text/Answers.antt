@@ -1,4 +1,4 @@
-use Rattle.time_show.proofs.LinesLemmas.{LinesSpell-holds}
+use Rattle.line_streams.proofs.LinesLemmas.{LinesSpell-holds}
 use Rattle.time_show.proofs.laws.lines_spell_their_text.Goals as goal
 
 pub returns : goal.returns

@@ -1,10 +1,10 @@
-use Rattle.std.proofs.Common.{ℕ, List, [], ◌∷◌, ◌++◌, ◌≡◌, ◌+◌, ◌-◌, length, take, drop, Option, Some, None, refl, ap}
+use Rattle.std.proofs.Common.{ℕ, List, [], ◌∷◌, ◌++◌, ◌≡◌, ◌+◌, ◌-◌, length, take, drop, Option, Some, None, refl, ap, sym}
 use Rattle.std.proofs.Common.{◌∙◌, append_assoc}
 use Rattle.std.proofs.lemmas.Result.{err_from_is_err_and}
 use Rattle.time_show.specs.LineBuffer.{kept_with}
-use Rattle.time_show.specs.Lines.{line_feed, IsOneLine}
+use Rattle.line_streams.specs.Lines.{line_feed, EndsAt, IsOneLine}
 use Rattle.time_show.specs.Run.{state, AcceptsAnswer, CutsAnswerOff, AnswersOn, CutsAnswersOff}
-use Rattle.time_show.proofs.LinesLemmas.{EndsAt, line-found, slice-end}
+use Rattle.line_streams.proofs.LinesLemmas.{line-found, slice-end}
 use Rattle.time_show.proofs.RunLemmas.{AnswersOn-none, AnswersOn-then, AnswersOn-kept, AnswersOn-line}
 use Rattle.time_show.proofs.RunLemmas.{CutsAnswersOff-line, CutsAnswersOff-after}
 use Rattle.time_show.proofs.run.feed.Goals as goal
@@ -14,11 +14,7 @@ next-line : (bytes fed rest : List ℕ) (end : ℕ) → bytes ≡ fed ++ rest �
     bytes ≡ (fed ++ (take end rest ++ line_feed ∷ [])) ++ drop (end + 1) rest
 next-line bytes fed rest end whole ends =
     whole ∙ ap (λ more. fed ++ more) ends.whole
-    ∙ rw (
-      append_assoc fed (take end rest ++ line_feed ∷ []) (drop (end + 1) rest),
-      append_assoc (take end rest)
-          (line_feed ∷ []) (drop (end + 1) rest),
-    )
+    ∙ sym (append_assoc fed (take end rest ++ line_feed ∷ []) (drop (end + 1) rest))
 
 -- one more line is answered
 line_is_answered : (bytes fed rest : List ℕ) (end : ℕ) (k0 k1 k2 k3 h0 h1 h2 : Option (List ℕ)) (w0 w1 w2 : List ℕ) →
@@ -40,7 +36,7 @@ line_is_cut_off : (bytes fed rest : List ℕ) (end : ℕ) (k0 k1 k2 h0 h1 h2 : O
     AnswersOn fed (state k0 h0 w0) (state k1 h1 w1) → CutsAnswerOff (state k2 h1 w1) h2
     → CutsAnswersOff bytes (state k0 h0 w0) h2
 line_is_cut_off bytes fed rest end k0 k1 k2 h0 h1 h2 w0 w1 whole ends kept on cuts =
-    rw (whole ∙ ap (λ more. fed ++ more) ends.whole)
+    rw (whole ∙ ap (λ more. fed ++ more) (ends.whole ∙ append_assoc (take end rest) (line_feed ∷ []) (drop (end + 1) rest)))
     (CutsAnswersOff-after fed (take end rest ++ line_feed ∷ drop (end + 1) rest) (state k0 h0 w0) (state k1 h1 w1) h2 on
     (CutsAnswersOff-line (take end rest) (drop (end + 1) rest) k1 (state k2 h1 w1) h2 ends.front kept cuts))
 

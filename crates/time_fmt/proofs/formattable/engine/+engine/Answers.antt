@@ -4,7 +4,7 @@ use Rattle.time_below.proofs.NodeLemmas.{next_of, smaller_rest}
 use Rattle.time_fmt.proofs.GuaranteeLemmas.{text_of_component}
 use Rattle.time_fmt.proofs.Engine.{along_from_the_start, room_for_next, all_along, list_refused, written_along, first_appends, no_first, appends_bytes, nothing_appends}
 use Rattle.time_fmt.proofs.formattable.engine.+engine.Goals as goal
-use Rattle.time_fmt.proofs.formattable.engine.+engine.Goals.{write_nodes-in-Some, write_nodes-in-None+in-Some-write_seldom}
+use Rattle.time_fmt.proofs.formattable.engine.+engine.Goals.{write_nodes-in-Some-Ok, write_nodes-in-None+in-Some-Ok-write_seldom}
 use Rattle.time_fmt.proofs.formattable.engine.+engine.Goals.{write_nodes-in-None+in-None-write_seldom+in_ok-write_node-in-None-write_seldom}
 
 pub write_nodes-loop-node-init : goal.write_nodes-loop-node-init
@@ -32,21 +32,21 @@ write_nodes-loop-node-preserved g t c =
     let smaller = smaller_rest g.T.Node.size c.args.nodes.now c.loop-node.node-index c.node-item.result
     c.loop-node-test.true c.node-item.is in
     elim c.match-write_leaf.branch [
-      | write_nodes-in-Some w ↦
-          let step = w.in-Some.ensures in
+      | write_nodes-in-Some-Ok w ↦
+          let step = w.in-Some-Ok.ensures in
           rw (w.taken-is, w.state-is)
           (written_along {agrees_after = g.V.ComponentProvider.agrees c.write_leaf.new.state c.args.value.now}
           c.args.output.now c.loop-node.taken c.write_leaf.new.output _ _ _ _ _ c.loop-node.invariant next smaller
-          step.appends step.agrees)
-      | write_nodes-in-None+in-Some-write_seldom w ↦
-          let step = w.in-Some-write_seldom.ensures in
+          (rw w.in-Some-Ok.field-0-is at step.appends) step.agrees)
+      | write_nodes-in-None+in-Some-Ok-write_seldom w ↦
+          let step = w.in-Some-Ok-write_seldom.ensures in
           rw (w.taken-is, w.state-is)
           (written_along {agrees_after = g.V.ComponentProvider.agrees w.write_seldom.new.state c.args.value.now}
           c.args.output.now c.loop-node.taken w.write_seldom.new.output _ _ _ _ _ c.loop-node.invariant next smaller
-          (rw w.in-None.ensures.appends at step.appends) step.agrees)
+          (rw (w.in-None.ensures.appends, w.in-Some-Ok-write_seldom.field-0-is) at step.appends) step.agrees)
       | write_nodes-in-None+in-None-write_seldom+in_ok-write_node-in-None-write_seldom w ↦
           let step = w.in_ok-write_node-in-None-write_seldom.ensures in
-          let same = w.put_back.ensures.put ∙ w.in-None-write_seldom.ensures.appends ∙ w.in-None.ensures.appends in
+          let same = w.put_back-in-None-write_seldom.ensures.put ∙ w.in-None-write_seldom.ensures.appends ∙ w.in-None.ensures.appends in
           rw (w.taken-is, w.state-is, w.take_out-taken-in-None-write_seldom.ensures.taken)
           (written_along {agrees_after = g.V.ComponentProvider.agrees w.write_node.new.state c.args.value.now}
           c.args.output.now c.loop-node.taken w.write_node.new.output _ _ _ _ _ c.loop-node.invariant next smaller
@@ -62,7 +62,24 @@ write_nodes-returns-in_err-write_node-in-None-write_seldom-clause-appends g t c 
     let same = err_from_is_err_and c.from_residual.result c.from_residual.ensures.1 in
     rw (same.1, same.2)
     (list_refused c.args.output.now c.loop-node.taken c.write_node.new.output _ _ _ _ _ c.loop-node.invariant next
-    (rw (c.put_back.ensures.put, c.in-None-write_seldom.ensures.appends, c.in-None.ensures.appends) at c.in_err-write_node-in-None-write_seldom.ensures.appends))
+    (rw (c.put_back-in-None-write_seldom.ensures.put, c.in-None-write_seldom.ensures.appends, c.in-None.ensures.appends) at c.in_err-write_node-in-None-write_seldom.ensures.appends))
+
+pub write_nodes-returns-in-Some-Err-clause-appends : goal.write_nodes-returns-in-Some-Err-clause-appends
+write_nodes-returns-in-Some-Err-clause-appends g t c =
+    let next = next_of g.T.Node.tree c.args.nodes.now c.loop-node.node-index c.node-item.result c.loop-node-test.true
+    c.node-item.is in
+    rw c.put_back.ensures.put
+    (list_refused c.args.output.now c.loop-node.taken c.write_leaf.new.output _ _ _ _ _ c.loop-node.invariant next
+    (rw (c.in-Some-Err.field-0-is, ← c.in-Some-Err.refused-is) at c.in-Some-Err.ensures.appends))
+
+pub write_nodes-returns-in-Some-Err-write_seldom-clause-appends :
+    goal.write_nodes-returns-in-Some-Err-write_seldom-clause-appends
+write_nodes-returns-in-Some-Err-write_seldom-clause-appends g t c =
+    let next = next_of g.T.Node.tree c.args.nodes.now c.loop-node.node-index c.node-item.result c.loop-node-test.true
+    c.node-item.is in
+    rw c.put_back-in-Some-Err-write_seldom.ensures.put
+    (list_refused c.args.output.now c.loop-node.taken c.write_seldom.new.output _ _ _ _ _ c.loop-node.invariant next
+    (rw (c.in-None.ensures.appends, c.in-Some-Err-write_seldom.field-0-is, ← c.in-Some-Err-write_seldom.refused-is) at c.in-Some-Err-write_seldom.ensures.appends))
 
 -- the end of the loop leaves nothing
 pub write_nodes-returns : goal.write_nodes-returns

@@ -1,0 +1,109 @@
+#!/usr/bin/env python3
+"""Counts what `movaliren` costs a line, times it beside other programs, and prints two tables.
+
+    bench/lines.py [PROGRAM] [--check]
+
+PROGRAM is the one that `rt run` leaves in crates/movaliren_cli/out. Instructions are counted by callgrind, as the
+difference of two runs; times are user and system, the least of five rounds over a million lines, in turns, written to
+a null device. With --check nothing is timed, and the status is 1 where a count is above its aim.
+"""
+import os
+import pathlib
+import re
+import resource
+import shutil
+import subprocess
+import sys
+import tempfile
+
+TOP = pathlib.Path(__file__).resolve().parent.parent
+MORE = 10_000
+LINE = "{} audit event number {} of user 512\n"
+AUDIT = "type=EXECVE msg=audit({}.123:456): argc={}\n"
+DOCKER = "2026-11-22T09:55:06.123456789Z up {} {}\n"
+PLAIN = "no number is here, {1}, so this passes\n"
+
+# What is asked for, what a line is, and the most instructions that it should cost.
+ROWS = [
+    ("`unix`, RFC 3339", ["unix"], LINE, 300),
+    ("`unix --offset +05:30`", ["unix", "--offset", "+05:30"], LINE, None),
+    ("`unix --zone Europe/Berlin`", ["unix", "--zone", "Europe/Berlin"], LINE, None),
+    ("`unix rfc2822`", ["unix", "rfc2822"], LINE, None),
+    ("`unix iso8601`", ["unix", "iso8601"], LINE, None),
+    ("`unix '%Y-%m-%d %H:%M:%S'`", ["unix", "%Y-%m-%d %H:%M:%S"], LINE, 520),
+    ("`unix '[year]-[month]-[day] [hour]:[minute]:[second]'`",
+     ["unix", "[year]-[month]-[day] [hour]:[minute]:[second]"], LINE, 520),
+    ("`unix`, the number inside", ["unix"], AUDIT, 500),
+    ("`unix`, no number", ["unix", "-q"], PLAIN, None),
+    ("`read '%H:%M:%S'`", ["read", "%H:%M:%S"], DOCKER, 600),
+    ("`read --zone Europe/Berlin`", ["read", "--zone", "Europe/Berlin"], DOCKER, 600),
+    ("`now`", ["now"], PLAIN, 120),
+]
+
+# Other programs, by what they make of a million lines.
+OTHERS = [
+    ("GNU `date -u -f`", ["date", "-u", "-f", "-", "+%FT%TZ"], "@{}\n"),
+    ("mawk", ["mawk", '{ $1 = strftime("%Y-%m-%dT%H:%M:%SZ", $1, 1); print }'], LINE),
+    ("gawk", ["gawk", '{ $1 = strftime("%Y-%m-%dT%H:%M:%SZ", $1, 1); print }'], LINE),
+    ("perl", ["perl", "-MPOSIX", "-pe", 's/^(\\d+)/strftime("%Y-%m-%dT%H:%M:%SZ", gmtime($1))/e'], LINE),
+    ("`ts`", ["ts", "%Y-%m-%dT%H:%M:%S"], PLAIN),
+]
+
+
+def text(line, count):
+    return "".join(line.format(1_700_000_000 + 7 * it, it) for it in range(count)).encode()
+
+
+def counted(words, line, count):
+    with tempfile.NamedTemporaryFile() as log:
+        subprocess.run(["valgrind", "--tool=callgrind", f"--callgrind-out-file={log.name}", *words],
+                       input=text(line, count), stdout=subprocess.DEVNULL, stderr=subprocess.DEVNULL, check=True)
+        return int(re.search(r"^(?:summary|totals): (\d+)", log.read().decode(), re.M)[1])
+
+
+def cost(words, line):
+    return round((counted(words, line, MORE + 1_000) - counted(words, line, 1_000)) / MORE)
+
+
+def spent(words, given):
+    """The user and system time of a run, in milliseconds."""
+    before = resource.getrusage(resource.RUSAGE_CHILDREN)
+    with open(given, "rb") as source:
+        subprocess.run(words, stdin=source, stdout=subprocess.DEVNULL, stderr=subprocess.DEVNULL, check=True)
+    after = resource.getrusage(resource.RUSAGE_CHILDREN)
+    return 1_000 * (after.ru_utime + after.ru_stime - before.ru_utime - before.ru_stime)
+
+
+def timed(rows):
+    with tempfile.TemporaryDirectory() as folder:
+        given = {}
+        for _, _, line in rows:
+            path = os.path.join(folder, str(len(given)))
+            if line not in given:
+                pathlib.Path(path).write_bytes(text(line, 1_000_000))
+                given[line] = path
+        rounds = [[spent(words, given[line]) for _, words, line in rows] for _ in range(5)]
+    return [round(min(it)) for it in zip(*rounds)]
+
+
+def main():
+    named = [it for it in sys.argv[1:] if not it.startswith("-")]
+    program = os.path.abspath(named[0] if named else TOP / "crates/movaliren_cli/out/movaliren_cli")
+    over = 0
+    print("|A line of `movaliren`|Instructions|Aim|\n|---|---|---|")
+    for what, words, line, most in ROWS:
+        count = cost([program, *words], line)
+        over += most is not None and count > most
+        print(f"|{what}|{count}|{most or ''}|", flush=True)
+    if "--check" in sys.argv:
+        return 1 if over else 0
+    rows = [(f"`movaliren` {what}", [program, *words], line) for what, words, line, _ in ROWS[:1] + ROWS[-1:]]
+    rows += [it for it in OTHERS if shutil.which(it[1][0])]
+    print("\n|A million lines|User and system, ms|\n|---|---|")
+    for (what, _, _), time in zip(rows, timed(rows)):
+        print(f"|{what}|{time}|")
+    return 0
+
+
+if __name__ == "__main__":
+    sys.exit(main())

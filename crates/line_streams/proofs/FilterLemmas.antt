@@ -1,0 +1,187 @@
+-- Lines that become something, one after another.
+use Rattle.std.proofs.Common.{ℕ, ◌≡◌, ◌+◌, ◌-◌, ◌++◌, List, [], ◌∷◌, length, take, drop, map, refl, ap, sym, subst, ◌∙◌, append_assoc, append-nil, length-append, arith}
+use Rattle.std.proofs.Math.Seq.{drop-append_seam}
+use Rattle.std.specs.List.{flat_map}
+use Rattle.line_streams.specs.Lines.{line_feed, whole_lines_of, unended_of, last_line_of, with_line_feed, EndsAt, IsOneLine}
+use Rattle.line_streams.specs.Filter.{ended_lines_of, Adds, Become, Stays}
+use Rattle.line_streams.proofs.LinesLemmas.{IsOneLine-append, unended_of-one, whole_lines_of-one, slice-end, whole_lines_of-append, unended_of-append, whole_lines_of-fed, unended_of-fed, whole_lines_of-ended, unended_of-ended, whole_lines_of-more, unended_of-more}
+
+-- what the lines of two lists become
+pub Become-append : (R : List ℕ → List ℕ → Type 0) (xs ys : List (List ℕ)) (text more : List ℕ)
+    → Become R xs text → Become R ys more → Become R (xs ++ ys) (text ++ more)
+Become-append R [] ys text more p q = rw p q
+Become-append R (line ∷ xs) ys text more p q =
+    (p.0, p.1 ++ more, ap (λ t. t ++ more) p.2 ∙ append_assoc p.0 p.1 more, p.3, Become-append R xs ys p.1 more p.4 q)
+
+pub Become-one : (R : List ℕ → List ℕ → Type 0) (line text : List ℕ) → R line text → Become R (line ∷ []) text
+Become-one R line text p = (text, [], sym (append-nil text), p, refl)
+
+-- what lines become by one relation, they become by another to which it leads
+Become-weaker : (R Q : List ℕ → List ℕ → Type 0) (lines : List (List ℕ)) (text : List ℕ)
+    → ((line t : List ℕ) → R line t → Q line t) → Become R lines text → Become Q lines text
+Become-weaker R Q [] text leads p = p
+Become-weaker R Q (line ∷ lines) text leads p =
+    (p.0, p.1, p.2, leads line p.0 p.3, Become-weaker R Q lines p.1 leads p.4)
+
+-- what lines become later, they could become before, and the other way round
+pub Become-before : (R Q : List ℕ → List ℕ → Type 0) (lines : List (List ℕ)) (text : List ℕ) → Stays R Q
+    → Become Q lines text → Become R lines text
+Become-before R Q lines text stays p = Become-weaker Q R lines text (λ line t q. (stays line t).1 q) p
+
+pub Become-after : (R Q : List ℕ → List ℕ → Type 0) (lines : List (List ℕ)) (text : List ℕ) → Stays R Q
+    → Become R lines text → Become Q lines text
+Become-after R Q lines text stays p = Become-weaker R Q lines text (λ line t r. (stays line t).0 r) p
+
+-- where each line becomes one text alone, so do the lines
+pub Become-function : (f : List ℕ → List ℕ) (lines : List (List ℕ)) (text : List ℕ)
+    → Become (λ line t. t ≡ f line) lines text → text ≡ flat_map f lines
+Become-function f [] text p = p
+Become-function f (line ∷ lines) text p =
+    p.2 ∙ ap (λ t. t ++ p.1) p.3 ∙ ap (λ t. f line ++ t) (Become-function f lines p.1 p.4)
+
+pub Stays-none : (R : List ℕ → List ℕ → Type 0) → Stays R R
+Stays-none R line text = (λ r. r, λ r. r)
+
+pub Stays-then : (R Q S : List ℕ → List ℕ → Type 0) → Stays R Q → Stays Q S → Stays R S
+Stays-then R Q S p q line text =
+    (λ r. (q line text).0 ((p line text).0 r), λ s. (p line text).1 ((q line text).1 s))
+
+map-append : (f : List ℕ → List ℕ) (xs ys : List (List ℕ)) → map f (xs ++ ys) ≡ map f xs ++ map f ys
+map-append f [] ys = refl
+map-append f (x ∷ xs) ys = ap (λ zs. f x ∷ zs) (map-append f xs ys)
+
+-- the lines of a longer text
+pub ended_lines_of-append : (old block : List ℕ)
+    → ended_lines_of (old ++ block) ≡ ended_lines_of old ++ ended_lines_of (unended_of old ++ block)
+ended_lines_of-append old block =
+    ap (λ xs. map with_line_feed xs) (whole_lines_of-append old block)
+    ∙ map-append with_line_feed (whole_lines_of old) (whole_lines_of (unended_of old ++ block))
+
+-- one more line, after a text that ends with a line feed or is empty
+one_more_line : (fed line : List ℕ) → unended_of fed ≡ [] → IsOneLine line
+    → ended_lines_of (fed ++ with_line_feed line) ≡ ended_lines_of fed ++ with_line_feed line ∷ []
+one_more_line fed line none one =
+    ap (λ lines. map with_line_feed lines) (whole_lines_of-fed fed line one)
+    ∙ map-append with_line_feed (whole_lines_of fed) ((unended_of fed ++ line) ∷ [])
+    ∙ rw none refl
+
+-- the bytes of a line and its line feed, taken from what is left
+next-line : (bytes fed rest : List ℕ) (end : ℕ) → bytes ≡ fed ++ rest → EndsAt rest end →
+    bytes ≡ (fed ++ with_line_feed (take end rest)) ++ drop (end + 1) rest
+next-line bytes fed rest end whole ends =
+    whole ∙ ap (λ more. fed ++ more) ends.whole
+    ∙ sym (append_assoc fed (with_line_feed (take end rest)) (drop (end + 1) rest))
+
+-- one more line was appended
+pub line_is_appended : (R Q S : List ℕ → List ℕ → Type 0) (text fed rest : List ℕ) (end : ℕ) (o0 o1 o2 : List ℕ)
+    → text ≡ fed ++ rest → unended_of fed ≡ [] → Stays R Q → Adds (Become R (ended_lines_of fed)) o0 o1
+    → EndsAt rest end → Stays Q S → Adds (Q (take (end + 1) rest)) o1 o2
+    → (more : List ℕ) × (text ≡ more ++ take (length rest - (end + 1)) (drop (end + 1) rest)) × (unended_of more ≡ [])
+    × Stays R S × Adds (Become R (ended_lines_of more)) o0 o2
+line_is_appended R Q S text fed rest end o0 o1 o2 whole none stays so_far ends on appended = (
+  fed ++ with_line_feed (take end rest),
+  rw (slice-end (end + 1) rest) (next-line text fed rest end whole ends),
+  unended_of-fed fed (take end rest) ends.front,
+  Stays-then R Q S stays on,
+  (
+    so_far.0 ++ appended.0,
+    appended.1 ∙ ap (λ o. o ++ appended.0) so_far.1 ∙ append_assoc o0 so_far.0 appended.0,
+    subst (λ lines. Become R lines (so_far.0 ++ appended.0)) (sym (one_more_line fed (take end rest) none ends.front))
+        (Become-append R (ended_lines_of fed) (with_line_feed (take end rest) ∷ []) so_far.0 appended.0 so_far.2
+        (Become-one R (with_line_feed (take end rest)) appended.0
+        ((stays (with_line_feed (take end rest)) appended.0).1
+        (subst (λ line. Q line appended.0) ends.line appended.2)))),
+  ),
+)
+
+drop_front : (fed rest : List ℕ) → drop (length (fed ++ rest) - length rest) (fed ++ rest) ≡ rest
+drop_front fed rest =
+    let e : length (fed ++ rest) - length rest ≡ length fed = omega (arith, length-append fed rest) in
+    rw e (drop-append_seam fed rest)
+
+-- the rest has no line feed
+pub rest_of_text : (text fed rest : List ℕ) → text ≡ fed ++ rest → unended_of fed ≡ [] → IsOneLine rest
+    → drop (length text - length rest) text ≡ unended_of text
+rest_of_text text fed rest whole none one =
+    rw whole (drop_front fed rest ∙ sym (unended_of-more fed rest one ∙ ap (λ x. x ++ rest) none))
+
+-- all lines were appended where the rest has no line feed
+pub all_is_appended : (R : List ℕ → List ℕ → Type 0) (text fed rest o0 o1 : List ℕ) → text ≡ fed ++ rest → IsOneLine rest
+    → Adds (Become R (ended_lines_of fed)) o0 o1 → Adds (Become R (ended_lines_of text)) o0 o1
+all_is_appended R text fed rest o0 o1 whole one so_far =
+    let same : ended_lines_of text ≡ ended_lines_of fed =
+    ap (λ lines. map with_line_feed lines) (ap whole_lines_of whole ∙ whole_lines_of-more fed rest one) in
+    (so_far.0, so_far.1, subst (λ lines. Become R lines so_far.0) (sym same) so_far.2)
+
+-- ---- a block whose first bytes end the line that waits
+
+-- the line that waits, with its end
+pub ended_line : (old block : List ℕ) (end : ℕ) → EndsAt block end
+    → old ++ take (end + 1) block ≡ with_line_feed (old ++ take end block)
+ended_line old block end ends =
+    ap (λ line. old ++ line) ends.line ∙ sym (append_assoc old (take end block) (line_feed ∷ []))
+
+-- that line, and what comes after it
+split_block : (old block : List ℕ) (end : ℕ) → EndsAt block end
+    → old ++ block ≡ with_line_feed (old ++ take end block) ++ drop (end + 1) block
+split_block old block end ends =
+    ap (λ all. old ++ all) ends.whole
+    ∙ sym (append_assoc old (with_line_feed (take end block)) (drop (end + 1) block))
+    ∙ ap (λ line. line ++ drop (end + 1) block) (sym (append_assoc old (take end block) (line_feed ∷ [])))
+
+pub lines_of_block : (old block : List ℕ) (end : ℕ) → IsOneLine old → EndsAt block end
+    → ended_lines_of (old ++ block) ≡ with_line_feed (old ++ take end block) ∷ ended_lines_of (drop (end + 1) block)
+lines_of_block old block end one ends =
+    let line = old ++ take end block in
+    let is_one : IsOneLine line = IsOneLine-append old (take end block) one ends.front in
+    ap ended_lines_of (split_block old block end ends)
+    ∙ ended_lines_of-append (with_line_feed line) (drop (end + 1) block)
+    ∙ rw (whole_lines_of-ended line is_one, unended_of-ended line is_one) refl
+
+pub rest_of_block : (old block : List ℕ) (end : ℕ) → IsOneLine old → EndsAt block end
+    → unended_of (drop (end + 1) block) ≡ unended_of (old ++ block)
+rest_of_block old block end one ends =
+    let line = old ++ take end block in
+    let is_one : IsOneLine line = IsOneLine-append old (take end block) one ends.front in
+    sym (ap unended_of (split_block old block end ends)
+    ∙ unended_of-append (with_line_feed line) (drop (end + 1) block)
+    ∙ ap (λ p. unended_of (p ++ drop (end + 1) block)) (unended_of-ended line is_one))
+
+-- what the lines of the block became was appended
+pub block_is_appended : (R Q : List ℕ → List ℕ → Type 0) (old block line rest : List ℕ) (end : ℕ) (o0 o1 o2 : List ℕ)
+    → IsOneLine old → EndsAt block end → line ≡ old ++ take (end + 1) block → rest ≡ drop (end + 1) block → Stays R Q
+    → Adds (R line) o0 o1 → Adds (Become Q (ended_lines_of rest)) o1 o2
+    → Adds (Become R (ended_lines_of (old ++ block))) o0 o2
+block_is_appended R Q old block line rest end o0 o1 o2 one ends is left stays first others = (
+  first.0 ++ others.0,
+  others.1 ∙ ap (λ o. o ++ others.0) first.1 ∙ append_assoc o0 first.0 others.0,
+  subst (λ lines. Become R lines (first.0 ++ others.0)) (sym (lines_of_block old block end one ends)) (
+    first.0,
+    others.0,
+    refl,
+    subst (λ l. R l first.0) (is ∙ ended_line old block end ends) first.2,
+    subst (λ r. Become R (ended_lines_of r) others.0) left
+        (Become-before R Q (ended_lines_of rest) others.0 stays others.2),
+  ),
+)
+
+-- what waits after the block
+pub block_waits : (old block rest cleared all : List ℕ) (end whole : ℕ) → IsOneLine old → EndsAt block end
+    → rest ≡ drop (end + 1) block → drop whole rest ≡ unended_of rest → cleared ≡ []
+    → all ≡ cleared ++ take (length rest - whole) (drop whole rest) → all ≡ unended_of (old ++ block)
+block_waits old block rest cleared all end whole one ends left none empty kept =
+    kept ∙ ap (λ c. c ++ take (length rest - whole) (drop whole rest)) empty ∙ slice-end whole rest ∙ none
+    ∙ ap unended_of left ∙ rest_of_block old block end one ends
+
+-- bytes without a line feed, after others without one: they wait, and no line ends
+pub one_line_waits : (old block : List ℕ) → IsOneLine old → IsOneLine block → old ++ block ≡ unended_of (old ++ block)
+one_line_waits old block p q = sym (unended_of-one (old ++ block) (IsOneLine-append old block p q))
+
+pub no_line_ends : (old block : List ℕ) → IsOneLine old → IsOneLine block → ended_lines_of (old ++ block) ≡ []
+no_line_ends old block p q =
+    ap (λ lines. map with_line_feed lines) (whole_lines_of-one (old ++ block) (IsOneLine-append old block p q))
+
+-- the end, after which what waits is the last line
+pub last_is_one : (line : List ℕ) → (line ≡ [] → ⊥) → last_line_of line ≡ line ∷ []
+last_is_one [] some = absurd (some refl)
+last_is_one (b ∷ line) some = refl

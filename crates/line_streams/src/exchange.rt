@@ -1,0 +1,52 @@
+//! Where lines come from, and where what they become goes to.
+ghost use Rattle.std.specs.Prelude.{◌≡◌, ◌≤◌, ℕ, List, Option, length, take, IfOk, OnOk, OnErr};
+ghost use Rattle.line_streams.specs.Prompt.{Grows, GrowsInPart, IsPrompt};
+
+use crate::lines::LineJob;
+use std::alloc::AllocError;
+
+/// Why a run ended before the end of its input.
+#[derive(Clone, Copy, Debug, PartialEq, Eq, Drop)]
+pub enum FilterError {
+    /// A read failed.
+    Read,
+    /// A write failed, or took no byte.
+    Write,
+    /// Nobody reads what is written.
+    Closed,
+    /// There was no memory.
+    Memory,
+    /// The job could not be prepared.
+    Job,
+}
+
+impl From<AllocError> for FilterError {
+    fn from(_error: AllocError) -> FilterError {
+        FilterError::Memory
+    }
+}
+
+/// A source and a sink, with all that was read from the one and written to the other, where that is
+/// known.
+pub trait Exchange {
+    /// What was read.
+    ghost got: { Self → Option (List ℕ) };
+
+    /// What was written.
+    ghost put: { Self → Option (List ℕ) };
+
+    /// Reads some bytes, or none at the end of the source. No line that was read to its end may wait
+    /// for what it becomes.
+    fn read<J: LineJob>(&mut self, job: &J, block: &mut [u8]) -> Result<usize, FilterError>
+        requires prompt { IsPrompt (J.becomes job.now) (got self.old) (put self.old) }
+        ensures bound { IfOk result (λ n. n ≤ length block.new) }
+        ensures got { IfOk result (λ n. Grows (got self.old) (got self.new) (take n block.new)) }
+        ensures failed { OnErr result (got self.new ≡ got self.old) }
+        ensures put { put self.new ≡ put self.old };
+
+    /// Writes all the bytes. After a write that failed a beginning of them is written.
+    fn write_all(&mut self, bytes: &[u8]) -> Result<(), FilterError>
+        ensures got { got self.new ≡ got self.old }
+        ensures put { OnOk result (Grows (put self.old) (put self.new) bytes.now) }
+        ensures cut { OnErr result (GrowsInPart (put self.old) (put self.new) bytes.now) };
+}

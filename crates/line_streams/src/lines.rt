@@ -1,0 +1,59 @@
+//! What is done with each line.
+ghost use Rattle.std.specs.Prelude.{◌≡◌, ◌==◌, ◌≤◌, ℕ, List, ◌++◌, length, position, OnOk, IfOk, drop};
+ghost use Rattle.line_streams.specs.Lines.{unended_of};
+ghost use Rattle.line_streams.specs.Filter.{ended_lines_of, Adds, Become, Stays};
+
+use crate::exchange::FilterError;
+use memchr::memchr;
+use std::alloc::AllocError;
+
+/// What is done with each line.
+pub trait LineJob {
+    /// What a line may become. It has its line feed, except perhaps for the last one.
+    ghost becomes: { Self → List ℕ → List ℕ → Type 0 };
+
+    /// What is so once it is prepared.
+    ghost is_ready: { Self → Type 0 };
+
+    /// Is called when lines have come, before they are taken.
+    fn prepare(&mut self) -> Result<(), FilterError>
+        ensures stays { Stays (becomes self.old) (becomes self.new) }
+        ensures ready { OnOk result (is_ready self.new) };
+
+    /// Appends what the line becomes.
+    fn append(&mut self, output: &mut Vec<u8>, line: &[u8]) -> Result<(), AllocError>
+        requires ready { is_ready self.old }
+        ensures stays { Stays (becomes self.old) (becomes self.new) }
+        ensures ready { OnOk result (is_ready self.new) }
+        ensures appended { OnOk result
+            (Adds (becomes self.old line.now) output.old.items output.new.items) };
+}
+
+/// The first place of a line feed, by a search that looks at many bytes at a time.
+pub fn place_of_end(bytes: &[u8]) -> Option<usize>
+    ensures { result ≡ position (λ b. b == 10) bytes.now }
+{
+    memchr(b'\n', bytes)
+}
+
+/// Appends what each line of the text that has its line feed becomes, and returns how many bytes
+/// these lines have.
+pub(crate) fn append_lines<J: LineJob>(
+    job: &mut J,
+    output: &mut Vec<u8>,
+    text: &[u8],
+) -> Result<usize, AllocError>
+    requires ready { J.is_ready job.old }
+    ensures stays { Stays (J.becomes job.old) (J.becomes job.new) }
+    ensures inside { IfOk result (λ count. count ≤ length text.now) }
+    ensures rest { IfOk result (λ count. drop count text.now ≡ unended_of text.now) }
+    ensures appended { OnOk result (Adds (Become (J.becomes job.old) (ended_lines_of text.now))
+        output.old.items output.new.items) }
+{
+    let mut rest = text;
+    while let Some(end) = place_of_end(rest) {
+        job.append(output, &rest[..end + 1])?;
+        rest = &rest[end + 1..];
+    }
+    Ok(text.len() - rest.len())
+}

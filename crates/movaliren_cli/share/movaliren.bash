@@ -1,0 +1,34 @@
+# Completions of movaliren for bash.
+_movaliren() {
+    local word=${COMP_WORDS[COMP_CWORD]} before=${COMP_WORDS[COMP_CWORD - 1]} job=${COMP_WORDS[1]} options
+    COMPREPLY=()
+    if [ "$COMP_CWORD" -eq 1 ]; then
+        mapfile -t COMPREPLY < <(compgen -W "now unix read help --help --version" -- "$word")
+        return
+    fi
+    case $before in
+        --zone | -z)
+            mapfile -t COMPREPLY < <(
+                cd "${TZDIR:-/usr/share/zoneinfo}" 2>/dev/null &&
+                    compgen -W "$(find . -type f ! -name '*.*' ! -path './right/*' ! -path './posix/*' -printf '%P\n')" -- "$word"
+            )
+            return
+            ;;
+        --offset | --digits | -d) return ;;
+    esac
+    options="--utc --offset --zone --local --help"
+    case $job in
+        unix) options+=" --digits --milliseconds --microseconds --nanoseconds --quiet" ;;
+        read) options+=" --quiet" ;;
+    esac
+    if [[ $word == -* ]]; then
+        mapfile -t COMPREPLY < <(compgen -W "$options" -- "$word")
+    elif [ "$job" = help ]; then
+        mapfile -t COMPREPLY < <(compgen -W "now unix read" -- "$word")
+    elif [ "$job" = read ]; then
+        mapfile -t COMPREPLY < <(compgen -W "rfc3339 rfc2822 iso8601 stamp unix" -- "$word")
+    else
+        mapfile -t COMPREPLY < <(compgen -W "rfc3339 rfc2822 iso8601 stamp" -- "$word")
+    fi
+}
+complete -F _movaliren movaliren

@@ -1,0 +1,28 @@
+# Completions of movaliren for fish.
+function __movaliren_zones
+    set -l folder /usr/share/zoneinfo
+    if set -q TZDIR
+        set folder $TZDIR
+    end
+    find $folder -type f ! -name '*.*' ! -path '*/right/*' ! -path '*/posix/*' -printf '%P\n' 2>/dev/null
+end
+
+set -l jobs now unix read
+complete -c movaliren -f
+complete -c movaliren -n __fish_use_subcommand -a now -d 'Put the time before each line'
+complete -c movaliren -n __fish_use_subcommand -a unix -d 'Replace Unix time in each line'
+complete -c movaliren -n __fish_use_subcommand -a read -d 'Replace a text of RFC 3339 in each line'
+complete -c movaliren -n __fish_use_subcommand -a help -d 'Print help'
+complete -c movaliren -n __fish_use_subcommand -s V -l version -d 'Print the version'
+complete -c movaliren -s h -l help -d 'Print help'
+complete -c movaliren -n "__fish_seen_subcommand_from $jobs" -a 'rfc3339 rfc2822 iso8601 stamp'
+complete -c movaliren -n "__fish_seen_subcommand_from read" -a unix
+complete -c movaliren -n "__fish_seen_subcommand_from $jobs" -s u -l utc -d 'Show UTC'
+complete -c movaliren -n "__fish_seen_subcommand_from $jobs" -l offset -x -d 'Show the time at an offset'
+complete -c movaliren -n "__fish_seen_subcommand_from $jobs" -s z -l zone -x -a '(__movaliren_zones)' -d 'Show the time in a zone'
+complete -c movaliren -n "__fish_seen_subcommand_from $jobs" -s l -l local -d 'Show the time in the zone of the system'
+complete -c movaliren -n "__fish_seen_subcommand_from unix" -s d -l digits -x -d 'How many digits a number has at least'
+complete -c movaliren -n "__fish_seen_subcommand_from unix" -l milliseconds -d 'Numbers are milliseconds'
+complete -c movaliren -n "__fish_seen_subcommand_from unix" -l microseconds -d 'Numbers are microseconds'
+complete -c movaliren -n "__fish_seen_subcommand_from unix" -l nanoseconds -d 'Numbers are nanoseconds'
+complete -c movaliren -n "__fish_seen_subcommand_from unix read" -s q -l quiet -d 'Do not count lines that pass'

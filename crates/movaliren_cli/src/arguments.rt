@@ -1,0 +1,223 @@
+//! What the words of the command line ask for.
+use clap::error::ErrorKind;
+use clap::{Arg, ArgAction, ArgGroup, ArgMatches, Command, Error, value_parser};
+use std::alloc::Global;
+use time_lines::Unit;
+
+/// Where the clock stands whose times are shown.
+#[derive(Clone, Copy)]
+pub enum Clock<'a> {
+    Utc,
+    /// At an offset such as `+05:30`.
+    Offset(&'a str),
+    /// In a zone of the Time Zone Database.
+    Zone(&'a str),
+    /// In the zone of the system.
+    Local,
+}
+
+/// What is done with each line.
+#[derive(Clone, Copy)]
+pub enum Job {
+    /// The moment at which it was read is put before it.
+    Now,
+    /// Its first number of at least so many digits, Unix time in this unit, is replaced.
+    Unix { unit: Unit, least: usize },
+    /// Its first text of RFC 3339 is replaced.
+    Read,
+}
+
+/// What is asked for.
+#[derive(Clone, Copy)]
+pub struct Asked<'a> {
+    pub job: Job,
+    pub description: &'a str,
+    pub clock: Clock<'a>,
+    /// Nothing is said of lines that passed as they were.
+    pub is_quiet: bool,
+}
+
+/// The digits that a number has at least, where nothing else is asked for: those of 1973 and later.
+const LEAST_DIGITS: usize = 9;
+
+const DESCRIPTIONS: &str = "\
+Descriptions:
+  rfc3339        2023-11-14T22:13:20.123Z
+  rfc2822        Tue, 14 Nov 2023 22:13:20 +0000
+  iso8601        2023-11-14T22:13:20.123000000Z
+  stamp          the same, always in UTC: sorts as the moments do
+  unix           1700000000, always seconds since 1970
+  a text with %  as of strftime: '%Y-%m-%d %H:%M:%S'
+  other texts    '[year]-[month]-[day] [hour]:[minute]'";
+
+/// The description and the options of all jobs.
+fn with_options<'a>(alloc: Global, command: Command<'a>) -> Result<Command<'a>, Error> {
+    let description = Arg::new(alloc, "DESCRIPTION")
+        .help("What the text of a moment looks like")
+        .default_value("rfc3339");
+    let utc = Arg::new(alloc, "utc")
+        .short('u')
+        .long("utc")
+        .action(ArgAction::SetTrue)
+        .help("Shows UTC, which is the default");
+    let offset = Arg::new(alloc, "offset")
+        .long("offset")
+        .value_name("OFFSET")
+        .allow_hyphen_values(true)
+        .help("Shows the time at an offset such as +05:30");
+    let zone = Arg::new(alloc, "zone")
+        .short('z')
+        .long("zone")
+        .value_name("NAME")
+        .help("Shows the time in a zone such as Europe/Berlin");
+    let local = Arg::new(alloc, "local")
+        .short('l')
+        .long("local")
+        .action(ArgAction::SetTrue)
+        .help("Shows the time in the zone of the system, or of the variable TZ");
+    let clock = ArgGroup::new(alloc, "clock")
+        .arg("utc")?
+        .arg("offset")?
+        .arg("zone")?
+        .arg("local")?;
+    Ok(
+        command
+            .after_help(DESCRIPTIONS)
+            .arg(description)?
+            .arg(utc)?
+            .arg(offset)?
+            .arg(zone)?
+            .arg(local)?
+            .group(clock)?,
+    )
+}
+
+/// The options for numbers.
+fn with_numbers<'a>(alloc: Global, command: Command<'a>) -> Result<Command<'a>, Error> {
+    let digits = Arg::new(alloc, "digits")
+        .short('d')
+        .long("digits")
+        .value_name("N")
+        .value_parser(value_parser!(u8).range(1..20))
+        .help("How many digits a number has at least [default: 9]");
+    let milliseconds = Arg::new(alloc, "milliseconds")
+        .long("milliseconds")
+        .action(ArgAction::SetTrue)
+        .help("Numbers are milliseconds, and not seconds");
+    let microseconds = Arg::new(alloc, "microseconds")
+        .long("microseconds")
+        .action(ArgAction::SetTrue)
+        .help("Numbers are microseconds");
+    let nanoseconds = Arg::new(alloc, "nanoseconds")
+        .long("nanoseconds")
+        .action(ArgAction::SetTrue)
+        .help("Numbers are nanoseconds");
+    let unit = ArgGroup::new(alloc, "unit")
+        .arg("milliseconds")?
+        .arg("microseconds")?
+        .arg("nanoseconds")?;
+    Ok(
+        command
+            .arg(digits)?
+            .arg(milliseconds)?
+            .arg(microseconds)?
+            .arg(nanoseconds)?
+            .group(unit)?,
+    )
+}
+
+/// The option for lines without a moment.
+fn with_quiet<'a>(alloc: Global, command: Command<'a>) -> Result<Command<'a>, Error> {
+    let quiet = Arg::new(alloc, "quiet")
+        .short('q')
+        .long("quiet")
+        .action(ArgAction::SetTrue)
+        .help("Does not count the lines that pass as they are");
+    Ok(command.arg(quiet)?)
+}
+
+fn command<'a>(alloc: Global) -> Result<Command<'a>, Error> {
+    let now = with_options(
+        alloc,
+        Command::new(alloc, "now").about("Puts the time at which it was read before each line"),
+    )?;
+    let unix = with_options(
+        alloc,
+        Command::new(alloc, "unix").about(
+            "Replaces the first number of each line, Unix seconds, by its text",
+        ),
+    )?;
+    let unix = with_quiet(alloc, with_numbers(alloc, unix)?)?;
+    let read = with_options(
+        alloc,
+        Command::new(alloc, "read").about(
+            "Replaces the first text of RFC 3339 of each line, such as 2023-11-14T22:13:20Z",
+        ),
+    )?;
+    let read = with_quiet(alloc, read)?;
+    Ok(
+        Command::new(alloc, "movaliren")
+            .version("0.1.0")
+            .about("Formats the moments of the lines of standard input")
+            .subcommand_required(true)
+            .arg_required_else_help(true)
+            .subcommand(now)?
+            .subcommand(unix)?
+            .subcommand(read)?,
+    )
+}
+
+fn clock_of<'a>(matches: &ArgMatches<'a>) -> Clock<'a> {
+    if matches.get_flag("local") {
+        return Clock::Local;
+    }
+    if let Some(name) = matches.get_str("zone") {
+        return Clock::Zone(name);
+    }
+    match matches.get_str("offset") {
+        None => Clock::Utc,
+        Some(text) => Clock::Offset(text),
+    }
+}
+
+fn unit_of(matches: &ArgMatches<'_>) -> Unit {
+    if matches.get_flag("milliseconds") {
+        Unit::Milliseconds
+    } else if matches.get_flag("microseconds") {
+        Unit::Microseconds
+    } else if matches.get_flag("nanoseconds") {
+        Unit::Nanoseconds
+    } else {
+        Unit::Seconds
+    }
+}
+
+fn least_of(matches: &ArgMatches<'_>) -> usize {
+    match matches.get_one::<u8>("digits") {
+        Some(least) => usize::from(least),
+        None => LEAST_DIGITS,
+    }
+}
+
+/// Reads the words of the command line.
+pub fn read<'a>(alloc: Global, words: &'a [String]) -> Result<Asked<'a>, Error> {
+    let matches = command(alloc)?.try_get_matches_from(words)?;
+    let (name, below) = match matches.subcommand() {
+        Some(found) => found,
+        None => return Err(command(alloc)?.error(ErrorKind::MissingSubcommand, "no job")?),
+    };
+    let job = match name {
+        "now" => Job::Now,
+        "read" => Job::Read,
+        _ => Job::Unix {
+            unit: unit_of(below),
+            least: least_of(below),
+        },
+    };
+    Ok(Asked {
+        job,
+        description: below.get_str("DESCRIPTION").unwrap_or("rfc3339"),
+        clock: clock_of(below),
+        is_quiet: below.get_flag("quiet"),
+    })
+}

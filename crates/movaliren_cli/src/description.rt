@@ -1,0 +1,48 @@
+//! Descriptions of the command line.
+use std::alloc::Global;
+use time_below::format_description::OwnedFormatItem;
+use time_describe::{InvalidDescription, InvalidStrftime, parse_owned, parse_strftime_owned};
+use time_plan::Plan;
+
+/// Why a text is no description.
+#[derive(Drop)]
+pub enum Refusal {
+    /// There was no memory.
+    Memory,
+    /// It has neither a bracket nor a percent sign, and is no name of a format.
+    Name,
+    /// It is wrong in the syntax of brackets.
+    Brackets(InvalidDescription),
+    /// It is wrong in the syntax of strftime.
+    Strftime(InvalidStrftime),
+}
+
+/// The description of a text: with a percent sign it is in the syntax of strftime, else in that of
+/// brackets.
+fn item_of(alloc: Global, text: &str) -> Result<OwnedFormatItem, Refusal> {
+    let bytes = text.as_bytes();
+    if bytes.contains(&b'%') {
+        match parse_strftime_owned(alloc, bytes) {
+            Ok(item) => Ok(item),
+            Err(fault) => Err(Refusal::Strftime(fault)),
+        }
+    } else if bytes.contains(&b'[') {
+        match parse_owned(alloc, bytes) {
+            Ok(item) => Ok(item),
+            Err(fault) => Err(Refusal::Brackets(fault)),
+        }
+    } else {
+        Err(Refusal::Name)
+    }
+}
+
+/// The plan of a text.
+pub fn plan_of(alloc: Global, text: &str) -> Result<Plan, Refusal> {
+    match item_of(alloc, text) {
+        Ok(item) => match Plan::of(alloc, &item) {
+            Ok(plan) => Ok(plan),
+            Err(_) => Err(Refusal::Memory),
+        },
+        Err(refusal) => Err(refusal),
+    }
+}

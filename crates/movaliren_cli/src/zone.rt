@@ -1,0 +1,73 @@
+//! The zone of one file, with no look at the others.
+use jiff_core::Error;
+use jiff_tz::{SystemTimeZone, Tzif};
+use std::io::{ErrorKind, Read};
+use std::rt::{Env, Files};
+use std::{env, fs};
+
+/// The longest file that is read as a zone.
+const MAX_FILE_BYTES: u64 = 1 << 20;
+
+/// The places where systems keep their zones.
+const DIRECTORIES: [&str; 3] = [
+    "/usr/share/zoneinfo",
+    "/usr/share/lib/zoneinfo",
+    "/etc/zoneinfo",
+];
+
+/// Whether this is a name below a directory of zones: parts of letters, digits, `+`, `-` and `_`.
+fn is_name(name: &str) -> bool {
+    !name.is_empty()
+        && !name.starts_with('/')
+        && name.as_bytes().iter().all(|b| b.is_ascii_alphanumeric()
+            || *b == b'+'
+            || *b == b'-'
+            || *b == b'_'
+            || *b == b'/')
+}
+
+fn read_file<R: Files + AllocGlobal>(rt: &R, directory: &str, name: &str) -> Result<Tzif, Error> {
+    let alloc = rt.alloc();
+    let mut path = String::from_str(alloc, directory)?;
+    path.push('/')?;
+    path.push_str(name)?;
+    if !fs::metadata(rt, path.as_str())?.is_file() {
+        return Err(Error::Io(ErrorKind::InvalidInput));
+    }
+    let mut bytes = Vec::new(alloc);
+    let mut file = fs::open(rt, path.as_str())?.take(MAX_FILE_BYTES + 1);
+    file.read_to_end(&mut bytes)?;
+    if bytes.len() as u64 > MAX_FILE_BYTES {
+        return Err(Error::Io(ErrorKind::FileTooLarge));
+    }
+    Tzif::parse(alloc, Some(name), bytes.as_slice())
+}
+
+/// Reads the zone of this name from the directory that `TZDIR` names, or else from the usual ones.
+pub fn read_named<R: Files + Env + AllocGlobal>(rt: &R, name: &str) -> Result<Tzif, Error> {
+    if !is_name(name) {
+        return Err(Error::TimeZoneNotFound);
+    }
+    if let Ok(directory) = env::var(rt, "TZDIR") {
+        if let Ok(table) = read_file(rt, directory.as_str(), name) {
+            return Ok(table);
+        }
+    }
+    for directory in &DIRECTORIES {
+        if let Ok(table) = read_file(rt, directory, name) {
+            return Ok(table);
+        }
+    }
+    Err(Error::TimeZoneNotFound)
+}
+
+/// Reads the zone that the system names.
+pub fn read_system<R: Files + Env + AllocGlobal>(
+    rt: &R,
+    system: &SystemTimeZone,
+) -> Result<Tzif, Error> {
+    match system {
+        SystemTimeZone::Name { name, .. } => read_named(rt, name.as_str()),
+        _ => Err(Error::TimeZoneNotFound),
+    }
+}

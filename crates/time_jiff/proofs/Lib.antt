@@ -1,0 +1,3 @@
+pub mod OffsetLemmas
+pub mod MomentLemmas
+pub mod CalendarLemmas

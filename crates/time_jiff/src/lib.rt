@@ -1,0 +1,239 @@
+//! Values of the kit's `jiff` as values of Movaliren, and back: the same moments, offsets, dates and
+//! times.
+#![tactic(auto)]
+
+ghost use Rattle.std.specs.Prelude.{◌≡◌, ◌↔◌, ◌+◌, ◌*◌, ◌≤◌, ◌<◌, pos, neg_ℤ, ◌+ℤ◌, ◌*ℤ◌, IsOk, IfOk, unsigned_abs};
+ghost use Rattle.jiff.specs.ZonedView.{plain_zoned, zoned_date, zoned_nanos, zoned_time};
+ghost use Rattle.jiff_core.specs.Calendar.{IsBetween, IsYear};
+ghost use Rattle.time_below.specs.Calendar.{month_of, day_of};
+ghost use Rattle.jiff_core.specs.Timestamp.{IsTimestampNanos, IsOffsetSeconds};
+ghost use Rattle.time_below.specs.Moment.{nanoseconds as nanoseconds_of, IsMoment};
+ghost use Rattle.time_below.specs.Offset.{offset_seconds, signed, AreOffsetParts};
+ghost use Rattle.time_jiff.specs.Same.{local_nanoseconds, offset_of_seconds, same_date, same_time};
+
+use time_below::{Date, Month, OffsetDateTime, PlainDateTime, Time, UtcOffset};
+
+/// The second in which the moment lies, and its nanoseconds from there on.
+fn parts(moment: jiff::Timestamp) -> (i64, u32)
+    ensures second { IsBetween (neg_ℤ (pos 377_705_023_201)) (pos 253_402_207_200) result.0 }
+    ensures nanosecond { result.1 < 1_000_000_000 }
+    ensures whole { pos 1_000_000_000 *ℤ result.0 +ℤ pos result.1 ≡ moment.nanosecond }
+{
+    let plain = moment.to_plain();
+    let second = plain.floor_second();
+    let rest = plain.nanosecond - 1_000_000_000 * second as i128;
+    (second, rest as u32)
+}
+
+/// The moment of these seconds, moved east.
+fn moved(second: i64, nanosecond: u32, east: i32) -> time_below::Timestamp
+    requires second { IsBetween (neg_ℤ (pos 377_705_023_201)) (pos 253_402_207_200) second }
+    requires nanosecond { nanosecond < 1_000_000_000 }
+    requires east { IsOffsetSeconds east }
+    ensures seconds { result.seconds ≡ second +ℤ east }
+    ensures nanosecond { result.nanosecond ≡ nanosecond }
+    ensures real { IsMoment result }
+{
+    match time_below::Timestamp::new(second + east as i64, nanosecond) {
+        Ok(moment) => moment,
+        Err(_) => unreachable!(),
+    }
+}
+
+/// The moment.
+pub fn timestamp(moment: jiff::Timestamp) -> time_below::Timestamp
+    ensures { nanoseconds_of result ≡ moment.nanosecond }
+{
+    let (second, nanosecond) = parts(moment);
+    moved(second, nanosecond, 0)
+}
+
+/// The moment, if `jiff` has it: those of the years -9999 to 9999.
+pub fn jiff_timestamp(moment: time_below::Timestamp) -> Result<jiff::Timestamp, jiff::Error>
+    ensures succeeds { IsOk result ↔ IsTimestampNanos (nanoseconds_of moment) }
+    ensures value { IfOk result (λ t. t.nanosecond ≡ nanoseconds_of moment) }
+{
+    jiff::Timestamp::from_nanosecond(nanoseconds(moment))
+}
+
+/// The nanoseconds since 1970.
+fn nanoseconds(moment: time_below::Timestamp) -> i128
+    ensures { result ≡ nanoseconds_of moment }
+{
+    let (second, nanosecond) = moment.as_parts();
+    1_000_000_000 * second as i128 + nanosecond as i128
+}
+
+/// A part of this size, with a sign.
+fn signed_part(is_negative: bool, size: u8) -> i8
+    requires { size ≤ 59 }
+    ensures value { result ≡ signed is_negative size }
+    ensures size { unsigned_abs result ≡ size }
+{
+    if is_negative {
+        -(size as i8)
+    } else {
+        size as i8
+    }
+}
+
+/// The offset of parts of one sign.
+fn offset_of_parts(is_negative: bool, hours: u8, minutes: u8, seconds: u8) -> UtcOffset
+    requires hours { hours ≤ 25 }
+    requires minutes { minutes ≤ 59 }
+    requires seconds { seconds ≤ 59 }
+    ensures { result ≡ record {
+      hours = signed is_negative hours;
+      minutes = signed is_negative minutes;
+      seconds = signed is_negative seconds;
+    } }
+{
+    let hours = signed_part(is_negative, hours);
+    let minutes = signed_part(is_negative, minutes);
+    let seconds = signed_part(is_negative, seconds);
+    match UtcOffset::from_hms(hours, minutes, seconds) {
+        Ok(offset) => offset,
+        Err(_) => unreachable!(),
+    }
+}
+
+/// The offset.
+#[tactic(auto, using(crate::proofs::OffsetLemmas::offset_back))]
+pub fn offset(offset: jiff::tz::Offset) -> UtcOffset
+    ensures parts { result ≡ offset_of_seconds offset.seconds }
+    ensures value { offset_seconds result ≡ offset.seconds }
+{
+    let seconds = offset.to_plain().seconds;
+    let size = seconds.unsigned_abs();
+    offset_of_parts(
+        seconds < 0,
+        (size / 3600) as u8,
+        (size % 3600 / 60) as u8,
+        (size % 60) as u8,
+    )
+}
+
+/// The local date and time at the offset that the zone has at the moment.
+pub fn offset_date_time(zoned: &jiff::Zoned<'_>) -> OffsetDateTime
+    ensures moment { local_nanoseconds result ≡ zoned_nanos zoned.now }
+    ensures offset { offset_seconds result.offset ≡ (plain_zoned zoned.now).offset.seconds }
+    ensures date { result.date ≡ same_date (zoned_date zoned.now) }
+    ensures time { result.time ≡ same_time (zoned_time zoned.now) }
+{
+    let east = zoned.offset();
+    let (second, nanosecond) = parts(zoned.timestamp());
+    let shown = moved(second, nanosecond, east.seconds());
+    OffsetDateTime::new_in_offset(shown.date(), shown.time(), offset(east))
+}
+
+/// The time of day.
+pub fn time(time: jiff::civil::Time) -> Time
+    ensures { result ≡ same_time time }
+{
+    let plain = time.to_plain();
+    match Time::from_hms_nano(
+        plain.hour,
+        plain.minute,
+        plain.second,
+        plain.subsec_nanosecond,
+    ) {
+        Ok(same) => same,
+        Err(_) => unreachable!(),
+    }
+}
+
+/// The date.
+pub fn date(date: jiff::civil::Date) -> Date
+    ensures { result ≡ same_date date }
+{
+    let plain = date.to_plain();
+    let Ok(month) = Month::try_from(plain.month) else {
+        unreachable!()
+    };
+    match Date::from_calendar_date(plain.year as i32, month, plain.day) {
+        Ok(same) => same,
+        Err(_) => unreachable!(),
+    }
+}
+
+/// Sixty to each whole, and the part of the next.
+fn sixtieths(whole: i32, part: i8) -> i32
+    requires { unsigned_abs whole < 1560 }
+    ensures value { result ≡ pos 60 *ℤ whole +ℤ part }
+    ensures range { unsigned_abs result ≤ 60 * unsigned_abs whole + unsigned_abs part }
+{
+    whole * 60 + part as i32
+}
+
+/// The offset, as seconds.
+fn east_of(offset: UtcOffset) -> i32
+    ensures value { result ≡ offset_seconds offset }
+    ensures range { IsOffsetSeconds result }
+{
+    let (hours, minutes, seconds) = offset.as_hms();
+    whole_seconds(hours, minutes, seconds)
+}
+
+/// The seconds of these parts.
+fn whole_seconds(hours: i8, minutes: i8, seconds: i8) -> i32
+    requires { AreOffsetParts hours minutes seconds }
+    ensures value { result ≡ pos 3600 *ℤ hours +ℤ pos 60 *ℤ minutes +ℤ seconds }
+    ensures range { IsOffsetSeconds result }
+{
+    sixtieths(sixtieths(hours as i32, minutes), seconds)
+}
+
+/// The offset for `jiff`.
+pub fn jiff_offset(offset: UtcOffset) -> jiff::tz::Offset
+    ensures { result.seconds ≡ offset_seconds offset }
+{
+    match jiff::tz::Offset::from_seconds(east_of(offset)) {
+        Ok(same) => same,
+        Err(_) => unreachable!(),
+    }
+}
+
+/// The time of day for `jiff`.
+pub fn jiff_time(time: Time) -> jiff::civil::Time
+    ensures { same_time result ≡ time }
+{
+    let (hour, minute, second, nanosecond) = time.as_hms_nano();
+    let same = jiff::civil::Time::new(hour as i8, minute as i8, second as i8, nanosecond as i32);
+    match same {
+        Ok(same) => same,
+        Err(_) => unreachable!(),
+    }
+}
+
+/// The date for `jiff`, if it has the year: -9999 to 9999.
+pub fn jiff_date(date: Date) -> Result<jiff::civil::Date, jiff::Error>
+    ensures succeeds { IsOk result ↔ IsYear date.year }
+    ensures value { IfOk result (λ d. (d.year ≡ date.year) × (d.month ≡ month_of date) × (d.day ≡ day_of date)) }
+{
+    let (year, month, day) = date.to_calendar_date();
+    match i16::try_from(year) {
+        Ok(year) => jiff::civil::Date::new(year, u8::from(month) as i8, day as i8),
+        Err(_) => Err(jiff::Error::Range(jiff::error::Bound::Year)),
+    }
+}
+
+/// The date and the time of day for `jiff`, if it has the year.
+pub fn jiff_date_time(shown: PlainDateTime) -> Result<jiff::civil::DateTime, jiff::Error>
+    ensures succeeds { IsOk result ↔ IsYear shown.date.year }
+    ensures time { IfOk result (λ t. same_time t.time ≡ shown.time) }
+    ensures date { IfOk result (λ t. (t.date.year ≡ shown.date.year)
+        × (t.date.month ≡ month_of shown.date)
+        × (t.date.day ≡ day_of shown.date)) }
+{
+    match jiff_date(shown.date()) {
+        Ok(date) => Ok(jiff::civil::DateTime::from_parts(date, jiff_time(shown.time()))),
+        Err(error) => Err(error),
+    }
+}
+
+/// The date and the time of day.
+pub fn plain_date_time(shown: jiff::civil::DateTime) -> PlainDateTime
+    ensures { result ≡ record { date = same_date shown.date; time = same_time shown.time } }
+{
+    PlainDateTime::new(date(shown.date()), time(shown.time()))
+}

@@ -1,0 +1,4 @@
+pub mod DigitLemmas
+pub mod NumberLemmas
+pub mod ReadLemmas
+pub mod ShownLemmas

@@ -1,0 +1,68 @@
+-- What is shown stays the same.
+use Rattle.std.proofs.Common.{ℕ, ◌↔◌, List, Option, inl, inr, Some, None}
+use Rattle.time_below.specs.Facts.{Facts}
+use Rattle.time_below.specs.Moment.{Moment}
+use Rattle.time_below.specs.Offset.{Offset}
+use Rattle.time_fmt.specs.Outcome.{Outcome}
+use Rattle.time_lines.specs.Now.{NowBecomes}
+use Rattle.time_lines.specs.Number.{Number, number_at, number_start}
+use Rattle.time_lines.specs.Read.{ReadBecomes}
+use Rattle.time_lines.specs.Shown.{Replaces, SameShown, ShowsAt}
+use Rattle.time_lines.specs.Unix.{StartBecomes, UnixBecomes}
+use Rattle.time_lines.specs.declared.number.Unit.{Unit as UnixUnit}
+use Rattle.line_streams.specs.Filter.{Stays}
+
+-- a place that may have the same offsets shows the same
+pub place_shows : (f : Facts → Outcome) (has has' : Moment → Offset → Type 0)
+    → ((m : Moment) (o : Offset) → has m o ↔ has' m o)
+    → SameShown (λ m text. (o : Offset) × has m o × ShowsAt f o m text) (λ m text. (o : Offset) × has' m o × ShowsAt f o m text)
+place_shows f has has' same m text =
+    (λ s. (s.0, (same m s.0).0 s.1, s.2), λ s. (s.0, (same m s.0).1 s.1, s.2))
+
+replaces : (shows shows' : Moment → Option (List ℕ) → Type 0) (P : Type 0) (m : Moment) (before after line text : List ℕ)
+    → ((m : Moment) (t : Option (List ℕ)) → shows m t → shows' m t) → Replaces shows P m before after line text
+    → Replaces shows' P m before after line text
+replaces shows shows' P m before after line text leads (inl b) = inl (b.0, (b.1.0, leads _ _ b.1.1, b.1.2))
+replaces shows shows' P m before after line text leads (inr b) = inr (λ has. leads _ _ (b.0 has), b.1)
+
+start_becomes : (shows shows' : Moment → Option (List ℕ) → Type 0) (unit : UnixUnit) (start : Option ℕ) (line text : List ℕ)
+    → ((m : Moment) (t : Option (List ℕ)) → shows m t → shows' m t) → StartBecomes shows unit start line text
+    → StartBecomes shows' unit start line text
+start_becomes shows shows' unit None line text leads b = b
+start_becomes shows shows' unit (Some start) line text leads b =
+    replaces shows shows' _ _ _ _ line text leads b
+
+-- a line becomes the same where the same is shown
+pub unix_stays : (shows shows' : Moment → Option (List ℕ) → Type 0) (unit : UnixUnit) (least : ℕ) → SameShown shows shows'
+    → Stays (UnixBecomes shows unit least) (UnixBecomes shows' unit least)
+unix_stays shows shows' unit least same line text = (
+  λ b. start_becomes shows shows' unit (number_start least line) line text (λ m t. (same m t).0) b,
+  λ b. start_becomes shows' shows unit (number_start least line) line text (λ m t. (same m t).1) b,
+)
+
+now_becomes : (shows shows' : Moment → Option (List ℕ) → Type 0) (line text : List ℕ)
+    → ((m : Moment) (t : Option (List ℕ)) → shows m t → shows' m t) → NowBecomes shows line text → NowBecomes shows' line text
+now_becomes shows shows' line text leads b =
+    (b.0, (b.1.0, (b.1.1.0, leads b.1.0 b.1.1.0 b.1.1.1, b.1.1.2)), b.2)
+
+-- the same stands before a line where the same is shown
+pub now_stays : (shows shows' : Moment → Option (List ℕ) → Type 0) → SameShown shows shows'
+    → Stays (NowBecomes shows) (NowBecomes shows')
+now_stays shows shows' same line text = (
+  λ b. now_becomes shows shows' line text (λ m t. (same m t).0) b,
+  λ b. now_becomes shows' shows line text (λ m t. (same m t).1) b,
+)
+
+read_becomes : (shows shows' : Moment → Option (List ℕ) → Type 0) (line text : List ℕ)
+    → ((m : Moment) (t : Option (List ℕ)) → shows m t → shows' m t) → ReadBecomes shows line text → ReadBecomes shows' line text
+read_becomes shows shows' line text leads (inl b) =
+    inl (b.0, b.1, b.2, b.3, replaces shows shows' _ _ _ _ line text leads b.4)
+read_becomes shows shows' line text leads (inr b) = inr b
+
+-- a line becomes the same where the same is shown
+pub read_stays : (shows shows' : Moment → Option (List ℕ) → Type 0) → SameShown shows shows'
+    → Stays (ReadBecomes shows) (ReadBecomes shows')
+read_stays shows shows' same line text = (
+  λ b. read_becomes shows shows' line text (λ m t. (same m t).0) b,
+  λ b. read_becomes shows' shows line text (λ m t. (same m t).1) b,
+)

@@ -1,0 +1,8 @@
+use Rattle.std.proofs.Common.{◌≡◌, ◌-◌, length}
+use Rattle.time_lines.specs.Number.{begins, first_place, number_start}
+use Rattle.time_lines.proofs.number.number_start.Given as goal
+
+-- no number begins before this place
+abbrev pub invariant-loop-at : goal.invariant-loop-at
+invariant-loop-at l =
+    number_start l.least l.line ≡ first_place (begins l.least l.line) (length l.line - l.at) l.at

@@ -1,0 +1,5 @@
+pub mod Now
+pub mod Number
+pub mod Read
+pub mod Shown
+pub mod Unix

@@ -1,0 +1,17 @@
+//! Lines in which moments are written as text: what a line becomes, as jobs of `line_streams`.
+#![tactic(auto)]
+
+mod now;
+mod number;
+mod read;
+mod shown;
+mod unix;
+
+pub use now::NowJob;
+pub use number::Unit;
+pub use read::ReadJob;
+pub use shown::{AtOffset, InPlace, InUtc, Place, Shown};
+pub use unix::UnixJob;
+
+#[cfg(test)]
+mod tests;

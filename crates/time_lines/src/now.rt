@@ -1,0 +1,85 @@
+//! The moment before each line at which it was read.
+ghost use Rattle.std.specs.Prelude.{◌≡◌, OnOk};
+ghost use Rattle.time_lines.specs.Now.{IsStamp, NowBecomes, spaced};
+ghost use Rattle.time_lines.specs.Shown.{SameShown};
+
+use crate::shown::Shown;
+use line_streams::{FilterError, LineJob};
+use std::alloc::AllocError;
+use std::time::{Clock, SystemTime};
+use time_below::Timestamp;
+
+/// Puts before each line what is shown of the moment at which it was read, and a space unless that ends
+/// with one. The clock is asked once for all lines that one read has ended.
+#[derive(Drop)]
+pub struct NowJob<'a, C: Clock, S: Shown + Drop> {
+    pub clock: &'a C,
+    pub shown: S,
+    /// What stands before a line.
+    pub stamp: Vec<u8>,
+}
+
+/// The moment that the clock shows, if it can be read and the year is in range.
+fn moment_now<C: Clock>(clock: &C) -> Option<Timestamp> {
+    let Ok(now) = SystemTime::now(clock) else {
+        return None;
+    };
+    let Ok(passed) = now.duration_since(SystemTime::UNIX_EPOCH) else {
+        return None;
+    };
+    let Ok(seconds) = i64::try_from(passed.as_secs()) else {
+        return None;
+    };
+    match Timestamp::new(seconds, passed.subsec_nanos()) {
+        Ok(moment) => Some(moment),
+        Err(_) => None,
+    }
+}
+
+/// Appends a space, unless the text is empty or ends with one.
+fn add_space(text: &mut Vec<u8>) -> Result<(), AllocError>
+    ensures { OnOk result (text.new.items ≡ spaced text.old.items) }
+{
+    let length = text.len();
+    if length == 0 || text[length - 1] == b' ' {
+        return Ok(());
+    }
+    text.push(b' ')?;
+    Ok(())
+}
+
+/// Makes the stamp of a moment.
+fn put_stamp<S: Shown>(
+    shown: &mut S,
+    stamp: &mut Vec<u8>,
+    moment: &Timestamp,
+) -> Result<(), AllocError>
+    ensures same { SameShown (S.shows shown.old) (S.shows shown.new) }
+    ensures stamp { OnOk result (IsStamp (S.shows shown.old) stamp.new.items) }
+{
+    stamp.clear();
+    if shown.append(stamp, moment)? {
+        add_space(stamp)?;
+    }
+    Ok(())
+}
+
+impl<C: Clock, S: Shown + Drop> LineJob for NowJob<'_, C, S> {
+    ghost becomes = { λ job. NowBecomes (S.shows job.shown) };
+
+    ghost is_ready = { λ job. IsStamp (S.shows job.shown) job.stamp.items };
+
+    fn prepare(&mut self) -> Result<(), FilterError> {
+        let Some(moment) = moment_now(self.clock) else {
+            return Err(FilterError::Job);
+        };
+        put_stamp(&mut self.shown, &mut self.stamp, &moment)?;
+        Ok(())
+    }
+
+    fn append(&mut self, output: &mut Vec<u8>, line: &[u8]) -> Result<(), AllocError> {
+        output.extend_from_slice(self.stamp.as_slice())?;
+        output.extend_from_slice(line)?;
+        Ok(())
+    }
+}

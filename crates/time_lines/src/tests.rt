@@ -1,0 +1,240 @@
+//! Lines and what they become. The texts of moments are those of GNU `date -u`.
+use crate::{AtOffset, InPlace, InUtc, NowJob, ReadJob, Unit, UnixJob};
+use line_streams::LineJob;
+use std::io;
+use std::process::Abort;
+use std::test::Fail;
+use std::time::{Clock, Duration};
+use time_below::UtcOffset;
+use time_fmt::parts::UNIX_TIMESTAMP;
+use time_known::{Rfc2822, Rfc3339};
+
+/// What a line becomes.
+fn assert_becomes<J: LineJob>(
+    rt: &HostRuntime,
+    job: &mut J,
+    line: &[u8],
+    wanted: &[u8],
+) -> Result<(), Fail> {
+    let mut output = Vec::new(rt.alloc());
+    output.push(b'<')?;
+    assert!(rt; job.prepare().is_ok());
+    job.append(&mut output, line)?;
+    let (first, rest) = output.as_slice().split_at(1);
+    assert!(rt; first == b"<");
+    assert!(rt; rest == wanted);
+    Ok(())
+}
+
+/// Lines with a number of at least nine digits, in seconds, and what they become.
+const SECONDS: &[(&[u8], &[u8])] = &[
+    (b"1700000000 up\n", b"2023-11-14T22:13:20Z up\n"),
+    (b"1700000000", b"2023-11-14T22:13:20Z"),
+    (
+        b"pid 12 at 1700000000.123\n",
+        b"pid 12 at 2023-11-14T22:13:20.123Z\n",
+    ),
+    (
+        b"msg=audit(1700000000.123:456): x\n",
+        b"msg=audit(2023-11-14T22:13:20.123Z:456): x\n",
+    ),
+    (b"1700000000. Then\n", b"2023-11-14T22:13:20Z. Then\n"),
+    (
+        b"1700000000.0000000019 s\n",
+        b"2023-11-14T22:13:20.000000001Z s\n",
+    ),
+    (
+        b"0.123456789 of 1700000000\n",
+        b"0.123456789 of 2023-11-14T22:13:20Z\n",
+    ),
+    (b"-100000000 a\n", b"1966-10-31T14:13:20Z a\n"),
+    (b"a -100000000.25 b\n", b"a 1966-10-31T14:13:19.75Z b\n"),
+    (b"x-100000000 b\n", b"x-1973-03-03T09:46:40Z b\n"),
+    (b"0000000000000000000 b\n", b"1970-01-01T00:00:00Z b\n"),
+    (
+        b"\x00\xFF1700000000\x00\n",
+        b"\x00\xFF2023-11-14T22:13:20Z\x00\n",
+    ),
+    (b"253402300799 last\n", b"9999-12-31T23:59:59Z last\n"),
+    (
+        b"1700000000 1700000001\n",
+        b"2023-11-14T22:13:20Z 1700000001\n",
+    ),
+];
+
+/// Lines that pass as they are.
+const PASSED: &[&[u8]] = &[
+    b"\n",
+    b"",
+    b"no number\n",
+    b"12345678 has eight digits\n",
+    b"253402300800 is the year 10000\n",
+    b"99999999999999999999 has twenty digits\n",
+    b"1.999999999 has decimals\n",
+];
+
+#[test]
+fn the_first_number_is_replaced(rt: HostRuntime) -> Result<(), Fail> {
+    let mut job = UnixJob {
+        shown: InUtc {
+            description: Rfc3339,
+        },
+        unit: Unit::Seconds,
+        least: 9,
+        passed: 0,
+    };
+    for (line, wanted) in SECONDS {
+        assert_becomes(&rt, &mut job, line, wanted)?;
+    }
+    assert!(rt; job.passed == 0);
+    for line in PASSED {
+        assert_becomes(&rt, &mut job, line, line)?;
+    }
+    assert!(rt; job.passed == PASSED.len() as u64);
+    Ok(())
+}
+
+/// Units, the digits that a number has at least, lines, and what they become.
+const UNITS: &[(Unit, usize, &[u8], &[u8])] = &[
+    (
+        Unit::Milliseconds,
+        9,
+        b"1700000000123\n",
+        b"2023-11-14T22:13:20.123Z\n",
+    ),
+    (
+        Unit::Milliseconds,
+        9,
+        b"1700000000123.4567891\n",
+        b"2023-11-14T22:13:20.123456789Z\n",
+    ),
+    (
+        Unit::Microseconds,
+        9,
+        b"1700000000123456\n",
+        b"2023-11-14T22:13:20.123456Z\n",
+    ),
+    (
+        Unit::Nanoseconds,
+        9,
+        b"1700000000123456789\n",
+        b"2023-11-14T22:13:20.123456789Z\n",
+    ),
+    (
+        Unit::Nanoseconds,
+        9,
+        b"1700000000123456789.5\n",
+        b"2023-11-14T22:13:20.123456789Z\n",
+    ),
+    (
+        Unit::Milliseconds,
+        1,
+        b"-1\n",
+        b"1969-12-31T23:59:59.999Z\n",
+    ),
+    (Unit::Seconds, 1, b"5\n", b"1970-01-01T00:00:05Z\n"),
+    (
+        Unit::Seconds,
+        10,
+        b"123456789 1700000000\n",
+        b"123456789 2023-11-14T22:13:20Z\n",
+    ),
+];
+
+#[test]
+fn units_and_digits_are_as_asked_for(rt: HostRuntime) -> Result<(), Fail> {
+    for (unit, least, line, wanted) in UNITS {
+        let mut job = UnixJob {
+            shown: InUtc {
+                description: Rfc3339,
+            },
+            unit: *unit,
+            least: *least,
+            passed: 0,
+        };
+        assert_becomes(&rt, &mut job, line, wanted)?;
+    }
+    Ok(())
+}
+
+#[test]
+fn the_clock_of_a_place_is_shown(rt: HostRuntime) -> Result<(), Fail> {
+    let Ok(offset) = UtcOffset::from_hms(5, 30, 0) else {
+        return Ok(());
+    };
+    let mut job = UnixJob {
+        shown: InPlace {
+            description: Rfc2822,
+            place: AtOffset { offset },
+        },
+        unit: Unit::Seconds,
+        least: 9,
+        passed: 0,
+    };
+    assert_becomes(
+        &rt,
+        &mut job,
+        b"1700000000 up\n",
+        b"Wed, 15 Nov 2023 03:43:20 +0530 up\n",
+    )
+}
+
+/// Lines with a text of RFC 3339, and what they become by the seconds since 1970.
+const TEXTS: &[(&[u8], &[u8])] = &[
+    (b"2023-11-14T22:13:20.123456789Z up\n", b"1700000000 up\n"),
+    (
+        b"at 2023-11-15t03:43:20+05:30: up\n",
+        b"at 1700000000: up\n",
+    ),
+    (b"2023-11-14T22:13:20z", b"1700000000"),
+    (b"92023-11-14T22:13:20Z\n", b"91700000000\n"),
+    (
+        b"2023-11-31T22:13:20Z 2023-11-14T22:13:20Z\n",
+        b"2023-11-31T22:13:20Z 1700000000\n",
+    ),
+    (b"2023-11-14T22:13:20.Z\n", b"2023-11-14T22:13:20.Z\n"),
+    (b"2023-11-14 22:13:20Z\n", b"2023-11-14 22:13:20Z\n"),
+    (b"2023-11-14T22:13:20\n", b"2023-11-14T22:13:20\n"),
+    (b"none\n", b"none\n"),
+];
+
+#[test]
+fn the_first_text_is_replaced(rt: HostRuntime) -> Result<(), Fail> {
+    let mut job = ReadJob {
+        shown: InUtc {
+            description: UNIX_TIMESTAMP,
+        },
+        passed: 0,
+    };
+    for (line, wanted) in TEXTS {
+        assert_becomes(&rt, &mut job, line, wanted)?;
+    }
+    assert!(rt; job.passed == 4);
+    Ok(())
+}
+
+/// A clock that stands.
+struct Standing;
+
+impl Clock for Standing {
+    fn monotonic(&self) -> io::Result<Duration> {
+        Ok(Duration::from_secs(0))
+    }
+
+    fn since_1970(&self) -> io::Result<Duration> {
+        Ok(Duration::new(1_700_000_000, 5_000_000))
+    }
+}
+
+#[test]
+fn the_moment_stands_before_the_line(rt: HostRuntime) -> Result<(), Fail> {
+    let mut job = NowJob {
+        clock: &Standing,
+        shown: InUtc {
+            description: Rfc3339,
+        },
+        stamp: Vec::new(rt.alloc()),
+    };
+    assert_becomes(&rt, &mut job, b"up\n", b"2023-11-14T22:13:20.005Z up\n")?;
+    assert_becomes(&rt, &mut job, b"", b"2023-11-14T22:13:20.005Z ")
+}
