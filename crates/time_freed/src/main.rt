@@ -2,6 +2,8 @@
 //! runs it counts the blocks of memory that were not given back by its end, of which no clause speaks.
 #![tactic(auto)]
 
+ghost use Rattle.std.specs.Prelude.{◌≡◌, IfOk, vec_len};
+
 use std::alloc::{AllocError, Global};
 use std::default::Default;
 use std::io;
@@ -74,7 +76,9 @@ fn is_refusal<T>(answer: &Result<T, Format>) -> bool {
 }
 
 /// A text of this many letters.
-fn letters(alloc: Global, length: usize) -> Result<Vec<u8>, AllocError> {
+fn letters(alloc: Global, length: usize) -> Result<Vec<u8>, AllocError>
+    ensures { IfOk result (λ text. vec_len text ≡ length) }
+{
     vec![in alloc; b'x'; length]
 }
 
