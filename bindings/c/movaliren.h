@@ -21,8 +21,9 @@
  * items, a year of 0 to 9999, and a width of at most 128 bytes or those of the buffer. Usual items are
  * texts of at most 65535 bytes, and DAY, MONTH, MONTH_SHORT, YEAR, YEAR_EXTENDED, HOUR, MINUTE, SECOND
  * and OFFSET_MINUTE by zeros alone for padding, flag and digits, SUBSECOND by 3, 6 or 9 digits, and
- * OFFSET_HOUR by the flag. A call that may allocate may not be made from a signal handler, nor in the
- * forked child of a process with threads. They allocate through two symbols, which the library defines
+ * OFFSET_HOUR by the flag. For movaliren_format_date those of a time or an offset are not usual. A call
+ * that may allocate may not be made from a signal handler, nor in the forked child of a process with
+ * threads. They allocate through two symbols, which the library defines
  * by malloc and free. A program that links the static library may define both itself. is_there is 1, or 0 if out of
  * memory, and block is never null:
  *

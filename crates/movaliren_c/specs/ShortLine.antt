@@ -1,6 +1,6 @@
 -- Descriptions of usual items, whose texts are put straight into a buffer.
 use Rattle.std.specs.List.{All}
-use Rattle.std.specs.Prelude.{ℕ, ℤ, ◌≡◌, ◌≤◌, nat_le, Bool, true, false, ◌==◌, ◌&&◌, ◌||◌, List, length, Some, None, IfSome, IsTrue}
+use Rattle.std.specs.Prelude.{ℕ, ℤ, ◌≡◌, ◌≤◌, nat_le, Bool, false, ◌==◌, ◌&&◌, ◌||◌, List, length, Some, None, IfSome, IsTrue}
 use Rattle.std.specs.Prelude.{Result, Ok, Err, IsOkAnd, pos, ◌≤ℤ◌, if◌then◌else◌}
 use Rattle.movaliren_c.specs.declared.item.Item.{Item}
 use Rattle.movaliren_c.specs.declared.reason.Reason.{Reason}
