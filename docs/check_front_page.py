@@ -15,6 +15,7 @@ RECIPES = [
     "crates/time_describe_tests/src/recipes.rt",
     "crates/time_plan_tests/src/recipes.rt",
     "crates/time_read_tests/src/front_page.rt",
+    "crates/time_jiff_tests/src/recipes.rt",
 ]
 
 
