@@ -2,6 +2,8 @@
 use Rattle.std.proofs.Common.{◌≡◌, ℕ, zero, suc, ◌+◌, ◌-◌, ◌*◌, ◌<◌, ◌≤◌, refl, sym, ap, ◌∙◌, subst, arith, ℤ, pos, negsuc, ◌+ℤ◌, ◌-ℤ◌, ◌*ℤ◌}
 use Rattle.std.proofs.lemmas.Bool.Decides.{nat_tests}
 use Rattle.std.proofs.lemmas.Int.{ints}
+use Rattle.jiff.specs.ZonedView.{plain_zoned, zoned_nanos, zoned_date, zoned_time}
+use Rattle.jiff.specs.declared.zoned.Zoned.{Zoned}
 use Rattle.jiff_core.specs.Calendar.{IsYear as IsTheirYear, is_leap_year as their_leap, days_in_month as their_month, days_of_months as their_months, days_of_years as their_years, day_count, days_from_civil}
 use Rattle.jiff_core.specs.DateTime.{civil_nanos}
 use Rattle.jiff_core.specs.March.{march_days}
@@ -10,11 +12,13 @@ use Rattle.jiff_core.specs.declared.civil.datetime.DateTime.{DateTime}
 use Rattle.jiff_core.proofs.CalendarLemmas.{day_count-epoch}
 use Rattle.jiff_core.proofs.MarchLemmas.{march_days-suc, days_of_years-march_days}
 use Rattle.time_below.specs.Calendar.{IsDate, IsYear, is_leap_year as our_leap, days_in_month as our_month, days_of_months as our_months, day_number, date_of}
-use Rattle.time_below.specs.Moment.{Moment, DateAndTime, IsMoment, unix_day, unix_seconds, utc_date_and_time}
+use Rattle.time_below.specs.Moment.{Moment, DateAndTime, OffsetDateAndTime, IsMoment, unix_day, unix_seconds, utc_date_and_time}
+use Rattle.time_below.specs.Offset.{offset_seconds}
+use Rattle.time_below.specs.TimeOfDay.{IsTimeOfDay}
 use Rattle.time_below.proofs.CalendarLemmas.{days_of_years as our_years, day_number_from_start}
-use Rattle.time_below.proofs.MomentLemmas.{only_utc}
+use Rattle.time_below.proofs.MomentLemmas.{only_utc, IsTimestampSecond-unix_seconds}
 use Rattle.time_below.proofs.MonthLemmas.{IsDate-date_of}
-use Rattle.time_jiff.specs.Same.{same_date, same_time}
+use Rattle.time_jiff.specs.Same.{local_nanoseconds, same_date, same_time}
 
 same_leap : (y : ℤ) → our_leap y ≡ their_leap y
 same_leap y = grind (arith, nat_tests)
@@ -111,3 +115,21 @@ same_shown dt m real shown =
     t.hour t.minute t.second t.subsec_nanosecond (civil_nanos_is dt) (same_day dt.date) shown) in
     only_utc m (record { date = same_date dt.date; time = same_time dt.time }) (same_date_is dt.date)
     (t.hour_in, t.minute_in, t.second_in, t.subsec_in) parts.0 parts.1
+
+clock_sum : (civil n ahead u o : ℤ) (k : ℕ) → civil ≡ n +ℤ ahead *ℤ pos 1_000_000_000
+    → n ≡ pos 1_000_000_000 *ℤ (u -ℤ o) +ℤ pos k → ahead ≡ o → civil ≡ u *ℤ pos 1_000_000_000 +ℤ pos k
+clock_sum civil n ahead u o k shows moment offset = omega (arith, ints)
+
+-- of one moment at one offset they show the date and the time that we have
+pub same_clock : (z : Zoned) (t : OffsetDateAndTime) → IsDate t.date → IsTimeOfDay t.time
+    → zoned_nanos z ≡ local_nanoseconds t → (plain_zoned z).offset.seconds ≡ offset_seconds t.offset
+    → ◌≡◌ {A = DateAndTime} (record { date = same_date (zoned_date z); time = same_time (zoned_time z) })
+    (record { date = t.date; time = t.time })
+same_clock z t date time moment offset =
+    let shown : DateAndTime = record { date = t.date; time = t.time } in
+    let m : Moment = record { seconds = unix_seconds shown; nanosecond = t.time.nanosecond } in
+    let real : IsMoment m = (IsTimestampSecond-unix_seconds shown date time, time.3) in
+    same_shown (plain_zoned z).datetime m real
+    (clock_sum (civil_nanos (plain_zoned z).datetime) (zoned_nanos z) (plain_zoned z).offset.seconds (unix_seconds shown)
+    (offset_seconds t.offset) t.time.nanosecond (plain_zoned z).shows moment offset)
+    ∙ sym (only_utc m shown date time refl refl)

@@ -1,11 +1,12 @@
 -- What a clock shows at an offset.
 use Rattle.std.proofs.Common.{◌≡◌, ℕ, ℤ, pos, ◌+ℤ◌, ◌-ℤ◌, ◌*ℤ◌, ap, ◌∙◌, arith}
-use Rattle.std.proofs.Common.{negsuc, neg_ℤ, ◌<◌, ◌^◌, unsigned_abs, refl, w64, to_z, of_z}
+use Rattle.std.proofs.Common.{negsuc, neg_ℤ, ◌<◌, ◌^◌, unsigned_abs, refl, w64, to_z, of_z, sym, subst}
 use Rattle.std.proofs.lemmas.Int.{ints}
+use Rattle.std.specs.Int.{w128}
 use Rattle.jiff_core.specs.Calendar.{IsBetween}
 use Rattle.jiff_core.proofs.SignedLemmas.{back_small}
 use Rattle.time_below.specs.Calendar.{OrdinalDate}
-use Rattle.time_below.specs.Moment.{Moment, OffsetDateAndTime, IsMoment, unix_seconds, local_unix_seconds, utc_date, utc_time, utc_date_and_time}
+use Rattle.time_below.specs.Moment.{Moment, OffsetDateAndTime, IsMoment, IsNearTimestampSecond, unix_seconds, local_unix_seconds, utc_date, utc_time, utc_date_and_time}
 use Rattle.time_below.specs.Offset.{Offset, offset_seconds}
 use Rattle.time_below.specs.TimeOfDay.{TimeOfDay}
 use Rattle.time_below.proofs.MomentLemmas.{unix_seconds-utc}
@@ -49,3 +50,22 @@ pub moved_nanoseconds : (all s e n civil : ℤ) (k l : ℕ) → all ≡ s +ℤ e
     → pos 1_000_000_000 *ℤ s +ℤ pos k ≡ n → civil ≡ n +ℤ e *ℤ pos 1_000_000_000
     → civil ≡ all *ℤ pos 1_000_000_000 +ℤ pos l
 moved_nanoseconds all s e n civil k l sum same whole shown = omega (arith, ints)
+
+-- the nanoseconds as the code holds them
+abbrev held_nanoseconds : ℤ → ℕ → ℤ
+held_nanoseconds s n =
+    to_z w128 (of_z w128 (to_z w128 (of_z w128 (pos 1_000_000_000 *ℤ to_z w128 (of_z w128 (to_z w64 (of_z w64 s))))) +ℤ to_z w128 n))
+
+held_nanoseconds_are : (s : ℤ) (n : ℕ) → IsNearTimestampSecond s → n < 1_000_000_000
+    → held_nanoseconds s n ≡ pos 1_000_000_000 *ℤ s +ℤ pos n
+held_nanoseconds_are s n h k = omega (arith, ints)
+
+-- the same of a second and a nanosecond that are known by equations
+pub nanoseconds_of_parts : (s u : ℤ) (n k : ℕ) → IsNearTimestampSecond s → k < 1_000_000_000 → s ≡ u → n ≡ k
+    → held_nanoseconds s n ≡ pos 1_000_000_000 *ℤ u +ℤ pos k
+nanoseconds_of_parts s u n k near small second nanosecond =
+    held_nanoseconds_are s n near (subst (λ x. x < 1_000_000_000) (sym nanosecond) small) ∙ rw (second, nanosecond) refl
+
+-- a clock that shows the same of one moment has one offset
+pub one_offset : (civil n x y : ℤ) → civil ≡ n +ℤ x *ℤ pos 1_000_000_000 → civil ≡ n +ℤ y *ℤ pos 1_000_000_000 → x ≡ y
+one_offset civil n x y a b = omega (arith, ints)

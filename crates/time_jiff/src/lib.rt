@@ -5,11 +5,12 @@
 ghost use Rattle.std.specs.Prelude.{◌≡◌, ◌↔◌, ◌+◌, ◌*◌, ◌≤◌, ◌<◌, pos, neg_ℤ, ◌+ℤ◌, ◌*ℤ◌, IsOk, IfOk, unsigned_abs};
 ghost use Rattle.jiff.specs.ZonedView.{plain_zoned, zoned_date, zoned_nanos, zoned_time};
 ghost use Rattle.jiff_core.specs.Calendar.{IsBetween, IsYear};
-ghost use Rattle.time_below.specs.Calendar.{month_of, day_of};
+ghost use Rattle.time_below.specs.Calendar.{month_of, day_of, IsDate};
 ghost use Rattle.jiff_core.specs.Timestamp.{IsTimestampNanos, IsOffsetSeconds};
 ghost use Rattle.time_below.specs.Moment.{nanoseconds as nanoseconds_of, IsMoment};
 ghost use Rattle.time_below.specs.Offset.{offset_seconds, signed, AreOffsetParts};
-ghost use Rattle.time_jiff.specs.Same.{local_nanoseconds, offset_of_seconds, same_date, same_time};
+ghost use Rattle.time_below.specs.TimeOfDay.{IsTimeOfDay};
+ghost use Rattle.time_jiff.specs.Same.{IsInFixedZone, local_nanoseconds, offset_of_seconds, same_date, same_time};
 
 use time_below::{Date, Month, OffsetDateTime, PlainDateTime, Time, UtcOffset};
 
@@ -48,7 +49,7 @@ pub fn timestamp(moment: jiff::Timestamp) -> time_below::Timestamp
     moved(second, nanosecond, 0)
 }
 
-/// The moment, if `jiff` has it: those of the years -9999 to 9999.
+/// The moment, if `jiff` has it: from -9999-01-02T01:59:59Z to 9999-12-30T22:00:00.999999999Z.
 pub fn jiff_timestamp(moment: time_below::Timestamp) -> Result<jiff::Timestamp, jiff::Error>
     ensures succeeds { IsOk result ↔ IsTimestampNanos (nanoseconds_of moment) }
     ensures value { IfOk result (λ t. t.nanosecond ≡ nanoseconds_of moment) }
@@ -236,4 +237,46 @@ pub fn plain_date_time(shown: jiff::civil::DateTime) -> PlainDateTime
     ensures { result ≡ record { date = same_date shown.date; time = same_time shown.time } }
 {
     PlainDateTime::new(date(shown.date()), time(shown.time()))
+}
+
+/// The nanoseconds since 1970 of a moment whose date and time are real.
+fn nanoseconds_at(moment: OffsetDateTime) -> i128
+    ensures value { result ≡ local_nanoseconds moment }
+    ensures date { IsDate moment.date }
+    ensures time { IsTimeOfDay moment.time }
+{
+    // A getter of the date says that the date is real.
+    let _ = moment.date().year();
+    let (_, _, _, nanosecond) = moment.time().as_hms_nano();
+    1_000_000_000 * moment.unix_timestamp() as i128 + nanosecond as i128
+}
+
+/// The instant of the moment in the zone that always has its offset.
+fn in_fixed_zone(instant: jiff::Timestamp, moment: OffsetDateTime) -> jiff::Zoned<'static>
+    requires instant { instant.nanosecond ≡ local_nanoseconds moment }
+    requires date { IsDate moment.date }
+    requires time { IsTimeOfDay moment.time }
+    ensures moment { zoned_nanos result ≡ local_nanoseconds moment }
+    ensures offset { (plain_zoned result).offset.seconds ≡ offset_seconds moment.offset }
+    ensures date { same_date (zoned_date result) ≡ moment.date }
+    ensures time { same_time (zoned_time result) ≡ moment.time }
+    ensures zone { IsInFixedZone result (offset_seconds moment.offset) }
+{
+    instant.to_zoned(jiff::tz::TimeZone::fixed(jiff_offset(moment.offset())))
+}
+
+/// The moment in the zone that always has its offset, if `jiff` has the moment: from
+/// -9999-01-02T01:59:59Z to 9999-12-30T22:00:00.999999999Z.
+pub fn jiff_zoned(moment: OffsetDateTime) -> Result<jiff::Zoned<'static>, jiff::Error>
+    ensures succeeds { IsOk result ↔ IsTimestampNanos (local_nanoseconds moment) }
+    ensures moment { IfOk result (λ z. zoned_nanos z ≡ local_nanoseconds moment) }
+    ensures offset { IfOk result (λ z. (plain_zoned z).offset.seconds ≡ offset_seconds moment.offset) }
+    ensures date { IfOk result (λ z. same_date (zoned_date z) ≡ moment.date) }
+    ensures time { IfOk result (λ z. same_time (zoned_time z) ≡ moment.time) }
+    ensures zone { IfOk result (λ z. IsInFixedZone z (offset_seconds moment.offset)) }
+{
+    match jiff::Timestamp::from_nanosecond(nanoseconds_at(moment)) {
+        Ok(instant) => Ok(in_fixed_zone(instant, moment)),
+        Err(error) => Err(error),
+    }
 }
