@@ -3,7 +3,7 @@
 use jiff::tz::{Offset, TimeZone};
 use jiff::{Timestamp as Instant, civil};
 use std::process::Abort;
-use time_below::{Date, Month, PlainDateTime, Timestamp};
+use time_below::{Date, Month, OffsetDateTime, PlainDateTime, Time, Timestamp, UtcOffset};
 
 fn their_date(rt: &impl Abort) -> civil::Date {
     match civil::Date::new(2026, 11, 22) {
@@ -104,7 +104,7 @@ fn an_offset_has_its_seconds(rt: HostRuntime) {
 }
 
 #[test]
-fn a_zoned_moment_has_its_clock_and_offset(rt: HostRuntime) {
+fn a_zoned_moment_has_its_clock_and_offset_both_ways(rt: HostRuntime) {
     let (Ok(offset), Ok(instant)) = (
         Offset::from_seconds(-23_400),
         Instant::from_second(1_795_341_306),
@@ -115,4 +115,33 @@ fn a_zoned_moment_has_its_clock_and_offset(rt: HostRuntime) {
     assert!(&rt; shown.unix_timestamp() == 1_795_341_306);
     assert!(&rt; shown.time().as_hms_nano() == (3, 25, 6, 0));
     assert!(&rt; shown.offset().as_hms() == (-6, -30, 0));
+    match time_jiff::jiff_zoned(shown) {
+        Ok(back) => {
+            assert!(&rt; back.timestamp() == instant);
+            assert!(&rt; back.offset().seconds() == -23_400);
+            assert!(&rt; back.time().hour() == 3);
+        }
+        Err(_) => panic!(rt; "it is refused"),
+    }
+}
+
+/// At -06:30 the last moment of jiff is at 15:30 of 9999-12-30.
+#[test]
+fn zoned_moments_outside_jiff_are_refused(rt: HostRuntime) {
+    let (Ok(date), Ok(offset)) = (
+        Date::from_calendar_date(9999, Month::December, 30),
+        UtcOffset::from_hms(-6, -30, 0),
+    ) else {
+        panic!(rt; "no moment")
+    };
+    for (minute, second, refused) in [(30, 0, false), (30, 1, true)] {
+        let Ok(time) = Time::from_hms_nano(15, minute, second, 999_999_999) else {
+            panic!(rt; "no time")
+        };
+        let moment = OffsetDateTime::new_in_offset(date, time, offset);
+        assert!(&rt;
+            time_jiff::jiff_zoned(moment).is_err() == refused,
+            "at {second}"
+        );
+    }
 }
