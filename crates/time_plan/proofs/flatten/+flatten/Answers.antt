@@ -34,14 +34,14 @@ add_nodes-loop-node-preserved g t c =
     let smaller = smaller_rest g.T.Node.size c.args.nodes.now c.loop-node.node-index c.node-item.result
     c.loop-node-test.true c.node-item.is in
     elim c.match-add_leaf.branch [
-      add_nodes-in-Some+in_ok-added-in-Some w ↦
-        let added = rw w.in_ok-added-in-Some.was at w.in-Some.ensures.extends in
-        rw w.steps-is (flattened_more (step_trees c.args.steps.now.items) (step_trees c.loop-node.steps.items)
-        (step_trees c.add_leaf.new.steps.items) _ _ _ _ c.loop-node.invariant next smaller added)
-    | add_nodes-in-None+in_ok-add_node-in-None w ↦
-        let added = rw w.in-None.ensures.extends at w.in_ok-add_node-in-None.ensures.extends in
-        rw w.steps-is (flattened_more (step_trees c.args.steps.now.items) (step_trees c.loop-node.steps.items)
-        (step_trees w.add_node.new.steps.items) _ _ _ _ c.loop-node.invariant next smaller added)
+      | add_nodes-in-Some+in_ok-added-in-Some w ↦
+          let added = rw w.in_ok-added-in-Some.was at w.in-Some.ensures.extends in
+          rw w.steps-is (flattened_more (step_trees c.args.steps.now.items) (step_trees c.loop-node.steps.items)
+          (step_trees c.add_leaf.new.steps.items) _ _ _ _ c.loop-node.invariant next smaller added)
+      | add_nodes-in-None+in_ok-add_node-in-None w ↦
+          let added = rw w.in-None.ensures.extends at w.in_ok-add_node-in-None.ensures.extends in
+          rw w.steps-is (flattened_more (step_trees c.args.steps.now.items) (step_trees c.loop-node.steps.items)
+          (step_trees w.add_node.new.steps.items) _ _ _ _ c.loop-node.invariant next smaller added)
     ]
 
 pub add_nodes-returns : goal.add_nodes-returns
