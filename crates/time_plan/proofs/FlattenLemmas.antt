@@ -1,6 +1,7 @@
 -- Steps that are made one after another.
-use Rattle.std.proofs.Common.{◌≡◌, ℕ, ◌+◌, ◌-◌, ◌≤◌, ◌++◌, ◌&&◌, Bool, true, List, [], ◌∷◌, length, refl, sym, ap, ◌∙◌, arith, map, take, subst, Some, None}
-use Rattle.std.specs.Prelude.{slice_get, OnOk, Result, Ok, Err, min}
+use Rattle.std.proofs.Common.{◌≡◌, ℕ, suc, ◌+◌, ◌-◌, ◌<◌, ◌≤◌, ◌++◌, ◌&&◌, Bool, true, List, [], ◌∷◌, length, refl, sym, ap, ◌∙◌, arith, map, take, subst, Some, None}
+use Rattle.std.proofs.lemmas.List.{set_split, set-get_or, at_drop_all}
+use Rattle.std.specs.Prelude.{slice_get, slice_index_or, slice_set, OnOk, Result, Ok, Err, min}
 use Rattle.time_below.proofs.NodeLemmas.{and_assoc}
 use Rattle.time_below.specs.declared.format_description.component.Component.{Component}
 use Rattle.time_below.specs.declared.format_description.metadata.Metadata.{Metadata}
@@ -134,6 +135,27 @@ literal_behind xs s t b bs same no_literal was_text is_literal is_text =
           (sym (before.text ∙ ap (λ b. are_guaranteed_text (step_trees xs) && b) (shown_guaranteed s.shown)
           ∙ and_true (are_guaranteed_text (step_trees xs))));
     }
+
+-- the last of a list, by another
+set_last : (xs : List Step) (n : ℕ) (s : Step) → 0 < length xs → n ≡ length xs - 1
+    → slice_set xs n s ≡ take n xs ++ s ∷ []
+set_last xs n s some is_n =
+    set_split xs n s (omega (arith, some, is_n))
+    ∙ ap (λ (ys : List Step). take n xs ++ s ∷ ys)
+    (at_drop_all (λ (ys : List Step). ys) xs (suc n) (omega (arith, some, is_n)))
+
+-- a literal put behind what the last step shows, where that step lies
+pub literal_in_place : (xs : List Step) (n : ℕ) (s t : Step) (b : Bool) (bs : List ℕ) → 0 < length xs
+    → n ≡ length xs - 1 → s ≡ slice_index_or xs n s → t.shown ≡ s.shown
+    → literal_bytes s.literal ≡ [] → s.is_text ≡ true → literal_bytes t.literal ≡ bs → t.is_text ≡ b
+    → Extends (step_trees xs) (step_trees (slice_set xs n t)) (literal_tree b bs)
+literal_in_place xs n s t b bs some is_n is_s same no_literal was_text is_literal is_text =
+    let whole : take n xs ++ s ∷ [] ≡ xs = sym (set_last xs n s some is_n)
+    ∙ ap (λ (z : Step). slice_set xs n z) is_s ∙ set-get_or xs n s in
+    let new = sym (set_last xs n t some is_n) in
+    subst (λ (ys : List Step). Extends (step_trees ys) (step_trees (slice_set xs n t)) (literal_tree b bs)) whole
+    (subst (λ (ys : List Step). Extends (step_trees (take n xs ++ s ∷ [])) (step_trees ys) (literal_tree b bs)) new
+    (literal_behind (take n xs) s t b bs same no_literal was_text is_literal is_text))
 
 -- nothing more
 pub extends_nothing : (ts : Trees) (t : Tree) → ((f : Facts) → tree_outcome t f ≡ done []) → tree_width t ≡ 0

@@ -1,5 +1,5 @@
 //! The steps of a tree.
-ghost use Rattle.std.specs.Prelude.{◌≡◌, ◌∷◌, ◌++◌, [], true, OnOk, IfSome, IsUtf8, map};
+ghost use Rattle.std.specs.Prelude.{◌≡◌, true, OnOk, IfSome, MatchOption, IsUtf8, map};
 ghost use Rattle.time_below.specs.Facts.{Facts};
 ghost use Rattle.time_below.specs.Tree.{of_component, all_of, trees};
 ghost use Rattle.time_below.specs.Width.{component_width};
@@ -25,13 +25,35 @@ pub(crate) fn add_nodes<T: Node>(
         (all_of (trees (map T.tree nodes.now)))) }
 {
     for node in nodes {
-        add_node(alloc, steps, node)?;
+        match add_leaf(alloc, steps, node) {
+            Some(added) => added?,
+            None => add_node(alloc, steps, node)?,
+        }
     }
     Ok(())
 }
 
+/// Adds a text or a component, and nothing of any other node. It becomes part of the loop over a list, so
+/// that no item of these needs a call there.
+#[inline(always)]
+fn add_leaf<T: Node>(
+    alloc: Global,
+    steps: &mut Vec<Step>,
+    node: &T,
+) -> Option<Result<(), AllocError>>
+    ensures extends { MatchOption result (steps.new ≡ steps.old) (λ added. OnOk added (Extends
+        (step_trees steps.old.items) (step_trees steps.new.items) (T.tree node.now))) }
+{
+    match node.layer() {
+        Layer::Text(text) => Some(add_literal(alloc, steps, text.as_bytes(), true)),
+        Layer::Component(component) => Some(add_component(alloc, steps, component)),
+        _ => None,
+    }
+}
+
 /// Adds the steps of a node.
 #[cycle(flatten)]
+#[inline(never)]
 pub(crate) fn add_node<T: Node>(
     alloc: Global,
     steps: &mut Vec<Step>,
@@ -140,7 +162,7 @@ fn add_shown(alloc: Global, steps: &mut Vec<Step>, shown: Shown) -> Result<(), A
     Ok(())
 }
 
-/// Adds a literal to the last step, or behind no component.
+/// Adds a literal to the last step, if that has none yet, or behind no component.
 fn add_literal(
     alloc: Global,
     steps: &mut Vec<Step>,
@@ -152,33 +174,13 @@ fn add_literal(
         (literal_tree is_text bytes.now)) }
 {
     let literal = Literal::of(alloc, bytes)?;
-    match steps.pop() {
-        Some(last) => add_behind(steps, last, literal, is_text),
-        None => add_alone(steps, literal, is_text),
+    match steps.last_mut() {
+        Some(last) if last.has_no_literal() => {
+            last.end_with(literal, is_text);
+            Ok(())
+        }
+        _ => add_alone(steps, literal, is_text),
     }
-}
-
-/// Puts a literal behind what the last step shows, if that has none yet, or behind no component.
-fn add_behind(
-    steps: &mut Vec<Step>,
-    last: Step,
-    literal: Literal,
-    is_text: bool,
-) -> Result<(), AllocError>
-    requires utf8 { is_text ≡ true → IsUtf8 (literal_bytes literal) }
-    ensures extends { OnOk result (Extends (step_trees (steps.old.items ++ last ∷ []))
-        (step_trees steps.new.items) (literal_tree is_text (literal_bytes literal))) }
-{
-    if last.is_text && last.literal.is_nothing() {
-        steps.push(Step {
-            shown: last.shown,
-            literal,
-            is_text,
-        })?;
-        return Ok(());
-    }
-    steps.push(last)?;
-    add_alone(steps, literal, is_text)
 }
 
 /// Adds a literal behind no component.

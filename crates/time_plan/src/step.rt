@@ -19,7 +19,7 @@ pub struct Step {
 }
 
 impl Step {
-    ghost use Rattle.std.specs.Prelude.{IfSome};
+    ghost use Rattle.std.specs.Prelude.{[], IfSome, IsTrue, IsUtf8};
     ghost use Rattle.time_plan.specs.Steps.{IsPart};
 
     /// The part that the step shows, and the text of one byte behind it.
@@ -33,5 +33,28 @@ impl Step {
             },
             _ => None,
         }
+    }
+
+    /// Whether there is plainly no literal behind what is shown.
+    #[inline]
+    pub(crate) fn has_no_literal(&self) -> bool
+        ensures { IsTrue result → (literal_bytes self.now.literal ≡ []) × (self.now.is_text ≡ true) }
+    {
+        self.is_text && self.literal.is_nothing()
+    }
+
+    /// Puts another literal behind what is shown.
+    #[inline]
+    pub(crate) fn end_with(&mut self, literal: Literal, is_text: bool)
+        requires utf8 { is_text ≡ true → IsUtf8 (literal_bytes literal) }
+        ensures shown { self.new.shown ≡ self.old.shown }
+        ensures literal { self.new.literal ≡ literal }
+        ensures is_text { self.new.is_text ≡ is_text }
+    {
+        *self = Step {
+            shown: self.shown,
+            literal,
+            is_text,
+        };
     }
 }

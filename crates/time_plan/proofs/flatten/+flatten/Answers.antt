@@ -5,6 +5,7 @@ use Rattle.time_below.proofs.NodeLemmas.{next_of, smaller_rest}
 use Rattle.time_plan.specs.Steps.{step_trees}
 use Rattle.time_plan.proofs.FlattenLemmas.{flattened_more, flattened_all, extends_nothing, first_extends, no_first_extends, on_ok}
 use Rattle.time_plan.proofs.flatten.+flatten.Goals as goal
+use Rattle.time_plan.proofs.flatten.+flatten.Goals.{add_nodes-in-Some+in_ok-added-in-Some, add_nodes-in-None+in_ok-add_node-in-None}
 
 pub add_node-returns-in-None : goal.add_node-returns-in-None
 add_node-returns-in-None g t c = record {
@@ -32,8 +33,16 @@ add_nodes-loop-node-preserved g t c =
     c.node-item.is in
     let smaller = smaller_rest g.T.Node.size c.args.nodes.now c.loop-node.node-index c.node-item.result
     c.loop-node-test.true c.node-item.is in
-    flattened_more (step_trees c.args.steps.now.items) (step_trees c.loop-node.steps.items)
-    (step_trees c.add_node.new.steps.items) _ _ _ _ c.loop-node.invariant next smaller c.in_ok-add_node.ensures.extends
+    elim c.match-add_leaf.branch [
+      | add_nodes-in-Some+in_ok-added-in-Some w ↦
+          let added = rw w.in_ok-added-in-Some.was at w.in-Some.ensures.extends in
+          rw w.steps-is (flattened_more (step_trees c.args.steps.now.items) (step_trees c.loop-node.steps.items)
+          (step_trees c.add_leaf.new.steps.items) _ _ _ _ c.loop-node.invariant next smaller added)
+      | add_nodes-in-None+in_ok-add_node-in-None w ↦
+          let added = rw w.in-None.ensures.extends at w.in_ok-add_node-in-None.ensures.extends in
+          rw w.steps-is (flattened_more (step_trees c.args.steps.now.items) (step_trees c.loop-node.steps.items)
+          (step_trees w.add_node.new.steps.items) _ _ _ _ c.loop-node.invariant next smaller added)
+    ]
 
 pub add_nodes-returns : goal.add_nodes-returns
 add_nodes-returns g t c = record {
