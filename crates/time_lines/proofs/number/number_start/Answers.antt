@@ -1,4 +1,4 @@
-use Rattle.std.proofs.Common.{◌≡◌, ◌≤◌, ◌+◌, ◌-◌, ◌∙◌, ap, sym, length, drop, false, true, arith}
+use Rattle.std.proofs.Common.{◌≡◌, ◌-◌, ◌∙◌, ap, sym, length, drop, false, true, arith}
 use Rattle.line_streams.proofs.LinesLemmas.{slice-end}
 use Rattle.time_lines.specs.Number.{begins, digit_count, first_place, is_digit_at}
 use Rattle.time_lines.proofs.NumberLemmas.{begins-no_digit, first_place-past, first_place-past_run, run-some}
