@@ -1,14 +1,16 @@
 -- Where the first number of a line begins, and the moment that it names.
-use Rattle.std.proofs.Common.{ℕ, suc, ◌≡◌, ◌+◌, ◌-◌, ◌<◌, ◌≤◌, ◌++◌, Bool, true, false, Option, Some, None, List, length, take, drop, is_some, inl, inr, refl, sym, ap, subst, ◌∙◌, append-nil, append_assoc, arith}
-use Rattle.std.proofs.lemmas.List.{drop-drop, take-append-drop}
+use Rattle.std.proofs.Common.{ℕ, zero, suc, ◌≡◌, ◌+◌, ◌-◌, ◌<◌, ◌≤◌, ◌++◌, ◌&&◌, ◌||◌, not, nat_le, Bool, true, false, Option, Some, None, List, length, take, drop, is_some, inl, inr, refl, sym, ap, subst, ◌∙◌, append-nil, append_assoc, arith}
+use Rattle.std.proofs.lemmas.Bool.{le-leb}
+use Rattle.std.proofs.lemmas.List.{drop-drop, get_or-drop, take-append-drop}
 use Rattle.line_streams.specs.Filter.{Adds}
 use Rattle.line_streams.proofs.LinesLemmas.{slice-end}
 use Rattle.time_lines.specs.Shown.{Replaces, bytes_of}
 use Rattle.std.proofs.lemmas.List.Folds.{length-prefix_len}
+use Rattle.std.proofs.lemmas.List.Sums.{prefix_len-drop_yes, prefix_len_passes}
 use Rattle.std.specs.Char.{is_ascii_digit}
 use Rattle.std.specs.Str.Parse.{digits_value}
 use Rattle.time_below.specs.Moment.{Moment, IsMoment}
-use Rattle.time_lines.specs.Number.{HasMoment, decimals_of, digit_count, digits_of, first_place, has_minus, moment_after, moment_of, number_at, with_sign}
+use Rattle.time_lines.specs.Number.{HasMoment, begins, decimals_of, digit_count, digits_of, first_place, goes_on, has_minus, is_digit_at, moment_after, moment_of, number_at, with_sign}
 use Rattle.time_lines.specs.declared.number.Unit.{Unit as UnixUnit}
 
 one_less : (length at : ℕ) → at < length → length - at ≡ suc (length - (at + 1))
@@ -20,9 +22,68 @@ pub first_place-here : (p : ℕ → Bool) (length at : ℕ) → at < length → 
 first_place-here p length at lt passes = rw (one_less length at lt, passes) refl
 
 -- one that does not leaves the places after it
-pub first_place-later : (p : ℕ → Bool) (length at : ℕ) → at < length → p at ≡ false
+first_place-later : (p : ℕ → Bool) (length at : ℕ) → at < length → p at ≡ false
     → first_place p (length - at) at ≡ first_place p (length - (at + 1)) (at + 1)
 first_place-later p length at lt fails = rw (one_less length at lt, fails) refl
+
+-- so do some in a row
+pub first_place-past : (p : ℕ → Bool) (length count at to : ℕ) → at + count ≡ to → to ≤ length
+    → ((k : ℕ) → at ≤ k → k < to → p k ≡ false) → first_place p (length - at) at ≡ first_place p (length - to) to
+first_place-past p length zero at to is le none =
+    let same : at ≡ to = omega (arith, is) in
+    ap (λ n. first_place p (length - n) n) same
+first_place-past p length (suc count) at to is le none =
+    first_place-later p length at (omega (arith, is, le)) (none at (omega arith) (omega (arith, is)))
+    ∙ first_place-past p length count (at + 1) to (omega (arith, is)) le (λ k from. none k (omega (arith, from)))
+
+no_first : (d r : Bool) → d ≡ false → (d && r) ≡ false
+no_first d r fails = rw fails refl
+
+and_false : (b : Bool) → (b && false) ≡ false
+and_false true = refl
+and_false false = refl
+
+-- where no digit stands no number begins
+pub begins-no_digit : (least : ℕ) (line : List ℕ) (k : ℕ) → is_digit_at line k ≡ false → begins least line k ≡ false
+begins-no_digit least line k fails = no_first (is_digit_at line k) _ fails
+
+either : (a b c : Bool) → a ≡ true → b ≡ true → ((a && b) || c) ≡ true
+either a b c left right = rw (left, right) refl
+
+never : (d g n : Bool) → g ≡ true → (d && (not g && n)) ≡ false
+never d g n on = rw on (and_false d)
+
+digit_before : (least : ℕ) (line : List ℕ) (k : ℕ) → 1 ≤ k → is_digit_at line (k - 1) ≡ true → begins least line k ≡ false
+digit_before least line k some digit =
+    never (is_digit_at line k) (goes_on line k) (nat_le least (digit_count (drop k line)))
+    (either (nat_le 1 k) (is_digit_at line (k - 1)) _ (le-leb 1 k some) digit)
+
+-- nor does one inside a run of digits
+pub begins-in_run : (least : ℕ) (line : List ℕ) (at k : ℕ) → at < k → k < at + digit_count (drop at line)
+    → begins least line k ≡ false
+begins-in_run least line at k behind inside =
+    let same : at + (k - 1 - at) ≡ k - 1 = omega (arith, behind) in
+    let digit : is_digit_at line (k - 1) ≡ true =
+    ap (λ n. is_digit_at line n) (sym same) ∙ ap is_ascii_digit (sym (get_or-drop at line (k - 1 - at) 0))
+    ∙ prefix_len_passes is_ascii_digit (drop at line) (k - 1 - at) 0 (omega (arith, behind, inside)) in
+    digit_before least line k (omega (arith, behind)) digit
+
+-- where a digit stands a run of at least one does
+pub run-some : (line : List ℕ) (at count : ℕ) → count ≡ digit_count (drop at line) → at < length line
+    → is_digit_at line at ≡ true → 1 ≤ count
+run-some line at count is lt digit = omega (arith, is, prefix_len-drop_yes is_ascii_digit line at 0 lt digit)
+
+-- a run of digits where no number begins, and what is no digit behind it, are passed
+pub first_place-past_run : (least : ℕ) (line : List ℕ) (at count to : ℕ) → count ≡ digit_count (drop at line) → 1 ≤ count
+    → at + count ≤ to → to ≤ length line → begins least line at ≡ false
+    → ((k : ℕ) → at + count ≤ k → k < to → is_digit_at line k ≡ false)
+    → first_place (begins least line) (length line - at) at ≡ first_place (begins least line) (length line - to) to
+first_place-past_run least line at count to is some le inside none rest =
+    first_place-later (begins least line) (length line) at (omega (arith, some, le, inside)) none
+    ∙ first_place-past (begins least line) (length line) (count - 1) (at + 1) (at + count) (omega (arith, some))
+    (omega (arith, le, inside)) (λ k from before. begins-in_run least line at k (omega (arith, from)) (omega (arith, before, is)))
+    ∙ first_place-past (begins least line) (length line) (to - (at + count)) (at + count) to (omega (arith, le)) inside
+    (λ k from before. begins-no_digit least line k (rest k from before))
 
 no_text : true ≡ false → ⊥
 no_text e = cc

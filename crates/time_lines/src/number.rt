@@ -1,9 +1,9 @@
 //! The first number of a line, and the moment that it names.
-ghost use Rattle.std.specs.Prelude.{◌≡◌, ◌≤◌, ◌<◌, ◌-◌, ◌*◌, ◌^◌, pos, true, false, Some, None, length, drop, IfSome, IfNone, MatchOption};
+ghost use Rattle.std.specs.Prelude.{ℕ, ◌≡◌, ◌≤◌, ◌<◌, ◌-◌, ◌*◌, ◌^◌, pos, true, false, Some, None, length, drop, IfSome, IfNone, MatchOption};
 ghost use Rattle.std.specs.Char.{is_ascii_digit};
 ghost use Rattle.std.specs.List.{list_all};
 ghost use Rattle.std.specs.Str.Parse.{digits_value};
-ghost use Rattle.time_lines.specs.Number.{after_decimals, begins, decimals_of, decimals_value, digit_count, digits_of, goes_on, has_minus, moment_after, number_start, with_sign};
+ghost use Rattle.time_lines.specs.Number.{after_decimals, begins, decimals_of, decimals_value, digit_count, digits_of, goes_on, has_minus, is_digit_at, moment_after, number_start, with_sign};
 ghost use Rattle.time_below.specs.Moment.{IsMoment};
 
 use time_below::Timestamp;
@@ -43,6 +43,7 @@ pub(crate) fn leading_digits(text: &[u8]) -> Digits
 }
 
 /// Whether a digit stands before this place, or a point behind a digit.
+#[inline(always)]
 fn goes_on(line: &[u8], at: usize) -> bool
     requires { at ≤ length line.now }
     ensures { result ≡ goes_on line.now at }
@@ -51,28 +52,35 @@ fn goes_on(line: &[u8], at: usize) -> bool
         || at >= 2 && line[at - 1] == b'.' && line[at - 2].is_ascii_digit()
 }
 
-/// The digits of the number of at least so many digits that begins here, if one does.
+/// The first place from this one on where a digit stands, or the end of the line.
 #[inline(always)]
-fn digits_here(line: &[u8], at: usize, least: usize) -> Option<Digits>
-    requires { at < length line.now }
-    ensures begins { MatchOption result (begins least line.now at ≡ false)
-        (λ _. begins least line.now at ≡ true) }
-    ensures count { IfSome result (λ d. d.count ≡ digit_count (drop at line.now)) }
-    ensures inside { IfSome result (λ d. d.count ≤ length line.now - at) }
-    ensures value { IfSome result (λ d. d.count ≤ 19
-        → d.value ≡ digits_value 10 (digits_of (drop at line.now))) }
+fn next_digit(line: &[u8], from: usize) -> usize
+    requires { from ≤ length line.now }
+    ensures after { from ≤ result }
+    ensures inside { result ≤ length line.now }
+    ensures none { (k : ℕ) → from ≤ k → k < result → is_digit_at line.now k ≡ false }
+    ensures digit { result < length line.now → is_digit_at line.now result ≡ true }
 {
-    if !line[at].is_ascii_digit() || goes_on(line, at) {
-        return None;
+    let mut at = from;
+    while at < line.len() && !line[at].is_ascii_digit() {
+        at += 1;
     }
-    let digits = leading_digits(&line[at..]);
-    if digits.count < least {
-        return None;
-    }
-    Some(digits)
+    at
+}
+
+/// Whether a number of at least so many digits begins here, where so many digits stand in a row.
+#[inline(always)]
+fn is_number(line: &[u8], at: usize, count: usize, least: usize) -> bool
+    requires inside { at ≤ length line.now }
+    requires digit { is_digit_at line.now at ≡ true }
+    requires count { count ≡ digit_count (drop at line.now) }
+    ensures { result ≡ begins least line.now at }
+{
+    count >= least && !goes_on(line, at)
 }
 
 /// Where the first number of at least so many digits begins, and its digits.
+#[inline(always)]
 pub(crate) fn number_start(line: &[u8], least: usize) -> Option<(usize, Digits)>
     ensures place { MatchOption result (number_start least line.now ≡ None)
         (λ s. number_start least line.now ≡ Some s.0) }
@@ -82,10 +90,13 @@ pub(crate) fn number_start(line: &[u8], least: usize) -> Option<(usize, Digits)>
     ensures value { IfSome result (λ s. s.1.count ≤ 19
         → s.1.value ≡ digits_value 10 (digits_of (drop s.0 line.now))) }
 {
-    for at in 0..line.len() {
-        if let Some(digits) = digits_here(line, at, least) {
+    let mut at = next_digit(line, 0);
+    while at < line.len() {
+        let digits = leading_digits(&line[at..]);
+        if is_number(line, at, digits.count, least) {
             return Some((at, digits));
         }
+        at = next_digit(line, at + digits.count);
     }
     None
 }

@@ -1,8 +1,14 @@
-use Rattle.std.proofs.Common.{◌≡◌, ◌-◌, length}
-use Rattle.time_lines.specs.Number.{begins, first_place, number_start}
+use Rattle.std.proofs.Common.{◌≡◌, ◌≤◌, ◌<◌, ◌-◌, length, true}
+use Rattle.time_lines.specs.Number.{begins, first_place, is_digit_at, number_start}
 use Rattle.time_lines.proofs.number.number_start.Given as goal
 
--- no number begins before this place
+-- no number begins before this place, where a digit stands
 abbrev pub invariant-loop-at : goal.invariant-loop-at
-invariant-loop-at l =
-    number_start l.least l.line ≡ first_place (begins l.least l.line) (length l.line - l.at) l.at
+invariant-loop-at l = record {
+  inside : l.at ≤ length l.line;
+  digit : l.at < length l.line → is_digit_at l.line l.at ≡ true;
+  start : number_start l.least l.line ≡ first_place (begins l.least l.line) (length l.line - l.at) l.at;
+}
+
+abbrev pub decreases-loop-at : goal.decreases-loop-at
+decreases-loop-at l = length l.line - l.at
