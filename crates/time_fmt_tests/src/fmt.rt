@@ -28,7 +28,6 @@ macro_rules! signed {
     };
 }
 
-mod component_writers;
 mod components_table;
 mod dates;
 mod errors;
