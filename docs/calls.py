@@ -16,13 +16,15 @@ TOP = pathlib.Path(__file__).resolve().parent.parent
 PAGE = TOP / "docs/CALLS.md"
 CRATES = [
     "time_below", "time_fmt", "time_known", "time_describe", "time_plan", "time_read", "time_jiff", "time_provide",
-    "time_digits", "line_streams", "time_lines",
+    "time_digits", "line_streams", "time_lines", "movaliren", "movaliren_time",
 ]
+RUST = {"movaliren": "bindings/rust", "movaliren_time": "bindings/rust-time"}
+HEADER = TOP / "bindings/c/movaliren.h"
 HEAD = """# The calls, by crate and type
 
 `docs/calls.py` makes this page from the sources, and `./gate --tests` compares the two. It has every public item but the laws, with the first paragraph of its comment. The contract of a call stands in its file, which the heading of its type or module names. Where a call has a condition, *requires* names the clauses.
 
-The calls of C are in `bindings/c/movaliren.h` and in the man page `movaliren(3)`. Those of the Rust crates are shown by `cargo doc` in `bindings/rust` and `bindings/rust-time`.
+The crates of Rust and the header of C stand at the end. `cargo doc` in `bindings/rust` and `bindings/rust-time` shows more, and so does the man page `movaliren(3)`.
 """
 ITEM = re.compile(
     r"(?P<doc>(?:^///[^\n]*\n)*)(?P<attributes>(?:^#\[(?:[^\]]|\][^\n])*\]\n)*)"
@@ -30,7 +32,7 @@ ITEM = re.compile(
 MACRO = re.compile(r"(?P<doc>(?:^///[^\n]*\n)*)(?:^#\[[^\n]*\]\n)*^macro_rules! (?P<name>\w+)", re.M)
 METHOD = re.compile(r"(?P<doc>(?:^    ///[^\n]*\n)*)(?:^    #\[[^\n]*\]\n)*^    (?P<how>(?:pub |final )*(?:const )?)fn ", re.M)
 FIELD = re.compile(r"(?P<doc>(?:^    ///[^\n]*\n)*)^    pub (?P<name>\w+): (?P<type>[^\n]*),\n", re.M)
-VARIANT = re.compile(r"(?P<doc>(?:^    ///[^\n]*\n)*)(?:^    #\[[^\n]*\]\n)*^    (?P<words>[A-Z]\w*(?:\([^\n]*\)| \{.*?\})?),$", re.M | re.S)
+VARIANT = re.compile(r"(?P<doc>(?:^    ///[^\n]*\n)*)(?:^    #\[[^\n]*\]\n)*^    (?P<words>[A-Z]\w*(?:\([^\n]*\)| \{.*?\})?)(?: = \d+)?,$", re.M | re.S)
 MOST_VARIANTS = 12
 IMPL = re.compile(r"^impl(?P<parameters><[^\n]*?>)? (?P<what>[^\n{]*?) \{$", re.M)
 CLAUSE = re.compile(r"^\s*(?:requires|ensures|where|ghost|antt)\b|\{$|;$", re.M)
@@ -40,7 +42,14 @@ def paragraph(doc):
     """The first paragraph of a doc comment, as one line."""
     lines = [line.strip()[3:].strip() for line in doc.splitlines()]
     text = "\n".join(lines).split("\n\n")[0]
+    text = re.sub(r"\[(`[^`]*`)\](?:\([^)]*\))?", r"\1", text)
     return " ".join(text.split()).replace("|", "\\|")
+
+
+def unfolded(text):
+    """A text, and behind it what stands in its modules, as if it stood alone."""
+    inner = re.findall(r"^mod \w+ \{\n(.*?)^\}", text, re.M | re.S)
+    return text + "".join(re.sub(r"^    ", "", it, flags=re.M) for it in inner)
 
 
 def block(text, start):
@@ -76,16 +85,16 @@ def variant(it):
 
 
 class Crate:
-    def __init__(self, name):
+    def __init__(self, name, folder, suffix):
         self.name = name
-        self.source = TOP / "crates" / name / "src"
-        self.files = {path: path.read_text() for path in sorted(self.source.rglob("*.rt"))}
-        self.modules = []
+        self.source = TOP / folder / "src"
+        self.suffix = suffix
+        self.files = {path: unfolded(path.read_text()) for path in sorted(self.source.rglob(f"*{suffix}"))}
         self.shown = set()
 
     def file_of(self, module):
         """The file of a module, whose path has `::`."""
-        return self.source / ("lib.rt" if not module else "/".join(module) + ".rt")
+        return self.source / (("/".join(module) or "lib") + self.suffix)
 
     def exported(self, module):
         """The names of a module that are public, each with the module that defines it, and its public modules."""
@@ -148,7 +157,7 @@ class Crate:
     def item(self, item, path):
         """The lines of the page for a type or a trait."""
         text, name, kind = self.files[path], item["name"], item["kind"]
-        place = path.relative_to(TOP / "crates" / self.name)
+        place = path.relative_to(self.source.parent)
         lines = [f"### `{name}`", "", f"{paragraph(item['doc'])} ({kind}, `{place}`)", ""]
         body = block(text, item.end()) if item["rest"].rstrip().endswith("{") else ""
         derived = [it for words in re.findall(r"derive\(([^)]*)\)", item["attributes"]) for it in words.split(", ")]
@@ -213,13 +222,26 @@ class Crate:
         return lines
 
 
+def calls_of_c():
+    """The lines of the page for the header, whose comment stands before one call or several."""
+    text, rows = HEADER.read_text(), []
+    for part in re.finditer(r"/\*(?P<doc>(?:(?!\*/).)*)\*/\n(?P<rest>(?:(?!/\*).)*)", text, re.S):
+        doc = " ".join(re.sub(r"^ \* ?", "", part["doc"], flags=re.M).split("\n\n")[0].split())
+        for call in re.finditer(r"^(?=\w)(?:static inline )?[\w* ]+?\bmovaliren_\w+\((?:[^()]*)\)(?=;|\n\{)", part["rest"], re.M):
+            words = re.sub(r"\( ", "(", " ".join(call[0].split()))
+            rows.append(f"| `{words}` | {doc.replace('|', '&#124;')} |")
+    return ["| Call | |", "|---|---|", *rows, ""]
+
+
 def page():
     lines = []
     for name in CRATES:
-        crate = Crate(name)
-        text = crate.files[crate.source / "lib.rt"]
+        is_rust = name in RUST
+        crate = Crate(name, RUST.get(name, f"crates/{name}"), ".rs" if is_rust else ".rt")
+        text = crate.files[crate.file_of(())]
         said = " ".join(re.findall(r"^//! (.*)$", text.split("\n#")[0].split("\n//!\n")[0], re.M))
-        lines += [f"## `{name}`", "", said, "", *crate.page()]
+        lines += [f"## `{name}`{', in Rust' if is_rust else ''}", "", said, "", *crate.page()]
+    lines += ["## `movaliren.h`, in C", "", "The header says for all calls what they return, and what the caller owes.", "", *calls_of_c()]
     return HEAD + "\n" + "\n".join(lines).rstrip() + "\n"
 
 

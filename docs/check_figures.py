@@ -15,6 +15,7 @@ PERFORMANCE = (TOP / "docs/PERFORMANCE.md").read_text()
 FIGURES = {
     "RFC 3339 of Unix time, from C": (("Call", "rfc3339_utc", "C"), ("Call", "rfc3339_utc", "strftime")),
     "RFC 3339 of Unix time, from Rust": (("Call", "rfc3339_utc", "Rust"), ("Call", "rfc3339_utc", "time")),
+    "RFC 3339 of a local time, from Rust": (("Call", "rfc3339_local", "Rust"), ("Call", "rfc3339_local", "chrono")),
     "RFC 2822, in Rattle": (("Text", "RFC 2822", "Behind"), ("Text", "RFC 2822", "0.3.55")),
     "a list of 11 items, in Rattle":
         (("Text", "a borrowed list of 11 items", "Behind"), ("Text", "a borrowed list of 11 items", "0.3.55")),
