@@ -89,7 +89,15 @@ fn after<'a, const N: usize>(front: &[u8; N], line: &'a [u8]) -> Option<&'a [u8]
     ensures { MatchOption result ((rest : List ℕ) → line.now ≢ front.now ++ rest)
         (λ rest. line.now ≡ front.now ++ rest.now) }
 {
-    line.strip_prefix(front.as_slice())
+    if line.len() < N {
+        return None;
+    }
+    let (name, rest) = line.split_at(N);
+    if name == front.as_slice() {
+        Some(rest)
+    } else {
+        None
+    }
 }
 
 /// Takes the numbers of a date.
@@ -99,9 +107,9 @@ fn next_date(fields: &mut Fields<'_>) -> Option<DateNumbers>
         (λ n. numbers_of fields.old ≡ onto_date n (numbers_of fields.new)) }
 {
     Some(DateNumbers {
-        year: fields.next_number()?,
-        month: fields.next_number()?,
-        day: fields.next_number()?,
+        year: fields.next_year()?,
+        month: fields.next_short()?,
+        day: fields.next_short()?,
     })
 }
 
@@ -112,10 +120,10 @@ fn next_time(fields: &mut Fields<'_>) -> Option<TimeNumbers>
         (λ n. numbers_of fields.old ≡ onto_time n (numbers_of fields.new)) }
 {
     Some(TimeNumbers {
-        hour: fields.next_number()?,
-        minute: fields.next_number()?,
-        second: fields.next_number()?,
-        nanosecond: fields.next_number()?,
+        hour: fields.next_short()?,
+        minute: fields.next_short()?,
+        second: fields.next_short()?,
+        nanosecond: fields.next_short()?,
     })
 }
 
@@ -126,9 +134,9 @@ fn next_offset(fields: &mut Fields<'_>) -> Option<OffsetNumbers>
         (λ n. numbers_of fields.old ≡ onto_offset n (numbers_of fields.new)) }
 {
     Some(OffsetNumbers {
-        hours: fields.next_number()?,
-        minutes: fields.next_number()?,
-        seconds: fields.next_number()?,
+        hours: fields.next_signed()?,
+        minutes: fields.next_signed()?,
+        seconds: fields.next_last()?,
     })
 }
 
