@@ -137,14 +137,26 @@ impl<'a> Fields<'a> {
         }
     }
 
-    /// Takes the first field as `next_number` does, where few do so.
-    #[inline(never)]
+    /// Takes the first field as `next_number` does, by a call.
+    #[inline(always)]
     fn next_long(&mut self) -> Option<i32>
         ensures { MatchOption result (Lacks 1 (numbers_of self.old))
             (λ n. numbers_of self.old ≡ onto_numbers (Some n) (numbers_of self.new)) }
     {
-        self.next_number()
+        let (number, rest) = long_first(self.rest?)?;
+        *self = rest;
+        Some(number)
     }
+}
+
+/// What `number_first` returns, by a call. It takes no reference to the fields, so that they stay in
+/// registers.
+#[inline(never)]
+fn long_first(text: &[u8]) -> Option<(i32, Fields<'_>)>
+    ensures { MatchOption result (numbers_of (fields_of text.now) ≡ None)
+        (λ r. numbers_of (fields_of text.now) ≡ onto_numbers (Some r.0) (numbers_of r.1)) }
+{
+    number_first(text)
 }
 
 /// The number that a decimal digit spells.
