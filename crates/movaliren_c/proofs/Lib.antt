@@ -5,5 +5,6 @@ pub mod DescribedLemmas
 pub mod MeaningLemmas
 pub mod NumberLemmas
 pub mod OffsetLemmas
+pub mod ReadLemmas
 pub mod ShortLineLemmas
 pub mod SinkLemmas
