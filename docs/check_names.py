@@ -71,8 +71,8 @@ def unknown_in_proved(page, below):
 
 
 def words_of(text):
-    """The names in the code of a text. Files and numbers are none."""
-    return [word for code in CODE.findall(text) if not re.search(r"[./<>%=]|^[-\d]", code) for word in NAME.findall(code)]
+    """The names in the code of a text. Files, numbers and ends of names are none."""
+    return [word for code in CODE.findall(text) if not re.search(r"[./<>%=]|^[-\d]", code) for word in NAME.findall(code) if not word.startswith("_")]
 
 
 def modules(crate):
