@@ -56,12 +56,12 @@ fn after<'a, const N: usize>(front: &[u8; N], line: &'a [u8]) -> Option<&'a [u8]
     if line.len() < N {
         return None;
     }
-    let (name, rest) = line.split_at(N);
-    if name == front.as_slice() {
-        Some(rest)
-    } else {
-        None
+    for i in 0..N {
+        if line[i] != front[i] {
+            return None;
+        }
     }
+    Some(&line[N..])
 }
 
 /// Takes the numbers of a date.
@@ -87,7 +87,7 @@ fn next_time(fields: &mut Fields<'_>) -> Option<TimeNumbers>
         hour: fields.next_short()?,
         minute: fields.next_short()?,
         second: fields.next_short()?,
-        nanosecond: fields.next_short()?,
+        nanosecond: fields.next_number()?,
     })
 }
 
