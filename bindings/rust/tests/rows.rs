@@ -156,7 +156,7 @@ fn a_text_of_rfc_3339_is_read_back() {
         ("1985-02-28T23-20:50Z", "byte 13: expected `:`"),
         (
             "1985-02-28T23:20:50-00:0",
-            "byte 23: expected a digit from 0 to 9",
+            "byte 24: expected a digit from 1 to 9",
         ),
     ] {
         let error = Rfc3339.read::<Moment>(text).unwrap_err();
@@ -178,6 +178,13 @@ fn a_text_of_rfc_3339_is_read_back() {
         error.to_string(),
         "byte 19: expected `.`, `Z`, `z`, `+` or `-`"
     );
+}
+
+/// As of a library that has more reasons than this crate.
+#[test]
+fn an_unknown_number_has_the_words_of_the_library() {
+    assert_eq!(Error::Unknown(-99).to_string(), "unknown error");
+    assert_eq!(Error::Unknown(-2).to_string(), Error::Month.to_string());
 }
 
 #[test]
