@@ -1,0 +1,4 @@
+mod BeginLemmas
+mod HeadLemmas
+mod KeptLemmas
+mod ZoneLemmas
