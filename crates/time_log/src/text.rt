@@ -29,19 +29,21 @@ pub(crate) fn append_text(
         ++ offset_of_fields (codes ":") offset.now) }
 {
     let mut taken = take_out(output);
-    push_each(&mut taken, head);
+    push_each(&mut taken, *head);
     put_decimals(&mut taken, nanosecond, decimals);
     put_zone(&mut taken, offset);
     put_back(output, taken);
 }
 
-// Appends the bytes, whose number the compiler knows, so that they become a few stores.
+// Appends the bytes, whose number the compiler knows. They are read before any is written, so that they
+// become a few stores.
 #[inline(always)]
-fn push_each(output: &mut Vec<u8>, bytes: &[u8; LENGTH])
+fn push_each(output: &mut Vec<u8>, bytes: [u8; LENGTH])
+    requires long { length bytes ≡ LENGTH }
     requires room { HasRoom output.old LENGTH }
-    ensures writes { Writes output.old output.new LENGTH bytes.now }
+    ensures writes { Writes output.old output.new LENGTH bytes }
 {
     for byte in bytes {
-        output.push_reserved(*byte);
+        output.push_reserved(byte);
     }
 }
