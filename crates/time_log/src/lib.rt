@@ -3,6 +3,7 @@
 
 mod decimals;
 mod head;
+pub mod laws;
 mod log_time;
 mod text;
 mod zone;
