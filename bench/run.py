@@ -25,7 +25,7 @@ from typing import NamedTuple
 
 HERE = pathlib.Path(__file__).resolve().parent
 TOP = HERE.parent
-LIBRARIES = "time_below time_digits time_provide time_fmt time_known time_describe time_plan"
+LIBRARIES = "time_below time_digits time_provide time_fmt time_known time_describe time_plan time_log"
 COUNTED = 640, 1_920
 TIMED = 100_000, 500_000
 GROWN = 10, 30
@@ -78,6 +78,11 @@ TYPES = texts("t", [
 PLANS = texts("q", [
     "a borrowed list of 11 items", "borrowed, the date nested", "`Sat, 19 Aug 6169 21:36:48 +0000`",
     "`6169-08-19 21:36:48.321 +00:00`", "a borrowed list of 11 items, of a `Timestamp`", "the plan of 11 items is made",
+])
+# Times of log lines, by what is kept.
+LOGS = texts("k", [
+    f"{decimals}, {second}" for second in ["the same second", "another second", "the same second, at +05:30"]
+    for decimals in ["three decimals", "six", "nine"]
 ])
 # Each constant with its component, in the code's order.
 COMPONENTS = re.findall(
@@ -332,6 +337,7 @@ class Bench:
         self.behind("ISO 8601", ISO)
         self.behind("List of a type", TYPES)
         self.behind("By a plan", PLANS)
+        self.behind("Time of a log line", LOGS)
         self.components()
         self.growth()
         self.answers()

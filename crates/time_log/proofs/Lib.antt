@@ -1,0 +1,5 @@
+mod BeginLemmas
+mod HeadLemmas
+mod KeptLemmas
+mod SpelledLemmas
+mod ZoneLemmas

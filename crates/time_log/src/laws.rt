@@ -1,0 +1,15 @@
+//! Laws of the texts: the contract of each function is the law, over the definitions alone. Each body is empty.
+ghost use Rattle.time_known.specs.Laws.{IsValue};
+ghost use Rattle.time_known.specs.Rfc3339Grammar.{Rfc3339Spells};
+ghost use Rattle.time_below.specs.Moment.{OffsetDateAndTime};
+ghost use Rattle.time_log.specs.LogText.{IsFourDigits, IsLogOffset, cut, digits_of, text_of};
+
+use crate::decimals::Decimals;
+
+/// The text of a value is one of RFC 3339, and spells the value, cut to the decimals. This holds for each
+/// local date and time whose year has four digits, at each offset that is not refused.
+#[tactic(auto, using(crate::proofs::SpelledLemmas::spelled))]
+pub fn texts_are_spelled(decimals: Decimals)
+    ensures { (v : OffsetDateAndTime) → IsValue v → IsFourDigits v.date.year → IsLogOffset v.offset
+        → Rfc3339Spells (cut (digits_of decimals) v) (text_of (digits_of decimals) v) }
+{}
