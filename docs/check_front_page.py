@@ -1,8 +1,8 @@
 #!/usr/bin/env python3
-"""Compares what README.md and docs/RECIPES.md show with the code, and prints what differs.
+"""Compares what README.md, docs/RECIPES.md and docs/GETTING.md show with the code, and prints what differs.
 
 Each piece of Rattle, C or Rust stands word for word in a file that the gate compiles and runs, and each recipe
-is shown. Each command of README.md is one that this script knows; its answer is what the gate sees printed.
+is shown. Each command of these pages is one that this script knows; its answer is what the gate sees printed.
 """
 
 import pathlib
@@ -65,11 +65,11 @@ def has(path, text):
     return lambda: text in read(path) or None
 
 
-# Each command of README.md, and what its check gives: an output that is shown after it, or True where none is.
+# Each command of the pages, and what its check gives: an output that is shown after it, or True where none is.
 LINE = "time 9 55 6 120000000"
 COMMANDS = {
-    f"printf '{LINE}\\n' | (cd crates/time_show && rt run)": lambda: answer_of(LINE),
-    f"printf '{LINE}\\n' | (cd crates/time_show && rt try)": lambda: answer_of(LINE) and True,
+    f"printf '{LINE}\\n' | (cd crates/time_show && rt try)": lambda: answer_of(LINE),
+    f"printf '{LINE}\\n' | (cd crates/time_show && rt run)": lambda: answer_of(LINE) and True,
     "printf 'msg=audit(1700000000.123:456): argc=3\\n' | (cd crates/movaliren_cli && rt try -- unix)": line_of_cli,
     "make -C crates/movaliren_cli install PREFIX=$HOME/.local": has("crates/movaliren_cli/Makefile", "install: "),
     "movaliren unix --zone Europe/Berlin '%Y-%m-%d %H:%M:%S%z' <audit.log":
@@ -82,6 +82,15 @@ COMMANDS = {
         has("bindings/c/Makefile", "install: "),
     "export PKG_CONFIG_PATH=$HOME/.local/lib/pkgconfig LD_RUN_PATH=$HOME/.local/lib":
         has("bindings/c/Makefile", "$(TO_LIB)/pkgconfig"),
+    "make -C bindings/c dist": has("bindings/check", "make -s -C c dist"),
+    "make -C bindings/c deb": has("bindings/check", "make -s -C c deb"),
+    "tar -xzf movaliren-0.1.0-x86_64-linux.tar.gz && cd movaliren-0.1.0-x86_64-linux":
+        has("bindings/c/movaliren.h", '#define MOVALIREN_VERSION "0.1.0"'),
+    "sha256sum --check --quiet SHA256SUMS": has("bindings/check", "sha256sum --check --quiet SHA256SUMS"),
+    "export PKG_CONFIG_PATH=$PWD/lib/pkgconfig": has("bindings/c/package/README", "export PKG_CONFIG_PATH=$PWD/lib/pkgconfig"),
+    "cc share/doc/movaliren/example.c $(pkg-config --cflags --libs movaliren) -Wl,-rpath,$PWD/lib -o example":
+        has("bindings/c/package/README", "cc share/doc/movaliren/example.c $(pkg-config --cflags --libs movaliren)"),
+    "./example": has("bindings/c/example.txt", "RFC 3339      1997-11-12T09:55:06.12-06:00"),
     "cc bindings/c/log.c -pthread $(pkg-config --cflags --libs movaliren)":
         has("bindings/c/log.c", "cc log.c -pthread $(pkg-config --cflags --libs movaliren)"),
     "(cd crates/movaliren_c && rt lib) && (cd bindings/rust && cargo run --offline --example show)":
@@ -96,9 +105,9 @@ def pieces(page):
             if language in files and not any(text in file for file in files[language])]
 
 
-def commands(page):
+def commands(pages):
     """The commands that are not known, were left out, or have another answer than the one shown."""
-    shown, wrong = blocks(page), []
+    shown, wrong = blocks(pages), []
     seen = [line for language, text in shown if language == "sh" for line in text.splitlines()]
     for at, (language, text) in enumerate(shown):
         for command in text.splitlines() if language == "sh" else []:
@@ -109,13 +118,13 @@ def commands(page):
 
 
 def main():
-    front, recipes = read("README.md"), read("docs/RECIPES.md")
-    differing = pieces(front) + pieces(recipes) + commands(front)
+    front, recipes, getting = read("README.md"), read("docs/RECIPES.md"), read("docs/GETTING.md")
+    differing = pieces(front) + pieces(recipes) + pieces(getting) + commands(front + recipes + getting)
     functions = [it for path in RECIPES for it in re.findall(r"^pub fn \w+", read(path), re.M)]
     differing += [it for it in functions if it not in recipes]
     for it in differing:
         print(f"the documents and the code differ: {it}")
-    shown = len(blocks(front)) + len(blocks(recipes))
+    shown = len(blocks(front + recipes + getting))
     print(f"{shown} pieces of code and commands: {'they differ' if differing else 'the same as the code'}")
     return 1 if differing else 0
 

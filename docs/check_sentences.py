@@ -1,5 +1,6 @@
 #!/usr/bin/env python3
-"""Measures the documents: no sentence outside code and tables has more than 40 words."""
+"""Measures the documents: no sentence outside code and tables has more than 40 words, and none of README.md has more than
+two figures. Versions and the numbers of standards are no figures."""
 
 import pathlib
 import re
@@ -8,6 +9,9 @@ import sys
 TOP = pathlib.Path(__file__).resolve().parent.parent
 PAGES = ["README.md", "CONTRIBUTING.md", "CHANGELOG.md", "docs/*.md", "crates/*/README.md"]
 MOST_OF_SENTENCE = 40
+MOST_FIGURES = 2
+FIGURE = re.compile(r"(?<![\w.`-])\d[\d,]*(?![\w.]*\d|[\w`-])")
+STANDARD = re.compile(r"(?:RFC|ISO|section) \d+(?:-\d+)?|`[^`]*`|C\+\+\d+|x86-64-v2|x86-64")
 
 
 def paragraphs(page):
@@ -27,8 +31,12 @@ def main():
     long = [(path, it) for path, it in found if len(it.split()) > MOST_OF_SENTENCE]
     for path, it in long:
         print(f"{path.relative_to(TOP)}: a sentence of {len(it.split())} words: {it[:80]}")
-    print(f"{len(found)} sentences, {len(long)} too long")
-    return 1 if long else 0
+    crowded = [it for path, it in found if path.name == "README.md" and path.parent == TOP
+               and len(FIGURE.findall(STANDARD.sub("", it))) > MOST_FIGURES]
+    for it in crowded:
+        print(f"README.md: a sentence of more than {MOST_FIGURES} figures: {it[:80]}")
+    print(f"{len(found)} sentences, {len(long)} too long, {len(crowded)} with too many figures")
+    return 1 if long or crowded else 0
 
 
 if __name__ == "__main__":

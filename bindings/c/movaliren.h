@@ -32,9 +32,9 @@
  *
  * A program that makes none of these three calls needs neither symbol if it links by -Wl,--gc-sections.
  *
- * The caller guarantees: no pointer is null, not even if its length is 0 (the proved contracts are on
- * arrays, and null is not one: pass ""); each length is that of its array and below PTRDIFF_MAX; the
- * buffer overlaps nothing else that the call is given; all fields are set. */
+ * Pointers must not be null, also where a length is 0: pass "". Each length must be that of its array,
+ * and below PTRDIFF_MAX. The buffer must not overlap anything else that the call is given. All fields must
+ * be set. */
 #ifndef MOVALIREN_H
 #define MOVALIREN_H
 

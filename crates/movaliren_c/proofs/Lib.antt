@@ -4,6 +4,5 @@ pub mod DateLemmas
 pub mod DescribedLemmas
 pub mod MeaningLemmas
 pub mod NumberLemmas
-pub mod OffsetLemmas
 pub mod ShortLineLemmas
 pub mod SinkLemmas

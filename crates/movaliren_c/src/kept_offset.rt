@@ -1,7 +1,6 @@
 //! Offsets by their parts.
-ghost use Rattle.std.specs.Prelude.{◌≡◌, ◌<◌, ◌≤◌, IfOk, IsTrue, unsigned_abs};
-ghost use Rattle.time_below.specs.Offset.{HasNoOtherSign, IsOffset, is_negative, is_utc, signed, utc};
-ghost use Rattle.movaliren_c.specs.Utc.{east_value};
+ghost use Rattle.std.specs.Prelude.{◌≡◌, ◌≤◌, IsTrue, unsigned_abs};
+ghost use Rattle.time_below.specs.Offset.{HasNoOtherSign, IsOffset, is_negative, is_utc, utc};
 ghost use Rattle.movaliren_c.specs.Value.{is_alike, is_offset_part, offset_value};
 ghost use Rattle.time_known.specs.Fields.{offset_fields};
 
@@ -60,22 +59,17 @@ impl KeptOffset {
         })
     }
 
-    /// The offset of this many seconds east of UTC, if it is at most 25:59:59 either way.
-    #[tactic(auto, using(crate::proofs::OffsetLemmas::real_offset))]
-    pub fn of_seconds(east: i64) -> Result<KeptOffset, Reason>
-        ensures value { result ≡ east_value east }
-        ensures range { IfOk result (λ _. unsigned_abs east < 93_600) }
+    /// Returns the offset by its parts.
+    #[inline(always)]
+    pub fn of_offset(offset: UtcOffset) -> KeptOffset
+        ensures { result ≡ offset }
     {
-        let size = east.unsigned_abs();
-        if size > 93_599 {
-            return Err(Reason::OffsetHours);
+        let (hours, minutes, seconds) = offset.as_hms();
+        KeptOffset {
+            hours,
+            minutes,
+            seconds,
         }
-        let is_negative = east < 0;
-        Ok(KeptOffset {
-            hours: signed_part(is_negative, (size / 3600) as u8),
-            minutes: signed_part(is_negative, (size % 3600 / 60) as u8),
-            seconds: signed_part(is_negative, (size % 60) as u8),
-        })
     }
 
     /// The offset of UTC itself.
@@ -167,18 +161,5 @@ fn offset_of(hours: i8, minutes: i8, seconds: i8) -> UtcOffset
     match UtcOffset::from_hms(hours, minutes, seconds) {
         Ok(offset) => offset,
         Err(_) => unreachable!(),
-    }
-}
-
-/// A part of this size, with a sign.
-fn signed_part(is_negative: bool, size: u8) -> i8
-    requires { size ≤ 59 }
-    ensures value { result ≡ signed is_negative size }
-    ensures size { unsigned_abs result ≡ size }
-{
-    if is_negative {
-        -(size as i8)
-    } else {
-        size as i8
     }
 }

@@ -62,6 +62,18 @@ impl LocalMoment {
         }
     }
 
+    /// Returns the local date and time with their offset.
+    #[inline(always)]
+    pub fn of_local(value: OffsetDateTime) -> LocalMoment
+        ensures { result ≡ value }
+    {
+        LocalMoment {
+            date: CalendarDate::of_date(value.date()),
+            time: value.time(),
+            offset: KeptOffset::of_offset(value.offset()),
+        }
+    }
+
     /// The midnight in UTC at which the date begins.
     pub fn at_midnight(date: CalendarDate) -> LocalMoment
         ensures { result.date ≡ date }

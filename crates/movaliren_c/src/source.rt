@@ -1,6 +1,6 @@
 //! Where the values of moments come from.
-ghost use Rattle.std.specs.Prelude.{◌≡◌, ◌<◌, ◌+ℤ◌, Result, unsigned_abs};
-ghost use Rattle.movaliren_c.specs.Utc.{local_at, local_value, moved_east, utc_value};
+ghost use Rattle.std.specs.Prelude.{◌≡◌, Result};
+ghost use Rattle.movaliren_c.specs.Utc.{east_value, local_there, local_value, utc_value};
 ghost use Rattle.movaliren_c.specs.Value.{moment_value};
 ghost use Rattle.movaliren_c.specs.declared.reason.Reason.{Reason};
 ghost use Rattle.time_below.specs.Moment.{OffsetDateAndTime};
@@ -8,7 +8,8 @@ ghost use Rattle.time_below.specs.Moment.{OffsetDateAndTime};
 use crate::kept_offset::KeptOffset;
 use crate::moment::{LocalMoment, Moment, UtcMoment, moment_value, timestamp_value, value_at};
 use crate::reason::Reason;
-use time_below::Timestamp;
+use std::convert::TryFrom;
+use time_below::{Timestamp, UtcOffset};
 
 /// What a caller passes for a moment, and the value that it gives.
 pub trait Source: Copy {
@@ -67,39 +68,33 @@ impl Source for AtOffset {
 
     #[inline(always)]
     fn value(self, moment: &UtcMoment) -> Result<LocalMoment, Reason> {
-        match timestamp_value(moment.seconds, moment.nanosecond) {
-            Ok(moment) => moved_east(moment, self.east),
-            Err(reason) => Err(reason),
-        }
+        let moment = timestamp_value(moment.seconds, moment.nanosecond)?;
+        let offset = offset_east(self.east)?;
+        local_there(moment, offset)
+    }
+}
+
+/// The offset of this many seconds east of UTC, if it is at most 25:59:59 either way.
+#[inline(always)]
+fn offset_east(east: i64) -> Result<UtcOffset, Reason>
+    ensures { result ≡ east_value east }
+{
+    let Ok(seconds) = i32::try_from(east) else {
+        return Err(Reason::OffsetHours);
+    };
+    match UtcOffset::from_whole_seconds(seconds) {
+        Ok(offset) => Ok(offset),
+        Err(_) => Err(Reason::OffsetHours),
     }
 }
 
 /// The moment at this offset, or the reason why it has no local date there.
 #[inline(always)]
-fn moved_east(moment: Timestamp, east: i64) -> Result<LocalMoment, Reason>
-    ensures { result ≡ moved_east moment east }
+fn local_there(moment: Timestamp, offset: UtcOffset) -> Result<LocalMoment, Reason>
+    ensures { result ≡ local_there moment offset }
 {
-    match KeptOffset::of_seconds(east) {
-        Ok(offset) => local_at(seconds_moved(moment, east), moment.as_parts().1, offset),
-        Err(reason) => Err(reason),
+    match moment.checked_to_offset(offset) {
+        Some(local) => Ok(LocalMoment::of_local(local)),
+        None => Err(Reason::NoPlaceForYear),
     }
-}
-
-/// The date and time of local clocks, this long after 1970 by them, with this offset.
-#[inline(always)]
-fn local_at(seconds: i64, nanosecond: u32, offset: KeptOffset) -> Result<LocalMoment, Reason>
-    requires { nanosecond < 1_000_000_000 }
-    ensures { result ≡ local_at seconds nanosecond offset }
-{
-    match value_at(seconds, nanosecond, offset) {
-        Ok(value) => Ok(value),
-        Err(_) => Err(Reason::NoPlaceForYear),
-    }
-}
-
-fn seconds_moved(moment: Timestamp, east: i64) -> i64
-    requires { unsigned_abs east < 93_600 }
-    ensures { result ≡ moment.seconds +ℤ east }
-{
-    moment.as_seconds() + east
 }

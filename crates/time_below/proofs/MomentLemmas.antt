@@ -9,7 +9,7 @@ use Rattle.time_below.specs.Offset.{Offset, AreOffsetParts, IsOffset, offset_sec
 use Rattle.time_below.specs.Moment.{Moment, DateAndTime, OffsetDateAndTime, IsMoment, IsTimestampSecond}
 use Rattle.time_below.specs.Moment.{IsNearTimestampSecond, unix_seconds, local_unix_seconds, utc_date, utc_time}
 use Rattle.time_below.specs.Moment.{utc_date_and_time, second_of_day, day_seconds, unix_day, seconds_before}
-use Rattle.time_below.specs.Moment.{seconds_in_all}
+use Rattle.time_below.specs.Moment.{seconds_in_all, moved, local_at}
 use Rattle.time_below.proofs.CalendarLemmas.{utc_day, second_from_start}
 use Rattle.time_below.proofs.YearLemmas.{IsDayNumber-day_number, IsDate-date_at, date_at-day_number, day_number_back}
 use Rattle.time_below.proofs.YearLemmas.{days_from_start, days_before_end, is_day_number}
@@ -191,3 +191,29 @@ IsNearTimestampSecond-local_unix_seconds t h r o =
     let same : DateAndTime = record { date = t.date; time = t.time } in
     near_timestamp_second (unix_seconds same) (offset_seconds t.offset) (IsTimestampSecond-unix_seconds same h r)
     (offset_within t.offset o.0)
+
+-- the seconds by clocks, less how far they are ahead
+less_offset : (all s e : ℤ) → all ≡ s +ℤ e → all -ℤ e ≡ s
+less_offset all s e h = omega (arith, ints)
+
+-- the local date and time of a moment have its seconds
+pub local_unix_seconds-local_at : (m : Moment) (o : Offset) → IsMoment (moved m o)
+    → local_unix_seconds (local_at m o) ≡ m.seconds
+local_unix_seconds-local_at m o h = less_offset _ m.seconds (offset_seconds o) (unix_seconds-utc (moved m o) h)
+
+-- the seconds of UTC, and how far clocks are ahead
+more_offset : (all s e : ℤ) → all -ℤ e ≡ s → all ≡ s +ℤ e
+more_offset all s e h = omega (arith, ints)
+
+-- a date and a time beside one offset
+at_same_offset : (d e : OrdinalDate) (t u : TimeOfDay) (o : Offset)
+    → ◌≡◌ {A = DateAndTime} (record { date = d; time = t }) (record { date = e; time = u })
+    → ◌≡◌ {A = OffsetDateAndTime} (record { date = d; time = t; offset = o }) (record { date = e; time = u; offset = o })
+at_same_offset d e t u o same = ap (λ (x : DateAndTime). record { date = x.date; time = x.time; offset = o }) same
+
+-- no others have them
+pub only_local_at : (m : Moment) (t : OffsetDateAndTime) → IsDate t.date → IsTimeOfDay t.time
+    → local_unix_seconds t ≡ m.seconds → t.time.nanosecond ≡ m.nanosecond → t ≡ local_at m t.offset
+only_local_at m t h r seconds nanosecond =
+    at_same_offset t.date _ t.time _ t.offset
+    (only_utc (moved m t.offset) (record { date = t.date; time = t.time }) h r (more_offset _ m.seconds _ seconds) nanosecond)

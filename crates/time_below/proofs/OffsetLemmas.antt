@@ -1,13 +1,13 @@
 -- The signs of an offset's parts.
-use Rattle.std.proofs.Common.{◌≡◌, ℕ, zero, suc, ◌+◌, ◌<◌, ◌≤◌, ◌⊎◌, inl, inr, ⊎_elim, Bool, true, false, refl, sym, ap}
+use Rattle.std.proofs.Common.{◌≡◌, ℕ, zero, suc, ◌+◌, ◌*◌, ◌/◌, ◌%◌, ◌<◌, ◌≤◌, ◌⊎◌, inl, inr, ⊎_elim, Bool, true, false, refl, sym, ap}
 use Rattle.std.proofs.Common.{◌∙◌, arith}
-use Rattle.std.proofs.Common.{ℤ, pos, negsuc, neg_ℤ, ◌<ℤ◌, ◌≤ℤ◌, unsigned_abs}
+use Rattle.std.proofs.Common.{ℤ, pos, negsuc, neg_ℤ, ◌+ℤ◌, ◌*ℤ◌, ◌<ℤ◌, ◌≤ℤ◌, unsigned_abs}
 use Rattle.std.specs.Prelude.{int_lt, ◌||◌}
 use Rattle.std.proofs.lemmas.Bool.{cases_lt}
 use Rattle.std.proofs.lemmas.Bool.Decides.{nat_tests}
 use Rattle.std.proofs.lemmas.Int.{ints, by_lt_z}
 use Rattle.time_below.specs.Offset.{Offset, AreOffsetParts, HasNoOtherSign, IsOffset, Settles, signed_like, settled}
-use Rattle.time_below.specs.Offset.{is_negative, is_utc, signed, signed_offset, utc}
+use Rattle.time_below.specs.Offset.{is_negative, is_utc, signed, signed_offset, utc, offset_of_seconds, offset_seconds}
 
 -- a part takes the sign of a first part above zero
 like_positive : (lead x : ℤ) → pos 0 <ℤ lead → signed_like lead x ≡ pos (unsigned_abs x)
@@ -142,6 +142,22 @@ only_settled h m s o k =
     (takes_sign_of_lead h m o.minutes (rw k.hours_kept at k.minutes_like_hours) k.minutes_size k.minutes_kept)
     (takes_sign_of_lead h (signed_like m s) o.seconds (rw k.hours_kept at k.seconds_like_hours) size at_zero)
 
+-- parts of an offset settle to themselves
+pub settled-same : (h m s : ℤ) → IsOffset (record { hours = h; minutes = m; seconds = s })
+    → ◌≡◌ {A = Offset} (settled h m s) (record { hours = h; minutes = m; seconds = s })
+settled-same h m s real =
+    sym (only_settled h m s (record { hours = h; minutes = m; seconds = s }) (record {
+      hours_size = refl;
+      minutes_size = refl;
+      seconds_size = refl;
+      hours_kept = refl;
+      minutes_kept = λ zero. refl;
+      seconds_kept = λ zero none. refl;
+      minutes_like_hours = real.1;
+      seconds_like_hours = real.2;
+      seconds_like_minutes = real.3;
+    }))
+
 -- ---- offsets without seconds
 
 -- a number with a sign has its size
@@ -247,3 +263,69 @@ utc_from_test o e =
 -- the offset zero is UTC
 pub is_utc-utc : (o : Offset) → o ≡ utc → is_utc o ≡ true
 is_utc-utc o e = ap is_utc e
+
+-- ---- offsets by their seconds
+
+-- parts of one sign make an offset
+pub IsOffset-signed : (b : Bool) (h m s : ℕ) → h ≤ 25 → m ≤ 59 → s ≤ 59
+    → IsOffset (record { hours = signed b h; minutes = signed b m; seconds = signed b s })
+IsOffset-signed b h m s x y z = (
+  (omega (arith, x, abs_signed b h), omega (arith, y, abs_signed b m), omega (arith, z, abs_signed b s)),
+  parts_of_one_sign b h m,
+  parts_of_one_sign b h s,
+  parts_of_one_sign b m s,
+)
+
+-- parts of one sign have the seconds of their sizes
+signed_sum : (b : Bool) (h m s n : ℕ) → 3600 * h + 60 * m + s ≡ n
+    → pos 3600 *ℤ signed b h +ℤ pos 60 *ℤ signed b m +ℤ signed b s ≡ signed b n
+signed_sum false h m s n e = omega (arith, ints)
+signed_sum true h m s n e = omega (arith, ints)
+
+-- a number is its hours, its minutes and its seconds
+parts_of_seconds : (n : ℕ) → 3600 * (n / 3600) + 60 * (n % 3600 / 60) + n % 60 ≡ n
+parts_of_seconds n = omega arith
+
+-- the offset of so many seconds has so many
+pub offset_back : (z : ℤ) → offset_seconds (offset_of_seconds z) ≡ z
+offset_back z =
+    let n = unsigned_abs z in
+    signed_sum (int_lt z (pos 0)) (n / 3600) (n % 3600 / 60) (n % 60) n (parts_of_seconds n) ∙ sym (signed_size z)
+
+-- less than 26 hours are an offset
+pub IsOffset-of_seconds : (z : ℤ) → unsigned_abs z < 93_600 → IsOffset (offset_of_seconds z)
+IsOffset-of_seconds z h =
+    IsOffset-signed (int_lt z (pos 0)) (unsigned_abs z / 3600) (unsigned_abs z % 3600 / 60) (unsigned_abs z % 60)
+    (omega arith) (omega arith) (omega arith)
+
+-- all parts are on one side of zero
+IsOneSided : ℤ → ℤ → ℤ → Type 0
+IsOneSided h m s = ((pos 0 ≤ℤ h) × (pos 0 ≤ℤ m) × (pos 0 ≤ℤ s)) ⊎ ((h ≤ℤ pos 0) × (m ≤ℤ pos 0) × (s ≤ℤ pos 0))
+
+one_sided : (o : Offset) → IsOffset o → IsOneSided o.hours o.minutes o.seconds
+unfolding IsOneSided
+one_sided o real =
+    for_each_sign (IsOneSided o.hours o.minutes o.seconds) o.hours
+    (λ k. inl (omega (arith, ints), real.1.0 k, real.2.0 k))
+    (λ k. inr (omega (arith, ints), real.1.1 k, real.2.1 k))
+    (λ e. for_each_sign (IsOneSided o.hours o.minutes o.seconds) o.minutes
+    (λ k. inl (omega (arith, ints), omega (arith, ints), real.3.0 k))
+    (λ k. inr (omega (arith, ints), omega (arith, ints), real.3.1 k))
+    (λ f. by_lt_z (pos 0) o.seconds
+    (λ k. inl (omega (arith, ints), omega (arith, ints), omega (arith, ints)))
+    (λ k. inr (omega (arith, ints), omega (arith, ints), k))))
+
+parts_of_sum : (h m s h' m' s' : ℤ) → AreOffsetParts h m s → AreOffsetParts h' m' s' → IsOneSided h m s → IsOneSided h' m' s'
+    → pos 3600 *ℤ h +ℤ pos 60 *ℤ m +ℤ s ≡ pos 3600 *ℤ h' +ℤ pos 60 *ℤ m' +ℤ s'
+    → (h ≡ h') × (m ≡ m') × (s ≡ s')
+unfolding IsOneSided
+parts_of_sum h m s h' m' s' a b (inl p) (inl q) e = (omega (arith, ints), omega (arith, ints), omega (arith, ints))
+parts_of_sum h m s h' m' s' a b (inl p) (inr q) e = (omega (arith, ints), omega (arith, ints), omega (arith, ints))
+parts_of_sum h m s h' m' s' a b (inr p) (inl q) e = (omega (arith, ints), omega (arith, ints), omega (arith, ints))
+parts_of_sum h m s h' m' s' a b (inr p) (inr q) e = (omega (arith, ints), omega (arith, ints), omega (arith, ints))
+
+-- no other offset has as many seconds
+pub one_offset_of_seconds : (o p : Offset) → IsOffset o → IsOffset p → offset_seconds o ≡ offset_seconds p → o ≡ p
+one_offset_of_seconds o p a b e =
+    let same = parts_of_sum o.hours o.minutes o.seconds p.hours p.minutes p.seconds a.0 b.0 (one_sided o a) (one_sided p b) e in
+    same_parts p.hours p.minutes p.seconds o.hours o.minutes o.seconds same.0 same.1 same.2

@@ -79,6 +79,14 @@ utc_time m = time_at (second_of_day m.seconds) m.nanosecond
 abbrev pub utc_date_and_time : Moment → DateAndTime
 utc_date_and_time m = record { date = utc_date m.seconds; time = utc_time m }
 
+-- the moment whose date and time in UTC are those that clocks at this offset show
+abbrev pub moved : Moment → Offset → Moment
+moved m o = record { seconds = m.seconds +ℤ offset_seconds o; nanosecond = m.nanosecond }
+
+-- the date and time of a moment by those clocks
+abbrev pub local_at : Moment → Offset → OffsetDateAndTime
+local_at m o = record { date = utc_date (moved m o).seconds; time = utc_time (moved m o); offset = o }
+
 -- the nanoseconds since 1970-01-01
 abbrev pub nanoseconds : Moment → ℤ
 nanoseconds m = pos 1_000_000_000 *ℤ m.seconds +ℤ pos m.nanosecond

@@ -1,5 +1,5 @@
 -- The offset of local time from UTC (ISO 8601-1:2019, 4.3.13).
-use Rattle.std.specs.Prelude.{◌≡◌, ℕ, ℤ, ◌≤◌, pos, neg_ℤ, ◌+ℤ◌, ◌*ℤ◌, ◌<ℤ◌, ◌≤ℤ◌, unsigned_abs, int_lt, if◌then◌else◌}
+use Rattle.std.specs.Prelude.{◌≡◌, ℕ, ◌/◌, ◌%◌, ℤ, ◌≤◌, pos, neg_ℤ, ◌+ℤ◌, ◌*ℤ◌, ◌<ℤ◌, ◌≤ℤ◌, unsigned_abs, int_lt, if◌then◌else◌}
 use Rattle.std.specs.Prelude.{Bool, ◌||◌, ◌&&◌, ◌==◌}
 
 -- its parts, which never have two signs
@@ -71,3 +71,14 @@ signed_offset is_negative hour minute =
 -- the whole offset in seconds
 abbrev pub offset_seconds : Offset → ℤ
 offset_seconds o = pos 3600 *ℤ o.hours +ℤ pos 60 *ℤ o.minutes +ℤ o.seconds
+
+-- the offset of this many seconds, by parts of one sign
+abbrev pub offset_of_seconds : ℤ → Offset
+offset_of_seconds seconds =
+    let size = unsigned_abs seconds in
+    let sign = int_lt seconds (pos 0) in
+    record {
+      hours = signed sign (size / 3600);
+      minutes = signed sign (size % 3600 / 60);
+      seconds = signed sign (size % 60);
+    }

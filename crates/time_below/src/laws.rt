@@ -1,6 +1,6 @@
 //! Laws of equality, of clones and conversions, of the calendar and of offsets: what their definitions come to.
 //! Each body is empty.
-ghost use Rattle.std.specs.Prelude.{◌≡◌, ◌↔◌, ◌+◌, ◌%◌, ℕ, ℤ, pos, ◌+ℤ◌, IsTrue, fold};
+ghost use Rattle.std.specs.Prelude.{◌≡◌, ◌↔◌, ◌+◌, ◌%◌, ◌<◌, ℕ, ℤ, pos, ◌+ℤ◌, unsigned_abs, IsTrue, fold};
 ghost use Rattle.std.specs.Int.{IsInRange};
 ghost use Rattle.time_below.specs.Calendar.{OrdinalDate, IsDate, IsYear, IsDayNumber, IsDayOfMonth, day_number, date_at, next_day, month_of, day_of, date_of, weekday_of, iso_year_of, iso_week_of, days_of_name, monday_based_week_of, sunday_based_week_of};
 ghost use Rattle.time_below.specs.ComponentRange.{range_refusal};
@@ -9,8 +9,8 @@ ghost use Rattle.time_below.specs.Metadata.{of_both, of_nothing};
 ghost use Rattle.time_below.specs.Month.{IsMadeOf, month_number};
 ghost use Rattle.time_below.specs.Tree.{of_component, v3_tree};
 ghost use Rattle.time_below.specs.TimeOfDay.{IsTimeOfDay};
-ghost use Rattle.time_below.specs.Offset.{Offset, IsOffset, Settles, settled};
-ghost use Rattle.time_below.specs.Moment.{Moment, DateAndTime, OffsetDateAndTime, IsMoment, IsTimestampSecond, IsNearTimestampSecond, utc_date, utc_time, utc_date_and_time, unix_seconds, local_unix_seconds};
+ghost use Rattle.time_below.specs.Offset.{Offset, IsOffset, Settles, settled, offset_of_seconds, offset_seconds};
+ghost use Rattle.time_below.specs.Moment.{Moment, DateAndTime, OffsetDateAndTime, IsMoment, IsTimestampSecond, IsNearTimestampSecond, utc_date, utc_time, utc_date_and_time, unix_seconds, moved, local_at, local_unix_seconds};
 
 pub mod choices;
 pub mod clones;
@@ -126,10 +126,27 @@ pub fn one_date_and_time_for_each_moment()
 {}
 
 /// Three parts of an offset settle to one offset: each part keeps its size, the first that is not
-/// zero keeps its sign, and no part has the other sign.
+/// zero keeps its sign, and no part has the other sign. The parts of an offset settle to it.
 pub fn one_sign_for_each_offset()
     ensures settled { (h m s : ℤ) → Settles h m s (settled h m s) }
     ensures only { (h m s : ℤ) (o : Offset) → Settles h m s o → o ≡ settled h m s }
+    ensures same { (o : Offset) → IsOffset o → settled o.hours o.minutes o.seconds ≡ o }
+{}
+
+/// Less than 26 hours either way are one offset.
+pub fn one_offset_for_each_number_of_seconds()
+    ensures offset { (s : ℤ) → unsigned_abs s < 93_600 → IsOffset (offset_of_seconds s) }
+    ensures seconds { (s : ℤ) → offset_seconds (offset_of_seconds s) ≡ s }
+    ensures only { (o p : Offset) → IsOffset o → IsOffset p → offset_seconds o ≡ offset_seconds p → o ≡ p }
+{}
+
+/// The date and time of a moment by clocks at an offset have its Unix seconds, and no others do.
+pub fn one_local_date_and_time_for_each_moment()
+    ensures seconds { (m : Moment) (o : Offset) → IsMoment (moved m o)
+        → local_unix_seconds (local_at m o) ≡ m.seconds }
+    ensures only { (m : Moment) (t : OffsetDateAndTime) → IsDate t.date → IsTimeOfDay t.time
+        → local_unix_seconds t ≡ m.seconds → t.time.nanosecond ≡ m.nanosecond
+        → t ≡ local_at m t.offset }
 {}
 
 /// The Unix seconds of a local date and time are less than 26 hours outside the range of a moment.

@@ -1,12 +1,15 @@
 //! Moments counted in seconds.
-ghost use Rattle.std.specs.Prelude.{◌≡◌, ◌↔◌, ◌<◌, IsOk, IfOk, IfErr, codes, pos, ◌+ℤ◌, unsigned_abs};
-ghost use Rattle.time_below.specs.Moment.{IsMoment, IsTimestampSecond, utc_date, utc_time, milliseconds};
+ghost use Rattle.std.specs.Prelude.{◌≡◌, ◌↔◌, ◌<◌, IsOk, IfOk, IfErr, IsSome, IfSome, codes, pos, ◌+ℤ◌, unsigned_abs};
+ghost use Rattle.time_below.specs.Moment.{IsMoment, IsTimestampSecond, utc_date, utc_time, local_at, local_unix_seconds, milliseconds};
+ghost use Rattle.time_below.specs.Offset.{offset_seconds};
 ghost use Rattle.time_below.specs.ComponentRange.{range_refusal, unconditional_range};
 
 use crate::component_range::ComponentRange;
 use crate::date::Date;
 use crate::moment;
+use crate::offset_date_time::OffsetDateTime;
 use crate::time::{DAY_SECONDS, Time};
+use crate::utc_offset::UtcOffset;
 use std::marker::Model;
 
 // The seconds from -999999-01-01T00:00:00 to 1970, the last second, and those of all years.
@@ -86,6 +89,20 @@ impl Timestamp {
             (self.seconds_from_start() % DAY_SECONDS as u64) as u32,
             self.nanosecond,
         )
+    }
+
+    /// The date and time of the moment by clocks at this offset, and the offset. Returns `None` where their
+    /// year is outside -999,999 to 999,999.
+    pub fn checked_to_offset(self, offset: UtcOffset) -> Option<OffsetDateTime>
+        ensures accepted { IsSome result ↔ IsTimestampSecond (self.seconds +ℤ offset_seconds offset) }
+        ensures value { IfSome result (λ t. t ≡ local_at self offset) }
+        ensures moment { IfSome result (λ t. local_unix_seconds t ≡ self.seconds) }
+    {
+        let seconds = self.seconds + offset.whole_seconds() as i64;
+        match Timestamp::new(seconds, self.nanosecond) {
+            Ok(shown) => Some(OffsetDateTime::new_in_offset(shown.date(), shown.time(), offset)),
+            Err(_) => None,
+        }
     }
 
     /// The whole seconds since 1970-01-01T00:00:00 UTC, rounded down.

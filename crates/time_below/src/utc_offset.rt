@@ -1,6 +1,6 @@
 //! Offsets from UTC.
 ghost use Rattle.std.specs.Prelude.{◌≡◌, ◌↔◌, ◌+◌, ◌*◌, ◌<◌, ◌≤◌, pos, ◌+ℤ◌, ◌*ℤ◌, unsigned_abs, nat_le, IsTrue, IsOk, IfOk, IfErr, codes, if◌then◌else◌};
-ghost use Rattle.time_below.specs.Offset.{AreOffsetParts, IsOffset, is_negative, is_utc, settled, signed_like, offset_seconds, utc};
+ghost use Rattle.time_below.specs.Offset.{AreOffsetParts, IsOffset, is_negative, is_utc, settled, signed, signed_like, offset_of_seconds, offset_seconds, utc};
 ghost use Rattle.time_below.specs.ComponentRange.{range_refusal, unconditional_range};
 
 use crate::component_range::ComponentRange;
@@ -44,6 +44,19 @@ fn signed_like(lead: i8, part: i8) -> i8
     }
 }
 
+// A part of this size, with a sign.
+fn signed(is_negative: bool, size: u8) -> i8
+    requires { size ≤ 59 }
+    ensures value { result ≡ signed is_negative size }
+    ensures range { unsigned_abs result ≤ 59 }
+{
+    if is_negative {
+        -(size as i8)
+    } else {
+        size as i8
+    }
+}
+
 // Sixty to each whole, and the part of the next.
 fn sixtieths(whole: i32, part: i8) -> i32
     requires { unsigned_abs whole < 1560 }
@@ -83,6 +96,26 @@ impl UtcOffset {
         })
     }
 
+    /// The offset of -93,599 to 93,599 seconds, which is 25:59:59 either way. Refuses any other number as
+    /// `seconds`.
+    pub fn from_whole_seconds(seconds: i32) -> Result<UtcOffset, ComponentRange>
+        ensures accepted { IsOk result ↔ unsigned_abs seconds < 93_600 }
+        ensures value { IfOk result (λ o. o ≡ offset_of_seconds seconds) }
+        ensures seconds { IfOk result (λ o. offset_seconds o ≡ seconds) }
+        ensures refusal { IfErr result (λ e. range_refusal e ≡ unconditional_range (codes "seconds")) }
+    {
+        let size = seconds.unsigned_abs();
+        if size > 93_599 {
+            return Err(ComponentRange::unconditional("seconds"));
+        }
+        let is_negative = seconds < 0;
+        Ok(UtcOffset {
+            hours: signed(is_negative, (size / 3600) as u8),
+            minutes: signed(is_negative, (size % 3600 / 60) as u8),
+            seconds: signed(is_negative, (size % 60) as u8),
+        })
+    }
+
     /// The hours -25 to 25, the minutes -59 to 59 and the seconds -59 to 59.
     pub fn as_hms(self) -> (i8, i8, i8)
         ensures hours { result.0 ≡ self.hours }
@@ -108,8 +141,8 @@ impl UtcOffset {
         self.hours < 0 || self.minutes < 0 || self.seconds < 0
     }
 
-    // The whole offset in seconds.
-    pub(crate) fn whole_seconds(self) -> i32
+    /// The whole offset in seconds, -93,599 to 93,599.
+    pub fn whole_seconds(self) -> i32
         ensures value { result ≡ offset_seconds self }
         ensures range { unsigned_abs result < 93_600 }
     {

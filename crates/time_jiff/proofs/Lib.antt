@@ -1,3 +1,2 @@
-pub mod OffsetLemmas
 pub mod MomentLemmas
 pub mod CalendarLemmas

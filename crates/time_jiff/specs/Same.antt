@@ -1,5 +1,5 @@
 -- What is the same of a value of jiff and one of Movaliren.
-use Rattle.std.specs.Prelude.{◌≡◌, ℤ, pos, ◌+ℤ◌, ◌*ℤ◌, ◌/◌, ◌%◌, unsigned_abs, int_lt}
+use Rattle.std.specs.Prelude.{◌≡◌, ℤ, pos, ◌+ℤ◌, ◌*ℤ◌}
 use Rattle.jiff.specs.Placed.{fixed_zone}
 use Rattle.jiff.specs.ZonedView.{plain_zoned}
 use Rattle.jiff.specs.declared.zoned.Zoned.{Zoned}
@@ -8,23 +8,11 @@ use Rattle.jiff_core.specs.declared.civil.time.Time.{Time}
 use Rattle.jiff_core.specs.declared.offset.Offset.{Offset as TheirOffset}
 use Rattle.time_below.specs.Calendar.{OrdinalDate, date_of}
 use Rattle.time_below.specs.Moment.{OffsetDateAndTime, local_unix_seconds}
-use Rattle.time_below.specs.Offset.{Offset, signed}
 use Rattle.time_below.specs.TimeOfDay.{TimeOfDay}
 
 -- the nanoseconds since 1970 of a local date and time
 abbrev pub local_nanoseconds : OffsetDateAndTime → ℤ
 local_nanoseconds t = pos 1_000_000_000 *ℤ local_unix_seconds t +ℤ pos t.time.nanosecond
-
--- the offset of this many seconds, by parts of one sign
-abbrev pub offset_of_seconds : ℤ → Offset
-offset_of_seconds east =
-    let size = unsigned_abs east in
-    let sign = int_lt east (pos 0) in
-    record {
-      hours = signed sign (size / 3600);
-      minutes = signed sign (size % 3600 / 60);
-      seconds = signed sign (size % 60);
-    }
 
 -- the time of the same hour, minute, second and nanosecond
 abbrev pub same_time : Time → TimeOfDay

@@ -2,15 +2,15 @@
 //! times.
 #![tactic(auto)]
 
-ghost use Rattle.std.specs.Prelude.{◌≡◌, ◌↔◌, ◌+◌, ◌*◌, ◌≤◌, ◌<◌, pos, neg_ℤ, ◌+ℤ◌, ◌*ℤ◌, IsOk, IfOk, unsigned_abs};
+ghost use Rattle.std.specs.Prelude.{◌≡◌, ◌↔◌, ◌<◌, pos, neg_ℤ, ◌+ℤ◌, ◌*ℤ◌, IsOk, IfOk};
 ghost use Rattle.jiff.specs.ZonedView.{plain_zoned, zoned_date, zoned_nanos, zoned_time};
 ghost use Rattle.jiff_core.specs.Calendar.{IsBetween, IsYear};
 ghost use Rattle.time_below.specs.Calendar.{month_of, day_of, IsDate};
 ghost use Rattle.jiff_core.specs.Timestamp.{IsTimestampNanos, IsOffsetSeconds};
 ghost use Rattle.time_below.specs.Moment.{nanoseconds as nanoseconds_of, IsMoment};
-ghost use Rattle.time_below.specs.Offset.{offset_seconds, signed, AreOffsetParts};
+ghost use Rattle.time_below.specs.Offset.{offset_of_seconds, offset_seconds};
 ghost use Rattle.time_below.specs.TimeOfDay.{IsTimeOfDay};
-ghost use Rattle.time_jiff.specs.Same.{IsInFixedZone, local_nanoseconds, offset_of_seconds, same_date, same_time};
+ghost use Rattle.time_jiff.specs.Same.{IsInFixedZone, local_nanoseconds, same_date, same_time};
 
 use time_below::{Date, Month, OffsetDateTime, PlainDateTime, Time, UtcOffset};
 
@@ -26,27 +26,17 @@ fn parts(moment: jiff::Timestamp) -> (i64, u32)
     (second, rest as u32)
 }
 
-/// The moment of these seconds, moved east.
-fn moved(second: i64, nanosecond: u32, east: i32) -> time_below::Timestamp
-    requires second { IsBetween (neg_ℤ (pos 377_705_023_201)) (pos 253_402_207_200) second }
-    requires nanosecond { nanosecond < 1_000_000_000 }
-    requires east { IsOffsetSeconds east }
-    ensures seconds { result.seconds ≡ second +ℤ east }
-    ensures nanosecond { result.nanosecond ≡ nanosecond }
-    ensures real { IsMoment result }
-{
-    match time_below::Timestamp::new(second + east as i64, nanosecond) {
-        Ok(moment) => moment,
-        Err(_) => unreachable!(),
-    }
-}
-
 /// The moment.
 pub fn timestamp(moment: jiff::Timestamp) -> time_below::Timestamp
-    ensures { nanoseconds_of result ≡ moment.nanosecond }
+    ensures value { nanoseconds_of result ≡ moment.nanosecond }
+    ensures second { IsBetween (neg_ℤ (pos 377_705_023_201)) (pos 253_402_207_200) result.seconds }
+    ensures real { IsMoment result }
 {
     let (second, nanosecond) = parts(moment);
-    moved(second, nanosecond, 0)
+    match time_below::Timestamp::new(second, nanosecond) {
+        Ok(same) => same,
+        Err(_) => unreachable!(),
+    }
 }
 
 /// The moment, if `jiff` has it: from -9999-01-02T01:59:59Z to 9999-12-30T22:00:00.999999999Z.
@@ -65,53 +55,16 @@ fn nanoseconds(moment: time_below::Timestamp) -> i128
     1_000_000_000 * second as i128 + nanosecond as i128
 }
 
-/// A part of this size, with a sign.
-fn signed_part(is_negative: bool, size: u8) -> i8
-    requires { size ≤ 59 }
-    ensures value { result ≡ signed is_negative size }
-    ensures size { unsigned_abs result ≡ size }
-{
-    if is_negative {
-        -(size as i8)
-    } else {
-        size as i8
-    }
-}
-
-/// The offset of parts of one sign.
-fn offset_of_parts(is_negative: bool, hours: u8, minutes: u8, seconds: u8) -> UtcOffset
-    requires hours { hours ≤ 25 }
-    requires minutes { minutes ≤ 59 }
-    requires seconds { seconds ≤ 59 }
-    ensures { result ≡ record {
-      hours = signed is_negative hours;
-      minutes = signed is_negative minutes;
-      seconds = signed is_negative seconds;
-    } }
-{
-    let hours = signed_part(is_negative, hours);
-    let minutes = signed_part(is_negative, minutes);
-    let seconds = signed_part(is_negative, seconds);
-    match UtcOffset::from_hms(hours, minutes, seconds) {
-        Ok(offset) => offset,
-        Err(_) => unreachable!(),
-    }
-}
-
 /// The offset.
-#[tactic(auto, using(crate::proofs::OffsetLemmas::offset_back))]
 pub fn offset(offset: jiff::tz::Offset) -> UtcOffset
     ensures parts { result ≡ offset_of_seconds offset.seconds }
     ensures value { offset_seconds result ≡ offset.seconds }
+    ensures range { IsOffsetSeconds offset.seconds }
 {
-    let seconds = offset.to_plain().seconds;
-    let size = seconds.unsigned_abs();
-    offset_of_parts(
-        seconds < 0,
-        (size / 3600) as u8,
-        (size % 3600 / 60) as u8,
-        (size % 60) as u8,
-    )
+    match UtcOffset::from_whole_seconds(offset.to_plain().seconds) {
+        Ok(same) => same,
+        Err(_) => unreachable!(),
+    }
 }
 
 /// The local date and time at the offset that the zone has at the moment.
@@ -121,10 +74,10 @@ pub fn offset_date_time(zoned: &jiff::Zoned<'_>) -> OffsetDateTime
     ensures date { result.date ≡ same_date (zoned_date zoned.now) }
     ensures time { result.time ≡ same_time (zoned_time zoned.now) }
 {
-    let east = zoned.offset();
-    let (second, nanosecond) = parts(zoned.timestamp());
-    let shown = moved(second, nanosecond, east.seconds());
-    OffsetDateTime::new_in_offset(shown.date(), shown.time(), offset(east))
+    match timestamp(zoned.timestamp()).checked_to_offset(offset(zoned.offset())) {
+        Some(shown) => shown,
+        None => unreachable!(),
+    }
 }
 
 /// The time of day.
@@ -157,38 +110,11 @@ pub fn date(date: jiff::civil::Date) -> Date
     }
 }
 
-/// Sixty to each whole, and the part of the next.
-fn sixtieths(whole: i32, part: i8) -> i32
-    requires { unsigned_abs whole < 1560 }
-    ensures value { result ≡ pos 60 *ℤ whole +ℤ part }
-    ensures range { unsigned_abs result ≤ 60 * unsigned_abs whole + unsigned_abs part }
-{
-    whole * 60 + part as i32
-}
-
-/// The offset, as seconds.
-fn east_of(offset: UtcOffset) -> i32
-    ensures value { result ≡ offset_seconds offset }
-    ensures range { IsOffsetSeconds result }
-{
-    let (hours, minutes, seconds) = offset.as_hms();
-    whole_seconds(hours, minutes, seconds)
-}
-
-/// The seconds of these parts.
-fn whole_seconds(hours: i8, minutes: i8, seconds: i8) -> i32
-    requires { AreOffsetParts hours minutes seconds }
-    ensures value { result ≡ pos 3600 *ℤ hours +ℤ pos 60 *ℤ minutes +ℤ seconds }
-    ensures range { IsOffsetSeconds result }
-{
-    sixtieths(sixtieths(hours as i32, minutes), seconds)
-}
-
 /// The offset for `jiff`.
 pub fn jiff_offset(offset: UtcOffset) -> jiff::tz::Offset
     ensures { result.seconds ≡ offset_seconds offset }
 {
-    match jiff::tz::Offset::from_seconds(east_of(offset)) {
+    match jiff::tz::Offset::from_seconds(offset.whole_seconds()) {
         Ok(same) => same,
         Err(_) => unreachable!(),
     }

@@ -1,5 +1,5 @@
 //! The recipes of `docs/RECIPES.md`, which shows each of them word for word.
-ghost use Rattle.std.specs.Prelude.{◌≡◌, IfSome, vec_capacity};
+ghost use Rattle.std.specs.Prelude.{◌≡◌, vec_capacity};
 
 mod tests;
 
@@ -90,21 +90,15 @@ pub fn append_unix_time(line: &mut Vec<u8>, seconds: i64) -> Option<Result<usize
     Some(Rfc3339.format_into(line, &timestamp, &mut TimestampState::default()))
 }
 
-/// The moment as a local date and time at this offset, if its local year is within -999,999 to 999,999.
-/// The nanosecond stays.
-pub fn at_offset(moment: Timestamp, offset: UtcOffset) -> Option<OffsetDateTime>
-    ensures { IfSome result (λ local. local.time.nanosecond ≡ moment.nanosecond) }
-{
-    let (seconds, nanosecond) = moment.as_parts();
-    let (offset_hours, offset_minutes, offset_seconds) = offset.as_hms();
-    let local_seconds = seconds
-        .saturating_add(offset_hours as i64 * 3600)
-        .saturating_add(offset_minutes as i64 * 60)
-        .saturating_add(offset_seconds as i64);
-    let Ok(local) = Timestamp::new(local_seconds, nanosecond) else {
-        return None;
-    };
-    Some(OffsetDateTime::new_in_offset(local.date(), local.time(), offset))
+/// Appends the moment by the clocks of a place, such as `1969-12-31T17:59:59.5-06:00`, if their year is
+/// within -999,999 to 999,999.
+pub fn append_local_time(
+    line: &mut Vec<u8>,
+    moment: Timestamp,
+    offset: UtcOffset,
+) -> Option<Result<usize, Format>> {
+    let local = moment.checked_to_offset(offset)?;
+    Some(Rfc3339.format_into(line, &local, &mut DateState::default()))
 }
 
 /// Appends a day such as `November 22`, by a state that is shared with other calls for this date.

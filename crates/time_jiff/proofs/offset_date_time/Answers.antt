@@ -1,55 +1,30 @@
-use Rattle.std.proofs.Common.{◌≡◌, ◌∙◌, ℤ, ◌+ℤ◌, ◌*ℤ◌, pos, sym, ap, subst}
-use Rattle.jiff.specs.ZonedView.{plain_zoned}
-use Rattle.jiff_core.specs.DateTime.{civil_nanos}
-use Rattle.jiff_core.specs.Timestamp.{IsOffsetSeconds}
-use Rattle.jiff_core.specs.declared.offset.Offset.{Offset}
-use Rattle.jiff_core.specs.declared.timestamp.Timestamp.{Timestamp}
-use Rattle.time_below.specs.Moment.{DateAndTime}
-use Rattle.time_jiff.proofs.CalendarLemmas.{same_shown}
-use Rattle.time_jiff.proofs.MomentLemmas.{shown_at_offset, second_back, same_sum, moved_nanoseconds}
-use Rattle.time_jiff.proofs.OffsetLemmas.{east_back}
+use Rattle.std.proofs.Common.{◌≡◌, refl, sym, ap, subst, rules}
+use Rattle.jiff.specs.ZonedView.{plain_zoned, zoned_date, zoned_nanos, zoned_time}
+use Rattle.time_below.proofs.MomentLemmas.{IsDate-utc_date, IsTimeOfDay-utc_time}
+use Rattle.time_below.specs.Calendar.{IsDate}
+use Rattle.time_below.specs.Moment.{DateAndTime, OffsetDateAndTime, IsMoment, moved}
+use Rattle.time_below.specs.Offset.{offset_seconds}
+use Rattle.time_below.specs.TimeOfDay.{IsTimeOfDay}
+use Rattle.time_jiff.proofs.CalendarLemmas.{same_clock}
 use Rattle.time_jiff.proofs.offset_date_time.Goals as goal
+use Rattle.time_jiff.specs.Same.{local_nanoseconds, same_date, same_time}
 
-pub returns-clause-moment : goal.returns-clause-moment
-returns-clause-moment c =
-    let east = c.seconds.result in
-    let within : IsOffsetSeconds east = subst IsOffsetSeconds (sym c.seconds.ensures) c.offset-east.result.in_range in
-    let sum = same_sum _ _ _ c.parts-second.result.0 east c.moved-shown.ensures.seconds
-    (second_back _ c.parts-second.ensures.second) (east_back _ within) in
-    shown_at_offset c.new_in_offset.result c.moved-shown.result c.offset.result c.date.result c.time.result
-    c.parts-second.result.0 east _ c.parts-second.result.1 c.new_in_offset.ensures c.date.ensures c.time.ensures
-    c.moved-shown.ensures.real sum c.moved-shown.ensures.nanosecond
-    (c.offset.ensures.value ∙ sym c.seconds.ensures)
-    (c.parts-second.ensures.whole ∙ ap (λ (t : Timestamp). t.nanosecond) c.timestamp.ensures)
+-- the clock shows what the zone shows
+clock : (c : goal.In-Some)
+    → ◌≡◌ {A = DateAndTime} (record { date = same_date (zoned_date c.args.zoned.now); time = same_time (zoned_time c.args.zoned.now) })
+    (record { date = c.in-Some.shown.date; time = c.in-Some.shown.time })
+clock c =
+    let m = moved c.timestamp-2.result c.offset-2.result in
+    let real : IsMoment m = (c.in-Some.ensures.accepted.0 refl, c.timestamp-2.ensures.real.1) in
+    let value = sym c.in-Some.ensures.value in
+    let moment : zoned_nanos c.args.zoned.now ≡ local_nanoseconds c.in-Some.shown = sym (search rules) in
+    let offset : (plain_zoned c.args.zoned.now).offset.seconds ≡ offset_seconds c.in-Some.shown.offset = sym (search rules) in
+    same_clock c.args.zoned.now c.in-Some.shown
+    (subst (λ (t : OffsetDateAndTime). IsDate t.date) value (IsDate-utc_date m real))
+    (subst (λ (t : OffsetDateAndTime). IsTimeOfDay t.time) value (IsTimeOfDay-utc_time m real)) moment offset
 
 pub returns-clause-date : goal.returns-clause-date
-returns-clause-date c =
-    let east = c.seconds.result in
-    let zoned = plain_zoned c.args.zoned.now in
-    let within : IsOffsetSeconds east = subst IsOffsetSeconds (sym c.seconds.ensures) c.offset-east.result.in_range in
-    let sum = same_sum _ _ _ c.parts-second.result.0 east c.moved-shown.ensures.seconds
-    (second_back _ c.parts-second.ensures.second) (east_back _ within) in
-    let ahead : zoned.offset.seconds ≡ east = sym (c.seconds.ensures ∙ ap (λ (o : Offset). o.seconds) c.offset-east.ensures) in
-    let whole = c.parts-second.ensures.whole ∙ ap (λ (t : Timestamp). t.nanosecond) c.timestamp.ensures in
-    let shows : civil_nanos zoned.datetime ≡ zoned.timestamp.nanosecond +ℤ east *ℤ pos 1_000_000_000 =
-    zoned.shows ∙ ap (λ (x : ℤ). zoned.timestamp.nanosecond +ℤ x *ℤ pos 1_000_000_000) ahead in
-    let same = same_shown zoned.datetime c.moved-shown.result c.moved-shown.ensures.real
-    (moved_nanoseconds _ c.parts-second.result.0 east _ _ c.parts-second.result.1 _ sum c.moved-shown.ensures.nanosecond whole
-    shows) in
-    rw (c.new_in_offset.ensures, c.date.ensures) (sym (ap (λ (t : DateAndTime). t.date) same))
+returns-clause-date c = sym (ap (λ (t : DateAndTime). t.date) (clock c))
 
 pub returns-clause-time : goal.returns-clause-time
-returns-clause-time c =
-    let east = c.seconds.result in
-    let zoned = plain_zoned c.args.zoned.now in
-    let within : IsOffsetSeconds east = subst IsOffsetSeconds (sym c.seconds.ensures) c.offset-east.result.in_range in
-    let sum = same_sum _ _ _ c.parts-second.result.0 east c.moved-shown.ensures.seconds
-    (second_back _ c.parts-second.ensures.second) (east_back _ within) in
-    let ahead : zoned.offset.seconds ≡ east = sym (c.seconds.ensures ∙ ap (λ (o : Offset). o.seconds) c.offset-east.ensures) in
-    let whole = c.parts-second.ensures.whole ∙ ap (λ (t : Timestamp). t.nanosecond) c.timestamp.ensures in
-    let shows : civil_nanos zoned.datetime ≡ zoned.timestamp.nanosecond +ℤ east *ℤ pos 1_000_000_000 =
-    zoned.shows ∙ ap (λ (x : ℤ). zoned.timestamp.nanosecond +ℤ x *ℤ pos 1_000_000_000) ahead in
-    let same = same_shown zoned.datetime c.moved-shown.result c.moved-shown.ensures.real
-    (moved_nanoseconds _ c.parts-second.result.0 east _ _ c.parts-second.result.1 _ sum c.moved-shown.ensures.nanosecond whole
-    shows) in
-    rw (c.new_in_offset.ensures, c.time.ensures) (sym (ap (λ (t : DateAndTime). t.time) same))
+returns-clause-time c = sym (ap (λ (t : DateAndTime). t.time) (clock c))

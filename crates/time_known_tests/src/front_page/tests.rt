@@ -1,8 +1,8 @@
 //! The texts of the recipes.
 use super::{
-    append_clock, append_date, append_entry, append_heading, append_log_time, append_mail_date,
-    append_milliseconds, append_stamp, append_unix_time, append_week_date, at_offset, reason,
-    stamp_text, write_kept,
+    append_clock, append_date, append_entry, append_heading, append_local_time, append_log_time,
+    append_mail_date, append_milliseconds, append_stamp, append_unix_time, append_week_date,
+    reason, stamp_text, write_kept,
 };
 use crate::texts::{assert_same, assert_that};
 use crate::values::moment;
@@ -75,13 +75,12 @@ fn gives_unix_seconds_an_offset(rt: HostRuntime) {
     let (Ok(half), Ok(least)) = (Timestamp::new(-1, 500_000_000), Timestamp::new(FIRST, 0)) else {
         panic!(rt; "no moment");
     };
-    let Some(moment) = at_offset(half, offset) else {
-        panic!(rt; "no local date");
-    };
     let mut line = Vec::new(rt.alloc());
-    let written = append_stamp(&mut line, &moment);
-    assert_line(&rt, written, &mut line, "1969-12-31T17:59:59.5-06:00");
-    assert_that(&rt, at_offset(least, offset).is_none());
+    match append_local_time(&mut line, half, offset) {
+        Some(written) => assert_line(&rt, written, &mut line, "1969-12-31T17:59:59.5-06:00"),
+        None => panic!(rt; "no local date"),
+    }
+    assert_that(&rt, append_local_time(&mut line, least, offset).is_none());
 }
 
 #[test]

@@ -1,0 +1,73 @@
+/* The lines of docs/FROM.md in C: what strftime writes, and the call here that writes it. */
+#define _GNU_SOURCE
+#include "movaliren.h"
+
+#include <stdio.h>
+#include <string.h>
+#include <time.h>
+
+/* Sunday, 22 November 2026, at 15:55:06.12 in UTC, and at a place six hours behind. */
+static const time_t seconds = 1795362906;
+static const long nanosecond = 120000000;
+static struct tm utc, local;
+
+static char line[64], theirs[64];
+static const size_t most = sizeof line - 1;
+static int wrong;
+
+/* The text of the call, and that of strftime where it has the same. */
+static void same(ptrdiff_t count, const char *wanted, const char *by_strftime)
+{
+    line[count < 0 ? 0 : count] = 0;
+    if (strcmp(line, wanted) != 0 || (by_strftime && strcmp(by_strftime, wanted) != 0)) {
+        printf("not %s: %s, by strftime %s\n", wanted, line, by_strftime ? by_strftime : "-");
+        wrong = 1;
+    }
+}
+
+static void moments(void)
+{
+    strftime(theirs, sizeof theirs, "%Y-%m-%dT%H:%M:%SZ", &utc);
+    same(movaliren_rfc3339_utc(seconds, 0, line, most), "2026-11-22T15:55:06Z", theirs);
+
+    size_t count = strftime(theirs, sizeof theirs, "%Y-%m-%dT%H:%M:%S", &utc);
+    snprintf(theirs + count, sizeof theirs - count, ".%03ldZ", nanosecond / 1000000);
+    static const struct movaliren_iso_config milliseconds = MOVALIREN_ISO_DECIMALS(3);
+    same(movaliren_iso8601_by_utc(&milliseconds, seconds, nanosecond, line, most), "2026-11-22T15:55:06.120Z", theirs);
+
+    strftime(theirs, sizeof theirs, "%a, %d %b %Y %H:%M:%S %z", &local);
+    same(movaliren_rfc2822_local(seconds, nanosecond, local.tm_gmtoff, line, most), "Sun, 22 Nov 2026 09:55:06 -0600", theirs);
+
+    same(movaliren_rfc3339_local(seconds, nanosecond, local.tm_gmtoff, line, most), "2026-11-22T09:55:06.12-06:00", NULL);
+
+    strftime(theirs, sizeof theirs, "%G-W%V-%u", &utc);
+    struct movaliren_iso_config week = MOVALIREN_ISO_DEFAULT;
+    week.components = MOVALIREN_ISO_DATE;
+    week.date_kind = MOVALIREN_ISO_WEEK;
+    same(movaliren_iso8601_by_utc(&week, seconds, 0, line, most), "2026-W47-7", theirs);
+}
+
+static void descriptions(void)
+{
+    struct movaliren_item items[5];
+    char texts[2];
+    struct movaliren_description day = MOVALIREN_DESCRIPTION(items, texts);
+    movaliren_add_usual(&day, MOVALIREN_DAY);
+    movaliren_add_text(&day, " ");
+    movaliren_add_usual(&day, MOVALIREN_MONTH_LONG);
+    movaliren_add_text(&day, " ");
+    movaliren_add_usual(&day, MOVALIREN_YEAR);
+    strftime(theirs, sizeof theirs, "%d %B %Y", &utc);
+    same(movaliren_format_utc(items, day.items_len, texts, day.texts_len, seconds, 0, line, most), "22 November 2026", theirs);
+}
+
+int main(void)
+{
+    const time_t there = seconds - 21600;
+    gmtime_r(&seconds, &utc);
+    gmtime_r(&there, &local);
+    local.tm_gmtoff = -21600;
+    moments();
+    descriptions();
+    return wrong;
+}

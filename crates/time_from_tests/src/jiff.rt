@@ -1,0 +1,50 @@
+//! From the kit's `jiff`.
+use crate::values::assert_text;
+use jiff::tz::TimeZone;
+use jiff::{Timestamp, ToSpan};
+use std::default::Default;
+use std::test::Fail;
+use time_fmt::TimestampState;
+use time_fmt::parts::*;
+use time_known::{Rfc2822, Rfc3339};
+use time_plan::Plan;
+
+#[test]
+fn values_of_jiff(rt: HostRuntime) -> Result<(), Fail> {
+    let alloc = rt.alloc();
+    let instant = Timestamp::from_second(1_774_746_000)?;
+    let zoned = instant.to_zoned(TimeZone::posix("CET-1CEST,M3.5.0,M10.5.0/3")?);
+    let text = format!(in alloc; "{instant}")?;
+    assert_text(&rt, &text, "2026-03-29T01:00:00Z");
+    let text = zoned.strftime(alloc, "%a, %d %b %Y %H:%M:%S %z")?;
+    assert_text(&rt, &text, "Sun, 29 Mar 2026 03:00:00 +0200");
+    let text = zoned.strftime(alloc, "%A, %-d %B, %H:%M")?;
+    assert_text(&rt, &text, "Sunday, 29 March, 03:00");
+    let text = Rfc3339.format(
+        alloc,
+        &time_jiff::timestamp(instant),
+        &mut TimestampState::default(),
+    )?;
+    assert_text(&rt, &text, "2026-03-29T01:00:00Z");
+    let text = Rfc2822.format(
+        alloc,
+        &time_jiff::offset_date_time(&zoned),
+        &mut DateState::default(),
+    )?;
+    assert_text(&rt, &text, "Sun, 29 Mar 2026 03:00:00 +0200");
+    let plan = Plan::parse_strftime(alloc, b"%A, %-d %B, %H:%M")?;
+    let text = plan.format(
+        alloc,
+        &time_jiff::offset_date_time(&zoned),
+        &mut DateState::default(),
+    )?;
+    assert_text(&rt, &text, "Sunday, 29 March, 03:00");
+    let later = zoned.checked_add(1i64.day())?;
+    let text = Rfc3339.format(
+        alloc,
+        &time_jiff::offset_date_time(&later),
+        &mut DateState::default(),
+    )?;
+    assert_text(&rt, &text, "2026-03-30T03:00:00+02:00");
+    Ok(())
+}

@@ -1,0 +1,71 @@
+//! From the Rust crates `time` and `chrono`.
+use crate::values::{assert_text, date, moment, offset, time};
+use std::default::Default;
+use std::test::Fail;
+use time_below::{OffsetDateTime, Timestamp};
+use time_digits::ru8;
+use time_fmt::TimestampState;
+use time_fmt::parts::*;
+use time_known::iso8601::{Config, TimePrecision};
+use time_known::{Iso8601, Rfc2822, Rfc3339};
+use time_plan::Plan;
+use time_read::rfc3339;
+
+#[test]
+fn well_known_formats(rt: HostRuntime) -> Result<(), Fail> {
+    let alloc = rt.alloc();
+    let moment = moment(&rt);
+    let state = &mut DateState::default();
+    let text = Rfc3339.format(alloc, &moment, state)?;
+    assert_text(&rt, &text, "2026-11-22T09:55:06.12-06:00");
+    let text = Rfc2822.format(alloc, &moment, state)?;
+    assert_text(&rt, &text, "Sun, 22 Nov 2026 09:55:06 -0600");
+    let text = Iso8601::default().format(alloc, &moment, state)?;
+    assert_text(&rt, &text, "2026-11-22T09:55:06.120000000-06:00");
+    let milliseconds = TimePrecision::Second {
+        decimal_digits: ru8::new(3),
+    };
+    let iso = Iso8601::new(Config::default().set_time_precision(milliseconds));
+    let text = iso.format(alloc, &moment, state)?;
+    assert_text(&rt, &text, "2026-11-22T09:55:06.120-06:00");
+    let mut out = Vec::new(alloc);
+    let count = Rfc3339.format_into(&mut out, &moment, state)?;
+    assert!(&rt; count == 28);
+    Ok(())
+}
+
+#[test]
+fn descriptions(rt: HostRuntime) -> Result<(), Fail> {
+    let alloc = rt.alloc();
+    let moment = moment(&rt);
+    let state = &mut DateState::default();
+    let text = text!(YEAR, b"-", MONTH, b"-", DAY).format(alloc, &moment, state)?;
+    assert_text(&rt, &text, "2026-11-22");
+    let plan = Plan::parse(alloc, b"[hour]:[minute]:[second].[subsecond digits:3]")?;
+    let text = plan.format(alloc, &moment, state)?;
+    assert_text(&rt, &text, "09:55:06.120");
+    let plan = Plan::parse_strftime(alloc, b"%a %e %b %Y %I:%M %p")?;
+    let text = plan.format(alloc, &moment, state)?;
+    assert_text(&rt, &text, "Sun 22 Nov 2026 09:55 AM");
+    Ok(())
+}
+
+#[test]
+fn values_and_texts_read(rt: HostRuntime) -> Result<(), Fail> {
+    let alloc = rt.alloc();
+    let (date, time, offset) = (date(&rt), time(&rt), offset(&rt));
+    let moment = OffsetDateTime::new_in_offset(date, time, offset);
+    let text = Rfc3339.format(alloc, &moment, &mut DateState::default())?;
+    assert_text(&rt, &text, "2026-11-22T09:55:06.12-06:00");
+    let Ok(instant) = Timestamp::new(1_795_362_906, 120_000_000) else {
+        panic!(&rt; "no instant")
+    };
+    let text = Rfc3339.format(alloc, &instant, &mut TimestampState::default())?;
+    assert_text(&rt, &text, "2026-11-22T15:55:06.12Z");
+    let moment = rfc3339::read(b"2026-11-22T09:55:06.12-06:00")?;
+    assert!(&rt; moment.unix_timestamp() == 1_795_362_906);
+    let moment = rfc3339::read_lenient(b"2026-11-22t09:55:06.12-06:00")?;
+    assert!(&rt; moment.unix_timestamp() == 1_795_362_906);
+    assert!(&rt; date.ordinal() == 326 && date.iso_year_week().1 == 47);
+    Ok(())
+}

@@ -1,0 +1,34 @@
+//! The values of the page, and the comparison of texts.
+use std::process::Abort;
+use time_below::{Date, Month, OffsetDateTime, Time, UtcOffset};
+
+pub fn date(rt: &impl Abort) -> Date {
+    let Ok(date) = Date::from_calendar_date(2026, Month::November, 22) else {
+        panic!(rt; "no date")
+    };
+    date
+}
+
+pub fn time(rt: &impl Abort) -> Time {
+    let Ok(time) = Time::from_hms_nano(9, 55, 6, 120_000_000) else {
+        panic!(rt; "no time")
+    };
+    time
+}
+
+pub fn offset(rt: &impl Abort) -> UtcOffset {
+    let Ok(offset) = UtcOffset::from_hms(-6, 0, 0) else {
+        panic!(rt; "no offset")
+    };
+    offset
+}
+
+/// Sunday, 22 November 2026, at 9:55:06.12, six hours behind UTC.
+pub fn moment(rt: &impl Abort) -> OffsetDateTime {
+    let (date, time, offset) = (date(rt), time(rt), offset(rt));
+    OffsetDateTime::new_in_offset(date, time, offset)
+}
+
+pub fn assert_text(rt: &impl Abort, text: &str, wanted: &str) {
+    assert!(rt; text == wanted, "another text than {wanted}");
+}

@@ -1,9 +1,0 @@
-use Rattle.std.proofs.Common.{arith}
-use Rattle.std.proofs.lemmas.Int.{ints}
-use Rattle.time_jiff.proofs.whole_seconds.Goals as goal
-
-pub returns-clause-value : goal.returns-clause-value
-returns-clause-value c = omega (arith, ints)
-
-pub returns-clause-range : goal.returns-clause-range
-returns-clause-range c = (omega (arith, ints), omega (arith, ints))

@@ -1,0 +1,127 @@
+#!/usr/bin/env python3
+"""Compares names of the pages with the sources.
+
+Each name in code that docs/PROVED.md has is one of the sources: a clause, a function, a type, a field, a module, a
+definition of `specs/` or a file. A name in brackets is one of the section's crate, or of a crate that it stands on.
+docs/ARCHITECTURE.md names each file of a crate's `src/` by its module, and no module that is not there. Links between pages lead to a
+page, and to a heading of it.
+"""
+
+import pathlib
+import re
+import sys
+
+TOP = pathlib.Path(__file__).resolve().parent.parent
+CODE = re.compile(r"(?<!`)`([^`\n]+)`(?!`)")
+NAME = re.compile(r"[A-Za-z_][\w-]*")
+LINK = re.compile(r"\]\((?!https?:)([^)#\s]*)(#[^)\s]*)?\)")
+DEFINED = [re.compile(pattern, re.M) for pattern in (
+    r"\b(?:ensures|requires|ghost) (\w+)",
+    r"\b(?:fn|struct|enum|trait|mod|const|type|macro_rules!|data|record|abbrev) (\w[\w-]*)",
+    r"^(?:(?:pub|abbrev|record|data) )*([\w-]+) :",
+    r"^\s+(?:pub )?(\w+) ?: ",
+    r"^    (\w+)(?:\(.*|,| \{)?$",
+)]
+OF_RATTLE = {
+    "usize", "None", "Ok", "Err", "From", "TryFrom", "Vec", "Debug", "true", "false", "Result", "Option", "must-fail",
+    "jiff", "Zoned", "impl", "self", "now", "gate", "old", "new", "push",
+}
+# Modules that docs/ARCHITECTURE.md need not name: roots of crates, tests, and laws, which it names once for all.
+UNNAMED = {"lib", "main", "tests", "laws"}
+
+
+def crates():
+    """Each crate with those that it stands on, by crates.txt."""
+    below = {}
+    for line in (TOP / "crates.txt").read_text().splitlines():
+        if line and not line.startswith("#"):
+            names, words = line.split(":")
+            below[names.split()[0]] = words.split()
+    return below
+
+
+def below_of(name, below):
+    found = [name]
+    for it in below.get(name, []):
+        found += [more for more in below_of(it, below) if more not in found]
+    return [it for it in found if it in below]
+
+
+def names_of(crate):
+    """What the sources and definitions of a crate define, and its files."""
+    names = set()
+    for path in (TOP / "crates" / crate).glob("s*/**/*"):
+        if path.suffix in (".rt", ".antt"):
+            names |= {path.stem, path.parent.name}
+            names |= {it for pattern in DEFINED for it in pattern.findall(path.read_text())}
+    return names
+
+
+def unknown_in_proved(page, below):
+    """The names of PROVED.md that no source defines, each with its section."""
+    every = {it for crate in below for it in names_of(crate)} | set(below) | OF_RATTLE
+    wrong = []
+    for part in re.split(r"^## ", page, flags=re.M)[1:]:
+        crate = part.splitlines()[0].strip("`")
+        own = {it for name in below_of(crate, below) for it in names_of(name)} | OF_RATTLE if crate in below else every
+        for bracket in re.findall(r"\(([^()]*)\)", part):
+            wrong += [f"{crate}: {it}" for it in words_of(bracket) if it not in own]
+        wrong += [f"{crate}: {it}" for it in words_of(part) if it not in every]
+    return wrong
+
+
+def words_of(text):
+    """The names in the code of a text. Files and numbers are none."""
+    return [word for code in CODE.findall(text) if not re.search(r"[./<>%=]|^[-\d]", code) for word in NAME.findall(code)]
+
+
+def modules(crate):
+    """The modules of a crate by their files: those that stand in `src/`, and all."""
+    source = TOP / "crates" / crate / "src"
+    return {path.stem for path in source.glob("*.rt")} - UNNAMED, {path.stem for path in source.rglob("*.rt")}
+
+
+def unknown_in_architecture(page):
+    """The modules that a crate's list names and the crate has not, or the other way round."""
+    wrong = []
+    for name, part in re.findall(r"^\*\*`(\w+)`\*\*(.*?)(?=^\*\*|^`bindings|\Z)", page, re.M | re.S):
+        told = {word for code in CODE.findall(part) for word in NAME.findall(code)}
+        first, every = modules(name)
+        wrong += [f"{name} has a module {it}, and docs/ARCHITECTURE.md does not name it" for it in sorted(first - told)]
+        listed = {word for line in re.findall(r"^- (.*?): ", part, re.M) for word in re.findall(r"`(\w+)`", line)}
+        wrong += [f"docs/ARCHITECTURE.md names {it}, and {name} has no such module"
+                  for it in sorted(listed - every)]
+    return wrong
+
+
+def anchors(page):
+    heads = re.findall(r"^#+ (.*)$", page, re.M)
+    return {re.sub(r"[^\w\- ]", "", head.lower()).replace(" ", "-") for head in heads}
+
+
+def broken_links():
+    pages = [*TOP.glob("*.md"), *TOP.glob("docs/*.md"), *TOP.glob("crates/*/README.md"), *TOP.glob("bindings/*/README.md")]
+    wrong, count = [], 0
+    for page in pages:
+        for path, anchor in LINK.findall(page.read_text()):
+            target = (page.parent / path).resolve() if path else page
+            count += 1
+            if not target.exists() or (anchor and anchor[1:] not in anchors(target.read_text())):
+                wrong.append(f"{page.relative_to(TOP)}: the link {path}{anchor} leads nowhere")
+    return wrong, count
+
+
+def main():
+    proved, architecture = (TOP / "docs/PROVED.md").read_text(), (TOP / "docs/ARCHITECTURE.md").read_text()
+    below = crates()
+    links, count = broken_links()
+    wrong = [f"docs/PROVED.md names what no source has: {it}" for it in sorted(set(unknown_in_proved(proved, below)))]
+    wrong += unknown_in_architecture(architecture) + links
+    for it in wrong:
+        print(it)
+    print(f"{len(words_of(proved))} names of docs/PROVED.md, {count} links: {'they differ' if wrong else 'each is there'}")
+    return 1 if wrong else 0
+
+
+if __name__ == "__main__":
+    sys.exit(main())
