@@ -422,6 +422,8 @@ static const struct {
         "byte 17: expected a digit from 0 to 5, since second 60 has no value" },
     { "2026-02-29T00:00:00Z", MOMENT(0, 0, 0, 0, 0, 0, 0, 0, 0, 0), { 0, 0 },
         "byte 9: expected a digit from 0 to 8", "byte 9: expected a digit from 0 to 8" },
+    { "2026-04-31T00:00:00Z", MOMENT(0, 0, 0, 0, 0, 0, 0, 0, 0, 0), { 0, 0 },
+        "byte 9: expected the digit 0", "byte 9: expected the digit 0" },
     { "1985/04-12T23:20:50Z", MOMENT(0, 0, 0, 0, 0, 0, 0, 0, 0, 0), { 0, 0 },
         "byte 4: expected `-`", "byte 4: expected `-`" },
     { "1985-04-12 23:20:50Z", MOMENT(0, 0, 0, 0, 0, 0, 0, 0, 0, 0), { 0, 0 },

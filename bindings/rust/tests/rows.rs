@@ -152,6 +152,7 @@ fn a_text_of_rfc_3339_is_read_back() {
             "1985-02-28T23:20:50.123456789x",
             "byte 29: expected `Z`, `+` or `-`",
         ),
+        ("1985-04-31T23:20:50Z", "byte 9: expected the digit 0"),
         ("1985-02-28T23:20:50ZZ", "byte 20: expected the end"),
         ("1985-02-28T23-20:50Z", "byte 13: expected `:`"),
         (
