@@ -1,6 +1,6 @@
 //! Well-known formats as parts of a text.
-use crate::texts::{assert_refused, assert_text};
-use crate::values::Value;
+use crate::format_texts::{assert_refused, assert_text};
+use crate::format_values::Value;
 use std::alloc::Global;
 use std::default::Default;
 use std::process::Abort;

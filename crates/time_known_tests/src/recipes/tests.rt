@@ -4,8 +4,8 @@ use super::{
     append_mail_date, append_milliseconds, append_stamp, append_unix_time, append_week_date,
     reason, stamp_text, write_kept,
 };
-use crate::texts::{assert_same, assert_that};
-use crate::values::moment;
+use crate::format_texts::{assert_same, assert_that};
+use crate::format_values::moment;
 use std::default::Default;
 use std::process::Abort;
 use std::test::Fail;

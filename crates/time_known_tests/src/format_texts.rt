@@ -1,5 +1,5 @@
 //! What the texts of well-known formats are compared by.
-use crate::values::{Value, date_at, moment, offset_at, time_at, timestamp_at};
+use crate::format_values::{Value, date_at, moment, offset_at, time_at, timestamp_at};
 use std::alloc::Global;
 use std::default::Default;
 use std::fmt::Debug;
