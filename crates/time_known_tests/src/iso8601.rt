@@ -86,7 +86,7 @@ fn assert_text(
     for &sign in SIGNS {
         let text = signed(rt, alloc, text, sign);
         let texts = (text.as_str(), width);
-        texts::assert_text(rt, alloc, &with_sign(format, sign), value, texts);
+        format_texts::assert_text(rt, alloc, &with_sign(format, sign), value, texts);
     }
 }
 
@@ -101,7 +101,7 @@ fn assert_rows(rt: &impl Abort, alloc: Global, rows: Rows) {
 /// Compares the refusal by either decimal sign. No byte is appended.
 fn assert_refused(rt: &impl Abort, alloc: Global, format: &Iso8601, value: Value, name: &str) {
     for &sign in SIGNS {
-        texts::assert_refused(rt, alloc, &with_sign(format, sign), value, name);
+        format_texts::assert_refused(rt, alloc, &with_sign(format, sign), value, name);
     }
 }
 
@@ -184,7 +184,7 @@ const COMMAS: Rows = rows! { Time:
 /// Compares the text by a comma.
 fn assert_comma(rt: &impl Abort, alloc: Global, format: &Iso8601, value: Value, text: &str) {
     let format = with_sign(format, DecimalSign::Comma);
-    texts::assert_text(rt, alloc, &format, value, (text, text.len()));
+    format_texts::assert_text(rt, alloc, &format, value, (text, text.len()));
 }
 
 #[test]
