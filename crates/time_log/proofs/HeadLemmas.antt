@@ -1,6 +1,6 @@
 -- The text of a second, byte by byte, and the years that have none.
-use Rattle.std.proofs.Common.{◌≡◌, ℕ, ◌+◌, ◌/◌, ◌%◌, ◌-◌, ◌*◌, ◌+ℤ◌, ◌*ℤ◌, ◌<ℤ◌, ◌<◌, ◌≤◌, List, [], ◌∷◌, ◌++◌, length, refl, sym, ◌∙◌, arith, ⊎_elim}
-use Rattle.std.proofs.Common.{ℤ, pos, negsuc, slice_index_or, ap}
+use Rattle.std.proofs.Common.{◌≡◌, ℕ, ◌+◌, ◌-◌, ◌*◌, ◌/◌, ◌%◌, ◌<◌, ◌≤◌, List, [], ◌∷◌, ◌++◌, length, slice_index_or, refl}
+use Rattle.std.proofs.Common.{sym, ap, ◌∙◌, arith, ⊎_elim, ℤ, pos, negsuc, ◌+ℤ◌, ◌*ℤ◌, ◌<ℤ◌}
 use Rattle.std.specs.Int.{int_div_euclid}
 use Rattle.std.specs.Prelude.{codes}
 use Rattle.std.proofs.lemmas.Bool.{cases_lt}
@@ -50,14 +50,16 @@ late_year b h = omega (arith, ints)
 pub far_years : (s : ℤ) → (IsTimestampSecond s → ⊥) → IsFourDigits (utc_date s).year → ⊥
 far_years (pos a) far year =
     ⊎_elim (λ (h : 31_494_784_780_799 < a).
-    let day : int_div_euclid (pos a) (pos day_seconds) +ℤ pos unix_day ≡ pos (a / 86_400 + 719_162) = omega (arith, ints) in
+    let day : int_div_euclid (pos a) (pos day_seconds) +ℤ pos unix_day ≡ pos (a / 86_400 + 719_162) =
+    omega (arith, ints) in
     let late = late_year (a / 86_400 + 719_162) (omega arith) in
     omega (arith, ints, rw (← day) at late, year.1))
     (λ (h : a ≤ 31_494_784_780_799). far (omega (arith, ints), omega (arith, ints)))
     (cases_lt 31_494_784_780_799 a)
 far_years (negsuc a) far year =
     ⊎_elim (λ (h : 31_619_087_596_799 < a).
-    let day : int_div_euclid (negsuc a) (pos day_seconds) +ℤ pos unix_day ≡ negsuc (a / 86_400 - 719_162) = omega (arith, ints) in
+    let day : int_div_euclid (negsuc a) (pos day_seconds) +ℤ pos unix_day ≡ negsuc (a / 86_400 - 719_162) =
+    omega (arith, ints) in
     let early = early_year (a / 86_400 - 719_162) (omega arith) in
     omega (arith, ints, rw (← day) at early, year.0))
     (λ (h : a ≤ 31_619_087_596_799). far (omega (arith, ints), omega (arith, ints)))

@@ -36,7 +36,8 @@ for_new s m t u second head kept settings text year same =
 -- the text by what is kept
 pub text_for : (s : LogSettings) (m : Moment) (t : Inside) (old new : List ℕ) (nanosecond : ℕ) → IsFor s m t
     → nanosecond ≡ m.nanosecond
-    → new ≡ old ++ (t.head ++ decimals nanosecond 1_000_000_000 (digits_of t.decimals) ++ offset_of_fields (codes ":") t.offset_fields)
+    → new ≡ old ++ (t.head ++ decimals nanosecond 1_000_000_000 (digits_of t.decimals)
+    ++ offset_of_fields (codes ":") t.offset_fields)
     → new ≡ old ++ log_text s m
 text_for s m t old new nanosecond h n e =
     let settings : t.decimals ≡ s.decimals = ap (λ (x : LogSettings). x.decimals) h.settings in

@@ -1,5 +1,5 @@
 -- The text of a value is spelled by RFC 3339.
-use Rattle.std.proofs.Common.{◌≡◌, ℕ, ◌+◌, ◌-◌, ◌*◌, ◌/◌, ◌%◌, ◌^◌, ◌<◌, List, ◌++◌, replicate, refl, sym, ap, ◌∙◌}
+use Rattle.std.proofs.Common.{◌≡◌, ℕ, ◌+◌, ◌-◌, ◌*◌, ◌/◌, ◌%◌, ◌^◌, ◌<◌, ◌≤◌, List, ◌++◌, replicate, refl, sym, ap, ◌∙◌}
 use Rattle.std.proofs.Common.{arith, append_assoc, inr, subst, unsigned_abs}
 use Rattle.std.specs.Prelude.{codes, true}
 use Rattle.time_digits.proofs.DigitLemmas.{fixed-append, fixed-mod, length-fixed}
@@ -47,34 +47,31 @@ no_zeros : fixed 0 0 ≡ replicate 0 48
 unfolding fixed
 no_zeros = refl
 
--- the digits after the point
+-- so many digits after the point are a fraction
+digits_after_point : (j k n m : ℕ) → 1 ≤ j → j + k ≡ 9 → m < 10 ^ 9 → m / 10 ^ k ≡ n → m % 10 ^ k ≡ 0
+    → fixed k 0 ≡ replicate k 48 → TimeSecfrac m (codes "." ++ fixed j n)
+digits_after_point j k n m some nine small front rest zeros =
+    let places : 9 - j ≡ k = omega arith in
+    record {
+      digits = fixed j n;
+      whole = refl;
+      count = rw (length-fixed j n) (some, omega arith);
+      filled = rw (length-fixed j n, places) (filled j k n m nine small front rest zeros);
+    }
+
+-- the digits of a nanosecond that is cut
 secfrac : (d : Decimals) (n : ℕ) → n < 1_000_000_000
     → TimeSecfrac (n / 10 ^ (9 - digits_of d) * 10 ^ (9 - digits_of d))
     (codes "." ++ decimals n 1_000_000_000 (digits_of d))
-secfrac Milliseconds n small = record {
-  digits = fixed 3 (n * 10 ^ 3 / 1_000_000_000);
-  whole = refl;
-  count = rw (length-fixed 3 (n * 10 ^ 3 / 1_000_000_000)) (omega arith, omega arith);
-  filled =
-      rw (length-fixed 3 (n * 10 ^ 3 / 1_000_000_000))
-      (filled 3 6 (n * 10 ^ 3 / 1_000_000_000) (n / 10 ^ 6 * 10 ^ 6) refl (omega arith) (omega arith) (omega arith) six_zeros);
-}
-secfrac Microseconds n small = record {
-  digits = fixed 6 (n * 10 ^ 6 / 1_000_000_000);
-  whole = refl;
-  count = rw (length-fixed 6 (n * 10 ^ 6 / 1_000_000_000)) (omega arith, omega arith);
-  filled =
-      rw (length-fixed 6 (n * 10 ^ 6 / 1_000_000_000))
-      (filled 6 3 (n * 10 ^ 6 / 1_000_000_000) (n / 10 ^ 3 * 10 ^ 3) refl (omega arith) (omega arith) (omega arith) three_zeros);
-}
-secfrac Nanoseconds n small = record {
-  digits = fixed 9 (n * 10 ^ 9 / 1_000_000_000);
-  whole = refl;
-  count = rw (length-fixed 9 (n * 10 ^ 9 / 1_000_000_000)) (omega arith, omega arith);
-  filled =
-      rw (length-fixed 9 (n * 10 ^ 9 / 1_000_000_000))
-      (filled 9 0 (n * 10 ^ 9 / 1_000_000_000) (n / 10 ^ 0 * 10 ^ 0) refl (omega arith) (omega arith) (omega arith) no_zeros);
-}
+secfrac Milliseconds n small =
+    digits_after_point 3 6 (n * 10 ^ 3 / 1_000_000_000) (n / 10 ^ 6 * 10 ^ 6) (omega arith) refl (omega arith)
+    (omega arith) (omega arith) six_zeros
+secfrac Microseconds n small =
+    digits_after_point 6 3 (n * 10 ^ 6 / 1_000_000_000) (n / 10 ^ 3 * 10 ^ 3) (omega arith) refl (omega arith)
+    (omega arith) (omega arith) three_zeros
+secfrac Nanoseconds n small =
+    digits_after_point 9 0 (n * 10 ^ 9 / 1_000_000_000) (n / 10 ^ 0 * 10 ^ 0) (omega arith) refl (omega arith)
+    (omega arith) (omega arith) no_zeros
 
 -- ---- offsets
 
@@ -83,7 +80,8 @@ one_signed_offset : OneValue (SignedOffset 23 ColonMinute)
 one_signed_offset = one_signed 23 ColonMinute (one_after (codes ":") (Digits 2) (reads_digits 2).same)
 
 -- an offset of at most 23 hours and no seconds is spelled by its text
-owns_offset : (o : Offset) → Owns (IsShown 23 o) (ShortOffset TimeNumoffset o) (offset_of_fields (codes ":") (offset_fields o))
+owns_offset : (o : Offset)
+    → Owns (IsShown 23 o) (ShortOffset TimeNumoffset o) (offset_of_fields (codes ":") (offset_fields o))
 owns_offset o =
     let minus : SignedOffset 23 ColonMinute utc (codes "-00:00") = zero_written true (codes ":00")
     (record { front = codes ":"; rest = codes "00"; whole = refl; first = refl; second = two_zeros }) in
@@ -120,12 +118,15 @@ spelled d v value year zone =
     let clock = clock_text (codes ":") v.time in
     let fraction = decimals v.time.nanosecond 1_000_000_000 (digits_of d) in
     let offset = offset_of_fields (codes ":") (offset_fields v.offset) in
-    let shown : IsShown 23 v.offset = record { offset = value.offset; hours = zone.0; seconds = ap unsigned_abs zone.1 } in
+    let shown : IsShown 23 v.offset =
+    record { offset = value.offset; hours = zone.0; seconds = ap unsigned_abs zone.1 } in
     let date : FullDate v.date day = subst (FullDate v.date) (date_regrouped _ _ _) ((owns_month_date (codes "-") v.date
     (owns_four v.date.year) (λ h. omega (arith, h.high))).is (value.date, year_within v.date.year year)) in
-    let time : WholeTime kept.time clock = (owns_clock (codes ":") kept.time).is (value.time.0, value.time.1, value.time.2) in
+    let time : WholeTime kept.time clock =
+    (owns_clock (codes ":") kept.time).is (value.time.0, value.time.1, value.time.2) in
     let last : (OptionalSecfrac kept.time.nanosecond ▹ TimeOffset v.offset) ((codes "." ++ fraction) ++ offset) =
-    both (codes "." ++ fraction) offset (inr (secfrac d v.time.nanosecond value.time.3)) ((owns_offset v.offset).is shown).0 in
+    both (codes "." ++ fraction) offset (inr (secfrac d v.time.nanosecond value.time.3))
+    ((owns_offset v.offset).is shown).0 in
     let whole : Rfc3339Spells kept (day ++ (codes "T" ++ (clock ++ ((codes "." ++ fraction) ++ offset)))) =
     both day (codes "T" ++ (clock ++ ((codes "." ++ fraction) ++ offset))) date
     (both (codes "T") (clock ++ ((codes "." ++ fraction) ++ offset)) refl

@@ -11,7 +11,8 @@ returns c = λ o.
     omega (arith, ints, c.unsigned_abs-year.ensures.value, date.year) in
     let below : unsigned_abs c.args.date.year < 10_000 = omega (arith, ints, c.requires.0, c.requires.1) in
     let year =
-    year_of _ _ _ _ c.pair.ensures.length c.pair.ensures.digits c.pair-2.ensures.length c.pair-2.ensures.digits same below in
+    year_of _ _ _ _ c.pair.ensures.length c.pair.ensures.digits c.pair-2.ensures.length c.pair-2.ensures.digits
+    same below in
     let month = pair_of _ _ _ (c.from.ensures.value ∙ date.month) c.pair-3.ensures.length c.pair-3.ensures.digits in
     let day = pair_of _ _ _ date.day c.pair-4.ensures.length c.pair-4.ensures.digits in
     let hour = pair_of _ _ _ time.hour c.pair-5.ensures.length c.pair-5.ensures.digits in

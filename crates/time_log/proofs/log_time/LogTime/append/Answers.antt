@@ -10,7 +10,8 @@ is_for c = elim c.if-second-self.branch [
   | then-second-self+in-Some w ↦
       for_new _ _ _ _ _ _ c.self.invariant c.self.view_is w.in-Some.ensures.head w.in-Some.ensures.some w.self-inside-is
   | else-second-self w ↦
-      let same : c.args.moment.seconds ≡ c.self.inside.second = omega (arith, ints, c.as_parts-second.ensures.seconds, w.if-second-self.false) in
+      let same : c.args.moment.seconds ≡ c.self.inside.second =
+      omega (arith, ints, c.as_parts-second.ensures.seconds, w.if-second-self.false) in
       for_same _ _ _ _ c.self.invariant c.self.view_is same w.self-inside-is
 ]
 
