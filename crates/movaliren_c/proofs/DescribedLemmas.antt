@@ -229,14 +229,20 @@ one_tree_ended : {before after : Type 0} {I : Type 0} {u : Unit} (g : I → Resu
 one_tree_ended {after = after} g items i d t old now new lost f all inside there state ends so_far =
     let same : min (lost + 0) 0xffff_ffff_ffff_ffff ≡ lost = omega (arith, so_far.small) in
     subst (λ n. SoFar after old new n f all (list_of (map g (drop (i + 1) items)))) same
-    (one_tree_more g items i d t old now new lost 0 f all inside there state
-    (sym ends.refusal, omega (arith, ends.grown, ends.within), inl (refl, record {
-      appended = ends.appended;
-      counted = refl;
-      grown = ends.grown;
-      capacity = ends.capacity;
-      lender = ends.lender;
-    })) so_far)
+    (one_tree_more g items i d t old now new lost 0 f all inside there state (
+      sym ends.refusal,
+      omega (arith, ends.grown, ends.within),
+      inl (
+        refl,
+        record {
+          appended = ends.appended;
+          counted = refl;
+          grown = ends.grown;
+          capacity = ends.capacity;
+          lender = ends.lender;
+        },
+      ),
+    ) so_far)
 
 pub one_more_ended : {before after : Type 0} {I : Type 0} {u : Unit} (g : I → Result Tree Reason) (items : List I) (i : ℕ)
     (d : I) (next : Result Tree Reason) (old now new : Buffer) (lost : ℕ) (f : Facts) (all : Result (List Tree) Reason)

@@ -236,8 +236,24 @@ fn write_usual<S: Sink, V: ComponentProvider>(
         1 => usual!(Day { padding }, output, value, state),
         2 => usual!(MonthShort { case_sensitive }, output, value, state),
         4 => usual!(MonthNumerical { padding }, output, value, state),
-        13 => usual!(CalendarYearFullExtendedRange { padding, sign_is_mandatory }, output, value, state),
-        14 => usual!(CalendarYearFullStandardRange { padding, sign_is_mandatory }, output, value, state),
+        13 => usual!(
+            CalendarYearFullExtendedRange {
+                padding,
+                sign_is_mandatory
+            },
+            output,
+            value,
+            state
+        ),
+        14 => usual!(
+            CalendarYearFullStandardRange {
+                padding,
+                sign_is_mandatory
+            },
+            output,
+            value,
+            state
+        ),
         24 => usual!(Hour24 { padding }, output, value, state),
         25 => usual!(Minute { padding }, output, value, state),
         27 => usual!(Second { padding }, output, value, state),

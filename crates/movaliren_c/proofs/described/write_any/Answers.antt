@@ -7,6 +7,8 @@ use Rattle.movaliren_c.proofs.described.write_any.Goals as goal
 pub returns-in-Ok-write_into_room-clause-ends : goal.returns-in-Ok-write_into_room-clause-ends
 returns-in-Ok-write_into_room-clause-ends g c =
     let o = tree_outcome (part_tree c.args.part) (g.V.ComponentProvider.facts c.args.value.now) in
-    let put = in_array o c.in-Ok-write_into_room.count _ _ c.in-Ok-write_into_room.ensures.written in
-    (put.0, omega (arith, put.2, c.in-Ok-write_into_room.ensures.within),
-    rw put.1 at c.write_text-in-Ok-write_into_room.ensures)
+    let put = in_array o c.in-Ok-write_into_room.count _ _ c.in-Ok-write_into_room.ensures.written in (
+      put.0,
+      omega (arith, put.2, c.in-Ok-write_into_room.ensures.within),
+      rw put.1 at c.write_text-in-Ok-write_into_room.ensures,
+    )
