@@ -1,53 +1,33 @@
-/* Refuses each allocation in turn: the call returns out of memory, the buffer is unchanged, and the
- * next call is right. No other call allocates, and each allocation is freed. */
+/* No call allocates, neither one that writes a text nor one that returns an error. */
 #include "items.h"
 
 #include <stdio.h>
 #include <stdlib.h>
 #include <string.h>
 
-/* The allocations requested so far, the one that is refused, and the allocations that are not freed yet. */
-static long asked, refused, live;
-
-/* The bytes of all requests so far. */
-static size_t bytes;
+/* The allocations requested so far. */
+static long asked;
 
 void *__real_malloc(size_t size);
 void *__real_realloc(void *pointer, size_t size);
 void *__real_calloc(size_t count, size_t size);
-void __real_free(void *pointer);
-
-static int is_given(size_t size)
-{
-    bytes += size;
-    return ++asked != refused;
-}
 
 void *__wrap_malloc(size_t size)
 {
-    void *given = is_given(size) ? __real_malloc(size) : 0;
-    live += given != 0;
-    return given;
+    asked++;
+    return __real_malloc(size);
 }
 
 void *__wrap_realloc(void *pointer, size_t size)
 {
-    void *given = is_given(size) ? __real_realloc(pointer, size) : 0;
-    live += given && !pointer;
-    return given;
+    asked++;
+    return __real_realloc(pointer, size);
 }
 
 void *__wrap_calloc(size_t count, size_t size)
 {
-    void *given = is_given(count * size) ? __real_calloc(count, size) : 0;
-    live += given != 0;
-    return given;
-}
-
-void __wrap_free(void *pointer)
-{
-    live -= pointer != 0;
-    __real_free(pointer);
+    asked++;
+    return __real_calloc(count, size);
 }
 
 enum { ROOM = 300, CALLS = 44 };
@@ -133,63 +113,51 @@ static ptrdiff_t call(int which, uint8_t *room)
     }
 }
 
-/* Whether the call handles each refused allocation, allocates no more than its width, and frees all of it. */
-static int is_refused_well(int which, long most, size_t width)
+/* Whether the call writes its text and allocates nothing. */
+static int allocates_nothing(int which)
 {
-    static uint8_t right[ROOM], room[ROOM], as_it_was[ROOM];
-    memset(right, '#', ROOM), memset(as_it_was, '#', ROOM);
-    asked = refused = 0, bytes = 0;
-    const ptrdiff_t count = call(which, right);
+    static uint8_t room[ROOM];
+    asked = 0;
+    const ptrdiff_t count = call(which, room);
     const long requests = asked;
-    int is_well = count > 0 && requests == most && bytes == width;
-    for (long request = 1; request <= requests; request++) {
-        memset(room, '#', ROOM);
-        asked = 0, refused = request;
-        is_well &= call(which, room) == MOVALIREN_ERROR_OUT_OF_MEMORY;
-        is_well &= !memcmp(room, as_it_was, ROOM);
-        asked = refused = 0;
-        is_well &= call(which, room) == count && !memcmp(room, right, ROOM);
-    }
-    is_well &= !live;
-    if (!is_well)
+    if (count <= 0 || requests)
         printf("call %d returns %td and allocates %ld times\n", which, count, requests);
-    return is_well;
+    return count > 0 && !requests;
 }
 
-/* Whether all is freed after a buffer that is too short, and after a component that is refused after some bytes. */
-static int is_freed_after_errors(void)
+/* Whether nothing is allocated for a buffer that is too short, and for a component that is refused after some bytes. */
+static int do_errors_allocate_nothing(void)
 {
     static const struct movaliren_item day_and_hour[]
         = { { .kind = MOVALIREN_DAY }, { .kind = MOVALIREN_HOUR } };
     const void *dash = "-";
     char three[3], wide[ROOM];
     void *few = three, *enough = wide;
-    return movaliren_format(items, 5, dash, 1, &moment, few, 3) == MOVALIREN_ERROR_NO_ROOM && !live
+    asked = 0;
+    return movaliren_format(items, 5, dash, 1, &moment, few, 3) == MOVALIREN_ERROR_NO_ROOM
         && movaliren_format_date(day_and_hour, 2, dash, 1, 2026, 1, 1, enough, ROOM)
-        == MOVALIREN_ERROR_INSUFFICIENT && !live;
+        == MOVALIREN_ERROR_INSUFFICIENT && !asked;
 }
 
-enum { MOST = 1 << 20, MAY = 3, MONTH_WIDTH = 9, LITERAL = 65535, ARRAY = 128 };
+enum { MOST = 1 << 20, MAY = 3 };
 
 static uint8_t letters[MOST], text_room[2 * MOST + 1];
 
 /* Whether a text of so many letters, and the name of May or its number after it, is written to a buffer of so many
- * bytes, or refused. Usual items allocate where the literal is long, or where the width is above the bytes of the buffer
- * and of an array. Others always do, and all once, as many bytes as the width. */
+ * bytes, or refused, without an allocation. */
 static int is_written_to(size_t len, size_t room_len, int is_usual)
 {
     static const char names[2][MAY + 1] = { "May", "05" };
     const struct movaliren_item sized[]
         = { TEXT(0, len), { .kind = is_usual ? MOVALIREN_MONTH : MOVALIREN_MONTH_LONG } };
     const char *name = names[is_usual];
-    const size_t name_len = strlen(name), width = len + (is_usual ? name_len : MONTH_WIDTH);
+    const size_t name_len = strlen(name);
     const int is_held = len + name_len <= room_len;
-    const int is_short = is_usual && len <= LITERAL && (width <= room_len || width <= ARRAY);
     const struct movaliren_moment may = { .year = 2026, .month = 5, .day = 1 };
     memset(text_room, '#', room_len + 1);
-    asked = 0, bytes = 0;
+    asked = 0;
     const ptrdiff_t count = movaliren_format(sized, 2, letters, len, &may, text_room, room_len);
-    int is_well = asked == !is_short && bytes == (is_short ? 0 : width) && !live;
+    int is_well = !asked;
     if (is_held)
         is_well &= count == (ptrdiff_t)(len + name_len) && !memcmp(text_room, letters, len)
             && !memcmp(text_room + len, name, name_len) && text_room[len + name_len] == '#';
@@ -219,12 +187,9 @@ static int are_sizes_written(void)
 int main(void)
 {
     int wrong = 0;
-    static uint8_t unused[ROOM];
-    const size_t width = (size_t)call(3, unused);
     for (int which = 0; which < CALLS; which++)
-        wrong += !is_refused_well(which, which < 3, which < 3 ? width : 0);
-    refused = 0;
-    wrong += !is_freed_after_errors();
+        wrong += !allocates_nothing(which);
+    wrong += !do_errors_allocate_nothing();
     wrong += !are_sizes_written();
     printf("memory: %d wrong\n", wrong);
     return wrong != 0;

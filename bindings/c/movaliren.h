@@ -14,21 +14,8 @@
  * in range. A call reads its arguments, keeps nothing and prints nothing. Threads may call at the same
  * time without a lock.
  *
- * Only movaliren_format, movaliren_format_utc, movaliren_format_local and movaliren_format_date allocate: at
- * most once, the bytes of the description's width, freed before they return. They allocate nothing for at
- * most 65535 usual items, a year of 0 to 9999, and a width of at most 128 bytes or those of the buffer. Usual items are
- * texts of at most 65535 bytes, and DAY, MONTH, MONTH_SHORT, YEAR, YEAR_EXTENDED, HOUR, MINUTE, SECOND
- * and OFFSET_MINUTE by zeros alone for padding, flag and digits, SUBSECOND by 3, 6 or 9 digits, and
- * OFFSET_HOUR by the flag. For movaliren_format_date those of a time or an offset are not usual. A call
- * that may allocate may not be made from a signal handler, nor in the forked child of a process with
- * threads. They allocate through two symbols, which the library defines
- * by malloc and free. A program that links the static library may define both itself. is_there is 1, or 0 if out of
- * memory, and block is never null:
- *
- *     struct { uint64_t is_there; void *block; } rattle_alloc(size_t size, size_t alignment);
- *     void rattle_dealloc(void *block);
- *
- * A program that makes none of these four calls needs neither symbol if it links by -Wl,--gc-sections.
+ * No call allocates, so each may be made from a signal handler, and in the forked child of a process with
+ * threads.
  *
  * Pointers must not be null, also where a length is 0: pass "". Each length must be that of its array,
  * and below PTRDIFF_MAX. The buffer must not overlap anything else that the call is given. All fields must

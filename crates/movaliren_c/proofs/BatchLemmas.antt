@@ -75,7 +75,7 @@ ended_text (Ok o) n e most room mid fits inside h behind_it =
 ended_text (Err r) n e most room mid fits inside h behind_it = absurd (let same = h.0 in cc)
 
 -- what is refused first is refused of both
-refused_first : (a b : Outcome) (r : Reason) → IsRefusedFor r a → IsRefusedFor r (join a b)
+pub refused_first : (a b : Outcome) (r : Reason) → IsRefusedFor r a → IsRefusedFor r (join a b)
 refused_first a b r h =
     let some = some_of _ a.refusal h in
     rw (join_refused a b some.0 some.1) h

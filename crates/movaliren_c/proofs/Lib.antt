@@ -5,5 +5,4 @@ pub mod DescribedLemmas
 pub mod MeaningLemmas
 pub mod NumberLemmas
 pub mod ReadLemmas
-pub mod ShortLineLemmas
 pub mod SinkLemmas

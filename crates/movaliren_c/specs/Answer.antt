@@ -101,10 +101,3 @@ IsText asked answer before after =
 -- the number is that of such a result
 abbrev pub IsAnswer : Result Outcome Reason → ℤ → List ℕ → List ℕ → Type 0
 IsAnswer asked number before after = Answers number (λ answer. IsText asked answer before after)
-
--- the text of an outcome is written; or the reason for no text, or out of memory, is returned, and the buffer is
--- unchanged
-abbrev pub IsTextInMemory : Result Outcome Reason → Result ℕ Reason → List ℕ → List ℕ → Type 0
-IsTextInMemory asked answer before after =
-    MatchResult asked (λ o. ((answer ≡ Err reason.OutOfMemory) × (after ≡ before)) ⊎ IsWritten answer o before after)
-    (λ r. (answer ≡ Err r) × (after ≡ before))

@@ -1,10 +1,8 @@
 -- What a description that crosses as data means: a tree for each item, or the reason why there is
 -- none.
-use Rattle.std.specs.Global.{Global}
-use Rattle.std.specs.Prelude.{ℕ, ◌≡◌, ◌≢◌, ◌≤◌, min, max, ◌+◌, ◌-◌, Bool, true, ◌==◌, ◌&&◌, nat_le, nat_lt, List, [], ◌∷◌, map, length}
-use Rattle.std.specs.Prelude.{slice_range, Result, Ok, Err, IfOk, IsOkAnd, Vec, if◌then◌else◌}
-use Rattle.movaliren_c.specs.Answer.{IsText, IsTextInMemory, gives}
-use Rattle.movaliren_c.specs.ShortLine.{AreUsual, HasShortYear}
+use Rattle.std.specs.Prelude.{ℕ, ◌≡◌, ◌≢◌, ◌<◌, ◌≤◌, ◌⊎◌, ◌++◌, min, ◌+◌, ◌-◌, Bool, true, ◌==◌, ◌&&◌, nat_le, nat_lt, List, [], ◌∷◌, map, length, drop, None}
+use Rattle.std.specs.Prelude.{slice_range, Result, Ok, Err, IfOk, IsErr, IsOkAnd, if◌then◌else◌}
+use Rattle.movaliren_c.specs.Answer.{IsRefusedFor, IsText, gives}
 use Rattle.movaliren_c.specs.Value.{flag_at, numbered, with_value}
 use Rattle.movaliren_c.specs.declared.item.Item.{Item}
 use Rattle.movaliren_c.specs.declared.item.Part.{Part}
@@ -13,17 +11,18 @@ use Rattle.movaliren_c.specs.declared.reason.Reason.{Reason}
 use Rattle.movaliren_c.specs.declared.reason.Reason.TheVariants as reason
 use Rattle.time_below.specs.Facts.{Facts}
 use Rattle.time_below.specs.Tree.{Tree, trees, byte_literal, of_component}
-use Rattle.time_below.specs.Width.{trees_width}
+use Rattle.time_below.specs.Width.{tree_width, trees_width}
 use Rattle.time_below.specs.declared.format_description.component.Component.{Component}
 use Rattle.time_below.specs.declared.format_description.component.Component.TheVariants as component
 use Rattle.time_below.specs.declared.format_description.modifier.Padding.{Padding}
 use Rattle.time_below.specs.declared.format_description.modifier.Padding.TheVariants as padding
 use Rattle.time_below.specs.declared.format_description.modifier.SubsecondDigits.{SubsecondDigits}
 use Rattle.time_below.specs.declared.format_description.modifier.SubsecondDigits.TheVariants as digits
-use Rattle.time_fmt.specs.Description.{trees_outcome}
-use Rattle.time_fmt.specs.Outcome.{Appends, Outcome}
-use Rattle.time_fmt.specs.Room.{HasRoom}
-use Rattle.time_fmt.specs.declared.error.Format.{Format}
+use Rattle.time_fmt.specs.Description.{tree_outcome, trees_outcome}
+use Rattle.time_fmt.specs.Ends.{Ends}
+use Rattle.time_fmt.specs.Outcome.{Outcome}
+use Rattle.time_fmt.specs.Sink.{Buffer, Puts}
+use Rattle.time_fmt.specs.declared.refused.Refused.{Refused}
 
 abbrev pub padding_at : ℕ → Result Padding Reason
 padding_at n = numbered 0 (padding.Zero ∷ padding.Space ∷ padding.None ∷ []) reason.BadItem n
@@ -128,48 +127,74 @@ abbrev pub described : {V : Type 0} → Result (List Tree) Reason → Result V R
 described description value facts = with_value description (λ ts. gives value (λ v. trees_outcome
     (trees ts) (facts v)))
 
--- the width of a description after so many bytes, up to the greatest `isize`, or the reason why there is no
--- description
-abbrev pub width_after : ℕ → Result (List Tree) Reason → Result ℕ Reason
-width_after before description = with_value description (λ ts. Ok (min (before + trees_width (trees
-    ts)) 0x7fff_ffff_ffff_ffff))
-
--- the width of a description, or the reason
+-- the width of a description, up to the greatest `isize`, or the reason why there is no description
 abbrev pub width_answer : Result (List Tree) Reason → Result ℕ Reason
-width_answer description = width_after 0 description
+width_answer description = with_value description (λ ts. Ok (min (trees_width (trees ts)) 0x7fff_ffff_ffff_ffff))
 
 -- A text has no more bytes than the width, and a buffer of so many bytes is large enough.
 pub record IsWithinWidth (width room : ℕ) (answer : Result ℕ Reason) : Type 0 where
   pub within : IfOk answer (λ count. count ≤ width)
   pub fits : width ≤ room → answer ≢ Err reason.NoRoom
 
--- Usual items of a value with a time of day and an offset, or without, a year of four digits without a sign, and a width
--- of at most 128 bytes or those of the buffer.
-pub record IsShort {V : Type 0} (has_time : Bool) (texts : List ℕ) (items : List Item) (value : Result V Reason)
-    (facts : V → Facts) (room : ℕ) : Type 0 where
-  pub usual : AreUsual has_time items
-  pub year : IfOk value (λ v. HasShortYear (facts v))
-  pub width : IfOk (width_answer (trees_of texts items)) (λ width. width ≤ max room 128)
-
 -- The text of a description is written, or the reason for no text is returned and the buffer is unchanged. Where there
--- is a value, its text is within the description's width. No memory is needed where the width is 0, nor for a short text
--- of usual items.
-pub record IsDescribed {V : Type 0} (has_time : Bool) (texts : List ℕ) (items : List Item) (value : Result V Reason)
-    (facts : V → Facts) (answer : Result ℕ Reason) (before after : List ℕ) : Type 0 where
-  pub text : IsTextInMemory (described (trees_of texts items) value facts) answer before after
-  pub within : IfOk value (λ _. IfOk (width_answer (trees_of texts items)) (λ width. IsWithinWidth width (length before)
+-- is a value, its text is within the description's width.
+pub record IsDescribed {V : Type 0} (texts : List ℕ) (items : List Item) (value : Result V Reason) (facts : V → Facts)
+    (answer : Result ℕ Reason) (before after : List ℕ) : Type 0 where
+  pub text : IsText (described (trees_of texts items) value facts) answer before after
+  pub within : IfOk value (λ _. IfOk (trees_of texts items) (λ ts. IsWithinWidth (trees_width (trees ts)) (length before)
       answer))
-  pub nothing_needed : width_answer (trees_of texts items) ≡ Ok 0
-      → IsText (described (trees_of texts items) value facts) answer before after
-  pub short : IsShort has_time texts items value facts (length before)
-      → IsText (described (trees_of texts items) value facts) answer before after
 
--- the description is valid, and the vector has capacity for its texts
-abbrev pub HasRoomFor : Vec ℕ Global → Result (List Tree) Reason → Type 0
-HasRoomFor output description = IsOkAnd description (λ ts. HasRoom output (trees_width (trees ts)))
+-- ---- a text that may not fit
 
--- what the description gives for these facts was appended
-abbrev pub IsAppended : Vec ℕ Global → Vec ℕ Global → Result ℕ Format → Result (List Tree) Reason
-    → Facts → Type 0
-IsAppended old new answer description f =
-    IsOkAnd description (λ ts. Appends old new answer (trees_outcome (trees ts) f))
+-- the reason why there is no description, or else this one
+abbrev pub reason_before : Result (List Tree) Reason → Reason → Reason
+reason_before (Ok ts) r = r
+reason_before (Err invalid) r = invalid
+
+-- a text is put, or its number of bytes is returned, which are too many
+abbrev pub FitsOrIsLost : Buffer → Buffer → ℕ → List ℕ → Type 0
+FitsOrIsLost old new lost text = ((lost ≡ 0) × Puts old new (length text) text)
+    ⊎ ((lost ≡ length text) × (0 < lost) × (old.capacity < old.len + lost) × (new ≡ old))
+
+-- so is the text of an outcome that is completed and within a width
+abbrev pub EndsOrIsLost : ℕ → Buffer → Buffer → Result ℕ Reason → Outcome → Type 0
+EndsOrIsLost width old new (Ok lost) o = (o.refusal ≡ None) × (length o.bytes ≤ width) × FitsOrIsLost old new lost o.bytes
+EndsOrIsLost width old new (Err r) o = IsRefusedFor r o
+
+-- an item that is there ended so
+abbrev pub EndsItem : Result Tree Reason → Facts → Buffer → Buffer → Result Unit Refused → Type 0
+EndsItem item f old new answer = IsOkAnd item (λ t. Ends (tree_width t) old new answer (tree_outcome t f))
+
+-- an item is put or lost, is refused, or is not there
+abbrev pub ItemEndsOrIsLost : Result Tree Reason → Facts → Buffer → Buffer → Result ℕ Reason → Type 0
+ItemEndsOrIsLost (Ok t) f old new answer = EndsOrIsLost (tree_width t) old new answer (tree_outcome t f)
+ItemEndsOrIsLost (Err invalid) f old new answer = IsErr answer
+
+-- An outcome is completed and within a width. All of it was put into an empty buffer, or it is longer than the capacity,
+-- and has so many bytes more than the buffer.
+pub record PutsOrLoses (width : ℕ) (old new : Buffer) (lost : ℕ) (o : Outcome) : Type 0 where
+  pub completed : o.refusal ≡ None
+  pub within : length o.bytes ≤ width
+  pub counted : min (new.len + lost) 0xffff_ffff_ffff_ffff ≡ min (length o.bytes) 0xffff_ffff_ffff_ffff
+  pub written : lost ≡ 0 → (new.bytes ≡ o.bytes) × (new.len ≡ length o.bytes)
+  pub longer : 0 < lost → old.capacity < length o.bytes
+
+-- so was what a description gives for these facts, or this is the reason why there is none
+abbrev pub IsPut : Result (List Tree) Reason → Facts → Result ℕ Reason → Buffer → Buffer → Type 0
+IsPut (Ok ts) f (Ok lost) old new = PutsOrLoses (trees_width (trees ts)) old new lost (trees_outcome (trees ts) f)
+IsPut (Ok ts) f (Err r) old new = IsRefusedFor r (trees_outcome (trees ts) f)
+IsPut (Err invalid) f answer old new = answer ≡ Err invalid
+
+-- an outcome is completed, is within a width and has so many bytes, which are at the start of a buffer that holds them
+pub record Shows (o : Outcome) (width count : ℕ) (before after : List ℕ) : Type 0 where
+  pub completed : o.refusal ≡ None
+  pub within : length o.bytes ≤ width
+  pub counted : count ≡ min (length o.bytes) 0xffff_ffff_ffff_ffff
+  pub written : length o.bytes ≤ length before → after ≡ o.bytes ++ drop (length o.bytes) before
+
+-- a description shows these facts, or this is why not
+abbrev pub IsShown : Result (List Tree) Reason → Facts → Result ℕ Reason → List ℕ → List ℕ → Type 0
+IsShown (Ok ts) f (Ok count) before after =
+    Shows (trees_outcome (trees ts) f) (trees_width (trees ts)) count before after
+IsShown (Ok ts) f (Err r) before after = IsRefusedFor r (trees_outcome (trees ts) f)
+IsShown (Err invalid) f answer before after = answer ≡ Err invalid

@@ -1,70 +1,76 @@
-//! Descriptions that cross as data.
-ghost use Rattle.std.specs.List.{All};
-ghost use Rattle.std.specs.Prelude.{◌≡◌, ◌+◌, ◌≤◌, IfNone, IfSome, IsTrue, MatchOption, Ok, drop, false, length, max, true, vec_len};
-ghost use Rattle.movaliren_c.specs.Answer.{Answers, IsText, IsTextInMemory};
-ghost use Rattle.movaliren_c.specs.Items.{HasRoomFor, IsAppended, IsDescribed, IsWithinWidth, described, part_tree, trees_of, width_after, width_answer};
-ghost use Rattle.movaliren_c.specs.ShortLine.{HasShortYear, is_usual};
+//! Descriptions that cross as data, whose texts allocate nothing.
+ghost use Rattle.std.specs.Prelude.{◌≡◌, IfOk, MatchOption, []};
+ghost use Rattle.movaliren_c.specs.Answer.{Answers};
+ghost use Rattle.movaliren_c.specs.Items.{EndsItem, EndsOrIsLost, FitsOrIsLost, IsDescribed, IsPut, IsShown, ItemEndsOrIsLost, item_tree, part_tree, reason_before, trees_of, width_answer};
 ghost use Rattle.movaliren_c.specs.Value.{date_value, moment_value, timestamp_value};
-ghost use Rattle.time_below.specs.Facts.{facts_of_date, facts_of_offset_date_time, facts_of_timestamp};
-ghost use Rattle.time_below.specs.Width.{tree_width, is_guaranteed_text};
+ghost use Rattle.time_below.specs.Facts.{Facts, facts_of_date, facts_of_offset_date_time, facts_of_timestamp};
+ghost use Rattle.time_below.specs.Width.{tree_width};
 ghost use Rattle.time_fmt.specs.Description.{tree_outcome};
-ghost use Rattle.time_fmt.specs.Guarantee.{IsTextIf};
-ghost use Rattle.time_fmt.specs.Outcome.{Appends};
-ghost use Rattle.time_fmt.specs.Room.{HasRoom};
 
 use crate::calendar_date::CalendarDate;
-use crate::described_value::DescribedValue;
 use crate::item::{Item, Part, part_of};
-use crate::moment::{Moment, moment_value, timestamp_value};
+use crate::moment::{Moment, timestamp_value};
 use crate::reason::{Reason, answer_number, reason_of};
 use crate::room::copy_text;
-use crate::short_line::{LONGEST_COPY, UsualStart, has_short_year, usual_start, write_line};
-use std::alloc::Global;
+use crate::source::{ByParts, provided};
 use std::default::Default;
-use time_below::format_description::component_width;
+use std::marker::Brand;
+use time_below::Date;
+use time_below::format_description::modifier::Padding;
+use time_below::format_description::{component_width, modifier};
 use time_fmt::writers::write_bytes;
-use time_fmt::{Format, component_write_into};
+use time_fmt::{Before, Refused, RoomSink, Sink, end_component, write_into_room, write_part};
 use time_provide::ComponentProvider;
 
 // The greatest width that is returned. No buffer is so long.
 const GREATEST_WIDTH: usize = 0x7fff_ffff_ffff_ffff;
 
+// The most bytes of a text that is written once, to an array, and copied.
+const SHORT: usize = 128;
+
+// The most bytes of a component.
+const LONGEST: usize = 18;
+
+/// Writes a component with these choices.
+macro_rules! usual {
+    ($name:ident { $($choice:ident),+ }, $output:ident, $value:ident, $state:ident) => {
+        Some(write_part(modifier::$name { $($choice),+ }, $output, $value, $state))
+    };
+}
+
 /// The text of a local date and time with its offset.
 #[unsafe(no_mangle)]
 pub extern "C" fn movaliren_format(
-    alloc: Global,
     items: &[Item],
     texts: &[u8],
     moment: &Moment,
     room: &mut [u8],
 ) -> isize
-    ensures { Answers result (λ answer. IsDescribed true texts.now items.now
+    ensures { Answers result (λ answer. IsDescribed texts.now items.now
         (moment_value moment.now) facts_of_offset_date_time answer room.old room.new) }
 {
-    answer_number(write_value_described(alloc, items, texts, moment_value(moment), room))
+    answer_number(write_described(items, texts, provided(ByParts, moment), room))
 }
 
 /// The text of a moment in UTC.
 #[unsafe(no_mangle)]
 pub extern "C" fn movaliren_format_utc(
-    alloc: Global,
     items: &[Item],
     texts: &[u8],
     seconds: i64,
     nanosecond: u32,
     room: &mut [u8],
 ) -> isize
-    ensures { Answers result (λ answer. IsDescribed true texts.now items.now
+    ensures { Answers result (λ answer. IsDescribed texts.now items.now
         (timestamp_value seconds nanosecond) facts_of_timestamp answer room.old room.new) }
 {
     let value = timestamp_value(seconds, nanosecond);
-    answer_number(write_value_described(alloc, items, texts, value, room))
+    answer_number(write_described(items, texts, value, room))
 }
 
 /// The text of a date.
 #[unsafe(no_mangle)]
 pub extern "C" fn movaliren_format_date(
-    alloc: Global,
     items: &[Item],
     texts: &[u8],
     year: i32,
@@ -72,11 +78,10 @@ pub extern "C" fn movaliren_format_date(
     day: u8,
     room: &mut [u8],
 ) -> isize
-    ensures { Answers result (λ answer. IsDescribed false texts.now items.now
+    ensures { Answers result (λ answer. IsDescribed texts.now items.now
         (date_value year month day) facts_of_date answer room.old room.new) }
 {
-    let value = CalendarDate::new(year, month, day);
-    answer_number(write_value_described(alloc, items, texts, value, room))
+    answer_number(write_described(items, texts, provided_date(year, month, day), room))
 }
 
 /// The most bytes that a text of the description has, up to the greatest `isize`.
@@ -84,122 +89,254 @@ pub extern "C" fn movaliren_format_date(
 pub extern "C" fn movaliren_width(items: &[Item], texts: &[u8]) -> isize
     ensures { Answers result (λ answer. answer ≡ width_answer (trees_of texts.now items.now)) }
 {
-    answer_number(width(items, texts, usual_start(items, texts, true)))
+    answer_number(width(items, texts))
 }
 
-/// Writes the text of the value by the description, if there are both.
-pub fn write_value_described<V: ComponentProvider + Drop, T: DescribedValue<V> + Drop>(
-    alloc: Global,
-    items: &[Item],
-    texts: &[u8],
-    value: Result<T, Reason>,
-    room: &mut [u8],
-) -> Result<usize, Reason>
-where
-    V::State: Drop,
-    ensures { IsDescribed T.HAS_TIME texts.now items.now value T.facts result room.old room.new }
+/// The date of these parts, or the first part that is outside its range.
+fn provided_date(year: i32, month: u8, day: u8) -> Result<Date, Reason>
+    ensures { result ≡ date_value year month day }
 {
-    let start = usual_start(items, texts, T::HAS_TIME);
-    match width(items, texts, start) {
-        Ok(width) => match value {
-            Ok(value) => {
-                if start.count == items.len() {
-                    if let Some(answer) = write_usual::<V, T>(items, texts, width, &value, room) {
-                        return answer;
-                    }
-                }
-                write_description(alloc, items, texts, width, &value.provided(), room)
-            }
-            Err(reason) => Err(reason),
-        },
+    match CalendarDate::new(year, month, day) {
+        Ok(value) => Ok(value.date()),
         Err(reason) => Err(reason),
     }
 }
 
-/// Writes the text of the value by usual items, which allocates nothing. Writes nothing if the year has
-/// a sign or more than four digits, or if the text is long and may not fit. Within its caller it costs 13 to
-/// 24 instructions more.
-#[inline(always)]
-fn write_usual<V: ComponentProvider, T: DescribedValue<V>>(
+/// Writes the text of the value by the description, if there are both. The text is written to an array
+/// first, so that the buffer is as it was where there is no text. A longer text is written again, once
+/// it is known that it is complete and fits.
+pub fn write_described<V: ComponentProvider + Drop>(
     items: &[Item],
     texts: &[u8],
-    width: usize,
-    value: &T,
+    value: Result<V, Reason>,
     room: &mut [u8],
-) -> Option<Result<usize, Reason>>
-    requires usual { All (λ item. IsTrue (is_usual T.HAS_TIME item)) items.now }
-    requires width { width_answer (trees_of texts.now items.now) ≡ Ok width }
-    requires short { width ≤ 0xffff_ffff }
-    ensures text { MatchOption result (room.new ≡ room.old) (λ answer. IsText
-        (described (trees_of texts.now items.now) (Ok value.now) T.facts)
-        answer room.old room.new) }
-    ensures within { IfSome result (λ answer. IsWithinWidth width (length room.old) answer) }
-    ensures complete { IfNone result (HasShortYear (T.facts value.now)
-        → width ≤ max (length room.old) 128 → width ≡ 0) }
+) -> Result<usize, Reason>
+where
+    V::State: Drop,
+    ensures { IsDescribed texts.now items.now value V.facts result room.old room.new }
 {
-    if width == 0 || width > room.len().max(LONGEST_COPY) {
-        return None;
+    let value = match value {
+        Ok(value) => value,
+        Err(reason) => return Err(first_reason(items, texts, reason)),
+    };
+    let mut line = [0u8; SHORT];
+    match write_items::<Brand, V>(items, texts, &value, &mut line) {
+        Ok(count) if count <= SHORT => copy_text(&line[..count], room),
+        Ok(count) if count <= room.len() => write_items::<Brand, V>(items, texts, &value, room),
+        Ok(_) => Err(Reason::NoRoom),
+        Err(reason) => Err(reason),
     }
-    let local = value.local();
-    if !has_short_year(&local) {
-        return None;
-    }
-    Some(write_line(items, texts, width, &local, room))
 }
 
-/// Writes the text of the value by a description of this width.
-fn write_description<V: ComponentProvider>(
-    alloc: Global,
+/// The reason of the first invalid item, or else this one.
+#[cold]
+#[inline(never)]
+fn first_reason(items: &[Item], texts: &[u8], reason: Reason) -> Reason
+    ensures { result ≡ reason_before (trees_of texts.now items.now) reason }
+{
+    match width(items, texts) {
+        Ok(_) => reason,
+        Err(invalid) => invalid,
+    }
+}
+
+/// Writes the text of the items to the start of a buffer, or as much of it as fits. Returns the number of
+/// bytes of the whole text, up to the greatest `usize`.
+#[tactic(auto, using(time_fmt::proofs::RoomLemmas::room_written, crate::proofs::DescribedLemmas::put_shown))]
+fn write_items<B: Before, V: ComponentProvider>(
     items: &[Item],
     texts: &[u8],
-    width: usize,
     value: &V,
     room: &mut [u8],
 ) -> Result<usize, Reason>
 where
     V::State: Drop,
-    requires width { width_answer (trees_of texts.now items.now) ≡ Ok width }
-    ensures text { IsTextInMemory (described (trees_of texts.now items.now) (Ok value.now) V.facts)
-        result room.old room.new }
-    ensures within { IsWithinWidth width (length room.old) result }
-    ensures nothing_needed { width ≡ 0
-        → IsText (described (trees_of texts.now items.now) (Ok value.now) V.facts)
-        result room.old room.new }
+    requires before { room.old ≡ B.before }
+    ensures { IsShown (trees_of texts.now items.now) (V.facts value.now) result room.old room.new }
 {
-    if width == GREATEST_WIDTH {
-        return Err(Reason::OutOfMemory);
+    let mut output = RoomSink::<B>::new(room);
+    match put_items(items, texts, &mut output, value) {
+        Ok(lost) => Ok(output.len().saturating_add(lost)),
+        Err(reason) => Err(reason),
     }
-    let Ok(mut line) = Vec::with_capacity(alloc, width) else {
-        return Err(Reason::OutOfMemory);
+}
+
+/// Writes the texts of the items into an empty sink, but for those that do not fit. Returns their number
+/// of bytes, up to the greatest `usize`.
+#[inline(always)]
+fn put_items<S: Sink, V: ComponentProvider>(
+    items: &[Item],
+    texts: &[u8],
+    output: &mut S,
+    value: &V,
+) -> Result<usize, Reason>
+where
+    V::State: Drop,
+    requires empty { (S.buffer output.old).bytes ≡ [] }
+    requires len { (S.buffer output.old).len ≡ 0 }
+    ensures puts { IsPut (trees_of texts.now items.now) (V.facts value.now) result
+        (S.buffer output.old) (S.buffer output.new) }
+    ensures lender { IfOk result (λ _. (S.buffer output.new).lender ≡ (S.buffer output.old).lender) }
+{
+    let mut state = Default::default();
+    let mut lost = 0usize;
+    for item in items {
+        match write_usual(item, texts, output, value, &mut state) {
+            Some(Ok(())) => {}
+            Some(Err(refused)) => return Err(first_reason(items, texts, reason_of(refused.into()))),
+            None => {
+                let mut apart = output.take_out();
+                let answer = write_item(item, texts, &mut apart, value, &mut state);
+                output.put_back(apart);
+                match answer {
+                    Ok(more) => lost = lost.saturating_add(more),
+                    Err(reason) => return Err(first_reason(items, texts, reason)),
+                }
+            }
+        }
+    }
+    Ok(lost)
+}
+
+/// Writes an item as most texts have it, if any text of it fits, and returns its refusal, if it is refused.
+/// Of any other writes nothing, and returns `None`. It becomes part of the loop, where the choices are
+/// constants.
+#[inline(always)]
+#[tactic(auto, using(crate::proofs::DescribedLemmas::component_fits), unfolding(crate::specs::Items::component_of, crate::specs::Items::date_component, crate::specs::Items::year_component, crate::specs::Items::time_component))]
+fn write_usual<S: Sink, V: ComponentProvider>(
+    item: &Item,
+    texts: &[u8],
+    output: &mut S,
+    value: &V,
+    state: &mut V::State,
+) -> Option<Result<(), Refused>>
+    requires agrees { V.agrees state.old value.now }
+    ensures writes { MatchOption result (S.buffer output.new ≡ S.buffer output.old)
+        (λ answer. EndsItem (item_tree texts.now item.now) (V.facts value.now)
+        (S.buffer output.old) (S.buffer output.new) answer) }
+    ensures agrees { V.agrees state.new value.now }
+{
+    if item.kind == 255 {
+        return write_literal(item, texts, output);
+    }
+    if item.padding != 0 || item.flag != 0 || item.digits != 0 || output.room() < LONGEST {
+        return None;
+    }
+    let (padding, sign_is_mandatory, case_sensitive) = (Padding::Zero, false, true);
+    match item.kind {
+        1 => usual!(Day { padding }, output, value, state),
+        2 => usual!(MonthShort { case_sensitive }, output, value, state),
+        4 => usual!(MonthNumerical { padding }, output, value, state),
+        13 => usual!(
+            CalendarYearFullExtendedRange {
+                padding,
+                sign_is_mandatory
+            },
+            output,
+            value,
+            state
+        ),
+        14 => usual!(
+            CalendarYearFullStandardRange {
+                padding,
+                sign_is_mandatory
+            },
+            output,
+            value,
+            state
+        ),
+        24 => usual!(Hour24 { padding }, output, value, state),
+        25 => usual!(Minute { padding }, output, value, state),
+        27 => usual!(Second { padding }, output, value, state),
+        30 => usual!(OffsetMinute { padding }, output, value, state),
+        _ => None,
+    }
+}
+
+/// Writes a literal if it fits, or else nothing.
+#[inline(always)]
+fn write_literal<S: Sink>(item: &Item, texts: &[u8], output: &mut S) -> Option<Result<(), Refused>>
+    ensures { MatchOption result (S.buffer output.new ≡ S.buffer output.old)
+        (λ answer. (f : Facts) → EndsItem (item_tree texts.now item.now) f
+        (S.buffer output.old) (S.buffer output.new) answer) }
+{
+    match part_of(item, texts) {
+        Ok(Part::Text(text)) if text.len() <= output.room() => {
+            write_bytes(output, text);
+            Some(Ok(()))
+        }
+        _ => None,
+    }
+}
+
+/// Writes any item if its text fits, and returns the number of bytes that are lost if it does not.
+#[inline(never)]
+fn write_item<S: Sink, V: ComponentProvider>(
+    item: &Item,
+    texts: &[u8],
+    output: &mut S,
+    value: &V,
+    state: &mut V::State,
+) -> Result<usize, Reason>
+    requires agrees { V.agrees state.old value.now }
+    ensures ends { ItemEndsOrIsLost (item_tree texts.now item.now) (V.facts value.now)
+        (S.buffer output.old) (S.buffer output.new) result }
+    ensures agrees { V.agrees state.new value.now }
+{
+    match part_of(item, texts) {
+        Ok(part) => write_any(part, output, value, state),
+        Err(reason) => Err(reason),
+    }
+}
+
+/// Writes any part if its text fits, and returns the number of bytes that are lost if it does not.
+#[inline(always)]
+#[tactic(auto, using(crate::proofs::DescribedLemmas::component_fits))]
+fn write_any<S: Sink, V: ComponentProvider>(
+    part: Part<'_>,
+    output: &mut S,
+    value: &V,
+    state: &mut V::State,
+) -> Result<usize, Reason>
+    requires agrees { V.agrees state.old value.now }
+    ensures ends { EndsOrIsLost (tree_width (part_tree part.entry)) (S.buffer output.old)
+        (S.buffer output.new) result (tree_outcome (part_tree part.entry) (V.facts value.now)) }
+    ensures agrees { V.agrees state.new value.now }
+{
+    let component = match part {
+        Part::Text(text) => return Ok(write_text(output, text)),
+        Part::Component(component) => component,
     };
-    match write_items(items, texts, &mut line, value, &mut Default::default()) {
-        Ok(_) => copy_text(line.as_slice(), room),
+    if LONGEST <= output.room() {
+        return match end_component(component, output, value, state) {
+            Ok(()) => Ok(0),
+            Err(refused) => Err(reason_of(refused.into())),
+        };
+    }
+    let mut array = [0u8; LONGEST];
+    match write_into_room(&[part], &mut array, value, state) {
+        Ok(count) => Ok(write_text(output, &array[..count])),
         Err(error) => Err(reason_of(error)),
     }
 }
 
-/// The width of the items, up to the greatest `isize`, or the reason of the first invalid item.
-#[inline(always)]
-fn width(items: &[Item], texts: &[u8], start: UsualStart) -> Result<usize, Reason>
-    requires within { start.count ≤ length items.now }
-    requires short { start.width ≤ 0xffff_ffff }
-    requires width { width_answer (trees_of texts.now items.now)
-        ≡ width_after start.width (trees_of texts.now (drop start.count items.now)) }
-    ensures { result ≡ width_answer (trees_of texts.now items.now) }
+/// Writes a text if it fits, and returns the number of bytes that are lost if it does not.
+fn write_text<S: Sink>(output: &mut S, text: &[u8]) -> usize
+    ensures { FitsOrIsLost (S.buffer output.old) (S.buffer output.new) result text.now }
 {
-    if start.count == items.len() {
-        return Ok(start.width);
+    if text.len() > output.room() {
+        return text.len();
     }
-    width_after(&items[start.count..], texts, start.width)
+    write_bytes(output, text);
+    0
 }
 
-/// The width of the items and of what is before them.
+/// The width of the items, up to the greatest `isize`, or the reason of the first invalid item.
 #[tactic(auto, using(crate::proofs::DescribedLemmas::summed_more))]
-fn width_after(items: &[Item], texts: &[u8], before: usize) -> Result<usize, Reason>
-    requires { before ≤ 0xffff_ffff }
-    ensures { result ≡ width_after before (trees_of texts.now items.now) }
+fn width(items: &[Item], texts: &[u8]) -> Result<usize, Reason>
+    ensures { result ≡ width_answer (trees_of texts.now items.now) }
 {
-    let mut sum = before;
+    let mut sum = 0usize;
     for item in items {
         match part_of(item, texts) {
             Ok(part) => sum += part_width(part).min(GREATEST_WIDTH - sum),
@@ -216,54 +353,5 @@ fn part_width(part: Part<'_>) -> usize
     match part {
         Part::Text(text) => text.len(),
         Part::Component(component) => component_width(&component),
-    }
-}
-
-/// Appends the texts of the items, each of which there is, up to the first that is refused.
-fn write_items<V: ComponentProvider>(
-    items: &[Item],
-    texts: &[u8],
-    output: &mut Vec<u8>,
-    value: &V,
-    state: &mut V::State,
-) -> Result<usize, Format>
-    requires room { HasRoomFor output.old (trees_of texts.now items.now) }
-    requires agrees { V.agrees state.old value.now }
-    ensures appends { IsAppended output.old output.new result
-        (trees_of texts.now items.now) (V.facts value.now) }
-{
-    let mut sum = 0usize;
-    for item in items {
-        match part_of(item, texts) {
-            Ok(part) => match write_part(part, output, value, state) {
-                Ok(count) => sum += count,
-                Err(error) => return Err(error),
-            },
-            Err(_) => unreachable!(),
-        }
-    }
-    Ok(sum)
-}
-
-/// Appends the text of the part.
-#[inline(always)]
-fn write_part<V: ComponentProvider>(
-    part: Part<'_>,
-    output: &mut Vec<u8>,
-    value: &V,
-    state: &mut V::State,
-) -> Result<usize, Format>
-    requires room { HasRoom output.old (tree_width (part_tree part)) }
-    requires agrees { V.agrees state.old value.now }
-    ensures appends { Appends output.old output.new result
-        (tree_outcome (part_tree part.entry) (V.facts value.now)) }
-    ensures within { vec_len output.new ≤ vec_len output.old + tree_width (part_tree part.entry) }
-    ensures text { IsTextIf (is_guaranteed_text (part_tree part.entry))
-        (tree_outcome (part_tree part.entry) (V.facts value.now)) }
-    ensures agrees { V.agrees state.new value.now }
-{
-    match part {
-        Part::Text(text) => Ok(write_bytes(output, text)),
-        Part::Component(component) => component_write_into(&component, output, value, state),
     }
 }

@@ -1,10 +1,10 @@
 //! The items of a description, as C passes them.
 ghost use Rattle.std.specs.Prelude.{◌≡◌};
-ghost use Rattle.movaliren_c.specs.Items.{padding_at, digits_at, date_component, year_component, time_component, component_at, component_of, item_tree, tree_of};
+ghost use Rattle.movaliren_c.specs.Items.{padding_at, digits_at, date_component, year_component, time_component, component_at, component_of, item_tree, part_tree, tree_of};
 
 use crate::reason::{Reason, flag_at};
 use time_below::format_description::modifier::{Padding, SubsecondDigits};
-use time_below::format_description::{Component, modifier};
+use time_below::format_description::{Component, Layer, Node, modifier};
 
 /// An item of a description: kind 255 is `len` bytes of the texts from `start` on, any other a
 /// component with its choices.
@@ -21,9 +21,23 @@ pub struct Item {
 }
 
 /// What an item says.
+#[derive(Clone, Copy)]
 pub enum Part<'a> {
     Text(&'a [u8]),
     Component(Component),
+}
+
+impl Node for Part<'_> {
+    ghost tree = { part_tree };
+
+    ghost size = { λ _. 1 };
+
+    fn layer(&self) -> Layer<'_, Self> {
+        match self {
+            Part::Text(bytes) => Layer::Bytes(bytes),
+            Part::Component(component) => Layer::Component(*component),
+        }
+    }
 }
 
 /// A component with choices of these names.

@@ -4,14 +4,12 @@
 //! An export of one text returns the number of bytes at the start of the buffer, which are the whole
 //! text, or a negative number that names the error; the buffer is then unchanged. A batch returns how
 //! many texts are there, and why it stopped. `movaliren_width` returns a width. No export has a
-//! condition. Only the exports of descriptions allocate, and not for usual items (`short_line`), a year
-//! of 0 to 9999, and a width of at most 128 bytes or those of the buffer.
+//! condition, and none allocates.
 #![tactic(auto)]
 
 mod batch;
 mod calendar_date;
 mod described;
-mod described_value;
 mod fields;
 mod iso8601;
 mod item;
@@ -26,7 +24,6 @@ mod reason;
 mod rfc2822;
 mod rfc3339;
 mod room;
-mod short_line;
 mod sinks;
 mod source;
 mod stamp;

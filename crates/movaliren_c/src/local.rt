@@ -1,5 +1,4 @@
 //! Moments at an offset of so many seconds east of UTC: ISO 8601, and descriptions.
-ghost use Rattle.std.specs.Prelude.{true};
 ghost use Rattle.movaliren_c.specs.Answer.{Answers, IsAnswer, gives};
 ghost use Rattle.movaliren_c.specs.Chosen.{iso8601_by};
 ghost use Rattle.movaliren_c.specs.Items.{IsDescribed};
@@ -8,14 +7,13 @@ ghost use Rattle.time_below.specs.Facts.{facts_of_offset_date_time};
 ghost use Rattle.time_known.specs.Config.{default_choices};
 ghost use Rattle.time_known.specs.Iso8601.{iso8601_of};
 
-use crate::described::write_value_described;
+use crate::described::write_described;
 use crate::iso8601::{Iso8601, Iso8601By, IsoConfig};
 use crate::item::Item;
 use crate::moment::UtcMoment;
 use crate::moment_text::{answer_at, texts_of};
 use crate::reason::answer_number;
-use crate::source::{AtOffset, Source};
-use std::alloc::Global;
+use crate::source::{AtOffset, provided};
 
 /// The text of ISO 8601 of a moment by the default configuration, at an offset of this many seconds east
 /// of UTC.
@@ -56,7 +54,6 @@ pub extern "C" fn movaliren_iso8601_by_local(
 /// The text of a moment by a description, at an offset of this many seconds east of UTC.
 #[unsafe(no_mangle)]
 pub extern "C" fn movaliren_format_local(
-    alloc: Global,
     items: &[Item],
     texts: &[u8],
     seconds: i64,
@@ -64,13 +61,13 @@ pub extern "C" fn movaliren_format_local(
     offset: i64,
     room: &mut [u8],
 ) -> isize
-    ensures { Answers result (λ answer. IsDescribed true texts.now items.now
+    ensures { Answers result (λ answer. IsDescribed texts.now items.now
         (local_value seconds nanosecond offset) facts_of_offset_date_time answer room.old room.new) }
 {
     let moment = UtcMoment {
         seconds,
         nanosecond,
     };
-    let value = AtOffset { east: offset }.value(&moment);
-    answer_number(write_value_described(alloc, items, texts, value, room))
+    let value = provided(AtOffset { east: offset }, &moment);
+    answer_number(write_described(items, texts, value, room))
 }

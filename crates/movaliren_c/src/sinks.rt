@@ -8,14 +8,6 @@ use arrayvec::ArrayString;
 use time_digits::{ru8, single_digit};
 use time_known::sink::Sink;
 
-/// A sink that also takes bytes that need not be UTF-8.
-pub trait ByteSink: Sink {
-    /// Puts bytes after what the sink holds.
-    fn put_bytes(&mut self, bytes: &[u8])
-        requires room { Fits (length bytes.now) (Self.buffer self.old) }
-        ensures puts { Puts (Self.buffer self.old) (Self.buffer self.new) bytes.now };
-}
-
 /// A text of at most `N` bytes, in an array.
 #[derive(Drop)]
 pub struct ArraySink<const N: usize> {
@@ -124,7 +116,6 @@ impl Sink for RoomSink<'_> {
       lender = Some s.room.ghost_name;
     } };
 
-    // This does not call `put_bytes`: one call more and the texts of formats are not inlined.
     #[inline(always)]
     fn put(&mut self, piece: &str) {
         match piece.as_bytes() {
@@ -156,24 +147,6 @@ impl Sink for RoomSink<'_> {
         let mut line = ArrayString::<255>::new();
         push_decimals(&mut line, rest, unit, digits.get());
         self.put(line.as_str());
-    }
-}
-
-impl ByteSink for RoomSink<'_> {
-    #[inline(always)]
-    fn put_bytes(&mut self, bytes: &[u8]) {
-        match bytes {
-            [a] => {
-                let (at, a) = (self.len, *a);
-                self.room[at] = a;
-                self.len = at + 1;
-            }
-            bytes => {
-                let at = self.len;
-                write_over(self.room, at, bytes);
-                self.len = at + bytes.len();
-            }
-        }
     }
 }
 

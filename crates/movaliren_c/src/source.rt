@@ -9,7 +9,7 @@ use crate::kept_offset::KeptOffset;
 use crate::moment::{LocalMoment, Moment, UtcMoment, moment_value, timestamp_value, value_at};
 use crate::reason::Reason;
 use std::convert::TryFrom;
-use time_below::{Timestamp, UtcOffset};
+use time_below::{OffsetDateTime, Timestamp, UtcOffset};
 
 /// What a caller passes for a moment, and the value that it gives.
 pub trait Source: Copy {
@@ -22,6 +22,16 @@ pub trait Source: Copy {
     /// The value of the item.
     fn value(self, item: &Self::Item) -> Result<LocalMoment, Reason>
         ensures { result ≡ given self item.now };
+}
+
+/// The value of an item for a description.
+pub fn provided<S: Source>(source: S, item: &S::Item) -> Result<OffsetDateTime, Reason>
+    ensures { result ≡ S.given source item.now }
+{
+    match source.value(item) {
+        Ok(value) => Ok(value.provided()),
+        Err(reason) => Err(reason),
+    }
 }
 
 /// Moments by the parts of the date, the time and the offset.

@@ -10,60 +10,64 @@ use Rattle.time_fmt.specs.declared.refused.Refused.TheVariants as reason
 use Rattle.time_fmt.specs.Ends.{Ends, refusal_of}
 use Rattle.time_fmt.specs.Kind.{in_standard_range}
 use Rattle.time_fmt.specs.Outcome.{Outcome, Refusal, Names, Appends, AppendsUpTo, done, refused}
-use Rattle.time_fmt.specs.Room.{Writes}
+use Rattle.time_fmt.specs.Sink.{Buffer, Puts, vec_buffer}
 
 -- what ends within a width ends within a greater one
-pub ends_within : {width greatest : ℕ} {answer : Result Unit Refused} {o : Outcome} {old new : Vec ℕ Global}
+pub ends_within : {width greatest : ℕ} {answer : Result Unit Refused} {o : Outcome} {old new : Buffer}
     → Ends width old new answer o → width ≤ greatest → Ends greatest old new answer o
 ends_within ends fits = record {
   appended = ends.appended;
   refusal = ends.refusal;
   grown = ends.grown;
   capacity = ends.capacity;
+  lender = ends.lender;
   within = omega (arith, ends.within, fits);
 }
 
 -- what is appended without a refusal ends complete
 pub ends_complete : {width count : ℕ} {o : Outcome} {old new : Vec ℕ Global} → AppendsUpTo width old new (Ok count) o
-    → Ends width old new (Ok tt) o
+    → Ends width (vec_buffer old) (vec_buffer new) (Ok tt) o
 ends_complete up_to = record {
   appended = up_to.appends.appended;
   refusal = sym up_to.appends.counted.0;
   grown = up_to.appends.grown;
   capacity = up_to.appends.capacity;
+  lender = refl;
   within = up_to.within;
 }
 
 -- so does a text that was written
-pub whole_text : {width n : ℕ} {text : List ℕ} {old new : Vec ℕ Global} → Writes old new n text → length text ≤ width
+pub whole_text : {width n : ℕ} {text : List ℕ} {old new : Buffer} → Puts old new n text → length text ≤ width
     → Ends width old new (Ok tt) (done text)
 whole_text w h = record {
   appended = w.appended;
   refusal = refl;
   grown = w.grown;
   capacity = w.capacity;
+  lender = w.lender;
   within = omega (arith, w.grown, h);
 }
 
 -- what is refused has no bytes
-pub ends_refused : {width : ℕ} (output : Vec ℕ Global) (r : Refused)
+pub ends_refused : {width : ℕ} (output : Buffer) (r : Refused)
     → Ends width output output (Err r) (refused (refusal_of r))
 ends_refused output r = record {
-  appended = sym (append-nil output.items);
+  appended = sym (append-nil output.bytes);
   refusal = refl;
   grown = omega arith;
   capacity = refl;
+  lender = refl;
   within = omega arith;
 }
 
 -- a year or a century in the standard range is written
-pub in_range : {width count : ℕ} (greatest n : ℕ) (text : List ℕ) {old new : Vec ℕ Global} → n ≤ greatest
-    → Writes old new count text → length text ≤ width
+pub in_range : {width count : ℕ} (greatest n : ℕ) (text : List ℕ) {old new : Buffer} → n ≤ greatest
+    → Puts old new count text → length text ≤ width
     → Ends width old new (Ok tt) (in_standard_range greatest n text)
 in_range greatest n text below w h = let is : nat_le n greatest ≡ true = grind arith in rw is (whole_text w h)
 
 -- a number beyond its range is refused
-pub beyond_range : {width : ℕ} (greatest n : ℕ) (text : List ℕ) (output : Vec ℕ Global)
+pub beyond_range : {width : ℕ} (greatest n : ℕ) (text : List ℕ) (output : Buffer)
     → (n ≤ greatest → false ≡ true)
     → Ends width output output (Err reason.YearOutOfRange) (in_standard_range greatest n text)
 beyond_range greatest n text output never =
@@ -73,7 +77,7 @@ beyond_range greatest n text output never =
 
 -- a text without a refusal is answered by its number of bytes
 pub complete : {width : ℕ} {o : Outcome} {u : Unit} (old new : Vec ℕ Global)
-    → Ends width old new (Ok u) o → Appends old new (Ok (vec_len new - vec_len old)) o
+    → Ends width (vec_buffer old) (vec_buffer new) (Ok u) o → Appends old new (Ok (vec_len new - vec_len old)) o
 complete old new ends = record {
   appended = ends.appended;
   counted = (sym ends.refusal, omega (arith, ends.grown));
@@ -84,7 +88,7 @@ complete old new ends = record {
 
 -- one with a refusal by the error of that name
 pub stopped : {width : ℕ} {o : Outcome} {reason : Refused} (error : Format) (old new : Vec ℕ Global)
-    → Ends width old new (Err reason) o → Names error (refusal_of reason) → Appends old new (Err error) o
+    → Ends width (vec_buffer old) (vec_buffer new) (Err reason) o → Names error (refusal_of reason) → Appends old new (Err error) o
 stopped error old new ends names = record {
   appended = ends.appended;
   counted = tt;

@@ -1,8 +1,6 @@
 -- Nodes one after another: what is written so far, and then the outcome of what is left, is the outcome of all.
 use Rattle.std.proofs.Common.{◌≡◌, refl, ap, sym, ◌∙◌, arith, ℕ, ◌+◌, ◌≤◌, ◌++◌, List, [], ◌∷◌, map, drop, length}
 use Rattle.std.proofs.Common.{append_assoc, length-append, subst, Some, None, Result, Ok, Err}
-use Rattle.std.proofs.Common.{vec_len, vec_capacity, Vec}
-use Rattle.std.specs.Global.{Global}
 use Rattle.std.specs.Prelude.{slice_get}
 use Rattle.std.proofs.lemmas.List.{append-nil, at_drop_all}
 use Rattle.time_below.specs.Facts.{Facts}
@@ -13,28 +11,29 @@ use Rattle.time_fmt.specs.Description.{tree_outcome, trees_outcome}
 use Rattle.time_fmt.specs.Ends.{refusal_of}
 use Rattle.time_fmt.specs.Guarantee.{IsTextIf, AppendsTree}
 use Rattle.time_fmt.specs.Outcome.{Outcome, Refusal}
-use Rattle.time_fmt.specs.Room.{HasRoom, Writes}
+use Rattle.time_fmt.specs.Sink.{Buffer, Fits, Puts}
 use Rattle.time_fmt.proofs.EndLemmas.{whole_text}
 use Rattle.time_fmt.proofs.WriteLemmas.{join_refused, join_done}
 use Rattle.time_fmt.proofs.GuaranteeLemmas.{text_more, text_stops, empty_utf8}
 
 -- a list was written so far without a refusal: its rest is the rest of the outcome, and fits the capacity
-pub record Along (agrees : Type 0) (old now : Vec ℕ Global) (f : Facts) (all left : Trees) (all_size left_size : ℕ)
+pub record Along (agrees : Type 0) (old now : Buffer) (f : Facts) (all left : Trees) (all_size left_size : ℕ)
     : Type 0 where
   pub state : agrees
   pub size : left_size ≤ all_size
-  pub bytes : old.items ++ (trees_outcome all f).bytes ≡ now.items ++ (trees_outcome left f).bytes
+  pub bytes : old.bytes ++ (trees_outcome all f).bytes ≡ now.bytes ++ (trees_outcome left f).bytes
   pub refusal : (trees_outcome all f).refusal ≡ (trees_outcome left f).refusal
-  pub grown : vec_len old + length (trees_outcome all f).bytes ≡ vec_len now + length (trees_outcome left f).bytes
-  pub room : vec_len now + trees_width left ≤ vec_capacity now
-  pub within : vec_len now + trees_width left ≤ vec_len old + trees_width all
-  pub capacity : vec_capacity now ≡ vec_capacity old
+  pub grown : old.len + length (trees_outcome all f).bytes ≡ now.len + length (trees_outcome left f).bytes
+  pub room : now.len + trees_width left ≤ now.capacity
+  pub within : now.len + trees_width left ≤ old.len + trees_width all
+  pub capacity : now.capacity ≡ old.capacity
+  pub lender : now.lender ≡ old.lender
   pub text : IsTextIf (are_guaranteed_text left) (trees_outcome left f)
       → IsTextIf (are_guaranteed_text all) (trees_outcome all f)
 
 -- nothing is written before the first node
-pub along_from_the_start : {agrees : Type 0} (output : Vec ℕ Global) (f : Facts) (all : Trees) (size : ℕ) → agrees
-    → HasRoom output (trees_width all) → Along agrees output output f all all size size
+pub along_from_the_start : {agrees : Type 0} (output : Buffer) (f : Facts) (all : Trees) (size : ℕ) → agrees
+    → Fits output (trees_width all) → Along agrees output output f all all size size
 along_from_the_start output f all size agrees room =
     record {
       state = agrees;
@@ -45,25 +44,26 @@ along_from_the_start output f all size agrees room =
       room = room;
       within = omega arith;
       capacity = refl;
+      lender = refl;
       text = λ h. h;
     }
 
 -- the next node fits the capacity
-pub room_for_next : {agrees : Type 0} {all_size left_size : ℕ} (old now : Vec ℕ Global) (f : Facts)
+pub room_for_next : {agrees : Type 0} {all_size left_size : ℕ} (old now : Buffer) (f : Facts)
     (all left others : Trees) (t : Tree) →
-    Along agrees old now f all left all_size left_size → left ≡ more t others → HasRoom now (tree_width t)
+    Along agrees old now f all left all_size left_size → left ≡ more t others → Fits now (tree_width t)
 room_for_next old now f all left others t along next =
     let width : trees_width left ≡ tree_width t + trees_width others = ap trees_width next in
     omega (arith, along.room, width)
 
 -- the outcome of a list is that of its next node after what was written
-pub record StopsAt (old mid : Vec ℕ Global) (all first : Outcome) : Type 0 where
-  pub bytes : old.items ++ all.bytes ≡ mid.items ++ first.bytes
+pub record StopsAt (old mid : Buffer) (all first : Outcome) : Type 0 where
+  pub bytes : old.bytes ++ all.bytes ≡ mid.bytes ++ first.bytes
   pub refusal : all.refusal ≡ first.refusal
-  pub grown : vec_len old + length all.bytes ≡ vec_len mid + length first.bytes
+  pub grown : old.len + length all.bytes ≡ mid.len + length first.bytes
 
 -- so is it where that node is refused
-pub stops_along : {agrees : Type 0} {all_size left_size : ℕ} (r : Refusal) (old mid : Vec ℕ Global) (f : Facts)
+pub stops_along : {agrees : Type 0} {all_size left_size : ℕ} (r : Refusal) (old mid : Buffer) (f : Facts)
     (all left others : Trees) (t : Tree) →
     Along agrees old mid f all left all_size left_size → left ≡ more t others → (tree_outcome t f).refusal ≡ Some r
     → StopsAt old mid (trees_outcome all f) (tree_outcome t f)
@@ -71,13 +71,13 @@ stops_along r old mid f all left others t along next refused =
     let same : trees_outcome left f ≡ tree_outcome t f = ap (λ ts. trees_outcome ts f) next
     ∙ join_refused (tree_outcome t f) (trees_outcome others f) r refused in
     record {
-      bytes = along.bytes ∙ ap (λ (o : Outcome). mid.items ++ o.bytes) same;
+      bytes = along.bytes ∙ ap (λ (o : Outcome). mid.bytes ++ o.bytes) same;
       refusal = along.refusal ∙ ap (λ (o : Outcome). o.refusal) same;
       grown = omega (arith, along.grown, ap (λ (o : Outcome). length o.bytes) same);
     }
 
 -- a list ends with a node that is refused
-pub list_refused : {agrees : Type 0} {all_size left_size : ℕ} {reason : Refused} (old mid new : Vec ℕ Global)
+pub list_refused : {agrees : Type 0} {all_size left_size : ℕ} {reason : Refused} (old mid new : Buffer)
     (f : Facts) (all left others : Trees) (t : Tree) →
     Along agrees old mid f all left all_size left_size → left ≡ more t others
     → AppendsTree t f mid new (Err reason) → AppendsTree (all_of all) f old new (Err reason)
@@ -94,13 +94,14 @@ list_refused {reason = reason} old mid new f all left others t along next step =
         refusal = step.ends.refusal ∙ sym stops.refusal;
         grown = omega (arith, step.ends.grown, stops.grown);
         capacity = step.ends.capacity ∙ along.capacity;
+        lender = step.ends.lender ∙ along.lender;
         within = omega (arith, along.within, width, step.ends.within);
       };
       text = along.text (subst P (sym next) text);
     }
 
 -- what was written before a node, and what the node wrote, is followed by what is left
-pub written_along : {agrees agrees_after : Type 0} {all_size left_size rest_size : ℕ} (old mid new : Vec ℕ Global)
+pub written_along : {agrees agrees_after : Type 0} {all_size left_size rest_size : ℕ} (old mid new : Buffer)
     (f : Facts) (all left others : Trees) (t : Tree) →
     Along agrees old mid f all left all_size left_size → left ≡ more t others → rest_size ≤ left_size
     → AppendsTree t f mid new (Ok tt) → agrees_after
@@ -119,19 +120,20 @@ written_along old mid new f all left others t along next smaller step agrees =
       state = agrees;
       size = omega (arith, along.size, smaller);
       bytes =
-          along.bytes ∙ ap (λ bs. mid.items ++ bs) bytes ∙ sym (append_assoc mid.items a.bytes b.bytes)
+          along.bytes ∙ ap (λ bs. mid.bytes ++ bs) bytes ∙ sym (append_assoc mid.bytes a.bytes b.bytes)
           ∙ ap (λ bs. bs ++ b.bytes) (sym step.ends.appended);
       refusal = along.refusal ∙ ap (λ (o : Outcome). o.refusal) e;
       grown = omega (arith, along.grown, length, step.ends.grown);
       room = omega (arith, along.room, width, step.ends.capacity, step.ends.within);
       within = omega (arith, along.within, width, step.ends.within);
       capacity = step.ends.capacity ∙ along.capacity;
+      lender = step.ends.lender ∙ along.lender;
       text = λ rest. along.text (subst P (sym next) (text_more t others f step.text rest));
     }
 
 -- the end of a list leaves nothing, so that all of it is written
 pub all_along : {A agrees : Type 0} {all_size left_size : ℕ} (tree : A → Tree) (nodes : List A) (i : ℕ)
-    (old now : Vec ℕ Global) (f : Facts) → length nodes ≤ i
+    (old now : Buffer) (f : Facts) → length nodes ≤ i
     → Along agrees old now f (trees (map tree nodes)) (trees (map tree (drop i nodes))) all_size left_size
     → AppendsTree (all_of (trees (map tree nodes))) f old now (Ok tt)
 all_along tree nodes i old now f past along =
@@ -141,17 +143,18 @@ all_along tree nodes i old now f past along =
     let P : Trees → Type 0 = λ ts. IsTextIf (are_guaranteed_text ts) (trees_outcome ts f) in
     record {
       ends = record {
-        appended = sym (along.bytes ∙ ap (λ bs. now.items ++ bs) bytes ∙ append-nil now.items);
+        appended = sym (along.bytes ∙ ap (λ bs. now.bytes ++ bs) bytes ∙ append-nil now.bytes);
         refusal = sym (along.refusal ∙ ap (λ ts. (trees_outcome ts f).refusal) none);
         grown = omega (arith, along.grown, ap length bytes);
         capacity = along.capacity;
+        lender = along.lender;
         within = omega (arith, along.within);
       };
       text = along.text (subst P (sym none) (λ _. empty_utf8));
     }
 
 -- bytes are appended whole
-pub appends_bytes : {count : ℕ} {old new : Vec ℕ Global} (bytes : List ℕ) (f : Facts) → Writes old new count bytes
+pub appends_bytes : {count : ℕ} {old new : Buffer} (bytes : List ℕ) (f : Facts) → Puts old new count bytes
     → AppendsTree (byte_literal bytes) f old new (Ok tt)
 appends_bytes bytes f w = record {
   ends = whole_text w (omega arith);
@@ -159,20 +162,21 @@ appends_bytes bytes f w = record {
 }
 
 -- where there is nothing, nothing is appended
-pub nothing_appends : (output : Vec ℕ Global) (f : Facts) → AppendsTree nothing f output output (Ok tt)
+pub nothing_appends : (output : Buffer) (f : Facts) → AppendsTree nothing f output output (Ok tt)
 nothing_appends output f = record {
   ends = record {
-    appended = sym (append-nil output.items);
+    appended = sym (append-nil output.bytes);
     refusal = refl;
     grown = omega arith;
     capacity = refl;
+    lender = refl;
     within = omega arith;
   };
   text = λ _. empty_utf8;
 }
 
 -- the first of no nodes appends nothing
-pub no_first : {A : Type 0} (tree : A → Tree) (nodes : List A) (output : Vec ℕ Global) (f : Facts)
+pub no_first : {A : Type 0} (tree : A → Tree) (nodes : List A) (output : Buffer) (f : Facts)
     → slice_get nodes 0 ≡ None → AppendsTree (first_of (trees (map tree nodes))) f output output (Ok tt)
 no_first tree [] output f none =
     let same = nothing_appends output f in record { ends = same.ends; text = same.text }
@@ -180,7 +184,7 @@ no_first tree (x ∷ xs) output f none = let no : ⊥ = cc in absurd no
 
 -- the first of a list that begins with x appends what x does
 pub first_appends : {A : Type 0} {answer : Result Unit Refused} (tree : A → Tree) (nodes : List A) (x : A)
-    (old new : Vec ℕ Global) (f : Facts) → slice_get nodes 0 ≡ Some x → AppendsTree (tree x) f old new answer
+    (old new : Buffer) (f : Facts) → slice_get nodes 0 ≡ Some x → AppendsTree (tree x) f old new answer
     → AppendsTree (first_of (trees (map tree nodes))) f old new answer
 first_appends tree [] x old new f h appends = let no : ⊥ = cc in absurd no
 first_appends {A} {answer} tree (y ∷ ys) x old new f h appends =

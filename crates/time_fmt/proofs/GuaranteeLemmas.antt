@@ -35,6 +35,7 @@ use Rattle.time_fmt.specs.Guarantee.{IsTextIf, AppendsLeaf}
 use Rattle.time_fmt.specs.Kind as kind
 use Rattle.time_fmt.specs.Kind.{Kind, kind_text, kind_outcome}
 use Rattle.time_fmt.specs.Outcome.{Outcome, Adds, done, refused, join, insufficient, out_of_range}
+use Rattle.time_fmt.specs.Sink.{Buffer}
 use Rattle.time_fmt.specs.Text.{padded_text, sign_text, period_text, subsecond_text}
 use Rattle.time_fmt.specs.declared.error.Format.{Format}
 use Rattle.time_fmt.specs.declared.refused.Refused.{Refused}
@@ -131,7 +132,7 @@ text_of_component c f = IsUtf8-from_ascii (component_outcome c f).bytes (ascii_c
 
 -- a component that was written or refused is that of its tree
 pub leaf_of_written : {N : Type 0} (written : Option (Result Unit Refused)) (c : Component) (f : Facts)
-    (old new : Vec ℕ Global) → (N → new ≡ old)
+    (old new : Buffer) → (N → new ≡ old)
     → MatchOption written N (λ answer. Ends (component_width c) old new answer (component_outcome c f))
     → AppendsLeaf (of_component c) f old new written
 leaf_of_written None c f old new same nothing = same nothing

@@ -8,6 +8,7 @@ pub mod LongDivisionLemmas
 pub mod LongestLemmas
 pub mod NumberLemmas
 pub mod PartLemmas
+pub mod RoomLemmas
 pub mod TextLemmas
 pub mod TrimLemmas
 pub mod WriteLemmas

@@ -1,9 +1,8 @@
 -- How a text of the engine ends.
-use Rattle.std.specs.Global.{Global}
 use Rattle.std.specs.Prelude.{ℕ, ◌≡◌, ◌+◌, ◌≤◌, ◌++◌, length, Option, Some, None, Result, Ok, Err, codes}
-use Rattle.std.specs.Prelude.{vec_len, vec_capacity, Vec}
 use Rattle.time_below.specs.ComponentRange.{conditional_range}
 use Rattle.time_fmt.specs.Outcome.{Outcome, Refusal, insufficient, out_of_range}
+use Rattle.time_fmt.specs.Sink.{Buffer}
 use Rattle.time_fmt.specs.declared.refused.Refused.{Refused}
 use Rattle.time_fmt.specs.declared.refused.Refused.TheVariants as refused
 
@@ -19,9 +18,10 @@ refusal_in (Err reason) = Some (refusal_of reason)
 
 -- The bytes of the outcome are appended, and are at most this many. The answer has the refusal of the outcome. The
 -- capacity is unchanged.
-pub record Ends (width : ℕ) (old new : Vec ℕ Global) (answer : Result Unit Refused) (o : Outcome) : Type 0 where
-  pub appended : new.items ≡ old.items ++ o.bytes
+pub record Ends (width : ℕ) (old new : Buffer) (answer : Result Unit Refused) (o : Outcome) : Type 0 where
+  pub appended : new.bytes ≡ old.bytes ++ o.bytes
   pub refusal : refusal_in answer ≡ o.refusal
-  pub grown : vec_len new ≡ vec_len old + length o.bytes
-  pub capacity : vec_capacity new ≡ vec_capacity old
-  pub within : vec_len new ≤ vec_len old + width
+  pub grown : new.len ≡ old.len + length o.bytes
+  pub capacity : new.capacity ≡ old.capacity
+  pub lender : new.lender ≡ old.lender
+  pub within : new.len ≤ old.len + width

@@ -11,4 +11,5 @@ pub mod Lossy
 pub mod Outcome
 pub mod Parts
 pub mod Room
+pub mod Sink
 pub mod Text

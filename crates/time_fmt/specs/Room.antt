@@ -6,10 +6,6 @@ use Rattle.std.specs.Global.{Global}
 abbrev pub HasRoom : Vec ℕ Global → ℕ → Type 0
 HasRoom output width = vec_len output + width ≤ vec_capacity output
 
--- the capacity leaves this many bytes, and the state agrees with the value
-abbrev pub Ready : Vec ℕ Global → ℕ → Type 0 → Type 0
-Ready output width agrees = HasRoom output width × agrees
-
 -- The text was appended, and the count is its length. The capacity is unchanged, so that the spare capacity shrinks by
 -- the bytes appended.
 pub record Writes (old new : Vec ℕ Global) (count : ℕ) (text : List ℕ) : Type 0 where

@@ -5,26 +5,28 @@ ghost use Rattle.time_below.specs.Width.{component_width};
 ghost use Rattle.time_fmt.specs.Description.{component_outcome};
 ghost use Rattle.time_fmt.specs.Ends.{Ends};
 ghost use Rattle.time_fmt.specs.Outcome.{Appends};
-ghost use Rattle.time_fmt.specs.Room.{HasRoom, Ready};
+ghost use Rattle.time_fmt.specs.Room.{HasRoom};
+ghost use Rattle.time_fmt.specs.Sink.{Fits, Ready};
 
 use crate::error::Format;
 use crate::modifier::{Modifier, write_part};
 use crate::refused::Refused;
+use crate::sink::Sink;
 use time_below::format_description::Component;
 use time_provide::ComponentProvider;
 
 /// Appends the text of a component that is met often, whose writer becomes part of the loop over a list.
 /// Returns its refusal, if it is refused. Of any other component writes nothing and returns `None`.
 #[inline(always)]
-pub fn write_often<V: ComponentProvider>(
+pub fn write_often<S: Sink, V: ComponentProvider>(
     component: Component,
-    output: &mut Vec<u8>,
+    output: &mut S,
     value: &V,
     state: &mut V::State,
 ) -> Option<Result<(), Refused>>
-    requires ready { Ready output.old (component_width component) (V.agrees state.old value.now) }
-    ensures writes { MatchOption result (output.new ≡ output.old)
-        (λ answer. Ends (component_width component) output.old output.new answer
+    requires ready { Ready (S.buffer output.old) (component_width component) (V.agrees state.old value.now) }
+    ensures writes { MatchOption result (S.buffer output.new ≡ S.buffer output.old)
+        (λ answer. Ends (component_width component) (S.buffer output.old) (S.buffer output.new) answer
         (component_outcome component (V.facts value.now))) × V.agrees state.new value.now }
 {
     match component {
@@ -50,15 +52,15 @@ pub fn write_often<V: ComponentProvider>(
 /// Appends the text of a component that is not deprecated. Returns its refusal, if it is refused. Of one
 /// that is deprecated writes nothing and returns `None`.
 #[inline(always)]
-pub(crate) fn write_current<V: ComponentProvider>(
+pub(crate) fn write_current<S: Sink, V: ComponentProvider>(
     component: Component,
-    output: &mut Vec<u8>,
+    output: &mut S,
     value: &V,
     state: &mut V::State,
 ) -> Option<Result<(), Refused>>
-    requires ready { Ready output.old (component_width component) (V.agrees state.old value.now) }
-    ensures writes { MatchOption result ((output.new ≡ output.old) × (is_current component ≡ false))
-        (λ answer. Ends (component_width component) output.old output.new answer
+    requires ready { Ready (S.buffer output.old) (component_width component) (V.agrees state.old value.now) }
+    ensures writes { MatchOption result ((S.buffer output.new ≡ S.buffer output.old) × (is_current component ≡ false))
+        (λ answer. Ends (component_width component) (S.buffer output.old) (S.buffer output.new) answer
         (component_outcome component (V.facts value.now))) × V.agrees state.new value.now }
 {
     match component {
@@ -119,15 +121,15 @@ pub(crate) fn write_current<V: ComponentProvider>(
 
 // Writes a component that is seldom met, by a call.
 #[inline(never)]
-fn write_rare<M: Modifier, V: ComponentProvider>(
+fn write_rare<M: Modifier, S: Sink, V: ComponentProvider>(
     part: M,
-    output: &mut Vec<u8>,
+    output: &mut S,
     value: &V,
     state: &mut V::State,
 ) -> Result<(), Refused>
-    requires ready { Ready output.old (component_width (M.component_of part))
+    requires ready { Ready (S.buffer output.old) (component_width (M.component_of part))
         (V.agrees state.old value.now) }
-    ensures writes { Ends (component_width (M.component_of part)) output.old output.new result
+    ensures writes { Ends (component_width (M.component_of part)) (S.buffer output.old) (S.buffer output.new) result
         (component_outcome (M.component_of part) (V.facts value.now))
         × V.agrees state.new value.now }
 {
@@ -137,15 +139,15 @@ fn write_rare<M: Modifier, V: ComponentProvider>(
 /// Appends the text of any component, of a deprecated one that of the current one in its place. Returns
 /// its refusal, if it is refused.
 #[inline]
-pub fn end_component<V: ComponentProvider>(
+pub fn end_component<S: Sink, V: ComponentProvider>(
     component: Component,
-    output: &mut Vec<u8>,
+    output: &mut S,
     value: &V,
     state: &mut V::State,
 ) -> Result<(), Refused>
-    requires room { HasRoom output.old (component_width component) }
+    requires room { Fits (S.buffer output.old) (component_width component) }
     requires agrees { V.agrees state.old value.now }
-    ensures ends { Ends (component_width component) output.old output.new result
+    ensures ends { Ends (component_width component) (S.buffer output.old) (S.buffer output.new) result
         (component_outcome component (V.facts value.now)) }
     ensures agrees { V.agrees state.new value.now }
 {

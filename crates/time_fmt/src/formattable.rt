@@ -7,6 +7,8 @@ ghost use Rattle.time_fmt.specs.Lossy.{lossy_text, IsRefusedOrText};
 ghost use Rattle.time_fmt.specs.Room.{HasRoom};
 
 mod engine;
+mod in_room;
+mod into_sink;
 mod lists;
 mod parts;
 mod trees;
@@ -14,6 +16,8 @@ mod trees;
 use crate::error::Format;
 use crate::metadata::ComputeMetadata;
 use bstr::ByteVec;
+pub use in_room::write_into_room;
+pub use into_sink::write_into_sink;
 pub use lists::{BorrowedItems, OwnedItems};
 pub use parts::Literal;
 use std::alloc::{AllocError, Global};

@@ -9,13 +9,20 @@ mod metadata;
 mod modifier;
 pub mod parts;
 mod refused;
+mod room_sink;
+mod sink;
 pub mod writers;
 
 pub use component::{component_write_into, end_component, write_often};
 pub use error::{Error, Format};
-pub use formattable::{BorrowedItems, Formattable, Literal, OwnedItems, make_room, v3_write_into};
+pub use formattable::{
+    BorrowedItems, Formattable, Literal, OwnedItems, make_room, v3_write_into, write_into_room,
+    write_into_sink,
+};
 pub use metadata::ComputeMetadata;
-pub use modifier::Modifier;
+pub use modifier::{Modifier, write_part};
 pub use refused::Refused;
+pub use room_sink::{Before, RoomSink};
+pub use sink::Sink;
 pub use time_below::format_description::Metadata;
 pub use time_provide::{ComponentProvider, DateState, TimestampState};

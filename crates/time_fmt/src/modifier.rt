@@ -6,9 +6,10 @@ ghost use Rattle.time_below.specs.Group.{group_of};
 ghost use Rattle.time_below.specs.Width.{component_width};
 ghost use Rattle.time_fmt.specs.Description.{component_outcome, supplied_outcome, has_group, is_supplied};
 ghost use Rattle.time_fmt.specs.Ends.{Ends};
-ghost use Rattle.time_fmt.specs.Room.{HasRoom, Ready};
+ghost use Rattle.time_fmt.specs.Sink.{Fits, Ready};
 
 use crate::refused::Refused;
+use crate::sink::Sink;
 use time_below::format_description::Group;
 use time_provide::ComponentProvider;
 
@@ -32,17 +33,17 @@ pub trait Modifier: Copy {
     /// its width. Allocates nothing.
     ///
     /// Returns the refusal of the component, which has no bytes, if it is refused.
-    fn write_supplied<V: ComponentProvider>(
+    fn write_supplied<S: Sink, V: ComponentProvider>(
         self,
-        output: &mut Vec<u8>,
+        output: &mut S,
         value: &V,
         state: &mut V::State,
     ) -> Result<(), Refused>
         requires supplied { IsTrue (is_supplied V.SUPPLIES_DATE V.SUPPLIES_TIME
             V.SUPPLIES_OFFSET V.SUPPLIES_TIMESTAMP (group_of (component_of self))) }
-        requires room { HasRoom output.old (component_width (component_of self)) }
+        requires room { Fits (S.buffer output.old) (component_width (component_of self)) }
         requires agrees { V.agrees state.old value.now }
-        ensures ends { Ends (component_width (component_of self)) output.old output.new result
+        ensures ends { Ends (component_width (component_of self)) (S.buffer output.old) (S.buffer output.new) result
             (supplied_outcome (component_of self) (V.facts value.now)) }
         ensures agrees { V.agrees state.new value.now };
 }
@@ -50,15 +51,15 @@ pub trait Modifier: Copy {
 /// Appends the text of any component that is not deprecated, by its choices. Returns its refusal, if it is
 /// refused.
 #[inline(always)]
-pub(crate) fn write_part<M: Modifier, V: ComponentProvider>(
+pub fn write_part<M: Modifier, S: Sink, V: ComponentProvider>(
     part: M,
-    output: &mut Vec<u8>,
+    output: &mut S,
     value: &V,
     state: &mut V::State,
 ) -> Result<(), Refused>
-    requires ready { Ready output.old (component_width (M.component_of part))
+    requires ready { Ready (S.buffer output.old) (component_width (M.component_of part))
         (V.agrees state.old value.now) }
-    ensures writes { Ends (component_width (M.component_of part)) output.old output.new result
+    ensures writes { Ends (component_width (M.component_of part)) (S.buffer output.old) (S.buffer output.new) result
         (component_outcome (M.component_of part) (V.facts value.now))
         × V.agrees state.new value.now }
 {

@@ -1,4 +1,4 @@
-//! Texts appended to a vector with spare capacity for them. No writer allocates.
+//! Texts appended to a sink with room for them. No writer allocates.
 //!
 //! The impls of [`Modifier`](crate::Modifier) for a group's components are beside its writers.
 mod century;

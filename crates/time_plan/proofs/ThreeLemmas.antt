@@ -1,8 +1,7 @@
 -- Three parts with a byte between each two: as nodes, and as texts.
 use Rattle.std.proofs.Common.{◌≡◌, ℕ, ◌+◌, ◌≤◌, ◌<◌, ◌++◌, ◌&&◌, true, false, List, [], ◌∷◌, length, sym, ap, ◌∙◌, arith, map, drop}
-use Rattle.std.proofs.Common.{length-append, get_or, subst, Ok, Vec}
+use Rattle.std.proofs.Common.{length-append, get_or, subst, Ok}
 use Rattle.std.proofs.lemmas.List.{append-nil}
-use Rattle.std.specs.Global.{Global}
 use Rattle.std.specs.Prelude.{is_some, ℤ, pos, int_lt, unsigned_abs}
 use Rattle.time_below.proofs.NodeLemmas.{next_of}
 use Rattle.time_below.specs.declared.format_description.modifier.Padding.TheVariants as padding
@@ -13,7 +12,7 @@ use Rattle.time_fmt.specs.Description.{tree_outcome, trees_outcome}
 use Rattle.time_fmt.specs.Kind.{kind_text, extended_year}
 use Rattle.time_fmt.specs.Ends.{Ends}
 use Rattle.time_fmt.specs.Outcome.{Outcome, done, join}
-use Rattle.time_fmt.specs.Room.{Writes}
+use Rattle.time_fmt.specs.Sink.{Buffer, Puts}
 use Rattle.time_fmt.specs.Text.{padded_text}
 use Rattle.time_fmt.proofs.EndLemmas.{whole_text}
 use Rattle.time_fmt.proofs.TextLemmas.{two_places, signed_four_to_six}
@@ -96,11 +95,11 @@ three_done p q r x y f a b c is_a is_b is_c =
     ∙ ap (λ (t : List ℕ). done (a ++ (x ∷ (b ++ (y ∷ t))))) (append-nil c)
 
 -- so they are appended where they were written
-three_written : {m n : ℕ} (p q r : Part) (x y width : ℕ) (f : Facts) (a b c : List ℕ) (old mid new : Vec ℕ Global)
+three_written : {m n : ℕ} (p q r : Part) (x y width : ℕ) (f : Facts) (a b c : List ℕ) (old mid new : Buffer)
     → tree_outcome (of_component (part_component p)) f ≡ done a → tree_outcome (of_component (part_component q)) f ≡ done b
     → tree_outcome (of_component (part_component r)) f ≡ done c
     → length a + length (x ∷ (b ++ (y ∷ c))) ≤ width
-    → Writes old mid m a → Writes mid new n (x ∷ (b ++ (y ∷ c)))
+    → Puts old mid m a → Puts mid new n (x ∷ (b ++ (y ∷ c)))
     → Ends width old new (Ok tt) (tree_outcome (three_parts p x q y r) f)
 three_written p q r x y width f a b c old mid new is_a is_b is_c fits first others =
     subst (λ (o : Outcome). Ends width old new (Ok tt) o) (sym (three_done p q r x y f a b c is_a is_b is_c))
@@ -123,11 +122,11 @@ pub length-year : (year : ℤ) → unsigned_abs year ≤ 999_999
 length-year year small =
     signed_four_to_six (int_lt year (pos 0)) (int_lt (pos 9_999) year) padding.Zero (unsigned_abs year) (omega (arith, small))
 
-pub time_written : {m n : ℕ} (x y hour minute second : ℕ) (f : Facts) (old mid new : Vec ℕ Global)
+pub time_written : {m n : ℕ} (x y hour minute second : ℕ) (f : Facts) (old mid new : Buffer)
     → is_some f.time ≡ true → hour ≡ (the_time f).hour → minute ≡ (the_time f).minute → second ≡ (the_time f).second
     → hour < 100 → minute < 100 → second < 100
-    → Writes old mid m (padded_text padding.Zero 2 hour)
-    → Writes mid new n (x ∷ (padded_text padding.Zero 2 minute ++ (y ∷ padded_text padding.Zero 2 second)))
+    → Puts old mid m (padded_text padding.Zero 2 hour)
+    → Puts mid new n (x ∷ (padded_text padding.Zero 2 minute ++ (y ∷ padded_text padding.Zero 2 second)))
     → Ends 8 old new (Ok tt) (tree_outcome (three_parts part.Hour x part.Minute y part.Second) f)
 time_written x y hour minute second f old mid new there is_hour is_minute is_second h m s first others =
     three_written part.Hour part.Minute part.Second x y 8 f (padded_text padding.Zero 2 hour)
@@ -137,11 +136,11 @@ time_written x y hour minute second f old mid new there is_hour is_minute is_sec
     (rw there (ap (λ (k : ℕ). done (padded_text padding.Zero 2 k)) (sym is_second)))
     (omega (arith, two_places padding.Zero hour h, length-two_after x y minute second m s)) first others
 
-pub date_written : {m n : ℕ} (x y : ℕ) (year : ℤ) (month day : ℕ) (f : Facts) (old mid new : Vec ℕ Global)
+pub date_written : {m n : ℕ} (x y : ℕ) (year : ℤ) (month day : ℕ) (f : Facts) (old mid new : Buffer)
     → is_some f.date ≡ true → year ≡ (the_date f).year → month ≡ (the_date f).month → day ≡ (the_date f).day
     → unsigned_abs year ≤ 999_999 → month < 100 → day < 100
-    → Writes old mid m (kind_text (extended_year padding.Zero false year))
-    → Writes mid new n (x ∷ (padded_text padding.Zero 2 month ++ (y ∷ padded_text padding.Zero 2 day)))
+    → Puts old mid m (kind_text (extended_year padding.Zero false year))
+    → Puts mid new n (x ∷ (padded_text padding.Zero 2 month ++ (y ∷ padded_text padding.Zero 2 day)))
     → Ends 13 old new (Ok tt) (tree_outcome (three_parts part.Year x part.Month y part.Day) f)
 date_written x y year month day f old mid new there is_year is_month is_day small m d first others =
     three_written part.Year part.Month part.Day x y 13 f (kind_text (extended_year padding.Zero false year))

@@ -1,7 +1,6 @@
 -- Steps that are written one after another.
 use Rattle.std.proofs.Common.{◌≡◌, ℕ, ◌+◌, ◌≤◌, ◌++◌, List, length, refl, sym, ap, ◌∙◌, arith, append_assoc, subst}
-use Rattle.std.proofs.Common.{Ok, Err, Vec, length-append}
-use Rattle.std.specs.Global.{Global}
+use Rattle.std.proofs.Common.{Ok, Err, length-append}
 use Rattle.time_below.specs.Facts.{Facts}
 use Rattle.time_below.specs.Width.{tree_width}
 use Rattle.time_fmt.specs.declared.refused.Refused.{Refused}
@@ -9,7 +8,7 @@ use Rattle.time_fmt.specs.Description.{tree_outcome}
 use Rattle.time_fmt.specs.Ends.{Ends, refusal_of}
 use Rattle.time_fmt.specs.Guarantee.{AppendsTree}
 use Rattle.time_fmt.specs.Outcome.{Outcome, done}
-use Rattle.time_fmt.specs.Room.{Writes}
+use Rattle.time_fmt.specs.Sink.{Buffer, Puts}
 use Rattle.time_fmt.proofs.WriteLemmas.{join_refused, join_done}
 use Rattle.time_plan.specs.Shown.{shown_tree}
 use Rattle.time_plan.specs.Steps.{step_tree}
@@ -18,22 +17,23 @@ use Rattle.time_plan.specs.declared.step.Step.{Step}
 use Rattle.time_plan.proofs.StepLemmas.{step_outcome, step_width, step_text}
 
 -- a text behind what ended without a refusal
-pub text_behind : {u : Unit} {width greatest count : ℕ} {o : Outcome} {bs : List ℕ} {old mid new : Vec ℕ Global}
-    → Ends width old mid (Ok u) o → Writes mid new count bs → width + length bs ≤ greatest
+pub text_behind : {u : Unit} {width greatest count : ℕ} {o : Outcome} {bs : List ℕ} {old mid new : Buffer}
+    → Ends width old mid (Ok u) o → Puts mid new count bs → width + length bs ≤ greatest
     → Ends greatest old new (Ok tt) (done (o.bytes ++ bs))
 text_behind {o = o} {bs = bs} {old = old} first second fits = record {
   appended = second.appended ∙ ap (λ (items : List ℕ). items ++ bs) first.appended
-      ∙ append_assoc old.items o.bytes bs;
+      ∙ append_assoc old.bytes o.bytes bs;
   refusal = refl;
   grown = omega (arith, first.grown, second.grown, length-append o.bytes bs);
   capacity = second.capacity ∙ first.capacity;
+  lender = second.lender ∙ first.lender;
   within = omega (arith, first.within, second.grown, fits);
 }
 
 -- so is the literal of a step
-pub step_ended : {more_count : ℕ} {u : Unit} (s : Step) (f : Facts) (old mid new : Vec ℕ Global)
+pub step_ended : {more_count : ℕ} {u : Unit} (s : Step) (f : Facts) (old mid new : Buffer)
     → Ends (tree_width (shown_tree s.shown)) old mid (Ok u) (tree_outcome (shown_tree s.shown) f)
-    → Writes mid new more_count (literal_bytes s.literal)
+    → Puts mid new more_count (literal_bytes s.literal)
     → AppendsTree (step_tree s) f old new (Ok tt)
 step_ended s f old mid new first second =
     let c = tree_outcome (shown_tree s.shown) f in
@@ -48,7 +48,7 @@ step_ended s f old mid new first second =
     }
 
 -- a component that is refused
-pub step_refused : {r : Refused} (s : Step) (f : Facts) (old new : Vec ℕ Global)
+pub step_refused : {r : Refused} (s : Step) (f : Facts) (old new : Buffer)
     → Ends (tree_width (shown_tree s.shown)) old new (Err r) (tree_outcome (shown_tree s.shown) f)
     → AppendsTree (step_tree s) f old new (Err r)
 step_refused {r = r} s f old new stopped =
@@ -60,6 +60,7 @@ step_refused {r = r} s f old new stopped =
       refusal = stopped.refusal;
       grown = stopped.grown;
       capacity = stopped.capacity;
+      lender = stopped.lender;
       within = omega (arith, stopped.within, step_width s);
     } in
     record {

@@ -6,7 +6,7 @@ ghost use Rattle.time_below.specs.Width.{tree_width, trees_width};
 ghost use Rattle.time_fmt.specs.Description.{tree_outcome};
 ghost use Rattle.time_fmt.specs.Ends.{Ends};
 ghost use Rattle.time_fmt.specs.Guarantee.{AppendsLeaf, AppendsTree};
-ghost use Rattle.time_fmt.specs.Room.{HasRoom, Ready, Writes};
+ghost use Rattle.time_fmt.specs.Sink.{Fits, Puts, Ready};
 ghost use Rattle.time_fmt.specs.Text.{padded_text};
 ghost use Rattle.time_plan.specs.Literal.{literal_bytes};
 ghost use Rattle.time_plan.specs.Shown.{run_tree, shown_tree};
@@ -18,34 +18,32 @@ use crate::step::Step;
 use time_below::Month;
 use time_below::format_description::modifier::Padding;
 use time_digits::ru8;
-use time_fmt::writers::{
-    fmt_calendar_year_full_extended_range, format_two_digits, put_back, take_out, write_bytes,
-};
-use time_fmt::{Refused, end_component, parts, write_often};
+use time_fmt::writers::{fmt_calendar_year_full_extended_range, format_two_digits, write_bytes};
+use time_fmt::{Refused, Sink, end_component, parts, write_often};
 use time_provide::ComponentProvider;
 
-/// Writes the steps in order, up to the first that is refused, and returns its refusal. The vector is
+/// Writes the steps in order, up to the first that is refused, and returns its refusal. The sink is
 /// taken out of its borrow meanwhile, so that its address and its length stay in registers from one
 /// step to the next.
 #[inline(never)]
-pub(crate) fn write_steps<V: ComponentProvider>(
+pub(crate) fn write_steps<S: Sink, V: ComponentProvider>(
     steps: &[Step],
-    output: &mut Vec<u8>,
+    output: &mut S,
     value: &V,
     state: &mut V::State,
 ) -> Result<(), Refused>
-    requires room { HasRoom output.old (trees_width (step_trees steps.now)) }
+    requires room { Fits (S.buffer output.old) (trees_width (step_trees steps.now)) }
     requires agrees { V.agrees state.old value.now }
     ensures appends { AppendsTree (all_of (step_trees steps.now)) (V.facts value.now)
-        output.old output.new result }
+        (S.buffer output.old) (S.buffer output.new) result }
     ensures agrees { V.agrees state.new value.now }
 {
-    let mut taken = take_out(output);
+    let mut taken = output.take_out();
     for step in steps {
         match write_step(step, &mut taken, value, state) {
             Some(Ok(())) => {}
             Some(Err(refused)) => {
-                put_back(output, taken);
+                output.put_back(taken);
                 return Err(refused);
             }
             None => {
@@ -53,30 +51,30 @@ pub(crate) fn write_steps<V: ComponentProvider>(
                 match write_seldom(step, &mut apart, value, state) {
                     Ok(_) => taken = apart,
                     Err(refused) => {
-                        put_back(output, apart);
+                        output.put_back(apart);
                         return Err(refused);
                     }
                 }
             }
         }
     }
-    put_back(output, taken);
+    output.put_back(taken);
     Ok(())
 }
 
 /// Writes a step that is met often, and returns its refusal, if it is refused. Of any other it writes
 /// nothing, and returns `None`. It becomes part of the loop.
 #[inline(always)]
-fn write_step<V: ComponentProvider>(
+fn write_step<S: Sink, V: ComponentProvider>(
     step: &Step,
-    output: &mut Vec<u8>,
+    output: &mut S,
     value: &V,
     state: &mut V::State,
 ) -> Option<Result<(), Refused>>
-    requires room { HasRoom output.old (tree_width (step_tree step.now)) }
+    requires room { Fits (S.buffer output.old) (tree_width (step_tree step.now)) }
     requires agrees { V.agrees state.old value.now }
     ensures appends { AppendsLeaf (step_tree step.now) (V.facts value.now)
-        output.old output.new result }
+        (S.buffer output.old) (S.buffer output.new) result }
     ensures agrees { V.agrees state.new value.now }
 {
     match write_shown(&step.shown, output, value, state) {
@@ -92,16 +90,16 @@ fn write_step<V: ComponentProvider>(
 /// Writes what a step shows, if that is met often, and returns its refusal, if it is refused. Of any other
 /// component it writes nothing, and returns `None`.
 #[inline(always)]
-fn write_shown<V: ComponentProvider>(
+fn write_shown<S: Sink, V: ComponentProvider>(
     shown: &Shown,
-    output: &mut Vec<u8>,
+    output: &mut S,
     value: &V,
     state: &mut V::State,
 ) -> Option<Result<(), Refused>>
-    requires ready { Ready output.old (tree_width (shown_tree shown.now))
+    requires ready { Ready (S.buffer output.old) (tree_width (shown_tree shown.now))
         (V.agrees state.old value.now) }
-    ensures writes { MatchOption result (output.new ≡ output.old)
-        (λ answer. Ends (tree_width (shown_tree shown.now)) output.old output.new answer
+    ensures writes { MatchOption result (S.buffer output.new ≡ S.buffer output.old)
+        (λ answer. Ends (tree_width (shown_tree shown.now)) (S.buffer output.old) (S.buffer output.new) answer
         (tree_outcome (shown_tree shown.now) (V.facts value.now))) × V.agrees state.new value.now }
 {
     match shown {
@@ -112,15 +110,15 @@ fn write_shown<V: ComponentProvider>(
 
 /// Writes a run of components. A value without them is refused.
 #[inline(always)]
-fn write_run<V: ComponentProvider>(
+fn write_run<S: Sink, V: ComponentProvider>(
     run: &Run,
-    output: &mut Vec<u8>,
+    output: &mut S,
     value: &V,
     state: &mut V::State,
 ) -> Result<(), Refused>
-    requires room { HasRoom output.old (tree_width (run_tree run.now)) }
+    requires room { Fits (S.buffer output.old) (tree_width (run_tree run.now)) }
     requires agrees { V.agrees state.old value.now }
-    ensures ends { Ends (tree_width (run_tree run.now)) output.old output.new result
+    ensures ends { Ends (tree_width (run_tree run.now)) (S.buffer output.old) (S.buffer output.new) result
         (tree_outcome (run_tree run.now) (V.facts value.now)) }
     ensures agrees { V.agrees state.new value.now }
 {
@@ -133,15 +131,15 @@ fn write_run<V: ComponentProvider>(
 
 /// Writes a date. A value without one is refused.
 #[inline(always)]
-fn write_date<V: ComponentProvider>(
+fn write_date<S: Sink, V: ComponentProvider>(
     between: Separators,
-    output: &mut Vec<u8>,
+    output: &mut S,
     value: &V,
     state: &mut V::State,
 ) -> Result<(), Refused>
-    requires room { HasRoom output.old (tree_width (run_tree (Run.Date between))) }
+    requires room { Fits (S.buffer output.old) (tree_width (run_tree (Run.Date between))) }
     requires agrees { V.agrees state.old value.now }
-    ensures ends { Ends (tree_width (run_tree (Run.Date between))) output.old output.new result
+    ensures ends { Ends (tree_width (run_tree (Run.Date between))) (S.buffer output.old) (S.buffer output.new) result
         (tree_outcome (run_tree (Run.Date between)) (V.facts value.now)) }
     ensures agrees { V.agrees state.new value.now }
 {
@@ -167,15 +165,15 @@ fn number_of(month: Month) -> ru8<0, 99>
 
 /// Writes a time of day. A value without one is refused.
 #[inline(always)]
-fn write_time<V: ComponentProvider>(
+fn write_time<S: Sink, V: ComponentProvider>(
     between: Separators,
-    output: &mut Vec<u8>,
+    output: &mut S,
     value: &V,
     state: &mut V::State,
 ) -> Result<(), Refused>
-    requires room { HasRoom output.old (tree_width (run_tree (Run.Time between))) }
+    requires room { Fits (S.buffer output.old) (tree_width (run_tree (Run.Time between))) }
     requires agrees { V.agrees state.old value.now }
-    ensures ends { Ends (tree_width (run_tree (Run.Time between))) output.old output.new result
+    ensures ends { Ends (tree_width (run_tree (Run.Time between))) (S.buffer output.old) (S.buffer output.new) result
         (tree_outcome (run_tree (Run.Time between)) (V.facts value.now)) }
     ensures agrees { V.agrees state.new value.now }
 {
@@ -193,37 +191,38 @@ fn write_time<V: ComponentProvider>(
 /// Writes two numbers in two places, each behind its byte, and returns the number of bytes.
 #[inline(always)]
 #[tactic(auto, using(time_fmt::proofs::TextLemmas::signed_parts))]
-fn write_two_after(
-    output: &mut Vec<u8>,
+fn write_two_after<S: Sink>(
+    output: &mut S,
     between: Separators,
     first: ru8<0, 99>,
     second: ru8<0, 99>,
 ) -> usize
-    requires room { HasRoom output.old (length
+    requires room { Fits (S.buffer output.old) (length
         (between.first ∷ (padded_text Padding.Zero 2 first
         ++ (between.second ∷ padded_text Padding.Zero 2 second)))) }
-    ensures writes { Writes output.old output.new result
+    ensures writes { Puts (S.buffer output.old) (S.buffer output.new) result
         (between.first ∷ (padded_text Padding.Zero 2 first
         ++ (between.second ∷ padded_text Padding.Zero 2 second))) }
 {
-    output.push_reserved(between.first);
+    let _room = output.room();
+    output.put_byte(between.first);
     let count = format_two_digits(output, first, Padding::Zero);
-    output.push_reserved(between.second);
+    output.put_byte(between.second);
     2 + count + format_two_digits(output, second, Padding::Zero)
 }
 
 /// Writes any step, or returns the refusal of what it shows.
 #[inline(never)]
-fn write_seldom<V: ComponentProvider>(
+fn write_seldom<S: Sink, V: ComponentProvider>(
     step: &Step,
-    output: &mut Vec<u8>,
+    output: &mut S,
     value: &V,
     state: &mut V::State,
 ) -> Result<(), Refused>
-    requires room { HasRoom output.old (tree_width (step_tree step.now)) }
+    requires room { Fits (S.buffer output.old) (tree_width (step_tree step.now)) }
     requires agrees { V.agrees state.old value.now }
     ensures appends { AppendsTree (step_tree step.now) (V.facts value.now)
-        output.old output.new result }
+        (S.buffer output.old) (S.buffer output.new) result }
     ensures agrees { V.agrees state.new value.now }
 {
     match end_shown(&step.shown, output, value, state) {
@@ -236,15 +235,15 @@ fn write_seldom<V: ComponentProvider>(
 }
 
 /// Writes what a step shows, or returns its refusal.
-fn end_shown<V: ComponentProvider>(
+fn end_shown<S: Sink, V: ComponentProvider>(
     shown: &Shown,
-    output: &mut Vec<u8>,
+    output: &mut S,
     value: &V,
     state: &mut V::State,
 ) -> Result<(), Refused>
-    requires room { HasRoom output.old (tree_width (shown_tree shown.now)) }
+    requires room { Fits (S.buffer output.old) (tree_width (shown_tree shown.now)) }
     requires agrees { V.agrees state.old value.now }
-    ensures ends { Ends (tree_width (shown_tree shown.now)) output.old output.new result
+    ensures ends { Ends (tree_width (shown_tree shown.now)) (S.buffer output.old) (S.buffer output.new) result
         (tree_outcome (shown_tree shown.now) (V.facts value.now)) }
     ensures agrees { V.agrees state.new value.now }
 {
@@ -256,36 +255,36 @@ fn end_shown<V: ComponentProvider>(
 
 /// Writes the literal behind a component, and returns the number of bytes.
 #[inline(always)]
-fn write_literal(output: &mut Vec<u8>, literal: &Literal) -> usize
-    requires room { HasRoom output.old (length (literal_bytes literal.now)) }
-    ensures writes { Writes output.old output.new result (literal_bytes literal.now) }
+fn write_literal<S: Sink>(output: &mut S, literal: &Literal) -> usize
+    requires room { Fits (S.buffer output.old) (length (literal_bytes literal.now)) }
+    ensures writes { Puts (S.buffer output.old) (S.buffer output.new) result (literal_bytes literal.now) }
 {
     match literal {
         Literal::Byte(byte) => {
-            output.push_reserved(*byte);
+            output.put_byte(*byte);
             1
         }
         Literal::Bytes(bytes) => write_several(output, bytes),
     }
 }
 
-/// Writes a literal of any length. The vector is taken out once more.
+/// Writes a literal of any length. The sink is taken out once more.
 #[inline(always)]
-fn write_several(output: &mut Vec<u8>, bytes: &[u8]) -> usize
-    requires room { HasRoom output.old (length bytes.now) }
-    ensures writes { Writes output.old output.new result bytes.now }
+fn write_several<S: Sink>(output: &mut S, bytes: &[u8]) -> usize
+    requires room { Fits (S.buffer output.old) (length bytes.now) }
+    ensures writes { Puts (S.buffer output.old) (S.buffer output.new) result bytes.now }
 {
     if bytes.is_empty() {
         return 0;
     }
     if bytes.len() == 2 {
         let (first, second) = (bytes[0], bytes[1]);
-        output.push_reserved(first);
-        output.push_reserved(second);
+        output.put_byte(first);
+        output.put_byte(second);
         return 2;
     }
-    let mut taken = take_out(output);
+    let mut taken = output.take_out();
     let count = write_bytes(&mut taken, bytes);
-    put_back(output, taken);
+    output.put_back(taken);
     count
 }

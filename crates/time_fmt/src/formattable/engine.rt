@@ -3,11 +3,12 @@ ghost use Rattle.std.specs.Prelude.{map};
 ghost use Rattle.time_below.specs.Tree.{all_of, trees};
 ghost use Rattle.time_below.specs.Width.{tree_width, trees_width};
 ghost use Rattle.time_fmt.specs.Guarantee.{AppendsLeaf, AppendsTree};
-ghost use Rattle.time_fmt.specs.Room.{HasRoom};
+ghost use Rattle.time_fmt.specs.Sink.{Fits};
 
 use crate::component::{end_component, write_current, write_often};
 use crate::refused::Refused;
-use crate::writers::{put_back, take_out, write, write_bytes, write_literal};
+use crate::sink::Sink;
+use crate::writers::{write, write_bytes, write_literal};
 use time_below::format_description::{Layer, Node};
 use time_provide::ComponentProvider;
 
@@ -16,24 +17,24 @@ use time_provide::ComponentProvider;
 /// leaf to the next.
 #[cycle(engine)]
 #[inline(always)]
-pub(super) fn write_nodes<T: Node, V: ComponentProvider>(
+pub(super) fn write_nodes<T: Node, S: Sink, V: ComponentProvider>(
     nodes: &[T],
-    output: &mut Vec<u8>,
+    output: &mut S,
     value: &V,
     state: &mut V::State,
 ) -> Result<(), Refused>
-    requires room { HasRoom output.old (trees_width (trees (map T.tree nodes.now))) }
+    requires room { Fits (S.buffer output.old) (trees_width (trees (map T.tree nodes.now))) }
     requires agrees { V.agrees state.old value.now }
     ensures appends { AppendsTree (all_of (trees (map T.tree nodes.now))) (V.facts value.now)
-        output.old output.new result }
+        (S.buffer output.old) (S.buffer output.new) result }
     ensures agrees { V.agrees state.new value.now }
 {
-    let mut taken = take_out(output);
+    let mut taken = output.take_out();
     for node in nodes {
         match write_leaf(node, &mut taken, value, state) {
             Some(Ok(())) => {}
             Some(Err(refused)) => {
-                put_back(output, taken);
+                output.put_back(taken);
                 return Err(refused);
             }
             None => {
@@ -41,35 +42,35 @@ pub(super) fn write_nodes<T: Node, V: ComponentProvider>(
                 match write_seldom(node, &mut apart, value, state) {
                     Some(Ok(())) => taken = apart,
                     Some(Err(refused)) => {
-                        put_back(output, apart);
+                        output.put_back(apart);
                         return Err(refused);
                     }
                     None => {
-                        put_back(output, apart);
+                        output.put_back(apart);
                         write_node(node, output, value, state)?;
-                        taken = take_out(output);
+                        taken = output.take_out();
                     }
                 }
             }
         }
     }
-    put_back(output, taken);
+    output.put_back(taken);
     Ok(())
 }
 
 /// Writes a literal, or a component that is met often, and returns its refusal, if it is refused. Of any
 /// other node it writes nothing, and returns `None`. It becomes part of the loop over a list.
 #[inline(always)]
-fn write_leaf<T: Node, V: ComponentProvider>(
+fn write_leaf<T: Node, S: Sink, V: ComponentProvider>(
     node: &T,
-    output: &mut Vec<u8>,
+    output: &mut S,
     value: &V,
     state: &mut V::State,
 ) -> Option<Result<(), Refused>>
-    requires room { HasRoom output.old (tree_width (T.tree node.now)) }
+    requires room { Fits (S.buffer output.old) (tree_width (T.tree node.now)) }
     requires agrees { V.agrees state.old value.now }
     ensures appends { AppendsLeaf (T.tree node.now) (V.facts value.now)
-        output.old output.new result }
+        (S.buffer output.old) (S.buffer output.new) result }
     ensures agrees { V.agrees state.new value.now }
 {
     match node.layer() {
@@ -89,16 +90,16 @@ fn write_leaf<T: Node, V: ComponentProvider>(
 /// Writes a component that is not deprecated, and returns its refusal, if it is refused. Of any other node
 /// it writes nothing, and returns `None`.
 #[inline(always)]
-fn write_seldom<T: Node, V: ComponentProvider>(
+fn write_seldom<T: Node, S: Sink, V: ComponentProvider>(
     node: &T,
-    output: &mut Vec<u8>,
+    output: &mut S,
     value: &V,
     state: &mut V::State,
 ) -> Option<Result<(), Refused>>
-    requires room { HasRoom output.old (tree_width (T.tree node.now)) }
+    requires room { Fits (S.buffer output.old) (tree_width (T.tree node.now)) }
     requires agrees { V.agrees state.old value.now }
     ensures appends { AppendsLeaf (T.tree node.now) (V.facts value.now)
-        output.old output.new result }
+        (S.buffer output.old) (S.buffer output.new) result }
     ensures agrees { V.agrees state.new value.now }
 {
     match node.layer() {
@@ -110,15 +111,15 @@ fn write_seldom<T: Node, V: ComponentProvider>(
 /// Appends the text of the node, up to the first component that is refused, and returns its refusal.
 #[cycle(engine)]
 #[inline(never)]
-pub(super) fn write_node<T: Node, V: ComponentProvider>(
+pub(super) fn write_node<T: Node, S: Sink, V: ComponentProvider>(
     node: &T,
-    output: &mut Vec<u8>,
+    output: &mut S,
     value: &V,
     state: &mut V::State,
 ) -> Result<(), Refused>
-    requires room { HasRoom output.old (tree_width (T.tree node.now)) }
+    requires room { Fits (S.buffer output.old) (tree_width (T.tree node.now)) }
     requires agrees { V.agrees state.old value.now }
-    ensures appends { AppendsTree (T.tree node.now) (V.facts value.now) output.old output.new result }
+    ensures appends { AppendsTree (T.tree node.now) (V.facts value.now) (S.buffer output.old) (S.buffer output.new) result }
     ensures agrees { V.agrees state.new value.now }
 {
     match node.layer() {

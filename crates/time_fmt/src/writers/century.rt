@@ -7,11 +7,12 @@ ghost use Rattle.std.specs.Prelude.{◌≡◌, ◌%◌, int_lt, length, pos, uns
 ghost use Rattle.time_below.specs.declared.format_description.component.Component.TheVariants as component;
 ghost use Rattle.time_fmt.specs.Ends.{Ends};
 ghost use Rattle.time_fmt.specs.Kind.{kind_text, kind_outcome, extended_century, standard_century, century_of};
-ghost use Rattle.time_fmt.specs.Room.{HasRoom, Writes};
+ghost use Rattle.time_fmt.specs.Sink.{Fits, Puts};
 ghost use Rattle.time_fmt.specs.Text.{padded_text};
 
 use crate::modifier::Modifier;
 use crate::refused::Refused;
+use crate::sink::Sink;
 use crate::writers::digits::{fmt_sign, format_two_digits};
 use crate::writers::plain::write_many;
 use time_below::format_description::modifier::Padding;
@@ -23,16 +24,16 @@ use time_provide::ranges::{ExtendedCentury, LastTwo, StandardCentury, Year};
 
 /// Appends the year's sign and two places of its century, or all its digits and a sign from 100 on.
 #[inline]
-pub fn fmt_calendar_year_century_extended_range(
-    output: &mut Vec<u8>,
+pub fn fmt_calendar_year_century_extended_range<S: Sink>(
+    output: &mut S,
     century: ExtendedCentury,
     is_negative: bool,
     modifier: modifier::CalendarYearCenturyExtendedRange,
 ) -> usize
-    requires room { HasRoom output.old
+    requires room { Fits (S.buffer output.old)
         (length (kind_text (extended_century modifier.padding modifier.sign_is_mandatory
         is_negative (unsigned_abs century)))) }
-    ensures writes { Writes output.old output.new result
+    ensures writes { Puts (S.buffer output.old) (S.buffer output.new) result
         (kind_text (extended_century modifier.padding modifier.sign_is_mandatory
         is_negative (unsigned_abs century))) }
 {
@@ -49,9 +50,9 @@ impl Modifier for modifier::CalendarYearCenturyExtendedRange {
     }
 
     #[inline(always)]
-    fn write_supplied<V: ComponentProvider>(
+    fn write_supplied<S: Sink, V: ComponentProvider>(
         self,
-        output: &mut Vec<u8>,
+        output: &mut S,
         value: &V,
         state: &mut V::State,
     ) -> Result<(), Refused> {
@@ -63,16 +64,16 @@ impl Modifier for modifier::CalendarYearCenturyExtendedRange {
 
 /// Appends the year's sign and two places of its century.
 #[inline]
-pub fn fmt_calendar_year_century_standard_range(
-    output: &mut Vec<u8>,
+pub fn fmt_calendar_year_century_standard_range<S: Sink>(
+    output: &mut S,
     century: StandardCentury,
     is_negative: bool,
     modifier: modifier::CalendarYearCenturyStandardRange,
 ) -> usize
-    requires room { HasRoom output.old
+    requires room { Fits (S.buffer output.old)
         (length (kind_text (standard_century modifier.padding modifier.sign_is_mandatory
         is_negative (unsigned_abs century)))) }
-    ensures writes { Writes output.old output.new result
+    ensures writes { Puts (S.buffer output.old) (S.buffer output.new) result
         (kind_text (standard_century modifier.padding modifier.sign_is_mandatory
         is_negative (unsigned_abs century))) }
 {
@@ -89,9 +90,9 @@ impl Modifier for modifier::CalendarYearCenturyStandardRange {
     }
 
     #[inline(always)]
-    fn write_supplied<V: ComponentProvider>(
+    fn write_supplied<S: Sink, V: ComponentProvider>(
         self,
-        output: &mut Vec<u8>,
+        output: &mut S,
         value: &V,
         state: &mut V::State,
     ) -> Result<(), Refused> {
@@ -103,16 +104,16 @@ impl Modifier for modifier::CalendarYearCenturyStandardRange {
 /// Appends the sign and two places of the century of the week calendar's year, or all its digits
 /// and a sign from 100 on. The sign is that of the year.
 #[inline]
-pub fn fmt_iso_year_century_extended_range(
-    output: &mut Vec<u8>,
+pub fn fmt_iso_year_century_extended_range<S: Sink>(
+    output: &mut S,
     century: ExtendedCentury,
     is_negative: bool,
     modifier: modifier::IsoYearCenturyExtendedRange,
 ) -> usize
-    requires room { HasRoom output.old
+    requires room { Fits (S.buffer output.old)
         (length (kind_text (extended_century modifier.padding modifier.sign_is_mandatory
         is_negative (unsigned_abs century)))) }
-    ensures writes { Writes output.old output.new result
+    ensures writes { Puts (S.buffer output.old) (S.buffer output.new) result
         (kind_text (extended_century modifier.padding modifier.sign_is_mandatory
         is_negative (unsigned_abs century))) }
 {
@@ -129,9 +130,9 @@ impl Modifier for modifier::IsoYearCenturyExtendedRange {
     }
 
     #[inline(always)]
-    fn write_supplied<V: ComponentProvider>(
+    fn write_supplied<S: Sink, V: ComponentProvider>(
         self,
-        output: &mut Vec<u8>,
+        output: &mut S,
         value: &V,
         state: &mut V::State,
     ) -> Result<(), Refused> {
@@ -144,16 +145,16 @@ impl Modifier for modifier::IsoYearCenturyExtendedRange {
 /// Appends the sign and two places of the century of the week calendar's year. The sign is that of
 /// the year.
 #[inline]
-pub fn fmt_iso_year_century_standard_range(
-    output: &mut Vec<u8>,
+pub fn fmt_iso_year_century_standard_range<S: Sink>(
+    output: &mut S,
     century: StandardCentury,
     is_negative: bool,
     modifier: modifier::IsoYearCenturyStandardRange,
 ) -> usize
-    requires room { HasRoom output.old
+    requires room { Fits (S.buffer output.old)
         (length (kind_text (standard_century modifier.padding modifier.sign_is_mandatory
         is_negative (unsigned_abs century)))) }
-    ensures writes { Writes output.old output.new result
+    ensures writes { Puts (S.buffer output.old) (S.buffer output.new) result
         (kind_text (standard_century modifier.padding modifier.sign_is_mandatory
         is_negative (unsigned_abs century))) }
 {
@@ -170,9 +171,9 @@ impl Modifier for modifier::IsoYearCenturyStandardRange {
     }
 
     #[inline(always)]
-    fn write_supplied<V: ComponentProvider>(
+    fn write_supplied<S: Sink, V: ComponentProvider>(
         self,
-        output: &mut Vec<u8>,
+        output: &mut S,
         value: &V,
         state: &mut V::State,
     ) -> Result<(), Refused> {
@@ -183,13 +184,13 @@ impl Modifier for modifier::IsoYearCenturyStandardRange {
 
 /// Appends the last two digits of the year, 0 to 99, in two places.
 #[inline]
-pub fn fmt_calendar_year_last_two(
-    output: &mut Vec<u8>,
+pub fn fmt_calendar_year_last_two<S: Sink>(
+    output: &mut S,
     last_two: LastTwo,
     modifier: modifier::CalendarYearLastTwo,
 ) -> usize
-    requires room { HasRoom output.old (length (padded_text modifier.padding 2 last_two)) }
-    ensures writes { Writes output.old output.new result (padded_text modifier.padding 2 last_two) }
+    requires room { Fits (S.buffer output.old) (length (padded_text modifier.padding 2 last_two)) }
+    ensures writes { Puts (S.buffer output.old) (S.buffer output.new) result (padded_text modifier.padding 2 last_two) }
 {
     format_two_digits(output, last_two, modifier.padding)
 }
@@ -204,9 +205,9 @@ impl Modifier for modifier::CalendarYearLastTwo {
 
     #[inline(always)]
     #[tactic(auto, using(crate::proofs::TextLemmas::text_lengths))]
-    fn write_supplied<V: ComponentProvider>(
+    fn write_supplied<S: Sink, V: ComponentProvider>(
         self,
-        output: &mut Vec<u8>,
+        output: &mut S,
         value: &V,
         state: &mut V::State,
     ) -> Result<(), Refused> {
@@ -217,13 +218,13 @@ impl Modifier for modifier::CalendarYearLastTwo {
 
 /// Appends the last two digits of the week calendar's year, 0 to 99, in two places.
 #[inline]
-pub fn fmt_iso_year_last_two(
-    output: &mut Vec<u8>,
+pub fn fmt_iso_year_last_two<S: Sink>(
+    output: &mut S,
     last_two: LastTwo,
     modifier: modifier::IsoYearLastTwo,
 ) -> usize
-    requires room { HasRoom output.old (length (padded_text modifier.padding 2 last_two)) }
-    ensures writes { Writes output.old output.new result (padded_text modifier.padding 2 last_two) }
+    requires room { Fits (S.buffer output.old) (length (padded_text modifier.padding 2 last_two)) }
+    ensures writes { Puts (S.buffer output.old) (S.buffer output.new) result (padded_text modifier.padding 2 last_two) }
 {
     format_two_digits(output, last_two, modifier.padding)
 }
@@ -238,9 +239,9 @@ impl Modifier for modifier::IsoYearLastTwo {
 
     #[inline(always)]
     #[tactic(auto, using(crate::proofs::TextLemmas::text_lengths))]
-    fn write_supplied<V: ComponentProvider>(
+    fn write_supplied<S: Sink, V: ComponentProvider>(
         self,
-        output: &mut Vec<u8>,
+        output: &mut S,
         value: &V,
         state: &mut V::State,
     ) -> Result<(), Refused> {
@@ -249,32 +250,32 @@ impl Modifier for modifier::IsoYearLastTwo {
     }
 }
 
-fn write_extended_century(
-    output: &mut Vec<u8>,
+fn write_extended_century<S: Sink>(
+    output: &mut S,
     century: ru16<0, 9_999>,
     is_negative: bool,
     padding: Padding,
     sign_is_mandatory: bool,
 ) -> usize
-    requires room { HasRoom output.old
+    requires room { Fits (S.buffer output.old)
         (length (kind_text (extended_century padding sign_is_mandatory is_negative century))) }
-    ensures writes { Writes output.old output.new result
+    ensures writes { Puts (S.buffer output.old) (S.buffer output.new) result
         (kind_text (extended_century padding sign_is_mandatory is_negative century)) }
 {
     let sign = fmt_sign(output, is_negative, sign_is_mandatory || century.get() > 99);
     sign + write_century_digits(output, century, padding)
 }
 
-fn write_standard_century(
-    output: &mut Vec<u8>,
+fn write_standard_century<S: Sink>(
+    output: &mut S,
     century: ru8<0, 99>,
     is_negative: bool,
     padding: Padding,
     sign_is_mandatory: bool,
 ) -> usize
-    requires room { HasRoom output.old
+    requires room { Fits (S.buffer output.old)
         (length (kind_text (standard_century padding sign_is_mandatory is_negative century))) }
-    ensures writes { Writes output.old output.new result
+    ensures writes { Puts (S.buffer output.old) (S.buffer output.new) result
         (kind_text (standard_century padding sign_is_mandatory is_negative century)) }
 {
     let sign = fmt_sign(output, is_negative, sign_is_mandatory);
@@ -283,9 +284,9 @@ fn write_standard_century(
 
 // Appends a century in two places, or all its digits.
 #[tactic(auto, using(crate::proofs::TextLemmas::whole_century))]
-fn write_century_digits(output: &mut Vec<u8>, century: ru16<0, 9_999>, padding: Padding) -> usize
-    requires room { HasRoom output.old (length (padded_text padding 2 century)) }
-    ensures writes { Writes output.old output.new result (padded_text padding 2 century) }
+fn write_century_digits<S: Sink>(output: &mut S, century: ru16<0, 9_999>, padding: Padding) -> usize
+    requires room { Fits (S.buffer output.old) (length (padded_text padding 2 century)) }
+    ensures writes { Puts (S.buffer output.old) (S.buffer output.new) result (padded_text padding 2 century) }
 {
     let number = century.get();
     if number < 100 {
@@ -296,9 +297,9 @@ fn write_century_digits(output: &mut Vec<u8>, century: ru16<0, 9_999>, padding: 
 }
 
 // Appends the century of a year of either calendar.
-fn write_any_century(output: &mut Vec<u8>, year: Year, padding: Padding, sign_is_mandatory: bool)
-    requires room { HasRoom output.old 5 }
-    ensures ends { Ends 5 output.old output.new (Ok result)
+fn write_any_century<S: Sink>(output: &mut S, year: Year, padding: Padding, sign_is_mandatory: bool)
+    requires room { Fits (S.buffer output.old) 5 }
+    ensures ends { Ends 5 (S.buffer output.old) (S.buffer output.new) (Ok result)
         (kind_outcome (extended_century padding sign_is_mandatory
         (int_lt year (pos 0)) (century_of year))) }
 {
@@ -308,14 +309,14 @@ fn write_any_century(output: &mut Vec<u8>, year: Year, padding: Padding, sign_is
 }
 
 // Appends the century of a year of either calendar, if it has at most two digits.
-fn write_accepted_century(
-    output: &mut Vec<u8>,
+fn write_accepted_century<S: Sink>(
+    output: &mut S,
     year: Year,
     padding: Padding,
     sign_is_mandatory: bool,
 ) -> Result<(), Refused>
-    requires room { HasRoom output.old 3 }
-    ensures ends { Ends 3 output.old output.new result
+    requires room { Fits (S.buffer output.old) 3 }
+    ensures ends { Ends 3 (S.buffer output.old) (S.buffer output.new) result
         (kind_outcome (standard_century padding sign_is_mandatory
         (int_lt year (pos 0)) (century_of year))) }
 {

@@ -5,13 +5,14 @@ ghost use Rattle.std.specs.Prelude.{◌≡◌, ◌≤◌, length};
 ghost use Rattle.time_below.specs.declared.format_description.component.Component.TheVariants as component;
 ghost use Rattle.time_below.specs.Month.{month_number};
 ghost use Rattle.time_fmt.specs.DateText.{month_name, short_name};
-ghost use Rattle.time_fmt.specs.Room.{HasRoom, Writes};
+ghost use Rattle.time_fmt.specs.Sink.{Fits, Puts};
 ghost use Rattle.time_fmt.specs.Text.{padded_text};
 
 use crate::modifier::Modifier;
 use crate::refused::Refused;
+use crate::sink::Sink;
 use crate::writers::digits::{format_three_digits, format_two_digits};
-use crate::writers::plain::{put_back, take_out, write_each, write_three};
+use crate::writers::plain::{write_each, write_three};
 use time_below::Month;
 use time_below::format_description::{Group, modifier};
 use time_digits::ru8;
@@ -20,9 +21,9 @@ use time_provide::ranges::{Day, Ordinal};
 
 /// Appends the day of the month, 1 to 31, in two places.
 #[inline(always)]
-pub fn fmt_day(output: &mut Vec<u8>, day: Day, modifier: modifier::Day) -> usize
-    requires room { HasRoom output.old (length (padded_text modifier.padding 2 day)) }
-    ensures writes { Writes output.old output.new result (padded_text modifier.padding 2 day) }
+pub fn fmt_day<S: Sink>(output: &mut S, day: Day, modifier: modifier::Day) -> usize
+    requires room { Fits (S.buffer output.old) (length (padded_text modifier.padding 2 day)) }
+    ensures writes { Puts (S.buffer output.old) (S.buffer output.new) result (padded_text modifier.padding 2 day) }
 {
     format_two_digits(output, day.expand(), modifier.padding)
 }
@@ -36,9 +37,9 @@ impl Modifier for modifier::Day {
     }
 
     #[inline(always)]
-    fn write_supplied<V: ComponentProvider>(
+    fn write_supplied<S: Sink, V: ComponentProvider>(
         self,
-        output: &mut Vec<u8>,
+        output: &mut S,
         value: &V,
         state: &mut V::State,
     ) -> Result<(), Refused> {
@@ -49,9 +50,13 @@ impl Modifier for modifier::Day {
 
 /// Appends the first three letters of the month's English name.
 #[inline(always)]
-pub fn fmt_month_short(output: &mut Vec<u8>, month: Month, modifier: modifier::MonthShort) -> usize
-    requires room { HasRoom output.old (length (short_name (month_name (month_number month)))) }
-    ensures writes { Writes output.old output.new result
+pub fn fmt_month_short<S: Sink>(
+    output: &mut S,
+    month: Month,
+    modifier: modifier::MonthShort,
+) -> usize
+    requires room { Fits (S.buffer output.old) (length (short_name (month_name (month_number month)))) }
+    ensures writes { Puts (S.buffer output.old) (S.buffer output.new) result
         (short_name (month_name (month_number month))) }
 {
     let _ = modifier;
@@ -67,9 +72,9 @@ impl Modifier for modifier::MonthShort {
     }
 
     #[inline(always)]
-    fn write_supplied<V: ComponentProvider>(
+    fn write_supplied<S: Sink, V: ComponentProvider>(
         self,
-        output: &mut Vec<u8>,
+        output: &mut S,
         value: &V,
         state: &mut V::State,
     ) -> Result<(), Refused> {
@@ -80,12 +85,12 @@ impl Modifier for modifier::MonthShort {
 
 /// Appends the month's English name.
 #[inline]
-pub fn fmt_month_long(output: &mut Vec<u8>, month: Month, modifier: modifier::MonthLong) -> usize
-    requires room { HasRoom output.old (length (month_name (month_number month))) }
-    ensures writes { Writes output.old output.new result (month_name (month_number month)) }
+pub fn fmt_month_long<S: Sink>(output: &mut S, month: Month, modifier: modifier::MonthLong) -> usize
+    requires room { Fits (S.buffer output.old) (length (month_name (month_number month))) }
+    ensures writes { Puts (S.buffer output.old) (S.buffer output.new) result (month_name (month_number month)) }
 {
     let _ = modifier;
-    let mut taken = take_out(output);
+    let mut taken = output.take_out();
     let count = match month {
         Month::January => write_each(&mut taken, b"January"),
         Month::February => write_each(&mut taken, b"February"),
@@ -100,7 +105,7 @@ pub fn fmt_month_long(output: &mut Vec<u8>, month: Month, modifier: modifier::Mo
         Month::November => write_each(&mut taken, b"November"),
         Month::December => write_each(&mut taken, b"December"),
     };
-    put_back(output, taken);
+    output.put_back(taken);
     count
 }
 
@@ -113,9 +118,9 @@ impl Modifier for modifier::MonthLong {
     }
 
     #[inline(always)]
-    fn write_supplied<V: ComponentProvider>(
+    fn write_supplied<S: Sink, V: ComponentProvider>(
         self,
-        output: &mut Vec<u8>,
+        output: &mut S,
         value: &V,
         state: &mut V::State,
     ) -> Result<(), Refused> {
@@ -126,14 +131,14 @@ impl Modifier for modifier::MonthLong {
 
 /// Appends the month, 1 to 12, in two places.
 #[inline(always)]
-pub fn fmt_month_numerical(
-    output: &mut Vec<u8>,
+pub fn fmt_month_numerical<S: Sink>(
+    output: &mut S,
     month: Month,
     modifier: modifier::MonthNumerical,
 ) -> usize
-    requires room { HasRoom output.old
+    requires room { Fits (S.buffer output.old)
         (length (padded_text modifier.padding 2 (month_number month))) }
-    ensures writes { Writes output.old output.new result
+    ensures writes { Puts (S.buffer output.old) (S.buffer output.new) result
         (padded_text modifier.padding 2 (month_number month)) }
 {
     format_two_digits(output, ru8::new(u8::from(month)).unwrap(), modifier.padding)
@@ -148,9 +153,9 @@ impl Modifier for modifier::MonthNumerical {
     }
 
     #[inline(always)]
-    fn write_supplied<V: ComponentProvider>(
+    fn write_supplied<S: Sink, V: ComponentProvider>(
         self,
-        output: &mut Vec<u8>,
+        output: &mut S,
         value: &V,
         state: &mut V::State,
     ) -> Result<(), Refused> {
@@ -163,9 +168,9 @@ impl Modifier for modifier::MonthNumerical {
 
 /// Appends the day of the year, 1 to 366, in three places.
 #[inline]
-pub fn fmt_ordinal(output: &mut Vec<u8>, ordinal: Ordinal, modifier: modifier::Ordinal) -> usize
-    requires room { HasRoom output.old (length (padded_text modifier.padding 3 ordinal)) }
-    ensures writes { Writes output.old output.new result (padded_text modifier.padding 3 ordinal) }
+pub fn fmt_ordinal<S: Sink>(output: &mut S, ordinal: Ordinal, modifier: modifier::Ordinal) -> usize
+    requires room { Fits (S.buffer output.old) (length (padded_text modifier.padding 3 ordinal)) }
+    ensures writes { Puts (S.buffer output.old) (S.buffer output.new) result (padded_text modifier.padding 3 ordinal) }
 {
     format_three_digits(output, ordinal.expand(), modifier.padding)
 }
@@ -179,9 +184,9 @@ impl Modifier for modifier::Ordinal {
     }
 
     #[inline(always)]
-    fn write_supplied<V: ComponentProvider>(
+    fn write_supplied<S: Sink, V: ComponentProvider>(
         self,
-        output: &mut Vec<u8>,
+        output: &mut S,
         value: &V,
         state: &mut V::State,
     ) -> Result<(), Refused> {

@@ -1,10 +1,11 @@
 //! Numbers, and the signs before them.
 ghost use Rattle.std.specs.Prelude.{◌<◌, ◌≤◌, length, decimal, replicate};
 ghost use Rattle.time_digits.specs.Digits.{fixed, zero_padded};
-ghost use Rattle.time_fmt.specs.Room.{HasRoom, Writes};
+ghost use Rattle.time_fmt.specs.Sink.{Fits, Puts};
 ghost use Rattle.time_fmt.specs.Text.{padded_text, sign_text};
 
-use crate::writers::plain::{put_back, take_out, write, write_many, write_pair};
+use crate::sink::Sink;
+use crate::writers::plain::{write, write_many, write_pair};
 use time_below::format_description::modifier::Padding;
 use time_digits::num_fmt::{
     five_digits_zero_padded, four_digits_space_padded, four_digits_zero_padded,
@@ -16,15 +17,15 @@ use time_digits::{ru8, ru16, ru32};
 
 /// Appends a minus, or a plus where it is wanted.
 #[inline(always)]
-pub fn fmt_sign(output: &mut Vec<u8>, is_negative: bool, sign_is_mandatory: bool) -> usize
-    requires room { HasRoom output.old (length (sign_text is_negative sign_is_mandatory)) }
-    ensures writes { Writes output.old output.new result (sign_text is_negative sign_is_mandatory) }
+pub fn fmt_sign<S: Sink>(output: &mut S, is_negative: bool, sign_is_mandatory: bool) -> usize
+    requires room { Fits (S.buffer output.old) (length (sign_text is_negative sign_is_mandatory)) }
+    ensures writes { Puts (S.buffer output.old) (S.buffer output.new) result (sign_text is_negative sign_is_mandatory) }
 {
     if is_negative {
-        output.push_reserved(b'-');
+        output.put_byte(b'-');
         1
     } else if sign_is_mandatory {
-        output.push_reserved(b'+');
+        output.put_byte(b'+');
         1
     } else {
         0
@@ -33,18 +34,18 @@ pub fn fmt_sign(output: &mut Vec<u8>, is_negative: bool, sign_is_mandatory: bool
 
 /// Appends one digit.
 #[inline]
-pub fn format_single_digit(output: &mut Vec<u8>, value: ru8<0, 9>) -> usize
-    requires room { HasRoom output.old (length (decimal value)) }
-    ensures writes { Writes output.old output.new result (decimal value) }
+pub fn format_single_digit<S: Sink>(output: &mut S, value: ru8<0, 9>) -> usize
+    requires room { Fits (S.buffer output.old) (length (decimal value)) }
+    ensures writes { Puts (S.buffer output.old) (S.buffer output.new) result (decimal value) }
 {
     write(output, single_digit(value))
 }
 
 /// Appends a number of at most two digits, in two places.
 #[inline(always)]
-pub fn format_two_digits(output: &mut Vec<u8>, value: ru8<0, 99>, padding: Padding) -> usize
-    requires room { HasRoom output.old (length (padded_text padding 2 value)) }
-    ensures writes { Writes output.old output.new result (padded_text padding 2 value) }
+pub fn format_two_digits<S: Sink>(output: &mut S, value: ru8<0, 99>, padding: Padding) -> usize
+    requires room { Fits (S.buffer output.old) (length (padded_text padding 2 value)) }
+    ensures writes { Puts (S.buffer output.old) (S.buffer output.new) result (padded_text padding 2 value) }
 {
     match padding {
         Padding::Zero => write_pair(output, two_digits_zero_padded(value)),
@@ -55,22 +56,22 @@ pub fn format_two_digits(output: &mut Vec<u8>, value: ru8<0, 99>, padding: Paddi
 // Appends two places of rare padding to a vector that is taken out, since most numbers have zeros
 // in front.
 #[inline]
-fn write_two_rarely(output: &mut Vec<u8>, value: ru8<0, 99>, padding: Padding) -> usize
-    requires room { HasRoom output.old (length (padded_text padding 2 value)) }
-    ensures writes { Writes output.old output.new result (padded_text padding 2 value) }
+fn write_two_rarely<S: Sink>(output: &mut S, value: ru8<0, 99>, padding: Padding) -> usize
+    requires room { Fits (S.buffer output.old) (length (padded_text padding 2 value)) }
+    ensures writes { Puts (S.buffer output.old) (S.buffer output.new) result (padded_text padding 2 value) }
 {
-    let mut taken = take_out(output);
+    let mut taken = output.take_out();
     let count = write_two_places(&mut taken, value, padding);
-    put_back(output, taken);
+    output.put_back(taken);
     count
 }
 
 // Appends two places to a vector that was taken out.
 #[cold]
 #[inline(never)]
-fn write_two_places(output: &mut Vec<u8>, value: ru8<0, 99>, padding: Padding) -> usize
-    requires room { HasRoom output.old (length (padded_text padding 2 value)) }
-    ensures writes { Writes output.old output.new result (padded_text padding 2 value) }
+fn write_two_places<S: Sink>(output: &mut S, value: ru8<0, 99>, padding: Padding) -> usize
+    requires room { Fits (S.buffer output.old) (length (padded_text padding 2 value)) }
+    ensures writes { Puts (S.buffer output.old) (S.buffer output.new) result (padded_text padding 2 value) }
 {
     match padding {
         Padding::Zero => write(output, two_digits_zero_padded(value)),
@@ -81,9 +82,9 @@ fn write_two_places(output: &mut Vec<u8>, value: ru8<0, 99>, padding: Padding) -
 
 /// Appends a number of at most three digits, in three places.
 #[inline]
-pub fn format_three_digits(output: &mut Vec<u8>, value: ru16<0, 999>, padding: Padding) -> usize
-    requires room { HasRoom output.old (length (padded_text padding 3 value)) }
-    ensures writes { Writes output.old output.new result (padded_text padding 3 value) }
+pub fn format_three_digits<S: Sink>(output: &mut S, value: ru16<0, 999>, padding: Padding) -> usize
+    requires room { Fits (S.buffer output.old) (length (padded_text padding 3 value)) }
+    ensures writes { Puts (S.buffer output.old) (S.buffer output.new) result (padded_text padding 3 value) }
 {
     match padding {
         Padding::Zero => write_many(output, &three_digits_zero_padded(value)),
@@ -94,9 +95,9 @@ pub fn format_three_digits(output: &mut Vec<u8>, value: ru16<0, 999>, padding: P
 
 /// Appends a number of at most four digits, in four places.
 #[inline(always)]
-pub fn format_four_digits(output: &mut Vec<u8>, value: ru16<0, 9_999>, padding: Padding) -> usize
-    requires room { HasRoom output.old (length (padded_text padding 4 value)) }
-    ensures writes { Writes output.old output.new result (padded_text padding 4 value) }
+pub fn format_four_digits<S: Sink>(output: &mut S, value: ru16<0, 9_999>, padding: Padding) -> usize
+    requires room { Fits (S.buffer output.old) (length (padded_text padding 4 value)) }
+    ensures writes { Puts (S.buffer output.old) (S.buffer output.new) result (padded_text padding 4 value) }
 {
     match padding {
         Padding::Zero => format_four_digits_pad_zero(output, value),
@@ -107,22 +108,22 @@ pub fn format_four_digits(output: &mut Vec<u8>, value: ru16<0, 9_999>, padding: 
 // Appends four places of rare padding to a vector that is taken out, since most numbers have zeros
 // in front.
 #[inline]
-fn write_four_rarely(output: &mut Vec<u8>, value: ru16<0, 9_999>, padding: Padding) -> usize
-    requires room { HasRoom output.old (length (padded_text padding 4 value)) }
-    ensures writes { Writes output.old output.new result (padded_text padding 4 value) }
+fn write_four_rarely<S: Sink>(output: &mut S, value: ru16<0, 9_999>, padding: Padding) -> usize
+    requires room { Fits (S.buffer output.old) (length (padded_text padding 4 value)) }
+    ensures writes { Puts (S.buffer output.old) (S.buffer output.new) result (padded_text padding 4 value) }
 {
-    let mut taken = take_out(output);
+    let mut taken = output.take_out();
     let count = write_four_places(&mut taken, value, padding);
-    put_back(output, taken);
+    output.put_back(taken);
     count
 }
 
 // Appends four places to a vector that was taken out.
 #[cold]
 #[inline(never)]
-fn write_four_places(output: &mut Vec<u8>, value: ru16<0, 9_999>, padding: Padding) -> usize
-    requires room { HasRoom output.old (length (padded_text padding 4 value)) }
-    ensures writes { Writes output.old output.new result (padded_text padding 4 value) }
+fn write_four_places<S: Sink>(output: &mut S, value: ru16<0, 9_999>, padding: Padding) -> usize
+    requires room { Fits (S.buffer output.old) (length (padded_text padding 4 value)) }
+    ensures writes { Puts (S.buffer output.old) (S.buffer output.new) result (padded_text padding 4 value) }
 {
     match padding {
         Padding::Zero => format_four_digits_pad_zero(output, value),
@@ -133,9 +134,9 @@ fn write_four_places(output: &mut Vec<u8>, value: ru16<0, 9_999>, padding: Paddi
 
 /// Appends a number in four places, with zeros in front.
 #[inline(always)]
-pub fn format_four_digits_pad_zero(output: &mut Vec<u8>, value: ru16<0, 9_999>) -> usize
-    requires room { HasRoom output.old (length (zero_padded 4 value)) }
-    ensures writes { Writes output.old output.new result (zero_padded 4 value) }
+pub fn format_four_digits_pad_zero<S: Sink>(output: &mut S, value: ru16<0, 9_999>) -> usize
+    requires room { Fits (S.buffer output.old) (length (zero_padded 4 value)) }
+    ensures writes { Puts (S.buffer output.old) (S.buffer output.new) result (zero_padded 4 value) }
 {
     let [high, low] = four_digits_zero_padded(value);
     let count = write_pair(output, high);
@@ -144,18 +145,18 @@ pub fn format_four_digits_pad_zero(output: &mut Vec<u8>, value: ru16<0, 9_999>) 
 
 /// Appends a number in five places, with zeros in front.
 #[inline]
-pub fn format_five_digits_pad_zero(output: &mut Vec<u8>, value: ru32<0, 99_999>) -> usize
-    requires room { HasRoom output.old (length (zero_padded 5 value)) }
-    ensures writes { Writes output.old output.new result (zero_padded 5 value) }
+pub fn format_five_digits_pad_zero<S: Sink>(output: &mut S, value: ru32<0, 99_999>) -> usize
+    requires room { Fits (S.buffer output.old) (length (zero_padded 5 value)) }
+    ensures writes { Puts (S.buffer output.old) (S.buffer output.new) result (zero_padded 5 value) }
 {
     write_many(output, &five_digits_zero_padded(value))
 }
 
 /// Appends a number in six places, with zeros in front.
 #[inline]
-pub fn format_six_digits_pad_zero(output: &mut Vec<u8>, value: ru32<0, 999_999>) -> usize
-    requires room { HasRoom output.old (length (zero_padded 6 value)) }
-    ensures writes { Writes output.old output.new result (zero_padded 6 value) }
+pub fn format_six_digits_pad_zero<S: Sink>(output: &mut S, value: ru32<0, 999_999>) -> usize
+    requires room { Fits (S.buffer output.old) (length (zero_padded 6 value)) }
+    ensures writes { Puts (S.buffer output.old) (S.buffer output.new) result (zero_padded 6 value) }
 {
     write_many(output, &six_digits_zero_padded(value))
 }
@@ -164,28 +165,28 @@ pub fn format_six_digits_pad_zero(output: &mut Vec<u8>, value: ru32<0, 999_999>)
 /// length that is known.
 #[inline]
 #[tactic(auto, using(crate::proofs::NumberLemmas::eight_after))]
-pub fn format_u64_pad_none(output: &mut Vec<u8>, value: u64) -> usize
-    requires room { HasRoom output.old (length (decimal value)) }
-    ensures writes { Writes output.old output.new result (decimal value) }
+pub fn format_u64_pad_none<S: Sink>(output: &mut S, value: u64) -> usize
+    requires room { Fits (S.buffer output.old) (length (decimal value)) }
+    ensures writes { Puts (S.buffer output.old) (S.buffer output.new) result (decimal value) }
 {
     if value < 100_000_000 || value > 999_999_999_999 {
         return write(output, u64_pad_none(value).as_str());
     }
-    let mut taken = take_out(output);
+    let mut taken = output.take_out();
     let first = ru16::within((value / 100_000_000) as u16);
     let count = write_many(&mut taken, &one_to_four_digits_no_padding(first));
     let last = write_eight_digits(&mut taken, (value % 100_000_000) as u32);
-    put_back(output, taken);
+    output.put_back(taken);
     count + last
 }
 
 /// Appends a number in eight places, with zeros in front.
 #[inline(always)]
 #[tactic(auto, using(crate::proofs::NumberLemmas::eight_digits))]
-pub(super) fn write_eight_digits(output: &mut Vec<u8>, value: u32) -> usize
+pub(super) fn write_eight_digits<S: Sink>(output: &mut S, value: u32) -> usize
     requires digits { value < 100_000_000 }
-    requires room { HasRoom output.old 8 }
-    ensures writes { Writes output.old output.new result (fixed 8 value) }
+    requires room { Fits (S.buffer output.old) 8 }
+    ensures writes { Puts (S.buffer output.old) (S.buffer output.new) result (fixed 8 value) }
 {
     let first = ru16::within((value / 10_000) as u16);
     let last = ru16::within((value % 10_000) as u16);
@@ -196,10 +197,10 @@ pub(super) fn write_eight_digits(output: &mut Vec<u8>, value: u32) -> usize
 /// Appends a number in `width` places, with zeros in front, where it has no more digits than that.
 #[inline]
 #[tactic(auto, using(crate::proofs::TextLemmas::zeros_before))]
-pub fn format_int_padded(output: &mut Vec<u8>, value: u64, width: u8) -> usize
+pub fn format_int_padded<S: Sink>(output: &mut S, value: u64, width: u8) -> usize
     requires digits { length (decimal value) ≤ width }
-    requires room { HasRoom output.old (length (zero_padded width value)) }
-    ensures writes { Writes output.old output.new result (zero_padded width value) }
+    requires room { Fits (S.buffer output.old) (length (zero_padded width value)) }
+    ensures writes { Puts (S.buffer output.old) (S.buffer output.new) result (zero_padded width value) }
 {
     let digits = u64_pad_none(value);
     let zeros = write_zeros(output, width as usize - digits.len());
@@ -207,9 +208,9 @@ pub fn format_int_padded(output: &mut Vec<u8>, value: u64, width: u8) -> usize
 }
 
 // Appends this many zeros.
-fn write_zeros(output: &mut Vec<u8>, count: usize) -> usize
-    requires room { HasRoom output.old count }
-    ensures writes { Writes output.old output.new result (replicate count 48) }
+fn write_zeros<S: Sink>(output: &mut S, count: usize) -> usize
+    requires room { Fits (S.buffer output.old) count }
+    ensures writes { Puts (S.buffer output.old) (S.buffer output.new) result (replicate count 48) }
 {
     for _ in 0..count {
         write(output, "0");

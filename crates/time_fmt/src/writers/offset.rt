@@ -4,11 +4,12 @@
 ghost use Rattle.std.specs.Prelude.{length, unsigned_abs};
 ghost use Rattle.time_below.specs.declared.format_description.component.Component.TheVariants as component;
 ghost use Rattle.time_fmt.specs.Kind.{kind_text, offset_hour};
-ghost use Rattle.time_fmt.specs.Room.{HasRoom, Writes};
+ghost use Rattle.time_fmt.specs.Sink.{Fits, Puts};
 ghost use Rattle.time_fmt.specs.Text.{padded_text};
 
 use crate::modifier::Modifier;
 use crate::refused::Refused;
+use crate::sink::Sink;
 use crate::writers::digits::{fmt_sign, format_two_digits};
 use time_below::format_description::{Group, modifier};
 use time_provide::ComponentProvider;
@@ -17,18 +18,19 @@ use time_provide::ranges::{OffsetHours, OffsetMinutes, OffsetSeconds};
 /// Appends the sign of the whole offset, and its hour, 0 to 25, in two places.
 #[inline(always)]
 #[tactic(auto, using(crate::proofs::TextLemmas::signed_parts))]
-pub fn fmt_offset_hour(
-    output: &mut Vec<u8>,
+pub fn fmt_offset_hour<S: Sink>(
+    output: &mut S,
     is_negative: bool,
     hour: OffsetHours,
     modifier: modifier::OffsetHour,
 ) -> usize
-    requires room { HasRoom output.old
+    requires room { Fits (S.buffer output.old)
         (length (kind_text
         (offset_hour modifier.padding modifier.sign_is_mandatory is_negative hour))) }
-    ensures writes { Writes output.old output.new result
+    ensures writes { Puts (S.buffer output.old) (S.buffer output.new) result
         (kind_text (offset_hour modifier.padding modifier.sign_is_mandatory is_negative hour)) }
 {
+    let _room = output.room();
     let sign = fmt_sign(output, is_negative, modifier.sign_is_mandatory);
     sign + format_two_digits(output, hour.abs().expand(), modifier.padding)
 }
@@ -43,9 +45,9 @@ impl Modifier for modifier::OffsetHour {
 
     #[inline(always)]
     #[tactic(auto, using(crate::proofs::TextLemmas::signed_lengths))]
-    fn write_supplied<V: ComponentProvider>(
+    fn write_supplied<S: Sink, V: ComponentProvider>(
         self,
-        output: &mut Vec<u8>,
+        output: &mut S,
         value: &V,
         state: &mut V::State,
     ) -> Result<(), Refused> {
@@ -57,14 +59,14 @@ impl Modifier for modifier::OffsetHour {
 
 /// Appends the minute of the offset, 0 to 59, in two places, without a sign.
 #[inline(always)]
-pub fn fmt_offset_minute(
-    output: &mut Vec<u8>,
+pub fn fmt_offset_minute<S: Sink>(
+    output: &mut S,
     minute: OffsetMinutes,
     modifier: modifier::OffsetMinute,
 ) -> usize
-    requires room { HasRoom output.old
+    requires room { Fits (S.buffer output.old)
         (length (padded_text modifier.padding 2 (unsigned_abs minute))) }
-    ensures writes { Writes output.old output.new result
+    ensures writes { Puts (S.buffer output.old) (S.buffer output.new) result
         (padded_text modifier.padding 2 (unsigned_abs minute)) }
 {
     format_two_digits(output, minute.abs().expand(), modifier.padding)
@@ -79,9 +81,9 @@ impl Modifier for modifier::OffsetMinute {
     }
 
     #[inline(always)]
-    fn write_supplied<V: ComponentProvider>(
+    fn write_supplied<S: Sink, V: ComponentProvider>(
         self,
-        output: &mut Vec<u8>,
+        output: &mut S,
         value: &V,
         state: &mut V::State,
     ) -> Result<(), Refused> {
@@ -92,14 +94,14 @@ impl Modifier for modifier::OffsetMinute {
 
 /// Appends the second of the offset, 0 to 59, in two places, without a sign.
 #[inline(always)]
-pub fn fmt_offset_second(
-    output: &mut Vec<u8>,
+pub fn fmt_offset_second<S: Sink>(
+    output: &mut S,
     second: OffsetSeconds,
     modifier: modifier::OffsetSecond,
 ) -> usize
-    requires room { HasRoom output.old
+    requires room { Fits (S.buffer output.old)
         (length (padded_text modifier.padding 2 (unsigned_abs second))) }
-    ensures writes { Writes output.old output.new result
+    ensures writes { Puts (S.buffer output.old) (S.buffer output.new) result
         (padded_text modifier.padding 2 (unsigned_abs second)) }
 {
     format_two_digits(output, second.abs().expand(), modifier.padding)
@@ -114,9 +116,9 @@ impl Modifier for modifier::OffsetSecond {
     }
 
     #[inline(always)]
-    fn write_supplied<V: ComponentProvider>(
+    fn write_supplied<S: Sink, V: ComponentProvider>(
         self,
-        output: &mut Vec<u8>,
+        output: &mut S,
         value: &V,
         state: &mut V::State,
     ) -> Result<(), Refused> {

@@ -1,8 +1,9 @@
 //! Bytes and texts as they are.
-ghost use Rattle.std.specs.Prelude.{◌≡◌, ◌+◌, ◌<◌, ◌++◌, length, [], if◌then◌else◌, vec_len, vec_capacity};
+ghost use Rattle.std.specs.Prelude.{◌≡◌, ◌+◌, ◌<◌, ◌++◌, length, [], if◌then◌else◌, vec_capacity};
 ghost use Rattle.time_digits.specs.Digits.{joined};
-ghost use Rattle.time_fmt.specs.Room.{HasRoom, Writes};
+ghost use Rattle.time_fmt.specs.Sink.{Fits, Puts};
 
+use crate::sink::Sink;
 use std::mem::{forget, replace};
 
 /// Takes the vector out of its borrow, which keeps an empty one. A call that is not inlined, and
@@ -27,16 +28,16 @@ pub fn put_back(output: &mut Vec<u8>, taken: Vec<u8>)
 
 /// Appends the bytes, and returns their number.
 #[inline(always)]
-pub fn write_bytes(output: &mut Vec<u8>, bytes: &[u8]) -> usize
-    requires room { HasRoom output.old (length bytes.now) }
-    ensures writes { Writes output.old output.new result bytes.now }
+pub fn write_bytes<S: Sink>(output: &mut S, bytes: &[u8]) -> usize
+    requires room { Fits (S.buffer output.old) (length bytes.now) }
+    ensures writes { Puts (S.buffer output.old) (S.buffer output.new) result bytes.now }
 {
     match bytes {
         [] => {}
-        [a] => output.push_reserved(*a),
+        [a] => output.put_byte(*a),
         [a, b] => {
-            output.push_reserved(*a);
-            output.push_reserved(*b);
+            output.put_byte(*a);
+            output.put_byte(*b);
         }
         _ => write_in_blocks(output, bytes),
     }
@@ -45,30 +46,30 @@ pub fn write_bytes(output: &mut Vec<u8>, bytes: &[u8]) -> usize
 
 /// Appends the bytes. Where their number is known, the loop is a few stores.
 #[inline(always)]
-pub(crate) fn write_each(output: &mut Vec<u8>, bytes: &[u8]) -> usize
-    requires room { HasRoom output.old (length bytes.now) }
-    ensures writes { Writes output.old output.new result bytes.now }
+pub(crate) fn write_each<S: Sink>(output: &mut S, bytes: &[u8]) -> usize
+    requires room { Fits (S.buffer output.old) (length bytes.now) }
+    ensures writes { Puts (S.buffer output.old) (S.buffer output.new) result bytes.now }
 {
     for byte in bytes {
-        output.push_reserved(*byte);
+        output.put_byte(*byte);
     }
     bytes.len()
 }
 
 /// Appends a literal of a list. For a long one the vector is taken out once more.
 #[inline(always)]
-pub(crate) fn write_literal(output: &mut Vec<u8>, bytes: &[u8]) -> usize
-    requires room { HasRoom output.old (length bytes.now) }
-    ensures writes { Writes output.old output.new result bytes.now }
+pub(crate) fn write_literal<S: Sink>(output: &mut S, bytes: &[u8]) -> usize
+    requires room { Fits (S.buffer output.old) (length bytes.now) }
+    ensures writes { Puts (S.buffer output.old) (S.buffer output.new) result bytes.now }
 {
     if bytes.len() == 1 {
-        output.push_reserved(bytes[0]);
+        output.put_byte(bytes[0]);
         return 1;
     }
     if bytes.len() == 2 {
         let (first, second) = (bytes[0], bytes[1]);
-        output.push_reserved(first);
-        output.push_reserved(second);
+        output.put_byte(first);
+        output.put_byte(second);
         return 2;
     }
     write_long_literal(output, bytes)
@@ -76,13 +77,13 @@ pub(crate) fn write_literal(output: &mut Vec<u8>, bytes: &[u8]) -> usize
 
 // Appends a literal of any length to a vector that is taken out.
 #[inline]
-fn write_long_literal(output: &mut Vec<u8>, bytes: &[u8]) -> usize
-    requires room { HasRoom output.old (length bytes.now) }
-    ensures writes { Writes output.old output.new result bytes.now }
+fn write_long_literal<S: Sink>(output: &mut S, bytes: &[u8]) -> usize
+    requires room { Fits (S.buffer output.old) (length bytes.now) }
+    ensures writes { Puts (S.buffer output.old) (S.buffer output.new) result bytes.now }
 {
-    let mut taken = take_out(output);
+    let mut taken = output.take_out();
     write_in_blocks(&mut taken, bytes);
-    put_back(output, taken);
+    output.put_back(taken);
     bytes.len()
 }
 
@@ -90,13 +91,14 @@ fn write_long_literal(output: &mut Vec<u8>, bytes: &[u8]) -> usize
 /// vector is taken out meanwhile, so that the compiler sees that its block does not move, and makes one
 /// store of eight.
 #[inline(never)]
-fn write_in_blocks(output: &mut Vec<u8>, bytes: &[u8])
-    requires room { HasRoom output.old (length bytes.now) }
-    ensures appended { output.new.items ≡ output.old.items ++ bytes.now }
-    ensures grown { vec_len output.new ≡ vec_len output.old + length bytes.now }
-    ensures capacity { vec_capacity output.new ≡ vec_capacity output.old }
+fn write_in_blocks<S: Sink>(output: &mut S, bytes: &[u8])
+    requires room { Fits (S.buffer output.old) (length bytes.now) }
+    ensures appended { (S.buffer output.new).bytes ≡ (S.buffer output.old).bytes ++ bytes.now }
+    ensures grown { (S.buffer output.new).len ≡ (S.buffer output.old).len + length bytes.now }
+    ensures capacity { (S.buffer output.new).capacity ≡ (S.buffer output.old).capacity }
+    ensures lender { (S.buffer output.new).lender ≡ (S.buffer output.old).lender }
 {
-    let mut taken = take_out(output);
+    let mut taken = output.take_out();
     let mut rest = bytes;
     while let [a, b, c, d, e, f, g, h, more @ ..] = rest {
         let (first, second) = ([*a, *b, *c, *d], [*e, *f, *g, *h]);
@@ -109,45 +111,47 @@ fn write_in_blocks(output: &mut Vec<u8>, bytes: &[u8])
         rest = more;
     }
     push_rest(&mut taken, rest);
-    put_back(output, taken);
+    output.put_back(taken);
 }
 
 // Appends four bytes.
 #[inline(always)]
-fn push_four(output: &mut Vec<u8>, bytes: [u8; 4])
-    requires room { HasRoom output.old 4 }
-    ensures appended { output.new.items ≡ output.old.items ++ bytes }
-    ensures grown { vec_len output.new ≡ vec_len output.old + 4 }
-    ensures capacity { vec_capacity output.new ≡ vec_capacity output.old }
+fn push_four<S: Sink>(output: &mut S, bytes: [u8; 4])
+    requires room { Fits (S.buffer output.old) 4 }
+    ensures appended { (S.buffer output.new).bytes ≡ (S.buffer output.old).bytes ++ bytes }
+    ensures grown { (S.buffer output.new).len ≡ (S.buffer output.old).len + 4 }
+    ensures capacity { (S.buffer output.new).capacity ≡ (S.buffer output.old).capacity }
+    ensures lender { (S.buffer output.new).lender ≡ (S.buffer output.old).lender }
 {
     let [a, b, c, d] = bytes;
-    output.push_reserved(a);
-    output.push_reserved(b);
-    output.push_reserved(c);
-    output.push_reserved(d);
+    output.put_byte(a);
+    output.put_byte(b);
+    output.put_byte(c);
+    output.put_byte(d);
 }
 
 // Appends the last bytes, at most three.
 #[inline(always)]
-fn push_rest(output: &mut Vec<u8>, bytes: &[u8])
+fn push_rest<S: Sink>(output: &mut S, bytes: &[u8])
     requires few { length bytes.now < 4 }
-    requires room { HasRoom output.old (length bytes.now) }
-    ensures appended { output.new.items ≡ output.old.items ++ bytes.now }
-    ensures grown { vec_len output.new ≡ vec_len output.old + length bytes.now }
-    ensures capacity { vec_capacity output.new ≡ vec_capacity output.old }
+    requires room { Fits (S.buffer output.old) (length bytes.now) }
+    ensures appended { (S.buffer output.new).bytes ≡ (S.buffer output.old).bytes ++ bytes.now }
+    ensures grown { (S.buffer output.new).len ≡ (S.buffer output.old).len + length bytes.now }
+    ensures capacity { (S.buffer output.new).capacity ≡ (S.buffer output.old).capacity }
+    ensures lender { (S.buffer output.new).lender ≡ (S.buffer output.old).lender }
 {
     match bytes {
-        [a] => output.push_reserved(*a),
+        [a] => output.put_byte(*a),
         [a, b] => {
             let (a, b) = (*a, *b);
-            output.push_reserved(a);
-            output.push_reserved(b);
+            output.put_byte(a);
+            output.put_byte(b);
         }
         [a, b, c] => {
             let (a, b, c) = (*a, *b, *c);
-            output.push_reserved(a);
-            output.push_reserved(b);
-            output.push_reserved(c);
+            output.put_byte(a);
+            output.put_byte(b);
+            output.put_byte(c);
         }
         _ => {}
     }
@@ -155,9 +159,9 @@ fn push_rest(output: &mut Vec<u8>, bytes: &[u8])
 
 /// Appends the text, and returns the number of its bytes.
 #[inline(always)]
-pub fn write(output: &mut Vec<u8>, text: &str) -> usize
-    requires room { HasRoom output.old (length text.now) }
-    ensures writes { Writes output.old output.new result text.now }
+pub fn write<S: Sink>(output: &mut S, text: &str) -> usize
+    requires room { Fits (S.buffer output.old) (length text.now) }
+    ensures writes { Puts (S.buffer output.old) (S.buffer output.new) result text.now }
 {
     write_bytes(output, text.as_bytes())
 }
@@ -165,38 +169,39 @@ pub fn write(output: &mut Vec<u8>, text: &str) -> usize
 // Appends a text of two bytes. What becomes part of a large function is counted before anything is
 // folded, so this has no case for other lengths.
 #[inline(always)]
-pub(super) fn write_pair(output: &mut Vec<u8>, text: &str) -> usize
+pub(super) fn write_pair<S: Sink>(output: &mut S, text: &str) -> usize
     requires pair { length text.now ≡ 2 }
-    requires room { HasRoom output.old 2 }
-    ensures writes { Writes output.old output.new result text.now }
+    requires room { Fits (S.buffer output.old) 2 }
+    ensures writes { Puts (S.buffer output.old) (S.buffer output.new) result text.now }
 {
     let bytes = text.as_bytes();
     let (first, second) = (bytes[0], bytes[1]);
-    output.push_reserved(first);
-    output.push_reserved(second);
+    output.put_byte(first);
+    output.put_byte(second);
     2
 }
 
 // Appends three bytes, as of a short name, without a loop over blocks.
 #[inline(always)]
-pub(super) fn write_three(output: &mut Vec<u8>, bytes: &[u8]) -> usize
+pub(super) fn write_three<S: Sink>(output: &mut S, bytes: &[u8]) -> usize
     requires three { length bytes.now ≡ 3 }
-    requires room { HasRoom output.old 3 }
-    ensures writes { Writes output.old output.new result bytes.now }
+    requires room { Fits (S.buffer output.old) 3 }
+    ensures writes { Puts (S.buffer output.old) (S.buffer output.new) result bytes.now }
 {
     let (first, second, third) = (bytes[0], bytes[1], bytes[2]);
-    output.push_reserved(first);
-    output.push_reserved(second);
-    output.push_reserved(third);
+    output.put_byte(first);
+    output.put_byte(second);
+    output.put_byte(third);
     3
 }
 
 /// Appends the texts one after another, and returns the number of their bytes.
 #[inline]
-pub fn write_many(output: &mut Vec<u8>, texts: &[&str]) -> usize
-    requires room { HasRoom output.old (length (joined texts.now)) }
-    ensures writes { Writes output.old output.new result (joined texts.now) }
+pub fn write_many<S: Sink>(output: &mut S, texts: &[&str]) -> usize
+    requires room { Fits (S.buffer output.old) (length (joined texts.now)) }
+    ensures writes { Puts (S.buffer output.old) (S.buffer output.new) result (joined texts.now) }
 {
+    let _room = output.room();
     let mut sum = 0;
     for text in texts {
         sum += write(output, text);
@@ -206,18 +211,18 @@ pub fn write_many(output: &mut Vec<u8>, texts: &[&str]) -> usize
 
 /// Appends the text if it is wanted, and returns the number of bytes appended.
 #[inline(always)]
-pub fn write_if(output: &mut Vec<u8>, is_wanted: bool, text: &str) -> usize
-    requires room { HasRoom output.old (length (if is_wanted then text.now else [])) }
-    ensures writes { Writes output.old output.new result (if is_wanted then text.now else []) }
+pub fn write_if<S: Sink>(output: &mut S, is_wanted: bool, text: &str) -> usize
+    requires room { Fits (S.buffer output.old) (length (if is_wanted then text.now else [])) }
+    ensures writes { Puts (S.buffer output.old) (S.buffer output.new) result (if is_wanted then text.now else []) }
 {
     if is_wanted { write(output, text) } else { 0 }
 }
 
 /// Appends the first text if it is wanted, else the other, and returns the number of bytes appended.
 #[inline]
-pub fn write_if_else(output: &mut Vec<u8>, is_wanted: bool, text: &str, other: &str) -> usize
-    requires room { HasRoom output.old (length (if is_wanted then text.now else other.now)) }
-    ensures writes { Writes output.old output.new result
+pub fn write_if_else<S: Sink>(output: &mut S, is_wanted: bool, text: &str, other: &str) -> usize
+    requires room { Fits (S.buffer output.old) (length (if is_wanted then text.now else other.now)) }
+    ensures writes { Puts (S.buffer output.old) (S.buffer output.new) result
         (if is_wanted then text.now else other.now) }
 {
     write(output, if is_wanted { text } else { other })

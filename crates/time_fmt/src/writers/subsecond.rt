@@ -4,16 +4,17 @@ ghost use Rattle.time_below.specs.declared.format_description.component.Componen
 ghost use Rattle.time_below.specs.declared.format_description.modifier.SubsecondDigits.TheVariants as SubsecondDigits;
 ghost use Rattle.time_digits.specs.Digits.{fixed, zero_padded};
 ghost use Rattle.time_digits.specs.Fraction.{trimmed_fraction};
-ghost use Rattle.time_fmt.specs.Room.{HasRoom, Writes};
+ghost use Rattle.time_fmt.specs.Sink.{Fits, Puts};
 ghost use Rattle.time_fmt.specs.Text.{subsecond_text};
 
 use crate::modifier::Modifier;
 use crate::refused::Refused;
+use crate::sink::Sink;
 use crate::writers::digits::{
     format_five_digits_pad_zero, format_four_digits_pad_zero, format_single_digit,
     format_six_digits_pad_zero, format_two_digits, write_eight_digits,
 };
-use crate::writers::plain::{put_back, take_out, write, write_pair};
+use crate::writers::plain::{write, write_pair};
 use time_below::format_description::modifier::{Padding, SubsecondDigits};
 use time_below::format_description::{Group, modifier, subsecond_width};
 use time_digits::num_fmt::{three_digits_zero_padded, truncated_subsecond_from_nanos};
@@ -24,13 +25,13 @@ use time_provide::ranges::Nanoseconds;
 /// Appends the first decimals of the second, one to nine, or as many as are needed, at least one.
 #[inline(always)]
 #[tactic(auto, using(crate::proofs::TrimLemmas::usual_decimals))]
-pub fn fmt_subsecond(
-    output: &mut Vec<u8>,
+pub fn fmt_subsecond<S: Sink>(
+    output: &mut S,
     nanosecond: Nanoseconds,
     modifier: modifier::Subsecond,
 ) -> usize
-    requires room { HasRoom output.old (length (subsecond_text modifier.digits nanosecond)) }
-    ensures writes { Writes output.old output.new result
+    requires room { Fits (S.buffer output.old) (length (subsecond_text modifier.digits nanosecond)) }
+    ensures writes { Puts (S.buffer output.old) (S.buffer output.new) result
         (subsecond_text modifier.digits nanosecond) }
 {
     match modifier.digits {
@@ -53,9 +54,9 @@ impl Modifier for modifier::Subsecond {
 
     #[inline(always)]
     #[tactic(auto, using(crate::proofs::TrimLemmas::subsecond_lengths))]
-    fn write_supplied<V: ComponentProvider>(
+    fn write_supplied<S: Sink, V: ComponentProvider>(
         self,
-        output: &mut Vec<u8>,
+        output: &mut S,
         value: &V,
         state: &mut V::State,
     ) -> Result<(), Refused> {
@@ -66,17 +67,17 @@ impl Modifier for modifier::Subsecond {
 
 // Any number of decimals, apart, since few texts have another than three or as many as are needed.
 #[inline]
-fn write_rare_decimals(
-    output: &mut Vec<u8>,
+fn write_rare_decimals<S: Sink>(
+    output: &mut S,
     nanosecond: Nanoseconds,
     digits: SubsecondDigits,
 ) -> usize
-    requires room { HasRoom output.old (length (subsecond_text digits nanosecond)) }
-    ensures writes { Writes output.old output.new result (subsecond_text digits nanosecond) }
+    requires room { Fits (S.buffer output.old) (length (subsecond_text digits nanosecond)) }
+    ensures writes { Puts (S.buffer output.old) (S.buffer output.new) result (subsecond_text digits nanosecond) }
 {
-    let mut taken = take_out(output);
+    let mut taken = output.take_out();
     let count = write_first_decimals(&mut taken, nanosecond, digits);
-    put_back(output, taken);
+    output.put_back(taken);
     count
 }
 
@@ -84,13 +85,13 @@ fn write_rare_decimals(
 #[cold]
 #[inline(never)]
 #[tactic(auto, using(crate::proofs::DecimalLemmas::first_decimals))]
-fn write_first_decimals(
-    output: &mut Vec<u8>,
+fn write_first_decimals<S: Sink>(
+    output: &mut S,
     nanosecond: Nanoseconds,
     digits: SubsecondDigits,
 ) -> usize
-    requires room { HasRoom output.old (length (subsecond_text digits nanosecond)) }
-    ensures writes { Writes output.old output.new result (subsecond_text digits nanosecond) }
+    requires room { Fits (S.buffer output.old) (length (subsecond_text digits nanosecond)) }
+    ensures writes { Puts (S.buffer output.old) (S.buffer output.new) result (subsecond_text digits nanosecond) }
 {
     let number = nanosecond.get();
     match digits {
@@ -121,9 +122,9 @@ fn write_first_decimals(
 /// Returns the number of bytes appended.
 #[inline(always)]
 #[tactic(auto, using(crate::proofs::DecimalLemmas::first_decimals))]
-pub fn write_three_decimals(output: &mut Vec<u8>, nanosecond: Nanoseconds) -> usize
-    requires room { HasRoom output.old 3 }
-    ensures writes { Writes output.old output.new result
+pub fn write_three_decimals<S: Sink>(output: &mut S, nanosecond: Nanoseconds) -> usize
+    requires room { Fits (S.buffer output.old) 3 }
+    ensures writes { Puts (S.buffer output.old) (S.buffer output.new) result
         (subsecond_text SubsecondDigits.Three nanosecond) }
 {
     let number = nanosecond.get() / 1_000_000;
@@ -132,12 +133,12 @@ pub fn write_three_decimals(output: &mut Vec<u8>, nanosecond: Nanoseconds) -> us
 
 // Appends three digits.
 #[inline(always)]
-fn write_three_digits(output: &mut Vec<u8>, number: ru16<0, 999>) -> usize
-    requires room { HasRoom output.old 3 }
-    ensures writes { Writes output.old output.new result (zero_padded 3 number) }
+fn write_three_digits<S: Sink>(output: &mut S, number: ru16<0, 999>) -> usize
+    requires room { Fits (S.buffer output.old) 3 }
+    ensures writes { Puts (S.buffer output.old) (S.buffer output.new) result (zero_padded 3 number) }
 {
     let [first, pair] = three_digits_zero_padded(number);
-    output.push_reserved(first.as_bytes()[0]);
+    output.put_byte(first.as_bytes()[0]);
     1 + write_pair(output, pair)
 }
 
@@ -148,9 +149,9 @@ fn write_three_digits(output: &mut Vec<u8>, number: ru16<0, 999>) -> usize
 /// once: digits that are read back wait until they are all stored.
 #[inline(always)]
 #[tactic(auto, using(crate::proofs::TrimLemmas::whole_fractions))]
-pub fn write_fraction(output: &mut Vec<u8>, nanosecond: Nanoseconds) -> usize
-    requires room { HasRoom output.old (length (trimmed_fraction nanosecond)) }
-    ensures writes { Writes output.old output.new result (trimmed_fraction nanosecond) }
+pub fn write_fraction<S: Sink>(output: &mut S, nanosecond: Nanoseconds) -> usize
+    requires room { Fits (S.buffer output.old) (length (trimmed_fraction nanosecond)) }
+    ensures writes { Puts (S.buffer output.old) (S.buffer output.new) result (trimmed_fraction nanosecond) }
 {
     let number = nanosecond.get();
     if number % 10 != 0 {
@@ -168,13 +169,13 @@ pub fn write_fraction(output: &mut Vec<u8>, nanosecond: Nanoseconds) -> usize
 // Appends any fraction to a vector that is taken out, since most fractions have nine, three or six
 // digits.
 #[inline]
-fn write_rare_fraction(output: &mut Vec<u8>, nanosecond: Nanoseconds) -> usize
-    requires room { HasRoom output.old (length (trimmed_fraction nanosecond)) }
-    ensures writes { Writes output.old output.new result (trimmed_fraction nanosecond) }
+fn write_rare_fraction<S: Sink>(output: &mut S, nanosecond: Nanoseconds) -> usize
+    requires room { Fits (S.buffer output.old) (length (trimmed_fraction nanosecond)) }
+    ensures writes { Puts (S.buffer output.old) (S.buffer output.new) result (trimmed_fraction nanosecond) }
 {
-    let mut taken = take_out(output);
+    let mut taken = output.take_out();
     let count = write_trimmed_fraction(&mut taken, nanosecond);
-    put_back(output, taken);
+    output.put_back(taken);
     count
 }
 
@@ -183,9 +184,9 @@ fn write_rare_fraction(output: &mut Vec<u8>, nanosecond: Nanoseconds) -> usize
 /// Returns the number of bytes appended.
 #[inline(always)]
 #[tactic(auto, using(crate::proofs::DecimalLemmas::six_digits))]
-pub fn write_six_decimals(output: &mut Vec<u8>, nanosecond: Nanoseconds) -> usize
-    requires room { HasRoom output.old 6 }
-    ensures writes { Writes output.old output.new result
+pub fn write_six_decimals<S: Sink>(output: &mut S, nanosecond: Nanoseconds) -> usize
+    requires room { Fits (S.buffer output.old) 6 }
+    ensures writes { Puts (S.buffer output.old) (S.buffer output.new) result
         (subsecond_text SubsecondDigits.Six nanosecond) }
 {
     let number = nanosecond.get() / 1_000;
@@ -198,9 +199,9 @@ pub fn write_six_decimals(output: &mut Vec<u8>, nanosecond: Nanoseconds) -> usiz
 // Appends the nine digits.
 #[inline(always)]
 #[tactic(auto, using(crate::proofs::DecimalLemmas::nine_digits))]
-fn write_nine_digits(output: &mut Vec<u8>, nanosecond: Nanoseconds) -> usize
-    requires room { HasRoom output.old 9 }
-    ensures writes { Writes output.old output.new result (fixed 9 nanosecond) }
+fn write_nine_digits<S: Sink>(output: &mut S, nanosecond: Nanoseconds) -> usize
+    requires room { Fits (S.buffer output.old) 9 }
+    ensures writes { Puts (S.buffer output.old) (S.buffer output.new) result (fixed 9 nanosecond) }
 {
     let number = nanosecond.get();
     let first_five = number / 10_000;
@@ -214,9 +215,9 @@ fn write_nine_digits(output: &mut Vec<u8>, nanosecond: Nanoseconds) -> usize
 // Appends the nine digits without the zeros at their end, at least one digit.
 #[cold]
 #[inline(never)]
-fn write_trimmed_fraction(output: &mut Vec<u8>, nanosecond: Nanoseconds) -> usize
-    requires room { HasRoom output.old (length (trimmed_fraction nanosecond)) }
-    ensures writes { Writes output.old output.new result (trimmed_fraction nanosecond) }
+fn write_trimmed_fraction<S: Sink>(output: &mut S, nanosecond: Nanoseconds) -> usize
+    requires room { Fits (S.buffer output.old) (length (trimmed_fraction nanosecond)) }
+    ensures writes { Puts (S.buffer output.old) (S.buffer output.new) result (trimmed_fraction nanosecond) }
 {
     let digits = truncated_subsecond_from_nanos(nanosecond);
     write(output, digits.as_str())
@@ -224,10 +225,10 @@ fn write_trimmed_fraction(output: &mut Vec<u8>, nanosecond: Nanoseconds) -> usiz
 
 // Appends a number in seven places, with zeros in front.
 #[tactic(auto, using(crate::proofs::DecimalLemmas::two_parts))]
-fn format_seven_digits(output: &mut Vec<u8>, number: u32) -> usize
+fn format_seven_digits<S: Sink>(output: &mut S, number: u32) -> usize
     requires digits { number < 10_000_000 }
-    requires room { HasRoom output.old 7 }
-    ensures writes { Writes output.old output.new result (fixed 7 number) }
+    requires room { Fits (S.buffer output.old) 7 }
+    ensures writes { Puts (S.buffer output.old) (S.buffer output.new) result (fixed 7 number) }
 {
     let first = format_single_digit(output, ru8::new((number / 1_000_000) as u8).unwrap());
     first + format_six_digits_pad_zero(output, ru32::new(number % 1_000_000).unwrap())

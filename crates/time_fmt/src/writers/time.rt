@@ -3,11 +3,12 @@
 
 ghost use Rattle.std.specs.Prelude.{◌≡◌, length};
 ghost use Rattle.time_below.specs.declared.format_description.component.Component.TheVariants as component;
-ghost use Rattle.time_fmt.specs.Room.{HasRoom, Writes};
+ghost use Rattle.time_fmt.specs.Sink.{Fits, Puts};
 ghost use Rattle.time_fmt.specs.Text.{padded_text, hour_12, period_text};
 
 use crate::modifier::Modifier;
 use crate::refused::Refused;
+use crate::sink::Sink;
 use crate::writers::digits::format_two_digits;
 use crate::writers::plain::write;
 use time_below::Period;
@@ -18,9 +19,9 @@ use time_provide::ranges::{Hours, Minutes, Seconds};
 
 /// Appends the hour of the 12-hour clock, 1 to 12, in two places.
 #[inline(always)]
-pub fn fmt_hour_12(output: &mut Vec<u8>, hour: Hours, modifier: modifier::Hour12) -> usize
-    requires room { HasRoom output.old (length (padded_text modifier.padding 2 (hour_12 hour))) }
-    ensures writes { Writes output.old output.new result
+pub fn fmt_hour_12<S: Sink>(output: &mut S, hour: Hours, modifier: modifier::Hour12) -> usize
+    requires room { Fits (S.buffer output.old) (length (padded_text modifier.padding 2 (hour_12 hour))) }
+    ensures writes { Puts (S.buffer output.old) (S.buffer output.new) result
         (padded_text modifier.padding 2 (hour_12 hour)) }
 {
     format_two_digits(output, on_the_dial(hour), modifier.padding)
@@ -35,9 +36,9 @@ impl Modifier for modifier::Hour12 {
     }
 
     #[inline(always)]
-    fn write_supplied<V: ComponentProvider>(
+    fn write_supplied<S: Sink, V: ComponentProvider>(
         self,
-        output: &mut Vec<u8>,
+        output: &mut S,
         value: &V,
         state: &mut V::State,
     ) -> Result<(), Refused> {
@@ -48,9 +49,9 @@ impl Modifier for modifier::Hour12 {
 
 /// Appends the hour, 0 to 23, in two places.
 #[inline(always)]
-pub fn fmt_hour_24(output: &mut Vec<u8>, hour: Hours, modifier: modifier::Hour24) -> usize
-    requires room { HasRoom output.old (length (padded_text modifier.padding 2 hour)) }
-    ensures writes { Writes output.old output.new result (padded_text modifier.padding 2 hour) }
+pub fn fmt_hour_24<S: Sink>(output: &mut S, hour: Hours, modifier: modifier::Hour24) -> usize
+    requires room { Fits (S.buffer output.old) (length (padded_text modifier.padding 2 hour)) }
+    ensures writes { Puts (S.buffer output.old) (S.buffer output.new) result (padded_text modifier.padding 2 hour) }
 {
     format_two_digits(output, hour.expand(), modifier.padding)
 }
@@ -64,9 +65,9 @@ impl Modifier for modifier::Hour24 {
     }
 
     #[inline(always)]
-    fn write_supplied<V: ComponentProvider>(
+    fn write_supplied<S: Sink, V: ComponentProvider>(
         self,
-        output: &mut Vec<u8>,
+        output: &mut S,
         value: &V,
         state: &mut V::State,
     ) -> Result<(), Refused> {
@@ -77,9 +78,9 @@ impl Modifier for modifier::Hour24 {
 
 /// Appends the minute, 0 to 59, in two places.
 #[inline(always)]
-pub fn fmt_minute(output: &mut Vec<u8>, minute: Minutes, modifier: modifier::Minute) -> usize
-    requires room { HasRoom output.old (length (padded_text modifier.padding 2 minute)) }
-    ensures writes { Writes output.old output.new result (padded_text modifier.padding 2 minute) }
+pub fn fmt_minute<S: Sink>(output: &mut S, minute: Minutes, modifier: modifier::Minute) -> usize
+    requires room { Fits (S.buffer output.old) (length (padded_text modifier.padding 2 minute)) }
+    ensures writes { Puts (S.buffer output.old) (S.buffer output.new) result (padded_text modifier.padding 2 minute) }
 {
     format_two_digits(output, minute.expand(), modifier.padding)
 }
@@ -93,9 +94,9 @@ impl Modifier for modifier::Minute {
     }
 
     #[inline(always)]
-    fn write_supplied<V: ComponentProvider>(
+    fn write_supplied<S: Sink, V: ComponentProvider>(
         self,
-        output: &mut Vec<u8>,
+        output: &mut S,
         value: &V,
         state: &mut V::State,
     ) -> Result<(), Refused> {
@@ -106,9 +107,9 @@ impl Modifier for modifier::Minute {
 
 /// Appends `am` or `pm`, in capitals if they are wanted.
 #[inline(always)]
-pub fn fmt_period(output: &mut Vec<u8>, period: Period, modifier: modifier::Period) -> usize
-    requires room { HasRoom output.old (length (period_text period modifier.is_uppercase)) }
-    ensures writes { Writes output.old output.new result
+pub fn fmt_period<S: Sink>(output: &mut S, period: Period, modifier: modifier::Period) -> usize
+    requires room { Fits (S.buffer output.old) (length (period_text period modifier.is_uppercase)) }
+    ensures writes { Puts (S.buffer output.old) (S.buffer output.new) result
         (period_text period modifier.is_uppercase) }
 {
     let text = match (period, modifier.is_uppercase) {
@@ -129,9 +130,9 @@ impl Modifier for modifier::Period {
     }
 
     #[inline(always)]
-    fn write_supplied<V: ComponentProvider>(
+    fn write_supplied<S: Sink, V: ComponentProvider>(
         self,
-        output: &mut Vec<u8>,
+        output: &mut S,
         value: &V,
         state: &mut V::State,
     ) -> Result<(), Refused> {
@@ -142,9 +143,9 @@ impl Modifier for modifier::Period {
 
 /// Appends the second, 0 to 59, in two places.
 #[inline(always)]
-pub fn fmt_second(output: &mut Vec<u8>, second: Seconds, modifier: modifier::Second) -> usize
-    requires room { HasRoom output.old (length (padded_text modifier.padding 2 second)) }
-    ensures writes { Writes output.old output.new result (padded_text modifier.padding 2 second) }
+pub fn fmt_second<S: Sink>(output: &mut S, second: Seconds, modifier: modifier::Second) -> usize
+    requires room { Fits (S.buffer output.old) (length (padded_text modifier.padding 2 second)) }
+    ensures writes { Puts (S.buffer output.old) (S.buffer output.new) result (padded_text modifier.padding 2 second) }
 {
     format_two_digits(output, second.expand(), modifier.padding)
 }
@@ -158,9 +159,9 @@ impl Modifier for modifier::Second {
     }
 
     #[inline(always)]
-    fn write_supplied<V: ComponentProvider>(
+    fn write_supplied<S: Sink, V: ComponentProvider>(
         self,
-        output: &mut Vec<u8>,
+        output: &mut S,
         value: &V,
         state: &mut V::State,
     ) -> Result<(), Refused> {

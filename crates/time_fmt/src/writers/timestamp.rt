@@ -4,24 +4,25 @@
 ghost use Rattle.std.specs.Prelude.{length};
 ghost use Rattle.time_below.specs.declared.format_description.component.Component.TheVariants as component;
 ghost use Rattle.time_fmt.specs.Kind.{kind_text, timestamp};
-ghost use Rattle.time_fmt.specs.Room.{HasRoom, Writes};
+ghost use Rattle.time_fmt.specs.Sink.{Fits, Puts};
 
 use crate::modifier::Modifier;
 use crate::refused::Refused;
+use crate::sink::Sink;
 use crate::writers::digits::{fmt_sign, format_u64_pad_none};
 use time_below::format_description::{Group, modifier};
 use time_provide::ComponentProvider;
 
 /// Appends the seconds since 1970-01-01T00:00:00 UTC, a sign and all their digits.
 #[inline]
-pub fn fmt_unix_timestamp_second(
-    output: &mut Vec<u8>,
+pub fn fmt_unix_timestamp_second<S: Sink>(
+    output: &mut S,
     seconds: i64,
     modifier: modifier::UnixTimestampSecond,
 ) -> usize
-    requires room { HasRoom output.old
+    requires room { Fits (S.buffer output.old)
         (length (kind_text (timestamp modifier.sign_is_mandatory seconds))) }
-    ensures writes { Writes output.old output.new result
+    ensures writes { Puts (S.buffer output.old) (S.buffer output.new) result
         (kind_text (timestamp modifier.sign_is_mandatory seconds)) }
 {
     format_signed(output, seconds, modifier.sign_is_mandatory)
@@ -36,9 +37,9 @@ impl Modifier for modifier::UnixTimestampSecond {
     }
 
     #[inline(always)]
-    fn write_supplied<V: ComponentProvider>(
+    fn write_supplied<S: Sink, V: ComponentProvider>(
         self,
-        output: &mut Vec<u8>,
+        output: &mut S,
         value: &V,
         state: &mut V::State,
     ) -> Result<(), Refused> {
@@ -49,14 +50,14 @@ impl Modifier for modifier::UnixTimestampSecond {
 
 /// Appends the milliseconds since 1970-01-01T00:00:00 UTC, a sign and all their digits.
 #[inline]
-pub fn fmt_unix_timestamp_millisecond(
-    output: &mut Vec<u8>,
+pub fn fmt_unix_timestamp_millisecond<S: Sink>(
+    output: &mut S,
     milliseconds: i64,
     modifier: modifier::UnixTimestampMillisecond,
 ) -> usize
-    requires room { HasRoom output.old
+    requires room { Fits (S.buffer output.old)
         (length (kind_text (timestamp modifier.sign_is_mandatory milliseconds))) }
-    ensures writes { Writes output.old output.new result
+    ensures writes { Puts (S.buffer output.old) (S.buffer output.new) result
         (kind_text (timestamp modifier.sign_is_mandatory milliseconds)) }
 {
     format_signed(output, milliseconds, modifier.sign_is_mandatory)
@@ -71,9 +72,9 @@ impl Modifier for modifier::UnixTimestampMillisecond {
     }
 
     #[inline(always)]
-    fn write_supplied<V: ComponentProvider>(
+    fn write_supplied<S: Sink, V: ComponentProvider>(
         self,
-        output: &mut Vec<u8>,
+        output: &mut S,
         value: &V,
         state: &mut V::State,
     ) -> Result<(), Refused> {
@@ -84,11 +85,12 @@ impl Modifier for modifier::UnixTimestampMillisecond {
 
 // The sign, and all digits.
 #[tactic(auto, using(crate::proofs::TextLemmas::signed_parts))]
-fn format_signed(output: &mut Vec<u8>, number: i64, sign_is_mandatory: bool) -> usize
-    requires room { HasRoom output.old (length (kind_text (timestamp sign_is_mandatory number))) }
-    ensures writes { Writes output.old output.new result
+fn format_signed<S: Sink>(output: &mut S, number: i64, sign_is_mandatory: bool) -> usize
+    requires room { Fits (S.buffer output.old) (length (kind_text (timestamp sign_is_mandatory number))) }
+    ensures writes { Puts (S.buffer output.old) (S.buffer output.new) result
         (kind_text (timestamp sign_is_mandatory number)) }
 {
+    let _room = output.room();
     let sign = fmt_sign(output, number < 0, sign_is_mandatory);
     sign + format_u64_pad_none(output, number.unsigned_abs())
 }

@@ -6,13 +6,14 @@ ghost use Rattle.time_below.specs.Calendar.{from_sunday};
 ghost use Rattle.time_below.specs.declared.format_description.component.Component.TheVariants as component;
 ghost use Rattle.time_below.specs.Weekday.{days_from_monday};
 ghost use Rattle.time_fmt.specs.DateText.{weekday_name, short_name, indexed};
-ghost use Rattle.time_fmt.specs.Room.{HasRoom, Writes};
+ghost use Rattle.time_fmt.specs.Sink.{Fits, Puts};
 ghost use Rattle.time_fmt.specs.Text.{padded_text};
 
 use crate::modifier::Modifier;
 use crate::refused::Refused;
+use crate::sink::Sink;
 use crate::writers::digits::{format_single_digit, format_two_digits};
-use crate::writers::plain::{put_back, take_out, write_each, write_three};
+use crate::writers::plain::{write_each, write_three};
 use time_below::Weekday;
 use time_below::format_description::{Group, modifier};
 use time_digits::ru8;
@@ -21,14 +22,14 @@ use time_provide::ranges::{IsoWeekNumber, MondayBasedWeek, SundayBasedWeek};
 
 /// Appends the first three letters of the weekday's English name.
 #[inline(always)]
-pub fn fmt_weekday_short(
-    output: &mut Vec<u8>,
+pub fn fmt_weekday_short<S: Sink>(
+    output: &mut S,
     weekday: Weekday,
     modifier: modifier::WeekdayShort,
 ) -> usize
-    requires room { HasRoom output.old
+    requires room { Fits (S.buffer output.old)
         (length (short_name (weekday_name (days_from_monday weekday)))) }
-    ensures writes { Writes output.old output.new result
+    ensures writes { Puts (S.buffer output.old) (S.buffer output.new) result
         (short_name (weekday_name (days_from_monday weekday))) }
 {
     let _ = modifier;
@@ -44,9 +45,9 @@ impl Modifier for modifier::WeekdayShort {
     }
 
     #[inline(always)]
-    fn write_supplied<V: ComponentProvider>(
+    fn write_supplied<S: Sink, V: ComponentProvider>(
         self,
-        output: &mut Vec<u8>,
+        output: &mut S,
         value: &V,
         state: &mut V::State,
     ) -> Result<(), Refused> {
@@ -57,16 +58,16 @@ impl Modifier for modifier::WeekdayShort {
 
 /// Appends the weekday's English name.
 #[inline]
-pub fn fmt_weekday_long(
-    output: &mut Vec<u8>,
+pub fn fmt_weekday_long<S: Sink>(
+    output: &mut S,
     weekday: Weekday,
     modifier: modifier::WeekdayLong,
 ) -> usize
-    requires room { HasRoom output.old (length (weekday_name (days_from_monday weekday))) }
-    ensures writes { Writes output.old output.new result (weekday_name (days_from_monday weekday)) }
+    requires room { Fits (S.buffer output.old) (length (weekday_name (days_from_monday weekday))) }
+    ensures writes { Puts (S.buffer output.old) (S.buffer output.new) result (weekday_name (days_from_monday weekday)) }
 {
     let _ = modifier;
-    let mut taken = take_out(output);
+    let mut taken = output.take_out();
     let count = match weekday {
         Weekday::Monday => write_each(&mut taken, b"Monday"),
         Weekday::Tuesday => write_each(&mut taken, b"Tuesday"),
@@ -76,7 +77,7 @@ pub fn fmt_weekday_long(
         Weekday::Saturday => write_each(&mut taken, b"Saturday"),
         Weekday::Sunday => write_each(&mut taken, b"Sunday"),
     };
-    put_back(output, taken);
+    output.put_back(taken);
     count
 }
 
@@ -89,9 +90,9 @@ impl Modifier for modifier::WeekdayLong {
     }
 
     #[inline(always)]
-    fn write_supplied<V: ComponentProvider>(
+    fn write_supplied<S: Sink, V: ComponentProvider>(
         self,
-        output: &mut Vec<u8>,
+        output: &mut S,
         value: &V,
         state: &mut V::State,
     ) -> Result<(), Refused> {
@@ -102,14 +103,14 @@ impl Modifier for modifier::WeekdayLong {
 
 /// Appends the days from Sunday, 0 to 6, or 1 to 7 where Sunday is 1.
 #[inline]
-pub fn fmt_weekday_sunday(
-    output: &mut Vec<u8>,
+pub fn fmt_weekday_sunday<S: Sink>(
+    output: &mut S,
     weekday: Weekday,
     modifier: modifier::WeekdaySunday,
 ) -> usize
-    requires room { HasRoom output.old
+    requires room { Fits (S.buffer output.old)
         (length (decimal (indexed modifier.one_indexed (from_sunday (days_from_monday weekday))))) }
-    ensures writes { Writes output.old output.new result
+    ensures writes { Puts (S.buffer output.old) (S.buffer output.new) result
         (decimal (indexed modifier.one_indexed (from_sunday (days_from_monday weekday)))) }
 {
     write_weekday_digit(
@@ -128,9 +129,9 @@ impl Modifier for modifier::WeekdaySunday {
     }
 
     #[inline(always)]
-    fn write_supplied<V: ComponentProvider>(
+    fn write_supplied<S: Sink, V: ComponentProvider>(
         self,
-        output: &mut Vec<u8>,
+        output: &mut S,
         value: &V,
         state: &mut V::State,
     ) -> Result<(), Refused> {
@@ -141,14 +142,14 @@ impl Modifier for modifier::WeekdaySunday {
 
 /// Appends the days from Monday, 0 to 6, or 1 to 7 where Monday is 1.
 #[inline]
-pub fn fmt_weekday_monday(
-    output: &mut Vec<u8>,
+pub fn fmt_weekday_monday<S: Sink>(
+    output: &mut S,
     weekday: Weekday,
     modifier: modifier::WeekdayMonday,
 ) -> usize
-    requires room { HasRoom output.old
+    requires room { Fits (S.buffer output.old)
         (length (decimal (indexed modifier.one_indexed (days_from_monday weekday)))) }
-    ensures writes { Writes output.old output.new result
+    ensures writes { Puts (S.buffer output.old) (S.buffer output.new) result
         (decimal (indexed modifier.one_indexed (days_from_monday weekday))) }
 {
     write_weekday_digit(
@@ -167,9 +168,9 @@ impl Modifier for modifier::WeekdayMonday {
     }
 
     #[inline(always)]
-    fn write_supplied<V: ComponentProvider>(
+    fn write_supplied<S: Sink, V: ComponentProvider>(
         self,
-        output: &mut Vec<u8>,
+        output: &mut S,
         value: &V,
         state: &mut V::State,
     ) -> Result<(), Refused> {
@@ -180,13 +181,13 @@ impl Modifier for modifier::WeekdayMonday {
 
 /// Appends the week of the week calendar, 1 to 53, in two places (ISO 8601-1:2019).
 #[inline]
-pub fn fmt_week_number_iso(
-    output: &mut Vec<u8>,
+pub fn fmt_week_number_iso<S: Sink>(
+    output: &mut S,
     week: IsoWeekNumber,
     modifier: modifier::WeekNumberIso,
 ) -> usize
-    requires room { HasRoom output.old (length (padded_text modifier.padding 2 week)) }
-    ensures writes { Writes output.old output.new result (padded_text modifier.padding 2 week) }
+    requires room { Fits (S.buffer output.old) (length (padded_text modifier.padding 2 week)) }
+    ensures writes { Puts (S.buffer output.old) (S.buffer output.new) result (padded_text modifier.padding 2 week) }
 {
     format_two_digits(output, week.expand(), modifier.padding)
 }
@@ -200,9 +201,9 @@ impl Modifier for modifier::WeekNumberIso {
     }
 
     #[inline(always)]
-    fn write_supplied<V: ComponentProvider>(
+    fn write_supplied<S: Sink, V: ComponentProvider>(
         self,
-        output: &mut Vec<u8>,
+        output: &mut S,
         value: &V,
         state: &mut V::State,
     ) -> Result<(), Refused> {
@@ -213,13 +214,13 @@ impl Modifier for modifier::WeekNumberIso {
 
 /// Appends the week of the year by its Sundays, 0 to 53, in two places.
 #[inline]
-pub fn fmt_week_number_sunday(
-    output: &mut Vec<u8>,
+pub fn fmt_week_number_sunday<S: Sink>(
+    output: &mut S,
     week: SundayBasedWeek,
     modifier: modifier::WeekNumberSunday,
 ) -> usize
-    requires room { HasRoom output.old (length (padded_text modifier.padding 2 week)) }
-    ensures writes { Writes output.old output.new result (padded_text modifier.padding 2 week) }
+    requires room { Fits (S.buffer output.old) (length (padded_text modifier.padding 2 week)) }
+    ensures writes { Puts (S.buffer output.old) (S.buffer output.new) result (padded_text modifier.padding 2 week) }
 {
     format_two_digits(output, week.expand(), modifier.padding)
 }
@@ -233,9 +234,9 @@ impl Modifier for modifier::WeekNumberSunday {
     }
 
     #[inline(always)]
-    fn write_supplied<V: ComponentProvider>(
+    fn write_supplied<S: Sink, V: ComponentProvider>(
         self,
-        output: &mut Vec<u8>,
+        output: &mut S,
         value: &V,
         state: &mut V::State,
     ) -> Result<(), Refused> {
@@ -246,13 +247,13 @@ impl Modifier for modifier::WeekNumberSunday {
 
 /// Appends the week of the year by its Mondays, 0 to 53, in two places.
 #[inline]
-pub fn fmt_week_number_monday(
-    output: &mut Vec<u8>,
+pub fn fmt_week_number_monday<S: Sink>(
+    output: &mut S,
     week: MondayBasedWeek,
     modifier: modifier::WeekNumberMonday,
 ) -> usize
-    requires room { HasRoom output.old (length (padded_text modifier.padding 2 week)) }
-    ensures writes { Writes output.old output.new result (padded_text modifier.padding 2 week) }
+    requires room { Fits (S.buffer output.old) (length (padded_text modifier.padding 2 week)) }
+    ensures writes { Puts (S.buffer output.old) (S.buffer output.new) result (padded_text modifier.padding 2 week) }
 {
     format_two_digits(output, week.expand(), modifier.padding)
 }
@@ -266,9 +267,9 @@ impl Modifier for modifier::WeekNumberMonday {
     }
 
     #[inline(always)]
-    fn write_supplied<V: ComponentProvider>(
+    fn write_supplied<S: Sink, V: ComponentProvider>(
         self,
-        output: &mut Vec<u8>,
+        output: &mut S,
         value: &V,
         state: &mut V::State,
     ) -> Result<(), Refused> {
@@ -294,10 +295,10 @@ fn name_of_weekday(weekday: Weekday) -> &'static str
 }
 
 // Appends the days from the first day of a week, counted from 0 or from 1 on.
-fn write_weekday_digit(output: &mut Vec<u8>, days: u8, one_indexed: bool) -> usize
+fn write_weekday_digit<S: Sink>(output: &mut S, days: u8, one_indexed: bool) -> usize
     requires days { days ≤ 6 }
-    requires room { HasRoom output.old (length (decimal (indexed one_indexed days))) }
-    ensures writes { Writes output.old output.new result (decimal (indexed one_indexed days)) }
+    requires room { Fits (S.buffer output.old) (length (decimal (indexed one_indexed days))) }
+    ensures writes { Puts (S.buffer output.old) (S.buffer output.new) result (decimal (indexed one_indexed days)) }
 {
     let digit = if one_indexed { days + 1 } else { days };
     format_single_digit(output, ru8::new(digit).unwrap())

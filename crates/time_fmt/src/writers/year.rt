@@ -7,13 +7,14 @@ ghost use Rattle.std.specs.Prelude.{length};
 ghost use Rattle.time_below.specs.declared.format_description.component.Component.TheVariants as component;
 ghost use Rattle.time_fmt.specs.Ends.{Ends};
 ghost use Rattle.time_fmt.specs.Kind.{kind_text, kind_outcome, extended_year, standard_year};
-ghost use Rattle.time_fmt.specs.Room.{HasRoom, Writes};
+ghost use Rattle.time_fmt.specs.Sink.{Fits, Puts};
 ghost use Rattle.time_fmt.specs.Text.{padded_text};
 
 use crate::modifier::Modifier;
 use crate::refused::Refused;
+use crate::sink::Sink;
 use crate::writers::digits::{fmt_sign, format_four_digits};
-use crate::writers::plain::{put_back, take_out, write_many};
+use crate::writers::plain::write_many;
 use time_below::format_description::modifier::Padding;
 use time_below::format_description::{Group, modifier};
 use time_digits::num_fmt::four_to_six_digits;
@@ -24,14 +25,14 @@ use time_provide::ranges::{StandardYear, Year};
 /// Appends the sign and four places of the year, -999,999 to 999,999, or all its digits and a sign
 /// from 10,000 on.
 #[inline(always)]
-pub fn fmt_calendar_year_full_extended_range(
-    output: &mut Vec<u8>,
+pub fn fmt_calendar_year_full_extended_range<S: Sink>(
+    output: &mut S,
     year: Year,
     modifier: modifier::CalendarYearFullExtendedRange,
 ) -> usize
-    requires room { HasRoom output.old
+    requires room { Fits (S.buffer output.old)
         (length (kind_text (extended_year modifier.padding modifier.sign_is_mandatory year))) }
-    ensures writes { Writes output.old output.new result
+    ensures writes { Puts (S.buffer output.old) (S.buffer output.new) result
         (kind_text (extended_year modifier.padding modifier.sign_is_mandatory year)) }
 {
     write_extended_year(output, year, modifier.padding, modifier.sign_is_mandatory)
@@ -46,9 +47,9 @@ impl Modifier for modifier::CalendarYearFullExtendedRange {
     }
 
     #[inline(always)]
-    fn write_supplied<V: ComponentProvider>(
+    fn write_supplied<S: Sink, V: ComponentProvider>(
         self,
-        output: &mut Vec<u8>,
+        output: &mut S,
         value: &V,
         state: &mut V::State,
     ) -> Result<(), Refused> {
@@ -59,14 +60,14 @@ impl Modifier for modifier::CalendarYearFullExtendedRange {
 
 /// Appends the sign and four places of the year, -9,999 to 9,999.
 #[inline]
-pub fn fmt_calendar_year_full_standard_range(
-    output: &mut Vec<u8>,
+pub fn fmt_calendar_year_full_standard_range<S: Sink>(
+    output: &mut S,
     year: StandardYear,
     modifier: modifier::CalendarYearFullStandardRange,
 ) -> usize
-    requires room { HasRoom output.old
+    requires room { Fits (S.buffer output.old)
         (length (kind_text (standard_year modifier.padding modifier.sign_is_mandatory year))) }
-    ensures writes { Writes output.old output.new result
+    ensures writes { Puts (S.buffer output.old) (S.buffer output.new) result
         (kind_text (standard_year modifier.padding modifier.sign_is_mandatory year)) }
 {
     write_standard_year(output, year, modifier.padding, modifier.sign_is_mandatory)
@@ -81,9 +82,9 @@ impl Modifier for modifier::CalendarYearFullStandardRange {
     }
 
     #[inline(always)]
-    fn write_supplied<V: ComponentProvider>(
+    fn write_supplied<S: Sink, V: ComponentProvider>(
         self,
-        output: &mut Vec<u8>,
+        output: &mut S,
         value: &V,
         state: &mut V::State,
     ) -> Result<(), Refused> {
@@ -95,14 +96,14 @@ impl Modifier for modifier::CalendarYearFullStandardRange {
 /// Appends the sign and four places of the week calendar's year, -999,999 to 999,999
 /// (ISO 8601-1:2019), or all its digits and a sign from 10,000 on.
 #[inline]
-pub fn fmt_iso_year_full_extended_range(
-    output: &mut Vec<u8>,
+pub fn fmt_iso_year_full_extended_range<S: Sink>(
+    output: &mut S,
     year: Year,
     modifier: modifier::IsoYearFullExtendedRange,
 ) -> usize
-    requires room { HasRoom output.old
+    requires room { Fits (S.buffer output.old)
         (length (kind_text (extended_year modifier.padding modifier.sign_is_mandatory year))) }
-    ensures writes { Writes output.old output.new result
+    ensures writes { Puts (S.buffer output.old) (S.buffer output.new) result
         (kind_text (extended_year modifier.padding modifier.sign_is_mandatory year)) }
 {
     write_extended_year(output, year, modifier.padding, modifier.sign_is_mandatory)
@@ -117,9 +118,9 @@ impl Modifier for modifier::IsoYearFullExtendedRange {
     }
 
     #[inline(always)]
-    fn write_supplied<V: ComponentProvider>(
+    fn write_supplied<S: Sink, V: ComponentProvider>(
         self,
-        output: &mut Vec<u8>,
+        output: &mut S,
         value: &V,
         state: &mut V::State,
     ) -> Result<(), Refused> {
@@ -130,14 +131,14 @@ impl Modifier for modifier::IsoYearFullExtendedRange {
 
 /// Appends the sign and four places of the week calendar's year, -9,999 to 9,999 (ISO 8601-1:2019).
 #[inline]
-pub fn fmt_iso_year_full_standard_range(
-    output: &mut Vec<u8>,
+pub fn fmt_iso_year_full_standard_range<S: Sink>(
+    output: &mut S,
     year: StandardYear,
     modifier: modifier::IsoYearFullStandardRange,
 ) -> usize
-    requires room { HasRoom output.old
+    requires room { Fits (S.buffer output.old)
         (length (kind_text (standard_year modifier.padding modifier.sign_is_mandatory year))) }
-    ensures writes { Writes output.old output.new result
+    ensures writes { Puts (S.buffer output.old) (S.buffer output.new) result
         (kind_text (standard_year modifier.padding modifier.sign_is_mandatory year)) }
 {
     write_standard_year(output, year, modifier.padding, modifier.sign_is_mandatory)
@@ -152,9 +153,9 @@ impl Modifier for modifier::IsoYearFullStandardRange {
     }
 
     #[inline(always)]
-    fn write_supplied<V: ComponentProvider>(
+    fn write_supplied<S: Sink, V: ComponentProvider>(
         self,
-        output: &mut Vec<u8>,
+        output: &mut S,
         value: &V,
         state: &mut V::State,
     ) -> Result<(), Refused> {
@@ -165,15 +166,15 @@ impl Modifier for modifier::IsoYearFullStandardRange {
 
 // Most years have four digits and no sign.
 #[inline(always)]
-fn write_extended_year(
-    output: &mut Vec<u8>,
+fn write_extended_year<S: Sink>(
+    output: &mut S,
     year: Year,
     padding: Padding,
     sign_is_mandatory: bool,
 ) -> usize
-    requires room { HasRoom output.old
+    requires room { Fits (S.buffer output.old)
         (length (kind_text (extended_year padding sign_is_mandatory year))) }
-    ensures writes { Writes output.old output.new result
+    ensures writes { Puts (S.buffer output.old) (S.buffer output.new) result
         (kind_text (extended_year padding sign_is_mandatory year)) }
 {
     let number = year.get();
@@ -185,35 +186,35 @@ fn write_extended_year(
 
 // Any year, apart.
 #[inline]
-fn write_rare_year(
-    output: &mut Vec<u8>,
+fn write_rare_year<S: Sink>(
+    output: &mut S,
     year: Year,
     padding: Padding,
     sign_is_mandatory: bool,
 ) -> usize
-    requires room { HasRoom output.old
+    requires room { Fits (S.buffer output.old)
         (length (kind_text (extended_year padding sign_is_mandatory year))) }
-    ensures writes { Writes output.old output.new result
+    ensures writes { Puts (S.buffer output.old) (S.buffer output.new) result
         (kind_text (extended_year padding sign_is_mandatory year)) }
 {
-    let mut taken = take_out(output);
+    let mut taken = output.take_out();
     let count = write_signed_year(&mut taken, year, padding, sign_is_mandatory);
-    put_back(output, taken);
+    output.put_back(taken);
     count
 }
 
 // Any year, of a vector that was taken out.
 #[cold]
 #[inline(never)]
-fn write_signed_year(
-    output: &mut Vec<u8>,
+fn write_signed_year<S: Sink>(
+    output: &mut S,
     year: Year,
     padding: Padding,
     sign_is_mandatory: bool,
 ) -> usize
-    requires room { HasRoom output.old
+    requires room { Fits (S.buffer output.old)
         (length (kind_text (extended_year padding sign_is_mandatory year))) }
-    ensures writes { Writes output.old output.new result
+    ensures writes { Puts (S.buffer output.old) (S.buffer output.new) result
         (kind_text (extended_year padding sign_is_mandatory year)) }
 {
     let number = year.get();
@@ -221,15 +222,15 @@ fn write_signed_year(
     sign + write_year_digits(output, year.abs(), padding)
 }
 
-fn write_standard_year(
-    output: &mut Vec<u8>,
+fn write_standard_year<S: Sink>(
+    output: &mut S,
     year: StandardYear,
     padding: Padding,
     sign_is_mandatory: bool,
 ) -> usize
-    requires room { HasRoom output.old
+    requires room { Fits (S.buffer output.old)
         (length (kind_text (standard_year padding sign_is_mandatory year))) }
-    ensures writes { Writes output.old output.new result
+    ensures writes { Puts (S.buffer output.old) (S.buffer output.new) result
         (kind_text (standard_year padding sign_is_mandatory year)) }
 {
     let sign = fmt_sign(output, year.get() < 0, sign_is_mandatory);
@@ -238,9 +239,9 @@ fn write_standard_year(
 
 // Appends a year in four places, or all its digits.
 #[tactic(auto, using(crate::proofs::TextLemmas::whole_year))]
-fn write_year_digits(output: &mut Vec<u8>, year: ru32<0, 999_999>, padding: Padding) -> usize
-    requires room { HasRoom output.old (length (padded_text padding 4 year)) }
-    ensures writes { Writes output.old output.new result (padded_text padding 4 year) }
+fn write_year_digits<S: Sink>(output: &mut S, year: ru32<0, 999_999>, padding: Padding) -> usize
+    requires room { Fits (S.buffer output.old) (length (padded_text padding 4 year)) }
+    ensures writes { Puts (S.buffer output.old) (S.buffer output.new) result (padded_text padding 4 year) }
 {
     let number = year.get();
     if number < 10_000 {
@@ -251,14 +252,14 @@ fn write_year_digits(output: &mut Vec<u8>, year: ru32<0, 999_999>, padding: Padd
 }
 
 // Appends a year of either calendar, if it has at most four digits.
-fn write_accepted_year(
-    output: &mut Vec<u8>,
+fn write_accepted_year<S: Sink>(
+    output: &mut S,
     year: Year,
     padding: Padding,
     sign_is_mandatory: bool,
 ) -> Result<(), Refused>
-    requires room { HasRoom output.old 5 }
-    ensures ends { Ends 5 output.old output.new result
+    requires room { Fits (S.buffer output.old) 5 }
+    ensures ends { Ends 5 (S.buffer output.old) (S.buffer output.new) result
         (kind_outcome (standard_year padding sign_is_mandatory year)) }
 {
     let number = year.get();

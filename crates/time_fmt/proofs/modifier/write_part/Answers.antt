@@ -7,7 +7,7 @@ pub returns-then-not-is_supplied : goal.returns-then-not-is_supplied
 returns-then-not-is_supplied g c =
     let current = c.if-not-is_supplied.ensures.current in
     let refused = outcome_without_group _ _ current (c.if-not-is_supplied.ensures.values c.args.value.now) in
-    record { writes = (rw refused (ends_refused c.args.output.now reason.Unsupplied), c.requires.ready.1) }
+    record { writes = (rw refused (ends_refused (g.S.Sink.buffer c.args.output.now) reason.Unsupplied), c.requires.ready.1) }
 
 pub returns : goal.returns
 returns g c =

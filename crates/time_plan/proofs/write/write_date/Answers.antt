@@ -28,15 +28,15 @@ pub returns-then-not-SUPPLIES_DATE-clause-ends : goal.returns-then-not-SUPPLIES_
 returns-then-not-SUPPLIES_DATE-clause-ends g c =
     let f = g.V.ComponentProvider.facts c.args.value.now in
     let missing : is_some f.date ≡ false = search rules in
-    rw missing (ends_refused c.args.output.now reason.Unsupplied)
+    rw missing (ends_refused (g.S.Sink.buffer c.args.output.now) reason.Unsupplied)
 
 pub returns-clause-ends : goal.returns-clause-ends
 returns-clause-ends g c =
     let f = g.V.ComponentProvider.facts c.args.value.now in
     let there : is_some f.date ≡ true = search rules in
     date_written c.args.between.first c.args.between.second c.calendar_year-year.result c.number_of-month.result
-    c.expand-day.result f c.args.output.now c.fmt_calendar_year_full_extended_range.new.output
-    c.write_two_after.new.output there c.calendar_year-year.ensures.value
+    c.expand-day.result f (g.S.Sink.buffer c.args.output.now) (g.S.Sink.buffer c.fmt_calendar_year_full_extended_range.new.output)
+    (g.S.Sink.buffer c.write_two_after.new.output) there c.calendar_year-year.ensures.value
     (c.number_of-month.ensures.number ∙ c.month.ensures.value) (c.expand-day.ensures ∙ c.day.ensures.value)
     c.calendar_year-year.ensures.range (omega (arith, c.number_of-month.ensures.range))
     (omega (arith, c.day.ensures.range, c.expand-day.ensures))

@@ -33,7 +33,7 @@ pub returns-then-not-SUPPLIES_TIME-clause-ends : goal.returns-then-not-SUPPLIES_
 returns-then-not-SUPPLIES_TIME-clause-ends g c =
     let f = g.V.ComponentProvider.facts c.args.value.now in
     let missing : is_some f.time ≡ false = search rules in
-    rw missing (ends_refused c.args.output.now reason.Unsupplied)
+    rw missing (ends_refused (g.S.Sink.buffer c.args.output.now) reason.Unsupplied)
 
 pub returns-clause-ends : goal.returns-clause-ends
 returns-clause-ends g c =
@@ -41,7 +41,7 @@ returns-clause-ends g c =
     let there : is_some f.time ≡ true =
     search rules in
     time_written c.args.between.first c.args.between.second c.expand-hour.result c.expand-minute.result
-    c.expand-second.result f c.args.output.now c.format_two_digits.new.output c.write_two_after.new.output
+    c.expand-second.result f (g.S.Sink.buffer c.args.output.now) (g.S.Sink.buffer c.format_two_digits.new.output) (g.S.Sink.buffer c.write_two_after.new.output)
     there (c.expand-hour.ensures ∙ c.hour.ensures.value) (c.expand-minute.ensures ∙ c.minute.ensures.value)
     (c.expand-second.ensures ∙ c.second.ensures.value)
     (omega (arith, c.hour.ensures.range, c.expand-hour.ensures))

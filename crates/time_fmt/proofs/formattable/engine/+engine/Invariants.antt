@@ -15,5 +15,6 @@ invariant-write_nodes-loop-node g l =
     let rest = drop l.node-index l.nodes in
     let all = trees (map g.T.Node.tree l.nodes) in
     let left = trees (map g.T.Node.tree rest) in
-    Along (g.V.ComponentProvider.agrees l.state l.value) l.fn.output l.taken (g.V.ComponentProvider.facts l.value) all left
+    Along (g.V.ComponentProvider.agrees l.state l.value) (g.S.Sink.buffer l.fn.output)
+    (g.S.Sink.buffer l.taken) (g.V.ComponentProvider.facts l.value) all left
     (sizes (map g.T.Node.size l.nodes)) (sizes (map g.T.Node.size rest))

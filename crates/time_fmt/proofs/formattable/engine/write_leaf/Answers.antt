@@ -5,4 +5,4 @@ pub returns-in-Component-clause-appends : goal.returns-in-Component-clause-appen
 returns-in-Component-clause-appends g c =
     rw (← c.in-Component.ensures.tree)
     (leaf_of_written c.write_often.result c.in-Component.component (g.V.ComponentProvider.facts c.args.value.now)
-    c.args.output.now c.write_often.new.output (λ same. same) c.write_often.ensures.writes.0)
+    (g.S.Sink.buffer c.args.output.now) (g.S.Sink.buffer c.write_often.new.output) (λ same. same) c.write_often.ensures.writes.0)

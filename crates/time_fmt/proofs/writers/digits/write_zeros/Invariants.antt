@@ -1,11 +1,15 @@
-use Rattle.std.proofs.Common.{◌≡◌, ◌+◌, ◌≤◌, ◌++◌, replicate, vec_len, vec_capacity}
+use Rattle.std.proofs.Common.{◌≡◌, ◌+◌, ◌≤◌, ◌++◌, replicate}
 use Rattle.time_fmt.proofs.writers.digits.write_zeros.Given as goal
 
 -- the zeros so far are at the end of the output, and the others fit its capacity
 abbrev pub invariant-loop : goal.invariant-loop
-invariant-loop l = record {
-  bytes : l.output.items ≡ l.fn.output.items ++ replicate l.counter 48;
-  grown : vec_len l.output ≡ vec_len l.fn.output + l.counter;
-  room : vec_len l.fn.output + l.count ≤ vec_capacity l.output;
-  capacity : vec_capacity l.output ≡ vec_capacity l.fn.output;
-}
+invariant-loop g l =
+    let old = g.S.Sink.buffer l.fn.output in
+    let now = g.S.Sink.buffer l.output in
+    record {
+      bytes : now.bytes ≡ old.bytes ++ replicate l.counter 48;
+      grown : now.len ≡ old.len + l.counter;
+      room : old.len + l.count ≤ now.capacity;
+      capacity : now.capacity ≡ old.capacity;
+      lender : now.lender ≡ old.lender;
+    }

@@ -1,13 +1,16 @@
-use Rattle.std.proofs.Common.{◌≡◌, ◌+◌, ◌≤◌, ◌++◌, drop, length, vec_len, vec_capacity}
+use Rattle.std.proofs.Common.{◌≡◌, ◌+◌, ◌≤◌, ◌++◌, drop, length}
 use Rattle.time_fmt.proofs.writers.plain.write_each.Given as goal
 
 -- what is written so far, and then the bytes that are left, are all bytes
 abbrev pub invariant-loop-byte : goal.invariant-loop-byte
-invariant-loop-byte l =
+invariant-loop-byte g l =
+    let old = g.S.Sink.buffer l.fn.output in
+    let now = g.S.Sink.buffer l.output in
     let left = drop l.byte-index l.bytes in
     record {
-      bytes : l.output.items ++ left ≡ l.fn.output.items ++ l.bytes;
-      grown : vec_len l.output + length left ≡ vec_len l.fn.output + length l.bytes;
-      room : vec_len l.output + length left ≤ vec_capacity l.output;
-      capacity : vec_capacity l.output ≡ vec_capacity l.fn.output;
+      bytes : now.bytes ++ left ≡ old.bytes ++ l.bytes;
+      grown : now.len + length left ≡ old.len + length l.bytes;
+      room : now.len + length left ≤ now.capacity;
+      capacity : now.capacity ≡ old.capacity;
+      lender : now.lender ≡ old.lender;
     }

@@ -1,15 +1,18 @@
-use Rattle.std.proofs.Common.{◌≡◌, ◌+◌, ◌≤◌, ◌++◌, drop, length, vec_len, vec_capacity}
+use Rattle.std.proofs.Common.{◌≡◌, ◌+◌, ◌≤◌, ◌++◌, drop, length}
 use Rattle.time_digits.specs.Digits.{joined}
 use Rattle.time_fmt.proofs.writers.plain.write_many.Given as goal
 
 -- what is written so far, and then the texts that are left, are all texts
 abbrev pub invariant-loop-text : goal.invariant-loop-text
-invariant-loop-text l =
+invariant-loop-text g l =
+    let old = g.S.Sink.buffer l.fn.output in
+    let now = g.S.Sink.buffer l.output in
     let left = joined (drop l.text-index l.texts) in
     record {
-      bytes : l.output.items ++ left ≡ l.fn.output.items ++ joined l.texts;
+      bytes : now.bytes ++ left ≡ old.bytes ++ joined l.texts;
       count : l.sum + length left ≡ length (joined l.texts);
-      grown : vec_len l.fn.output + l.sum ≡ vec_len l.output;
-      room : vec_len l.output + length left ≤ vec_capacity l.output;
-      capacity : vec_capacity l.output ≡ vec_capacity l.fn.output;
+      grown : old.len + l.sum ≡ now.len;
+      room : now.len + length left ≤ now.capacity;
+      capacity : now.capacity ≡ old.capacity;
+      lender : now.lender ≡ old.lender;
     }

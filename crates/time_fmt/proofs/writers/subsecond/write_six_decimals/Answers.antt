@@ -5,7 +5,7 @@ use Rattle.time_fmt.proofs.DecimalLemmas.{six_parts, six_digits}
 use Rattle.time_fmt.proofs.writers.subsecond.write_six_decimals.Goals as goal
 
 pub returns : goal.returns
-returns c =
+returns g c =
     let n = c.args.nanosecond in
     let value = c.get-number.ensures.value in
     let first : c.unwrap-first.result ≡ n / 1_000 / 10_000 = grind arith in

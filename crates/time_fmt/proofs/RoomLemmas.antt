@@ -1,0 +1,19 @@
+-- A text at the start of a buffer, and what follows it.
+use Rattle.std.proofs.Common.{◌≡◌, ℕ, ◌<◌, List, [], ◌∷◌, ◌++◌, length, take, drop, refl, sym, arith}
+use Rattle.std.proofs.lemmas.List.{take-append-drop}
+
+-- no bytes are as long as none
+none_as_long : (xs : List ℕ) → length xs ≡ 0 → xs ≡ []
+none_as_long [] h = refl
+none_as_long (x ∷ xs) h = let never : ⊥ = omega (arith, h) in absurd never
+
+-- what follows the text is as it was before; of an empty buffer nothing does
+pub room_written : (n : ℕ) (old now bytes : List ℕ) → bytes ≡ take n now → n ≡ length bytes → length now ≡ length old
+    → (0 < length now → drop n now ≡ drop n old) → now ≡ bytes ++ drop (length bytes) old
+room_written n old [] bytes text count long behind =
+    let none : old ≡ [] = none_as_long old (sym long) in
+    let parts : take n [] ++ drop n [] ≡ [] = take-append-drop n [] in
+    sym (rw (← count, text, none) parts)
+room_written n old (b ∷ bs) bytes text count long behind =
+    let parts : take n (b ∷ bs) ++ drop n (b ∷ bs) ≡ b ∷ bs = take-append-drop n (b ∷ bs) in
+    sym (rw (← count, text) (rw (behind (omega arith)) at parts))

@@ -1,0 +1,91 @@
+//! The start of a buffer, as a sink.
+//!
+//! What the buffer held before is a ghost member of a type parameter. So the sink's own invariants say that
+//! what follows the text is as it was, and no writer has to.
+ghost use Rattle.std.specs.Prelude.{◌≡◌, ◌<◌, ◌≤◌, ℕ, List, [], Some, length, take, drop};
+ghost use Rattle.time_fmt.specs.Sink.{Buffer};
+
+use crate::sink::Sink;
+use std::marker::{Brand, PhantomData};
+use std::mem::replace;
+
+/// What a buffer held before a text was written to its start.
+pub trait Before {
+    ghost before: { List ℕ };
+}
+
+impl Before for Brand {
+    ghost before = { [] };
+}
+
+/// A text at the start of a buffer. What follows it is as it was before.
+#[derive(Drop)]
+pub struct RoomSink<'a, B: Before> {
+    room: &'a mut [u8],
+    len: usize,
+    held: PhantomData<B>,
+    ghost within: { len ≤ length room.now },
+    ghost as_long: { 0 < length room.now → length room.now ≡ length B.before },
+    ghost behind: { 0 < length room.now → drop len room.now ≡ drop len B.before },
+}
+
+impl<'a, B: Before> RoomSink<'a, B> {
+    /// An empty text.
+    #[inline(always)]
+    pub fn new(room: &'a mut [u8]) -> RoomSink<'a, B>
+        requires before { room.old ≡ B.before }
+        ensures len { result.len ≡ 0 }
+        ensures same_reference { result.room.ghost_name ≡ room.entry.ghost_name }
+        ensures room { result.room.now ≡ room.old }
+    {
+        RoomSink {
+            room,
+            len: 0,
+            held: PhantomData,
+        }
+    }
+
+    /// The number of bytes of the text.
+    #[inline(always)]
+    pub fn len(&self) -> usize
+        ensures { result ≡ self.now.len }
+    {
+        self.len
+    }
+}
+
+impl<B: Before> Sink for RoomSink<'_, B> {
+    ghost buffer = { λ s. record {
+      bytes = take s.len s.room.now;
+      len = s.len;
+      capacity = length s.room.now;
+      lender = Some s.room.ghost_name;
+    } };
+
+    #[inline(always)]
+    fn put_byte(&mut self, byte: u8) {
+        let at = self.len;
+        self.len = at + 1;
+        self.room[at] = byte;
+    }
+
+    #[inline(always)]
+    fn room(&self) -> usize {
+        self.room.len() - self.len
+    }
+
+    #[inline(always)]
+    fn take_out(&mut self) -> Self {
+        let empty = RoomSink {
+            room: &mut [],
+            len: 0,
+            held: PhantomData,
+        };
+        replace(self, empty)
+    }
+
+    #[inline(always)]
+    fn put_back(&mut self, taken: Self) {
+        *self = taken;
+    }
+}

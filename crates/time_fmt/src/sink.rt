@@ -1,0 +1,61 @@
+//! Sinks of bytes, which hold no more than they have capacity for. No writer makes one grow.
+//!
+//! Writers and the engine are generic over them. `Formattable` appends to vectors alone, since a format
+//! may be one of its impls, and a pair takes the vector out by what is known of vectors.
+ghost use Rattle.std.specs.Prelude.{◌≡◌, ◌+◌, ◌++◌, ◌∷◌, []};
+ghost use Rattle.time_fmt.specs.Sink.{Buffer, Fits, vec_buffer};
+
+use crate::writers::{put_back, take_out};
+
+/// A sink of bytes.
+pub trait Sink: Sized {
+    /// What it holds, and how much it can.
+    ghost buffer: { Self → Buffer };
+
+    /// Appends a byte.
+    fn put_byte(&mut self, byte: u8)
+        requires room { Fits (buffer self.old) 1 }
+        ensures bytes { (buffer self.new).bytes ≡ (buffer self.old).bytes ++ byte ∷ [] }
+        ensures len { (buffer self.new).len ≡ (buffer self.old).len + 1 }
+        ensures capacity { (buffer self.new).capacity ≡ (buffer self.old).capacity }
+        ensures lender { (buffer self.new).lender ≡ (buffer self.old).lender };
+
+    /// How many more bytes it can hold. A writer that adds counts asks for it, since nothing else bounds
+    /// their sum.
+    fn room(&self) -> usize
+        ensures { (buffer self.now).len + result ≡ (buffer self.now).capacity };
+
+    /// Takes the sink out of its borrow, which keeps an empty one. A call that is not inlined, and
+    /// that borrows a sink, keeps that sink in memory for the whole of the caller. So the slow
+    /// paths of writers borrow one that they have taken out, and put it back.
+    fn take_out(&mut self) -> Self
+        ensures taken { buffer result ≡ buffer self.old };
+
+    /// Puts the sink back in place of the empty one.
+    fn put_back(&mut self, taken: Self)
+        ensures put { buffer self.new ≡ buffer taken };
+}
+
+impl Sink for Vec<u8> {
+    ghost buffer = { vec_buffer };
+
+    #[inline(always)]
+    fn put_byte(&mut self, byte: u8) {
+        self.push_reserved(byte);
+    }
+
+    #[inline(always)]
+    fn room(&self) -> usize {
+        self.capacity() - self.len()
+    }
+
+    #[inline(always)]
+    fn take_out(&mut self) -> Vec<u8> {
+        take_out(self)
+    }
+
+    #[inline(always)]
+    fn put_back(&mut self, taken: Vec<u8>) {
+        put_back(self, taken);
+    }
+}
