@@ -3,6 +3,7 @@
 
     local_moments.py            prints 10,000 moments from 1938 to 2100, each by its seconds since 1970 and its nanosecond
     local_moments.py --lines    prints what a program logs of each where TZ is the time zone, with milliseconds
+    local_moments.py --utc      prints each as a text of RFC 3339 in UTC
 """
 
 import datetime
@@ -23,6 +24,9 @@ def main():
         if is_of_lines:
             local = datetime.datetime.fromtimestamp(second, zone).replace(microsecond=nanosecond // 1000)
             print(local.isoformat(timespec="milliseconds"), "opened")
+        elif sys.argv[1:] == ["--utc"]:
+            whole = datetime.datetime(1970, 1, 1) + datetime.timedelta(seconds=second)
+            print(f"{whole.isoformat()}.{nanosecond:09}".rstrip("0").rstrip(".") + "Z")
         else:
             print(second, nanosecond)
 
