@@ -10,7 +10,7 @@ ENUM = r"^pub enum .*?\n\}"
 SHARED = r"^struct movaliren_moment .*^struct movaliren_description "
 # The places of changes: a file, the parts of it, and what is changed there.
 PLACES = [
-    ("movaliren.h", r".*", r"\b(?:MOVALIREN|movaliren)_\w+(?<!MOVALIREN_H)"),
+    ("movaliren.h", r".*", r"\b(?!MOVALIREN_(?:H|INLINE)\b)(?:MOVALIREN|movaliren)_\w+"),
     ("movaliren.h", r".*", r'(?<=return )"[^"]+"|(?<=\? )"[^"]+"|(?<=VERSION )"[^"]+"'),
     ("movaliren.h", r".*", r"\bMOVALIREN_\w+ = -?\d+"),
     ("movaliren.h", SHARED, r"(?<=_t )\w+(?=[;,)])|(?<=\*)\w+(?=[;,)])|\b\w+_t(?= \w+[;,)(])|\bconst "),
@@ -31,12 +31,17 @@ PLACES = [
     ("moment.rs", STRUCT, rf"\w+(?=: )|{TYPE}"),
     ("raw.rs", STRUCT, rf"\w+(?=: )|{TYPE}"),
     ("raw.rs", r"fn movaliren_\w+\(.*?;", rf"movaliren_\w+|\w+(?=: )|{TYPE}|\b[A-Z]\w+"),
+    ("library.rt", r".*", r"(?<=result ≡ )\d+"),
     ("reason.rt", r".*", r"^    \w+(?= = \d)|(?<= = )\d+(?=,$)|\d+(?= => Ok)|(?<=Ok\()(?:true|false)"),
     ("item.rt", r".*", r"\d+(?= => Ok)|(?<=Ok\()(?:Padding|SubsecondDigits)::\w+|\d+(?= => component!)|(?<=component!\()\w+"),
     ("config.rt", r".*", r"\d+(?= => Ok)|(?<=Ok\()(?:\w+::\w+|true|false)"),
     ("*.rt", STRUCT, rf"\w+(?=: )|{TYPE}"),
     ("*.rt", EXPORTS, rf"movaliren_\w+|\b(?!alloc\b)\w+(?=: )|{TYPE}|\bmut |(?<=[&\[])[A-Z]\w+|Progress"),
     ("Answer.antt", r"^reason_number [^\n]*", r"(?<=reason\.)\w+|\d+(?=\)$)"),
+    ("Words.antt", r".*", r'(?<=codes )"[^"]+"|(?<=n == )\d+'),
+    ("Reading.antt", r"^place_at [^\n]*", r"(?<=\(expected\.)\w+|(?<=expected\.)End|(?<=expected = )\d"),
+    ("read.rt", r"let \(expected,.*?\};", r"(?<=Expected::)\w+|(?<==> \()\d"),
+    ("raw.rs", r"expected: match.*?\}", r"\d(?= => )|(?<=Expected::)\w+"),
     ("Items.antt", r".*", r"(?<= component\.)\w+|(?<=numbered )[1-9]\d*|(?<=i\.kind == )\d+"),
     ("*.antt", r"^(?:rfc3339_width|rfc2822_width|stamp_width|stamp_length) = .*?$", r"\d+$"),
 ]

@@ -46,7 +46,7 @@ TYPES = {
 POINTED = {"void": "u8"}
 STRUCTS = {
     "moment": "Moment", "utc_moment": "UtcMoment", "item": "Item", "iso_config": "IsoConfig",
-    "progress": "Progress",
+    "progress": "Progress", "place": "Place",
 }
 # The enums of a configuration and of an item: in the header, in the Rust crate, and the Rattle function that reads
 # their numbers. The header has no enum for the last two.
@@ -63,6 +63,8 @@ CHOICES = [
 WIDTHS = {
     "rfc3339_width": "rfc3339", "rfc2822_width": "rfc2822", "stamp_width": "iso8601", "stamp_length": "stamp",
 }
+# What makes no text of a moment.
+NOT_COUNTED = {"version", "error_words"}
 # Crates, a variable of the environment, and the mark of the header.
 NOT_IN_HEADER = {"movaliren_c", "movaliren_cli", "movaliren_time", "MOVALIREN_LIB", "MOVALIREN_H"}
 
@@ -133,8 +135,9 @@ def c_type(declared):
 def c_functions(text):
     found = findall(r"((?:\bstruct )?\b\w+) (movaliren_\w+)\(([^)]*)\);", text)
     split = lambda parameter: re.fullmatch(r"\s*(.*?)(\w+)\s*", parameter, re.S).groups()
+    parameters = lambda all: [] if all == "void" else map(split, all.split(","))
     return {
-        name: ([(parameter, c_type(kind)) for kind, parameter in map(split, all.split(","))], c_type(result))
+        name: ([(parameter, c_type(kind)) for kind, parameter in parameters(all)], c_type(result))
         for result, name, all in found
     }
 
@@ -200,8 +203,12 @@ class Interfaces:
         here = {words(name): text for name, text in rust}
         self.same("the text of a reason", {words(name): text for name, text in c}, here)
         self.same("the set of texts", sorted(here), sorted(numbers(r"MOVALIREN_ERROR_(\w+) = (-\d+)", self.c)))
-        unknown = findall(r'Error::Unknown\(_\) => ("[^"]*")', *self.rust)
-        self.same("the text of another number", findall(r'reason < 0 \? ("[^"]*")', self.c), unknown)
+        reasons = numbers(r"MOVALIREN_ERROR_(\w+) = (-\d+)", self.c)
+        header = {str(-reasons.get(words(name), 0)): text for name, text in c}
+        self.same("the text of a reason by its number", header, dict(findall(r'if n == (\d+) then codes ("[^"]*")', *self.specs)))
+        others = sum(findall(r'reason < 0 \? ("[^"]*") : ("[^"]*")', self.c), ())
+        unknown = only(r'&number, &mut room\)\.unwrap_or\(("[^"]*")\)', *self.rust)
+        self.same("the text of another number", others, tuple(findall(r'else codes ("\w[^"]*")', *self.specs)), (unknown, others[1]))
 
     def lengths(self):
         rust = numbers(r"\b(\w+) over [\w, ]+: (\d+) bytes;", *self.rust)
@@ -218,6 +225,14 @@ class Interfaces:
             "the version",
             findall(r'#define MOVALIREN_VERSION ("[^"]*")', self.c),
             findall(r'^version = ("[^"]*")', self.cargo),
+        )
+        parts = map(int, only(r'#define MOVALIREN_VERSION "(\d+\.\d+\.\d+)"', self.c).split("."))
+        number = functools.reduce(lambda sum, part: 100 * sum + part, parts)
+        self.same(
+            "the number of the version",
+            [str(number)],
+            findall(r"#define MOVALIREN_VERSION_NUMBER (\d+)", self.c),
+            findall(r"fn movaliren_version\(\) -> u32\s*ensures \{ result ≡ (\d+) \}", *self.rattle),
         )
 
     def header_numbers(self, enum):
@@ -330,9 +345,19 @@ class Interfaces:
     def uses(self):
         declared = findall(
             r"#define (MOVALIREN_\w+)|\b(MOVALIREN_\w+) = -?\d|^(?:enum|struct) (movaliren_\w+) \{"
-            r"|^(?:static inline )?(?:const )?(?:struct )?\w+ \*?(movaliren_\w+)\(", self.c)
+            r"|^(?:MOVALIREN_INLINE )?(?:const )?(?:struct )?\w+ \*?(movaliren_\w+)\(", self.c)
         used = set(findall(r"\b(?:MOVALIREN|movaliren)_\w*[A-Za-z0-9]\b", *self.users))
         self.same("what is not in the header", set(), used - {"".join(names) for names in declared} - NOT_IN_HEADER)
+
+    def places(self):
+        """What could have come in a text, by its number; and the words of a place."""
+        header = self.header_numbers("expected")
+        header = {name.removeprefix("expected"): number for name, number in header.items()}
+        rust = {words(name): int(number) for number, name in findall(r"(\d+|_) => Expected::(\w+)", *self.rust) if number != "_"}
+        rust[words(only(r"_ => Expected::(\w+)", *self.rust))] = len(header)
+        rattle = {words(name): int(number) for name, number in findall(r"Expected::(\w+)(?:\([\w, ]+\))? => \((\d+)", *self.rattle)}
+        specs = numbers(r"expected\.(\w+)[^=]* = record \{ at = at; expected = (\d+)", *self.specs)
+        self.same("what could have come", header, rust, rattle, specs)
 
     def tests(self):
         functions = sorted(c_functions(self.c))
@@ -355,6 +380,7 @@ class Interfaces:
             wanted = functions & {self.function(row)} if "/" not in row else set()
             called = functions & set(findall(r"movaliren_(\w+)\(", way))
             self.same(f"what the row {row} of bindings/counts calls", wanted, called)
+        functions -= NOT_COUNTED
         self.same("what bindings/counts does not count from C", set(), functions - set(map(self.function, names)))
         methods = findall(r"^    fn (\w+)", *self.methods)
         rust = {row.partition("/")[0] for row in self.rust_rows()}
@@ -378,7 +404,7 @@ class Interfaces:
         checks = (
             self.functions, self.uses, self.structs, self.kinds, self.usual_flags, self.choices_of_kinds,
             self.choices, self.reasons, self.texts, self.lengths,
-            self.version, self.tests, self.counts,
+            self.version, self.places, self.tests, self.counts,
         )
         for check in checks:
             try:

@@ -11,11 +11,11 @@ import sys
 
 TOP = pathlib.Path(__file__).resolve().parent.parent
 RECIPES = [
-    "crates/time_known_tests/src/front_page.rt",
+    "crates/time_known_tests/src/recipes.rt",
     "crates/time_describe_tests/src/recipes.rt",
     "crates/time_plan_tests/src/recipes.rt",
     "crates/time_log_tests/src/recipes.rt",
-    "crates/time_read_tests/src/front_page.rt",
+    "crates/time_read_tests/src/recipes.rt",
     "crates/time_jiff_tests/src/recipes.rt",
 ]
 

@@ -1,8 +1,8 @@
 #!/usr/bin/env python3
 """Compares names of the pages with the sources.
 
-Each name in code that docs/PROVED.md has is one of the sources: a clause, a function, a type, a field, a module, a
-definition of `specs/` or a file. A name in brackets is one of the section's crate, or of a crate that it stands on.
+Each name in code that docs/PROVED.md and docs/DEFINITIONS.md have is one of the sources: a clause, a function, a type, a field, a module, a
+definition of `specs/` or a file. A name in brackets of docs/PROVED.md is one of the section's crate, or of a crate that it stands on.
 docs/ARCHITECTURE.md names each file of a crate's `src/` by its module, and no module that is not there. Links between pages lead to a
 page, and to a heading of it.
 """
@@ -18,7 +18,7 @@ LINK = re.compile(r"\]\((?!https?:)([^)#\s]*)(#[^)\s]*)?\)")
 DEFINED = [re.compile(pattern, re.M) for pattern in (
     r"\b(?:ensures|requires|ghost) (\w+)",
     r"\b(?:fn|struct|enum|trait|mod|const|type|macro_rules!|data|record|abbrev) (\w[\w-]*)",
-    r"^(?:(?:pub|abbrev|record|data) )*([\w-]+) :",
+    r"^(?:(?:pub|abbrev|record|data|unfoldable|opaque) )*([\w-]+) :",
     r"^\s+(?:pub )?(\w+) ?: ",
     r"^    (\w+)(?:\(.*|,| \{)?$",
 )]
@@ -71,8 +71,13 @@ def unknown_in_proved(page, below):
 
 
 def words_of(text):
-    """The names in the code of a text. Files and numbers are none."""
-    return [word for code in CODE.findall(text) if not re.search(r"[./<>%=]|^[-\d]", code) for word in NAME.findall(code)]
+    """The names in the code of a text. Files, numbers and ends of names are none."""
+    return [word for code in CODE.findall(text) if not re.search(r"[./<>%=]|^[-\d]", code) for word in NAME.findall(code) if not word.startswith("_")]
+
+
+def defined_in(page):
+    """The names that stand alone in code. Short ones and capitals are pieces of texts."""
+    return {code for code in CODE.findall(page) if re.fullmatch(r"[A-Za-z]\w{3,}", code) and not code.isupper()}
 
 
 def modules(crate):
@@ -112,14 +117,17 @@ def broken_links():
 
 
 def main():
-    proved, architecture = (TOP / "docs/PROVED.md").read_text(), (TOP / "docs/ARCHITECTURE.md").read_text()
+    proved, architecture, definitions = (
+        (TOP / f"docs/{name}.md").read_text() for name in ("PROVED", "ARCHITECTURE", "DEFINITIONS"))
     below = crates()
     links, count = broken_links()
     wrong = [f"docs/PROVED.md names what no source has: {it}" for it in sorted(set(unknown_in_proved(proved, below)))]
+    every = {it for crate in below for it in names_of(crate)} | set(below) | OF_RATTLE
+    wrong += [f"docs/DEFINITIONS.md names what no source has: {it}" for it in sorted(defined_in(definitions) - every)]
     wrong += unknown_in_architecture(architecture) + links
     for it in wrong:
         print(it)
-    print(f"{len(words_of(proved))} names of docs/PROVED.md, {count} links: {'they differ' if wrong else 'each is there'}")
+    print(f"{len(words_of(proved + definitions))} names of PROVED and DEFINITIONS, {count} links: {'they differ' if wrong else 'each is there'}")
     return 1 if wrong else 0
 
 

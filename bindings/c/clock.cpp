@@ -33,6 +33,12 @@ static const movaliren_iso_config date_and_time = { 4, 0, 2, 3, 1, 1, 0, 0 };
 static const movaliren_iso_config time_and_offset = { 6, 0, 2, 3, 1, 1, 0, 0 };
 static const movaliren_iso_config offset_alone = { 3, 0, 2, 3, 1, 1, 0, 0 };
 
+// Texts of RFC 3339 of the moments, what they are read into, and where one could not be read.
+static char read_texts[VALUES][MOVALIREN_RFC3339_ROOM];
+static movaliren_moment read_moment;
+static movaliren_utc_moment read_utc;
+static movaliren_place read_place;
+
 static movaliren_item items[11], names[7];
 static char texts[5], name_texts[8];
 static movaliren_description line = MOVALIREN_DESCRIPTION(items, texts);
@@ -66,6 +72,8 @@ static void fill()
     for (auto &moment : moments) {
         moment.seconds = int64_t(next() % 253402300800u);
         moment.nanosecond = uint32_t(next() % 100000000 * 10 + 1 + next() % 9);
+        movaliren_rfc3339_utc(
+            moment.seconds, moment.nanosecond, read_texts[&moment - moments], MOVALIREN_RFC3339_ROOM);
     }
     build(line);
     // Sunday, 22 November 2026
@@ -179,6 +187,9 @@ typedef movaliren_progress many();
 #define ALL_ROOM(format) '\n', room, VALUES * (MOVALIREN_##format##_ROOM + 1)
 #define ALL_OUT '\n', room, sizeof room
 
+// The text of a moment in UTC with nine decimals.
+#define READ_TEXT read_texts[&moment - moments], MOVALIREN_STAMP_ROOM
+
 // By the parts that gmtime_r gives.
 #define BY_PARTS(call)                                                                                                 \
     [](const movaliren_utc_moment &moment) -> long {                                                                   \
@@ -249,6 +260,8 @@ static const struct {
     { "stamp_batch", 0, MANY(movaliren_stamp_batch(ALL_UTC, ALL_ROOM(STAMP))) },
     { "iso8601_utc", ONE(movaliren_iso8601_utc(NOW, ROOM(ISO8601))), 0 },
     NINE("iso8601_utc", 0, "Z"),
+    { "iso8601_local", ONE(movaliren_iso8601_local(NOW, EAST, ROOM(ISO8601))), 0 },
+    NINE("iso8601_local", EAST, "+01:00"),
     { "iso8601", BY_PARTS(movaliren_iso8601(&value, ROOM(ISO8601))), 0 },
     NINE("iso8601", 0, "Z"),
     { "iso8601_utc_batch", 0, MANY(movaliren_iso8601_utc_batch(ALL_UTC, ALL_ROOM(ISO8601))) },
@@ -288,6 +301,8 @@ static const struct {
     DECIMALS("iso8601_by_utc:time-offset", 0, CLOCK, ".", "03", 1000000, "Z"),
     { "iso8601_by_utc:time-offset/snprintf", ONE(time_by_snprintf(moment, PRINTED_CLOCK ".%03uZ")), 0 },
     { "iso8601_by_utc:offset", ONE(movaliren_iso8601_by_utc(&offset_alone, NOW, OUT)), 0 },
+    { "iso8601_by_local:three-decimals", ONE(movaliren_iso8601_by_local(&milliseconds, NOW, EAST, OUT)), 0 },
+    DATE_AND_DECIMALS("iso8601_by_local:three-decimals", EAST, BOTH, PRINTED, ".", "03", 1000000, "+01:00"),
     { "iso8601_by:three-decimals", BY_PARTS(movaliren_iso8601_by(&milliseconds, &value, OUT)), 0 },
     THREE("iso8601_by:three-decimals"),
     { "iso8601_by_utc_batch:three-decimals", 0,
@@ -297,6 +312,9 @@ static const struct {
     { "format_utc:11-items", ONE(movaliren_format_utc(items, 11, texts, 5, NOW, OUT)), 0 },
     NO_DECIMALS("format_utc:11-items", 0, DATE " " CLOCK),
     { "format_utc:11-items/snprintf", ONE(by_snprintf(moment, 0, "%d-%02d-%02d " PRINTED_CLOCK, 1)), 0 },
+    { "format_local:11-items", ONE(movaliren_format_local(items, 11, texts, 5, NOW, EAST, OUT)), 0 },
+    NO_DECIMALS("format_local:11-items", EAST, DATE " " CLOCK),
+    { "format_local:11-items/snprintf", ONE(by_snprintf(moment, EAST, "%d-%02d-%02d " PRINTED_CLOCK, 1)), 0 },
     { "format:11-items", BY_PARTS(movaliren_format(items, 11, texts, 5, &value, OUT)), 0 },
     NO_DECIMALS("format:11-items", 0, DATE " " CLOCK),
     { "format:11-items/snprintf", ONE(by_snprintf(moment, 0, "%d-%02d-%02d " PRINTED_CLOCK, 1)), 0 },
@@ -316,6 +334,10 @@ static const struct {
     { "format_date:names/snprintf", ONE(names_by_snprintf(moment)), 0 },
     { "width:11-items", ONE(movaliren_width(items, 11, texts, 5)), 0 },
     { "width:names", ONE(movaliren_width(names, 7, name_texts, 4)), 0 },
+    { "read_rfc3339", ONE(movaliren_read_rfc3339(READ_TEXT, &read_moment, &read_place)), 0 },
+    { "read_rfc3339_utc", ONE(movaliren_read_rfc3339_utc(READ_TEXT, &read_utc, &read_place)), 0 },
+    { "read_rfc3339_lenient", ONE(movaliren_read_rfc3339_lenient(READ_TEXT, &read_moment, &read_place)), 0 },
+    { "read_rfc3339_lenient_utc", ONE(movaliren_read_rfc3339_lenient_utc(READ_TEXT, &read_utc, &read_place)), 0 },
     { "building:11-items", ONE((build(line), moment.nanosecond)), 0 },
     { "building:8000-items", ONE(build_long(8000)), 0 },
     { "building:16000-items", ONE(build_long(16000)), 0 },

@@ -23,6 +23,21 @@ static ptrdiff_t described_utc(const void *format, const void *value, uint8_t *r
         moment->seconds, moment->nanosecond, room, room_len);
 }
 
+/* A moment, and how many seconds local clocks are ahead of UTC. */
+struct local {
+    struct movaliren_utc_moment moment;
+    int64_t offset;
+};
+
+static ptrdiff_t described_local(
+    const void *format, const void *value, uint8_t *room, size_t room_len)
+{
+    const struct description *d = format;
+    const struct local *local = value;
+    return movaliren_format_local(d->items, d->items_len, d->texts, strlen(d->texts),
+        local->moment.seconds, local->moment.nanosecond, local->offset, room, room_len);
+}
+
 static ptrdiff_t described_date(
     const void *format, const void *value, uint8_t *room, size_t room_len)
 {
@@ -128,6 +143,7 @@ static void try_usual_items(void)
                                          after = MOMENT(10000, 1, 1, 0, 0, 0, 0, 0, 0, 0),
                                          no_day = MOMENT(2026, 2, 29, 0, 0, 0, 0, 0, 0, 0);
     static const struct movaliren_utc_moment half = { -1, 999500000 }, too_late = { INT64_MAX, 0 };
+    static const struct local pacific = { { 851042397, 0 }, -28800 }, no_offset = { { 0, 0 }, 93600 };
     const struct {
         writer *write;
         struct description description;
@@ -174,6 +190,15 @@ static void try_usual_items(void)
             TEXT(1, 1)),
         BY(described, &no_day, "", 0, MOVALIREN_ERROR_DAY, { .kind = MOVALIREN_DAY }),
         BY(described_utc, &too_late, "", 0, MOVALIREN_ERROR_MOMENT_SECONDS, { .kind = MOVALIREN_DAY }),
+        /* RFC 3339, section 5.8, by items that allocate nothing, and by one that does */
+        BY(described_local, &pacific, "T:", "19T16:39-0800", 0, { .kind = MOVALIREN_DAY }, TEXT(0, 1),
+            { .kind = MOVALIREN_HOUR }, TEXT(1, 1), { .kind = MOVALIREN_MINUTE },
+            { .kind = MOVALIREN_OFFSET_HOUR, .flag = 1 }, { .kind = MOVALIREN_OFFSET_MINUTE }),
+        BY(described_local, &pacific, " ", "4 PM 851042397", 0,
+            { .kind = MOVALIREN_HOUR_12, .padding = MOVALIREN_NO_PADDING }, TEXT(0, 1),
+            { .kind = MOVALIREN_PERIOD, .flag = 1 }, TEXT(0, 1), { .kind = MOVALIREN_UNIX_SECOND }),
+        BY(described_local, &no_offset, "", 0, MOVALIREN_ERROR_OFFSET_HOURS, { .kind = MOVALIREN_DAY }),
+        BY(described_local, &no_offset, "", 0, MOVALIREN_ERROR_BAD_ITEM, { .kind = 0 }),
         /* choices that the kind does not use, and others than most texts have */
         BY(described, &parts, "", "11", 0,
             { .kind = MOVALIREN_MONTH, .flag = 1, .digits = 9 }),

@@ -40,6 +40,10 @@ static void moments(void)
 
     same(movaliren_rfc3339_local(seconds, nanosecond, local.tm_gmtoff, line, most), "2026-11-22T09:55:06.12-06:00", NULL);
 
+    count = strftime(theirs, sizeof theirs, "%Y-%m-%dT%H:%M:%S", &local);
+    snprintf(theirs + count, sizeof theirs - count, ".%03ld-06:00", nanosecond / 1000000);
+    same(movaliren_iso8601_by_local(&milliseconds, seconds, nanosecond, local.tm_gmtoff, line, most), "2026-11-22T09:55:06.120-06:00", theirs);
+
     strftime(theirs, sizeof theirs, "%G-W%V-%u", &utc);
     struct movaliren_iso_config week = MOVALIREN_ISO_DEFAULT;
     week.components = MOVALIREN_ISO_DATE;
@@ -61,6 +65,21 @@ static void descriptions(void)
     same(movaliren_format_utc(items, day.items_len, texts, day.texts_len, seconds, 0, line, most), "22 November 2026", theirs);
 }
 
+static void texts_read(void)
+{
+    const char *text = "2026-11-22T15:55:06Z";
+    struct movaliren_utc_moment moment;
+    struct movaliren_place place;
+    struct tm parts = { 0 };
+    const ptrdiff_t reason = movaliren_read_rfc3339_utc(text, strlen(text), &moment, &place);
+    if (reason != 0 || moment.seconds != seconds || moment.nanosecond != 0) {
+        printf("%s is not read: %td\n", text, reason);
+        wrong = 1;
+    }
+    if (!strptime(text, "%Y-%m-%dT%H:%M:%SZ", &parts) || timegm(&parts) != seconds)
+        wrong = 1;
+}
+
 int main(void)
 {
     const time_t there = seconds - 21600;
@@ -69,5 +88,6 @@ int main(void)
     local.tm_gmtoff = -21600;
     moments();
     descriptions();
+    texts_read();
     return wrong;
 }

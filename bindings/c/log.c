@@ -12,9 +12,8 @@ static void *work(void *name)
     char stamp[MOVALIREN_ISO8601_ROOM + 1];
     struct timespec now;
     for (int line = 0; line < 3 && clock_gettime(CLOCK_REALTIME, &now) == 0; line++) {
-        ptrdiff_t n = movaliren_iso8601_by_utc(
-            &milliseconds, now.tv_sec, now.tv_nsec, stamp, MOVALIREN_ISO8601_ROOM);
-        stamp[n < 0 ? 0 : n] = 0;
+        ptrdiff_t n = MOVALIREN_STRING(
+            stamp, movaliren_iso8601_by_utc, &milliseconds, now.tv_sec, (uint32_t)now.tv_nsec);
         printf("%s %s line %d\n", n < 0 ? movaliren_error_text(n) : stamp, (char *)name, line);
     }
     return 0;

@@ -50,7 +50,7 @@ void __wrap_free(void *pointer)
     __real_free(pointer);
 }
 
-enum { ROOM = 300, CALLS = 35 };
+enum { ROOM = 300, CALLS = 44 };
 
 static const struct movaliren_moment moment = { .year = 1997, .month = 11, .day = 12, .hour = 9,
     .minute = 55, .second = 6, .nanosecond = 120000000, .offset_hours = -6 },
@@ -71,6 +71,11 @@ static const struct movaliren_item twenty[20] = { { .kind = MOVALIREN_MONTH_SHOR
     TEXT(4, 1), { .kind = MOVALIREN_SUBSECOND, .digits = 3 },
     { .kind = MOVALIREN_OFFSET_HOUR, .flag = 1 }, TEXT(3, 1),
     { .kind = MOVALIREN_OFFSET_MINUTE } };
+
+static const char leap_day[] = "2028-02-29T00:00:00Z";
+static struct movaliren_moment read;
+static struct movaliren_utc_moment read_utc;
+static struct movaliren_place place;
 
 static ptrdiff_t bytes_of(struct movaliren_progress progress)
 {
@@ -115,6 +120,15 @@ static ptrdiff_t call(int which, uint8_t *room)
     case 31: return movaliren_format(twenty, 20, " -T:.", 5, &year_0, room, ROOM);
     case 32: return movaliren_format_utc(twenty, 20, " -T:.", 5, -62167219200, 0, room, ROOM);
     case 33: return movaliren_format(twenty, 20, " -T:.", 5, &last, room, ROOM);
+    case 34: return movaliren_iso8601_local(0, 1, 60, room, ROOM);
+    case 35: return movaliren_iso8601_by_local(&config, 0, 1, 60, room, ROOM);
+    case 36: return movaliren_format_local(usual, 3, dash, 1, 0, 0, 60, room, ROOM);
+    case 37: return 1 + movaliren_read_rfc3339(leap_day, 20, &read, &place);
+    case 38: return 1 + movaliren_read_rfc3339_utc(leap_day, 20, &read_utc, &place);
+    case 39: return 1 + movaliren_read_rfc3339_lenient(leap_day, 20, &read, &place);
+    case 40: return -movaliren_read_rfc3339_lenient_utc(leap_day, 19, &read_utc, &place);
+    case 41: return movaliren_error_words(MOVALIREN_ERROR_NO_ROOM, room, ROOM);
+    case 42: return (ptrdiff_t)movaliren_version();
     default: return movaliren_format_date(usual, 3, dash, 1, 0, 1, 1, room, ROOM);
     }
 }

@@ -3,11 +3,9 @@
  * Between -Wl,-Bstatic and -Wl,-Bdynamic they link the static one.
  *
  *     char line[MOVALIREN_RFC3339_ROOM + 1];
- *     ptrdiff_t n = movaliren_rfc3339_utc(now.tv_sec, now.tv_nsec, line, MOVALIREN_RFC3339_ROOM);
- *     if (n < 0)
- *         fprintf(stderr, "%s\n", movaliren_error_text(n));
- *     else
- *         line[n] = 0, puts(line);
+ *     ptrdiff_t n = MOVALIREN_STRING(
+ *         line, movaliren_rfc3339_utc, now.tv_sec, (uint32_t)now.tv_nsec);
+ *     puts(n < 0 ? movaliren_error_text(n) : line);
  *
  * A call that writes one text returns the number of bytes that it wrote to the start of the buffer
  * `room`. These are the whole text, without a zero at the end; the bytes after them are unchanged. Or it
@@ -16,9 +14,9 @@
  * in range. A call reads its arguments, keeps nothing and prints nothing. Threads may call at the same
  * time without a lock.
  *
- * Only movaliren_format, movaliren_format_utc and movaliren_format_date allocate: at most once, the bytes
- * of the description's width, freed before they return. They allocate nothing for at most 65535 usual
- * items, a year of 0 to 9999, and a width of at most 128 bytes or those of the buffer. Usual items are
+ * Only movaliren_format, movaliren_format_utc, movaliren_format_local and movaliren_format_date allocate: at
+ * most once, the bytes of the description's width, freed before they return. They allocate nothing for at
+ * most 65535 usual items, a year of 0 to 9999, and a width of at most 128 bytes or those of the buffer. Usual items are
  * texts of at most 65535 bytes, and DAY, MONTH, MONTH_SHORT, YEAR, YEAR_EXTENDED, HOUR, MINUTE, SECOND
  * and OFFSET_MINUTE by zeros alone for padding, flag and digits, SUBSECOND by 3, 6 or 9 digits, and
  * OFFSET_HOUR by the flag. For movaliren_format_date those of a time or an offset are not usual. A call
@@ -30,19 +28,39 @@
  *     struct { uint64_t is_there; void *block; } rattle_alloc(size_t size, size_t alignment);
  *     void rattle_dealloc(void *block);
  *
- * A program that makes none of these three calls needs neither symbol if it links by -Wl,--gc-sections.
+ * A program that makes none of these four calls needs neither symbol if it links by -Wl,--gc-sections.
  *
  * Pointers must not be null, also where a length is 0: pass "". Each length must be that of its array,
  * and below PTRDIFF_MAX. The buffer must not overlap anything else that the call is given. All fields must
- * be set. */
+ * be set.
+ *
+ * The header is C99 and C++, and C89 where the compiler has <stdint.h> and an inline of its own. The soname
+ * libmovaliren.so.0 stands for the layout of each struct and the meaning of each call: a field more, or another
+ * meaning of a number, has another soname. A later version of one soname may have more calls and more numbers. */
 #ifndef MOVALIREN_H
 #define MOVALIREN_H
 
 #include <stddef.h>
 #include <stdint.h>
+#include <stdio.h>
 #include <string.h>
 
 #define MOVALIREN_VERSION "0.1.0"
+
+/* The same as one number, for #if: 10,000 for the first part, 100 for the second, and the third.
+ * movaliren_version returns that of the library that the program runs with. */
+#define MOVALIREN_VERSION_NUMBER 100
+
+/* How this compiler names a function that each file may have. */
+#ifndef MOVALIREN_INLINE
+#if defined(__cplusplus) || (defined(__STDC_VERSION__) && __STDC_VERSION__ >= 199901L)
+#define MOVALIREN_INLINE static inline
+#elif defined(__GNUC__)
+#define MOVALIREN_INLINE static __inline__ __attribute__((__unused__))
+#else
+#define MOVALIREN_INLINE static
+#endif
+#endif
 
 #ifdef __cplusplus
 extern "C" {
@@ -70,11 +88,18 @@ enum movaliren_error {
     MOVALIREN_ERROR_BAD_ITEM = -19,
     MOVALIREN_ERROR_NO_ROOM = -20,
     MOVALIREN_ERROR_OUT_OF_MEMORY = -21,
-    MOVALIREN_ERROR_OTHER = -22 /* never returned */
+    MOVALIREN_ERROR_OTHER = -22, /* never returned */
+    MOVALIREN_ERROR_NOT_READ = -23
 };
 
+uint32_t movaliren_version(void);
+
+/* Writes the reason in words, which are those of movaliren_error_text, for programs that cannot call what stands
+ * in a header alone. Of a number that is no movaliren_error these are "no error" or "unknown error". */
+ptrdiff_t movaliren_error_words(ptrdiff_t reason, void *room, size_t room_len);
+
 /* The reason in words. */
-static inline const char *movaliren_error_text(ptrdiff_t reason)
+MOVALIREN_INLINE const char *movaliren_error_text(ptrdiff_t reason)
 {
     switch (reason) {
     case MOVALIREN_ERROR_YEAR:
@@ -121,10 +146,26 @@ static inline const char *movaliren_error_text(ptrdiff_t reason)
         return "out of memory";
     case MOVALIREN_ERROR_OTHER:
         return "the format cannot represent a component";
+    case MOVALIREN_ERROR_NOT_READ:
+        return "the text is not one of the format";
     default:
         return reason < 0 ? "unknown error" : "no error";
     }
 }
+
+/* Ends the text that a call wrote by a zero, and returns what the call returned. After an error it is empty. */
+MOVALIREN_INLINE ptrdiff_t movaliren_ended(char *line, ptrdiff_t count)
+{
+    line[count < 0 ? 0 : count] = 0;
+    return count;
+}
+
+/* Calls the function with these arguments and an array of char, less one byte, as its buffer, and ends the text
+ * by a zero. */
+#if defined(__cplusplus) || (defined(__STDC_VERSION__) && __STDC_VERSION__ >= 199901L)
+#define MOVALIREN_STRING(line, function, ...)                                          \
+    movaliren_ended(line, function(__VA_ARGS__, line, sizeof(line) - 1))
+#endif
 
 /* A buffer of this many bytes is large enough for any value and any configuration. One byte more has
  * space for a zero after the text. */
@@ -246,7 +287,8 @@ ptrdiff_t movaliren_iso8601_utc(int64_t seconds, uint32_t nanosecond, void *room
 /* A line of a log with milliseconds, as 1997-11-12T15:55:06.120Z:
  *
  *     static const struct movaliren_iso_config milliseconds = MOVALIREN_ISO_DECIMALS(3);
- *     n = movaliren_iso8601_by_utc(&milliseconds, now.tv_sec, now.tv_nsec, line, sizeof line - 1); */
+ *     n = MOVALIREN_STRING(
+ *         line, movaliren_iso8601_by_utc, &milliseconds, now.tv_sec, (uint32_t)now.tv_nsec); */
 ptrdiff_t movaliren_iso8601_by_utc(const struct movaliren_iso_config *config, int64_t seconds,
     uint32_t nanosecond, void *room, size_t room_len);
 
@@ -258,6 +300,62 @@ ptrdiff_t movaliren_rfc3339_local(
     int64_t seconds, uint32_t nanosecond, int64_t offset, void *room, size_t room_len);
 ptrdiff_t movaliren_rfc2822_local(
     int64_t seconds, uint32_t nanosecond, int64_t offset, void *room, size_t room_len);
+ptrdiff_t movaliren_iso8601_local(
+    int64_t seconds, uint32_t nanosecond, int64_t offset, void *room, size_t room_len);
+
+/* A line of a log in local time, as 1997-11-12T16:55:06.120+01:00:
+ *
+ *     struct tm local;
+ *     localtime_r(&now.tv_sec, &local);
+ *     n = MOVALIREN_STRING(line, movaliren_iso8601_by_local, &milliseconds, now.tv_sec,
+ *         (uint32_t)now.tv_nsec, local.tm_gmtoff); */
+ptrdiff_t movaliren_iso8601_by_local(const struct movaliren_iso_config *config, int64_t seconds,
+    uint32_t nanosecond, int64_t offset, void *room, size_t room_len);
+
+/* ---- texts, read back */
+
+/* What could have come in a text. */
+enum movaliren_expected {
+    MOVALIREN_EXPECTED_DIGIT = 1,           /* a digit from `first` to `last`, which are 0 to 9 */
+    MOVALIREN_EXPECTED_BYTE = 2,            /* the byte `first` */
+    MOVALIREN_EXPECTED_LETTER = 3,          /* the letter `first` */
+    MOVALIREN_EXPECTED_OFFSET = 4,          /* Z, + or - */
+    MOVALIREN_EXPECTED_POINT_OR_OFFSET = 5, /* a point, Z, + or - */
+    MOVALIREN_EXPECTED_DIGIT_OR_OFFSET = 6, /* a digit, Z, + or - */
+    MOVALIREN_EXPECTED_END = 7              /* no more bytes */
+};
+
+/* Where a text could not be read: the first byte with which no text of the format goes on, or the end of a
+ * text that is too short. Each byte that could have come there is named. */
+struct movaliren_place {
+    size_t at;            /* the number of bytes that are right */
+    uint8_t expected;     /* movaliren_expected: what could have come after them */
+    uint8_t first;        /* the first digit, 0 to 9; or the byte or the capital letter; or 0 */
+    uint8_t last;         /* the last digit, 0 to 9; or the same as first */
+    uint8_t is_lenient;   /* 1 where the small form of a letter could have come too, else 0 */
+    uint8_t is_second_60; /* 1 where second 60 stands there, which a leap second has and no moment, else 0 */
+};
+
+/* Reads a text of RFC 3339, section 5.6: capital letters, one to nine decimals or none, no second 60, and not
+ * the offset -00:00. Returns 0 if the text was read, and the place is then unchanged. Of any other text it
+ * returns MOVALIREN_ERROR_NOT_READ and sets the place; the moment is then unchanged.
+ *
+ *     struct movaliren_moment moment;
+ *     struct movaliren_place place;
+ *     char said[MOVALIREN_PLACE_ROOM];
+ *     if (movaliren_read_rfc3339(text, strlen(text), &moment, &place) < 0)
+ *         fprintf(stderr, "%s: %s\n", text, movaliren_place_text(&place, said)); */
+ptrdiff_t movaliren_read_rfc3339(const void *text, size_t text_len,
+    struct movaliren_moment *moment, struct movaliren_place *place);
+ptrdiff_t movaliren_read_rfc3339_utc(const void *text, size_t text_len,
+    struct movaliren_utc_moment *moment, struct movaliren_place *place);
+
+/* Reads such a text of another program too: with a small t or z, with more than nine decimals, of which the
+ * first nine count, or with the offset -00:00 of an unknown local time, which is read as UTC. */
+ptrdiff_t movaliren_read_rfc3339_lenient(const void *text, size_t text_len,
+    struct movaliren_moment *moment, struct movaliren_place *place);
+ptrdiff_t movaliren_read_rfc3339_lenient_utc(const void *text, size_t text_len,
+    struct movaliren_utc_moment *moment, struct movaliren_place *place);
 
 /* ---- many moments in one call */
 
@@ -412,6 +510,9 @@ ptrdiff_t movaliren_format(const struct movaliren_item *items, size_t items_len,
 ptrdiff_t movaliren_format_utc(const struct movaliren_item *items, size_t items_len,
     const void *texts, size_t texts_len, int64_t seconds, uint32_t nanosecond, void *room,
     size_t room_len);
+ptrdiff_t movaliren_format_local(const struct movaliren_item *items, size_t items_len,
+    const void *texts, size_t texts_len, int64_t seconds, uint32_t nanosecond, int64_t offset,
+    void *room, size_t room_len);
 ptrdiff_t movaliren_format_date(const struct movaliren_item *items, size_t items_len,
     const void *texts, size_t texts_len, int32_t year, uint8_t month, uint8_t day, void *room,
     size_t room_len);
@@ -450,7 +551,7 @@ struct movaliren_description {
     }
 
 /* Ends the description for the first reason. */
-static inline void movaliren_refuse(struct movaliren_description *description, ptrdiff_t reason)
+MOVALIREN_INLINE void movaliren_refuse(struct movaliren_description *description, ptrdiff_t reason)
 {
     const struct movaliren_item invalid = { 0, 0, 0, 0, 0, 0, 0 };
     if (description->reason == 0)
@@ -461,7 +562,7 @@ static inline void movaliren_refuse(struct movaliren_description *description, p
     }
 }
 
-static inline void movaliren_add_item(
+MOVALIREN_INLINE void movaliren_add_item(
     struct movaliren_description *description, struct movaliren_item item)
 {
     if (description->reason != 0)
@@ -473,11 +574,12 @@ static inline void movaliren_add_item(
 }
 
 /* Adds a component. An invalid kind or choice is MOVALIREN_ERROR_BAD_ITEM. */
-static inline void movaliren_add(struct movaliren_description *description, uint32_t kind,
+MOVALIREN_INLINE void movaliren_add(struct movaliren_description *description, uint32_t kind,
     uint8_t padding, uint8_t flag, uint8_t digits)
 {
-    const struct movaliren_item item = { kind, padding, flag, digits, 0, 0, 0 };
+    struct movaliren_item item = { 0, 0, 0, 0, 0, 0, 0 };
     const int is_component = MOVALIREN_DAY <= kind && kind <= MOVALIREN_UNIX_MILLISECOND;
+    item.kind = kind, item.padding = padding, item.flag = flag, item.digits = digits;
     if (is_component && padding <= MOVALIREN_NO_PADDING && flag <= 1 && digits <= 9)
         movaliren_add_item(description, item);
     else
@@ -486,7 +588,7 @@ static inline void movaliren_add(struct movaliren_description *description, uint
 
 /* Adds a component by its usual choices: zeros before its number, no plus, and as many decimals as are
  * needed. A weekday counts from 1, and the half of the day is in upper case. */
-static inline void movaliren_add_usual(struct movaliren_description *description, uint32_t kind)
+MOVALIREN_INLINE void movaliren_add_usual(struct movaliren_description *description, uint32_t kind)
 {
     const uint8_t flag = kind == MOVALIREN_WEEKDAY_FROM_SUNDAY
         || kind == MOVALIREN_WEEKDAY_FROM_MONDAY || kind == MOVALIREN_PERIOD;
@@ -494,10 +596,11 @@ static inline void movaliren_add_usual(struct movaliren_description *description
 }
 
 /* Adds a text of these bytes. */
-static inline void movaliren_add_bytes(
+MOVALIREN_INLINE void movaliren_add_bytes(
     struct movaliren_description *description, const void *bytes, size_t len)
 {
-    const struct movaliren_item item = { MOVALIREN_TEXT, 0, 0, 0, 0, description->texts_len, len };
+    struct movaliren_item item = { MOVALIREN_TEXT, 0, 0, 0, 0, 0, 0 };
+    item.start = description->texts_len, item.len = len;
     if (len > description->texts_room - description->texts_len)
         movaliren_refuse(description, MOVALIREN_ERROR_NO_ROOM);
     movaliren_add_item(description, item);
@@ -508,9 +611,53 @@ static inline void movaliren_add_bytes(
 }
 
 /* Adds a text that ends with a zero, which is no part of it. */
-static inline void movaliren_add_text(struct movaliren_description *description, const char *text)
+MOVALIREN_INLINE void movaliren_add_text(struct movaliren_description *description, const char *text)
 {
     movaliren_add_bytes(description, text, strlen(text));
+}
+
+/* ---- places in words */
+
+/* A buffer of this many bytes holds the words of any place. */
+#define MOVALIREN_PLACE_ROOM 100
+
+/* The place in words, as "byte 9: expected a digit from 0 to 8", and a zero after them. Returns the buffer,
+ * which has MOVALIREN_PLACE_ROOM bytes. */
+MOVALIREN_INLINE const char *movaliren_place_text(const struct movaliren_place *place, char *room)
+{
+    static const char *const before[] = { "", "", "", "", "", "`.`, ", "a digit, " };
+    const char *letters = "`Z`", *small = "";
+    char *rest = room + sprintf(room, "byte %lu: expected ", (unsigned long)place->at);
+    if (place->first == 'T')
+        letters = "`T`";
+    if (place->is_lenient)
+        small = ", `z`";
+    if (place->is_lenient && place->first == 'T')
+        small = " or `t`";
+    switch (place->expected) {
+    case MOVALIREN_EXPECTED_DIGIT:
+        if (place->first == place->last)
+            rest += sprintf(rest, "the digit %d", place->first);
+        else
+            rest += sprintf(rest, "a digit from %d to %d", place->first, place->last);
+        break;
+    case MOVALIREN_EXPECTED_BYTE:
+        rest += sprintf(rest, "`%c`", place->first);
+        break;
+    case MOVALIREN_EXPECTED_LETTER:
+        rest += sprintf(rest, "%s%s", letters, small);
+        break;
+    case MOVALIREN_EXPECTED_OFFSET:
+    case MOVALIREN_EXPECTED_POINT_OR_OFFSET:
+    case MOVALIREN_EXPECTED_DIGIT_OR_OFFSET:
+        rest += sprintf(rest, "%s%s%s, `+` or `-`", before[place->expected], letters, small);
+        break;
+    default:
+        rest += sprintf(rest, "the end");
+    }
+    if (place->is_second_60)
+        sprintf(rest, ", since second 60 has no value");
+    return room;
 }
 
 #ifdef __cplusplus

@@ -48,7 +48,8 @@ enum class errc : int {
     bad_config = MOVALIREN_ERROR_BAD_CONFIG,
     bad_item = MOVALIREN_ERROR_BAD_ITEM,
     no_room = MOVALIREN_ERROR_NO_ROOM,
-    out_of_memory = MOVALIREN_ERROR_OUT_OF_MEMORY
+    out_of_memory = MOVALIREN_ERROR_OUT_OF_MEMORY,
+    not_read = MOVALIREN_ERROR_NOT_READ
 };
 
 // The category of these errors, whose messages are those of movaliren_error_text.
@@ -196,6 +197,18 @@ text<MOVALIREN_ISO8601_BY_ROOM> iso8601(sys_time<Duration> point, const movalire
     });
 }
 
+// The same by the local date and time, which is `offset` ahead of UTC.
+template <class Duration>
+text<MOVALIREN_ISO8601_BY_ROOM> iso8601(
+    sys_time<Duration> point, std::chrono::seconds offset, const movaliren_iso_config &config)
+{
+    const auto moment = moment_of(point);
+    return text<MOVALIREN_ISO8601_BY_ROOM>([&config, moment, offset](char *room, std::size_t most) {
+        return movaliren_iso8601_by_local(
+            &config, moment.seconds, moment.nanosecond, offset.count(), room, most);
+    });
+}
+
 inline text<MOVALIREN_ISO8601_BY_ROOM> iso8601(
     const movaliren_moment &moment, const movaliren_iso_config &config)
 {
@@ -215,12 +228,87 @@ text<MOVALIREN_ISO8601_ROOM> iso8601(sys_time<Duration> point, std::uint8_t deci
     });
 }
 
+// The same by the local date and time, which is `offset` ahead of UTC, as 1997-11-12T16:55:06.120+01:00.
+template <class Duration>
+text<MOVALIREN_ISO8601_ROOM> iso8601(
+    sys_time<Duration> point, std::chrono::seconds offset, std::uint8_t decimals)
+{
+    const movaliren_iso_config config = MOVALIREN_ISO_DECIMALS(decimals);
+    const auto moment = moment_of(point);
+    return text<MOVALIREN_ISO8601_ROOM>([&config, moment, offset](char *room, std::size_t most) {
+        return movaliren_iso8601_by_local(
+            &config, moment.seconds, moment.nanosecond, offset.count(), room, most);
+    });
+}
+
 // A stamp of 30 bytes, as 1997-11-12T15:55:06.000000000Z. Stamps sort by bytes as their moments do.
 template <class Duration> text<MOVALIREN_STAMP_ROOM> stamp(sys_time<Duration> point)
 {
     const auto moment = moment_of(point);
     return text<MOVALIREN_STAMP_ROOM>([moment](char *room, std::size_t most) {
         return movaliren_stamp(moment.seconds, moment.nanosecond, room, most);
+    });
+}
+
+// A moment that was read from a text, or where the text could not be read.
+template <class Moment> class reading {
+public:
+    // Takes a call that reads into a moment and a place, as those of movaliren.h.
+    template <class Call> explicit reading(Call read) { answer_ = read(&moment_, &place_); }
+
+    // Whether the text was read.
+    explicit operator bool() const noexcept { return answer_ == 0; }
+
+    // The error, or an error code of zero where the text was read.
+    std::error_code error() const noexcept
+    {
+        return answer_ < 0 ? make_error_code(static_cast<errc>(answer_)) : std::error_code();
+    }
+
+    // Where the text could not be read, and what could have come there. Zeros where it was read.
+    const movaliren_place &place() const noexcept { return place_; }
+
+    // The place in words, as "byte 9: expected a digit from 0 to 8", or nothing where the text was read.
+    std::string message() const
+    {
+        char room[MOVALIREN_PLACE_ROOM];
+        return answer_ < 0 ? movaliren_place_text(&place_, room) : "";
+    }
+
+    // The moment. Where the text was not read throws std::system_error.
+    const Moment &value() const
+    {
+        if (answer_ < 0)
+            throw std::system_error(error(), message());
+        return moment_;
+    }
+
+private:
+    Moment moment_ = Moment();
+    movaliren_place place_ = movaliren_place();
+    std::ptrdiff_t answer_ = 0;
+};
+
+// Which texts are read: those of the format alone, or those of other programs too.
+enum class profile { strict, lenient };
+
+// Reads a text of RFC 3339 as a moment in UTC.
+inline reading<movaliren_utc_moment> read_rfc3339(std::string_view text, profile by = profile::strict)
+{
+    return reading<movaliren_utc_moment>([text, by](movaliren_utc_moment *moment, movaliren_place *place) {
+        const char *bytes = text.data() ? text.data() : "";
+        return by == profile::strict ? movaliren_read_rfc3339_utc(bytes, text.size(), moment, place)
+                                     : movaliren_read_rfc3339_lenient_utc(bytes, text.size(), moment, place);
+    });
+}
+
+// Reads a text of RFC 3339 as a local date and time with its offset.
+inline reading<movaliren_moment> read_rfc3339_local(std::string_view text, profile by = profile::strict)
+{
+    return reading<movaliren_moment>([text, by](movaliren_moment *moment, movaliren_place *place) {
+        const char *bytes = text.data() ? text.data() : "";
+        return by == profile::strict ? movaliren_read_rfc3339(bytes, text.size(), moment, place)
+                                     : movaliren_read_rfc3339_lenient(bytes, text.size(), moment, place);
     });
 }
 
@@ -267,6 +355,16 @@ public:
         return written([&](char *room, std::size_t most) {
             return movaliren_format_utc(items(), items_.size(), texts_.data(), texts_.size(),
                 moment.seconds, moment.nanosecond, room, most);
+        });
+    }
+
+    // The text of a moment by its local date and time, which is `offset` ahead of UTC. Throws std::system_error.
+    template <class Duration> std::string format(sys_time<Duration> point, std::chrono::seconds offset) const
+    {
+        const auto moment = moment_of(point);
+        return written([&](char *room, std::size_t most) {
+            return movaliren_format_local(items(), items_.size(), texts_.data(), texts_.size(),
+                moment.seconds, moment.nanosecond, offset.count(), room, most);
         });
     }
 

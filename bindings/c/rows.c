@@ -311,12 +311,29 @@ BY_THE_CLOCK(iso8601_utc, movaliren_iso8601_utc(NOW, room, room_len),
     movaliren_iso8601_utc_batch(&c->moment, 1, 0, room, room_len + 1))
 BY_THE_CLOCK(milliseconds_utc, movaliren_iso8601_by_utc(&milliseconds, NOW, room, room_len),
     movaliren_iso8601_by_utc_batch(&milliseconds, &c->moment, 1, 0, room, room_len + 1))
+static ptrdiff_t iso8601_local(
+    const void *format, const void *value, uint8_t *room, size_t room_len)
+{
+    const struct clock *c = value;
+    (void)format;
+    return movaliren_iso8601_local(NOW, c->offset, room, room_len);
+}
+
+static ptrdiff_t milliseconds_local(
+    const void *format, const void *value, uint8_t *room, size_t room_len)
+{
+    const struct clock *c = value;
+    (void)format;
+    return movaliren_iso8601_by_local(&milliseconds, NOW, c->offset, room, room_len);
+}
+
 BY_THE_CLOCK(rfc3339_local, movaliren_rfc3339_local(NOW, c->offset, room, room_len),
     movaliren_rfc3339_local_batch(&c->moment, 1, c->offset, 0, room, room_len + 1))
 BY_THE_CLOCK(rfc2822_local, movaliren_rfc2822_local(NOW, c->offset, room, room_len),
     movaliren_rfc2822_local_batch(&c->moment, 1, c->offset, 0, room, room_len + 1))
 
 #define BOTH(name) name, name##_batch
+#define ALONE(name) name, 0
 
 static void try_the_clock(void)
 {
@@ -350,15 +367,152 @@ static void try_the_clock(void)
         { BOTH(rfc2822_local), { { -31619087596801, 0 }, 1 }, 0, MOVALIREN_ERROR_MOMENT_SECONDS },
         { BOTH(rfc2822_local), { { 880127706, 0 }, -21600 }, "Fri, 21 Nov 1997 09:55:06 -0600", 0 },
         { BOTH(rfc2822_local), { { 0, 0 }, 93540 }, "Fri, 02 Jan 1970 01:59:00 +2559", 0 },
+        { ALONE(iso8601_local), { { 851042397, 0 }, -28800 }, "1996-12-19T16:39:57.000000000-08:00", 0 },
+        { ALONE(iso8601_local), { { 0, 0 }, 93540 }, "1970-01-02T01:59:00.000000000+25:59", 0 },
+        { ALONE(iso8601_local), { { 0, 0 }, 93600 }, 0, MOVALIREN_ERROR_OFFSET_HOURS },
+        { ALONE(iso8601_local), { { 0, 1000000000 }, 93600 }, 0, MOVALIREN_ERROR_NANOSECOND },
+        { ALONE(milliseconds_local), { { -1041337173, 870000000 }, 1200 },
+            "1937-01-01T12:00:27.870+00:20", 0 },
+        { ALONE(milliseconds_local), { { 0, 0 }, 1 }, 0, MOVALIREN_ERROR_NO_PLACE_FOR_OFFSET_SECOND },
+        { ALONE(milliseconds_local), { { 253402300799, 0 }, 1800 }, 0,
+            MOVALIREN_ERROR_NO_PLACE_FOR_YEAR },
     };
     for (size_t i = 0; i < sizeof rows / sizeof *rows; i++) {
         writer *writers[] = { rows[i].write, rows[i].batch };
-        for (size_t k = 0; k < 2; k++)
+        for (size_t k = 0; k < 2 && writers[k]; k++)
             if (rows[i].text)
                 expect_text(writers[k], 0, &rows[i].clock, rows[i].text);
             else
                 expect_error(writers[k], 0, &rows[i].clock, rows[i].error);
     }
+}
+
+/* ---- texts, read back: the examples of RFC 3339, section 5.8, and the first place at which a text is none */
+
+static int is_same_moment(const struct movaliren_moment *a, const struct movaliren_moment *b)
+{
+    return a->year == b->year && a->month == b->month && a->day == b->day && a->hour == b->hour
+        && a->minute == b->minute && a->second == b->second && a->nanosecond == b->nanosecond
+        && a->offset_hours == b->offset_hours && a->offset_minutes == b->offset_minutes
+        && a->offset_seconds == b->offset_seconds;
+}
+
+static const struct {
+    const char *text;
+    struct movaliren_moment moment;
+    struct movaliren_utc_moment utc;
+    const char *strict, *lenient; /* the words of the place, or none where it is read */
+} read_rows[] = {
+    { "1985-04-12T23:20:50.52Z", MOMENT(1985, 4, 12, 23, 20, 50, 520000000, 0, 0, 0),
+        { 482196050, 520000000 }, 0, 0 },
+    { "1996-12-19T16:39:57-08:00", MOMENT(1996, 12, 19, 16, 39, 57, 0, -8, 0, 0), { 851042397, 0 }, 0, 0 },
+    { "1937-01-01T12:00:27.87+00:20", MOMENT(1937, 1, 1, 12, 0, 27, 870000000, 0, 20, 0),
+        { -1041337173, 870000000 }, 0, 0 },
+    { "0000-01-01T00:00:00-00:30", MOMENT(0, 1, 1, 0, 0, 0, 0, 0, -30, 0), { -62167217400, 0 }, 0, 0 },
+    { "9999-12-31T23:59:59.999999999+23:59",
+        MOMENT(9999, 12, 31, 23, 59, 59, 999999999, 23, 59, 0), { 253402214459, 999999999 }, 0, 0 },
+    { "1985-04-12t23:20:50z", MOMENT(1985, 4, 12, 23, 20, 50, 0, 0, 0, 0), { 482196050, 0 },
+        "byte 10: expected `T`", 0 },
+    { "1996-12-19T16:39:57-00:00", MOMENT(1996, 12, 19, 16, 39, 57, 0, 0, 0, 0), { 851013597, 0 },
+        "byte 24: expected a digit from 1 to 9", 0 },
+    { "1985-04-12T23:20:50.5200000009Z", MOMENT(1985, 4, 12, 23, 20, 50, 520000000, 0, 0, 0),
+        { 482196050, 520000000 }, "byte 29: expected `Z`, `+` or `-`", 0 },
+    { "1990-12-31T23:59:60Z", MOMENT(0, 0, 0, 0, 0, 0, 0, 0, 0, 0), { 0, 0 },
+        "byte 17: expected a digit from 0 to 5, since second 60 has no value",
+        "byte 17: expected a digit from 0 to 5, since second 60 has no value" },
+    { "2026-02-29T00:00:00Z", MOMENT(0, 0, 0, 0, 0, 0, 0, 0, 0, 0), { 0, 0 },
+        "byte 9: expected a digit from 0 to 8", "byte 9: expected a digit from 0 to 8" },
+    { "2026-04-31T00:00:00Z", MOMENT(0, 0, 0, 0, 0, 0, 0, 0, 0, 0), { 0, 0 },
+        "byte 9: expected the digit 0", "byte 9: expected the digit 0" },
+    { "1985/04-12T23:20:50Z", MOMENT(0, 0, 0, 0, 0, 0, 0, 0, 0, 0), { 0, 0 },
+        "byte 4: expected `-`", "byte 4: expected `-`" },
+    { "1985-04-12 23:20:50Z", MOMENT(0, 0, 0, 0, 0, 0, 0, 0, 0, 0), { 0, 0 },
+        "byte 10: expected `T`", "byte 10: expected `T` or `t`" },
+    { "1985-04-12T23:20:50", MOMENT(0, 0, 0, 0, 0, 0, 0, 0, 0, 0), { 0, 0 },
+        "byte 19: expected `.`, `Z`, `+` or `-`", "byte 19: expected `.`, `Z`, `z`, `+` or `-`" },
+    { "1985-04-12T23:20:50.5", MOMENT(0, 0, 0, 0, 0, 0, 0, 0, 0, 0), { 0, 0 },
+        "byte 21: expected a digit, `Z`, `+` or `-`", "byte 21: expected a digit, `Z`, `z`, `+` or `-`" },
+    { "1985-04-12T23:20:50Z ", MOMENT(0, 0, 0, 0, 0, 0, 0, 0, 0, 0), { 0, 0 },
+        "byte 20: expected the end", "byte 20: expected the end" },
+    { "", MOMENT(0, 0, 0, 0, 0, 0, 0, 0, 0, 0), { 0, 0 }, "byte 0: expected a digit from 0 to 9",
+        "byte 0: expected a digit from 0 to 9" },
+};
+
+static void expect_read(int is_right, const char *text, const char *name)
+{
+    if (is_right)
+        return;
+    failures++;
+    printf("%s: %s\n", text, name);
+}
+
+/* Reads the text into a moment by its parts and into one in UTC. Where it is read the place is unchanged, and
+ * else both moments are. */
+static void try_reading(size_t i, int is_lenient)
+{
+    const char *text = read_rows[i].text, *words = is_lenient ? read_rows[i].lenient : read_rows[i].strict;
+    const struct movaliren_moment before = MOMENT(-7, 7, 7, 7, 7, 7, 7, 7, 7, 7);
+    const struct movaliren_place no_place = { 77, 77, 77, 77, 77, 77 };
+    struct movaliren_moment moment = before, wanted = words ? before : read_rows[i].moment;
+    struct movaliren_utc_moment utc = { -7, 7 };
+    struct movaliren_place place = no_place, place_of_utc = no_place;
+    const size_t len = strlen(text);
+    char said[MOVALIREN_PLACE_ROOM];
+    const ptrdiff_t error = words ? MOVALIREN_ERROR_NOT_READ : 0;
+    ptrdiff_t answer, of_utc;
+    if (is_lenient) {
+        answer = movaliren_read_rfc3339_lenient(text, len, &moment, &place);
+        of_utc = movaliren_read_rfc3339_lenient_utc(text, len, &utc, &place_of_utc);
+    } else {
+        answer = movaliren_read_rfc3339(text, len, &moment, &place);
+        of_utc = movaliren_read_rfc3339_utc(text, len, &utc, &place_of_utc);
+    }
+    expect_read(answer == error && of_utc == error, text, "read or refused");
+    expect_read(is_same_moment(&moment, &wanted), text, "another moment");
+    expect_read(utc.seconds == (words ? -7 : read_rows[i].utc.seconds), text, "another second");
+    expect_read(utc.nanosecond == (words ? 7 : read_rows[i].utc.nanosecond), text, "another nanosecond");
+    expect_read(place.at == place_of_utc.at && (words || place.at == 77), text, "another place");
+    if (words)
+        expect_read(!strcmp(movaliren_place_text(&place, said), words), words, said);
+}
+
+static void try_reading_all(void)
+{
+    for (size_t i = 0; i < sizeof read_rows / sizeof *read_rows; i++)
+        try_reading(i, 0), try_reading(i, 1);
+}
+
+/* ---- the library itself */
+
+static ptrdiff_t error_words(
+    const void *format, const void *value, uint8_t *room, size_t room_len)
+{
+    (void)format;
+    return movaliren_error_words(*(const ptrdiff_t *)value, room, room_len);
+}
+
+/* The words of the library are those of the header. */
+static void try_words(void)
+{
+    const ptrdiff_t others[] = { PTRDIFF_MIN, -24, 0, 1, PTRDIFF_MAX };
+    for (ptrdiff_t reason = MOVALIREN_ERROR_NOT_READ; reason < 0; reason++)
+        expect_text(error_words, 0, &reason, movaliren_error_text(reason));
+    for (size_t i = 0; i < sizeof others / sizeof *others; i++)
+        expect_text(error_words, 0, &others[i], movaliren_error_text(others[i]));
+}
+
+static void try_version(void)
+{
+    char line[MOVALIREN_RFC3339_ROOM + 1];
+    const unsigned version = movaliren_version();
+    snprintf(line, sizeof line, "%u.%u.%u", version / 10000, version / 100 % 100, version % 100);
+    expect_read(!strcmp(line, MOVALIREN_VERSION), line, "the version");
+    expect_read(version == MOVALIREN_VERSION_NUMBER, line, "the number of the version");
+    expect_read(MOVALIREN_STRING(line, movaliren_rfc3339_utc, 0, 0) == 20, line, "the count");
+    expect_read(!strcmp(line, "1970-01-01T00:00:00Z"), line, "a string");
+    expect_read(MOVALIREN_STRING(line, movaliren_rfc3339_utc, 0, 1000000000) == MOVALIREN_ERROR_NANOSECOND, line,
+        "the error");
+    expect_read(!*line, line, "a string after an error");
 }
 
 /* ---- batches */
@@ -415,6 +569,9 @@ int main(void)
     try_long_decimals();
     try_stamps();
     try_the_clock();
+    try_reading_all();
+    try_words();
+    try_version();
     try_batches();
     try_empty_slices();
     printf("rows: %d wrong\n", failures);

@@ -44,10 +44,13 @@ static void texts()
         "Fri, 21 Nov 1997 09:55:06 -0600");
     expect("RFC 2822 in UTC", movaliren::rfc2822(at(minutes(14668795))).value(), "Fri, 21 Nov 1997 15:55:00 +0000");
     expect("three decimals", movaliren::iso8601(at(milliseconds(879350106120)), 3).value(), "1997-11-12T15:55:06.120Z");
+    expect("three decimals at an offset", movaliren::iso8601(at(seconds(851042397)), hours(-8), 3).value(),
+        "1996-12-19T16:39:57.000-08:00");
     expect("a stamp", movaliren::stamp(at(nanoseconds(1))).value(), "1970-01-01T00:00:00.000000001Z");
     const movaliren_iso_config date = { MOVALIREN_ISO_DATE, MOVALIREN_ISO_WEEK, 0, 0, 0, 1, 0, 0 };
     expect("a week date", movaliren::iso8601(at(hours(0)), date).value(), "1970-W01-4");
     const movaliren_moment moment = { 1937, 870000000, 1, 1, 12, 0, 27, 0, 20, 0 };
+    expect("a date at an offset", movaliren::iso8601(at(hours(0)), hours(-1), date).value(), "1970-W01-3");
     expect("a moment", movaliren::rfc3339(moment).value(), "1937-01-01T12:00:27.87+00:20");
     expect("a moment by RFC 2822", movaliren::rfc2822(moment).value(), "Fri, 01 Jan 1937 12:00:27 +0020");
     expect("a moment by a week date", movaliren::iso8601(moment, date).value(), "1936-W53-5");
@@ -99,6 +102,7 @@ static void descriptions()
     expect("a description", day.format(at(seconds(880127706))), "21 of November");
     const movaliren_moment moment = { 1937, 0, 1, 1, 12, 0, 27, 0, 20, 0 };
     expect("of a moment", day.format(moment), "1 of January");
+    expect("at an offset", day.format(at(seconds(880127706)), hours(9)), "22 of November");
     expect("its width", std::to_string(day.width()), "15");
     expect("nothing", movaliren::description().format(moment), "");
     try {
@@ -106,6 +110,25 @@ static void descriptions()
         failed++;
     } catch (const std::system_error &error) {
         expect_error("kind 99", error.code(), errc::bad_item);
+    }
+}
+
+static void readings()
+{
+    const auto moment = movaliren::read_rfc3339("1937-01-01T12:00:27.87+00:20");
+    expect("read", moment ? std::to_string(moment.value().seconds) : moment.message(), "-1041337173");
+    expect("its nanosecond", std::to_string(moment.value().nanosecond), "870000000");
+    const auto local = movaliren::read_rfc3339_local("1996-12-19t16:39:57-08:00", movaliren::profile::lenient);
+    expect("read locally", std::to_string(local.value().offset_hours), "-8");
+    const auto none = movaliren::read_rfc3339("1996-12-19t16:39:57-08:00");
+    expect_error("not read", none.error(), errc::not_read);
+    expect("its place", none.message(), "byte 10: expected `T`");
+    expect("nothing", movaliren::read_rfc3339_local({}).message(), "byte 0: expected a digit from 0 to 9");
+    try {
+        (void)none.value();
+        failed++;
+    } catch (const std::system_error &error) {
+        expect_error("thrown", error.code(), errc::not_read);
     }
 }
 
@@ -147,6 +170,7 @@ int main()
     durations();
     errors();
     descriptions();
+    readings();
     random_moments();
     formatted();
     std::cout << "rows of C++: " << failed << " failed\n";

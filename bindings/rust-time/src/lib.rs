@@ -1,4 +1,4 @@
-//! Values of the crates `time` and `chrono` as values of `movaliren`, a timer for `tracing-subscriber`,
+//! Values of the crates `time` and `chrono` as values of `movaliren`, timers for `tracing-subscriber`,
 //! and moments for `serde`.
 //!
 //! Each of the four is a feature, and all are on by default. The conversions are traits, since neither
@@ -33,7 +33,7 @@ pub mod rfc3339;
 mod timer;
 
 #[cfg(feature = "tracing")]
-pub use timer::Timer;
+pub use timer::{LocalTimer, Timer};
 
 /// A value with a local date, a local time and an offset from UTC.
 pub trait ToMoment {

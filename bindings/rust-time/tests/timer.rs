@@ -1,8 +1,9 @@
 //! The lines that `tracing-subscriber` writes with a timer.
-use movaliren::{Description, Format, Kind, Rfc3339Local, Text, UtcMoment};
-use movaliren_time::Timer;
+use movaliren::{description, Description, Format, Kind, Rfc3339Local, Text, UtcMoment};
+use movaliren_time::{LocalTimer, Timer};
 use std::io;
 use std::sync::{Arc, Mutex};
+use tracing_subscriber::fmt::time::FormatTime;
 
 #[derive(Clone, Default)]
 struct Lines(Arc<Mutex<Vec<u8>>>);
@@ -20,10 +21,14 @@ impl io::Write for Lines {
 
 /// What an event is written as, by this format of its time.
 fn logged(format: impl Format<UtcMoment> + Send + Sync + 'static) -> String {
+    logged_by(Timer::new(format))
+}
+
+fn logged_by(timer: impl FormatTime + Send + Sync + 'static) -> String {
     let lines = Lines::default();
     let writer = lines.clone();
     let subscriber = tracing_subscriber::fmt()
-        .with_timer(Timer::new(format))
+        .with_timer(timer)
         .with_writer(move || writer.clone())
         .finish();
     tracing::subscriber::with_default(subscriber, || tracing::info!("opened"));
@@ -35,6 +40,15 @@ fn logged(format: impl Format<UtcMoment> + Send + Sync + 'static) -> String {
 fn a_time_stands_before_the_level() {
     let line = logged(Description::new().literal("at noon"));
     assert_eq!(line, "at noon  INFO timer: opened\n");
+}
+
+#[test]
+fn a_local_time_has_its_offset() {
+    const OFFSET: Description = description![Kind::OffsetHour, ":", Kind::OffsetMinute];
+    let line = logged_by(LocalTimer::new(OFFSET, |_| -12_600));
+    assert_eq!(line, "-03:30  INFO timer: opened\n");
+    let line = logged_by(LocalTimer::new(OFFSET, |moment: UtcMoment| moment.seconds));
+    assert_eq!(line, "<unknown time>  INFO timer: opened\n");
 }
 
 #[test]

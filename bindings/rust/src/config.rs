@@ -2,7 +2,7 @@
 use crate::batch::Batch;
 use crate::format::Format;
 use crate::raw::IsoConfig;
-use crate::{Moment, UtcMoment};
+use crate::{LocalMoment, Moment, UtcMoment};
 
 /// The parts of a text.
 #[derive(Clone, Copy, Debug, PartialEq, Eq, Hash)]
@@ -213,3 +213,10 @@ macro_rules! by_configuration {
 }
 
 by_configuration!(Moment, UtcMoment);
+
+impl Format<LocalMoment> for Iso8601By {
+    #[inline]
+    fn width(&self) -> usize {
+        self.width()
+    }
+}

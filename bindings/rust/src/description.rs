@@ -1,7 +1,7 @@
 //! Descriptions: texts and components in order.
 use crate::format::Format;
 use crate::raw;
-use crate::{Component, Item, Moment, UtcMoment};
+use crate::{Component, Item, LocalMoment, Moment, UtcMoment};
 use alloc::borrow::Cow;
 
 /// What is written before a number with fewer digits than its width.
@@ -278,7 +278,7 @@ macro_rules! described {
     )* };
 }
 
-described!(Moment, UtcMoment, Date);
+described!(Moment, UtcMoment, LocalMoment, Date);
 
 #[cfg(test)]
 mod tests {

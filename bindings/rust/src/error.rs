@@ -1,4 +1,5 @@
 //! Why there is no text.
+use crate::raw;
 use core::fmt;
 
 /// The reason why there is no text.
@@ -49,6 +50,9 @@ pub enum Error {
     OutOfMemory,
     /// The format cannot represent a component. The library never returns this reason.
     Other,
+    /// The text is not one of the format. [`Rfc3339::read`](crate::Rfc3339::read) returns
+    /// [`NotRead`](crate::NotRead) in its place.
+    NotRead,
     /// The library returned a number that this crate does not know.
     Unknown(isize),
 }
@@ -78,6 +82,7 @@ impl Error {
             -20 => Error::NoRoom,
             -21 => Error::OutOfMemory,
             -22 => Error::Other,
+            -23 => Error::NotRead,
             other => Error::Unknown(other),
         }
     }
@@ -85,7 +90,7 @@ impl Error {
 
 impl fmt::Display for Error {
     fn fmt(&self, f: &mut fmt::Formatter<'_>) -> fmt::Result {
-        f.write_str(match self {
+        let words = match self {
             Error::Year => "the year is outside -999999 to 999999",
             Error::Month => "the month is outside 1 to 12",
             Error::Day => "the month has no such day",
@@ -112,9 +117,17 @@ impl fmt::Display for Error {
             Error::NoRoom => "the text does not fit the buffer",
             Error::OutOfMemory => "out of memory",
             Error::Other => "the format cannot represent a component",
-            Error::Unknown(_) => "unknown error",
-        })
+            Error::NotRead => "the text is not one of the format",
+            Error::Unknown(number) => return unknown(*number, f),
+        };
+        f.write_str(words)
     }
+}
+
+/// A later library has words for a number that this crate does not know.
+fn unknown(number: isize, f: &mut fmt::Formatter<'_>) -> fmt::Result {
+    let mut room = [0; 200];
+    f.write_str(raw::write_str(&raw::Words, &number, &mut room).unwrap_or("unknown error"))
 }
 
 #[cfg(feature = "std")]

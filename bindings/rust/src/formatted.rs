@@ -1,5 +1,5 @@
 //! Values as `Display`, by a format.
-use crate::{Date, Error, Format, Moment, UtcMoment};
+use crate::{Date, Error, Format, LocalMoment, Moment, UtcMoment};
 use core::fmt;
 
 /// A value and a format of it, for `{}`.
@@ -55,4 +55,4 @@ macro_rules! displayed {
     )* };
 }
 
-displayed!(Moment, UtcMoment, Date);
+displayed!(Moment, UtcMoment, LocalMoment, Date);

@@ -1,7 +1,7 @@
 //! The well-known formats, of which none allocates.
 use crate::batch::Batch;
 use crate::format::Format;
-use crate::{Error, Moment, UtcMoment};
+use crate::{Error, LocalMoment, Moment, UtcMoment};
 
 /// RFC 3339, as `1985-04-12T23:20:50.52Z`.
 ///
@@ -97,3 +97,16 @@ known! {
     Rfc2822Local over UtcMoment: 31 bytes;
     Stamp over UtcMoment: 30 bytes;
 }
+
+macro_rules! at_an_offset {
+    ($($format:ty),*) => { $(
+        impl Format<LocalMoment> for $format {
+            #[inline]
+            fn width(&self) -> usize {
+                self.width()
+            }
+        }
+    )* };
+}
+
+at_an_offset!(Rfc3339, Rfc2822, Iso8601);

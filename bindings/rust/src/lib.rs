@@ -51,6 +51,7 @@ mod moment;
 mod pointers;
 #[allow(unsafe_code)]
 mod raw;
+mod read;
 #[allow(unsafe_code)]
 mod text;
 
@@ -62,8 +63,20 @@ pub use error::Error;
 pub use format::Format;
 pub use formatted::Formatted;
 pub use known::{stamp, Iso8601, Rfc2822, Rfc2822Local, Rfc3339, Rfc3339Local, Stamp};
-pub use moment::{Moment, UtcMoment};
+pub use moment::{LocalMoment, Moment, UtcMoment};
+pub use read::{Expected, NotRead};
 pub use text::Text;
+
+/// Returns the version of the library that the program runs with: 10,000 for its first part, 100 for the second,
+/// and the third.
+///
+/// ```
+/// assert_eq!(movaliren::library_version(), 100);
+/// ```
+#[must_use]
+pub fn library_version() -> u32 {
+    raw::version()
+}
 
 #[cfg(doctest)]
 #[doc = include_str!("../README.md")]

@@ -171,6 +171,41 @@ impl UtcMoment {
             nanosecond,
         }
     }
+
+    /// Returns the moment with its local time, which is this many seconds ahead of UTC.
+    pub const fn local(self, offset: i64) -> LocalMoment {
+        LocalMoment {
+            seconds: self.seconds,
+            nanosecond: self.nanosecond,
+            offset,
+        }
+    }
+}
+
+/// A moment, and how far the local time is ahead of UTC.
+///
+/// Each format but [`Stamp`](crate::Stamp) writes the local date and time, and the offset. The numbers are
+/// tested when the moment is formatted: an offset of more than 25:59:59 either way is
+/// [`Error::OffsetHours`]. A local date outside of the years -999,999 to 999,999 is
+/// [`Error::NoPlaceForYear`].
+///
+/// ```
+/// use movaliren::{Format, Iso8601By, TimePrecision, UtcMoment};
+///
+/// const LINE: Iso8601By = Iso8601By::new().time_precision(TimePrecision::Second, 3);
+/// let moment = UtcMoment::new(879_350_106, 120_000_000).local(3_600);
+/// assert_eq!(LINE.text(&moment)?, "1997-11-12T16:55:06.120+01:00");
+/// # Ok::<(), movaliren::Error>(())
+/// ```
+#[derive(Clone, Copy, Debug, Default, PartialEq, Eq, PartialOrd, Ord, Hash)]
+#[must_use]
+pub struct LocalMoment {
+    /// The seconds since 1970-01-01T00:00:00 UTC, without leap seconds.
+    pub seconds: i64,
+    /// The nanosecond, below 1,000,000,000.
+    pub nanosecond: u32,
+    /// The seconds by which the local time is ahead of UTC.
+    pub offset: i64,
 }
 
 /// The date and time in UTC, of a moment of the years 0 to 9999.

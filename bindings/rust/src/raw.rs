@@ -5,7 +5,8 @@
 //! `#[repr(C)]`, with the fields of the header in its order. The library keeps no pointer. It writes
 //! bytes of a buffer or leaves them as they were, so none becomes uninitialized.
 use crate::known::{Iso8601, Rfc2822, Rfc2822Local, Rfc3339, Rfc3339Local, Stamp};
-use crate::{Date, Description, Error, Iso8601By, Moment, Progress, UtcMoment};
+use crate::read::{Expected, NotRead};
+use crate::{Date, Description, Error, Iso8601By, LocalMoment, Moment, Progress, UtcMoment};
 use alloc::boxed::Box;
 use alloc::rc::Rc;
 use alloc::string::String;
@@ -57,6 +58,17 @@ mod library {
     use crate::{Moment, UtcMoment};
 
     #[repr(C)]
+    #[derive(Clone, Copy)]
+    pub(super) struct Place {
+        pub(super) at: usize,
+        pub(super) expected: u8,
+        pub(super) first: u8,
+        pub(super) last: u8,
+        pub(super) is_lenient: u8,
+        pub(super) is_second_60: u8,
+    }
+
+    #[repr(C)]
     pub(super) struct Progress {
         pub(super) moments: usize,
         pub(super) bytes: usize,
@@ -64,6 +76,9 @@ mod library {
     }
 
     extern "C" {
+        pub(super) fn movaliren_version() -> u32;
+        pub(super) fn movaliren_error_words(reason: isize, room: *mut u8, room_len: usize)
+            -> isize;
         pub(super) fn movaliren_rfc3339(
             moment: *const Moment,
             room: *mut u8,
@@ -166,6 +181,45 @@ mod library {
             room: *mut u8,
             room_len: usize,
         ) -> isize;
+        pub(super) fn movaliren_iso8601_local(
+            seconds: i64,
+            nanosecond: u32,
+            offset: i64,
+            room: *mut u8,
+            room_len: usize,
+        ) -> isize;
+        pub(super) fn movaliren_iso8601_by_local(
+            config: *const IsoConfig,
+            seconds: i64,
+            nanosecond: u32,
+            offset: i64,
+            room: *mut u8,
+            room_len: usize,
+        ) -> isize;
+        pub(super) fn movaliren_read_rfc3339(
+            text: *const u8,
+            text_len: usize,
+            moment: *mut Moment,
+            place: *mut Place,
+        ) -> isize;
+        pub(super) fn movaliren_read_rfc3339_utc(
+            text: *const u8,
+            text_len: usize,
+            moment: *mut UtcMoment,
+            place: *mut Place,
+        ) -> isize;
+        pub(super) fn movaliren_read_rfc3339_lenient(
+            text: *const u8,
+            text_len: usize,
+            moment: *mut Moment,
+            place: *mut Place,
+        ) -> isize;
+        pub(super) fn movaliren_read_rfc3339_lenient_utc(
+            text: *const u8,
+            text_len: usize,
+            moment: *mut UtcMoment,
+            place: *mut Place,
+        ) -> isize;
         pub(super) fn movaliren_rfc3339_utc_batch(
             moments: *const UtcMoment,
             moments_len: usize,
@@ -230,6 +284,17 @@ mod library {
             room: *mut u8,
             room_len: usize,
         ) -> isize;
+        pub(super) fn movaliren_format_local(
+            items: *const Item,
+            items_len: usize,
+            texts: *const u8,
+            texts_len: usize,
+            seconds: i64,
+            nanosecond: u32,
+            offset: i64,
+            room: *mut u8,
+            room_len: usize,
+        ) -> isize;
         pub(super) fn movaliren_format_date(
             items: *const Item,
             items_len: usize,
@@ -255,6 +320,7 @@ const _: () = assert!(core::mem::size_of::<UtcMoment>() == 16);
 const _: () = assert!(core::mem::size_of::<IsoConfig>() == 8);
 const _: () = assert!(core::mem::size_of::<Item>() == 24);
 const _: () = assert!(core::mem::size_of::<library::Progress>() == 24);
+const _: () = assert!(core::mem::size_of::<library::Place>() == 16);
 
 /// Memory that a call writes to. No result depends on what it held.
 type Buffer = [MaybeUninit<u8>];
@@ -511,6 +577,123 @@ local_calls! {
     Rfc2822Local: movaliren_rfc2822_local, movaliren_rfc2822_local_batch;
 }
 
+macro_rules! calls_at_an_offset {
+    ($($format:ty: $function:ident;)*) => { $(
+        // SAFETY: the function returns how many bytes it has written to the start of the buffer, which
+        // are ASCII.
+        unsafe impl Call<LocalMoment> for $format {
+            #[inline]
+            fn call(&self, value: &LocalMoment, buffer: &mut Buffer, _: Inside) -> Result<usize, Error> {
+                let (seconds, nanosecond, offset) = (value.seconds, value.nanosecond, value.offset);
+                // SAFETY: pointer and length are the buffer's.
+                count_of(unsafe {
+                    library::$function(seconds, nanosecond, offset, pointer(buffer), buffer.len())
+                })
+            }
+        }
+    )* };
+}
+
+calls_at_an_offset! {
+    Rfc3339: movaliren_rfc3339_local;
+    Rfc2822: movaliren_rfc2822_local;
+    Iso8601: movaliren_iso8601_local;
+}
+
+// SAFETY: the function returns how many bytes it has written to the start of the buffer, which are
+// ASCII.
+unsafe impl Call<LocalMoment> for Iso8601By {
+    #[inline]
+    fn call(&self, value: &LocalMoment, buffer: &mut Buffer, _: Inside) -> Result<usize, Error> {
+        // SAFETY: `IsoConfig` has the header's layout; pointer and length are the buffer's.
+        count_of(unsafe {
+            library::movaliren_iso8601_by_local(
+                self.config(),
+                value.seconds,
+                value.nanosecond,
+                value.offset,
+                pointer(buffer),
+                buffer.len(),
+            )
+        })
+    }
+}
+
+/// A moment that a text of RFC 3339 is read into.
+pub trait Read: Default {
+    #[doc(hidden)]
+    fn read(text: &[u8], is_lenient: bool, _: Inside) -> Result<Self, NotRead>;
+}
+
+macro_rules! reads {
+    ($($moment:ty: $strict:ident, $lenient:ident;)*) => { $(
+        impl Read for $moment {
+            fn read(text: &[u8], is_lenient: bool, _: Inside) -> Result<Self, NotRead> {
+                let function = if is_lenient { library::$lenient } else { library::$strict };
+                let mut moment = <$moment>::default();
+                let mut place = NO_PLACE;
+                // SAFETY: pointer and length are the slice's, and both structs have the header's layout.
+                let answer = unsafe {
+                    function(text.as_ptr(), text.len(), &mut moment, &mut place)
+                };
+                match answer {
+                    0 => Ok(moment),
+                    _ => Err(not_read(&place)),
+                }
+            }
+        }
+    )* };
+}
+
+reads! {
+    Moment: movaliren_read_rfc3339, movaliren_read_rfc3339_lenient;
+    UtcMoment: movaliren_read_rfc3339_utc, movaliren_read_rfc3339_lenient_utc;
+}
+
+/// The version of the library: 10,000 for its first part, 100 for the second, and the third.
+pub(crate) fn version() -> u32 {
+    // SAFETY: the function reads nothing.
+    unsafe { library::movaliren_version() }
+}
+
+/// A number that a call returned, for its words.
+pub(crate) struct Words;
+
+// SAFETY: the function returns how many bytes it has written to the start of the buffer, which are
+// ASCII.
+unsafe impl Call<isize> for Words {
+    fn call(&self, value: &isize, buffer: &mut Buffer, _: Inside) -> Result<usize, Error> {
+        // SAFETY: pointer and length are the buffer's.
+        count_of(unsafe { library::movaliren_error_words(*value, pointer(buffer), buffer.len()) })
+    }
+}
+
+const NO_PLACE: library::Place = library::Place {
+    at: 0,
+    expected: 0,
+    first: 0,
+    last: 0,
+    is_lenient: 0,
+    is_second_60: 0,
+};
+
+fn not_read(place: &library::Place) -> NotRead {
+    let is_lenient = place.is_lenient == 1;
+    NotRead {
+        at: place.at,
+        expected: match place.expected {
+            1 => Expected::Digit(place.first, place.last),
+            2 => Expected::Byte(place.first),
+            3 => Expected::Letter(place.first, is_lenient),
+            4 => Expected::Offset(is_lenient),
+            5 => Expected::PointOrOffset(is_lenient),
+            6 => Expected::DigitOrOffset(is_lenient),
+            _ => Expected::End,
+        },
+        is_second_60: place.is_second_60 == 1,
+    }
+}
+
 // SAFETY: the function returns how many bytes it has written to the start of the buffer. These are
 // whole literals, which are UTF-8, and components, which are ASCII.
 unsafe impl Call<Moment> for Description {
@@ -549,6 +732,30 @@ unsafe impl Call<UtcMoment> for Description {
                 texts.len(),
                 value.seconds,
                 value.nanosecond,
+                pointer(buffer),
+                buffer.len(),
+            )
+        })
+    }
+}
+
+// SAFETY: the function returns how many bytes it has written to the start of the buffer. These are
+// whole literals, which are UTF-8, and components, which are ASCII.
+unsafe impl Call<LocalMoment> for Description {
+    #[inline]
+    fn call(&self, value: &LocalMoment, buffer: &mut Buffer, _: Inside) -> Result<usize, Error> {
+        let (items, texts) = self.parts();
+        // SAFETY: `Item` has the header's layout, and each pointer comes with the length of its
+        // slice.
+        count_of(unsafe {
+            library::movaliren_format_local(
+                items.as_ptr(),
+                items.len(),
+                texts.as_ptr(),
+                texts.len(),
+                value.seconds,
+                value.nanosecond,
+                value.offset,
                 pointer(buffer),
                 buffer.len(),
             )

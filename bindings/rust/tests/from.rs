@@ -71,6 +71,8 @@ fn values() {
         "2026-11-22T15:55:06.12Z"
     );
     assert_eq!(&stamp(&moment).unwrap(), b"2026-11-22T15:55:06.120000000Z");
+    let read = Rfc3339.read::<Moment>("2026-11-22T09:55:06.12-06:00");
+    assert_eq!(read, Ok(self::moment()));
     let mut lines = Vec::new();
     let progress = Rfc3339.batch_into(&mut lines, &[moment, moment], b'\n');
     assert_eq!(progress.moments, 2);

@@ -97,6 +97,98 @@ fn each_way_gives_the_text_of_the_standard() {
 }
 
 #[test]
+fn a_moment_with_its_offset_has_a_text_by_each_format() {
+    let moment = UtcMoment::new(851_042_397, 120_000_000).local(-28_800);
+    assert_text(&Rfc3339, &moment, "1996-12-19T16:39:57.12-08:00");
+    assert_text(&Rfc2822, &moment, "Thu, 19 Dec 1996 16:39:57 -0800");
+    assert_text(&Iso8601, &moment, "1996-12-19T16:39:57.120000000-08:00");
+    let three = Iso8601By::new().time_precision(TimePrecision::Second, 3);
+    assert_text(&three, &moment, "1996-12-19T16:39:57.120-08:00");
+    let line = Description::from_iter([Kind::Hour, Kind::OffsetHour]);
+    assert_text(&line, &moment, "16-08");
+    assert_error(
+        &three,
+        &UtcMoment::new(0, 0).local(93_600),
+        Error::OffsetHours,
+    );
+    assert_error(
+        &line,
+        &UtcMoment::new(i64::MAX, 0).local(0),
+        Error::MomentSeconds,
+    );
+    assert_error(
+        &Iso8601,
+        &UtcMoment::new(0, 0).local(1),
+        Error::NoPlaceForOffsetSecond,
+    );
+}
+
+#[test]
+fn a_text_of_rfc_3339_is_read_back() {
+    let moment = Rfc3339.read("1937-01-01T12:00:27.87+00:20");
+    let noon = Moment::new(1937, 1, 1).at(12, 0, 27, 870_000_000);
+    assert_eq!(moment, Ok(noon.offset(0, 20, 0)));
+    let utc = Rfc3339.read_lenient(b"1937-01-01t12:00:27.8700000009+00:20");
+    assert_eq!(utc, Ok(UtcMoment::new(-1_041_337_173, 870_000_000)));
+    for (text, words) in [
+        (
+            "1990-12-31T23:59:60Z",
+            "byte 17: expected a digit from 0 to 5, since second 60 has no value",
+        ),
+        ("1985-04-12t23:20:50z", "byte 10: expected `T`"),
+        (
+            "1985-02-28T23:20:5",
+            "byte 18: expected a digit from 0 to 9",
+        ),
+        (
+            "1985-02-28T23:20:50",
+            "byte 19: expected `.`, `Z`, `+` or `-`",
+        ),
+        (
+            "1985-02-28T23:20:50.5",
+            "byte 21: expected a digit, `Z`, `+` or `-`",
+        ),
+        (
+            "1985-02-28T23:20:50.123456789x",
+            "byte 29: expected `Z`, `+` or `-`",
+        ),
+        ("1985-04-31T23:20:50Z", "byte 9: expected the digit 0"),
+        ("1985-02-28T23:20:50ZZ", "byte 20: expected the end"),
+        ("1985-02-28T23-20:50Z", "byte 13: expected `:`"),
+        (
+            "1985-02-28T23:20:50-00:0",
+            "byte 24: expected a digit from 1 to 9",
+        ),
+    ] {
+        let error = Rfc3339.read::<Moment>(text).unwrap_err();
+        assert_eq!(error.to_string(), words);
+        assert_eq!(Rfc3339.read::<UtcMoment>(text), Err(error));
+    }
+    let error = Rfc3339
+        .read_lenient::<Moment>("1985-04-12 23:20:50")
+        .unwrap_err();
+    assert_eq!(error.to_string(), "byte 10: expected `T` or `t`");
+    assert_eq!(
+        (error.at, error.expected),
+        (10, Expected::Letter(b'T', true))
+    );
+    let error = Rfc3339
+        .read_lenient::<Moment>("1985-04-12T23:20:50")
+        .unwrap_err();
+    assert_eq!(
+        error.to_string(),
+        "byte 19: expected `.`, `Z`, `z`, `+` or `-`"
+    );
+}
+
+/// As of a library that has more reasons than this crate.
+#[test]
+fn an_unknown_number_has_the_words_of_the_library() {
+    assert_eq!(Error::Unknown(-99).to_string(), "unknown error");
+    assert_eq!(Error::Unknown(-2).to_string(), Error::Month.to_string());
+}
+
+#[test]
 fn refuses_an_offset_that_has_no_text() {
     let moment = UtcMoment::new(879_350_106, 0);
     for (offset, error) in [

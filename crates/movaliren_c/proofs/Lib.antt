@@ -4,5 +4,6 @@ pub mod DateLemmas
 pub mod DescribedLemmas
 pub mod MeaningLemmas
 pub mod NumberLemmas
+pub mod ReadLemmas
 pub mod ShortLineLemmas
 pub mod SinkLemmas

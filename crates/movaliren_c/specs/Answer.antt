@@ -34,6 +34,7 @@ reason_number reason.BadItem = neg_ℤ (pos 19)
 reason_number reason.NoRoom = neg_ℤ (pos 20)
 reason_number reason.OutOfMemory = neg_ℤ (pos 21)
 reason_number reason.Other = neg_ℤ (pos 22)
+reason_number reason.NotRead = neg_ℤ (pos 23)
 
 -- a count, or the number of a reason
 abbrev pub answer_number : Result ℕ Reason → ℤ

@@ -88,7 +88,7 @@ pub extern "C" fn movaliren_width(items: &[Item], texts: &[u8]) -> isize
 }
 
 /// Writes the text of the value by the description, if there are both.
-fn write_value_described<V: ComponentProvider + Drop, T: DescribedValue<V> + Drop>(
+pub fn write_value_described<V: ComponentProvider + Drop, T: DescribedValue<V> + Drop>(
     alloc: Global,
     items: &[Item],
     texts: &[u8],

@@ -4,16 +4,15 @@ ghost use Rattle.time_below.specs.Calendar.{day_of, month_of};
 ghost use Rattle.time_below.specs.Facts.{date_facts, facts_of_offset_date_time};
 ghost use Rattle.time_fmt.specs.Outcome.{done};
 ghost use Rattle.time_known.specs.Accepted.{checked_text, refused_for};
-ghost use Rattle.time_known.specs.Fields.{fields, shown, time_fields};
+ghost use Rattle.time_known.specs.Fields.{fields, shown};
 ghost use Rattle.time_known.specs.Iso8601Parts.{chosen_parts, date_parts};
 
 use crate::calendar_date::CalendarDate;
 use crate::moment::LocalMoment;
-use time_below::Time;
-use time_digits::{ri32, ru8, ru16, ru32};
+use time_digits::{ri32, ru8, ru16};
 use time_known::accepted::{OutOfRange, accepted_year};
 use time_known::days::CalendarDay;
-use time_known::fields::{Fields, OffsetFields, TimeFields};
+use time_known::fields::{Fields, OffsetFields};
 use time_known::iso8601::{Config, DateKind, DateParts, Parts, RestOfDate};
 
 /// The year of four digits, or the first component of the value that is refused.
@@ -53,7 +52,7 @@ pub fn fields_of(year: ru16<0, 9_999>, value: &LocalMoment) -> Fields
     Fields {
         year,
         date: calendar_day(value.date()),
-        time: time_of(value.time()),
+        time: value.time(),
         offset: value.offset().fields(),
     }
 }
@@ -66,20 +65,6 @@ pub fn calendar_day(date: CalendarDate) -> CalendarDay
     CalendarDay::OfMonth {
         month: ru8::within(date.month()),
         day: ru8::within(date.day()),
-    }
-}
-
-/// The fields of a time of day.
-#[inline(always)]
-pub fn time_of(time: Time) -> TimeFields
-    ensures { result ≡ time_fields time }
-{
-    let (hour, minute, second, nanosecond) = time.as_hms_nano();
-    TimeFields {
-        hour: ru8::within(hour),
-        minute: ru8::within(minute),
-        second: ru8::within(second),
-        nanosecond: ru32::within(nanosecond),
     }
 }
 
@@ -119,7 +104,7 @@ pub fn parts_of(config: &Config, value: &LocalMoment) -> Parts
     let date = config
         .has_date()
         .then(|| date_of(config.date_kind(), value.date()));
-    let time = config.has_time().then(|| time_of(value.time()));
+    let time = config.has_time().then(|| value.time());
     let offset = config.has_offset().then(|| value.offset().fields());
     Parts { date, time, offset }
 }

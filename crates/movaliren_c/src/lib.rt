@@ -1,5 +1,5 @@
 //! Moments as text, for C: RFC 3339, RFC 2822, ISO 8601, stamps, and descriptions that cross as
-//! data.
+//! data; and texts of RFC 3339, read back.
 //!
 //! An export of one text returns the number of bytes at the start of the buffer, which are the whole
 //! text, or a negative number that names the error; the buffer is then unchanged. A batch returns how
@@ -17,8 +17,11 @@ mod iso8601;
 mod item;
 mod kept_offset;
 pub mod laws;
+mod library;
+mod local;
 mod moment;
 mod moment_text;
+mod read;
 mod reason;
 mod rfc2822;
 mod rfc3339;

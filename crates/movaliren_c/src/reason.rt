@@ -55,6 +55,8 @@ pub enum Reason {
     OutOfMemory = 21,
     /// The format has no place for a component of another name.
     Other = 22,
+    /// The text is none of its format.
+    NotRead = 23,
 }
 
 /// The number of the reason.

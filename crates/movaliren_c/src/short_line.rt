@@ -7,13 +7,13 @@ ghost use Rattle.movaliren_c.specs.ShortLine.{AllFit, AllHave, AreUsual, FitsAll
 ghost use Rattle.time_digits.specs.Digits.{fixed};
 ghost use Rattle.time_known.specs.Sink.{Fits, PutsJust};
 
-use crate::fields::{calendar_day, time_of};
+use crate::fields::calendar_day;
 use crate::item::Item;
 use crate::moment::LocalMoment;
 use crate::reason::Reason;
 use crate::room::copy_text;
 use crate::sinks::{ByteSink, RoomSink};
-use time_digits::{ru8, ru16};
+use time_digits::{ru8, ru16, ru32};
 use time_known::put::{
     put_four_digits, put_month_name, put_nine_digits, put_offset_hours, put_pair, put_six_decimals,
     put_three_decimals,
@@ -218,10 +218,14 @@ fn put_item<S: ByteSink>(output: &mut S, item: &Item, texts: &[u8], value: &Loca
         1 => put_pair(output, ru8::within(value.date().day())),
         2 => put_month_name(output, calendar_day(value.date())),
         4 => put_pair(output, ru8::within(value.date().month())),
-        24 => put_pair(output, time_of(value.time()).hour.expand()),
-        25 => put_pair(output, time_of(value.time()).minute.expand()),
-        27 => put_pair(output, time_of(value.time()).second.expand()),
-        28 => put_decimals(output, item.digits, time_of(value.time()).nanosecond),
+        24 => put_pair(output, ru8::within(value.time().as_hms_nano().0)),
+        25 => put_pair(output, ru8::within(value.time().as_hms_nano().1)),
+        27 => put_pair(output, ru8::within(value.time().as_hms_nano().2)),
+        28 => put_decimals(
+            output,
+            item.digits,
+            ru32::within(value.time().as_hms_nano().3),
+        ),
         29 => put_offset_hours(output, &value.offset().fields()),
         30 => put_pair(output, value.offset().fields().minutes.expand()),
         13 => put_four_digits(output, year_of(value)),

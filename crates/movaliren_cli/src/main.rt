@@ -13,6 +13,7 @@ mod say;
 mod zone;
 
 use arguments::{Asked, Clock, Job};
+use jiff_core::Error as ZoneError;
 use jiff_tz::{SystemTimeZone, TimeZone, TimeZoneDatabase};
 use line_streams::{FilterError, LineJob, StandardStreams};
 use place::ZoneClock;
@@ -118,10 +119,11 @@ fn run_local<F: Formattable + Drop>(rt: &HostRuntime, asked: &Asked, description
     let none = TimeZoneDatabase::new(rt.alloc());
     match system.time_zone(&none) {
         Ok(found) => run_in(rt, asked, description, found),
-        Err(_) => match zone::read_system(rt, &system) {
+        Err(ZoneError::TimeZoneNotFound) => match zone::read_system(rt, &system) {
             Ok(table) => run_in(rt, asked, description, TimeZone::Tzif(&table)),
             Err(fault) => say::refuse_local(rt, fault),
         },
+        Err(fault) => say::refuse_local(rt, fault),
     }
 }
 
@@ -154,8 +156,9 @@ fn run_described(rt: &HostRuntime, asked: &Asked) -> ExitCode {
 
 fn main(rt: HostRuntime) -> ExitCode {
     let alloc = rt.alloc();
-    let Ok(arguments) = env::args(&rt) else {
-        return refuse(&rt, "an argument is not UTF-8");
+    let arguments = match env::args(&rt) {
+        Ok(arguments) => arguments,
+        Err(error) => return say::refuse_arguments(&rt, error.kind()),
     };
     let words: Vec<String> = match arguments.collect(alloc) {
         Ok(words) => words,

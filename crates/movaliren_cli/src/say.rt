@@ -5,6 +5,7 @@ use clap::error::ErrorKind;
 use jiff_core::Error as ZoneError;
 use line_streams::FilterError;
 use std::alloc::AllocError;
+use std::io;
 use std::process::ExitCode;
 use time_describe::{InvalidDescription, InvalidStrftime};
 
@@ -23,6 +24,14 @@ fn say(rt: &HostRuntime, text: &str) {
 pub fn refuse(rt: &HostRuntime, text: &str) -> ExitCode {
     say(rt, text);
     ExitCode::from(USAGE)
+}
+
+/// Says why the words of the command line were not read.
+pub fn refuse_arguments(rt: &HostRuntime, kind: io::ErrorKind) -> ExitCode {
+    match kind {
+        io::ErrorKind::OutOfMemory => fail(rt, Err(FilterError::Memory)),
+        _ => refuse(rt, "an argument is not UTF-8"),
+    }
 }
 
 /// Says why a run ended before the end of its input, and gives the status. A closed pipe is an end like

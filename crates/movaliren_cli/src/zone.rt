@@ -1,6 +1,7 @@
 //! The zone of one file, with no look at the others.
 use jiff_core::Error;
 use jiff_tz::{SystemTimeZone, Tzif};
+use std::env::VarError;
 use std::io::{ErrorKind, Read};
 use std::rt::{Env, Files};
 use std::{env, fs};
@@ -43,19 +44,37 @@ fn read_file<R: Files + AllocGlobal>(rt: &R, directory: &str, name: &str) -> Res
     Tzif::parse(alloc, Some(name), bytes.as_slice())
 }
 
-/// Reads the zone of this name from the directory that `TZDIR` names, or else from the usual ones.
+/// Whether no file is there, so that the next place is looked at.
+fn is_absent(fault: &Error) -> bool {
+    matches!(
+        fault,
+        Error::Io(ErrorKind::NotFound | ErrorKind::NotADirectory | ErrorKind::InvalidInput)
+    )
+}
+
+/// Reads the zone of this name from the directory that `TZDIR` names, or else from the usual ones. A file
+/// that is there and cannot be read is a fault.
 pub fn read_named<R: Files + Env + AllocGlobal>(rt: &R, name: &str) -> Result<Tzif, Error> {
     if !is_name(name) {
         return Err(Error::TimeZoneNotFound);
     }
-    if let Ok(directory) = env::var(rt, "TZDIR") {
-        if let Ok(table) = read_file(rt, directory.as_str(), name) {
-            return Ok(table);
-        }
+    match env::var(rt, "TZDIR") {
+        Ok(directory) => match read_file(rt, directory.as_str(), name) {
+            Err(fault) if is_absent(&fault) => {}
+            read => return read,
+        },
+        Err(VarError::OutOfMemory) => return Err(Error::OutOfMemory),
+        Err(_) => {}
     }
+    read_usual(rt, name)
+}
+
+/// Reads the zone of this name from the first of the usual directories that has it.
+fn read_usual<R: Files + AllocGlobal>(rt: &R, name: &str) -> Result<Tzif, Error> {
     for directory in &DIRECTORIES {
-        if let Ok(table) = read_file(rt, directory, name) {
-            return Ok(table);
+        match read_file(rt, directory, name) {
+            Err(fault) if is_absent(&fault) => {}
+            read => return read,
         }
     }
     Err(Error::TimeZoneNotFound)

@@ -29,16 +29,16 @@ macro_rules! signed {
 }
 
 mod components_table;
-mod dates;
+mod date_rows;
 mod errors;
 mod held;
 mod hostile;
 mod kept;
 mod memory;
-mod moments;
-mod parts;
+mod moment_rows;
 mod sizes;
-mod times;
+mod texts_by_parts;
+mod time_rows;
 mod trees;
 mod widths;
 mod writers;

@@ -2,7 +2,7 @@
 use crate::values::{assert_text, date, moment, offset, time};
 use std::default::Default;
 use std::test::Fail;
-use time_below::{OffsetDateTime, Timestamp};
+use time_below::{OffsetDateTime, Timestamp, UtcOffset};
 use time_digits::ru8;
 use time_fmt::TimestampState;
 use time_fmt::parts::*;
@@ -62,6 +62,14 @@ fn values_and_texts_read(rt: HostRuntime) -> Result<(), Fail> {
     };
     let text = Rfc3339.format(alloc, &instant, &mut TimestampState::default())?;
     assert_text(&rt, &text, "2026-11-22T15:55:06.12Z");
+    let Ok(offset) = UtcOffset::from_whole_seconds(-21_600) else {
+        panic!(&rt; "no offset")
+    };
+    let Some(local) = instant.checked_to_offset(offset) else {
+        panic!(&rt; "no local date and time")
+    };
+    let text = Rfc3339.format(alloc, &local, &mut DateState::default())?;
+    assert_text(&rt, &text, "2026-11-22T09:55:06.12-06:00");
     let moment = rfc3339::read(b"2026-11-22T09:55:06.12-06:00")?;
     assert!(&rt; moment.unix_timestamp() == 1_795_362_906);
     let moment = rfc3339::read_lenient(b"2026-11-22t09:55:06.12-06:00")?;

@@ -1,4 +1,4 @@
--- The fields of a date, a time of day and an offset, and the texts of a date and an offset by them.
+-- The fields of a date and an offset, and the texts of a date and an offset by them.
 use Rattle.std.specs.Prelude.{ℕ, List, ◌++◌, codes, true, unsigned_abs, if◌then◌else◌}
 use Rattle.time_below.specs.Offset.{is_negative, is_utc}
 use Rattle.time_digits.specs.Digits.{zero_padded}
@@ -7,12 +7,8 @@ use Rattle.time_known.specs.Days.{month_and_day}
 use Rattle.time_known.specs.Values.{DateFacts, date_facts, OffsetDateAndTime, Offset, TimeOfDay}
 use Rattle.time_known.specs.declared.fields.Fields.{Fields}
 use Rattle.time_known.specs.declared.fields.OffsetFields.{OffsetFields}
-use Rattle.time_known.specs.declared.fields.TimeFields.{TimeFields}
 
 -- ---- the fields of values
-
-abbrev pub time_fields : TimeOfDay → TimeFields
-time_fields t = record { hour = t.hour; minute = t.minute; second = t.second; nanosecond = t.nanosecond }
 
 abbrev pub offset_fields : Offset → OffsetFields
 offset_fields o = record {
@@ -28,7 +24,7 @@ pub record Shown : Type 0 where
   pub year : ℕ
   pub month : ℕ
   pub day : ℕ
-  pub time : TimeFields
+  pub time : TimeOfDay
   pub offset : OffsetFields
 
 abbrev pub shown : Fields → Shown
@@ -46,16 +42,12 @@ fields d t o = record {
   year = unsigned_abs d.year;
   month = d.month;
   day = d.day;
-  time = time_fields t;
+  time = t;
   offset = offset_fields o;
 }
 
 abbrev pub value_fields : OffsetDateAndTime → Shown
 value_fields v = fields (date_facts v.date) v.time v.offset
-
--- the time of day with these fields
-abbrev pub time_of_day : TimeFields → TimeOfDay
-time_of_day t = record { hour = t.hour; minute = t.minute; second = t.second; nanosecond = t.nanosecond }
 
 -- ---- texts
 

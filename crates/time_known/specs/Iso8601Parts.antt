@@ -3,12 +3,11 @@ use Rattle.std.specs.Prelude.{ℕ, ◌+◌, ◌*◌, length, List, [], codes, Op
 use Rattle.time_fmt.specs.Outcome.{Outcome, done, join}
 use Rattle.time_known.specs.Config.{Choices, has_date, has_time, has_offset, separator, DateKind, FormattedComponents}
 use Rattle.time_known.specs.Days.{month_and_day}
-use Rattle.time_known.specs.Fields.{offset_fields, time_fields, time_of_day}
+use Rattle.time_known.specs.Fields.{offset_fields}
 use Rattle.time_known.specs.Iso8601.{iso_time_text, iso_year, year_of_kind, rest_of_kind, rest_text, iso_offset_of_fields}
 use Rattle.time_known.specs.Iso8601Width.{iso_offset_width, iso_time_width, year_width}
-use Rattle.time_known.specs.Values.{Facts, DateFacts, the_date, the_time, the_offset}
+use Rattle.time_known.specs.Values.{Facts, DateFacts, TimeOfDay, the_date, the_time, the_offset}
 use Rattle.time_known.specs.declared.days.CalendarDay.TheVariants as day
-use Rattle.time_known.specs.declared.fields.TimeFields.{TimeFields}
 use Rattle.time_known.specs.declared.iso8601.parts.DateParts.{DateParts}
 use Rattle.time_known.specs.declared.iso8601.parts.Parts.{Parts}
 use Rattle.time_known.specs.declared.iso8601.parts.RestOfDate.{RestOfDate}
@@ -23,7 +22,7 @@ date_parts k d = record { year = year_of_kind k d; rest = rest_of_kind k d }
 abbrev pub parts_by : FormattedComponents → DateKind → Facts → Parts
 parts_by components kind f = record {
   date = if has_date components then Some (date_parts kind (the_date f)) else None;
-  time = if has_time components then Some (time_fields (the_time f)) else None;
+  time = if has_time components then Some (the_time f) else None;
   offset = if has_offset components then Some (offset_fields (the_offset f)) else None;
 }
 
@@ -57,9 +56,9 @@ part_text text None = done []
 part_text text (Some part) = text part
 
 -- the text of a time, if it is there; nothing of it is refused
-abbrev pub time_part_text : Choices → Option TimeFields → List ℕ
+abbrev pub time_part_text : Choices → Option TimeOfDay → List ℕ
 time_part_text c None = []
-time_part_text c (Some t) = iso_time_text c (time_of_day t)
+time_part_text c (Some t) = iso_time_text c t
 
 -- the parts, one after another
 abbrev pub parts_text : Choices → Parts → Outcome

@@ -1,31 +1,18 @@
-//! The fields of a date, a time of day and an offset, from which the texts of moments are written.
+//! The fields of a date and an offset, from which the texts of moments are written.
 ghost use Rattle.std.specs.Prelude.{◌≡◌, ℕ, List, IfOk, IfErr, OnOk, IsTrue, unsigned_abs};
 ghost use Rattle.time_below.specs.Facts.{the_date, the_time, the_offset};
 ghost use Rattle.time_below.specs.Offset.{IsOffset};
 ghost use Rattle.time_fmt.specs.Outcome.{done};
 ghost use Rattle.time_provide.specs.Real.{AgreesOnOffset, AgreesOnTime, AreReal};
 ghost use Rattle.time_known.specs.Accepted.{checked_text, refused_for};
-ghost use Rattle.time_known.specs.Fields.{fields, offset_fields, shown, time_fields};
+ghost use Rattle.time_known.specs.Fields.{fields, offset_fields, shown};
 ghost use Rattle.time_known.specs.Groups.{AreAllSupplied, at_groups};
 
 use crate::accepted::{OutOfRange, accepted_year};
 use crate::days::CalendarDay;
+use time_below::Time;
 use time_digits::{ri32, ru8, ru16};
 use time_provide::ComponentProvider;
-use time_provide::ranges::{Hours, Minutes, Nanoseconds, Seconds};
-
-/// The fields of a time of day.
-#[derive(Clone, Copy)]
-pub struct TimeFields {
-    /// The hour of the day.
-    pub hour: Hours,
-    /// The minute of the hour.
-    pub minute: Minutes,
-    /// The second of the minute.
-    pub second: Seconds,
-    /// The nanosecond of the second.
-    pub nanosecond: Nanoseconds,
-}
 
 /// The fields of an offset: one sign, and the sizes of its parts.
 #[derive(Clone, Copy)]
@@ -50,7 +37,7 @@ pub struct Fields {
     /// The month and the day.
     pub date: CalendarDay,
     /// The time of day.
-    pub time: TimeFields,
+    pub time: Time,
     /// The offset.
     pub offset: OffsetFields,
 }
@@ -99,20 +86,15 @@ pub(crate) fn accepted_fields<V: ComponentProvider>(
     }
 }
 
-// The fields of the value's time of day.
+// The value's time of day.
 #[inline(always)]
-pub(crate) fn time_of<V: ComponentProvider>(value: &V, state: &mut V::State) -> TimeFields
+pub(crate) fn time_of<V: ComponentProvider>(value: &V, state: &mut V::State) -> Time
     requires supplied { IsTrue V.SUPPLIES_TIME }
     requires agrees { V.agrees state.old value.now }
-    ensures fields { result ≡ time_fields (the_time (V.facts value.now)) }
+    ensures time { result ≡ the_time (V.facts value.now) }
     ensures agrees { AgreesOnTime (V.agrees state.new value.now) (V.facts value.now) }
 {
-    TimeFields {
-        hour: value.hour(state),
-        minute: value.minute(state),
-        second: value.second(state),
-        nanosecond: value.nanosecond(state),
-    }
+    value.supplied_time(state)
 }
 
 // The fields of the value's offset.

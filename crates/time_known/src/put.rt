@@ -7,14 +7,14 @@ ghost use Rattle.time_digits.specs.Digits.{fixed, zero_padded};
 ghost use Rattle.time_digits.specs.Fraction.{trimmed_fraction};
 ghost use Rattle.time_fmt.specs.DateText.{month_name, weekday_name, short_name};
 ghost use Rattle.time_known.specs.Days.{month_and_day};
-ghost use Rattle.time_known.specs.Fields.{date_of_fields, hours_of_fields, offset_of_fields, shown, signed_offset_of_fields, time_of_day};
+ghost use Rattle.time_known.specs.Fields.{date_of_fields, hours_of_fields, offset_of_fields, shown, signed_offset_of_fields};
 ghost use Rattle.time_known.specs.Sink.{Fits, Puts, PutsJust, PutsUpTo};
 ghost use Rattle.time_known.specs.WellKnown.{clock_text};
 
 use crate::days::CalendarDay;
-use crate::fields::{Fields, OffsetFields, TimeFields};
+use crate::fields::{Fields, OffsetFields};
 use crate::sink::Sink;
-use time_below::Weekday;
+use time_below::{Time, Weekday};
 use time_digits::num_fmt::{three_digits_zero_padded, truncated_subsecond_from_nanos};
 use time_digits::{
     four_digits_zero_padded, ru8, ru16, subsecond_from_nanos, two_digits_zero_padded,
@@ -195,17 +195,18 @@ fn weekday_letters(weekday: Weekday) -> (&'static str, &'static str)
 
 /// Puts the hour, the minute and the second, and the separator between them.
 #[inline(always)]
-pub fn put_clock<S: Sink>(output: &mut S, time: &TimeFields, separator: &str)
+pub fn put_clock<S: Sink>(output: &mut S, time: Time, separator: &str)
     requires room { Fits (6 + 2 * length separator.now) (S.buffer output.old) }
     ensures puts { PutsUpTo (6 + 2 * length separator.now)
         (S.buffer output.old) (S.buffer output.new)
-        (clock_text separator.now (time_of_day time.now)) }
+        (clock_text separator.now time) }
 {
-    put_pair(output, time.hour.expand());
+    let (hour, minute, second, _) = time.as_hms_nano();
+    put_pair(output, ru8::within(hour));
     output.put(separator);
-    put_pair(output, time.minute.expand());
+    put_pair(output, ru8::within(minute));
     output.put(separator);
-    put_pair(output, time.second.expand());
+    put_pair(output, ru8::within(second));
 }
 
 /// Puts the sign of the whole offset, and its hours.

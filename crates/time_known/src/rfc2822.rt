@@ -85,7 +85,7 @@ impl Text for Rfc2822Text {
     fn put_into<S: Sink>(&self, output: &mut S) {
         put_named_date(output, self.weekday, &self.fields);
         output.put(" ");
-        put_clock(output, &self.fields.time, ":");
+        put_clock(output, self.fields.time, ":");
         output.put(" ");
         put_signed_offset(output, &self.fields.offset, "");
     }

@@ -12,9 +12,10 @@ use crate::fields::{Fields, accepted_fields};
 use crate::groups::Groups;
 use crate::put::{put_clock, put_date, put_fraction, put_offset};
 use crate::sink::{Sink, Text, append};
+use time_below::Time;
+use time_digits::ru32;
 use time_fmt::{ComputeMetadata, Format, Formattable, Metadata};
 use time_provide::ComponentProvider;
-use time_provide::ranges::Nanoseconds;
 
 /// The format of RFC 3339, section 5.6, as `1985-04-12T23:20:50.52Z`, of at most 35 bytes.
 ///
@@ -80,8 +81,8 @@ impl Text for Rfc3339Text {
     fn put_into<S: Sink>(&self, output: &mut S) {
         put_date(output, &self.fields, "-");
         output.put("T");
-        put_clock(output, &self.fields.time, ":");
-        put_time_secfrac(output, self.fields.time.nanosecond);
+        put_clock(output, self.fields.time, ":");
+        put_time_secfrac(output, self.fields.time);
         put_offset(output, &self.fields.offset, ":");
     }
 }
@@ -89,13 +90,14 @@ impl Text for Rfc3339Text {
 // Puts `time-secfrac`, if there is a fraction of a second.
 #[inline(always)]
 #[tactic(auto, using(crate::proofs::LengthLemmas::joined_lengths))]
-fn put_time_secfrac<S: Sink>(output: &mut S, nanosecond: Nanoseconds)
+fn put_time_secfrac<S: Sink>(output: &mut S, time: Time)
     requires room { Fits time_secfrac_width (S.buffer output.old) }
     ensures puts { PutsUpTo time_secfrac_width (S.buffer output.old) (S.buffer output.new)
-        (time_secfrac_text nanosecond) }
+        (time_secfrac_text time.nanosecond) }
 {
-    if nanosecond.get() != 0 {
+    let (_, _, _, nanosecond) = time.as_hms_nano();
+    if nanosecond != 0 {
         output.put(".");
-        put_fraction(output, nanosecond);
+        put_fraction(output, ru32::within(nanosecond));
     }
 }

@@ -2,8 +2,8 @@
 ghost use Rattle.std.specs.Prelude.{◌<◌};
 ghost use Rattle.time_fmt.specs.Room.{HasRoom};
 
-use crate::texts::{assert_same, assert_that};
-use crate::values::wednesday;
+use crate::format_texts::{assert_same, assert_that};
+use crate::format_values::wednesday;
 use std::alloc::{AllocError, Global};
 use std::default::Default;
 use std::process::Abort;

@@ -1,10 +1,10 @@
 //! ISO 8601 by a configuration. Each row is tried with both decimal signs.
 ghost use Rattle.std.specs.Prelude.{IsTrue};
 
-use crate::texts::{self, append, assert_same, assert_that, refusal_name};
-use crate::values::Unit::{Hour, Minute, Second};
-use crate::values::Value::{Date, Moment, Offset, Time, Timestamp, Utc};
-use crate::values::{Unit, Value, WEDNESDAY, moment, precision, wednesday};
+use crate::format_texts::{self, append, assert_same, assert_that, refusal_name};
+use crate::format_values::Unit::{Hour, Minute, Second};
+use crate::format_values::Value::{Date, Moment, Offset, Time, Timestamp, Utc};
+use crate::format_values::{Unit, Value, WEDNESDAY, moment, precision, wednesday};
 use std::alloc::Global;
 use std::default::Default;
 use std::process::Abort;

@@ -1,6 +1,6 @@
 //! RFC 3339 and RFC 2822.
-use crate::texts::{append, assert_refused, assert_same, assert_text, assert_that};
-use crate::values::{Value, WEDNESDAY};
+use crate::format_texts::{append, assert_refused, assert_same, assert_text, assert_that};
+use crate::format_values::{Value, WEDNESDAY};
 use std::alloc::Global;
 use std::process::Abort;
 use std::test::Fail;

@@ -2,8 +2,8 @@
 ghost use Rattle.std.specs.Prelude.{◌↔◌, IfOk};
 ghost use Rattle.time_known.specs.Stamps.{IsBefore, IsTextBefore, moment_of};
 
-use crate::texts::{assert_same, assert_that, refusal_name};
-use crate::values::moment;
+use crate::format_texts::{assert_same, assert_that, refusal_name};
+use crate::format_values::moment;
 use std::alloc::Global;
 use std::process::Abort;
 use std::test::Fail;

@@ -54,20 +54,16 @@ digit_more ds i before lt here =
       small = λ short. digits_value-below (take (i + 1) ds) 19 all (omega (arith, length-take (i + 1) ds));
     }
 
--- each of some first digits is one
-pub digit_at : (text : List ℕ) (count k : ℕ) → list_all is_ascii_digit (take count text) ≡ true → k < count
-    → count ≤ length text → is_ascii_digit (get_or text k 0) ≡ true
-digit_at text count k h lt le =
-    rw (← get_or-take count text k 0 lt)
-    (All-get_or (λ x. is_ascii_digit x ≡ true) (take count text) k 0 (omega (arith, length-take count text))
-    (AllPass-from_list_all is_ascii_digit (take count text) h))
+pub all-take : (n : ℕ) (text : List ℕ) → list_all is_ascii_digit text ≡ true → list_all is_ascii_digit (take n text) ≡ true
+all-take n text all =
+    list_all-from_AllPass is_ascii_digit (take n text)
+    (All-take (λ x. is_ascii_digit x ≡ true) n text (AllPass-from_list_all is_ascii_digit text all))
 
--- so many digits, which no digit follows, are all with which the text begins
-pub digit_count-is : (text : List ℕ) (count : ℕ) → list_all is_ascii_digit (take count text) ≡ true → count ≤ length text
-    → (count < length text → is_ascii_digit (get_or text count 0) ≡ false) → count ≡ digit_count text
-digit_count-is text count all le ends =
-    let e : digit_count text ≡ count = prefix_len_is is_ascii_digit text count 0 le (λ k lt. digit_at text count k all lt le) ends in
-    omega (arith, e)
+-- each place of digits has one more than those before it
+pub one_more_digit : (ds : List ℕ) (i : ℕ) → list_all is_ascii_digit ds ≡ true → i < length ds → DigitMore ds i
+one_more_digit ds i all lt =
+    digit_more ds i (all-take i ds all) lt
+    (All-get_or (λ x. is_ascii_digit x ≡ true) ds i 0 lt (AllPass-from_list_all is_ascii_digit ds all))
 
 bool_tells : (b : Bool) → (b ≡ true) ⊎ (b ≡ false)
 bool_tells true = inl refl
@@ -79,13 +75,6 @@ all-cons p x xs h = (grind arith, grind arith)
 one_more : (n : ℕ) → 1 + n ≡ suc n
 one_more n = omega arith
 
--- a text of digits alone begins with as many as it has bytes
-pub digits_of-digits : (text : List ℕ) → list_all is_ascii_digit text ≡ true → digits_of text ≡ text
-digits_of-digits [] all = refl
-digits_of-digits (b ∷ text) all =
-    let both = all-cons is_ascii_digit b text all in
-    rw (both.0, one_more (digit_count text)) (ap (λ t. b ∷ t) (digits_of-digits text both.1))
-
 -- the digits with which a text begins are digits
 pub digits_of-all : (text : List ℕ) → list_all is_ascii_digit (digits_of text) ≡ true
 digits_of-all [] = refl
@@ -94,12 +83,7 @@ digits_of-all (b ∷ text) = elim (bool_tells (is_ascii_digit b)) [
   | inr t ↦ rw t refl
 ]
 
-all-take : (n : ℕ) (text : List ℕ) → list_all is_ascii_digit text ≡ true → list_all is_ascii_digit (take n text) ≡ true
-all-take n text all =
-    list_all-from_AllPass is_ascii_digit (take n text)
-    (All-take (λ x. is_ascii_digit x ≡ true) n text (AllPass-from_list_all is_ascii_digit text all))
-
-ten_pos : (k : ℕ) → 0 < 10 ^ k
+pub ten_pos : (k : ℕ) → 0 < 10 ^ k
 ten_pos k = digits_value-below [] k refl (omega arith)
 
 le-mul : (a b : ℕ) → 0 < b → a ≤ a * b
@@ -120,18 +104,14 @@ ten_growing k le =
     subst (λ n. 10 ^ k ≤ n) e (le-mul (10 ^ k) (10 ^ (9 - k)) (ten_pos (9 - k)))
 
 -- some first decimals, and zeros for those that are missing
-pub decimals_are : (count m digits value power : ℕ) (ds : List ℕ) → count ≤ 9 → list_all is_ascii_digit ds ≡ true
-    → m ≡ min count (length ds) → digits ≡ digit_count (take m ds)
-    → (digits ≤ 19 → value ≡ digits_value 10 (digits_of (take m ds))) → power ≡ 10 ^ (count - length (take m ds))
+pub decimals_are : (count m value power : ℕ) (ds : List ℕ) → count ≤ 9 → list_all is_ascii_digit ds ≡ true
+    → m ≡ min count (length ds) → value ≡ digits_value 10 (take m ds) → power ≡ 10 ^ (count - length (take m ds))
     → (value * power ≡ decimals_value count ds) × (value * power < 10 ^ count)
-decimals_are count m digits value power ds le all is_min many spelled scale =
+decimals_are count m value power ds le all is_min spelled scale =
     let same : take m ds ≡ take count ds = rw is_min (take_min count ds) in
     let kept : list_all is_ascii_digit (take count ds) ≡ true = all-take count ds all in
     let short : length (take count ds) ≤ count = omega (arith, length-take count ds) in
-    let is : value ≡ digits_value 10 (take count ds) =
-    spelled
-    (omega (arith, many, prefix_len-le-length is_ascii_digit (take m ds), ap length same, short))
-    ∙ ap (λ t. digits_value 10 (digits_of t)) same ∙ ap (λ t. digits_value 10 t) (digits_of-digits (take count ds) kept) in
+    let is : value ≡ digits_value 10 (take count ds) = spelled ∙ ap (λ t. digits_value 10 t) same in
     let to : power ≡ 10 ^ (count - length (take count ds)) = scale ∙ ap (λ t. 10 ^ (count - length t)) same in (
       rw (is, to) refl,
       rw (is, to)

@@ -1,4 +1,5 @@
 pub mod DigitLemmas
 pub mod NumberLemmas
 pub mod ReadLemmas
+pub mod RunLemmas
 pub mod ShownLemmas

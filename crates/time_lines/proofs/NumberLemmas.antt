@@ -68,21 +68,19 @@ begins-in_run least line at k behind inside =
     ∙ prefix_len_passes is_ascii_digit (drop at line) (k - 1 - at) 0 (omega (arith, behind, inside)) in
     digit_before least line k (omega (arith, behind)) digit
 
--- where a digit stands a run of at least one does
-pub run-some : (line : List ℕ) (at count : ℕ) → count ≡ digit_count (drop at line) → at < length line
-    → is_digit_at line at ≡ true → 1 ≤ count
-run-some line at count is lt digit = omega (arith, is, prefix_len-drop_yes is_ascii_digit line at 0 lt digit)
-
 -- a run of digits where no number begins, and what is no digit behind it, are passed
-pub first_place-past_run : (least : ℕ) (line : List ℕ) (at count to : ℕ) → count ≡ digit_count (drop at line) → 1 ≤ count
+pub first_place-past_run : (least : ℕ) (line : List ℕ) (at count to : ℕ) → count ≡ digit_count (drop at line)
     → at + count ≤ to → to ≤ length line → begins least line at ≡ false
     → ((k : ℕ) → at + count ≤ k → k < to → is_digit_at line k ≡ false)
     → first_place (begins least line) (length line - at) at ≡ first_place (begins least line) (length line - to) to
-first_place-past_run least line at count to is some le inside none rest =
-    first_place-later (begins least line) (length line) at (omega (arith, some, le, inside)) none
-    ∙ first_place-past (begins least line) (length line) (count - 1) (at + 1) (at + count) (omega (arith, some))
+first_place-past_run least line at zero to is le inside none rest =
+    first_place-past (begins least line) (length line) (to - at) at to (omega (arith, le)) inside
+    (λ k from before. begins-no_digit least line k (rest k (omega (arith, from)) before))
+first_place-past_run least line at (suc count) to is le inside none rest =
+    first_place-later (begins least line) (length line) at (omega (arith, le, inside)) none
+    ∙ first_place-past (begins least line) (length line) count (at + 1) (at + suc count) (omega arith)
     (omega (arith, le, inside)) (λ k from before. begins-in_run least line at k (omega (arith, from)) (omega (arith, before, is)))
-    ∙ first_place-past (begins least line) (length line) (to - (at + count)) (at + count) to (omega (arith, le)) inside
+    ∙ first_place-past (begins least line) (length line) (to - (at + suc count)) (at + suc count) to (omega (arith, le)) inside
     (λ k from before. begins-no_digit least line k (rest k from before))
 
 no_text : true ≡ false → ⊥
@@ -97,19 +95,35 @@ pub rest_of_number : (line : List ℕ) (start count : ℕ) → count ≡ digit_c
 rest_of_number line start count is =
     slice-end (start + count) line ∙ sym (drop-drop count start line) ∙ ap (λ n. drop n (drop start line)) is
 
+-- the digits of a number, as a slice gives them
+pub digits_of_number : (line : List ℕ) (start count : ℕ) → count ≡ digit_count (drop start line)
+    → take (start + count - start) (drop start line) ≡ digits_of (drop start line)
+digits_of_number line start count is =
+    let same : start + count - start ≡ digit_count (drop start line) = omega (arith, is) in
+    ap (λ n. take n (drop start line)) same
+
 -- the moment that was made of the parts of a number is the one that it names
-pub moment_is : (unit : UnixUnit) (line : List ℕ) (start count value : ℕ) (minus : Bool) (decimals rest : List ℕ)
-    → (count ≤ 19 → value ≡ digits_value 10 (digits_of (drop start line))) → minus ≡ has_minus line start
-    → rest ≡ drop (digit_count (drop start line)) (drop start line) → decimals ≡ decimals_of rest → count ≤ 19
-    → with_sign minus (moment_after unit value decimals) ≡ moment_of unit (number_at line start)
-moment_is unit line start count value minus decimals rest spelled sign left are short =
-    rw (spelled short, sign, are, left) refl
+pub moment_is : (unit : UnixUnit) (line : List ℕ) (start : ℕ) (minus : Bool) (digits decimals rest : List ℕ)
+    → digits ≡ digits_of (drop start line) → minus ≡ has_minus line start
+    → rest ≡ drop (digit_count (drop start line)) (drop start line) → decimals ≡ decimals_of rest
+    → with_sign minus (moment_after unit (digits_value 10 digits) decimals) ≡ moment_of unit (number_at line start)
+moment_is unit line start minus digits decimals rest spelled sign left are = rw (spelled, sign, are, left) refl
 
 -- a number has a moment if its digits are few enough and the moment that was made of its parts is real
-pub number_has : (unit : UnixUnit) (line : List ℕ) (start count : ℕ) (m : Moment) → count ≡ digit_count (drop start line)
-    → count ≤ 19 → IsMoment m → m ≡ moment_of unit (number_at line start) → HasMoment unit (number_at line start)
-number_has unit line start count m is short real same =
-    (omega (arith, is, short, length-prefix_len is_ascii_digit (drop start line)), subst IsMoment same real)
+pub number_has : (unit : UnixUnit) (line : List ℕ) (start : ℕ) (digits : List ℕ) (m : Moment)
+    → digits ≡ digits_of (drop start line) → length digits ≤ 19 → IsMoment m
+    → m ≡ moment_of unit (number_at line start) → HasMoment unit (number_at line start)
+number_has unit line start digits m spelled short real same = (rw (← spelled) short, subst IsMoment same real)
+
+-- and none if no moment was made of them
+pub number_has_none : (unit : UnixUnit) (line : List ℕ) (start : ℕ) (minus : Bool) (digits decimals rest : List ℕ)
+    → digits ≡ digits_of (drop start line) → minus ≡ has_minus line start
+    → rest ≡ drop (digit_count (drop start line)) (drop start line) → decimals ≡ decimals_of rest
+    → (length digits ≤ 19 → ¬ IsMoment (with_sign minus (moment_after unit (digits_value 10 digits) decimals)))
+    → ¬ HasMoment unit (number_at line start)
+number_has_none unit line start minus digits decimals rest spelled sign left are none has =
+    none (rw spelled has.0)
+    (subst IsMoment (sym (moment_is unit line start minus digits decimals rest spelled sign left are)) has.1)
 
 -- a text took the place of what named the moment
 pub text_is_put : (shows : Moment → Option (List ℕ) → Type 0) (P : Type 0) (m n : Moment) (before after line : List ℕ)

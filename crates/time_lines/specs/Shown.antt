@@ -1,9 +1,8 @@
 -- What is shown of a moment.
 use Rattle.std.specs.Prelude.{ℕ, ◌≡◌, ◌↔◌, ◌++◌, ◌⊎◌, Bool, List, [], Option, Some, None, is_some}
 use Rattle.time_below.specs.Facts.{facts_of_offset_date_time}
-use Rattle.time_below.specs.Moment.{Moment, OffsetDateAndTime, IsMoment, utc_date, utc_time}
-use Rattle.std.specs.Prelude.{◌+ℤ◌}
-use Rattle.time_below.specs.Offset.{Offset, offset_seconds}
+use Rattle.time_below.specs.Moment.{Moment, IsMoment, local_at, moved}
+use Rattle.time_below.specs.Offset.{Offset}
 use Rattle.time_below.specs.Facts.{Facts}
 use Rattle.time_fmt.specs.Outcome.{Outcome}
 
@@ -34,14 +33,6 @@ abbrev pub Replaces : (Moment → Option (List ℕ) → Type 0) → Type 0 → M
 Replaces shows P m before after line text =
     (P × ((shown : List ℕ) × shows m (Some shown) × (text ≡ before ++ (shown ++ after))))
     ⊎ ((P → shows m None) × (text ≡ line))
-
--- a moment by the clock at an offset, read as if it were UTC
-abbrev pub moved : Moment → Offset → Moment
-moved m o = record { seconds = m.seconds +ℤ offset_seconds o; nanosecond = m.nanosecond }
-
--- the date and the time that the clock at an offset shows
-abbrev pub local_at : Moment → Offset → OffsetDateAndTime
-local_at m o = record { date = utc_date (moved m o).seconds; time = utc_time (moved m o); offset = o }
 
 -- what a description shows of a moment at an offset, which is nothing where the local year is out of range
 abbrev pub ShowsAt : (Facts → Outcome) → Offset → Moment → Option (List ℕ) → Type 0

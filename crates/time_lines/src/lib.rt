@@ -4,6 +4,7 @@
 mod now;
 mod number;
 mod read;
+mod runs;
 mod shown;
 mod unix;
 

@@ -3,9 +3,11 @@ ghost use Rattle.std.specs.Prelude.{ℕ, ◌≡◌, ◌≤◌, ◌<◌, ◌-◌,
 ghost use Rattle.std.specs.Char.{is_ascii_digit};
 ghost use Rattle.std.specs.List.{list_all};
 ghost use Rattle.std.specs.Str.Parse.{digits_value};
-ghost use Rattle.time_lines.specs.Number.{after_decimals, begins, decimals_of, decimals_value, digit_count, digits_of, goes_on, has_minus, is_digit_at, moment_after, number_start, with_sign};
+ghost use Rattle.time_lines.specs.Number.{after_decimals, begins, decimals_of, decimals_value, digit_count, digits_of, first_place, goes_on, has_minus, is_digit_at, moment_after, number_start, with_sign};
 ghost use Rattle.time_below.specs.Moment.{IsMoment};
 
+use crate::runs::{LANES, digit_count, others_in_lanes};
+use std::convert::TryFrom;
 use time_below::Timestamp;
 
 /// The unit of a number of Unix time.
@@ -15,31 +17,6 @@ pub enum Unit {
     Milliseconds,
     Microseconds,
     Nanoseconds,
-}
-
-/// The digits that a text begins with: how many they are, and the number that at most 19 of them spell.
-#[derive(Clone, Copy)]
-pub(crate) struct Digits {
-    pub count: usize,
-    pub value: u64,
-}
-
-/// The digits that the text begins with.
-#[inline(always)]
-pub(crate) fn leading_digits(text: &[u8]) -> Digits
-    ensures count { result.count ≡ digit_count text.now }
-    ensures inside { result.count ≤ length text.now }
-    ensures value { result.count ≤ 19 → result.value ≡ digits_value 10 (digits_of text.now) }
-{
-    let mut value = 0u64;
-    let mut count = 0usize;
-    while count < text.len() && text[count].is_ascii_digit() {
-        value = value
-            .wrapping_mul(10)
-            .wrapping_add(u64::from(text[count] - b'0'));
-        count += 1;
-    }
-    Digits { count, value }
 }
 
 /// Whether a digit stands before this place, or a point behind a digit.
@@ -52,6 +29,25 @@ fn goes_on(line: &[u8], at: usize) -> bool
         || at >= 2 && line[at - 1] == b'.' && line[at - 2].is_ascii_digit()
 }
 
+/// The first place from this one on where a digit stands, or where fewer than sixteen bytes are left.
+#[inline(always)]
+fn past_blocks(line: &[u8], from: usize) -> usize
+    requires { from ≤ length line.now }
+    ensures after { from ≤ result }
+    ensures inside { result ≤ length line.now }
+    ensures none { (k : ℕ) → from ≤ k → k < result → is_digit_at line.now k ≡ false }
+{
+    let mut at = from;
+    while line.len() - at >= LANES {
+        let run = others_in_lanes(line, at);
+        if run < LANES {
+            return at + run;
+        }
+        at += LANES;
+    }
+    at
+}
+
 /// The first place from this one on where a digit stands, or the end of the line.
 #[inline(always)]
 fn next_digit(line: &[u8], from: usize) -> usize
@@ -61,7 +57,7 @@ fn next_digit(line: &[u8], from: usize) -> usize
     ensures none { (k : ℕ) → from ≤ k → k < result → is_digit_at line.now k ≡ false }
     ensures digit { result < length line.now → is_digit_at line.now result ≡ true }
 {
-    let mut at = from;
+    let mut at = past_blocks(line, from);
     while at < line.len() && !line[at].is_ascii_digit() {
         at += 1;
     }
@@ -72,33 +68,62 @@ fn next_digit(line: &[u8], from: usize) -> usize
 #[inline(always)]
 fn is_number(line: &[u8], at: usize, count: usize, least: usize) -> bool
     requires inside { at ≤ length line.now }
-    requires digit { is_digit_at line.now at ≡ true }
     requires count { count ≡ digit_count (drop at line.now) }
     ensures { result ≡ begins least line.now at }
 {
-    count >= least && !goes_on(line, at)
+    count > 0 && count >= least && !goes_on(line, at)
 }
 
-/// Where the first number of at least so many digits begins, and its digits.
+/// Where the first number of at least so many digits begins, and how many digits it has, if none begins
+/// before this place.
 #[inline(always)]
-pub(crate) fn number_start(line: &[u8], least: usize) -> Option<(usize, Digits)>
+fn number_from(line: &[u8], least: usize, from: usize) -> Option<(usize, usize)>
+    requires inside { from ≤ length line.now }
+    requires none { number_start least line.now
+        ≡ first_place (begins least line.now) (length line.now - from) from }
     ensures place { MatchOption result (number_start least line.now ≡ None)
         (λ s. number_start least line.now ≡ Some s.0) }
     ensures inside { IfSome result (λ s. s.0 ≤ length line.now) }
-    ensures count { IfSome result (λ s. s.1.count ≡ digit_count (drop s.0 line.now)) }
-    ensures digits { IfSome result (λ s. s.1.count ≤ length line.now - s.0) }
-    ensures value { IfSome result (λ s. s.1.count ≤ 19
-        → s.1.value ≡ digits_value 10 (digits_of (drop s.0 line.now))) }
+    ensures count { IfSome result (λ s. s.1 ≡ digit_count (drop s.0 line.now)) }
+    ensures digits { IfSome result (λ s. s.1 ≤ length line.now - s.0) }
 {
-    let mut at = next_digit(line, 0);
+    let mut at = next_digit(line, from);
     while at < line.len() {
-        let digits = leading_digits(&line[at..]);
-        if is_number(line, at, digits.count, least) {
-            return Some((at, digits));
+        let count = digit_count(&line[at..]);
+        if is_number(line, at, count, least) {
+            return Some((at, count));
         }
-        at = next_digit(line, at + digits.count);
+        at = next_digit(line, at + count);
     }
     None
+}
+
+/// How many digits the line begins with, which is soon told where it begins with another byte.
+#[inline(always)]
+fn first_count(line: &[u8]) -> usize
+    ensures count { result ≡ digit_count line.now }
+    ensures inside { result ≤ length line.now }
+{
+    match line {
+        [b'0'..=b'9', ..] => digit_count(line),
+        _ => 0,
+    }
+}
+
+/// Where the first number of at least so many digits begins, and how many digits it has.
+#[inline(always)]
+pub(crate) fn number_start(line: &[u8], least: usize) -> Option<(usize, usize)>
+    ensures place { MatchOption result (number_start least line.now ≡ None)
+        (λ s. number_start least line.now ≡ Some s.0) }
+    ensures inside { IfSome result (λ s. s.0 ≤ length line.now) }
+    ensures count { IfSome result (λ s. s.1 ≡ digit_count (drop s.0 line.now)) }
+    ensures digits { IfSome result (λ s. s.1 ≤ length line.now - s.0) }
+{
+    let first = first_count(line);
+    if is_number(line, 0, first, least) {
+        return Some((0, first));
+    }
+    number_from(line, least, first)
 }
 
 /// Whether a minus sign of a number stands before this place.
@@ -117,12 +142,41 @@ pub(crate) fn split_decimals(text: &[u8]) -> (&[u8], &[u8])
     ensures after { result.1.now ≡ after_decimals (decimals_of text.now) text.now }
 {
     if let [b'.', rest @ ..] = text {
-        let count = leading_digits(rest).count;
+        let count = digit_count(rest);
         if count > 0 {
             return (&rest[..count], &rest[count..]);
         }
     }
     (&[], text)
+}
+
+/// The number that at most 19 digits spell.
+#[inline(always)]
+fn sum_of(digits: &[u8]) -> u64
+    requires count { length digits.now ≤ 19 }
+    requires digits { list_all is_ascii_digit digits.now ≡ true }
+    ensures { result ≡ digits_value 10 digits.now }
+{
+    let mut value = 0u64;
+    for digit in digits {
+        value = 10 * value + (u64::from(*digit) - 48);
+    }
+    value
+}
+
+/// The same. The compiler unrolls the loops for ten digits, as of the seconds from 2001 to 2286, and three,
+/// as of their milliseconds.
+#[inline(always)]
+fn value_of(digits: &[u8]) -> u64
+    requires count { length digits.now ≤ 19 }
+    requires digits { list_all is_ascii_digit digits.now ≡ true }
+    ensures { result ≡ digits_value 10 digits.now }
+{
+    match digits.len() {
+        10 => sum_of(&digits[..10]),
+        3 => sum_of(&digits[..3]),
+        _ => sum_of(digits),
+    }
 }
 
 /// Ten to this power.
@@ -151,8 +205,11 @@ fn decimals_value(count: usize, decimals: &[u8]) -> u64
     ensures value { result ≡ decimals_value count decimals.now }
     ensures small { result < 10 ^ count }
 {
+    if decimals.is_empty() {
+        return 0;
+    }
     let kept = &decimals[..count.min(decimals.len())];
-    leading_digits(kept).value * power_of_ten(count - kept.len())
+    value_of(kept) * power_of_ten(count - kept.len())
 }
 
 /// The seconds and the nanoseconds of so many units and decimals.
@@ -189,10 +246,9 @@ fn signed_moment(is_negative: bool, seconds: u64, nanosecond: u32) -> Option<Tim
     ensures none { IfNone result (¬ IsMoment (with_sign is_negative
         (record { seconds = pos seconds; nanosecond = nanosecond }))) }
 {
-    if seconds > 40_000_000_000_000 {
+    let Ok(seconds) = i64::try_from(seconds) else {
         return None;
-    }
-    let seconds = seconds as i64;
+    };
     let made = if !is_negative {
         Timestamp::new(seconds, nanosecond)
     } else if nanosecond == 0 {
@@ -211,18 +267,19 @@ fn signed_moment(is_negative: bool, seconds: u64, nanosecond: u32) -> Option<Tim
 pub(crate) fn moment_of(
     unit: Unit,
     is_negative: bool,
-    digits: Digits,
+    digits: &[u8],
     decimals: &[u8],
 ) -> Option<Timestamp>
-    requires { list_all is_ascii_digit decimals.now ≡ true }
-    ensures some { IfSome result (λ m. (digits.count ≤ 19) × IsMoment m
-        × (m ≡ with_sign is_negative (moment_after unit digits.value decimals.now))) }
-    ensures none { IfNone result (digits.count ≤ 19
-        → ¬ IsMoment (with_sign is_negative (moment_after unit digits.value decimals.now))) }
+    requires digits { list_all is_ascii_digit digits.now ≡ true }
+    requires decimals { list_all is_ascii_digit decimals.now ≡ true }
+    ensures some { IfSome result (λ m. (length digits.now ≤ 19) × IsMoment m
+        × (m ≡ with_sign is_negative (moment_after unit (digits_value 10 digits.now) decimals.now))) }
+    ensures none { IfNone result (length digits.now ≤ 19
+        → ¬ IsMoment (with_sign is_negative (moment_after unit (digits_value 10 digits.now) decimals.now))) }
 {
-    if digits.count > 19 {
+    if digits.len() > 19 {
         return None;
     }
-    let (seconds, nanosecond) = parts_after(unit, digits.value, decimals);
+    let (seconds, nanosecond) = parts_after(unit, value_of(digits), decimals);
     signed_moment(is_negative, seconds, nanosecond)
 }

@@ -6,9 +6,9 @@ ghost use Rattle.time_lines.specs.Read.{IsFirstText, NoText, NoTextBefore, ReadB
 ghost use Rattle.time_lines.specs.Shown.{Replaces, SameShown};
 ghost use Rattle.time_read.specs.Lenient.{Rfc3339Means};
 
-use crate::number::leading_digits;
+use crate::runs::digit_count;
 use crate::shown::Shown;
-use crate::unix::count;
+use crate::unix::{append_bytes, count_passed};
 use line_streams::{FilterError, LineJob};
 use std::alloc::AllocError;
 use time_below::{OffsetDateTime, Timestamp};
@@ -43,7 +43,7 @@ fn tail_length(text: &[u8]) -> usize
 {
     match text {
         [b'.', rest @ ..] => {
-            let count = leading_digits(rest).count;
+            let count = digit_count(rest);
             1 + count + offset_length(&rest[count..])
         }
         _ => offset_length(text),
@@ -127,7 +127,7 @@ fn append_found<S: Shown>(
         return Ok(false);
     };
     let rest = &line[found.at..];
-    output.extend_from_slice(&line[..found.at])?;
+    append_bytes(output, &line[..found.at])?;
     if shown.append(output, &moment)? {
         output.extend_from_slice(&rest[found.count..])?;
         return Ok(true);
@@ -147,12 +147,12 @@ impl<S: Shown + Drop> LineJob for ReadJob<S> {
 
     fn append(&mut self, output: &mut Vec<u8>, line: &[u8]) -> Result<(), AllocError> {
         let Some(found) = first_text(line) else {
-            count(&mut self.passed);
+            count_passed(&mut self.passed);
             output.extend_from_slice(line)?;
             return Ok(());
         };
         if !append_found(&mut self.shown, output, line, &found)? {
-            count(&mut self.passed);
+            count_passed(&mut self.passed);
         }
         Ok(())
     }

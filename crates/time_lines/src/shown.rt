@@ -1,13 +1,13 @@
 //! What is shown of a moment: a text by a description, at the clock of a place.
-ghost use Rattle.std.specs.Prelude.{◌≡◌, ◌↔◌, ◌<◌, ◌≤◌, ◌*◌, ◌+◌, pos, ◌+ℤ◌, ◌*ℤ◌, ℕ, List, Option, IfOk, IfSome, IfNone, unsigned_abs};
+ghost use Rattle.std.specs.Prelude.{◌≡◌, ◌↔◌, ℕ, List, Option, IfOk};
 ghost use Rattle.time_below.specs.Facts.{facts_of_timestamp};
-ghost use Rattle.time_below.specs.Moment.{IsMoment, Moment};
-ghost use Rattle.time_below.specs.Offset.{AreOffsetParts, Offset, offset_seconds};
-ghost use Rattle.time_lines.specs.Shown.{AppendsShown, SameShown, ShowsAt, local_at, moved, text_of};
+ghost use Rattle.time_below.specs.Moment.{Moment};
+ghost use Rattle.time_below.specs.Offset.{Offset};
+ghost use Rattle.time_lines.specs.Shown.{AppendsShown, SameShown, ShowsAt, text_of};
 
 use std::alloc::AllocError;
 use std::default::Default;
-use time_below::{OffsetDateTime, Timestamp, UtcOffset};
+use time_below::{Timestamp, UtcOffset};
 use time_fmt::{Format, Formattable};
 use time_provide::{ComponentProvider, DateState, TimestampState};
 
@@ -99,72 +99,13 @@ pub struct InPlace<F: Formattable + Drop, P: Place + Drop> {
     pub place: P,
 }
 
-/// Sixty to each whole, and the part of the next.
-#[inline(always)]
-fn sixtieths(whole: i32, part: i8) -> i32
-    requires { unsigned_abs whole < 1_560 }
-    ensures value { result ≡ pos 60 *ℤ whole +ℤ part }
-    ensures size { unsigned_abs result ≤ 60 * unsigned_abs whole + unsigned_abs part }
-{
-    whole * 60 + part as i32
-}
-
-/// The seconds of these parts of an offset.
-#[inline(always)]
-fn whole_seconds(hours: i8, minutes: i8, seconds: i8) -> i32
-    requires { AreOffsetParts hours minutes seconds }
-    ensures value { result ≡ pos 3600 *ℤ hours +ℤ pos 60 *ℤ minutes +ℤ seconds }
-    ensures size { unsigned_abs result < 100_000 }
-{
-    sixtieths(sixtieths(hours as i32, minutes), seconds)
-}
-
-/// How far an offset is ahead of UTC, in seconds.
-#[inline(always)]
-fn seconds_ahead(offset: UtcOffset) -> i32
-    ensures value { result ≡ offset_seconds offset }
-    ensures size { unsigned_abs result < 100_000 }
-{
-    let (hours, minutes, seconds) = offset.as_hms();
-    whole_seconds(hours, minutes, seconds)
-}
-
-/// The moment that so many seconds after this one is.
-#[inline(always)]
-fn moved(moment: &Timestamp, ahead: i32) -> Option<Timestamp>
-    requires { unsigned_abs ahead < 100_000 }
-    ensures some { IfSome result (λ m. IsMoment m
-        × (m ≡ record { seconds = moment.now.seconds +ℤ ahead; nanosecond = moment.now.nanosecond })) }
-    ensures none { IfNone result (¬ IsMoment
-        (record { seconds = moment.now.seconds +ℤ ahead; nanosecond = moment.now.nanosecond })) }
-{
-    let (second, nanosecond) = moment.as_parts();
-    match Timestamp::new(second + ahead as i64, nanosecond) {
-        Ok(shown) => Some(shown),
-        Err(_) => None,
-    }
-}
-
-/// The date and the time that the clock at an offset shows at a moment, if the year is in range.
-#[inline(always)]
-fn local_at(moment: &Timestamp, offset: UtcOffset) -> Option<OffsetDateTime>
-    ensures some { IfSome result (λ v. (v ≡ local_at moment.now offset)
-        × IsMoment (moved moment.now offset)) }
-    ensures none { IfNone result (¬ IsMoment (moved moment.now offset)) }
-{
-    match moved(moment, seconds_ahead(offset)) {
-        Some(shown) => Some(OffsetDateTime::new_in_offset(shown.date(), shown.time(), offset)),
-        None => None,
-    }
-}
-
 impl<F: Formattable + Drop, P: Place + Drop> Shown for InPlace<F, P> {
     ghost shows = { λ s m text. (o : Offset) × P.has_offset s.place m o
         × ShowsAt (F.outcome_of s.description) o m text };
 
     fn append(&mut self, output: &mut Vec<u8>, moment: &Timestamp) -> Result<bool, AllocError> {
         let offset = self.place.offset_at(moment);
-        match local_at(moment, offset) {
+        match moment.checked_to_offset(offset) {
             None => Ok(false),
             Some(local) => append_text(
                 &self.description,

@@ -1,12 +1,11 @@
 //! Unix time in lines, replaced by its text.
-ghost use Rattle.std.specs.Prelude.{◌≡◌, ◌≤◌, ◌-◌, true, length, drop, OnOk, if◌then◌else◌};
-ghost use Rattle.std.specs.Str.Parse.{digits_value};
+ghost use Rattle.std.specs.Prelude.{◌≡◌, ◌≤◌, ◌-◌, ◌++◌, true, length, drop, OnOk, if◌then◌else◌};
 ghost use Rattle.line_streams.specs.Filter.{Adds};
-ghost use Rattle.time_lines.specs.Number.{digit_count, digits_of, number_at};
+ghost use Rattle.time_lines.specs.Number.{digit_count, number_at};
 ghost use Rattle.time_lines.specs.Unix.{NumberBecomes, UnixBecomes};
 ghost use Rattle.time_lines.specs.Shown.{SameShown};
 
-use crate::number::{Digits, Unit, has_minus, moment_of, number_start, split_decimals};
+use crate::number::{Unit, has_minus, moment_of, number_start, split_decimals};
 use crate::shown::Shown;
 use line_streams::{FilterError, LineJob};
 use std::alloc::AllocError;
@@ -24,6 +23,18 @@ pub struct UnixJob<S: Shown + Drop> {
     pub passed: u64,
 }
 
+/// Appends the bytes, by a copy if there are any.
+#[inline(always)]
+pub(crate) fn append_bytes(output: &mut Vec<u8>, bytes: &[u8]) -> Result<(), AllocError>
+    ensures { OnOk result (output.new.items ≡ output.old.items ++ bytes.now) }
+{
+    if bytes.is_empty() {
+        return Ok(());
+    }
+    output.extend_from_slice(bytes)?;
+    Ok(())
+}
+
 /// Where a number with this sign begins whose first digit is here.
 fn first_place(is_negative: bool, start: usize) -> usize
     requires { is_negative ≡ true → 1 ≤ start }
@@ -32,33 +43,34 @@ fn first_place(is_negative: bool, start: usize) -> usize
     if is_negative { start - 1 } else { start }
 }
 
-/// Appends the line with what is shown of its number, whose first digit is here, in place of it. Says
-/// whether a text took its place.
+/// Appends the line with what is shown of its number, which has so many digits from here on, in place of
+/// it. Says whether a text took its place.
+#[inline(always)]
 fn append_number<S: Shown>(
     shown: &mut S,
     unit: Unit,
     output: &mut Vec<u8>,
     line: &[u8],
     start: usize,
-    digits: Digits,
+    count: usize,
 ) -> Result<bool, AllocError>
     requires inside { start ≤ length line.now }
-    requires digits { digits.count ≤ length line.now - start }
-    requires count { digits.count ≡ digit_count (drop start line.now) }
-    requires value { digits.count ≤ 19 → digits.value ≡ digits_value 10 (digits_of (drop start line.now)) }
+    requires digits { count ≤ length line.now - start }
+    requires count { count ≡ digit_count (drop start line.now) }
     ensures same { SameShown (S.shows shown.old) (S.shows shown.new) }
     ensures appended { OnOk result (Adds
         (NumberBecomes (S.shows shown.old) unit (number_at line.now start) line.now)
         output.old.items output.new.items) }
 {
-    let (decimals, after) = split_decimals(&line[start + digits.count..]);
+    let end = start + count;
+    let (decimals, after) = split_decimals(&line[end..]);
     let is_negative = has_minus(line, start);
-    let Some(moment) = moment_of(unit, is_negative, digits, decimals) else {
+    let Some(moment) = moment_of(unit, is_negative, &line[start..end], decimals) else {
         output.extend_from_slice(line)?;
         return Ok(false);
     };
     let from = first_place(is_negative, start);
-    output.extend_from_slice(&line[..from])?;
+    append_bytes(output, &line[..from])?;
     if shown.append(output, &moment)? {
         output.extend_from_slice(after)?;
         return Ok(true);
@@ -67,8 +79,33 @@ fn append_number<S: Shown>(
     Ok(false)
 }
 
-/// Counts one more.
-pub(crate) fn count(number: &mut u64) {
+/// The same. Most numbers begin their lines, and a call for these alone is the shorter one.
+#[inline(always)]
+fn append_found<S: Shown>(
+    shown: &mut S,
+    unit: Unit,
+    output: &mut Vec<u8>,
+    line: &[u8],
+    start: usize,
+    count: usize,
+) -> Result<bool, AllocError>
+    requires inside { start ≤ length line.now }
+    requires digits { count ≤ length line.now - start }
+    requires count { count ≡ digit_count (drop start line.now) }
+    ensures same { SameShown (S.shows shown.old) (S.shows shown.new) }
+    ensures appended { OnOk result (Adds
+        (NumberBecomes (S.shows shown.old) unit (number_at line.now start) line.now)
+        output.old.items output.new.items) }
+{
+    if start == 0 {
+        append_number(shown, unit, output, line, 0, count)
+    } else {
+        append_number(shown, unit, output, line, start, count)
+    }
+}
+
+/// Counts one line more.
+pub(crate) fn count_passed(number: &mut u64) {
     *number = number.saturating_add(1);
 }
 
@@ -81,15 +118,16 @@ impl<S: Shown + Drop> LineJob for UnixJob<S> {
         Ok(())
     }
 
+    #[inline(always)]
     fn append(&mut self, output: &mut Vec<u8>, line: &[u8]) -> Result<(), AllocError> {
-        let Some((start, digits)) = number_start(line, self.least) else {
-            count(&mut self.passed);
+        let Some((start, count)) = number_start(line, self.least) else {
+            count_passed(&mut self.passed);
             output.extend_from_slice(line)?;
             return Ok(());
         };
         let unit = self.unit;
-        if !append_number(&mut self.shown, unit, output, line, start, digits)? {
-            count(&mut self.passed);
+        if !append_found(&mut self.shown, unit, output, line, start, count)? {
+            count_passed(&mut self.passed);
         }
         Ok(())
     }

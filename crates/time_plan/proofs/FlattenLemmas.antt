@@ -1,21 +1,18 @@
 -- Steps that are made one after another.
-use Rattle.std.proofs.Common.{◌≡◌, ℕ, suc, ◌+◌, ◌-◌, ◌<◌, ◌≤◌, ◌++◌, ◌&&◌, Bool, true, List, [], ◌∷◌, length, refl, sym, ap, ◌∙◌, arith, map, take, subst, Some, None}
+use Rattle.std.proofs.Common.{◌≡◌, ℕ, zero, suc, ◌+◌, ◌-◌, ◌<◌, ◌≤◌, ◌++◌, ◌&&◌, Bool, true, List, [], ◌∷◌, length, refl, sym, ap, ◌∙◌, arith, map, take, drop, get_or, subst, Some, None}
 use Rattle.std.proofs.lemmas.List.{set_split, set-get_or, at_drop_all}
-use Rattle.std.specs.Prelude.{slice_get, slice_index_or, slice_set, OnOk, Result, Ok, Err, min}
-use Rattle.time_below.proofs.NodeLemmas.{and_assoc}
-use Rattle.time_below.specs.declared.format_description.component.Component.{Component}
-use Rattle.time_below.specs.declared.format_description.metadata.Metadata.{Metadata}
+use Rattle.std.specs.Prelude.{slice_get, slice_index_or, slice_set, OnOk, Result, Ok, Err}
+use Rattle.time_below.proofs.NodeLemmas.{and_assoc, next_of}
 use Rattle.time_below.specs.Facts.{Facts}
-use Rattle.time_below.specs.Metadata.{greatest_usize, tree_metadata, trees_metadata}
-use Rattle.time_below.specs.Tree.{Tree, Trees, of_component, all_of, first_of, end, more, trees}
-use Rattle.time_below.specs.Width.{component_width, tree_width, trees_width, is_guaranteed_text, are_guaranteed_text}
-use Rattle.time_fmt.specs.Description.{tree_outcome, trees_outcome, component_outcome}
+use Rattle.time_below.specs.Size.{sizes}
+use Rattle.time_below.specs.Tree.{Tree, Trees, all_of, first_of, end, trees}
+use Rattle.time_below.specs.Width.{tree_width, trees_width, is_guaranteed_text, are_guaranteed_text}
+use Rattle.time_fmt.specs.Description.{tree_outcome, trees_outcome}
 use Rattle.time_fmt.specs.Outcome.{done, join}
 use Rattle.time_plan.specs.Literal.{literal_bytes, literal_tree}
 use Rattle.time_plan.specs.Shown.{shown_tree}
-use Rattle.time_plan.specs.Steps.{step_tree, step_trees, Extends, EndsThree}
+use Rattle.time_plan.specs.Steps.{step_tree, step_trees, Extends, Begins}
 use Rattle.time_plan.specs.declared.shown.Run.TheVariants as run
-use Rattle.time_plan.specs.declared.shown.Shown.{Shown}
 use Rattle.time_plan.specs.declared.shown.Shown.TheVariants as shown
 use Rattle.time_plan.specs.declared.step.Step.{Step}
 use Rattle.time_plan.proofs.StepLemmas.{join_assoc, join_nothing, step_outcome, step_width, step_is_text, and_true}
@@ -55,31 +52,6 @@ shown_pushed xs s no_literal is_text = record {
       ∙ ap (λ b. are_guaranteed_text (step_trees xs) && b)
       (step_is_text s ∙ is_text ∙ sym (shown_guaranteed s.shown));
 }
-
--- a component by one with its outcomes and its width
-pub extends_alike : (old new : Trees) (kept c : Component) → Extends old new (of_component kept)
-    → ((f : Facts) → component_outcome kept f ≡ component_outcome c f) → component_width kept ≡ component_width c
-    → Extends old new (of_component c)
-extends_alike old new kept c extends same as_wide = record {
-  outcome = λ f. extends.outcome f ∙ ap (join (trees_outcome old f)) (same f);
-  width = omega (arith, extends.width, as_wide);
-  text = extends.text;
-}
-
--- a component that ends three, which are shown in the place of the last two steps
-pub extends_three : (n : ℕ) (old few : List Step) (new : Trees) (c : Component) (s : Shown)
-    → EndsThree old c s → n ≡ length old - 2 → few ≡ take n old → Extends (step_trees few) new (shown_tree s)
-    → Extends (step_trees old) new (of_component c)
-extends_three n old few new c s three is_n is_few extends =
-    let same : few ≡ take (length old - 2) old = is_few ∙ ap (λ (k : ℕ). take k old) is_n in
-    let so : Extends (step_trees (take (length old - 2) old)) new (shown_tree s) =
-    subst (λ (xs : List Step). Extends (step_trees xs) new (shown_tree s)) same extends in
-    record {
-      outcome = λ f. so.outcome f ∙ three.outcome f;
-      width = omega (arith, so.width, three.width);
-      text = so.text ∙ ap (λ b. are_guaranteed_text (step_trees (take (length old - 2) old)) && b) (shown_guaranteed s)
-          ∙ ap (λ b. b && true) three.text;
-    }
 
 -- a literal behind no component
 pub literal_pushed : (xs : List Step) (s : Step) (b : Bool) (bs : List ℕ)
@@ -176,25 +148,47 @@ pub record Flattened (old now all left : Trees) (all_size left_size : ℕ) : Typ
   pub width : trees_width now + trees_width left ≡ trees_width old + trees_width all
   pub text : (are_guaranteed_text now && are_guaranteed_text left) ≡ (are_guaranteed_text old && are_guaranteed_text all)
 
-pub flattened_first : (old all : Trees) (size : ℕ) → Flattened old old all all size size
-flattened_first old all size = record { size = omega arith; outcome = λ f. refl; width = refl; text = refl }
-
-pub flattened_more : {all_size left_size rest_size : ℕ} (old now new all left others : Trees) (t : Tree)
-    → Flattened old now all left all_size left_size → left ≡ more t others → rest_size ≤ left_size
+flattened_more : {all_size left_size rest_size : ℕ} (old now new all left others : Trees) (t : Tree)
+    → Flattened old now all left all_size left_size → Begins left t others → rest_size ≤ left_size
     → Extends now new t → Flattened old new all others all_size rest_size
-flattened_more old now new all left others t so_far next smaller step = record {
+flattened_more old now new all left others t so_far begins smaller step = record {
   size = omega (arith, so_far.size, smaller);
   outcome = λ f.
       ap (λ o. join o (trees_outcome others f)) (step.outcome f)
       ∙ join_assoc (trees_outcome now f) (tree_outcome t f) (trees_outcome others f)
-      ∙ ap (λ ts. join (trees_outcome now f) (trees_outcome ts f)) (sym next)
+      ∙ ap (join (trees_outcome now f)) (sym (begins.outcome f))
       ∙ so_far.outcome f;
-  width = omega (arith, so_far.width, step.width, ap trees_width next);
+  width = omega (arith, so_far.width, step.width, begins.width);
   text = ap (λ b. b && are_guaranteed_text others) step.text
       ∙ and_assoc (are_guaranteed_text now) (is_guaranteed_text t) (are_guaranteed_text others)
-      ∙ ap (λ ts. are_guaranteed_text now && are_guaranteed_text ts) (sym next)
+      ∙ ap (λ b. are_guaranteed_text now && b) (sym begins.text)
       ∙ so_far.text;
 }
+
+-- the first of a list of nodes, and the others
+pub one_begins : {A : Type 0} (tree : A → Tree) (nodes others : List A) (x : A) → 1 ≤ length nodes → x ≡ get_or nodes 0 x
+    → others ≡ drop 1 nodes → Begins (trees (map tree nodes)) (tree x) (trees (map tree others))
+one_begins tree nodes others x some is are =
+    let first = next_of tree nodes 0 x (omega (arith, some)) is in
+    rw are (record { outcome = λ f. ap (λ ts. trees_outcome ts f) first; width = ap trees_width first; text = ap are_guaranteed_text first })
+
+-- fewer nodes are not larger
+smaller_drop : {A : Type 0} (size : A → ℕ) (n : ℕ) (nodes : List A)
+    → sizes (map size (drop n nodes)) ≤ sizes (map size nodes)
+smaller_drop size zero nodes = omega arith
+smaller_drop size (suc n) [] = omega arith
+smaller_drop size (suc n) (x ∷ xs) = omega (arith, smaller_drop size n xs)
+
+-- some nodes more
+pub flattened_nodes : {A : Type 0} (tree : A → Tree) (size : A → ℕ) (n all_size : ℕ) (old now new all : Trees)
+    (nodes others : List A) (t : Tree)
+    → Flattened old now all (trees (map tree nodes)) all_size (sizes (map size nodes)) → others ≡ drop n nodes
+    → Begins (trees (map tree nodes)) t (trees (map tree others)) → Extends now new t
+    → Flattened old new all (trees (map tree others)) all_size (sizes (map size others))
+flattened_nodes tree size n all_size old now new all nodes others t so_far are begins step =
+    let smaller : sizes (map size others) ≤ sizes (map size nodes) =
+    omega (arith, ap (λ xs. sizes (map size xs)) are, smaller_drop size n nodes) in
+    flattened_more old now new all (trees (map tree nodes)) (trees (map tree others)) t so_far begins smaller step
 
 pub flattened_all : {all_size left_size : ℕ} (old now all left : Trees)
     → Flattened old now all left all_size left_size → left ≡ end → Extends old now (all_of all)
@@ -226,13 +220,3 @@ first_extends {A} tree (y ∷ ys) x old new h extends =
 pub on_ok : {E : Type 0} {P Q : Type 0} (r : Result Unit E) → (P → Q) → OnOk r P → OnOk r Q
 on_ok (Ok u) follows h = follows h
 on_ok (Err e) follows h = h
-
--- ---- what is known of a plan
-
--- steps that were made of a tree from nothing have its metadata
-pub same_metadata : (m : Metadata) (new : Trees) (t : Tree) → m ≡ tree_metadata t → Extends end new t → m ≡ trees_metadata new
-same_metadata m new t is extends =
-    let width : tree_width t ≡ trees_width new = omega (arith, extends.width) in
-    is ∙ ap (λ (w : ℕ). record { max_bytes_needed = min w greatest_usize; guaranteed_utf8 = is_guaranteed_text t }) width
-    ∙ ap (λ (b : Bool). record { max_bytes_needed = min (trees_width new) greatest_usize; guaranteed_utf8 = b })
-    (sym extends.text)

@@ -1,14 +1,14 @@
--- Three parts with a byte between each two: as steps, and as texts.
-use Rattle.std.proofs.Common.{◌≡◌, ℕ, suc, ◌+◌, ◌-◌, ◌≤◌, ◌<◌, ◌++◌, ◌&&◌, true, false, List, [], ◌∷◌, length, sym, ap, ◌∙◌, arith, take, drop}
-use Rattle.std.proofs.Common.{append_assoc, length-append, get_or, drop-cons, subst, Ok, Vec}
-use Rattle.std.proofs.lemmas.List.{append-nil, take-append-drop, at_drop_all}
+-- Three parts with a byte between each two: as nodes, and as texts.
+use Rattle.std.proofs.Common.{◌≡◌, ℕ, ◌+◌, ◌≤◌, ◌<◌, ◌++◌, ◌&&◌, true, false, List, [], ◌∷◌, length, sym, ap, ◌∙◌, arith, map, drop}
+use Rattle.std.proofs.Common.{length-append, get_or, subst, Ok, Vec}
+use Rattle.std.proofs.lemmas.List.{append-nil}
 use Rattle.std.specs.Global.{Global}
 use Rattle.std.specs.Prelude.{is_some, ℤ, pos, int_lt, unsigned_abs}
-use Rattle.time_below.specs.declared.format_description.component.Component.{Component}
+use Rattle.time_below.proofs.NodeLemmas.{next_of}
 use Rattle.time_below.specs.declared.format_description.modifier.Padding.TheVariants as padding
 use Rattle.time_below.specs.Facts.{Facts, the_date, the_time}
-use Rattle.time_below.specs.Tree.{of_component}
-use Rattle.time_below.specs.Width.{tree_width, trees_width, are_guaranteed_text}
+use Rattle.time_below.specs.Tree.{Tree, Trees, of_component, text_literal, more, trees}
+use Rattle.time_below.specs.Width.{is_guaranteed_text, are_guaranteed_text}
 use Rattle.time_fmt.specs.Description.{tree_outcome, trees_outcome}
 use Rattle.time_fmt.specs.Kind.{kind_text, extended_year}
 use Rattle.time_fmt.specs.Ends.{Ends}
@@ -17,123 +17,68 @@ use Rattle.time_fmt.specs.Room.{Writes}
 use Rattle.time_fmt.specs.Text.{padded_text}
 use Rattle.time_fmt.proofs.EndLemmas.{whole_text}
 use Rattle.time_fmt.proofs.TextLemmas.{two_places, signed_four_to_six}
-use Rattle.time_plan.specs.Literal.{literal_bytes}
-use Rattle.time_plan.specs.Shown.{part_component, three_parts, shown_tree}
-use Rattle.time_plan.specs.Steps.{step_tree, step_trees, IsPart, EndsThree}
+use Rattle.time_plan.specs.Shown.{part_component, three_parts}
+use Rattle.time_plan.specs.Steps.{IsAlike, Begins}
 use Rattle.time_plan.specs.declared.shown.Part.{Part}
 use Rattle.time_plan.specs.declared.shown.Part.TheVariants as part
-use Rattle.time_plan.specs.declared.shown.Shown.{Shown}
-use Rattle.time_plan.specs.declared.step.Step.{Step}
-use Rattle.time_plan.proofs.StepLemmas.{join_assoc, join_nothing, step_outcome, step_width, step_is_text, and_true}
-use Rattle.time_plan.proofs.FlattenLemmas.{outcome_pushed, width_pushed, text_pushed}
+use Rattle.time_plan.proofs.StepLemmas.{join_assoc, join_nothing}
 use Rattle.time_plan.proofs.WriteLemmas.{text_behind}
 
--- ---- steps
+-- ---- nodes
 
--- what is joined from the left is joined from the right
-regrouped : (o a x b y c : Outcome)
-    → join (join (join o (join a x)) (join b y)) c
-    ≡ join o (join a (join x (join b (join y (join c (done []))))))
-regrouped o a x b y c =
-    join_assoc (join o (join a x)) (join b y) c
-    ∙ join_assoc o (join a x) (join (join b y) c)
-    ∙ ap (join o) (join_assoc a x (join (join b y) c)
-    ∙ ap (join a) (ap (join x) (join_assoc b y c ∙ ap (join b) (ap (join y) (sym (join_nothing c))))))
+-- what is joined to three parts is joined to the last of them
+regrouped : (a x b y c o : Outcome)
+    → join a (join x (join b (join y (join c o))))
+    ≡ join (join a (join x (join b (join y (join c (done [])))))) o
+regrouped a x b y c o =
+    sym (join_assoc a (join x (join b (join y (join c (done []))))) o
+    ∙ ap (join a) (join_assoc x (join b (join y (join c (done [])))) o
+    ∙ ap (join x) (join_assoc b (join y (join c (done []))) o
+    ∙ ap (join b) (join_assoc y (join c (done [])) o
+    ∙ ap (join y) (ap (λ z. join z o) (join_nothing c))))))
 
--- a part gives its component, and then its byte
-part_outcome : (s : Step) (p : Part) (byte : ℕ) (f : Facts) → IsPart s p byte
-    → tree_outcome (step_tree s) f ≡ join (tree_outcome (of_component (part_component p)) f) (done (byte ∷ []))
-part_outcome s p byte f is =
-    step_outcome s f
-    ∙ ap (λ d. join (tree_outcome (shown_tree d) f) (done (literal_bytes s.literal))) is.shows
-    ∙ ap (λ bs. join (tree_outcome (of_component (part_component p)) f) (done bs)) is.literal
+-- a component, a text of one byte and so on: three parts, and what is left
+three_begin : (p q r : Part) (x y : ℕ) (a b c : Tree) (left : Trees) → IsAlike a (of_component (part_component p))
+    → IsAlike b (of_component (part_component q)) → IsAlike c (of_component (part_component r))
+    → Begins (more a (more (text_literal (x ∷ [])) (more b (more (text_literal (y ∷ [])) (more c left)))))
+    (three_parts p x q y r) left
+three_begin p q r x y a b c left is_a is_b is_c = record {
+  outcome = λ f.
+      ap (λ o. join o (join (done (x ∷ [])) (join (tree_outcome b f) (join (done (y ∷ [])) (join (tree_outcome c f) (trees_outcome left f)))))) (is_a.same_outcome f)
+      ∙ ap (λ o. join (tree_outcome (of_component (part_component p)) f) (join (done (x ∷ [])) (join o (join (done (y ∷ [])) (join (tree_outcome c f) (trees_outcome left f)))))) (is_b.same_outcome f)
+      ∙ ap (λ o. join (tree_outcome (of_component (part_component p)) f) (join (done (x ∷ [])) (join (tree_outcome (of_component (part_component q)) f) (join (done (y ∷ [])) (join o (trees_outcome left f)))))) (is_c.same_outcome f)
+      ∙ regrouped (tree_outcome (of_component (part_component p)) f) (done (x ∷ []))
+      (tree_outcome (of_component (part_component q)) f) (done (y ∷ []))
+      (tree_outcome (of_component (part_component r)) f) (trees_outcome left f);
+  width = omega (arith, is_a.same_width, is_b.same_width, is_c.same_width);
+  text = ap (λ w. w && (is_guaranteed_text b && (is_guaranteed_text c && are_guaranteed_text left))) is_a.same_guarantee
+      ∙ ap (λ w. w && (is_guaranteed_text c && are_guaranteed_text left)) is_b.same_guarantee
+      ∙ ap (λ w. w && are_guaranteed_text left) is_c.same_guarantee;
+}
 
-part_width : (s : Step) (p : Part) (byte : ℕ) → IsPart s p byte
-    → tree_width (step_tree s) ≡ tree_width (of_component (part_component p)) + 1
-part_width s p byte is =
-    omega (arith, step_width s, ap (λ d. tree_width (shown_tree d)) is.shows, ap length is.literal)
-
--- two parts and a third are three
-three_outcome : (xs : List Step) (s t : Step) (p q r : Part) (first second : ℕ) (f : Facts)
-    → IsPart s p first → IsPart t q second
-    → join (trees_outcome (step_trees xs) f) (tree_outcome (three_parts p first q second r) f)
-    ≡ join (trees_outcome (step_trees ((xs ++ s ∷ []) ++ t ∷ [])) f) (tree_outcome (of_component (part_component r)) f)
-three_outcome xs s t p q r first second f is_first is_second =
-    let o = trees_outcome (step_trees xs) f in
-    let a = tree_outcome (of_component (part_component p)) f in
-    let b = tree_outcome (of_component (part_component q)) f in
-    let c = tree_outcome (of_component (part_component r)) f in
-    sym (ap (λ w. join w c) (outcome_pushed (xs ++ s ∷ []) t f
-    ∙ ap (λ w. join w (tree_outcome (step_tree t) f)) (outcome_pushed xs s f
-    ∙ ap (join o) (part_outcome s p first f is_first))
-    ∙ ap (join (join o (join a (done (first ∷ []))))) (part_outcome t q second f is_second))
-    ∙ regrouped o a (done (first ∷ [])) b (done (second ∷ [])) c)
-
-three_width : (xs : List Step) (s t : Step) (p q r : Part) (first second : ℕ)
-    → IsPart s p first → IsPart t q second
-    → trees_width (step_trees xs) + tree_width (three_parts p first q second r)
-    ≡ trees_width (step_trees ((xs ++ s ∷ []) ++ t ∷ [])) + tree_width (of_component (part_component r))
-three_width xs s t p q r first second is_first is_second =
-    omega (
-      arith,
-      width_pushed (xs ++ s ∷ []) t,
-      width_pushed xs s,
-      part_width s p first is_first,
-      part_width t q second is_second,
-    )
-
-three_text : (xs : List Step) (s t : Step) (p q : Part) (first second : ℕ) → IsPart s p first → IsPart t q second
-    → are_guaranteed_text (step_trees xs) ≡ are_guaranteed_text (step_trees ((xs ++ s ∷ []) ++ t ∷ []))
-three_text xs s t p q first second is_first is_second =
-    sym (text_pushed (xs ++ s ∷ []) t
-    ∙ ap (λ b. are_guaranteed_text (step_trees (xs ++ s ∷ [])) && b) (step_is_text t ∙ is_second.text)
-    ∙ and_true (are_guaranteed_text (step_trees (xs ++ s ∷ [])))
-    ∙ text_pushed xs s
-    ∙ ap (λ b. are_guaranteed_text (step_trees xs) && b) (step_is_text s ∙ is_first.text)
-    ∙ and_true (are_guaranteed_text (step_trees xs)))
-
--- the last two of a list
-last_two : (xs : List Step) (a b : Step) → 2 ≤ length xs → a ≡ get_or xs (length xs - 2) a
-    → b ≡ get_or xs (length xs - 1) b → (take (length xs - 2) xs ++ a ∷ []) ++ b ∷ [] ≡ xs
-last_two xs a b long is_a is_b =
-    let n = length xs - 2 in
-    let m = length xs - 1 in
-    let inside : n < length xs = omega (arith, long) in
-    let last : m < length xs = omega (arith, long) in
-    let next : suc n ≡ m = omega (arith, long) in
-    let past : length xs ≤ suc m = omega (arith, long) in
-    append_assoc (take n xs) (a ∷ []) (b ∷ [])
-    ∙ ap (λ (ys : List Step). take n xs ++ ys) (sym (drop-cons xs n a inside
-    ∙ ap (λ (x : Step). x ∷ drop (suc n) xs) (sym is_a)
-    ∙ ap (λ (ys : List Step). a ∷ ys) (ap (λ (k : ℕ). drop k xs) next ∙ drop-cons xs m b last
-    ∙ ap (λ (x : Step). x ∷ drop (suc m) xs) (sym is_b)
-    ∙ ap (λ (ys : List Step). b ∷ ys) (at_drop_all (λ (ys : List Step). ys) xs (suc m) past))))
-    ∙ take-append-drop n xs
-
--- the last two steps and a component are three parts
-pub ends_three : (steps : List Step) (s t : Step) (p q r : Part) (first second : ℕ) (c : Component) (shows : Shown)
-    → 2 ≤ length steps → s ≡ get_or steps (length steps - 2) s → t ≡ get_or steps (length steps - 1) t
-    → IsPart s p first → IsPart t q second → c ≡ part_component r → shown_tree shows ≡ three_parts p first q second r
-    → EndsThree steps c shows
-ends_three steps s t p q r first second c shows long is_s is_t is_first is_second is_c is_shown =
-    let xs = take (length steps - 2) steps in
-    let whole = last_two steps s t long is_s is_t in
-    record {
-      long = long;
-      outcome = λ f.
-          ap (λ d. join (trees_outcome (step_trees xs) f) (tree_outcome d f)) is_shown
-          ∙ three_outcome xs s t p q r first second f is_first is_second
-          ∙ ap (λ ys. join (trees_outcome (step_trees ys) f) (tree_outcome (of_component (part_component r)) f)) whole
-          ∙ ap (λ d. join (trees_outcome (step_trees steps) f) (tree_outcome (of_component d) f)) (sym is_c);
-      width = omega (
-        arith,
-        ap tree_width is_shown,
-        three_width xs s t p q r first second is_first is_second,
-        ap (λ ys. trees_width (step_trees ys)) whole,
-        ap (λ d. tree_width (of_component d)) is_c,
-      );
-      text = three_text xs s t p q first second is_first is_second ∙ ap (λ ys. are_guaranteed_text (step_trees ys)) whole;
-    }
+-- so where they are nodes, one after the other
+pub run_begins : {A : Type 0} (tree : A → Tree) (nodes : List A) (a x b y c : A) (p q r is_p is_q is_r : Part)
+    (first second : ℕ) (behind : List A) → 5 ≤ length nodes → behind ≡ drop 5 nodes
+    → a ≡ get_or nodes 0 a → x ≡ get_or nodes 1 x → b ≡ get_or nodes 2 b → y ≡ get_or nodes 3 y → c ≡ get_or nodes 4 c
+    → IsAlike (tree a) (of_component (part_component p)) → tree x ≡ text_literal (first ∷ [])
+    → IsAlike (tree b) (of_component (part_component q)) → tree y ≡ text_literal (second ∷ [])
+    → IsAlike (tree c) (of_component (part_component r)) → p ≡ is_p → q ≡ is_q → r ≡ is_r
+    → Begins (trees (map tree nodes)) (three_parts is_p first is_q second is_r) (trees (map tree behind))
+run_begins tree nodes a x b y c p q r is_p is_q is_r first second behind long is_behind at_0 at_1 at_2 at_3 at_4
+    is_a is_x is_b is_y is_c same_p same_q same_r =
+    let left = trees (map tree (drop 5 nodes)) in
+    let whole : more (tree a) (more (text_literal (first ∷ [])) (more (tree b) (more (text_literal (second ∷ [])) (more (tree c) left))))
+    ≡ trees (map tree nodes) =
+    sym (next_of tree nodes 0 a (omega (arith, long)) at_0
+    ∙ ap (more (tree a)) (next_of tree nodes 1 x (omega (arith, long)) at_1
+    ∙ ap (λ t. more t (trees (map tree (drop 2 nodes)))) is_x
+    ∙ ap (more (text_literal (first ∷ []))) (next_of tree nodes 2 b (omega (arith, long)) at_2
+    ∙ ap (more (tree b)) (next_of tree nodes 3 y (omega (arith, long)) at_3
+    ∙ ap (λ t. more t (trees (map tree (drop 4 nodes)))) is_y
+    ∙ ap (more (text_literal (second ∷ []))) (next_of tree nodes 4 c (omega (arith, long)) at_4))))) in
+    rw (is_behind, ← same_p, ← same_q, ← same_r)
+    (subst (λ ts. Begins ts (three_parts p first q second r) left) whole
+    (three_begin p q r first second (tree a) (tree b) (tree c) left is_a is_b is_c))
 
 -- ---- texts
 

@@ -1,16 +1,13 @@
 -- What the steps of a plan mean.
-use Rattle.std.specs.Prelude.{ℕ, ◌≡◌, ◌+◌, ◌-◌, ◌≤◌, true, ◌&&◌, List, [], ◌∷◌, length, map, take}
-use Rattle.time_below.specs.declared.format_description.component.Component.{Component}
+use Rattle.std.specs.Prelude.{◌≡◌, ◌+◌, ◌&&◌, List, map}
 use Rattle.time_below.specs.Facts.{Facts}
-use Rattle.time_below.specs.Tree.{Tree, Trees, of_component, all_of, end, more, trees}
+use Rattle.time_below.specs.Tree.{Tree, Trees, all_of, end, more, trees}
 use Rattle.time_below.specs.Width.{tree_width, trees_width, is_guaranteed_text, are_guaranteed_text}
 use Rattle.time_fmt.specs.Description.{tree_outcome, trees_outcome}
+use Rattle.time_fmt.specs.Laws.{Means}
 use Rattle.time_fmt.specs.Outcome.{join}
 use Rattle.time_plan.specs.Literal.{literal_bytes, literal_tree}
-use Rattle.time_plan.specs.Shown.{part_component, shown_tree}
-use Rattle.time_plan.specs.declared.shown.Part.{Part}
-use Rattle.time_plan.specs.declared.shown.Shown.{Shown}
-use Rattle.time_plan.specs.declared.shown.Shown.TheVariants as shown
+use Rattle.time_plan.specs.Shown.{shown_tree}
 use Rattle.time_plan.specs.declared.step.Step.{Step}
 
 -- a step is what it shows, and then its literal
@@ -27,18 +24,12 @@ pub record Extends (old new : Trees) (t : Tree) : Type 0 where
   pub width : trees_width new ≡ trees_width old + tree_width t
   pub text : are_guaranteed_text new ≡ (are_guaranteed_text old && is_guaranteed_text t)
 
--- a step that shows a part, and has a text of one byte behind it
-pub record IsPart (s : Step) (p : Part) (byte : ℕ) : Type 0 where
-  pub shows : s.shown ≡ shown.Component (part_component p)
-  pub literal : literal_bytes s.literal ≡ byte ∷ []
-  pub text : s.is_text ≡ true
+-- two trees that mean the same
+abbrev pub IsAlike : Tree → Tree → Type 0
+IsAlike t u = Means (tree_outcome t) (tree_width t) (is_guaranteed_text t) u
 
--- the steps but for the last two, and then what is shown, mean what all of the steps mean, and then the component
-pub record EndsThree (steps : List Step) (c : Component) (s : Shown) : Type 0 where
-  pub long : 2 ≤ length steps
-  pub outcome : (f : Facts)
-      → join (trees_outcome (step_trees (take (length steps - 2) steps)) f) (tree_outcome (shown_tree s) f)
-      ≡ join (trees_outcome (step_trees steps) f) (tree_outcome (of_component c) f)
-  pub width : trees_width (step_trees (take (length steps - 2) steps)) + tree_width (shown_tree s)
-      ≡ trees_width (step_trees steps) + tree_width (of_component c)
-  pub text : are_guaranteed_text (step_trees (take (length steps - 2) steps)) ≡ are_guaranteed_text (step_trees steps)
+-- trees in order mean what the first tree means, and then what is left
+pub record Begins (all : Trees) (first : Tree) (left : Trees) : Type 0 where
+  pub outcome : (f : Facts) → trees_outcome all f ≡ join (tree_outcome first f) (trees_outcome left f)
+  pub width : trees_width all ≡ tree_width first + trees_width left
+  pub text : are_guaranteed_text all ≡ (is_guaranteed_text first && are_guaranteed_text left)

@@ -1,20 +1,18 @@
 //! The steps of a tree.
-ghost use Rattle.std.specs.Prelude.{◌≡◌, true, OnOk, IfSome, MatchOption, IsUtf8, map};
-ghost use Rattle.time_below.specs.Facts.{Facts};
+ghost use Rattle.std.specs.Prelude.{◌≡◌, true, OnOk, MatchOption, IsUtf8, map};
 ghost use Rattle.time_below.specs.Tree.{of_component, all_of, trees};
-ghost use Rattle.time_below.specs.Width.{component_width};
-ghost use Rattle.time_fmt.specs.Description.{component_outcome};
 ghost use Rattle.time_plan.specs.Literal.{literal_bytes, literal_tree};
 ghost use Rattle.time_plan.specs.Shown.{shown_tree};
-ghost use Rattle.time_plan.specs.Steps.{step_trees, Extends, EndsThree};
+ghost use Rattle.time_plan.specs.Steps.{step_trees, Extends};
 
 use crate::literal::Literal;
-use crate::shown::{Part, Run, Separators, Shown};
+use crate::runs::{kept_of, run_of};
+use crate::shown::{Run, Shown};
 use crate::step::Step;
 use std::alloc::{AllocError, Global};
-use time_below::format_description::{Component, Layer, Node, component_width};
+use time_below::format_description::{Component, Layer, Node};
 
-/// Adds the nodes in order.
+/// Adds the nodes in order. A date or a time of day is one step in the place of three.
 #[cycle(flatten)]
 pub(crate) fn add_nodes<T: Node>(
     alloc: Global,
@@ -24,11 +22,18 @@ pub(crate) fn add_nodes<T: Node>(
     ensures extends { OnOk result (Extends (step_trees steps.old.items) (step_trees steps.new.items)
         (all_of (trees (map T.tree nodes.now)))) }
 {
-    for node in nodes {
+    let mut left = nodes;
+    'nodes: while let [node, ..] = left {
+        if let Some((run, behind)) = run_of(left) {
+            add_shown(alloc, steps, Shown::Run(run))?;
+            left = behind;
+            continue;
+        }
         match add_leaf(alloc, steps, node) {
             Some(added) => added?,
             None => add_node(alloc, steps, node)?,
         }
+        left = &left[1..];
     }
     Ok(())
 }
@@ -76,7 +81,8 @@ pub(crate) fn add_node<T: Node>(
     }
 }
 
-/// Adds a component. Where it ends a date or a time of day, that is one step in the place of three.
+/// Adds a component.
+#[inline]
 fn add_component(
     alloc: Global,
     steps: &mut Vec<Step>,
@@ -85,68 +91,7 @@ fn add_component(
     ensures extends { OnOk result (Extends (step_trees steps.old.items) (step_trees steps.new.items)
         (of_component component)) }
 {
-    let kept = kept_of(component);
-    match three_of(steps.as_slice(), kept) {
-        Some(three) => {
-            steps.truncate(steps.len() - 2);
-            add_shown(alloc, steps, three)
-        }
-        None => add_shown(alloc, steps, Shown::Component(kept)),
-    }
-}
-
-/// The current component in the place of a deprecated one, where it is as wide.
-fn kept_of(component: Component) -> Component
-    ensures outcome { (f : Facts) → component_outcome result f ≡ component_outcome component f }
-    ensures width { component_width result ≡ component_width component }
-{
-    match component {
-        Component::Month(_)
-        | Component::Weekday(_)
-        | Component::WeekNumber(_)
-        | Component::Hour(_)
-        | Component::UnixTimestamp(_)
-        | Component::Year(_) => current_if_as_wide(component),
-        _ => component,
-    }
-}
-
-/// The current component in the place of any one, where it is as wide.
-#[cold]
-fn current_if_as_wide(component: Component) -> Component
-    ensures outcome { (f : Facts) → component_outcome result f ≡ component_outcome component f }
-    ensures width { component_width result ≡ component_width component }
-{
-    let current = component.current();
-    if component_width(&current) == component_width(&component) {
-        current
-    } else {
-        component
-    }
-}
-
-/// The date or the time of day that the last two steps begin and the component ends.
-fn three_of(steps: &[Step], component: Component) -> Option<Shown>
-    ensures { IfSome result (EndsThree steps.now component) }
-{
-    let last = Part::of(component)?;
-    if !last.is_last() {
-        return None;
-    }
-    let [.., first, second] = steps else {
-        return None;
-    };
-    let (first, before_second) = first.part()?;
-    let (second, before_last) = second.part()?;
-    let between = Separators {
-        first: before_second,
-        second: before_last,
-    };
-    match (first, second, last) {
-        (Part::Year, Part::Month, Part::Day) => Some(Shown::Run(Run::Date(between))),
-        (Part::Hour, Part::Minute, Part::Second) => Some(Shown::Run(Run::Time(between))),
-        _ => None,
-    }
+    add_shown(alloc, steps, Shown::Component(kept_of(component)))
 }
 
 /// Adds a step without a literal.

@@ -6,6 +6,7 @@ pub mod laws;
 mod literal;
 mod parse;
 mod plan;
+mod runs;
 mod shown;
 mod step;
 mod write;

@@ -1,5 +1,5 @@
 //! A literal behind a component.
-ghost use Rattle.std.specs.Prelude.{◌≡◌, [], IsTrue, IfOk};
+ghost use Rattle.std.specs.Prelude.{◌≡◌, [], IsTrue, IfOk, length};
 ghost use Rattle.time_plan.specs.Literal.{literal_bytes};
 
 use std::alloc::{AllocError, Global};
@@ -31,6 +31,17 @@ impl Literal {
         match self {
             Literal::Bytes(bytes) => bytes.is_empty(),
             _ => false,
+        }
+    }
+
+    /// How many bytes there are.
+    #[inline]
+    pub(crate) fn len(&self) -> usize
+        ensures { result ≡ length (literal_bytes self.now) }
+    {
+        match self {
+            Literal::Byte(_) => 1,
+            Literal::Bytes(bytes) => bytes.len(),
         }
     }
 }

@@ -13,7 +13,8 @@ use crate::flatten::{add_node, add_nodes};
 use crate::step::Step;
 use crate::write::write_steps;
 use std::alloc::{AllocError, Global};
-use time_below::format_description::{Layer, Metadata, Node, metadata_of_node, metadata_of_nodes};
+use std::default::Default;
+use time_below::format_description::{Layer, Metadata, Node};
 use time_fmt::{ComputeMetadata, Format, Formattable, Refused, make_room};
 use time_provide::ComponentProvider;
 
@@ -45,10 +46,7 @@ impl Plan {
     {
         let mut steps = Vec::with_capacity(alloc, likely_steps(items_of(node)))?;
         add_node(alloc, &mut steps, node)?;
-        Ok(Plan {
-            steps,
-            metadata: metadata_of_node(node),
-        })
+        Ok(Plan::of_steps(steps))
     }
 
     /// The plan of items in order, as of a slice of borrowed or owned items.
@@ -63,11 +61,28 @@ impl Plan {
     {
         let mut steps = Vec::with_capacity(alloc, likely_steps(nodes.len()))?;
         add_nodes(alloc, &mut steps, nodes)?;
-        Ok(Plan {
-            steps,
-            metadata: metadata_of_nodes(nodes),
-        })
+        Ok(Plan::of_steps(steps))
     }
+
+    /// The plan that has these steps.
+    #[inline]
+    fn of_steps(steps: Vec<Step>) -> Plan
+        ensures { result.steps ≡ steps }
+    {
+        let metadata = metadata_of(steps.as_slice());
+        Plan { steps, metadata }
+    }
+}
+
+/// What is known of the texts of steps, one after the other.
+fn metadata_of(steps: &[Step]) -> Metadata
+    ensures { result ≡ trees_metadata (step_trees steps.now) }
+{
+    let mut sum = Metadata::default();
+    for step in steps {
+        sum = sum + step.metadata();
+    }
+    sum
 }
 
 /// How many items are at the head of a tree.

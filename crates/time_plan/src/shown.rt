@@ -3,7 +3,7 @@ ghost use Rattle.std.specs.Prelude.{◌≡◌, ◌∷◌, [], true, IfSome};
 ghost use Rattle.std.specs.Str.{is_utf8};
 
 use time_below::format_description::modifier::Padding;
-use time_below::format_description::{Component, modifier};
+use time_below::format_description::{Component, component_width, modifier};
 
 /// What a step shows before its literal. Two kinds are told apart by one comparison.
 #[derive(Clone, Copy)]
@@ -12,6 +12,24 @@ pub enum Shown {
     Component(Component),
     /// Three components that are mostly met together, or none.
     Run(Run),
+}
+
+impl Shown {
+    ghost use Rattle.time_below.specs.Width.{tree_width};
+    ghost use Rattle.time_plan.specs.Shown.{shown_tree};
+
+    /// The most bytes that are shown.
+    #[inline]
+    pub(crate) fn width(&self) -> usize
+        ensures { result ≡ tree_width (shown_tree self.now) }
+    {
+        match self {
+            Shown::Component(component) => component_width(component),
+            Shown::Run(Run::Empty) => 0,
+            Shown::Run(Run::Date(_)) => 13,
+            Shown::Run(Run::Time(_)) => 8,
+        }
+    }
 }
 
 /// A run of components.
@@ -95,10 +113,5 @@ impl Part {
             ) => Some(Part::Second),
             _ => None,
         }
-    }
-
-    /// Whether a date or a time of day ends with the part.
-    pub(crate) fn is_last(self) -> bool {
-        matches!(self, Part::Day | Part::Second)
     }
 }

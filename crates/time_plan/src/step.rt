@@ -4,7 +4,8 @@ ghost use Rattle.std.specs.Str.{is_utf8};
 ghost use Rattle.time_plan.specs.Literal.{literal_bytes};
 
 use crate::literal::Literal;
-use crate::shown::{Part, Shown};
+use crate::shown::Shown;
+use time_below::format_description::Metadata;
 
 /// What is shown of a value, and the literal behind it.
 #[derive(Drop)]
@@ -19,19 +20,18 @@ pub struct Step {
 }
 
 impl Step {
-    ghost use Rattle.std.specs.Prelude.{[], IfSome, IsTrue, IsUtf8};
-    ghost use Rattle.time_plan.specs.Steps.{IsPart};
+    ghost use Rattle.std.specs.Prelude.{[], IsTrue, IsUtf8};
+    ghost use Rattle.time_below.specs.Metadata.{tree_metadata};
+    ghost use Rattle.time_plan.specs.Steps.{step_tree};
 
-    /// The part that the step shows, and the text of one byte behind it.
-    pub(crate) fn part(&self) -> Option<(Part, u8)>
-        ensures { IfSome result (λ found. IsPart self.now found.0 found.1) }
+    /// What is known of the text.
+    #[inline]
+    pub(crate) fn metadata(&self) -> Metadata
+        ensures { result ≡ tree_metadata (step_tree self.now) }
     {
-        match (self.shown, &self.literal, self.is_text) {
-            (Shown::Component(component), Literal::Byte(byte), true) => match Part::of(component) {
-                Some(part) => Some((part, *byte)),
-                None => None,
-            },
-            _ => None,
+        Metadata {
+            max_bytes_needed: self.shown.width().saturating_add(self.literal.len()),
+            guaranteed_utf8: self.is_text,
         }
     }
 

@@ -1,2 +1,3 @@
 pub mod Agreement
+pub mod Kept
 pub mod Real

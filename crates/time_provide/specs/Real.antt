@@ -4,7 +4,7 @@ use Rattle.time_below.specs.Calendar.{OrdinalDate, IsDate}
 use Rattle.time_below.specs.Facts.{Facts, DateFacts, date_facts, the_date, the_time, the_offset, the_moment}
 use Rattle.time_below.specs.Moment.{IsNearMoment}
 use Rattle.time_below.specs.Offset.{IsOffset}
-use Rattle.time_below.specs.TimeOfDay.{IsTimeOfDay}
+use Rattle.time_below.specs.TimeOfDay.{TimeOfDay, IsTimeOfDay}
 
 -- the date with this year and this day of the year
 abbrev pub date_in : DateFacts → OrdinalDate
@@ -40,3 +40,7 @@ pub record AreReal (f : Facts) : Type 0 where
   pub date : AreFactsOfDate (the_date f)
   pub time : IsTimeOfDay (the_time f)
   pub offset : IsOffset (the_offset f)
+
+-- the time of day that stands where there is none
+abbrev pub midnight : TimeOfDay
+midnight = record { hour = 0; minute = 0; second = 0; nanosecond = 0 }

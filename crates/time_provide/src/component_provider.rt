@@ -1,20 +1,22 @@
 //! The components of a value.
 ghost use Rattle.std.specs.Prelude.{◌≡◌, ◌≤◌, ◌<◌, Bool, IsTrue, is_some, unsigned_abs};
 ghost use Rattle.std.specs.Int.{IsInRange};
-ghost use Rattle.time_below.specs.Facts.{Facts, the_date, the_time, the_offset, the_moment};
-ghost use Rattle.time_below.specs.Moment.{Moment, milliseconds};
+ghost use Rattle.time_below.specs.Calendar.{IsDate};
+ghost use Rattle.time_below.specs.Facts.{Facts, date_facts, the_date, the_time, the_offset, the_moment};
+ghost use Rattle.time_below.specs.Moment.{Moment, IsNearMoment, milliseconds};
 ghost use Rattle.time_below.specs.Month.{month_number};
-ghost use Rattle.time_below.specs.Offset.{Offset, is_negative, is_utc};
-ghost use Rattle.time_below.specs.TimeOfDay.{TimeOfDay, period_of};
+ghost use Rattle.time_below.specs.Offset.{Offset, IsOffset, is_negative, is_utc};
+ghost use Rattle.time_below.specs.TimeOfDay.{TimeOfDay, IsTimeOfDay, period_of};
 ghost use Rattle.time_below.specs.Weekday.{days_from_monday};
 ghost use Rattle.time_provide.specs.Real.{AgreesOnDate, AgreesOnTime, AgreesOnOffset, AgreesOnMoment};
 
+use crate::kept::Kept;
 use crate::ranges::{
     Day, Hours, IsoWeekNumber, Minutes, MondayBasedWeek, Nanoseconds, OffsetHours, OffsetMinutes,
     OffsetSeconds, Ordinal, Seconds, SundayBasedWeek, Year,
 };
-use std::default::Default;
-use time_below::{Month, Period, Weekday};
+use time_below::{Date, Month, Period, Time, UtcOffset, Weekday, moment};
+use time_digits::{ri8, ri32, ru8, ru16};
 
 /// Gives the components of a value, group by group.
 ///
@@ -24,7 +26,7 @@ use time_below::{Month, Period, Weekday};
 /// offset in its ranges and of one sign, a moment in its range.
 pub trait ComponentProvider {
     /// What earlier calls for the same value computed.
-    type State: Default;
+    type State: Kept;
 
     /// The components of the value.
     ghost facts: { Self → Facts };
@@ -55,121 +57,25 @@ pub trait ComponentProvider {
     /// Whether the value is a moment, which the last two methods supply.
     const SUPPLIES_TIMESTAMP: bool;
 
-    /// The day of the month, 1 to 31.
-    fn day(&self, state: &mut Self::State) -> Day
+    /// The date.
+    fn supplied_date(&self, state: &mut Self::State) -> Date
         requires supplied { IsTrue SUPPLIES_DATE }
         requires agrees { agrees state.old self.now }
-        ensures value { result ≡ (the_date (facts self.now)).day }
-        ensures range { IsInRange 1 31 result }
-        ensures agrees { AgreesOnDate (agrees state.new self.now) (facts self.now) }
+        ensures value { the_date (facts self.now) ≡ date_facts result }
+        ensures real { IsDate result }
+        ensures agrees { agrees state.new self.now }
         ensures kept { keeps state.old state.new };
 
-    /// The month.
-    fn month(&self, state: &mut Self::State) -> Month
-        requires supplied { IsTrue SUPPLIES_DATE }
-        requires agrees { agrees state.old self.now }
-        ensures value { month_number result ≡ (the_date (facts self.now)).month }
-        ensures agrees { AgreesOnDate (agrees state.new self.now) (facts self.now) }
-        ensures kept { keeps state.old state.new };
-
-    /// The day of the year, 1 to 366.
-    fn ordinal(&self, state: &mut Self::State) -> Ordinal
-        requires supplied { IsTrue SUPPLIES_DATE }
-        requires agrees { agrees state.old self.now }
-        ensures value { result ≡ (the_date (facts self.now)).ordinal }
-        ensures range { IsInRange 1 366 result }
-        ensures agrees { AgreesOnDate (agrees state.new self.now) (facts self.now) }
-        ensures kept { keeps state.old state.new };
-
-    /// The day of the week.
-    fn weekday(&self, state: &mut Self::State) -> Weekday
-        requires supplied { IsTrue SUPPLIES_DATE }
-        requires agrees { agrees state.old self.now }
-        ensures value { days_from_monday result ≡ (the_date (facts self.now)).weekday }
-        ensures agrees { AgreesOnDate (agrees state.new self.now) (facts self.now) }
-        ensures kept { keeps state.old state.new };
-
-    /// The week of the week calendar, 1 to 53 (ISO 8601-1:2019, week date).
-    fn iso_week_number(&self, state: &mut Self::State) -> IsoWeekNumber
-        requires supplied { IsTrue SUPPLIES_DATE }
-        requires agrees { agrees state.old self.now }
-        ensures value { result ≡ (the_date (facts self.now)).iso_week }
-        ensures range { IsInRange 1 53 result }
-        ensures agrees { AgreesOnDate (agrees state.new self.now) (facts self.now) }
-        ensures kept { keeps state.old state.new };
-
-    /// The week of the year, 0 to 53, where week 1 begins on the first Monday.
-    fn monday_based_week(&self, state: &mut Self::State) -> MondayBasedWeek
-        requires supplied { IsTrue SUPPLIES_DATE }
-        requires agrees { agrees state.old self.now }
-        ensures value { result ≡ (the_date (facts self.now)).monday_based_week }
-        ensures range { result ≤ 53 }
-        ensures agrees { AgreesOnDate (agrees state.new self.now) (facts self.now) }
-        ensures kept { keeps state.old state.new };
-
-    /// The week of the year, 0 to 53, where week 1 begins on the first Sunday.
-    fn sunday_based_week(&self, state: &mut Self::State) -> SundayBasedWeek
-        requires supplied { IsTrue SUPPLIES_DATE }
-        requires agrees { agrees state.old self.now }
-        ensures value { result ≡ (the_date (facts self.now)).sunday_based_week }
-        ensures range { result ≤ 53 }
-        ensures agrees { AgreesOnDate (agrees state.new self.now) (facts self.now) }
-        ensures kept { keeps state.old state.new };
-
-    /// The year, -999,999 to 999,999.
-    fn calendar_year(&self, state: &mut Self::State) -> Year
-        requires supplied { IsTrue SUPPLIES_DATE }
-        requires agrees { agrees state.old self.now }
-        ensures value { result ≡ (the_date (facts self.now)).year }
-        ensures range { unsigned_abs result ≤ 999_999 }
-        ensures agrees { AgreesOnDate (agrees state.new self.now) (facts self.now) }
-        ensures kept { keeps state.old state.new };
-
-    /// The year of the week calendar, -999,999 to 999,999.
-    fn iso_year(&self, state: &mut Self::State) -> Year
-        requires supplied { IsTrue SUPPLIES_DATE }
-        requires agrees { agrees state.old self.now }
-        ensures value { result ≡ (the_date (facts self.now)).iso_year }
-        ensures range { unsigned_abs result ≤ 999_999 }
-        ensures agrees { AgreesOnDate (agrees state.new self.now) (facts self.now) }
-        ensures kept { keeps state.old state.new };
-
-    /// The hour of the day, 0 to 23.
-    fn hour(&self, state: &mut Self::State) -> Hours
+    /// The time of day.
+    fn supplied_time(&self, state: &mut Self::State) -> Time
         requires supplied { IsTrue SUPPLIES_TIME }
         requires agrees { agrees state.old self.now }
-        ensures value { result ≡ (the_time (facts self.now)).hour }
-        ensures range { result ≤ 23 }
-        ensures agrees { AgreesOnTime (agrees state.new self.now) (facts self.now) }
+        ensures value { the_time (facts self.now) ≡ result }
+        ensures real { IsTimeOfDay result }
+        ensures agrees { agrees state.new self.now }
         ensures kept { keeps state.old state.new };
 
-    /// The minute of the hour, 0 to 59.
-    fn minute(&self, state: &mut Self::State) -> Minutes
-        requires supplied { IsTrue SUPPLIES_TIME }
-        requires agrees { agrees state.old self.now }
-        ensures value { result ≡ (the_time (facts self.now)).minute }
-        ensures range { result ≤ 59 }
-        ensures agrees { AgreesOnTime (agrees state.new self.now) (facts self.now) }
-        ensures kept { keeps state.old state.new };
-
-    /// The half of the day: before noon, or from noon on.
-    fn period(&self, state: &mut Self::State) -> Period
-        requires supplied { IsTrue SUPPLIES_TIME }
-        requires agrees { agrees state.old self.now }
-        ensures value { result ≡ period_of (the_time (facts self.now)) }
-        ensures agrees { AgreesOnTime (agrees state.new self.now) (facts self.now) }
-        ensures kept { keeps state.old state.new };
-
-    /// The second of the minute, 0 to 59.
-    fn second(&self, state: &mut Self::State) -> Seconds
-        requires supplied { IsTrue SUPPLIES_TIME }
-        requires agrees { agrees state.old self.now }
-        ensures value { result ≡ (the_time (facts self.now)).second }
-        ensures range { result ≤ 59 }
-        ensures agrees { AgreesOnTime (agrees state.new self.now) (facts self.now) }
-        ensures kept { keeps state.old state.new };
-
-    /// The nanosecond of the second, 0 to 999,999,999.
+    /// The nanosecond of the second, 0 to 999,999,999. A moment has it at hand, so that nothing is kept.
     fn nanosecond(&self, state: &mut Self::State) -> Nanoseconds
         requires supplied { IsTrue SUPPLIES_TIME }
         requires agrees { agrees state.old self.now }
@@ -178,66 +84,295 @@ pub trait ComponentProvider {
         ensures agrees { AgreesOnTime (agrees state.new self.now) (facts self.now) }
         ensures kept { keeps state.old state.new };
 
+    /// The offset from UTC.
+    fn supplied_offset(&self) -> UtcOffset
+        requires supplied { IsTrue SUPPLIES_OFFSET }
+        ensures value { the_offset (facts self.now) ≡ result }
+        ensures real { IsOffset result };
+
+    /// The seconds since 1970-01-01T00:00:00 UTC, rounded down, and the nanosecond counted forward from there.
+    fn supplied_moment(&self) -> (i64, u32)
+        requires supplied { IsTrue SUPPLIES_TIMESTAMP }
+        ensures seconds { (the_moment (facts self.now)).seconds ≡ result.0 }
+        ensures nanosecond { (the_moment (facts self.now)).nanosecond ≡ result.1 }
+        ensures real { IsNearMoment (the_moment (facts self.now)) };
+
+    // A state that agrees holds nothing but components of the date. It agrees with more of them, and
+    // keeps what a state before it held.
+    ghost held: { (state : Self.State) (value : Self) → IsTrue SUPPLIES_DATE → agrees state value
+        → Self.State.holds state (the_date (facts value)) };
+
+    ghost grown: { (old new : Self.State) (value : Self) → IsTrue SUPPLIES_DATE → agrees old value
+        → Self.State.grows old new (the_date (facts value)) → agrees new value };
+
+    ghost keeps_grown: { (before old new : Self.State) (value : Self) → keeps before old
+        → Self.State.grows old new (the_date (facts value)) → keeps before new };
+
+    ghost keeps_same: { (state : Self.State) → keeps state state };
+
+    /// The day of the month, 1 to 31.
+    #[inline(always)]
+    final fn day(&self, state: &mut Self::State) -> Day
+        requires supplied { IsTrue SUPPLIES_DATE }
+        requires agrees { agrees state.old self.now }
+        ensures value { result ≡ (the_date (facts self.now)).day }
+        ensures range { IsInRange 1 31 result }
+        ensures agrees { AgreesOnDate (agrees state.new self.now) (facts self.now) }
+        ensures kept { keeps state.old state.new }
+    {
+        let date = self.supplied_date(state);
+        state.kept_day(date)
+    }
+
+    /// The month.
+    #[inline(always)]
+    final fn month(&self, state: &mut Self::State) -> Month
+        requires supplied { IsTrue SUPPLIES_DATE }
+        requires agrees { agrees state.old self.now }
+        ensures value { month_number result ≡ (the_date (facts self.now)).month }
+        ensures agrees { AgreesOnDate (agrees state.new self.now) (facts self.now) }
+        ensures kept { keeps state.old state.new }
+    {
+        let date = self.supplied_date(state);
+        state.kept_month(date)
+    }
+
+    /// The day of the year, 1 to 366.
+    #[inline(always)]
+    final fn ordinal(&self, state: &mut Self::State) -> Ordinal
+        requires supplied { IsTrue SUPPLIES_DATE }
+        requires agrees { agrees state.old self.now }
+        ensures value { result ≡ (the_date (facts self.now)).ordinal }
+        ensures range { IsInRange 1 366 result }
+        ensures agrees { AgreesOnDate (agrees state.new self.now) (facts self.now) }
+        ensures kept { keeps state.old state.new }
+    {
+        ru16::within(self.supplied_date(state).ordinal())
+    }
+
+    /// The day of the week.
+    #[inline(always)]
+    final fn weekday(&self, state: &mut Self::State) -> Weekday
+        requires supplied { IsTrue SUPPLIES_DATE }
+        requires agrees { agrees state.old self.now }
+        ensures value { days_from_monday result ≡ (the_date (facts self.now)).weekday }
+        ensures agrees { AgreesOnDate (agrees state.new self.now) (facts self.now) }
+        ensures kept { keeps state.old state.new }
+    {
+        self.supplied_date(state).weekday()
+    }
+
+    /// The week of the week calendar, 1 to 53 (ISO 8601-1:2019, week date).
+    #[inline(always)]
+    final fn iso_week_number(&self, state: &mut Self::State) -> IsoWeekNumber
+        requires supplied { IsTrue SUPPLIES_DATE }
+        requires agrees { agrees state.old self.now }
+        ensures value { result ≡ (the_date (facts self.now)).iso_week }
+        ensures range { IsInRange 1 53 result }
+        ensures agrees { AgreesOnDate (agrees state.new self.now) (facts self.now) }
+        ensures kept { keeps state.old state.new }
+    {
+        let date = self.supplied_date(state);
+        state.kept_iso_week(date)
+    }
+
+    /// The week of the year, 0 to 53, where week 1 begins on the first Monday.
+    #[inline(always)]
+    final fn monday_based_week(&self, state: &mut Self::State) -> MondayBasedWeek
+        requires supplied { IsTrue SUPPLIES_DATE }
+        requires agrees { agrees state.old self.now }
+        ensures value { result ≡ (the_date (facts self.now)).monday_based_week }
+        ensures range { result ≤ 53 }
+        ensures agrees { AgreesOnDate (agrees state.new self.now) (facts self.now) }
+        ensures kept { keeps state.old state.new }
+    {
+        ru8::within(self.supplied_date(state).monday_based_week())
+    }
+
+    /// The week of the year, 0 to 53, where week 1 begins on the first Sunday.
+    #[inline(always)]
+    final fn sunday_based_week(&self, state: &mut Self::State) -> SundayBasedWeek
+        requires supplied { IsTrue SUPPLIES_DATE }
+        requires agrees { agrees state.old self.now }
+        ensures value { result ≡ (the_date (facts self.now)).sunday_based_week }
+        ensures range { result ≤ 53 }
+        ensures agrees { AgreesOnDate (agrees state.new self.now) (facts self.now) }
+        ensures kept { keeps state.old state.new }
+    {
+        ru8::within(self.supplied_date(state).sunday_based_week())
+    }
+
+    /// The year, -999,999 to 999,999.
+    #[inline(always)]
+    final fn calendar_year(&self, state: &mut Self::State) -> Year
+        requires supplied { IsTrue SUPPLIES_DATE }
+        requires agrees { agrees state.old self.now }
+        ensures value { result ≡ (the_date (facts self.now)).year }
+        ensures range { unsigned_abs result ≤ 999_999 }
+        ensures agrees { AgreesOnDate (agrees state.new self.now) (facts self.now) }
+        ensures kept { keeps state.old state.new }
+    {
+        ri32::within(self.supplied_date(state).year())
+    }
+
+    /// The year of the week calendar, -999,999 to 999,999.
+    #[inline(always)]
+    final fn iso_year(&self, state: &mut Self::State) -> Year
+        requires supplied { IsTrue SUPPLIES_DATE }
+        requires agrees { agrees state.old self.now }
+        ensures value { result ≡ (the_date (facts self.now)).iso_year }
+        ensures range { unsigned_abs result ≤ 999_999 }
+        ensures agrees { AgreesOnDate (agrees state.new self.now) (facts self.now) }
+        ensures kept { keeps state.old state.new }
+    {
+        let date = self.supplied_date(state);
+        state.kept_iso_year(date)
+    }
+
+    /// The hour of the day, 0 to 23.
+    #[inline(always)]
+    final fn hour(&self, state: &mut Self::State) -> Hours
+        requires supplied { IsTrue SUPPLIES_TIME }
+        requires agrees { agrees state.old self.now }
+        ensures value { result ≡ (the_time (facts self.now)).hour }
+        ensures range { result ≤ 23 }
+        ensures agrees { AgreesOnTime (agrees state.new self.now) (facts self.now) }
+        ensures kept { keeps state.old state.new }
+    {
+        ru8::within(self.supplied_time(state).as_hms_nano().0)
+    }
+
+    /// The minute of the hour, 0 to 59.
+    #[inline(always)]
+    final fn minute(&self, state: &mut Self::State) -> Minutes
+        requires supplied { IsTrue SUPPLIES_TIME }
+        requires agrees { agrees state.old self.now }
+        ensures value { result ≡ (the_time (facts self.now)).minute }
+        ensures range { result ≤ 59 }
+        ensures agrees { AgreesOnTime (agrees state.new self.now) (facts self.now) }
+        ensures kept { keeps state.old state.new }
+    {
+        ru8::within(self.supplied_time(state).as_hms_nano().1)
+    }
+
+    /// The half of the day: before noon, or from noon on.
+    #[inline(always)]
+    final fn period(&self, state: &mut Self::State) -> Period
+        requires supplied { IsTrue SUPPLIES_TIME }
+        requires agrees { agrees state.old self.now }
+        ensures value { result ≡ period_of (the_time (facts self.now)) }
+        ensures agrees { AgreesOnTime (agrees state.new self.now) (facts self.now) }
+        ensures kept { keeps state.old state.new }
+    {
+        if self.supplied_time(state).as_hms_nano().0 < 12 {
+            Period::Am
+        } else {
+            Period::Pm
+        }
+    }
+
+    /// The second of the minute, 0 to 59.
+    #[inline(always)]
+    final fn second(&self, state: &mut Self::State) -> Seconds
+        requires supplied { IsTrue SUPPLIES_TIME }
+        requires agrees { agrees state.old self.now }
+        ensures value { result ≡ (the_time (facts self.now)).second }
+        ensures range { result ≤ 59 }
+        ensures agrees { AgreesOnTime (agrees state.new self.now) (facts self.now) }
+        ensures kept { keeps state.old state.new }
+    {
+        ru8::within(self.supplied_time(state).as_hms_nano().2)
+    }
+
     /// Whether some part of the offset is below zero.
-    fn offset_is_negative(&self, state: &mut Self::State) -> bool
+    #[inline(always)]
+    final fn offset_is_negative(&self, state: &mut Self::State) -> bool
         requires supplied { IsTrue SUPPLIES_OFFSET }
         requires agrees { agrees state.old self.now }
         ensures value { result ≡ is_negative (the_offset (facts self.now)) }
         ensures agrees { AgreesOnOffset (agrees state.new self.now) (facts self.now) }
-        ensures kept { keeps state.old state.new };
+        ensures kept { keeps state.old state.new }
+    {
+        self.supplied_offset().is_negative()
+    }
 
     /// Whether all parts of the offset are zero.
-    fn offset_is_utc(&self, state: &mut Self::State) -> bool
+    #[inline(always)]
+    final fn offset_is_utc(&self, state: &mut Self::State) -> bool
         requires supplied { IsTrue SUPPLIES_OFFSET }
         requires agrees { agrees state.old self.now }
         ensures value { result ≡ is_utc (the_offset (facts self.now)) }
         ensures agrees { AgreesOnOffset (agrees state.new self.now) (facts self.now) }
-        ensures kept { keeps state.old state.new };
+        ensures kept { keeps state.old state.new }
+    {
+        self.supplied_offset().is_utc()
+    }
 
     /// The hour of the offset from UTC, -25 to 25.
-    fn offset_hour(&self, state: &mut Self::State) -> OffsetHours
+    #[inline(always)]
+    final fn offset_hour(&self, state: &mut Self::State) -> OffsetHours
         requires supplied { IsTrue SUPPLIES_OFFSET }
         requires agrees { agrees state.old self.now }
         ensures value { result ≡ (the_offset (facts self.now)).hours }
         ensures range { unsigned_abs result ≤ 25 }
         ensures agrees { AgreesOnOffset (agrees state.new self.now) (facts self.now) }
-        ensures kept { keeps state.old state.new };
+        ensures kept { keeps state.old state.new }
+    {
+        ri8::within(self.supplied_offset().as_hms().0)
+    }
 
     /// The minute of the offset from UTC, -59 to 59.
-    fn offset_minute(&self, state: &mut Self::State) -> OffsetMinutes
+    #[inline(always)]
+    final fn offset_minute(&self, state: &mut Self::State) -> OffsetMinutes
         requires supplied { IsTrue SUPPLIES_OFFSET }
         requires agrees { agrees state.old self.now }
         ensures value { result ≡ (the_offset (facts self.now)).minutes }
         ensures range { unsigned_abs result ≤ 59 }
         ensures agrees { AgreesOnOffset (agrees state.new self.now) (facts self.now) }
-        ensures kept { keeps state.old state.new };
+        ensures kept { keeps state.old state.new }
+    {
+        ri8::within(self.supplied_offset().as_hms().1)
+    }
 
     /// The second of the offset from UTC, -59 to 59.
-    fn offset_second(&self, state: &mut Self::State) -> OffsetSeconds
+    #[inline(always)]
+    final fn offset_second(&self, state: &mut Self::State) -> OffsetSeconds
         requires supplied { IsTrue SUPPLIES_OFFSET }
         requires agrees { agrees state.old self.now }
         ensures value { result ≡ (the_offset (facts self.now)).seconds }
         ensures range { unsigned_abs result ≤ 59 }
         ensures agrees { AgreesOnOffset (agrees state.new self.now) (facts self.now) }
-        ensures kept { keeps state.old state.new };
+        ensures kept { keeps state.old state.new }
+    {
+        ri8::within(self.supplied_offset().as_hms().2)
+    }
 
     /// The seconds since 1970-01-01T00:00:00 UTC, rounded down, at most 14 digits.
-    fn unix_timestamp_seconds(&self, state: &mut Self::State) -> i64
+    #[inline(always)]
+    final fn unix_timestamp_seconds(&self, state: &mut Self::State) -> i64
         requires supplied { IsTrue SUPPLIES_TIMESTAMP }
         requires agrees { agrees state.old self.now }
         ensures value { result ≡ (the_moment (facts self.now)).seconds }
         ensures range { unsigned_abs result < 100_000_000_000_000 }
         ensures agrees { AgreesOnMoment (agrees state.new self.now) (facts self.now) }
-        ensures kept { keeps state.old state.new };
+        ensures kept { keeps state.old state.new }
+    {
+        self.supplied_moment().0
+    }
 
     /// The milliseconds since 1970-01-01T00:00:00 UTC, rounded toward zero, at most 17 digits.
-    fn unix_timestamp_milliseconds(&self, state: &mut Self::State) -> i64
+    #[inline(always)]
+    final fn unix_timestamp_milliseconds(&self, state: &mut Self::State) -> i64
         requires supplied { IsTrue SUPPLIES_TIMESTAMP }
         requires agrees { agrees state.old self.now }
         ensures value { result ≡ milliseconds (the_moment (facts self.now)) }
         ensures range { unsigned_abs result < 100_000_000_000_000_000 }
         ensures agrees { AgreesOnMoment (agrees state.new self.now) (facts self.now) }
-        ensures kept { keeps state.old state.new };
+        ensures kept { keeps state.old state.new }
+    {
+        let (seconds, nanosecond) = self.supplied_moment();
+        moment::milliseconds(seconds, nanosecond)
+    }
 
     // The groups that are there are those that the constants name.
     ghost supplies_date: { (value : Self) → is_some (facts value).date ≡ SUPPLIES_DATE };

@@ -6,6 +6,7 @@ ghost use Rattle.time_below.specs.Facts.{date_facts};
 ghost use Rattle.time_below.specs.Month.{month_number};
 ghost use Rattle.time_provide.specs.Agreement.{Agrees, Keeps};
 
+use crate::kept::Kept;
 use crate::ranges::{Day, IsoWeekNumber, Year};
 use time_below::{Date, Month};
 use time_digits::{ri32, ru8};
@@ -108,5 +109,27 @@ impl DateState {
         self.iso_year = Some(year);
         self.iso_week = Some(week);
         (year, week)
+    }
+}
+
+impl Kept for DateState {
+    ghost holds = { Agrees };
+
+    ghost grows = { λ old new date. Agrees new date × Keeps old new };
+
+    fn kept_day(&mut self, date: Date) -> Day {
+        self.day(date)
+    }
+
+    fn kept_month(&mut self, date: Date) -> Month {
+        self.month(date)
+    }
+
+    fn kept_iso_week(&mut self, date: Date) -> IsoWeekNumber {
+        self.iso_week(date)
+    }
+
+    fn kept_iso_year(&mut self, date: Date) -> Year {
+        self.iso_year(date)
     }
 }

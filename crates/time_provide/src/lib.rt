@@ -5,6 +5,7 @@
 
 pub mod component_provider;
 mod date_state;
+mod kept;
 pub mod laws;
 mod providers;
 pub mod ranges;
@@ -12,4 +13,5 @@ mod timestamp_state;
 
 pub use component_provider::ComponentProvider;
 pub use date_state::DateState;
+pub use kept::Kept;
 pub use timestamp_state::TimestampState;

@@ -1,8 +1,553 @@
-//! The values that supply components, a file for each type.
-mod date;
-mod offset_date_time;
-mod plain_date_time;
-mod time;
-mod timestamp;
-mod utc_date_time;
-mod utc_offset;
+//! The values that supply components, by their groups.
+ghost use Rattle.std.proofs.Common.{rules};
+ghost use Rattle.std.specs.Prelude.{◌≡◌, refl, true, false, pos};
+ghost use Rattle.time_below.specs.Facts.{date_facts, facts_of_date, facts_of_time, facts_of_plain_date_time, facts_of_offset, facts_of_utc_date_time, facts_of_offset_date_time, facts_of_timestamp};
+ghost use Rattle.time_below.specs.Offset.{utc};
+ghost use Rattle.time_provide.specs.Agreement.{Agrees, AgreesWithMoment, Keeps, KeepsOfMoment};
+ghost use Rattle.time_provide.specs.Real.{midnight};
+ghost use Rattle.time_provide.specs.Kept.{keeps_on, keeps_itself, moment_keeps_on, moment_keeps_itself};
+
+use crate::component_provider::ComponentProvider;
+use crate::date_state::DateState;
+use crate::ranges::Nanoseconds;
+use crate::timestamp_state::TimestampState;
+use time_below::{Date, OffsetDateTime, PlainDateTime, Time, Timestamp, UtcDateTime, UtcOffset};
+use time_digits::ru32;
+
+// No caller may ask for a group that is not supplied: the answer is a constant.
+fn no_date() -> Date
+    ensures { result ≡ record { year = pos 0; ordinal = 1 } }
+{
+    match Date::from_ordinal_date(0, 1) {
+        Ok(date) => date,
+        Err(_) => unreachable!(),
+    }
+}
+
+fn no_time() -> Time
+    ensures { result ≡ midnight }
+{
+    match Time::from_hms_nano(0, 0, 0, 0) {
+        Ok(time) => time,
+        Err(_) => unreachable!(),
+    }
+}
+
+// The offset of UTC itself.
+fn no_offset() -> UtcOffset
+    ensures { result ≡ utc }
+{
+    match UtcOffset::from_hms(0, 0, 0) {
+        Ok(offset) => offset,
+        Err(_) => unreachable!(),
+    }
+}
+
+/// A date keeps its costly components.
+impl ComponentProvider for Date {
+    type State = DateState;
+
+    ghost facts = { facts_of_date };
+
+    ghost agrees = { λ state date. Agrees state (date_facts date) };
+
+    ghost keeps = { Keeps };
+
+    ghost SUPPLIES_DATE = { true };
+
+    const SUPPLIES_DATE: bool = true;
+
+    ghost SUPPLIES_TIME = { false };
+
+    const SUPPLIES_TIME: bool = false;
+
+    ghost SUPPLIES_OFFSET = { false };
+
+    const SUPPLIES_OFFSET: bool = false;
+
+    ghost SUPPLIES_TIMESTAMP = { false };
+
+    const SUPPLIES_TIMESTAMP: bool = false;
+
+    fn supplied_date(&self, _state: &mut DateState) -> Date {
+        let _in_range = (*self).ordinal();
+        *self
+    }
+
+    fn supplied_time(&self, state: &mut DateState) -> Time
+        ensures value { result ≡ midnight }
+        ensures kept { state.new ≡ state.old }
+    {
+        no_time()
+    }
+
+    fn nanosecond(&self, state: &mut DateState) -> Nanoseconds
+        ensures value { result ≡ 0 }
+        ensures kept { state.new ≡ state.old }
+    {
+        ru32::new(0).unwrap()
+    }
+
+    fn supplied_offset(&self) -> UtcOffset
+        ensures { result ≡ utc }
+    {
+        no_offset()
+    }
+
+    fn supplied_moment(&self) -> (i64, u32)
+        ensures seconds { result.0 ≡ pos 0 }
+        ensures nanosecond { result.1 ≡ 0 }
+    {
+        (0, 0)
+    }
+
+    ghost supplies_date = { λ value. refl };
+
+    ghost supplies_time = { λ value. refl };
+
+    ghost supplies_offset = { λ value. refl };
+
+    ghost supplies_timestamp = { λ value. refl };
+
+    ghost held = { λ state value supplied h. h };
+
+    ghost grown = { λ old new value supplied h g. g.0 };
+
+    ghost keeps_grown = { λ before old new value k g. keeps_on k g.1 };
+
+    ghost keeps_same = { keeps_itself };
+
+    ghost fresh = { λ state value is_fresh. Prim.search rules };
+}
+
+/// A time of day keeps nothing.
+impl ComponentProvider for Time {
+    type State = ();
+
+    ghost facts = { facts_of_time };
+
+    ghost agrees = { λ _ _. Unit {0} };
+
+    ghost keeps = { λ _ _. Unit {0} };
+
+    ghost SUPPLIES_DATE = { false };
+
+    const SUPPLIES_DATE: bool = false;
+
+    ghost SUPPLIES_TIME = { true };
+
+    const SUPPLIES_TIME: bool = true;
+
+    ghost SUPPLIES_OFFSET = { false };
+
+    const SUPPLIES_OFFSET: bool = false;
+
+    ghost SUPPLIES_TIMESTAMP = { false };
+
+    const SUPPLIES_TIMESTAMP: bool = false;
+
+    fn supplied_date(&self, _state: &mut ()) -> Date
+        ensures { result ≡ record { year = pos 0; ordinal = 1 } }
+    {
+        no_date()
+    }
+
+    fn supplied_time(&self, _state: &mut ()) -> Time {
+        let _in_range = (*self).as_hms_nano();
+        *self
+    }
+
+    fn nanosecond(&self, _state: &mut ()) -> Nanoseconds {
+        ru32::within(self.as_hms_nano().3)
+    }
+
+    fn supplied_offset(&self) -> UtcOffset
+        ensures { result ≡ utc }
+    {
+        no_offset()
+    }
+
+    fn supplied_moment(&self) -> (i64, u32)
+        ensures seconds { result.0 ≡ pos 0 }
+        ensures nanosecond { result.1 ≡ 0 }
+    {
+        (0, 0)
+    }
+
+    ghost supplies_date = { λ value. refl };
+
+    ghost supplies_time = { λ value. refl };
+
+    ghost supplies_offset = { λ value. refl };
+
+    ghost supplies_timestamp = { λ value. refl };
+
+    ghost held = { λ state value supplied h. tt };
+
+    ghost grown = { λ old new value supplied h g. tt };
+
+    ghost keeps_grown = { λ before old new value k g. tt };
+
+    ghost keeps_same = { λ state. tt };
+
+    ghost fresh = { λ state value is_fresh. tt };
+}
+
+/// An offset keeps nothing.
+impl ComponentProvider for UtcOffset {
+    type State = ();
+
+    ghost facts = { facts_of_offset };
+
+    ghost agrees = { λ _ _. Unit {0} };
+
+    ghost keeps = { λ _ _. Unit {0} };
+
+    ghost SUPPLIES_DATE = { false };
+
+    const SUPPLIES_DATE: bool = false;
+
+    ghost SUPPLIES_TIME = { false };
+
+    const SUPPLIES_TIME: bool = false;
+
+    ghost SUPPLIES_OFFSET = { true };
+
+    const SUPPLIES_OFFSET: bool = true;
+
+    ghost SUPPLIES_TIMESTAMP = { false };
+
+    const SUPPLIES_TIMESTAMP: bool = false;
+
+    fn supplied_date(&self, _state: &mut ()) -> Date
+        ensures { result ≡ record { year = pos 0; ordinal = 1 } }
+    {
+        no_date()
+    }
+
+    fn supplied_time(&self, _state: &mut ()) -> Time
+        ensures { result ≡ midnight }
+    {
+        no_time()
+    }
+
+    fn nanosecond(&self, _state: &mut ()) -> Nanoseconds
+        ensures { result ≡ 0 }
+    {
+        ru32::new(0).unwrap()
+    }
+
+    fn supplied_offset(&self) -> UtcOffset {
+        let _in_range = (*self).as_hms();
+        *self
+    }
+
+    fn supplied_moment(&self) -> (i64, u32)
+        ensures seconds { result.0 ≡ pos 0 }
+        ensures nanosecond { result.1 ≡ 0 }
+    {
+        (0, 0)
+    }
+
+    ghost supplies_date = { λ value. refl };
+
+    ghost supplies_time = { λ value. refl };
+
+    ghost supplies_offset = { λ value. refl };
+
+    ghost supplies_timestamp = { λ value. refl };
+
+    ghost held = { λ state value supplied h. tt };
+
+    ghost grown = { λ old new value supplied h g. tt };
+
+    ghost keeps_grown = { λ before old new value k g. tt };
+
+    ghost keeps_same = { λ state. tt };
+
+    ghost fresh = { λ state value is_fresh. tt };
+}
+
+/// A date with a time of day keeps what its date keeps.
+impl ComponentProvider for PlainDateTime {
+    type State = DateState;
+
+    ghost facts = { facts_of_plain_date_time };
+
+    ghost agrees = { λ state value. Agrees state (date_facts value.date) };
+
+    ghost keeps = { Keeps };
+
+    ghost SUPPLIES_DATE = { true };
+
+    const SUPPLIES_DATE: bool = true;
+
+    ghost SUPPLIES_TIME = { true };
+
+    const SUPPLIES_TIME: bool = true;
+
+    ghost SUPPLIES_OFFSET = { false };
+
+    const SUPPLIES_OFFSET: bool = false;
+
+    ghost SUPPLIES_TIMESTAMP = { false };
+
+    const SUPPLIES_TIMESTAMP: bool = false;
+
+    fn supplied_date(&self, _state: &mut DateState) -> Date {
+        let date = self.date();
+        let _in_range = date.ordinal();
+        date
+    }
+
+    fn supplied_time(&self, _state: &mut DateState) -> Time {
+        let time = self.time();
+        let _in_range = time.as_hms_nano();
+        time
+    }
+
+    fn nanosecond(&self, _state: &mut DateState) -> Nanoseconds {
+        ru32::within(self.time().as_hms_nano().3)
+    }
+
+    fn supplied_offset(&self) -> UtcOffset
+        ensures { result ≡ utc }
+    {
+        no_offset()
+    }
+
+    fn supplied_moment(&self) -> (i64, u32)
+        ensures seconds { result.0 ≡ pos 0 }
+        ensures nanosecond { result.1 ≡ 0 }
+    {
+        (0, 0)
+    }
+
+    ghost supplies_date = { λ value. refl };
+
+    ghost supplies_time = { λ value. refl };
+
+    ghost supplies_offset = { λ value. refl };
+
+    ghost supplies_timestamp = { λ value. refl };
+
+    ghost held = { λ state value supplied h. h };
+
+    ghost grown = { λ old new value supplied h g. g.0 };
+
+    ghost keeps_grown = { λ before old new value k g. keeps_on k g.1 };
+
+    ghost keeps_same = { keeps_itself };
+
+    ghost fresh = { λ state value is_fresh. Prim.search rules };
+}
+
+/// A date and a time in UTC supply all groups.
+impl ComponentProvider for UtcDateTime {
+    type State = DateState;
+
+    ghost facts = { facts_of_utc_date_time };
+
+    ghost agrees = { λ state value. Agrees state (date_facts value.date) };
+
+    ghost keeps = { Keeps };
+
+    ghost SUPPLIES_DATE = { true };
+
+    const SUPPLIES_DATE: bool = true;
+
+    ghost SUPPLIES_TIME = { true };
+
+    const SUPPLIES_TIME: bool = true;
+
+    ghost SUPPLIES_OFFSET = { true };
+
+    const SUPPLIES_OFFSET: bool = true;
+
+    ghost SUPPLIES_TIMESTAMP = { true };
+
+    const SUPPLIES_TIMESTAMP: bool = true;
+
+    fn supplied_date(&self, _state: &mut DateState) -> Date {
+        let date = self.date();
+        let _in_range = date.ordinal();
+        date
+    }
+
+    fn supplied_time(&self, _state: &mut DateState) -> Time {
+        let time = self.time();
+        let _in_range = time.as_hms_nano();
+        time
+    }
+
+    fn nanosecond(&self, _state: &mut DateState) -> Nanoseconds {
+        ru32::within(self.time().as_hms_nano().3)
+    }
+
+    fn supplied_offset(&self) -> UtcOffset {
+        no_offset()
+    }
+
+    fn supplied_moment(&self) -> (i64, u32) {
+        (self.unix_timestamp(), self.time().as_hms_nano().3)
+    }
+
+    ghost supplies_date = { λ value. refl };
+
+    ghost supplies_time = { λ value. refl };
+
+    ghost supplies_offset = { λ value. refl };
+
+    ghost supplies_timestamp = { λ value. refl };
+
+    ghost held = { λ state value supplied h. h };
+
+    ghost grown = { λ old new value supplied h g. g.0 };
+
+    ghost keeps_grown = { λ before old new value k g. keeps_on k g.1 };
+
+    ghost keeps_same = { keeps_itself };
+
+    ghost fresh = { λ state value is_fresh. Prim.search rules };
+}
+
+/// A local date and time with their offset supply all groups.
+impl ComponentProvider for OffsetDateTime {
+    type State = DateState;
+
+    ghost facts = { facts_of_offset_date_time };
+
+    ghost agrees = { λ state value. Agrees state (date_facts value.date) };
+
+    ghost keeps = { Keeps };
+
+    ghost SUPPLIES_DATE = { true };
+
+    const SUPPLIES_DATE: bool = true;
+
+    ghost SUPPLIES_TIME = { true };
+
+    const SUPPLIES_TIME: bool = true;
+
+    ghost SUPPLIES_OFFSET = { true };
+
+    const SUPPLIES_OFFSET: bool = true;
+
+    ghost SUPPLIES_TIMESTAMP = { true };
+
+    const SUPPLIES_TIMESTAMP: bool = true;
+
+    fn supplied_date(&self, _state: &mut DateState) -> Date {
+        let date = self.date();
+        let _in_range = date.ordinal();
+        date
+    }
+
+    fn supplied_time(&self, _state: &mut DateState) -> Time {
+        let time = self.time();
+        let _in_range = time.as_hms_nano();
+        time
+    }
+
+    fn nanosecond(&self, _state: &mut DateState) -> Nanoseconds {
+        ru32::within(self.time().as_hms_nano().3)
+    }
+
+    fn supplied_offset(&self) -> UtcOffset {
+        let offset = self.offset();
+        let _in_range = offset.as_hms();
+        offset
+    }
+
+    fn supplied_moment(&self) -> (i64, u32) {
+        (self.unix_timestamp(), self.time().as_hms_nano().3)
+    }
+
+    ghost supplies_date = { λ value. refl };
+
+    ghost supplies_time = { λ value. refl };
+
+    ghost supplies_offset = { λ value. refl };
+
+    ghost supplies_timestamp = { λ value. refl };
+
+    ghost held = { λ state value supplied h. h };
+
+    ghost grown = { λ old new value supplied h g. g.0 };
+
+    ghost keeps_grown = { λ before old new value k g. keeps_on k g.1 };
+
+    ghost keeps_same = { keeps_itself };
+
+    ghost fresh = { λ state value is_fresh. Prim.search rules };
+}
+
+/// A moment supplies all groups in UTC, and keeps its date and its time.
+impl ComponentProvider for Timestamp {
+    type State = TimestampState;
+
+    ghost facts = { facts_of_timestamp };
+
+    ghost agrees = { AgreesWithMoment };
+
+    ghost keeps = { KeepsOfMoment };
+
+    ghost SUPPLIES_DATE = { true };
+
+    const SUPPLIES_DATE: bool = true;
+
+    ghost SUPPLIES_TIME = { true };
+
+    const SUPPLIES_TIME: bool = true;
+
+    ghost SUPPLIES_OFFSET = { true };
+
+    const SUPPLIES_OFFSET: bool = true;
+
+    ghost SUPPLIES_TIMESTAMP = { true };
+
+    const SUPPLIES_TIMESTAMP: bool = true;
+
+    fn supplied_date(&self, state: &mut TimestampState) -> Date {
+        let date = state.date(*self);
+        let _in_range = date.ordinal();
+        date
+    }
+
+    fn supplied_time(&self, state: &mut TimestampState) -> Time {
+        let time = state.time(*self);
+        let _in_range = time.as_hms_nano();
+        time
+    }
+
+    fn nanosecond(&self, _state: &mut TimestampState) -> Nanoseconds {
+        ru32::within(self.as_parts().1)
+    }
+
+    fn supplied_offset(&self) -> UtcOffset {
+        no_offset()
+    }
+
+    fn supplied_moment(&self) -> (i64, u32) {
+        let _in_range = self.as_seconds();
+        self.as_parts()
+    }
+
+    ghost supplies_date = { λ value. refl };
+
+    ghost supplies_time = { λ value. refl };
+
+    ghost supplies_offset = { λ value. refl };
+
+    ghost supplies_timestamp = { λ value. refl };
+
+    ghost held = { λ state value supplied h. h.date_state };
+
+    ghost grown = { λ old new value supplied h g. Prim.search rules };
+
+    ghost keeps_grown = { λ before old new value k g. moment_keeps_on k g.0 g.2 };
+
+    ghost keeps_same = { moment_keeps_itself };
+
+    ghost fresh = { λ state value is_fresh. Prim.search rules };
+}

@@ -1,10 +1,12 @@
 //! What the methods of a moment computed before.
 ghost use Rattle.std.specs.Prelude.{◌≡◌};
 ghost use Rattle.time_below.specs.Moment.{utc_date, utc_time};
-ghost use Rattle.time_provide.specs.Agreement.{AgreesWithMoment, KeepsOfMoment};
+ghost use Rattle.time_provide.specs.Agreement.{Agrees, AgreesWithMoment, Keeps, KeepsOfMoment};
 
 use crate::date_state::DateState;
-use time_below::{Date, Time, Timestamp};
+use crate::kept::Kept;
+use crate::ranges::{Day, IsoWeekNumber, Year};
+use time_below::{Date, Month, Time, Timestamp};
 
 /// The date and the time of a moment in UTC, each perhaps absent, and what that date keeps.
 #[derive(Debug, Default, Drop)]
@@ -45,5 +47,28 @@ impl TimestampState {
         let time = moment.time();
         self.time = Some(time);
         time
+    }
+}
+
+impl Kept for TimestampState {
+    ghost holds = { λ state date. Agrees state.date_state date };
+
+    ghost grows = { λ old new date. (new ≡ record old { date_state = new.date_state })
+        × Agrees new.date_state date × Keeps old.date_state new.date_state };
+
+    fn kept_day(&mut self, date: Date) -> Day {
+        self.date_state.day(date)
+    }
+
+    fn kept_month(&mut self, date: Date) -> Month {
+        self.date_state.month(date)
+    }
+
+    fn kept_iso_week(&mut self, date: Date) -> IsoWeekNumber {
+        self.date_state.iso_week(date)
+    }
+
+    fn kept_iso_year(&mut self, date: Date) -> Year {
+        self.date_state.iso_year(date)
     }
 }

@@ -3,7 +3,7 @@
 #![tactic(auto)]
 
 #[cfg(test)]
-mod front_page;
+mod recipes;
 #[cfg(test)]
 mod rows;
 #[cfg(test)]

@@ -12,8 +12,9 @@ use time_below::format_description::modifier::{Day, MonthNumerical, Padding};
 use time_below::format_description::{BorrowedFormatItem, Component};
 use time_below::{Date, Month, OffsetDateTime, Time, UtcOffset};
 use time_describe::{InvalidDescription, InvalidStrftime, parse_owned, parse_strftime_owned};
-use time_fmt::{BorrowedItems, Format, Formattable};
+use time_fmt::{BorrowedItems, Format, Formattable, parts};
 use time_known::Rfc3339;
+use time_plan::Plan;
 use time_provide::DateState;
 
 /// The text of the example by RFC 3339, of 25 bytes.
@@ -24,6 +25,15 @@ const BRACKETS: &[u8] = b"[year]-[first [[optional [[month repr:short]]]] [x]]\\
 
 /// A description with a conversion that is several.
 const PATTERN: &[u8] = b"%F at %H:%M";
+
+/// A list whose plan has more steps than are reserved at first, and a literal of two bytes.
+const PLANNED: [BorrowedFormatItem<'_>; 5] = [
+    BorrowedFormatItem::Component(Component::Day(parts::DAY)),
+    BorrowedFormatItem::Component(Component::MonthNumerical(parts::MONTH)),
+    BorrowedFormatItem::Component(Component::Hour24(parts::HOUR)),
+    BorrowedFormatItem::StringLiteral(", "),
+    BorrowedFormatItem::Component(Component::CalendarYearFullExtendedRange(parts::YEAR)),
+];
 
 /// What came of a call.
 #[derive(Clone, Copy, PartialEq, Eq)]
@@ -132,32 +142,52 @@ fn format_text<D: Formattable>(
     }
 }
 
-/// Formats by a description in brackets, which is read once more after a failed allocation.
-fn read_brackets(alloc: Global, value: &OffsetDateTime) -> Came {
-    match parse_owned(alloc, BRACKETS) {
-        Ok(description) => return format_text(alloc, &description, value, "1997-Nov[12]"),
-        Err(InvalidDescription::OutOfMemory) => {}
-        Err(InvalidDescription::Invalid { .. }) => return Came::Wrong,
+/// Formats by a description that is made, and made once more after a failed allocation. An error says
+/// whether that was its reason.
+fn format_made<D: Formattable + Drop, F: Fn() -> Result<D, bool>>(
+    alloc: Global,
+    make: F,
+    value: &OffsetDateTime,
+    text: &str,
+) -> Came
+    requires { F.IsAlwaysCallable make }
+{
+    match make() {
+        Ok(description) => return format_text(alloc, &description, value, text),
+        Err(true) => {}
+        Err(false) => return Came::Wrong,
     }
-    match parse_owned(alloc, BRACKETS) {
-        Ok(description) => format_text(alloc, &description, value, "1997-Nov[12]").after_refusal(),
+    match make() {
+        Ok(description) => format_text(alloc, &description, value, text).after_refusal(),
         Err(_) => Came::Wrong,
     }
 }
 
-/// The same of a description in the syntax of strftime.
-fn read_pattern(alloc: Global, value: &OffsetDateTime) -> Came {
-    match parse_strftime_owned(alloc, PATTERN) {
-        Ok(description) => return format_text(alloc, &description, value, "1997-11-12 at 09:55"),
-        Err(InvalidStrftime::OutOfMemory) => {}
-        Err(InvalidStrftime::Invalid { .. }) => return Came::Wrong,
-    }
-    match parse_strftime_owned(alloc, PATTERN) {
-        Ok(description) => {
-            format_text(alloc, &description, value, "1997-11-12 at 09:55").after_refusal()
-        }
-        Err(_) => Came::Wrong,
-    }
+/// Whether a text in brackets was refused for an allocation that failed.
+fn is_out_of_memory(error: InvalidDescription) -> bool {
+    matches!(error, InvalidDescription::OutOfMemory)
+}
+
+/// The same of a text in the syntax of strftime.
+fn is_strftime_out_of_memory(error: InvalidStrftime) -> bool {
+    matches!(error, InvalidStrftime::OutOfMemory)
+}
+
+/// Formats by what is read of a text, as a tree and as a plan, and prints what came of each.
+fn print_read(rt: &HostRuntime, value: &OffsetDateTime) -> io::Result<()> {
+    let alloc = rt.alloc();
+    let tree = || parse_owned(alloc, BRACKETS).map_err(is_out_of_memory);
+    let came = format_made(alloc, tree, value, "1997-Nov[12]");
+    print_came(rt, "a description in brackets", came)?;
+    let pattern = || parse_strftime_owned(alloc, PATTERN).map_err(is_strftime_out_of_memory);
+    let came = format_made(alloc, pattern, value, "1997-11-12 at 09:55");
+    print_came(rt, "a description of strftime", came)?;
+    let plan = || Plan::parse(alloc, BRACKETS).map_err(is_out_of_memory);
+    let came = format_made(alloc, plan, value, "1997-Nov[12]");
+    print_came(rt, "the plan of a text in brackets", came)?;
+    let plan = || Plan::parse_strftime(alloc, PATTERN).map_err(is_strftime_out_of_memory);
+    let came = format_made(alloc, plan, value, "1997-11-12 at 09:55");
+    print_came(rt, "the plan of a text of strftime", came)
 }
 
 /// Writes what came of a call.
@@ -192,14 +222,8 @@ fn main(rt: HostRuntime) -> io::Result<()> {
     print_came(&rt, "the text of a byte that is none", came)?;
     let came = format_text(alloc, &nothing, &value, "");
     print_came(&rt, "the text of an empty list", came)?;
-    print_came(
-        &rt,
-        "a description in brackets",
-        read_brackets(alloc, &value),
-    )?;
-    print_came(
-        &rt,
-        "a description of strftime",
-        read_pattern(alloc, &value),
-    )
+    let plan = || Plan::of_items(alloc, &PLANNED).map_err(|_| true);
+    let came = format_made(alloc, plan, &value, "121109, 1997");
+    print_came(&rt, "the plan of a list", came)?;
+    print_read(&rt, &value)
 }

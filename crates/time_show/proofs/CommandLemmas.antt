@@ -8,12 +8,13 @@ use Rattle.std.proofs.lemmas.List.Splits.{slice_split_first}
 use Rattle.std.proofs.lemmas.List.Sums.{passes_at_first}
 use Rattle.std.proofs.lemmas.Slice.Eq.{bytes_eq-Decides}
 use Rattle.std.specs.List.{position_or_len}
-use Rattle.std.specs.Prelude.{option_and_then, bytes_eq, codes}
+use Rattle.std.specs.Prelude.{bytes_eq, codes}
 use Rattle.time_show.specs.declared.value.DateNumbers.{DateNumbers}
 use Rattle.time_show.specs.declared.value.OffsetNumbers.{OffsetNumbers}
 use Rattle.time_show.specs.declared.value.TimeNumbers.{TimeNumbers}
 use Rattle.time_show.specs.Command.{onto_date, onto_time, onto_offset, time_numbers, date_time_numbers, utc_numbers}
-use Rattle.time_show.specs.Command.{named, with_numbers, command_of_fields}
+use Rattle.time_show.specs.Asked.{no_command, asked_after, asked_of_fields}
+use Rattle.time_show.specs.Command.{named}
 use Rattle.time_show.specs.declared.command.Name.{Name}
 use Rattle.time_show.specs.declared.command.Name.TheVariants as name
 use Rattle.time_show.proofs.FieldsLemmas.{is_space, parts-none}
@@ -92,7 +93,7 @@ splits_at_space line i lt here =
     ∙ ap (λ rest. take i line ++ rest) (drop-cons line i 0 lt ∙ rw (is, add-one) refl)
 
 -- a name alone is no command
-name_without_numbers : (found : Option Name) → option_and_then (λ name. with_numbers name (numbers_of [])) found ≡ None
+name_without_numbers : (found : Option Name) → asked_after found (numbers_of []) ≡ no_command
 name_without_numbers None = refl
 name_without_numbers (Some name.Time) = refl
 name_without_numbers (Some name.Rfc3339) = refl
@@ -105,7 +106,7 @@ name_without_numbers (Some name.Stamp) = refl
 pub line_without_name : (line : List ℕ) → ((rest : List ℕ) → line ≢ codes "time " ++ rest)
     → ((rest : List ℕ) → line ≢ codes "rfc3339 " ++ rest) → ((rest : List ℕ) → line ≢ codes "rfc2822 " ++ rest)
     → ((rest : List ℕ) → line ≢ codes "iso " ++ rest) → ((rest : List ℕ) → line ≢ codes "iso-comma " ++ rest)
-    → ((rest : List ℕ) → line ≢ codes "stamp " ++ rest) → command_of_fields (fields_of line) ≡ None
+    → ((rest : List ℕ) → line ≢ codes "stamp " ++ rest) → asked_of_fields (fields_of line) ≡ no_command
 line_without_name line time rfc3339 rfc2822 iso iso_comma stamp =
     let end = position_or_len is_space line in
     let field = take end line in

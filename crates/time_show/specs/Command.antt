@@ -1,8 +1,6 @@
--- The commands, each a name and its numbers.
-use Rattle.std.specs.Prelude.{ℕ, ℤ, Option, Some, None, List, [], ◌∷◌, codes, bytes_eq, option_map, option_and_then}
+-- The numbers of a command, and the names of the commands.
+use Rattle.std.specs.Prelude.{ℕ, ℤ, Option, Some, None, List, [], ◌∷◌, codes, bytes_eq, option_map}
 use Rattle.std.specs.Prelude.{if◌then◌else◌}
-use Rattle.time_show.specs.declared.command.Command.{Command}
-use Rattle.time_show.specs.declared.command.Command.TheVariants.{Time, Rfc3339, Rfc2822, Iso, IsoComma, Stamp}
 use Rattle.time_show.specs.declared.command.Name.{Name}
 use Rattle.time_show.specs.declared.command.Name.TheVariants as name
 use Rattle.time_show.specs.declared.value.DateNumbers.{DateNumbers}
@@ -10,8 +8,6 @@ use Rattle.time_show.specs.declared.value.DateTimeNumbers.{DateTimeNumbers}
 use Rattle.time_show.specs.declared.value.OffsetNumbers.{OffsetNumbers}
 use Rattle.time_show.specs.declared.value.TimeNumbers.{TimeNumbers}
 use Rattle.time_show.specs.declared.value.UtcNumbers.{UtcNumbers}
-use Rattle.time_show.specs.Fields.{fields_of, numbers_of}
-use Rattle.time_show.specs.LineBuffer.{kept_of}
 
 -- `h m s n`
 abbrev pub time_numbers : Option (List ℤ) → Option TimeNumbers
@@ -60,21 +56,3 @@ named field =
     else (if bytes_eq field (codes "iso-comma") then Some name.IsoComma
     else (if bytes_eq field (codes "stamp") then Some name.Stamp
     else None)))))
-
--- a name, with the numbers after it
-abbrev pub with_numbers : Name → Option (List ℤ) → Option Command
-with_numbers name.Time numbers = option_map Time (time_numbers numbers)
-with_numbers name.Rfc3339 numbers = option_map Rfc3339 (date_time_numbers numbers)
-with_numbers name.Rfc2822 numbers = option_map Rfc2822 (date_time_numbers numbers)
-with_numbers name.Iso numbers = option_map Iso (date_time_numbers numbers)
-with_numbers name.IsoComma numbers = option_map IsoComma (date_time_numbers numbers)
-with_numbers name.Stamp numbers = option_map Stamp (utc_numbers numbers)
-
--- a field that names a command, and the fields after it
-abbrev pub command_of_fields : List (List ℕ) → Option Command
-command_of_fields [] = None
-command_of_fields (field ∷ fields) = option_and_then (λ name. with_numbers name (numbers_of fields)) (named field)
-
--- the command of a line that is not too long, if it has one
-abbrev pub command_of : List ℕ → Option Command
-command_of line = option_and_then (λ line. command_of_fields (fields_of line)) (kept_of line)

@@ -1,29 +1,11 @@
-//! The command of a line.
-ghost use Rattle.std.specs.Prelude.{◌≡◌, ◌≢◌, ◌++◌, ℕ, List, MatchOption, None};
-ghost use Rattle.time_show.specs.Command.{command_of, command_of_fields, with_numbers, onto_date, onto_time, onto_offset, time_numbers, date_time_numbers, utc_numbers};
+//! The commands, each a name and its numbers.
+ghost use Rattle.std.specs.Prelude.{◌≡◌, ◌≢◌, ◌++◌, ℕ, List, MatchOption};
+ghost use Rattle.time_show.specs.Asked.{no_command, asked_by, asked_of_fields};
+ghost use Rattle.time_show.specs.Command.{onto_date, onto_time, onto_offset, time_numbers, date_time_numbers, utc_numbers};
 ghost use Rattle.time_show.specs.Fields.{fields_of, numbers_of, Lacks};
 
 use crate::fields::Fields;
-use crate::line_buffer::LINE_LIMIT;
 use crate::value::{DateNumbers, DateTimeNumbers, OffsetNumbers, TimeNumbers, UtcNumbers};
-
-/// A command with its numbers as the line has them, whether or not they are in the ranges of their
-/// parts.
-#[derive(Clone, Copy)]
-pub enum Command {
-    /// A time of day, by the description of the command `time`.
-    Time(TimeNumbers),
-    /// A local date and time with its offset, by RFC 3339.
-    Rfc3339(DateTimeNumbers),
-    /// A local date and time with its offset, by RFC 2822.
-    Rfc2822(DateTimeNumbers),
-    /// A local date and time with its offset, by the default configuration of ISO 8601.
-    Iso(DateTimeNumbers),
-    /// A local date and time with its offset, by ISO 8601 with a comma before the decimals.
-    IsoComma(DateTimeNumbers),
-    /// The stamp of a date and time in UTC.
-    Stamp(UtcNumbers),
-}
 
 /// The name of a command.
 #[derive(Clone, Copy)]
@@ -42,29 +24,11 @@ pub enum Name {
     Stamp,
 }
 
-/// The command that a line is, and nothing for a line that is none.
-pub fn command_in(line: &[u8]) -> Option<Command>
-    ensures { result ≡ command_of line.now }
-{
-    if line.len() > LINE_LIMIT {
-        return None;
-    }
-    let (name, fields) = name_first(line)?;
-    match name {
-        Name::Time => time_numbers(fields).map(Command::Time),
-        Name::Rfc3339 => date_time_numbers(fields).map(Command::Rfc3339),
-        Name::Rfc2822 => date_time_numbers(fields).map(Command::Rfc2822),
-        Name::Iso => date_time_numbers(fields).map(Command::Iso),
-        Name::IsoComma => date_time_numbers(fields).map(Command::IsoComma),
-        Name::Stamp => utc_numbers(fields).map(Command::Stamp),
-    }
-}
-
 /// The name that the line begins with, if a space follows it, and the fields after it.
 #[inline(always)]
-fn name_first(line: &[u8]) -> Option<(Name, Fields<'_>)>
-    ensures { MatchOption result (command_of_fields (fields_of line.now) ≡ None)
-        (λ r. command_of_fields (fields_of line.now) ≡ with_numbers r.0 (numbers_of r.1)) }
+pub fn name_first(line: &[u8]) -> Option<(Name, Fields<'_>)>
+    ensures { MatchOption result (asked_of_fields (fields_of line.now) ≡ no_command)
+        (λ r. asked_of_fields (fields_of line.now) ≡ asked_by r.0 (numbers_of r.1)) }
 {
     if let Some(rest) = after(b"time ", line) {
         Some((Name::Time, Fields::new(rest)))
@@ -89,7 +53,15 @@ fn after<'a, const N: usize>(front: &[u8; N], line: &'a [u8]) -> Option<&'a [u8]
     ensures { MatchOption result ((rest : List ℕ) → line.now ≢ front.now ++ rest)
         (λ rest. line.now ≡ front.now ++ rest.now) }
 {
-    line.strip_prefix(front.as_slice())
+    if line.len() < N {
+        return None;
+    }
+    for i in 0..N {
+        if line[i] != front[i] {
+            return None;
+        }
+    }
+    Some(&line[N..])
 }
 
 /// Takes the numbers of a date.
@@ -99,9 +71,9 @@ fn next_date(fields: &mut Fields<'_>) -> Option<DateNumbers>
         (λ n. numbers_of fields.old ≡ onto_date n (numbers_of fields.new)) }
 {
     Some(DateNumbers {
-        year: fields.next_number()?,
-        month: fields.next_number()?,
-        day: fields.next_number()?,
+        year: fields.next_year()?,
+        month: fields.next_short()?,
+        day: fields.next_short()?,
     })
 }
 
@@ -112,9 +84,9 @@ fn next_time(fields: &mut Fields<'_>) -> Option<TimeNumbers>
         (λ n. numbers_of fields.old ≡ onto_time n (numbers_of fields.new)) }
 {
     Some(TimeNumbers {
-        hour: fields.next_number()?,
-        minute: fields.next_number()?,
-        second: fields.next_number()?,
+        hour: fields.next_short()?,
+        minute: fields.next_short()?,
+        second: fields.next_short()?,
         nanosecond: fields.next_number()?,
     })
 }
@@ -126,14 +98,15 @@ fn next_offset(fields: &mut Fields<'_>) -> Option<OffsetNumbers>
         (λ n. numbers_of fields.old ≡ onto_offset n (numbers_of fields.new)) }
 {
     Some(OffsetNumbers {
-        hours: fields.next_number()?,
-        minutes: fields.next_number()?,
-        seconds: fields.next_number()?,
+        hours: fields.next_signed()?,
+        minutes: fields.next_signed()?,
+        seconds: fields.next_last()?,
     })
 }
 
 /// The numbers of a time of day, where these fields are four numbers.
-fn time_numbers(fields: Fields<'_>) -> Option<TimeNumbers>
+#[inline(always)]
+pub fn time_numbers(fields: Fields<'_>) -> Option<TimeNumbers>
     ensures { result ≡ time_numbers (numbers_of fields.entry) }
 {
     let mut fields = fields;
@@ -158,8 +131,8 @@ pub fn date_time_numbers(fields: Fields<'_>) -> Option<DateTimeNumbers>
 }
 
 /// The numbers of a date and time in UTC, where these fields are seven numbers.
-#[inline(never)]
-fn utc_numbers(fields: Fields<'_>) -> Option<UtcNumbers>
+#[inline(always)]
+pub fn utc_numbers(fields: Fields<'_>) -> Option<UtcNumbers>
     ensures { result ≡ utc_numbers (numbers_of fields.entry) }
 {
     let mut fields = fields;

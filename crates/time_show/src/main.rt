@@ -9,6 +9,7 @@
 mod bytes;
 mod command;
 mod fields;
+mod formats;
 mod laws;
 mod line_buffer;
 mod output;

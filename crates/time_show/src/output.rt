@@ -1,5 +1,5 @@
 //! The answers on their way out: they are assembled in a fixed buffer, and go out together.
-ghost use Rattle.std.specs.Prelude.{◌≡◌, ◌+◌, ◌≤◌, ◌<◌, ℕ, List, [], ◌++◌, ◌∷◌, length, min, take, decimal, OnOk, OnErr};
+ghost use Rattle.std.specs.Prelude.{◌≡◌, ◌+◌, ◌≤◌, ◌<◌, ℕ, List, [], ◌++◌, ◌∷◌, length, min, take, decimal, codes, OnOk, OnErr};
 ghost use Rattle.std.specs.Io.KnownBytes.{Appends};
 ghost use Rattle.time_digits.specs.Digits.{joined};
 ghost use Rattle.time_show.specs.declared.output.TheConstants.{OUTPUT_LIMIT, NUMBER_LIMIT, FRAME_LIMIT};
@@ -208,13 +208,33 @@ impl OutputBuffer {
         requires room { length self.old + length text.now + FRAME_LIMIT ≤ OUTPUT_LIMIT }
         ensures { self.new ≡ self.old ++ ok_text count width text.now }
     {
+        self.push_head(count, width);
+        self.push(text);
+        self.push_byte(b'\n');
+    }
+
+    /// Lets `ok COUNT WIDTH ` wait. Most texts have two digits of each, which go in one piece.
+    #[inline(always)]
+    #[tactic(auto, using(crate::proofs::OutputBufferLemmas::one_after_another))]
+    fn push_head(&mut self, count: usize, width: usize)
+        requires room { length self.old + 45 ≤ OUTPUT_LIMIT }
+        ensures head { self.new ≡ self.old ++ (codes "ok " ++ (decimal count ++ (codes " "
+            ++ (decimal width ++ codes " ")))) }
+        ensures grown { length self.new ≤ length self.old + 45 }
+    {
+        if count <= 99 && width <= 99 {
+            let counted = one_to_two_digits_no_padding(ru8::new(count as u8).unwrap()).as_bytes();
+            let wide = one_to_two_digits_no_padding(ru8::new(width as u8).unwrap()).as_bytes();
+            if let ([a, b], [c, d]) = (counted, wide) {
+                self.push(&[b'o', b'k', b' ', *a, *b, b' ', *c, *d, b' ']);
+                return;
+            }
+        }
         self.push(b"ok ");
         self.push_number(count);
         self.push(b" ");
         self.push_number(width);
         self.push(b" ");
-        self.push(text);
-        self.push(b"\n");
     }
 
     /// Accepts the answer of a formatted value.

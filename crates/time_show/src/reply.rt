@@ -1,24 +1,26 @@
 //! What a line is answered by.
-ghost use Rattle.std.specs.Prelude.{◌≡◌, map, min, Some};
+ghost use Rattle.std.specs.Prelude.{◌≡◌, map, min};
 ghost use Rattle.time_below.specs.Facts.{facts_of_offset_date_time};
 ghost use Rattle.time_below.specs.Tree.{all_of, borrowed_tree, trees};
 ghost use Rattle.time_show.specs.Answer.{IsAnswer, Answers};
-ghost use Rattle.time_show.specs.Asked.{asked_by, asked_value, comma_choices, formatted, time_tree};
+ghost use Rattle.time_known.specs.Config.{default_choices};
+ghost use Rattle.time_show.specs.Asked.{asked_by, asked_numbers, asked_value, formatted, time_tree};
+ghost use Rattle.time_show.specs.Command.{date_time_numbers};
+ghost use Rattle.time_show.specs.Fields.{numbers_of};
 ghost use Rattle.time_show.specs.Reply.{reply_text, error_name};
 ghost use Rattle.time_show.specs.Value.{date_time_value};
 
-use crate::command::{Command, command_in};
-use crate::value::{
-    DateTimeNumbers, Part, TimeNumbers, UtcNumbers, date_time_value, time_value,
-    utc_date_time_value,
-};
+use crate::command::{Name, date_time_numbers, name_first, time_numbers, utc_numbers};
+use crate::fields::Fields;
+use crate::formats::Formats;
+use crate::line_buffer::LINE_LIMIT;
+use crate::value::{Part, date_time_value, time_value, utc_date_time_value};
 use std::default::Default;
 use time_below::format_description::modifier::{
     Hour24, Minute, Padding, Second, Subsecond, SubsecondDigits,
 };
 use time_below::format_description::{BorrowedFormatItem, Component};
 use time_fmt::{BorrowedItems, Format, Formattable};
-use time_known::iso8601::{Config, DecimalSign};
 use time_known::{Iso8601, Rfc2822, Rfc3339};
 use time_provide::ComponentProvider;
 
@@ -134,23 +136,30 @@ where
 fn date_time_reply<'a, D: Formattable>(
     text: &'a mut Vec<u8>,
     description: &D,
-    numbers: DateTimeNumbers,
+    fields: Fields<'_>,
 ) -> Reply<'a>
     ensures { Answers
-        (asked_value (D.width_of description.now)
-        (λ value. D.outcome_of description.now (facts_of_offset_date_time value))
-        (date_time_value numbers))
+        (asked_numbers (D.width_of description.now)
+        (λ value. D.outcome_of description.now (facts_of_offset_date_time value)) date_time_value
+        (date_time_numbers (numbers_of fields.entry)))
         (reply_text result) }
 {
-    value_reply(text, description, date_time_value(numbers))
+    match date_time_numbers(fields) {
+        None => Reply::BadLine,
+        Some(numbers) => value_reply(text, description, date_time_value(numbers)),
+    }
 }
 
 /// The reply to the numbers of a stamp.
 #[inline(never)]
-fn stamp_reply(text: &mut Vec<u8>, numbers: UtcNumbers) -> Reply<'_>
-    ensures { Answers (asked_by (Some (Command.Stamp numbers))) (reply_text result) }
+fn stamp_reply<'a>(text: &'a mut Vec<u8>, iso: &Iso8601, fields: Fields<'_>) -> Reply<'a>
+    requires { iso.now ≡ default_choices }
+    ensures { Answers (asked_by Name.Stamp (numbers_of fields.entry)) (reply_text result) }
 {
-    value_reply(text, &Iso8601::default(), utc_date_time_value(numbers))
+    match utc_numbers(fields) {
+        None => Reply::BadLine,
+        Some(numbers) => value_reply(text, iso, utc_date_time_value(numbers)),
+    }
 }
 
 /// The items of the description of a time: hour, minute and second in two digits each, then the
@@ -187,31 +196,45 @@ const TIME_WIDTH: usize = 18;
 
 /// The reply to the numbers of a time of day.
 #[inline(never)]
-fn time_reply(text: &mut Vec<u8>, numbers: TimeNumbers) -> Reply<'_>
-    ensures { Answers (asked_by (Some (Command.Time numbers))) (reply_text result) }
+fn time_reply<'a>(text: &'a mut Vec<u8>, fields: Fields<'_>) -> Reply<'a>
+    ensures { Answers (asked_by Name.Time (numbers_of fields.entry)) (reply_text result) }
 {
     let items = time_items();
-    value_reply_of_width(text, &items, TIME_WIDTH, time_value(numbers))
+    match time_numbers(fields) {
+        None => Reply::BadLine,
+        Some(numbers) => value_reply_of_width(text, &items, TIME_WIDTH, time_value(numbers)),
+    }
 }
 
-/// The default format of ISO 8601, with a comma before the decimals.
-fn iso_with_comma() -> Iso8601
-    ensures { result ≡ comma_choices }
+/// The reply to the fields after a name.
+#[inline(always)]
+fn named_reply<'a>(
+    text: &'a mut Vec<u8>,
+    formats: &Formats,
+    name: Name,
+    fields: Fields<'_>,
+) -> Reply<'a>
+    ensures { Answers (asked_by name (numbers_of fields.entry)) (reply_text result) }
 {
-    Iso8601::new(Config::default().set_decimal_sign(DecimalSign::Comma))
+    match name {
+        Name::Time => time_reply(text, fields),
+        Name::Rfc3339 => date_time_reply(text, &Rfc3339, fields),
+        Name::Rfc2822 => date_time_reply(text, &Rfc2822, fields),
+        Name::Iso => date_time_reply(text, &formats.iso, fields),
+        Name::IsoComma => date_time_reply(text, &formats.iso_comma, fields),
+        Name::Stamp => stamp_reply(text, &formats.iso, fields),
+    }
 }
 
-/// Answers a line. The text of the answer is in this vector, whose memory serves each line.
-pub fn reply_to<'a>(text: &'a mut Vec<u8>, line: &[u8]) -> Reply<'a>
+/// Answers a line.
+pub fn reply_to<'a>(text: &'a mut Vec<u8>, formats: &Formats, line: &[u8]) -> Reply<'a>
     ensures { IsAnswer line.now (reply_text result) }
 {
-    match command_in(line) {
+    if line.len() > LINE_LIMIT {
+        return Reply::BadLine;
+    }
+    match name_first(line) {
         None => Reply::BadLine,
-        Some(Command::Time(numbers)) => time_reply(text, numbers),
-        Some(Command::Rfc3339(numbers)) => date_time_reply(text, &Rfc3339, numbers),
-        Some(Command::Rfc2822(numbers)) => date_time_reply(text, &Rfc2822, numbers),
-        Some(Command::Iso(numbers)) => date_time_reply(text, &Iso8601::default(), numbers),
-        Some(Command::IsoComma(numbers)) => date_time_reply(text, &iso_with_comma(), numbers),
-        Some(Command::Stamp(numbers)) => stamp_reply(text, numbers),
+        Some((name, fields)) => named_reply(text, formats, name, fields),
     }
 }

@@ -6,6 +6,7 @@ ghost use Rattle.time_show.specs.LineBuffer.{kept_of, kept_with};
 ghost use Rattle.time_show.specs.Reply.{reply_text};
 ghost use Rattle.time_show.specs.Run.{state, AcceptsAnswer, CutsAnswerOff, AnswersOn, CutsAnswersOff, AnswersRest, CutsRestOff, Ran};
 
+use crate::formats::Formats;
 use crate::line_buffer::LineBuffer;
 use crate::output::{OutputBuffer, WriteFailed};
 use crate::reply::{Reply, reply_to};
@@ -37,18 +38,19 @@ impl From<WriteFailed> for ShowError {
 }
 
 /// The reply to the line in the buffer, whose text is in the vector.
-fn reply_for<'a>(text: &'a mut Vec<u8>, line: &LineBuffer) -> Reply<'a>
+fn reply_for<'a>(text: &'a mut Vec<u8>, formats: &Formats, line: &LineBuffer) -> Reply<'a>
     ensures { (whole : List ℕ) → line.now ≡ kept_of whole → IsAnswer whole (reply_text result) }
 {
     match line.line() {
         None => Reply::BadLine,
-        Some(line) => reply_to(text, line),
+        Some(line) => reply_to(text, formats, line),
     }
 }
 
 /// Answers the line in the buffer.
 fn answer_line<W: Write>(
     text: &mut Vec<u8>,
+    formats: &Formats,
     line: &LineBuffer,
     answers: &mut OutputBuffer,
     output: &mut W,
@@ -60,7 +62,7 @@ fn answer_line<W: Write>(
         (state line.now (W.contents output.old) answers.old)
         (W.contents output.new)) }
 {
-    let reply = reply_for(text, line);
+    let reply = reply_for(text, formats, line);
     answers.append_reply(output, reply)
 }
 
@@ -69,6 +71,7 @@ fn answer_line<W: Write>(
 #[inline(always)]
 fn end_line<W: Write>(
     text: &mut Vec<u8>,
+    formats: &Formats,
     line: &mut LineBuffer,
     bytes: &[u8],
     answers: &mut OutputBuffer,
@@ -83,11 +86,11 @@ fn end_line<W: Write>(
         (W.contents output.new)) }
 {
     if line.is_empty() {
-        let reply = reply_to(text, bytes);
+        let reply = reply_to(text, formats, bytes);
         return answers.append_reply(output, reply);
     }
     line.extend(bytes);
-    answer_line(text, line, answers, output)?;
+    answer_line(text, formats, line, answers, output)?;
     line.clear();
     Ok(())
 }
@@ -95,6 +98,7 @@ fn end_line<W: Write>(
 /// Takes the next bytes of the input, and answers each line that they end.
 fn feed<W: Write>(
     text: &mut Vec<u8>,
+    formats: &Formats,
     line: &mut LineBuffer,
     bytes: &[u8],
     answers: &mut OutputBuffer,
@@ -109,7 +113,7 @@ fn feed<W: Write>(
 {
     let mut rest = bytes;
     while let Some(end) = place_of_end(rest) {
-        end_line(text, line, &rest[..end], answers, output)?;
+        end_line(text, formats, line, &rest[..end], answers, output)?;
         rest = &rest[end + 1..];
     }
     line.extend(rest);
@@ -119,6 +123,7 @@ fn feed<W: Write>(
 /// Takes a block of the input: when it is done, the answer to each line that it ends went out.
 fn answer_block<W: Write>(
     text: &mut Vec<u8>,
+    formats: &Formats,
     line: &mut LineBuffer,
     block: &[u8],
     output: &mut W,
@@ -131,7 +136,7 @@ fn answer_block<W: Write>(
         (W.contents output.new)) }
 {
     let mut answers = OutputBuffer::new();
-    feed(text, line, block, &mut answers, output)?;
+    feed(text, formats, line, block, &mut answers, output)?;
     answers.flush(output)?;
     Ok(())
 }
@@ -139,6 +144,7 @@ fn answer_block<W: Write>(
 /// Answers a last line that has no line feed, if it is not empty.
 fn answer_last<W: Write>(
     text: &mut Vec<u8>,
+    formats: &Formats,
     line: &LineBuffer,
     output: &mut W,
 ) -> Result<(), WriteFailed>
@@ -151,7 +157,7 @@ fn answer_last<W: Write>(
 {
     if !line.is_empty() {
         let mut answer = OutputBuffer::new();
-        answer_line(text, line, &mut answer, output)?;
+        answer_line(text, formats, line, &mut answer, output)?;
         answer.flush(output)?;
     }
     Ok(())
@@ -173,6 +179,7 @@ pub fn run<R: Read, W: Write>(alloc: Global, input: &mut R, output: &mut W) -> R
         (W.contents output.old) (W.contents output.new) }
 {
     let mut line = LineBuffer::new();
+    let formats = Formats::new();
     let mut text = Vec::new(alloc);
     let mut block = [0u8; BLOCK_SIZE];
     for _ in 0..u64::MAX {
@@ -181,10 +188,10 @@ pub fn run<R: Read, W: Write>(alloc: Global, input: &mut R, output: &mut W) -> R
             Err(_) => return Err(ShowError::Read),
         };
         if count == 0 {
-            answer_last(&mut text, &line, output)?;
+            answer_last(&mut text, &formats, &line, output)?;
             return Ok(());
         }
-        answer_block(&mut text, &mut line, &block[..count], output)?;
+        answer_block(&mut text, &formats, &mut line, &block[..count], output)?;
     }
     Err(ShowError::Read)
 }

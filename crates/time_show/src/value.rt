@@ -173,7 +173,7 @@ fn offset_value(numbers: OffsetNumbers) -> Result<UtcOffset, Part>
 
 /// The local date and time of these numbers, and its offset. The ranges are tested in the order of
 /// the fields.
-#[inline(never)]
+#[inline(always)]
 pub fn date_time_value(numbers: DateTimeNumbers) -> Result<OffsetDateTime, Part>
     ensures { result ≡ date_time_value numbers }
 {
@@ -184,7 +184,7 @@ pub fn date_time_value(numbers: DateTimeNumbers) -> Result<OffsetDateTime, Part>
 }
 
 /// The date and time in UTC of these numbers. The ranges are tested in the order of the fields.
-#[inline(never)]
+#[inline(always)]
 pub fn utc_date_time_value(numbers: UtcNumbers) -> Result<UtcDateTime, Part>
     ensures { result ≡ utc_date_time_value numbers }
 {

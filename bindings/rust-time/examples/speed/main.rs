@@ -9,7 +9,7 @@ mod ways;
 
 use chrono::format::{Item, StrftimeItems};
 use chrono::{DateTime, FixedOffset, NaiveDateTime, SecondsFormat};
-use movaliren::{Batch, Date, Description, Format, Kind, Moment, UtcMoment};
+use movaliren::{Batch, Date, Description, Format, Kind, LocalMoment, Moment, Rfc3339, UtcMoment};
 use movaliren_time::{ToDate, ToMoment};
 use std::io::Write;
 use std::time::Instant;
@@ -95,6 +95,21 @@ fn each(append: impl Fn(&UtcMoment, &mut Vec<u8>) + 'static) -> Call {
 fn ours(format: impl Format<UtcMoment> + 'static) -> Call {
     each(move |moment, output| {
         let _ = format.format_into(output, moment);
+    })
+}
+
+fn ours_east(format: impl Format<LocalMoment> + 'static) -> Call {
+    each(move |moment, output| {
+        let _ = format.format_into(output, &moment.local(EAST.into()));
+    })
+}
+
+/// Reads the texts of RFC 3339 of the moments, and returns the number of those that are read.
+fn reading(is_read: impl Fn(&[u8]) -> bool + 'static) -> Call {
+    let texts: Vec<_> = moments().iter().map(|m| Rfc3339.text(m)).collect();
+    Box::new(move |moments, _| {
+        let texts = texts[..moments.len()].iter().flatten();
+        texts.filter(|text| is_read(text.as_bytes())).count()
     })
 }
 

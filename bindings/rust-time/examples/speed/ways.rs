@@ -1,13 +1,13 @@
 //! The ways to a text by their names.
 use crate::{
     batch, batch_of_parts, each, eleven, five, items_of_chrono, long, measured, names, of_date,
-    of_parts, of_time, of_time_east, ours, rfc2822_of_chrono, rfc3339_of_chrono, Call, Ways, EAST,
-    VALUES,
+    of_parts, of_time, of_time_east, ours, ours_east, reading, rfc2822_of_chrono,
+    rfc3339_of_chrono, Call, Ways, EAST, VALUES,
 };
 use chrono::SecondsFormat;
 use movaliren::{
-    stamp, Batch, DateKind, DecimalSign, Format, Iso8601, Iso8601By, Parts, Rfc2822, Rfc2822Local,
-    Rfc3339, Rfc3339Local, Stamp, TimePrecision, UtcMoment,
+    stamp, Batch, DateKind, DecimalSign, Format, Iso8601, Iso8601By, Moment, Parts, Rfc2822,
+    Rfc2822Local, Rfc3339, Rfc3339Local, Stamp, TimePrecision, UtcMoment,
 };
 use std::cell::RefCell;
 use time::format_description::{well_known, FormatItem};
@@ -67,6 +67,7 @@ fn iso8601() -> Ways {
         ("iso8601_utc", ours(Iso8601)),
         ("iso8601_utc/time", of_time(NINE_OF_TIME)),
         ("iso8601_utc/chrono", nine()),
+        ("iso8601_local", ours_east(Iso8601)),
         ("iso8601", of_parts(Iso8601)),
         ("iso8601/time", of_time(NINE_OF_TIME)),
         ("iso8601/chrono", nine()),
@@ -75,6 +76,7 @@ fn iso8601() -> Ways {
         ("iso8601_by_utc:three-decimals", ours(THREE)),
         ("iso8601_by_utc:three-decimals/time", of_time(THREE_OF_TIME)),
         ("iso8601_by_utc:three-decimals/chrono", three()),
+        ("iso8601_by_local:three-decimals", ours_east(THREE)),
         ("iso8601_by:three-decimals", of_parts(THREE)),
         ("iso8601_by:three-decimals/time", of_time(THREE_OF_TIME)),
         ("iso8601_by:three-decimals/chrono", three()),
@@ -213,6 +215,7 @@ fn descriptions() -> Ways {
         ("format_utc:11-items", ours(eleven())),
         ("format_utc:11-items/time", of_time(ELEVEN_OF_TIME)),
         ("format_utc:11-items/chrono", eleven_of_chrono()),
+        ("format_local:11-items", ours_east(eleven())),
         ("format:11-items", of_parts(eleven())),
         ("format:11-items/time", of_time(ELEVEN_OF_TIME)),
         ("format:11-items/chrono", eleven_of_chrono()),
@@ -231,6 +234,28 @@ fn descriptions() -> Ways {
         ("building:11-items", each(|_, _| drop(eleven()))),
         ("building:8000-items", each(|_, _| drop(long(8_000)))),
         ("building:16000-items", each(|_, _| drop(long(16_000)))),
+    ]
+}
+
+/// Texts of RFC 3339, read back.
+fn readings() -> Ways {
+    vec![
+        (
+            "read_rfc3339",
+            reading(|text| Rfc3339.read::<Moment>(text).is_ok()),
+        ),
+        (
+            "read_rfc3339_utc",
+            reading(|text| Rfc3339.read::<UtcMoment>(text).is_ok()),
+        ),
+        (
+            "read_rfc3339_lenient",
+            reading(|text| Rfc3339.read_lenient::<Moment>(text).is_ok()),
+        ),
+        (
+            "read_rfc3339_lenient_utc",
+            reading(|text| Rfc3339.read_lenient::<UtcMoment>(text).is_ok()),
+        ),
     ]
 }
 
@@ -291,6 +316,7 @@ pub fn all() -> Ways {
         dates_and_times(),
         parts_alone(),
         descriptions(),
+        readings(),
         other_calls(),
     ]
     .into_iter()

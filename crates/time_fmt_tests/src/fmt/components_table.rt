@@ -1,6 +1,6 @@
 //! The rows of `docs/COMPONENTS.md`: each component by the choices of its row, with its example and width. Tests
 //! of other modules go through the same rows. Behind them stands each constant of `time_fmt::parts` as a part.
-use crate::fmt::parts::assert_part;
+use crate::fmt::texts_by_parts::assert_part;
 use crate::texts::assert_components;
 use crate::values::{Value, WEDNESDAY};
 use time_below::format_description::modifier::Padding::{Space, Zero};

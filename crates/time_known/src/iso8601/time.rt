@@ -8,19 +8,19 @@ ghost use Rattle.time_fmt.specs.Outcome.{AppendsUpTo};
 ghost use Rattle.time_fmt.specs.Room.{HasRoom};
 ghost use Rattle.time_provide.specs.Real.{AgreesOnTime};
 ghost use Rattle.time_known.specs.Config.{has_time_letter, separator};
-ghost use Rattle.time_known.specs.Fields.{time_of_day};
 ghost use Rattle.time_known.specs.Iso8601.{iso_time, iso_time_text, decimal_part, units_text, nanoseconds_of_hour, nanoseconds_of_minute};
 ghost use Rattle.time_known.specs.Iso8601Parts.{part_width, time_part_text};
 ghost use Rattle.time_known.specs.Iso8601Width.{iso_time_width, decimal_part_width, units_width};
 ghost use Rattle.time_known.specs.Sink.{Fits, PutsUpTo};
 ghost use Rattle.time_known.specs.WellKnown.{clock_text};
 
-use crate::fields::{TimeFields, time_of};
+use crate::fields::time_of;
 use crate::iso8601::config::{Config, DecimalSign, TimePrecision};
 use crate::iso8601::usual_text::put_fraction_by;
 use crate::put::{put_clock, put_pair};
 use crate::sink::Sink;
-use time_digits::ru8;
+use time_below::Time;
+use time_digits::{ru8, ru32};
 use time_fmt::Format;
 use time_fmt::writers::{put_back, take_out};
 use time_provide::ComponentProvider;
@@ -72,7 +72,7 @@ pub(super) fn write_time<V: ComponentProvider>(
     let time = time_of(value, state);
     let mut taken = take_out(output);
     let begin = taken.len();
-    put_time::<Vec<u8>, true>(&mut taken, config, has_letter, &time);
+    put_time::<Vec<u8>, true>(&mut taken, config, has_letter, time);
     let count = taken.len() - begin;
     put_back(output, taken);
     count
@@ -80,14 +80,14 @@ pub(super) fn write_time<V: ComponentProvider>(
 
 // Puts the time, if there is one.
 #[inline(always)]
-pub(super) fn put_time_part<S: Sink>(output: &mut S, config: &Config, time: &Option<TimeFields>)
+pub(super) fn put_time_part<S: Sink>(output: &mut S, config: &Config, time: &Option<Time>)
     requires room { Fits (part_width (λ _. iso_time_width config.now) time.now)
         (S.buffer output.old) }
     ensures puts { PutsUpTo (part_width (λ _. iso_time_width config.now) time.now)
         (S.buffer output.old) (S.buffer output.new) (time_part_text config.now time.now) }
 {
     if let Some(time) = time {
-        put_time::<S, false>(output, config, config.has_time_letter(), time);
+        put_time::<S, false>(output, config, config.has_time_letter(), *time);
     }
 }
 
@@ -98,12 +98,12 @@ fn put_time<S: Sink, const IS_ALONE: bool>(
     output: &mut S,
     config: &Config,
     has_letter: bool,
-    time: &TimeFields,
+    time: Time,
 )
     requires letter { has_time_letter config.now ≡ has_letter }
     requires room { Fits (iso_time_width config.now) (S.buffer output.old) }
     ensures puts { PutsUpTo (iso_time_width config.now) (S.buffer output.old)
-        (S.buffer output.new) (iso_time_text config.now (time_of_day time.now)) }
+        (S.buffer output.new) (iso_time_text config.now time) }
 {
     if has_letter {
         output.put("T");
@@ -113,12 +113,12 @@ fn put_time<S: Sink, const IS_ALONE: bool>(
 
 // Puts the whole units down to the precision, and decimals of the last one.
 #[inline(always)]
-fn put_units<S: Sink, const IS_ALONE: bool>(output: &mut S, config: &Config, time: &TimeFields)
+fn put_units<S: Sink, const IS_ALONE: bool>(output: &mut S, config: &Config, time: Time)
     requires room { Fits (units_width config.now.time_precision config.now)
         (S.buffer output.old) }
     ensures puts { PutsUpTo (units_width config.now.time_precision config.now)
         (S.buffer output.old) (S.buffer output.new)
-        (units_text config.now.time_precision config.now (time_of_day time.now)) }
+        (units_text config.now.time_precision config.now time) }
 {
     let sign = config.decimal_sign();
     match config.time_precision() {
@@ -137,14 +137,14 @@ fn put_units<S: Sink, const IS_ALONE: bool>(output: &mut S, config: &Config, tim
 fn put_second<S: Sink, const IS_ALONE: bool>(
     output: &mut S,
     config: &Config,
-    time: &TimeFields,
+    time: Time,
     digits: Option<ru8<1, 255>>,
 )
     requires room { Fits (units_width (TimePrecision.Second digits) config.now)
         (S.buffer output.old) }
     ensures puts { PutsUpTo (units_width (TimePrecision.Second digits) config.now)
         (S.buffer output.old) (S.buffer output.new)
-        (units_text (TimePrecision.Second digits) config.now (time_of_day time.now)) }
+        (units_text (TimePrecision.Second digits) config.now time) }
 {
     let sign = config.decimal_sign();
     if config.use_separators() {
@@ -156,19 +156,14 @@ fn put_second<S: Sink, const IS_ALONE: bool>(
 
 // Puts the hour, and decimals of it.
 #[inline(always)]
-fn put_to_hour<S: Sink>(
-    output: &mut S,
-    time: &TimeFields,
-    sign: DecimalSign,
-    digits: Option<ru8<1, 255>>,
-)
+fn put_to_hour<S: Sink>(output: &mut S, time: Time, sign: DecimalSign, digits: Option<ru8<1, 255>>)
     requires room { Fits (2 + decimal_part_width digits) (S.buffer output.old) }
     ensures puts { PutsUpTo (2 + decimal_part_width digits)
         (S.buffer output.old) (S.buffer output.new)
-        (zero_padded 2 time.now.hour ++ decimal_part sign digits
-        (nanoseconds_of_hour (time_of_day time.now)) NANOSECONDS_PER_HOUR) }
+        (zero_padded 2 time.hour ++ decimal_part sign digits
+        (nanoseconds_of_hour time) NANOSECONDS_PER_HOUR) }
 {
-    put_pair(output, time.hour.expand());
+    put_pair(output, ru8::within(time.hour()));
     put_decimals(
         output,
         nanoseconds_of_hour(time),
@@ -182,7 +177,7 @@ fn put_to_hour<S: Sink>(
 #[inline(always)]
 fn put_to_minute<S: Sink>(
     output: &mut S,
-    time: &TimeFields,
+    time: Time,
     colon: &str,
     sign: DecimalSign,
     digits: Option<ru8<1, 255>>,
@@ -191,13 +186,14 @@ fn put_to_minute<S: Sink>(
         (S.buffer output.old) }
     ensures puts { PutsUpTo (4 + length colon.now + decimal_part_width digits)
         (S.buffer output.old) (S.buffer output.new)
-        (zero_padded 2 time.now.hour ++ colon.now ++ zero_padded 2 time.now.minute
-        ++ decimal_part sign digits (nanoseconds_of_minute (time_of_day time.now))
+        (zero_padded 2 time.hour ++ colon.now ++ zero_padded 2 time.minute
+        ++ decimal_part sign digits (nanoseconds_of_minute time)
         NANOSECONDS_PER_MINUTE) }
 {
-    put_pair(output, time.hour.expand());
+    let (hour, minute, _, _) = time.as_hms_nano();
+    put_pair(output, ru8::within(hour));
     output.put(colon);
-    put_pair(output, time.minute.expand());
+    put_pair(output, ru8::within(minute));
     put_decimals(
         output,
         nanoseconds_of_minute(time),
@@ -211,7 +207,7 @@ fn put_to_minute<S: Sink>(
 #[inline(always)]
 pub(super) fn put_to_second<S: Sink>(
     output: &mut S,
-    time: &TimeFields,
+    time: Time,
     colon: &str,
     sign: DecimalSign,
     digits: Option<ru8<1, 255>>,
@@ -220,30 +216,29 @@ pub(super) fn put_to_second<S: Sink>(
         (S.buffer output.old) }
     ensures puts { PutsUpTo (6 + 2 * length colon.now + decimal_part_width digits)
         (S.buffer output.old) (S.buffer output.new)
-        (clock_text colon.now (time_of_day time.now)
-        ++ decimal_part sign digits time.now.nanosecond NANOSECONDS_PER_SECOND) }
+        (clock_text colon.now time
+        ++ decimal_part sign digits time.nanosecond NANOSECONDS_PER_SECOND) }
 {
     put_clock(output, time, colon);
-    put_fraction_by(output, sign, digits, time.nanosecond);
+    put_fraction_by(output, sign, digits, ru32::within(time.as_hms_nano().3));
 }
 
 // What the whole hours leave out of the time.
-fn nanoseconds_of_hour(time: &TimeFields) -> u64
-    ensures value { result ≡ nanoseconds_of_hour (time_of_day time.now) }
+fn nanoseconds_of_hour(time: Time) -> u64
+    ensures value { result ≡ nanoseconds_of_hour time }
     ensures range { result < NANOSECONDS_PER_HOUR }
 {
-    let minute = u64::from(time.minute.get());
-    NANOSECONDS_PER_MINUTE * minute + nanoseconds_of_minute(time)
+    let (_, minute, _, _) = time.as_hms_nano();
+    NANOSECONDS_PER_MINUTE * u64::from(minute) + nanoseconds_of_minute(time)
 }
 
 // What the whole minutes leave out of the time.
-fn nanoseconds_of_minute(time: &TimeFields) -> u64
-    ensures value { result ≡ nanoseconds_of_minute (time_of_day time.now) }
+fn nanoseconds_of_minute(time: Time) -> u64
+    ensures value { result ≡ nanoseconds_of_minute time }
     ensures range { result < NANOSECONDS_PER_MINUTE }
 {
-    let second = u64::from(time.second.get());
-    let nanosecond = u64::from(time.nanosecond.get());
-    NANOSECONDS_PER_SECOND * second + nanosecond
+    let (_, _, second, nanosecond) = time.as_hms_nano();
+    NANOSECONDS_PER_SECOND * u64::from(second) + u64::from(nanosecond)
 }
 
 // Puts the decimal sign and the decimals of the rest over the unit, if any are wanted.

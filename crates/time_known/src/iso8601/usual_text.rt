@@ -6,7 +6,7 @@ ghost use Rattle.time_fmt.specs.Decimals.{decimals};
 ghost use Rattle.time_fmt.specs.Outcome.{AppendsUpTo};
 ghost use Rattle.time_fmt.specs.Room.{HasRoom};
 ghost use Rattle.time_provide.specs.Real.{AreReal};
-ghost use Rattle.time_known.specs.Fields.{date_of_fields, offset_of_fields, shown, time_of_day};
+ghost use Rattle.time_known.specs.Fields.{date_of_fields, offset_of_fields, shown};
 ghost use Rattle.time_known.specs.Groups.{AreAllSupplied, at_groups};
 ghost use Rattle.time_known.specs.Iso8601.{decimal_part, iso_of_groups};
 ghost use Rattle.time_known.specs.Iso8601Width.{decimal_part_width, iso8601_width};
@@ -14,12 +14,13 @@ ghost use Rattle.time_known.specs.Sink.{Fits, Puts, PutsUpTo};
 ghost use Rattle.time_known.specs.Stamps.{stamp_length, stamp_of_fields};
 ghost use Rattle.time_known.specs.UsualText.{usual_choices, usual_of_fields, usual_time_text};
 
-use crate::fields::{Fields, TimeFields, accepted_fields};
+use crate::fields::{Fields, accepted_fields};
 use crate::iso8601::config::{Config, DecimalSign, Usual};
 use crate::iso8601::time::{NANOSECONDS_PER_SECOND, put_to_second};
 use crate::pieces::piece;
 use crate::put::{put_date, put_nine_digits, put_offset, put_six_decimals, put_three_decimals};
 use crate::sink::{Sink, Text, append};
+use time_below::Time;
 use time_digits::{ru8, single_digit};
 use time_provide::ComponentProvider;
 use time_provide::ranges::Nanoseconds;
@@ -121,7 +122,7 @@ impl Text for StampText {
             decimal_sign: DecimalSign::Point,
         };
         put_date(output, &self.fields, "-");
-        put_usual_time(output, &usual, &self.fields.time, ":");
+        put_usual_time(output, &usual, self.fields.time, ":");
         output.put("Z");
     }
 }
@@ -142,25 +143,24 @@ fn put_usual<S: Sink>(output: &mut S, usual: &Usual, fields: &Fields, dash: &str
         + decimal_part_width usual.now.decimal_digits) (S.buffer output.old) (S.buffer output.new)
         (date_of_fields dash.now (shown fields.now)
         ++ usual_time_text colon.now usual.now.decimal_sign usual.now.decimal_digits
-        (time_of_day fields.now.time)
+        fields.now.time
         ++ offset_of_fields colon.now fields.now.offset) }
 {
     put_date(output, fields, dash);
-    put_usual_time(output, usual, &fields.time, colon);
+    put_usual_time(output, usual, fields.time, colon);
     put_offset(output, &fields.offset, colon);
 }
 
 // Puts the time, and decimals of its second.
 #[inline(always)]
-fn put_usual_time<S: Sink>(output: &mut S, usual: &Usual, time: &TimeFields, separator: &str)
+fn put_usual_time<S: Sink>(output: &mut S, usual: &Usual, time: Time, separator: &str)
     requires room { Fits
         (7 + 2 * length separator.now + decimal_part_width usual.now.decimal_digits)
         (S.buffer output.old) }
     ensures puts { PutsUpTo
         (7 + 2 * length separator.now + decimal_part_width usual.now.decimal_digits)
         (S.buffer output.old) (S.buffer output.new)
-        (usual_time_text separator.now usual.now.decimal_sign usual.now.decimal_digits
-        (time_of_day time.now)) }
+        (usual_time_text separator.now usual.now.decimal_sign usual.now.decimal_digits time) }
 {
     output.put("T");
     put_to_second(

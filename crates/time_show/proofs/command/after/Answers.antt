@@ -1,10 +1,5 @@
-use Rattle.std.proofs.Common.{◌≡◌, rules}
-use Rattle.std.proofs.lemmas.Bool.Decides.{Decides-eqb}
-use Rattle.std.proofs.lemmas.Slice.Eq.{strip_prefix_is}
+use Rattle.std.proofs.Common.{length, length-append, ap, arith}
 use Rattle.time_show.proofs.command.after.Goals as goal
 
-pub returns : goal.returns
-returns g c =
-    let same : c.as_slice.result.now ≡ c.args.front.now = search rules in
-    rw same at (strip_prefix_is Decides-eqb c.args.line.now c.as_slice.result.now c.strip_prefix.result
-    c.strip_prefix.ensures.cases)
+pub returns-then-line : goal.returns-then-line
+returns-then-line g c = λ rest e. omega (arith, ap length e, length-append c.args.front.now rest, c.told-front)

@@ -1,0 +1,37 @@
+// Logs local time with milliseconds: the clock's, and that of each moment on the standard input, by its seconds since 1970
+// and its nanosecond. Built over an installed library by
+//
+//	go build local.go
+package main
+
+// #cgo pkg-config: movaliren
+// #include <movaliren.h>
+import "C"
+
+import (
+	"fmt"
+	"log"
+	"time"
+	"unsafe"
+)
+
+var milliseconds = C.struct_movaliren_iso_config{5, 0, 2, 3, 1, 1, 0, 0}
+
+func opened(moment time.Time) {
+	var room [C.MOVALIREN_ISO8601_ROOM]byte
+	_, offset := moment.Zone()
+	n := C.movaliren_iso8601_by_local(&milliseconds, C.int64_t(moment.Unix()), C.uint32_t(moment.Nanosecond()),
+		C.int64_t(offset), unsafe.Pointer(&room), C.MOVALIREN_ISO8601_ROOM)
+	if n < 0 {
+		log.Fatal(C.GoString(C.movaliren_error_text(n)))
+	}
+	fmt.Println(string(room[:n]), "opened")
+}
+
+func main() {
+	var seconds, nanosecond int64
+	opened(time.Now())
+	for count, _ := fmt.Scan(&seconds, &nanosecond); count == 2; count, _ = fmt.Scan(&seconds, &nanosecond) {
+		opened(time.Unix(seconds, nanosecond))
+	}
+}

@@ -1,0 +1,23 @@
+"""Logs local time with milliseconds: the clock's, and that of each moment on the standard input, by its seconds since
+1970 and its nanosecond. It needs the installed library libmovaliren.so.0."""
+
+import logging
+import sys
+import time
+
+import movaliren
+
+
+class Formatter(logging.Formatter):
+    def formatTime(self, record, datefmt=None):
+        second = int(record.created // 1)
+        return movaliren.local_line(second, int(record.msecs) * 1_000_000, time.localtime(second).tm_gmtoff)
+
+
+handler = logging.StreamHandler(sys.stdout)
+handler.setFormatter(Formatter("%(asctime)s %(message)s"))
+handler.handle(logging.makeLogRecord({"msg": "opened"}))
+for line in sys.stdin:
+    second, nanosecond = map(int, line.split())
+    made = {"msg": "opened", "created": second, "msecs": nanosecond // 1_000_000}
+    handler.handle(logging.makeLogRecord(made))

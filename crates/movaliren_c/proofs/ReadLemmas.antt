@@ -1,0 +1,127 @@
+-- The parts of a value give that value.
+use Rattle.std.proofs.Common.{T, ◌≡◌, ℕ, suc, zero, ℤ, pos, negsuc, Bool, true, false, refl, ap, ◌∙◌, ◌≤◌, Result, Ok, arith}
+use Rattle.std.specs.Prelude.{◌&&◌, ◌<ℤ◌, ◌≤ℤ◌, int_le, int_lt, unsigned_abs}
+use Rattle.std.proofs.lemmas.Float.{T_from_true}
+use Rattle.std.proofs.lemmas.Bool.Decides.{nat_tests}
+use Rattle.std.specs.Int.{IsInRange}
+use Rattle.std.proofs.lemmas.Bool.{le-leb, lt-ltb}
+use Rattle.movaliren_c.specs.Value.{checked, date_value, is_alike, is_offset_part, moment_value, offset_value, time_value}
+use Rattle.movaliren_c.specs.declared.moment.Moment.{Moment}
+use Rattle.movaliren_c.specs.declared.reason.Reason.{Reason}
+use Rattle.time_below.specs.Calendar.{IsDate, IsDayOfMonth, IsYear, OrdinalDate, date_of, day_of, days_in_month, is_leap_year, month_of}
+use Rattle.time_below.specs.Moment.{OffsetDateAndTime}
+use Rattle.time_below.specs.Offset.{HasNoOtherSign, IsOffset, Offset}
+use Rattle.time_below.specs.TimeOfDay.{IsTimeOfDay, TimeOfDay}
+use Rattle.time_below.proofs.MonthLemmas.{date_of-month_and_day}
+
+go : {A : Type 0} (test : Bool) (r : Reason) (rest : Result A Reason) → test ≡ true → checked test r rest ≡ rest
+go test r rest h = rw h refl
+
+both : (a b : Bool) → a ≡ true → b ≡ true → (a && b) ≡ true
+both a b x y = rw (x, y) refl
+
+-- ---- dates
+
+date_given : (y : ℤ) (m d : ℕ) → IsYear y → IsInRange 1 12 m → IsDayOfMonth y m d → date_value y m d ≡ Ok (date_of y m d)
+date_given y m d year month day =
+    go _ _ _ (le-leb (unsigned_abs y) 999_999 year)
+    ∙ go _ _ _ (both _ _ (le-leb 1 m month.0) (le-leb m 12 month.1))
+    ∙ go _ _ _ (both _ _ (le-leb 1 d day.0) (le-leb d (days_in_month (is_leap_year y) m) day.1))
+
+same_parts : (y z : ℤ) (m n d e : ℕ) → y ≡ z → m ≡ n → d ≡ e → date_of y m d ≡ date_of z n e
+same_parts y z m n d e year month day = rw (year, month, day) refl
+
+date_of_value : (y : ℤ) (m d : ℕ) (date : OrdinalDate) → y ≡ date.year → m ≡ month_of date → d ≡ day_of date
+    → IsYear y → IsInRange 1 12 m → IsDayOfMonth y m d → IsDate date → date_value y m d ≡ Ok date
+date_of_value y m d date year month day is_year is_month is_day real =
+    date_given y m d is_year is_month is_day
+    ∙ ap Ok (same_parts y date.year m (month_of date) d (day_of date) year month day ∙ date_of-month_and_day date real)
+
+-- ---- times
+
+same_time : (h m s n : ℕ) (t : TimeOfDay) → h ≡ t.hour → m ≡ t.minute → s ≡ t.second → n ≡ t.nanosecond
+    → ◌≡◌ {A = TimeOfDay} (record { hour = h; minute = m; second = s; nanosecond = n }) t
+same_time h m s n t a b c d = rw (a, b, c, d) refl
+
+time_of_value : (m : Moment) (t : TimeOfDay) → m.hour ≡ t.hour → m.minute ≡ t.minute → m.second ≡ t.second
+    → m.nanosecond ≡ t.nanosecond → IsTimeOfDay t → time_value m ≡ Ok t
+time_of_value m t a b c d real =
+    go _ _ _ (lt-ltb m.hour 24 (omega (arith, a, real.0)))
+    ∙ go _ _ _ (lt-ltb m.minute 60 (omega (arith, b, real.1)))
+    ∙ go _ _ _ (lt-ltb m.second 60 (omega (arith, c, real.2)))
+    ∙ go _ _ _ (lt-ltb m.nanosecond 1_000_000_000 (omega (arith, d, real.3)))
+    ∙ ap Ok (same_time m.hour m.minute m.second m.nanosecond t a b c d)
+
+-- ---- offsets
+
+not_below : (n m : ℕ) → is_alike (pos (suc n)) (pos m) ≡ true
+not_below n m =
+    let one : int_lt (pos (suc n)) (pos 0) ≡ false = grind (arith, nat_tests) in
+    let other : int_lt (pos m) (pos 0) ≡ false = grind (arith, nat_tests) in
+    let above : int_lt (pos 0) (pos (suc n)) ≡ true = grind (arith, nat_tests) in
+    rw (one, other, above) refl
+
+is_above : (n : ℕ) → pos 0 <ℤ pos (suc n)
+is_above n =
+    let above : int_lt (pos 0) (pos (suc n)) ≡ true = grind (arith, nat_tests) in
+    record { lt = T_from_true _ above }
+
+false_from_T : (b : Bool) → b ≡ false → T b → ⊥
+false_from_T true h t = absurd (let e = h in cc)
+false_from_T false h t = t
+
+not_under : (m : ℕ) → pos (suc m) ≤ℤ pos 0 → ⊥
+not_under m h =
+    let not : int_le (pos (suc m)) (pos 0) ≡ false = grind (arith, nat_tests) in
+    false_from_T _ not h.le
+
+alike : (a b : ℤ) → HasNoOtherSign a b → is_alike a b ≡ true
+alike (pos zero) b h = refl
+alike (pos (suc n)) (pos m) h = not_below n m
+alike (pos (suc n)) (negsuc m) h = absurd (h.0 (is_above n)).le
+alike (negsuc n) (pos zero) h = refl
+alike (negsuc n) (pos (suc m)) h = absurd (not_under m (h.1 (record { lt = tt })))
+alike (negsuc n) (negsuc m) h = refl
+
+part_given : (greatest : ℕ) (a b part : ℤ) → unsigned_abs part ≤ greatest → HasNoOtherSign a part → HasNoOtherSign b part
+    → is_offset_part greatest a b part ≡ true
+part_given greatest a b part size first second =
+    both _ _ (both _ _ (le-leb (unsigned_abs part) greatest size) (alike a part first)) (alike b part second)
+
+same_offset : (h m s : ℤ) (o : Offset) → h ≡ o.hours → m ≡ o.minutes → s ≡ o.seconds
+    → ◌≡◌ {A = Offset} (record { hours = h; minutes = m; seconds = s }) o
+same_offset h m s o a b c = rw (a, b, c) refl
+
+of_zero : (x : ℤ) → HasNoOtherSign (pos 0) x
+of_zero x = (λ above. absurd above.lt, λ below. absurd below.lt)
+
+offset_of_value : (m : Moment) (o : Offset) → m.offset_hours ≡ o.hours → m.offset_minutes ≡ o.minutes
+    → m.offset_seconds ≡ o.seconds → IsOffset o → offset_value m ≡ Ok o
+offset_of_value m o a b c real =
+    let hours : is_offset_part 25 (pos 0) (pos 0) m.offset_hours ≡ true =
+    ap (λ (x : ℤ). is_offset_part 25 (pos 0) (pos 0) x) a ∙ (part_given 25 (pos 0) (pos 0) o.hours real.0.0 (of_zero o.hours) (of_zero o.hours)) in
+    let minutes : is_offset_part 59 m.offset_hours (pos 0) m.offset_minutes ≡ true =
+    ap (λ (x : ℤ). is_offset_part 59 x (pos 0) m.offset_minutes) a
+    ∙ ap (λ (x : ℤ). is_offset_part 59 o.hours (pos 0) x) b ∙ (part_given 59 o.hours (pos 0) o.minutes real.0.1 real.1 (of_zero o.minutes)) in
+    let seconds : is_offset_part 59 m.offset_hours m.offset_minutes m.offset_seconds ≡ true =
+    ap (λ (x : ℤ). is_offset_part 59 x m.offset_minutes m.offset_seconds) a
+    ∙ ap (λ (x : ℤ). is_offset_part 59 o.hours x m.offset_seconds) b
+    ∙ ap (λ (x : ℤ). is_offset_part 59 o.hours o.minutes x) c ∙ (part_given 59 o.hours o.minutes o.seconds real.0.2 real.2 real.3) in
+    go _ _ _ hours ∙ go _ _ _ minutes ∙ go _ _ _ seconds
+    ∙ ap Ok (same_offset m.offset_hours m.offset_minutes m.offset_seconds o a b c)
+
+-- ---- values
+
+value_given : (m : Moment) (v : OffsetDateAndTime) → date_value m.year m.month m.day ≡ Ok v.date
+    → time_value m ≡ Ok v.time → offset_value m ≡ Ok v.offset → moment_value m ≡ Ok v
+value_given m v date time offset = rw (date, time, offset) refl
+
+pub value_of_parts : (y : ℤ) (mo d h mi s n : ℕ) (oh om os : ℤ) (v : OffsetDateAndTime) → y ≡ v.date.year → mo ≡ month_of v.date
+    → d ≡ day_of v.date → IsYear y → IsInRange 1 12 mo → IsDayOfMonth y mo d → IsDate v.date
+    → h ≡ v.time.hour → mi ≡ v.time.minute → s ≡ v.time.second → n ≡ v.time.nanosecond → IsTimeOfDay v.time
+    → oh ≡ v.offset.hours → om ≡ v.offset.minutes → os ≡ v.offset.seconds → IsOffset v.offset
+    → moment_value (record { year = y; nanosecond = n; month = mo; day = d; hour = h; minute = mi; second = s; offset_hours = oh; offset_minutes = om; offset_seconds = os })
+    ≡ Ok v
+value_of_parts y mo d h mi s n oh om os v p q r is_year is_month is_day real a b c e time i j k offset =
+    let m : Moment = record { year = y; nanosecond = n; month = mo; day = d; hour = h; minute = mi; second = s; offset_hours = oh; offset_minutes = om; offset_seconds = os } in
+    value_given m v (date_of_value y mo d v.date p q r is_year is_month is_day real) (time_of_value m v.time a b c e time) (offset_of_value m v.offset i j k offset)

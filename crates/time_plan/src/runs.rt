@@ -1,0 +1,91 @@
+//! Dates and times of day at the front of a list.
+ghost use Rattle.std.specs.Prelude.{◌≡◌, ◌∷◌, [], true, IfSome, map, drop};
+ghost use Rattle.std.specs.Str.{is_utf8};
+ghost use Rattle.time_below.specs.Facts.{Facts};
+ghost use Rattle.time_below.specs.Tree.{of_component, text_literal, trees};
+ghost use Rattle.time_below.specs.Width.{component_width};
+ghost use Rattle.time_fmt.specs.Description.{component_outcome};
+ghost use Rattle.time_plan.specs.Shown.{part_component, run_tree};
+ghost use Rattle.time_plan.specs.Steps.{IsAlike, Begins};
+
+use crate::shown::{Part, Run, Separators};
+use time_below::format_description::{Component, Layer, Node, component_width};
+
+/// The date or the time of day at the front of the nodes, and the nodes behind it.
+#[inline(always)]
+pub(crate) fn run_of<T: Node>(nodes: &[T]) -> Option<(Run, &[T])>
+    ensures begins { IfSome result (λ found. Begins (trees (map T.tree nodes.now)) (run_tree found.0)
+        (trees (map T.tree found.1.now))) }
+    ensures behind { IfSome result (λ found. found.1.now ≡ drop 5 nodes.now) }
+{
+    let [first, before_second, second, before_third, third, ..] = nodes else {
+        return None;
+    };
+    let first = part_of(first)?;
+    let between = Separators {
+        first: byte_of(before_second)?,
+        second: byte_of(before_third)?,
+    };
+    match (first, part_of(second)?, part_of(third)?) {
+        (Part::Year, Part::Month, Part::Day) => Some((Run::Date(between), &nodes[5..])),
+        (Part::Hour, Part::Minute, Part::Second) => Some((Run::Time(between), &nodes[5..])),
+        _ => None,
+    }
+}
+
+/// The part that a node is, if it is one.
+#[inline(always)]
+fn part_of<T: Node>(node: &T) -> Option<Part>
+    ensures { IfSome result (λ part. IsAlike (T.tree node.now) (of_component (part_component part))) }
+{
+    match node.layer() {
+        Layer::Component(component) => Part::of(kept_of(component)),
+        _ => None,
+    }
+}
+
+/// The byte that a node is, if it is a text of one.
+#[inline(always)]
+fn byte_of<T: Node>(node: &T) -> Option<u8>
+    ensures tree { IfSome result (λ byte. T.tree node.now ≡ text_literal (byte ∷ [])) }
+    ensures text { IfSome result (λ byte. is_utf8 (byte ∷ []) ≡ true) }
+{
+    match node.layer() {
+        Layer::Text(text) => match text.as_bytes() {
+            [byte] => Some(*byte),
+            _ => None,
+        },
+        _ => None,
+    }
+}
+
+/// The current component in the place of a deprecated one, where it is as wide.
+#[inline]
+pub(crate) fn kept_of(component: Component) -> Component
+    ensures outcome { (f : Facts) → component_outcome result f ≡ component_outcome component f }
+    ensures width { component_width result ≡ component_width component }
+{
+    match component {
+        Component::Month(_)
+        | Component::Weekday(_)
+        | Component::WeekNumber(_)
+        | Component::Hour(_)
+        | Component::UnixTimestamp(_)
+        | Component::Year(_) => current_if_as_wide(component),
+        _ => component,
+    }
+}
+
+/// The current component in the place of any one, where it is as wide.
+#[cold]
+fn current_if_as_wide(component: Component) -> Component
+    ensures outcome { (f : Facts) → component_outcome result f ≡ component_outcome component f }
+    ensures width { component_width result ≡ component_width component }
+{
+    let current = component.current();
+    if component_width(&current) == component_width(&component) {
+        current
+    } else {
+        component
+    }
+}
