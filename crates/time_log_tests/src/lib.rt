@@ -2,7 +2,7 @@
 #![tactic(auto)]
 
 #[cfg(test)]
-mod beside;
-pub mod recipes;
+mod beside_iso8601;
 #[cfg(test)]
-mod rows;
+mod log_texts;
+pub mod recipes;

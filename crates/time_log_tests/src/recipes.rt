@@ -12,7 +12,11 @@ pub fn times_of_log() -> LogTime {
 }
 
 /// Appends a line such as `2026-11-22T09:55:06.120Z up`. The times are kept for the next line.
-pub fn append_line(log: &mut Vec<u8>, times: &mut LogTime, now: Timestamp) -> Result<usize, Format> {
+pub fn append_line(
+    log: &mut Vec<u8>,
+    times: &mut LogTime,
+    now: Timestamp,
+) -> Result<usize, Format> {
     let count = times.append(log, now)?;
     match log.extend_from_slice(b" up\n") {
         Ok(()) => Ok(count + 4),

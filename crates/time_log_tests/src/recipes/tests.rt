@@ -7,7 +7,11 @@ use time_fmt::Format;
 use time_log::LogTime;
 
 /// Appends the line. No clause is handed on.
-fn append(log: &mut Vec<u8>, times: &mut LogTime, nanosecond: u32) -> Option<Result<usize, Format>> {
+fn append(
+    log: &mut Vec<u8>,
+    times: &mut LogTime,
+    nanosecond: u32,
+) -> Option<Result<usize, Format>> {
     let Ok(now) = Timestamp::new(1_795_341_306, nanosecond) else {
         return None;
     };
