@@ -167,13 +167,15 @@ longer_more zero len n capacity whole same longer h = let e = same refl in omega
 longer_more (suc k) len n capacity whole same longer h = let e = longer (omega arith) in omega (arith, e)
 
 -- an item whose text was put or lost
-one_tree_more : {before after : Type 0} {I : Type 0} (g : I → Result Tree Reason) (items : List I) (i : ℕ) (d : I) (t : Tree)
-    (old now new : Buffer) (lost more : ℕ) (f : Facts) (all : Result (List Tree) Reason)
-    → i < length items → g (get_or items i d) ≡ Ok t → after
-    → EndsOrIsLost (tree_width t) now new (Ok more) (tree_outcome t f)
+pub one_more : {before after : Type 0} {I : Type 0} (g : I → Result Tree Reason) (items : List I) (i : ℕ) (d : I)
+    (next : Result Tree Reason) (old now new : Buffer) (lost more total : ℕ) (f : Facts) (all : Result (List Tree) Reason)
+    → i < length items → g (get_or items i d) ≡ next → after → ItemEndsOrIsLost next f now new (Ok more)
+    → total ≡ min (lost + more) 0xffff_ffff_ffff_ffff
     → SoFar before old now lost f all (list_of (map g (drop i items)))
-    → SoFar after old new (min (lost + more) 0xffff_ffff_ffff_ffff) f all (list_of (map g (drop (i + 1) items)))
-one_tree_more g items i d t old now new lost more f all inside there state step so_far =
+    → SoFar after old new total f all (list_of (map g (drop (i + 1) items)))
+one_more g items i d (Err r) old now new lost more total f all inside there state step sum so_far =
+    absurd (let e = step in cc)
+one_more g items i d (Ok t) old now new lost more total f all inside there state step sum so_far =
     let a = tree_outcome t f in
     let next = next_there g items i d t inside there in
     let left = list_of (map g (drop (i + 1) items)) in
@@ -193,11 +195,11 @@ one_tree_more g items i d t old now new lost more f all inside there state step 
       within = omega (arith, so_far.within, step.1, long);
       outcome = outcome;
       widths = widths;
-      small = omega arith;
-      counted = omega (arith, so_far.counted, so_far.small, put.0, put.1.grown, long);
-      written = λ none. let before = so_far.written (omega (arith, none, put.0, so_far.small)) in
+      small = omega (arith, sum);
+      counted = omega (arith, sum, so_far.counted, so_far.small, put.0, put.1.grown, long);
+      written = λ none. let before = so_far.written (omega (arith, sum, none, put.0, so_far.small)) in
           (put.1.appended ∙ ap (λ (bytes : List ℕ). bytes ++ a.bytes) before.0, omega (arith, before.1, put.1.grown, long));
-      longer = λ some. let before = so_far.longer (omega (arith, some, put.0)) in
+      longer = λ some. let before = so_far.longer (omega (arith, sum, some, put.0)) in
           omega (arith, before, long);
     })
     (λ (no : (more ≡ length a.bytes) × (0 < more) × (now.capacity < now.len + more) × (new ≡ now)). record {
@@ -209,9 +211,9 @@ one_tree_more g items i d t old now new lost more f all inside there state step 
       within = omega (arith, so_far.within, step.1, long);
       outcome = outcome;
       widths = widths;
-      small = omega arith;
-      counted = rw no.3 (omega (arith, so_far.counted, so_far.small, no.0, long));
-      written = λ none. absurd (omega (arith, none, no.1));
+      small = omega (arith, sum);
+      counted = rw no.3 (omega (arith, sum, so_far.counted, so_far.small, no.0, long));
+      written = λ none. absurd (omega (arith, sum, none, no.1));
       longer = λ _. let same : lost ≡ 0 → now.len ≡ length so_far.text = λ h. (so_far.written h).1 in
           let longer = longer_more lost now.len more old.capacity (length so_far.text) same so_far.longer
           (omega (arith, so_far.capacity, no.2)) in
@@ -219,48 +221,24 @@ one_tree_more g items i d t old now new lost more f all inside there state step 
     })
     step.2
 
--- so was one that ended
-one_tree_ended : {before after : Type 0} {I : Type 0} {u : Unit} (g : I → Result Tree Reason) (items : List I) (i : ℕ)
-    (d : I) (t : Tree) (old now new : Buffer) (lost : ℕ) (f : Facts) (all : Result (List Tree) Reason)
-    → i < length items → g (get_or items i d) ≡ Ok t → after
-    → Ends (tree_width t) now new (Ok u) (tree_outcome t f)
-    → SoFar before old now lost f all (list_of (map g (drop i items)))
-    → SoFar after old new lost f all (list_of (map g (drop (i + 1) items)))
-one_tree_ended {after = after} g items i d t old now new lost f all inside there state ends so_far =
-    let same : min (lost + 0) 0xffff_ffff_ffff_ffff ≡ lost = omega (arith, so_far.small) in
-    subst (λ n. SoFar after old new n f all (list_of (map g (drop (i + 1) items)))) same
-    (one_tree_more g items i d t old now new lost 0 f all inside there state (
-      sym ends.refusal,
-      omega (arith, ends.grown, ends.within),
-      inl (
-        refl,
-        record {
-          appended = ends.appended;
-          counted = refl;
-          grown = ends.grown;
-          capacity = ends.capacity;
-          lender = ends.lender;
-        },
-      ),
-    ) so_far)
-
-pub one_more_ended : {before after : Type 0} {I : Type 0} {u : Unit} (g : I → Result Tree Reason) (items : List I) (i : ℕ)
-    (d : I) (next : Result Tree Reason) (old now new : Buffer) (lost : ℕ) (f : Facts) (all : Result (List Tree) Reason)
-    → i < length items → g (get_or items i d) ≡ next → after → EndsItem next f now new (Ok u)
-    → SoFar before old now lost f all (list_of (map g (drop i items)))
-    → SoFar after old new lost f all (list_of (map g (drop (i + 1) items)))
-one_more_ended g items i d (Ok t) old now new lost f all inside is state ends so_far =
-    one_tree_ended g items i d t old now new lost f all inside is state ends so_far
-one_more_ended g items i d (Err r) old now new lost f all inside is state ends so_far = absurd ends
-
-pub one_more : {before after : Type 0} {I : Type 0} (g : I → Result Tree Reason) (items : List I) (i : ℕ)
-    (d : I) (next : Result Tree Reason) (old now new : Buffer) (lost more : ℕ) (f : Facts) (all : Result (List Tree) Reason)
-    → i < length items → g (get_or items i d) ≡ next → after → ItemEndsOrIsLost next f now new (Ok more)
-    → SoFar before old now lost f all (list_of (map g (drop i items)))
-    → SoFar after old new (min (lost + more) 0xffff_ffff_ffff_ffff) f all (list_of (map g (drop (i + 1) items)))
-one_more g items i d (Ok t) old now new lost more f all inside is state ends so_far =
-    one_tree_more g items i d t old now new lost more f all inside is state ends so_far
-one_more g items i d (Err r) old now new lost more f all inside is state ends so_far = absurd (let e = ends in cc)
+-- what ended was put
+pub ended : {u : Unit} (next : Result Tree Reason) (f : Facts) (now new : Buffer) → EndsItem next f now new (Ok u)
+    → ItemEndsOrIsLost next f now new (Ok 0)
+ended (Err r) f now new ends = absurd ends
+ended (Ok t) f now new ends = (
+  sym ends.refusal,
+  omega (arith, ends.grown, ends.within),
+  inl (
+    refl,
+    record {
+      appended = ends.appended;
+      counted = refl;
+      grown = ends.grown;
+      capacity = ends.capacity;
+      lender = ends.lender;
+    },
+  ),
+)
 
 -- ---- a component in an array
 
@@ -291,16 +269,6 @@ refused_of (Ok ts) (Ok others) text t f r old new refused same =
     = let e = same in cc in
     rw is (refused_first (tree_outcome t f) (trees_outcome (trees others) f) r refused)
 
--- an item is refused, and no item is invalid, or the first that is
-refused_here : {agrees : Type 0} {I : Type 0} (g : I → Result Tree Reason) (items : List I) (i : ℕ) (d : I) (t : Tree)
-    (old now new : Buffer) (lost : ℕ) (f : Facts) (all : Result (List Tree) Reason) (r : Reason)
-    → i < length items → g (get_or items i d) ≡ Ok t → IsRefusedFor r (tree_outcome t f)
-    → SoFar agrees old now lost f all (list_of (map g (drop i items))) → IsPut all f (Err (reason_before all r)) old new
-refused_here g items i d t old now new lost f all r inside there refused so_far =
-    refused_of all (list_of (map g (drop (i + 1) items))) so_far.text t f r old new refused
-    (so_far.outcome ∙ ap (λ left. with_value left (λ ts. Ok (join (done so_far.text) (trees_outcome (trees ts) f))))
-    (next_there g items i d t inside there))
-
 invalid_of : (all : Result (List Tree) Reason) (f : Facts) (r q : Reason) (old new : Buffer)
     → with_value all (λ ts. Ok (trees_outcome (trees ts) f)) ≡ Err r → IsPut all f (Err (reason_before all q)) old new
 invalid_of (Ok ts) f r q old new same = absurd (let e = same in cc)
@@ -312,7 +280,9 @@ pub stops_here : {agrees : Type 0} {I : Type 0} (g : I → Result Tree Reason) (
     → i < length items → g (get_or items i d) ≡ next → ItemEndsOrIsLost next f now mid (Err r)
     → SoFar agrees old now lost f all (list_of (map g (drop i items))) → IsPut all f (Err (reason_before all r)) old new
 stops_here g items i d (Ok t) old now mid new lost f all r inside is ends so_far =
-    refused_here g items i d t old now new lost f all r inside is ends so_far
+    refused_of all (list_of (map g (drop (i + 1) items))) so_far.text t f r old new ends (so_far.outcome
+    ∙ ap (λ left. with_value left (λ ts. Ok (join (done so_far.text) (trees_outcome (trees ts) f))))
+    (next_there g items i d t inside is))
 stops_here g items i d (Err q) old now mid new lost f all r inside is ends so_far =
     invalid_of all f q r old new (so_far.outcome
     ∙ ap (λ left. with_value left (λ ts. Ok (join (done so_far.text) (trees_outcome (trees ts) f))))
@@ -324,16 +294,13 @@ reason_of_refused refused.Unsupplied error.InsufficientTypeInformation r names i
 reason_of_refused refused.YearOutOfRange (error.ComponentRange range) r names is = rw is tt
 reason_of_refused refused e r names is = grind (arith, common_steps)
 
-refused_for : (o : Outcome) (refused : Refused) (e : Format) (r : Reason) → Some (refusal_of refused) ≡ o.refusal
-    → Names e (refusal_of refused) → IsReasonFor r e → IsRefusedFor r o
-refused_for o refused e r is names reason = rw (← is) (reason_of_refused refused e r names reason)
-
 -- a refusal that is named ends an item
 pub ended_refused : (next : Result Tree Reason) (f : Facts) (now new : Buffer) (answer : Result Unit Refused)
     (refused : Refused) (e : Format) (r : Reason) → answer ≡ Err refused → EndsItem next f now new answer
     → Names e (refusal_of refused) → IsReasonFor r e → ItemEndsOrIsLost next f now new (Err r)
 ended_refused (Ok t) f now new answer refused e r is ends names reason =
-    refused_for (tree_outcome t f) refused e r (sym (ap refusal_in is) ∙ ends.refusal) names reason
+    let same : Some (refusal_of refused) ≡ (tree_outcome t f).refusal = sym (ap refusal_in is) ∙ ends.refusal in
+    rw (← same) (reason_of_refused refused e r names reason)
 ended_refused (Err q) f now new answer refused e r is ends names reason = absurd ends
 
 whole_of : {agrees : Type 0} (all left : Result (List Tree) Reason) (old now : Buffer) (lost : ℕ) (f : Facts)

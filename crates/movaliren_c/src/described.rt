@@ -33,7 +33,7 @@ const LONGEST: usize = 18;
 
 /// Writes a component with these choices.
 macro_rules! usual {
-    ($name:ident { $($choice:ident),+ }, $output:ident, $value:ident, $state:ident) => {
+    ($name:ident: $($choice:ident),+; $output:ident, $value:ident, $state:ident) => {
         Some(write_part(modifier::$name { $($choice),+ }, $output, $value, $state))
     };
 }
@@ -224,31 +224,17 @@ fn write_usual<S: Sink, V: ComponentProvider>(
     }
     let (padding, sign_is_mandatory, case_sensitive) = (Padding::Zero, false, true);
     match item.kind {
-        1 => usual!(Day { padding }, output, value, state),
-        2 => usual!(MonthShort { case_sensitive }, output, value, state),
-        4 => usual!(MonthNumerical { padding }, output, value, state),
-        13 => usual!(
-            CalendarYearFullExtendedRange {
-                padding,
-                sign_is_mandatory
-            },
-            output,
-            value,
-            state
-        ),
-        14 => usual!(
-            CalendarYearFullStandardRange {
-                padding,
-                sign_is_mandatory
-            },
-            output,
-            value,
-            state
-        ),
-        24 => usual!(Hour24 { padding }, output, value, state),
-        25 => usual!(Minute { padding }, output, value, state),
-        27 => usual!(Second { padding }, output, value, state),
-        30 => usual!(OffsetMinute { padding }, output, value, state),
+        1 => usual!(Day: padding; output, value, state),
+        2 => usual!(MonthShort: case_sensitive; output, value, state),
+        4 => usual!(MonthNumerical: padding; output, value, state),
+        13 =>
+            usual!(CalendarYearFullExtendedRange: padding, sign_is_mandatory; output, value, state),
+        14 =>
+            usual!(CalendarYearFullStandardRange: padding, sign_is_mandatory; output, value, state),
+        24 => usual!(Hour24: padding; output, value, state),
+        25 => usual!(Minute: padding; output, value, state),
+        27 => usual!(Second: padding; output, value, state),
+        30 => usual!(OffsetMinute: padding; output, value, state),
         _ => None,
     }
 }

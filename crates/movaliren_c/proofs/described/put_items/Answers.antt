@@ -1,6 +1,6 @@
 use Rattle.std.proofs.Common.{◌<◌, refl, arith, length}
 use Rattle.movaliren_c.specs.Items.{trees_of}
-use Rattle.movaliren_c.proofs.DescribedLemmas.{ended_refused, one_more, one_more_ended, stops_here}
+use Rattle.movaliren_c.proofs.DescribedLemmas.{ended, ended_refused, one_more, stops_here}
 use Rattle.movaliren_c.proofs.described.put_items.Goals as goal
 use Rattle.movaliren_c.proofs.described.put_items.Goals.{in-Some-Ok, in-None+in-Ok}
 
@@ -28,13 +28,15 @@ loop-item-preserved g c =
     elim c.match-write_usual.branch [
       | in-Some-Ok w ↦
           rw (w.output-is, w.state-is, w.lost-is)
-          (one_more_ended {after = g.V.ComponentProvider.agrees c.write_usual.new.state c.args.value.now}
-          _ _ _ _ _ _ _ _ _ _ (trees_of c.args.texts.now c.args.items.now) inside refl w.in-Some-Ok.ensures.agrees
-          (rw w.in-Some-Ok.field-0-is at w.in-Some-Ok.ensures.writes) c.loop-item.invariant)
+          (one_more {after = g.V.ComponentProvider.agrees c.write_usual.new.state c.args.value.now}
+          _ _ _ _ _ _ _ _ _ 0 _ _ (trees_of c.args.texts.now c.args.items.now) inside refl w.in-Some-Ok.ensures.agrees
+          (ended _ (g.V.ComponentProvider.facts c.args.value.now) (g.S.Sink.buffer c.loop-item.output)
+          (g.S.Sink.buffer c.write_usual.new.output) (rw w.in-Some-Ok.field-0-is at w.in-Some-Ok.ensures.writes))
+          (omega (arith, c.loop-item.invariant.small)) c.loop-item.invariant)
       | in-None+in-Ok w ↦
-          rw (w.output-is, w.state-is, w.lost-is, w.saturating_add-lost.ensures, w.put_back.ensures.put)
+          rw (w.output-is, w.state-is, w.lost-is, w.put_back.ensures.put)
           (one_more {after = g.V.ComponentProvider.agrees w.write_item-answer.new.state c.args.value.now}
-          _ _ _ _ _ _ _ _ _ _ _ (trees_of c.args.texts.now c.args.items.now) inside refl w.in-Ok.ensures.agrees
+          _ _ _ _ _ _ _ _ _ _ _ _ (trees_of c.args.texts.now c.args.items.now) inside refl w.in-Ok.ensures.agrees
           (rw (w.take_out-apart.ensures.taken, w.in-None.ensures.writes) at w.in-Ok.ensures.ends)
-          c.loop-item.invariant)
+          w.saturating_add-lost.ensures c.loop-item.invariant)
     ]
