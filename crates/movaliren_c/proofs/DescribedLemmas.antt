@@ -1,11 +1,11 @@
 -- Descriptions, item by item.
 use Rattle.std.proofs.Common.{◌≡◌, ◌≤◌, ◌<◌, ◌+◌, ◌++◌, ℕ, min, List, [], ◌∷◌, length, drop, take, get_or, map, None, Some, Option, IfOk, Result, Ok, Err}
-use Rattle.std.proofs.Common.{zero, suc, ⊎_elim, inl, refl, sym, ap, ◌∙◌, arith, append_assoc, length-append, subst}
+use Rattle.std.proofs.Common.{zero, suc, ⊎_elim, inl, refl, sym, ap, ◌∙◌, arith, append_assoc, length-append}
 use Rattle.std.proofs.Math.Seq.{take-append_seam}
 use Rattle.std.proofs.lemmas.Grind.{common_steps}
 use Rattle.std.proofs.lemmas.List.{append-nil, at_drop_more, at_drop_all}
 use Rattle.movaliren_c.specs.Answer.{IsReasonFor, IsRefusedFor, IsText, Refuses}
-use Rattle.movaliren_c.specs.Items.{EndsItem, EndsOrIsLost, ItemEndsOrIsLost, IsPut, IsShown, IsWithinWidth, described, list_of, reason_before}
+use Rattle.movaliren_c.specs.Items.{EndsItem, ItemEndsOrIsLost, IsPut, IsShown, IsWithinWidth, described, list_of, reason_before}
 use Rattle.movaliren_c.specs.Value.{with_value}
 use Rattle.movaliren_c.specs.declared.reason.Reason.{Reason}
 use Rattle.movaliren_c.specs.declared.reason.Reason.TheVariants as reason
@@ -14,7 +14,7 @@ use Rattle.time_below.specs.Tree.{Tree, trees}
 use Rattle.time_below.specs.Width.{component_width, tree_width, trees_width}
 use Rattle.time_below.specs.declared.format_description.component.Component.{Component}
 use Rattle.time_fmt.specs.Description.{tree_outcome, trees_outcome}
-use Rattle.time_fmt.specs.Ends.{Ends, refusal_in, refusal_of}
+use Rattle.time_fmt.specs.Ends.{refusal_in, refusal_of}
 use Rattle.time_fmt.specs.declared.error.Format.{Format}
 use Rattle.time_fmt.specs.declared.error.Format.TheVariants as error
 use Rattle.time_fmt.specs.declared.refused.Refused.{Refused}
