@@ -1,9 +1,8 @@
 //! Finds the library: in the folder `MOVALIREN_LIB`, else where `rt lib` builds it in this repository,
 //! else where it is installed, by pkg-config.
 //!
-//! An installed library is one archive, `libmovaliren.a`. The one that `rt lib` builds is
-//! `libmovaliren_c.a`, and needs the archive `liblibc_c.a` of the toolchain's kit after it: in the
-//! folder `RATTLE_C`, else in the folder `c` of the kit of `rt`.
+//! An installed library is the archive `libmovaliren.a`. The one that `rt lib` builds is
+//! `libmovaliren_c.a`.
 //!
 //! The version of the library is that of pkg-config, or of the header where there is one. It must be of the same
 //! interface as this crate.
@@ -20,10 +19,6 @@ the library of Movaliren was not found, so nothing links. Do one of these:
   - build it in the repository:  (cd crates/movaliren_c && rt lib)
   - install it, where pkg-config finds it:  make -C bindings/c install PREFIX=..
   - set MOVALIREN_LIB to the folder of libmovaliren.a, libmovaliren.so or libmovaliren_c.a";
-
-const NO_KIT: &str = "\
-libmovaliren_c.a needs liblibc_c.a of the toolchain's kit, which was not found, so nothing links. Put `rt`
-on the PATH, or set RATTLE_C to the folder of liblibc_c.a";
 
 /// A library's file, its kind for rustc, and its name.
 const FILES: [(&str, &str, &str); 3] = [
@@ -66,14 +61,6 @@ fn folders_installed() -> Vec<PathBuf> {
         .filter_map(|flag| flag.strip_prefix("-L").map(PathBuf::from))
         .chain(asked("--variable=libdir").map(PathBuf::from))
         .collect()
-}
-
-fn folder_of_kit() -> Option<PathBuf> {
-    let in_kit = || {
-        let page = printed(Command::new("rt").arg("doc"))?;
-        Some(Path::new(&page).with_file_name("c"))
-    };
-    folder_of("RATTLE_C").or_else(in_kit)
 }
 
 /// The version in a header of the library, if it is one.
@@ -131,19 +118,7 @@ fn link(folder: &Path, file: &str, kind: &str, library: &str) {
 fn linked_in(folder: &Path) -> Result<(), String> {
     let is_there = |file: &&(&str, _, _)| folder.join(file.0).exists();
     let (file, kind, library) = FILES.iter().find(is_there).ok_or(NOT_FOUND)?;
-    let kit = match *library {
-        "movaliren_c" => Some(
-            folder_of_kit()
-                .filter(|kit| kit.join("liblibc_c.a").exists())
-                .ok_or(NO_KIT)?,
-        ),
-        _ => None,
-    };
     link(folder, file, kind, library);
-    // The library calls what the kit's archive has, so that archive follows it.
-    if let Some(kit) = kit {
-        link(&kit, "liblibc_c.a", "static", "libc_c");
-    }
     Ok(())
 }
 
