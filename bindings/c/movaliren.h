@@ -74,7 +74,7 @@ enum movaliren_error {
     MOVALIREN_ERROR_BAD_CONFIG = -18,
     MOVALIREN_ERROR_BAD_ITEM = -19,
     MOVALIREN_ERROR_NO_ROOM = -20,
-    MOVALIREN_ERROR_OUT_OF_MEMORY = -21,
+    MOVALIREN_ERROR_OUT_OF_MEMORY = -21, /* never returned */
     MOVALIREN_ERROR_OTHER = -22, /* never returned */
     MOVALIREN_ERROR_NOT_READ = -23
 };
