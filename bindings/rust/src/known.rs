@@ -1,4 +1,4 @@
-//! The well-known formats, of which none allocates.
+//! The well-known formats.
 use crate::batch::Batch;
 use crate::format::Format;
 use crate::{Error, LocalMoment, Moment, UtcMoment};
