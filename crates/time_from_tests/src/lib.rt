@@ -2,10 +2,10 @@
 #![tactic(auto)]
 
 #[cfg(test)]
-mod jiff;
+mod from_jiff;
 #[cfg(test)]
-mod strftime;
+mod from_strftime;
 #[cfg(test)]
-mod time;
+mod from_time;
 #[cfg(test)]
 mod values;
