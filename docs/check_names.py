@@ -1,8 +1,8 @@
 #!/usr/bin/env python3
 """Compares names of the pages with the sources.
 
-Each name in code that docs/PROVED.md and docs/DEFINITIONS.md have is one of the sources: a clause, a function, a type, a field, a module, a
-definition of `specs/` or a file. A name in brackets of docs/PROVED.md is one of the section's crate, or of a crate that it stands on.
+Each name in code that docs/PROVED.md, docs/DEFINITIONS.md, docs/DECISIONS.md and docs/TRUST.md have is one of the sources: a clause, a
+function, a type, a field, a module, a definition of `specs/` or a file. A name in brackets of docs/PROVED.md is one of the section's crate, or of a crate that it stands on.
 docs/ARCHITECTURE.md names each file of a crate's `src/` by its module, and no module that is not there. Links between pages lead to a
 page, and to a heading of it.
 """
@@ -25,6 +25,12 @@ DEFINED = [re.compile(pattern, re.M) for pattern in (
 OF_RATTLE = {
     "usize", "None", "Ok", "Err", "From", "TryFrom", "Vec", "Debug", "true", "false", "Result", "Option", "must-fail",
     "jiff", "Zoned", "impl", "self", "now", "gate", "old", "new", "push",
+}
+# Names of the standard library, of the kit, of C and of other crates, in docs/DECISIONS.md and docs/TRUST.md.
+OF_OTHERS = {
+    "AllocError", "Display", "extend_from_slice", "last_mut", "push_reserved", "reserve", "reserve_exact", "to_string",
+    "final", "unsafe", "memcmp", "memcpy", "memmove", "memset", "arrayvec", "bstr", "clap", "jiff_strtime", "thiserror",
+    "chrono", "serde", "serialize_with", "datetime", "bench", "movaliren", "display",
 }
 # Modules that docs/ARCHITECTURE.md need not name: roots of crates, tests, and laws, which it names once for all.
 UNNAMED = {"lib", "main", "tests", "laws"}
@@ -117,17 +123,20 @@ def broken_links():
 
 
 def main():
-    proved, architecture, definitions = (
-        (TOP / f"docs/{name}.md").read_text() for name in ("PROVED", "ARCHITECTURE", "DEFINITIONS"))
+    proved, architecture, definitions, decisions, trust = (
+        (TOP / f"docs/{name}.md").read_text() for name in ("PROVED", "ARCHITECTURE", "DEFINITIONS", "DECISIONS", "TRUST"))
     below = crates()
     links, count = broken_links()
     wrong = [f"docs/PROVED.md names what no source has: {it}" for it in sorted(set(unknown_in_proved(proved, below)))]
     every = {it for crate in below for it in names_of(crate)} | set(below) | OF_RATTLE
     wrong += [f"docs/DEFINITIONS.md names what no source has: {it}" for it in sorted(defined_in(definitions) - every)]
+    wrong += [f"docs/{name}.md names what no source has: {it}"
+              for name, page in (("DECISIONS", decisions), ("TRUST", trust)) for it in sorted(defined_in(page) - every - OF_OTHERS)]
     wrong += unknown_in_architecture(architecture) + links
     for it in wrong:
         print(it)
-    print(f"{len(words_of(proved + definitions))} names of PROVED and DEFINITIONS, {count} links: {'they differ' if wrong else 'each is there'}")
+    names = len(words_of(proved + definitions)) + len(defined_in(decisions) | defined_in(trust))
+    print(f"{names} names of PROVED, DEFINITIONS, DECISIONS and TRUST, {count} links: {'they differ' if wrong else 'each is there'}")
     return 1 if wrong else 0
 
 

@@ -130,8 +130,8 @@ static void try_descriptions(void)
 #define X16 "xxxxxxxxxxxxxxxx"
 #define X126 X16 X16 X16 X16 X16 X16 X16 "xxxxxxxxxxxxxx"
 
-/* Items of the usual kinds and choices, alone and beside others, and texts about the length of the array of 128 bytes
- * to which a text is written first. */
+/* Items of the usual kinds and choices, which the library writes by constants, and others beside them. A text of more
+ * than 128 bytes is written twice. */
 static void try_usual_items(void)
 {
     static const struct movaliren_moment parts = MOMENT(1997, 11, 12, 9, 55, 6, 120000000, -6, 0, 0),
@@ -190,7 +190,7 @@ static void try_usual_items(void)
             TEXT(1, 1)),
         BY(described, &no_day, "", 0, MOVALIREN_ERROR_DAY, { .kind = MOVALIREN_DAY }),
         BY(described_utc, &too_late, "", 0, MOVALIREN_ERROR_MOMENT_SECONDS, { .kind = MOVALIREN_DAY }),
-        /* RFC 3339, section 5.8, by items of the usual kinds and choices, and by others */
+        /* RFC 3339, section 5.8, by items of the usual choices, and by others */
         BY(described_local, &pacific, "T:", "19T16:39-0800", 0, { .kind = MOVALIREN_DAY }, TEXT(0, 1),
             { .kind = MOVALIREN_HOUR }, TEXT(1, 1), { .kind = MOVALIREN_MINUTE },
             { .kind = MOVALIREN_OFFSET_HOUR, .flag = 1 }, { .kind = MOVALIREN_OFFSET_MINUTE }),

@@ -75,7 +75,7 @@ enum movaliren_error {
     MOVALIREN_ERROR_BAD_ITEM = -19,
     MOVALIREN_ERROR_NO_ROOM = -20,
     MOVALIREN_ERROR_OUT_OF_MEMORY = -21, /* never returned */
-    MOVALIREN_ERROR_OTHER = -22, /* never returned */
+    MOVALIREN_ERROR_OTHER = -22,         /* never returned */
     MOVALIREN_ERROR_NOT_READ = -23
 };
 
@@ -476,8 +476,8 @@ enum movaliren_kind {
 enum movaliren_padding { MOVALIREN_ZERO = 0, MOVALIREN_SPACE = 1, MOVALIREN_NO_PADDING = 2 };
 
 /* An item of a description. Another number than these, or a text that is not within the texts, is
- * MOVALIREN_ERROR_BAD_ITEM, and so is an item of zeros alone. padding, flag and digits of a component are tested even if its kind does
- * not use them. */
+ * MOVALIREN_ERROR_BAD_ITEM, and so is an item of zeros alone. padding, flag and digits of a component are tested
+ * even if its kind does not use them. */
 struct movaliren_item {
     uint32_t kind;   /* movaliren_kind */
     uint8_t padding; /* movaliren_padding */

@@ -3,8 +3,9 @@
 //
 //     std::cout << movaliren::rfc3339(std::chrono::system_clock::now()) << '\n';
 //
-// A call allocates nothing but where it returns a std::string. A time point has any duration; what is finer than a
-// nanosecond is rounded down, before 1970 too. With <format>, a text is an argument of std::format.
+// A call allocates nothing but where it returns a std::string, or adds to a description, which is held in a vector and
+// a string. A time point has any duration; what is finer than a nanosecond is rounded down, before 1970 too. With
+// <format>, a text is an argument of std::format.
 #ifndef MOVALIREN_HPP
 #define MOVALIREN_HPP
 

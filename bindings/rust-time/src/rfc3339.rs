@@ -1,6 +1,6 @@
 //! Moments for `serde` as texts of RFC 3339.
 //!
-//! Values are written, and not read: this crate has no reader.
+//! Values are written, and not read: there is no `deserialize`. `Rfc3339::read` of `movaliren` reads a text back.
 //!
 //! ```
 //! use movaliren::UtcMoment;

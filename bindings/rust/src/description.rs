@@ -140,7 +140,7 @@ pub struct Date {
     pub day: u8,
 }
 
-/// A list of literals and components. It formats a [`Moment`], a [`UtcMoment`] and a [`Date`].
+/// A list of literals and components. It formats a [`Moment`], a [`UtcMoment`], a [`LocalMoment`] and a [`Date`].
 ///
 /// Two descriptions are equal if their items are. [`description!`](crate::description) makes one that is
 /// a constant.

@@ -46,7 +46,7 @@ pub enum Error {
     BadItem,
     /// The text does not fit the buffer.
     NoRoom,
-    /// An allocation failed.
+    /// An allocation of this crate failed. The library allocates nothing.
     OutOfMemory,
     /// The format cannot represent a component. The library never returns this reason.
     Other,

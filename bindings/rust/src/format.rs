@@ -28,8 +28,8 @@ use alloc::vec::Vec;
 /// # Errors
 ///
 /// Each method returns the reason why the value has no text. An [`Error`] names the part that is out of
-/// its range, or the one that the format cannot represent. A method that appends to a vector or a `String`
-/// returns [`Error::OutOfMemory`] where the allocation for it fails.
+/// its range, or the one that the format cannot represent. A method that grows a vector or a `String` returns
+/// [`Error::OutOfMemory`] where an allocation fails. The library allocates nothing.
 pub trait Format<V>: raw::Call<V> {
     /// The greatest number of bytes that a text has.
     fn width(&self) -> usize;
