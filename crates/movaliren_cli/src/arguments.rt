@@ -50,121 +50,111 @@ Descriptions:
   a text with %  as of strftime: '%Y-%m-%d %H:%M:%S'
   other texts    '[year]-[month]-[day] [hour]:[minute]'";
 
+/// An option without a value.
+fn flag<'a>(alloc: Global, name: &'a str, help: &'a str) -> Arg<'a> {
+    Arg::new(alloc, name)
+        .long(name)
+        .action(ArgAction::SetTrue)
+        .help(help)
+}
+
+/// An option with a value.
+fn option<'a>(alloc: Global, name: &'a str, value: &'a str, help: &'a str) -> Arg<'a> {
+    Arg::new(alloc, name)
+        .long(name)
+        .value_name(value)
+        .help(help)
+}
+
 /// The description and the options of all jobs.
 fn with_options<'a>(alloc: Global, command: Command<'a>) -> Result<Command<'a>, Error> {
     let description = Arg::new(alloc, "DESCRIPTION")
         .help("What the text of a moment looks like")
         .default_value("rfc3339");
-    let utc = Arg::new(alloc, "utc")
-        .short('u')
-        .long("utc")
-        .action(ArgAction::SetTrue)
-        .help("Shows UTC, which is the default");
-    let offset = Arg::new(alloc, "offset")
-        .long("offset")
-        .value_name("OFFSET")
-        .allow_hyphen_values(true)
-        .help("Shows the time at an offset such as +05:30");
-    let zone = Arg::new(alloc, "zone")
-        .short('z')
-        .long("zone")
-        .value_name("NAME")
-        .help("Shows the time in a zone such as Europe/Berlin");
-    let local = Arg::new(alloc, "local")
-        .short('l')
-        .long("local")
-        .action(ArgAction::SetTrue)
-        .help("Shows the time in the zone of the system, or of the variable TZ");
-    let clock = ArgGroup::new(alloc, "clock")
-        .arg("utc")?
-        .arg("offset")?
-        .arg("zone")?
-        .arg("local")?;
-    Ok(
-        command
-            .after_help(DESCRIPTIONS)
-            .arg(description)?
-            .arg(utc)?
-            .arg(offset)?
-            .arg(zone)?
-            .arg(local)?
-            .group(clock)?,
-    )
+    let command = with_offset(alloc, command.after_help(DESCRIPTIONS).arg(description)?)?;
+    let command = with_zone(alloc, command)?;
+    let clock = ArgGroup::new(alloc, "clock");
+    let clock = clock.arg("utc")?.arg("offset")?.arg("zone")?.arg("local")?;
+    Ok(command.group(clock)?)
+}
+
+/// The options for UTC and for an offset from it.
+fn with_offset<'a>(alloc: Global, command: Command<'a>) -> Result<Command<'a>, Error> {
+    let utc = flag(alloc, "utc", "Shows UTC, which is the default").short('u');
+    let command = command.arg(utc)?;
+    let help = "Shows the time at an offset such as +05:30";
+    let offset = option(alloc, "offset", "OFFSET", help).allow_hyphen_values(true);
+    Ok(command.arg(offset)?)
+}
+
+/// The options for a zone.
+fn with_zone<'a>(alloc: Global, command: Command<'a>) -> Result<Command<'a>, Error> {
+    let help = "Shows the time in a zone such as Europe/Berlin";
+    let command = command.arg(option(alloc, "zone", "NAME", help).short('z'))?;
+    let help = "Shows the time in the zone of the system, or of the variable TZ";
+    Ok(command.arg(flag(alloc, "local", help).short('l'))?)
 }
 
 /// The options for numbers.
 fn with_numbers<'a>(alloc: Global, command: Command<'a>) -> Result<Command<'a>, Error> {
-    let digits = Arg::new(alloc, "digits")
+    let help = "How many digits a number has at least [default: 9]";
+    let digits = option(alloc, "digits", "N", help)
         .short('d')
-        .long("digits")
-        .value_name("N")
-        .value_parser(value_parser!(u8).range(1..20))
-        .help("How many digits a number has at least [default: 9]");
-    let milliseconds = Arg::new(alloc, "milliseconds")
-        .long("milliseconds")
-        .action(ArgAction::SetTrue)
-        .help("Numbers are milliseconds, and not seconds");
-    let microseconds = Arg::new(alloc, "microseconds")
-        .long("microseconds")
-        .action(ArgAction::SetTrue)
-        .help("Numbers are microseconds");
-    let nanoseconds = Arg::new(alloc, "nanoseconds")
-        .long("nanoseconds")
-        .action(ArgAction::SetTrue)
-        .help("Numbers are nanoseconds");
-    let unit = ArgGroup::new(alloc, "unit")
+        .value_parser(value_parser!(u8).range(1..20));
+    let command = with_units(alloc, command.arg(digits)?)?;
+    let unit = ArgGroup::new(alloc, "unit");
+    let unit = unit
         .arg("milliseconds")?
         .arg("microseconds")?
         .arg("nanoseconds")?;
-    Ok(
-        command
-            .arg(digits)?
-            .arg(milliseconds)?
-            .arg(microseconds)?
-            .arg(nanoseconds)?
-            .group(unit)?,
-    )
+    Ok(command.group(unit)?)
+}
+
+/// The options for the unit of a number.
+fn with_units<'a>(alloc: Global, command: Command<'a>) -> Result<Command<'a>, Error> {
+    let help = "Numbers are milliseconds, and not seconds";
+    let command = command.arg(flag(alloc, "milliseconds", help))?;
+    let command = command.arg(flag(alloc, "microseconds", "Numbers are microseconds"))?;
+    Ok(command.arg(flag(alloc, "nanoseconds", "Numbers are nanoseconds"))?)
 }
 
 /// The option for lines without a moment.
 fn with_quiet<'a>(alloc: Global, command: Command<'a>) -> Result<Command<'a>, Error> {
-    let quiet = Arg::new(alloc, "quiet")
-        .short('q')
-        .long("quiet")
-        .action(ArgAction::SetTrue)
-        .help("Does not count the lines that pass as they are");
-    Ok(command.arg(quiet)?)
+    let help = "Does not count the lines that pass as they are";
+    Ok(command.arg(flag(alloc, "quiet", help).short('q'))?)
+}
+
+/// The job `now`.
+fn now<'a>(alloc: Global) -> Result<Command<'a>, Error> {
+    let about = "Puts the time at which it was read before each line";
+    with_options(alloc, Command::new(alloc, "now").about(about))
+}
+
+/// The job `unix`.
+fn unix<'a>(alloc: Global) -> Result<Command<'a>, Error> {
+    let about = "Replaces the first number of each line, Unix seconds, by its text";
+    let command = with_options(alloc, Command::new(alloc, "unix").about(about))?;
+    with_quiet(alloc, with_numbers(alloc, command)?)
+}
+
+/// The job `read`.
+fn read_back<'a>(alloc: Global) -> Result<Command<'a>, Error> {
+    let about = "Replaces the first text of RFC 3339 of each line, such as 2023-11-14T22:13:20Z";
+    with_quiet(
+        alloc,
+        with_options(alloc, Command::new(alloc, "read").about(about))?,
+    )
 }
 
 fn command<'a>(alloc: Global) -> Result<Command<'a>, Error> {
-    let now = with_options(
-        alloc,
-        Command::new(alloc, "now").about("Puts the time at which it was read before each line"),
-    )?;
-    let unix = with_options(
-        alloc,
-        Command::new(alloc, "unix").about(
-            "Replaces the first number of each line, Unix seconds, by its text",
-        ),
-    )?;
-    let unix = with_quiet(alloc, with_numbers(alloc, unix)?)?;
-    let read = with_options(
-        alloc,
-        Command::new(alloc, "read").about(
-            "Replaces the first text of RFC 3339 of each line, such as 2023-11-14T22:13:20Z",
-        ),
-    )?;
-    let read = with_quiet(alloc, read)?;
-    Ok(
-        Command::new(alloc, "movaliren")
-            .version("0.1.0")
-            .about("Formats the moments of the lines of standard input")
-            .subcommand_required(true)
-            .arg_required_else_help(true)
-            .subcommand(now)?
-            .subcommand(unix)?
-            .subcommand(read)?,
-    )
+    let command = Command::new(alloc, "movaliren")
+        .version("0.1.0")
+        .about("Formats the moments of the lines of standard input")
+        .subcommand_required(true)
+        .arg_required_else_help(true);
+    let command = command.subcommand(now(alloc)?)?;
+    let command = command.subcommand(unix(alloc)?)?;
+    Ok(command.subcommand(read_back(alloc)?)?)
 }
 
 fn clock_of<'a>(matches: &ArgMatches<'a>) -> Clock<'a> {

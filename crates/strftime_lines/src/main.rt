@@ -1,8 +1,9 @@
 //! Formats moments by descriptions in the syntax of strftime, for `tools/compare_strftime.py`.
 //!
 //! A line of standard input is eight numbers, a tab and a description. The numbers are the year, month
-//! and day, the hour, minute, second and nanosecond, and the seconds of the offset from UTC. The answer is a line of this library and one of the crate `jiff_strtime`: `ok COUNT TEXT`,
-//! with the number of bytes of the text, or `no REASON`.
+//! and day, the hour, minute, second and nanosecond, and the seconds of the offset from UTC. The answer
+//! is a line of this library and one of the crate `jiff_strtime`: `ok COUNT TEXT`, with the number of
+//! bytes of the text, or `no REASON`.
 #![tactic(auto)]
 
 use jiff_core::Offset;
@@ -55,17 +56,6 @@ fn numbers_of(text: &str) -> Option<Numbers> {
     })
 }
 
-/// The offset of so many seconds, if there is one.
-fn offset_of(seconds: i32) -> Option<UtcOffset> {
-    let hours = i8::try_from(seconds / 3_600).ok()?;
-    let minutes = i8::try_from(seconds % 3_600 / 60).ok()?;
-    let rest = i8::try_from(seconds % 60).ok()?;
-    match UtcOffset::from_hms(hours, minutes, rest) {
-        Ok(offset) => Some(offset),
-        Err(_) => None,
-    }
-}
-
 /// The moment of the numbers, if there is one.
 fn moment_of(numbers: Numbers) -> Option<OffsetDateTime> {
     let Ok(month) = Month::try_from(numbers.month) else {
@@ -82,7 +72,9 @@ fn moment_of(numbers: Numbers) -> Option<OffsetDateTime> {
     ) else {
         return None;
     };
-    let offset = offset_of(numbers.offset)?;
+    let Ok(offset) = UtcOffset::from_whole_seconds(numbers.offset) else {
+        return None;
+    };
     Some(OffsetDateTime::new_in_offset(date, time, offset))
 }
 
