@@ -1,4 +1,4 @@
-//! Texts of the well-known formats, read back. No call allocates.
+//! Texts of RFC 3339, read back. No call allocates.
 #![tactic(auto)]
 
 mod decimals;

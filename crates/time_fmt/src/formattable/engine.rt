@@ -12,7 +12,7 @@ use crate::writers::{write, write_bytes, write_literal};
 use time_below::format_description::{Layer, Node};
 use time_provide::ComponentProvider;
 
-/// Writes the nodes in order, up to the first that is refused, and returns its refusal. The vector is
+/// Writes the nodes in order, up to the first that is refused, and returns its refusal. The sink is
 /// taken out of its borrow meanwhile, so that its address and its length stay in registers from one
 /// leaf to the next.
 #[cycle(engine)]

@@ -53,7 +53,7 @@ pub fn format_two_digits<S: Sink>(output: &mut S, value: ru8<0, 99>, padding: Pa
     }
 }
 
-// Appends two places of rare padding to a vector that is taken out, since most numbers have zeros
+// Appends two places of rare padding to a sink that is taken out, since most numbers have zeros
 // in front.
 #[inline]
 fn write_two_rarely<S: Sink>(output: &mut S, value: ru8<0, 99>, padding: Padding) -> usize
@@ -66,7 +66,7 @@ fn write_two_rarely<S: Sink>(output: &mut S, value: ru8<0, 99>, padding: Padding
     count
 }
 
-// Appends two places to a vector that was taken out.
+// Appends two places to a sink that was taken out.
 #[cold]
 #[inline(never)]
 fn write_two_places<S: Sink>(output: &mut S, value: ru8<0, 99>, padding: Padding) -> usize
@@ -105,7 +105,7 @@ pub fn format_four_digits<S: Sink>(output: &mut S, value: ru16<0, 9_999>, paddin
     }
 }
 
-// Appends four places of rare padding to a vector that is taken out, since most numbers have zeros
+// Appends four places of rare padding to a sink that is taken out, since most numbers have zeros
 // in front.
 #[inline]
 fn write_four_rarely<S: Sink>(output: &mut S, value: ru16<0, 9_999>, padding: Padding) -> usize
@@ -118,7 +118,7 @@ fn write_four_rarely<S: Sink>(output: &mut S, value: ru16<0, 9_999>, padding: Pa
     count
 }
 
-// Appends four places to a vector that was taken out.
+// Appends four places to a sink that was taken out.
 #[cold]
 #[inline(never)]
 fn write_four_places<S: Sink>(output: &mut S, value: ru16<0, 9_999>, padding: Padding) -> usize

@@ -56,7 +56,7 @@ pub(crate) fn write_each<S: Sink>(output: &mut S, bytes: &[u8]) -> usize
     bytes.len()
 }
 
-/// Appends a literal of a list. For a long one the vector is taken out once more.
+/// Appends a literal of a list. For a long one the sink is taken out once more.
 #[inline(always)]
 pub(crate) fn write_literal<S: Sink>(output: &mut S, bytes: &[u8]) -> usize
     requires room { Fits (S.buffer output.old) (length bytes.now) }
@@ -75,7 +75,7 @@ pub(crate) fn write_literal<S: Sink>(output: &mut S, bytes: &[u8]) -> usize
     write_long_literal(output, bytes)
 }
 
-// Appends a literal of any length to a vector that is taken out.
+// Appends a literal of any length to a sink that is taken out.
 #[inline]
 fn write_long_literal<S: Sink>(output: &mut S, bytes: &[u8]) -> usize
     requires room { Fits (S.buffer output.old) (length bytes.now) }
@@ -88,7 +88,7 @@ fn write_long_literal<S: Sink>(output: &mut S, bytes: &[u8]) -> usize
 }
 
 /// Appends the bytes, eight at a time. `extend_from_slice` has no clause that the capacity stays. The
-/// vector is taken out meanwhile, so that the compiler sees that its block does not move, and makes one
+/// sink is taken out meanwhile, so that the compiler sees that its block does not move, and makes one
 /// store of eight.
 #[inline(never)]
 fn write_in_blocks<S: Sink>(output: &mut S, bytes: &[u8])

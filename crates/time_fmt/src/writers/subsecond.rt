@@ -81,7 +81,7 @@ fn write_rare_decimals<S: Sink>(
     count
 }
 
-// Any number of decimals, of a vector that was taken out.
+// Any number of decimals, of a sink that was taken out.
 #[cold]
 #[inline(never)]
 #[tactic(auto, using(crate::proofs::DecimalLemmas::first_decimals))]
@@ -166,7 +166,7 @@ pub fn write_fraction<S: Sink>(output: &mut S, nanosecond: Nanoseconds) -> usize
     write_rare_fraction(output, nanosecond)
 }
 
-// Appends any fraction to a vector that is taken out, since most fractions have nine, three or six
+// Appends any fraction to a sink that is taken out, since most fractions have nine, three or six
 // digits.
 #[inline]
 fn write_rare_fraction<S: Sink>(output: &mut S, nanosecond: Nanoseconds) -> usize

@@ -203,7 +203,7 @@ fn write_rare_year<S: Sink>(
     count
 }
 
-// Any year, of a vector that was taken out.
+// Any year, of a sink that was taken out.
 #[cold]
 #[inline(never)]
 fn write_signed_year<S: Sink>(
