@@ -7,6 +7,7 @@ ghost use Rattle.time_fmt.specs.Errors.{format_in, range_in};
 ghost use Rattle.time_fmt.specs.Laws.{Means, EqualTreesHaveEqualOutcomes, FirstIsItsFirstItem, ListIsItsItemsInOrder, OutcomesAreAMonoid, MetadataIsACommutativeMonoid};
 ghost use Rattle.time_fmt.specs.Longest.{ReachesWidth};
 ghost use Rattle.time_fmt.specs.Outcome.{Names};
+ghost use Rattle.time_fmt.specs.Sink.{vec_buffer};
 
 pub mod choices;
 pub mod parts;
@@ -15,6 +16,7 @@ use crate::error::{Error, Format};
 use crate::formattable::{BorrowedItems, Formattable, Literal, OwnedItems};
 use crate::metadata::ComputeMetadata;
 use crate::refused::Refused;
+use crate::sink::Sink;
 use std::convert::TryFrom;
 use time_below::format_description::{
     BorrowedFormatItem, Component, FormatDescriptionV3, OwnedFormatItem,
@@ -148,4 +150,9 @@ pub fn clones_of_lists<const N: usize>(
         → owned_copy.entry.0.now ≡ owned.entry.0.now }
     ensures literal { ⟦<Literal<N> as Clone>⟧.is_clone literal.entry literal_copy.entry
         → literal_copy.entry.0 ≡ literal.entry.0 }
+{}
+
+/// What a vector holds as a sink are its bytes, by their number, and its capacity.
+pub fn vectors_are_sinks_of_their_bytes(output: &Vec<u8>)
+    ensures { ⟦<Vec<u8> as Sink>⟧.buffer output.now ≡ vec_buffer output.now }
 {}
