@@ -3,7 +3,7 @@ ghost use Rattle.std.specs.Prelude.{◌≡◌, ℕ, List, IfOk, IfErr, OnOk, IsT
 ghost use Rattle.time_below.specs.Facts.{the_date, the_time, the_offset};
 ghost use Rattle.time_below.specs.Offset.{IsOffset};
 ghost use Rattle.time_fmt.specs.Outcome.{done};
-ghost use Rattle.time_provide.specs.Real.{AgreesOnOffset, AgreesOnTime, AreReal};
+ghost use Rattle.time_provide.specs.Real.{AgreesOnTime, AreReal};
 ghost use Rattle.time_known.specs.Accepted.{checked_text, refused_for};
 ghost use Rattle.time_known.specs.Fields.{fields, offset_fields, shown};
 ghost use Rattle.time_known.specs.Groups.{AreAllSupplied, at_groups};
@@ -67,13 +67,17 @@ pub(crate) fn accepted_fields<V: ComponentProvider>(
     ensures agrees { V.agrees state.new value.now }
 {
     let year = value.calendar_year(state).get();
-    let hour = value.offset_hour(state).abs().get();
-    let second = value.offset_second(state).abs().get();
-    match accepted_year(first, greatest_hour, year, hour, second) {
+    let offset = offset_of(value);
+    match accepted_year(
+        first,
+        greatest_hour,
+        year,
+        offset.hours.get(),
+        offset.seconds.get(),
+    ) {
         Ok(year) => {
             let number = ri32::within(i32::from(year.get()));
             let date = CalendarDay::in_year(number, value.ordinal(state));
-            let offset = offset_of(value, state);
             let time = time_of(value, state);
             Ok(Fields {
                 year,
@@ -97,19 +101,21 @@ pub(crate) fn time_of<V: ComponentProvider>(value: &V, state: &mut V::State) -> 
     value.supplied_time(state)
 }
 
-// The fields of the value's offset.
+// The fields of the value's offset. No test is a branch, so that the compiler computes the sign only where it is
+// written.
 #[inline(always)]
-pub(crate) fn offset_of<V: ComponentProvider>(value: &V, state: &mut V::State) -> OffsetFields
+pub(crate) fn offset_of<V: ComponentProvider>(value: &V) -> OffsetFields
     requires supplied { IsTrue V.SUPPLIES_OFFSET }
-    requires agrees { V.agrees state.old value.now }
     ensures fields { result ≡ offset_fields (the_offset (V.facts value.now)) }
-    ensures agrees { AgreesOnOffset (V.agrees state.new value.now) (V.facts value.now) }
+    ensures real { IsOffset (the_offset (V.facts value.now)) }
 {
+    let offset = value.supplied_offset();
+    let (hours, minutes, seconds) = offset.as_hms();
     OffsetFields {
-        is_utc: value.offset_is_utc(state),
-        is_negative: value.offset_is_negative(state),
-        hours: value.offset_hour(state).abs(),
-        minutes: value.offset_minute(state).abs(),
-        seconds: value.offset_second(state).abs(),
+        is_utc: (hours == 0) & (minutes == 0) & (seconds == 0),
+        is_negative: (hours < 0) | (minutes < 0) | (seconds < 0),
+        hours: ru8::within(hours.unsigned_abs()),
+        minutes: ru8::within(minutes.unsigned_abs()),
+        seconds: ru8::within(seconds.unsigned_abs()),
     }
 }

@@ -38,7 +38,7 @@ pub fn format_offset<V: ComponentProvider>(
         (iso_offset config.now (the_offset (V.facts value.now))) }
     ensures agrees { AgreesOnOffset (V.agrees state.new value.now) (V.facts value.now) }
 {
-    let offset = offset_of(value, state);
+    let offset = offset_of(value);
     let mut taken = take_out(output);
     let begin = taken.len();
     let answer = put_offset_by(&mut taken, config, &offset);

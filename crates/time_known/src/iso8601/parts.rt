@@ -155,7 +155,7 @@ fn parts_of<V: ComponentProvider>(config: &Config, value: &V, state: &mut V::Sta
         None
     };
     let offset = if config.has_offset() {
-        Some(offset_of(value, state))
+        Some(offset_of(value))
     } else {
         None
     };
