@@ -1,4 +1,5 @@
 //! Laws of the texts: the contract of each function is the law, over the definitions alone. Each body is empty.
+ghost use Rattle.std.specs.Prelude.{◌≡◌};
 ghost use Rattle.time_known.specs.Laws.{IsValue};
 ghost use Rattle.time_known.specs.Rfc3339Grammar.{Rfc3339Spells};
 ghost use Rattle.time_below.specs.Moment.{OffsetDateAndTime};
@@ -12,4 +13,9 @@ use crate::decimals::Decimals;
 pub fn texts_are_spelled(decimals: Decimals)
     ensures { (v : OffsetDateAndTime) → IsValue v → IsFourDigits v.date.year → IsLogOffset v.offset
         → Rfc3339Spells (cut (digits_of decimals) v) (text_of (digits_of decimals) v) }
+{}
+
+/// A clone of a number of decimals is the same.
+pub fn clones_of_decimals(decimals: Decimals, copy: Decimals)
+    ensures { ⟦<Decimals as Clone>⟧.is_clone decimals copy → copy ≡ decimals }
 {}

@@ -55,29 +55,30 @@ three_begin p q r x y a b c left is_a is_b is_c = record {
       ∙ ap (λ w. w && are_guaranteed_text left) is_c.same_guarantee;
 }
 
--- so where they are nodes, one after the other
-pub run_begins : {A : Type 0} (tree : A → Tree) (nodes : List A) (a x b y c : A) (p q r is_p is_q is_r : Part)
-    (first second : ℕ) (behind : List A) → 5 ≤ length nodes → behind ≡ drop 5 nodes
+-- so where the trees are those of five nodes
+pub run_begins : (p q r is_p is_q is_r : Part) (x y : ℕ) (a s b t c : Tree) (left : Trees)
+    → IsAlike a (of_component (part_component p)) → s ≡ text_literal (x ∷ [])
+    → IsAlike b (of_component (part_component q)) → t ≡ text_literal (y ∷ [])
+    → IsAlike c (of_component (part_component r)) → p ≡ is_p → q ≡ is_q → r ≡ is_r
+    → Begins (more a (more s (more b (more t (more c left))))) (three_parts is_p x is_q y is_r) left
+run_begins p q r is_p is_q is_r x y a s b t c left is_a is_s is_b is_t is_c same_p same_q same_r =
+    rw (is_s, is_t, ← same_p, ← same_q, ← same_r) (three_begin p q r x y a b c left is_a is_b is_c)
+
+-- and these stand at the front of a list
+pub front_begins : {A : Type 0} (tree : A → Tree) (nodes : List A) (a x b y c : A) (t : Tree) (behind : List A)
+    → 5 ≤ length nodes → behind ≡ drop 5 nodes
     → a ≡ get_or nodes 0 a → x ≡ get_or nodes 1 x → b ≡ get_or nodes 2 b → y ≡ get_or nodes 3 y → c ≡ get_or nodes 4 c
-    → IsAlike (tree a) (of_component (part_component p)) → tree x ≡ text_literal (first ∷ [])
-    → IsAlike (tree b) (of_component (part_component q)) → tree y ≡ text_literal (second ∷ [])
-    → IsAlike (tree c) (of_component (part_component r)) → p ≡ is_p → q ≡ is_q → r ≡ is_r
-    → Begins (trees (map tree nodes)) (three_parts is_p first is_q second is_r) (trees (map tree behind))
-run_begins tree nodes a x b y c p q r is_p is_q is_r first second behind long is_behind at_0 at_1 at_2 at_3 at_4
-    is_a is_x is_b is_y is_c same_p same_q same_r =
+    → ((left : Trees) → Begins (more (tree a) (more (tree x) (more (tree b) (more (tree y) (more (tree c) left))))) t left)
+    → Begins (trees (map tree nodes)) t (trees (map tree behind))
+front_begins tree nodes a x b y c t behind long is_behind at_0 at_1 at_2 at_3 at_4 begins =
     let left = trees (map tree (drop 5 nodes)) in
-    let whole : more (tree a) (more (text_literal (first ∷ [])) (more (tree b) (more (text_literal (second ∷ [])) (more (tree c) left))))
-    ≡ trees (map tree nodes) =
+    let whole : more (tree a) (more (tree x) (more (tree b) (more (tree y) (more (tree c) left)))) ≡ trees (map tree nodes) =
     sym (next_of tree nodes 0 a (omega (arith, long)) at_0
     ∙ ap (more (tree a)) (next_of tree nodes 1 x (omega (arith, long)) at_1
-    ∙ ap (λ t. more t (trees (map tree (drop 2 nodes)))) is_x
-    ∙ ap (more (text_literal (first ∷ []))) (next_of tree nodes 2 b (omega (arith, long)) at_2
+    ∙ ap (more (tree x)) (next_of tree nodes 2 b (omega (arith, long)) at_2
     ∙ ap (more (tree b)) (next_of tree nodes 3 y (omega (arith, long)) at_3
-    ∙ ap (λ t. more t (trees (map tree (drop 4 nodes)))) is_y
-    ∙ ap (more (text_literal (second ∷ []))) (next_of tree nodes 4 c (omega (arith, long)) at_4))))) in
-    rw (is_behind, ← same_p, ← same_q, ← same_r)
-    (subst (λ ts. Begins ts (three_parts p first q second r) left) whole
-    (three_begin p q r first second (tree a) (tree b) (tree c) left is_a is_b is_c))
+    ∙ ap (more (tree y)) (next_of tree nodes 4 c (omega (arith, long)) at_4))))) in
+    rw is_behind (subst (λ ts. Begins ts t left) whole (begins left))
 
 -- ---- texts
 

@@ -2,7 +2,7 @@
 ghost use Rattle.std.specs.Prelude.{◌≡◌, ◌∷◌, [], true, IfSome, map, drop};
 ghost use Rattle.std.specs.Str.{is_utf8};
 ghost use Rattle.time_below.specs.Facts.{Facts};
-ghost use Rattle.time_below.specs.Tree.{of_component, text_literal, trees};
+ghost use Rattle.time_below.specs.Tree.{Trees, of_component, text_literal, more, trees};
 ghost use Rattle.time_below.specs.Width.{component_width};
 ghost use Rattle.time_fmt.specs.Description.{component_outcome};
 ghost use Rattle.time_plan.specs.Shown.{part_component, run_tree};
@@ -21,16 +21,43 @@ pub(crate) fn run_of<T: Node>(nodes: &[T]) -> Option<(Run, &[T])>
     let [first, before_second, second, before_third, third, ..] = nodes else {
         return None;
     };
+    match run_between(first, before_second, second, before_third, third) {
+        Some(run) => Some((run, &nodes[5..])),
+        None => None,
+    }
+}
+
+/// The date or the time of day that five nodes are, if they are one.
+#[inline(always)]
+fn run_between<T: Node>(
+    first: &T,
+    before_second: &T,
+    second: &T,
+    before_third: &T,
+    third: &T,
+) -> Option<Run>
+    ensures { IfSome result (λ run. (left : Trees) → Begins (more (T.tree first.now) (more (T.tree before_second.now)
+        (more (T.tree second.now) (more (T.tree before_third.now) (more (T.tree third.now) left))))) (run_tree run) left) }
+{
     let first = part_of(first)?;
-    let between = Separators {
-        first: byte_of(before_second)?,
-        second: byte_of(before_third)?,
-    };
+    let between = separators_of(before_second, before_third)?;
     match (first, part_of(second)?, part_of(third)?) {
-        (Part::Year, Part::Month, Part::Day) => Some((Run::Date(between), &nodes[5..])),
-        (Part::Hour, Part::Minute, Part::Second) => Some((Run::Time(between), &nodes[5..])),
+        (Part::Year, Part::Month, Part::Day) => Some(Run::Date(between)),
+        (Part::Hour, Part::Minute, Part::Second) => Some(Run::Time(between)),
         _ => None,
     }
+}
+
+/// The bytes that two nodes are, if each is a text of one.
+#[inline(always)]
+fn separators_of<T: Node>(before_second: &T, before_third: &T) -> Option<Separators>
+    ensures first { IfSome result (λ between. T.tree before_second.now ≡ text_literal (between.first ∷ [])) }
+    ensures second { IfSome result (λ between. T.tree before_third.now ≡ text_literal (between.second ∷ [])) }
+{
+    Some(Separators {
+        first: byte_of(before_second)?,
+        second: byte_of(before_third)?,
+    })
 }
 
 /// The part that a node is, if it is one.

@@ -131,74 +131,79 @@ const OLD_YEAR: Component = Component::Year(modifier::Year {
     sign_is_mandatory: false,
 });
 
-/// The lists of texts that Python's `strftime` gives for the example.
-#[test]
-fn a_plan_and_its_list_have_the_text_of_strftime(rt: HostRuntime) -> Result<(), Fail> {
-    let rows: [(&[Item<'_>], &str); 6] = [
-        (
-            &items!(
-                YEAR, "-", MONTH, "-", DAY, " ", HOUR, ":", MINUTE, ":", SECOND
-            ),
-            "1997-11-12 09:55:06",
+/// Lists, and the texts that Python's `strftime` gives for the example.
+const OF_STRFTIME: &[(&[Item<'_>], &str)] = &[
+    (
+        &items!(
+            YEAR, "-", MONTH, "-", DAY, " ", HOUR, ":", MINUTE, ":", SECOND
         ),
-        (
-            &items!(
-                WEEKDAY_SHORT,
-                ", ",
-                DAY,
-                " ",
-                MONTH_SHORT,
-                " ",
-                YEAR,
-                " ",
-                HOUR,
-                ":",
-                MINUTE,
-                ":",
-                SECOND,
-                " ",
-                OFFSET_HOUR,
-                OFFSET_MINUTE
-            ),
-            "Wed, 12 Nov 1997 09:55:06 -0630",
+        "1997-11-12 09:55:06",
+    ),
+    (
+        &items!(
+            WEEKDAY_SHORT,
+            ", ",
+            DAY,
+            " ",
+            MONTH_SHORT,
+            " ",
+            YEAR,
+            " ",
+            HOUR,
+            ":",
+            MINUTE,
+            ":",
+            SECOND,
+            " ",
+            OFFSET_HOUR,
+            OFFSET_MINUTE
         ),
-        (&items!(ISO_YEAR, "-W", WEEK, "-", WEEKDAY), "1997-W46-3"),
-        (&items!(DAY, ".", MONTH, ".", YEAR), "12.11.1997"),
-        (&items!(UNIX, ".", THREE_DECIMALS), "879351906.123"),
-        (&items!(OLD_YEAR, "-", OLD_MONTH, "-", DAY), "1997-11-12"),
-    ];
-    for (items, wanted) in rows.iter() {
-        assert_list(&rt, rt.alloc(), items, wanted.as_bytes())?;
+        "Wed, 12 Nov 1997 09:55:06 -0630",
+    ),
+    (&items!(ISO_YEAR, "-W", WEEK, "-", WEEKDAY), "1997-W46-3"),
+    (&items!(DAY, ".", MONTH, ".", YEAR), "12.11.1997"),
+    (&items!(UNIX, ".", THREE_DECIMALS), "879351906.123"),
+    (&items!(OLD_YEAR, "-", OLD_MONTH, "-", DAY), "1997-11-12"),
+];
+
+/// Three components that look like a date or a time of day, and are none, and literals alone.
+const NEARLY_DATES: &[(&[Item<'_>], &str)] = &[
+    (&items!(YEAR, "--", MONTH, "-", DAY), "1997--11-12"),
+    (&items!(YEAR, MONTH, DAY), "19971112"),
+    (&items!(YEAR, "-", "-", MONTH, "-", DAY), "1997--11-12"),
+    (&items!(HOUR, ":", MINUTE, ":", DAY, "."), "09:55:12."),
+    (&items!(YEAR, "-", MONTH, "-", LONE_DAY), "1997-11-12"),
+    (
+        &items!("at ", HOUR, "h", MINUTE, "m", SECOND, "s", "!"),
+        "at 09h55m06s!",
+    ),
+    (
+        &[
+            item!(YEAR),
+            Item::Literal(b"-"),
+            item!(MONTH),
+            Item::Literal(b"-"),
+            item!(DAY),
+        ],
+        "1997-11-12",
+    ),
+    (&[], ""),
+];
+
+/// Compares each text of a table by the list and by its plan.
+fn assert_lists(rt: &impl Abort, alloc: Global, rows: &[(&[Item<'_>], &str)]) -> Result<(), Fail> {
+    for (items, wanted) in rows {
+        assert_list(rt, alloc, items, wanted.as_bytes())?;
     }
     Ok(())
 }
 
-/// Three components that look like a date or a time of day, and are none, and literals alone.
+#[test]
+fn a_plan_and_its_list_have_the_text_of_strftime(rt: HostRuntime) -> Result<(), Fail> {
+    assert_lists(&rt, rt.alloc(), OF_STRFTIME)
+}
+
 #[test]
 fn what_is_nearly_a_date_has_its_own_text(rt: HostRuntime) -> Result<(), Fail> {
-    let rows: [(&[Item<'_>], &str); 7] = [
-        (&items!(YEAR, "--", MONTH, "-", DAY), "1997--11-12"),
-        (&items!(YEAR, MONTH, DAY), "19971112"),
-        (&items!(YEAR, "-", "-", MONTH, "-", DAY), "1997--11-12"),
-        (&items!(HOUR, ":", MINUTE, ":", DAY, "."), "09:55:12."),
-        (&items!(YEAR, "-", MONTH, "-", LONE_DAY), "1997-11-12"),
-        (
-            &items!("at ", HOUR, "h", MINUTE, "m", SECOND, "s", "!"),
-            "at 09h55m06s!",
-        ),
-        (
-            &[
-                item!(YEAR),
-                Item::Literal(b"-"),
-                item!(MONTH),
-                Item::Literal(b"-"),
-                item!(DAY),
-            ],
-            "1997-11-12",
-        ),
-    ];
-    for (items, wanted) in rows.iter() {
-        assert_list(&rt, rt.alloc(), items, wanted.as_bytes())?;
-    }
-    assert_list(&rt, rt.alloc(), &[], b"")
+    assert_lists(&rt, rt.alloc(), NEARLY_DATES)
 }
