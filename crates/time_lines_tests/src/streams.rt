@@ -63,6 +63,8 @@ impl Exchange for Memory<'_> {
 
     ghost put = { λ _. None };
 
+    ghost has_ended = { λ _. Unit {0} };
+
     fn read<J: LineJob>(&mut self, _job: &J, block: &mut [u8]) -> Result<usize, FilterError> {
         let done = self.reads.saturating_mul(self.step).min(self.source.len());
         let waiting = lines_in(&self.source[..done]).saturating_sub(lines_in(self.sink.as_slice()));
