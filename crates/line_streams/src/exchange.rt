@@ -1,5 +1,5 @@
 //! Where lines come from, and where what they become goes to.
-ghost use Rattle.std.specs.Prelude.{◌≡◌, ◌≤◌, ℕ, List, Option, length, take, IfOk, OnOk, OnErr};
+ghost use Rattle.std.specs.Prelude.{◌≡◌, ◌<◌, ◌≤◌, ℕ, List, Option, length, take, IfOk, OnOk, OnErr};
 ghost use Rattle.line_streams.specs.Prompt.{Grows, GrowsInPart, IsPrompt};
 
 use crate::lines::LineJob;
@@ -35,18 +35,23 @@ pub trait Exchange {
     /// What was written.
     ghost put: { Self → Option (List ℕ) };
 
+    /// Whether the source is at its end.
+    ghost has_ended: { Self → Type 0 };
+
     /// Reads some bytes, or none at the end of the source. No line that was read to its end may wait
     /// for what it becomes.
     fn read<J: LineJob>(&mut self, job: &J, block: &mut [u8]) -> Result<usize, FilterError>
         requires prompt { IsPrompt (J.becomes job.now) (got self.old) (put self.old) }
         ensures bound { IfOk result (λ n. n ≤ length block.new) }
         ensures got { IfOk result (λ n. Grows (got self.old) (got self.new) (take n block.new)) }
+        ensures ended { IfOk result (λ n. n ≡ 0 → 0 < length block.new → has_ended self.new) }
         ensures failed { OnErr result (got self.new ≡ got self.old) }
         ensures put { put self.new ≡ put self.old };
 
     /// Writes all the bytes. After a write that failed a beginning of them is written.
     fn write_all(&mut self, bytes: &[u8]) -> Result<(), FilterError>
         ensures got { got self.new ≡ got self.old }
+        ensures ended { has_ended self.old → has_ended self.new }
         ensures put { OnOk result (Grows (put self.old) (put self.new) bytes.now) }
         ensures cut { OnErr result (GrowsInPart (put self.old) (put self.new) bytes.now) };
 }

@@ -74,6 +74,7 @@ fn take_last<J: LineJob, S: Exchange>(
     exchange: &mut S,
 ) -> Result<(), FilterError>
     ensures got { S.got exchange.new ≡ S.got exchange.old }
+    ensures ended { S.has_ended exchange.old → S.has_ended exchange.new }
     ensures written { OnOk result (Writes (J.becomes job.old) (last_line_of pending.now.items)
         (S.put exchange.old) (S.put exchange.new)) }
     ensures cut { OnErr result (BreaksOff (J.becomes job.old) (last_line_of pending.now.items)
@@ -92,14 +93,15 @@ fn take_last<J: LineJob, S: Exchange>(
 /// How many bytes are read at a time.
 const BLOCK_SIZE: usize = 65_536;
 
-/// Writes what each line of the input becomes. Each read is made when no line waits for what it
-/// becomes. After an error some first lines were written, the last one of them perhaps in part.
+/// Writes what each line of the input becomes, to the end of the input. Each read is made when no line
+/// waits for what it becomes. After an error some first lines were written, the last one of them perhaps in part.
 pub fn run<J: LineJob, S: Exchange>(
     alloc: Global,
     job: &mut J,
     exchange: &mut S,
 ) -> Result<(), FilterError>
     requires fresh { IsFresh (S.got exchange.old) (S.put exchange.old) }
+    ensures ended { OnOk result (S.has_ended exchange.new) }
     ensures ok { OnOk result
         (HasFiltered (J.becomes job.old) (S.got exchange.new) (S.put exchange.new)) }
     ensures err { OnErr result

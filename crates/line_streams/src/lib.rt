@@ -13,6 +13,3 @@ pub use exchange::{Exchange, FilterError};
 pub use filter::run;
 pub use lines::{LineJob, place_of_end};
 pub use standard::StandardStreams;
-
-#[cfg(test)]
-mod tests;

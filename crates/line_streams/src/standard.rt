@@ -17,6 +17,8 @@ impl Exchange for StandardStreams {
 
     ghost put = { λ _. None };
 
+    ghost has_ended = { λ _. Unit {0} };
+
     fn read<J: LineJob>(&mut self, _job: &J, block: &mut [u8]) -> Result<usize, FilterError> {
         match self.input.read(block) {
             Ok(count) => Ok(count),

@@ -13,6 +13,3 @@ pub use number::Unit;
 pub use read::ReadJob;
 pub use shown::{AtOffset, InPlace, InUtc, Place, Shown};
 pub use unix::UnixJob;
-
-#[cfg(test)]
-mod tests;

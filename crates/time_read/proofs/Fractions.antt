@@ -5,7 +5,7 @@ use Rattle.std.specs.Int.{IsInRange}
 use Rattle.std.specs.Str.Parse.{AllDigits, digits_value, digits_value_after}
 use Rattle.std.proofs.lemmas.Str.Parse.{digit_from_value}
 use Rattle.std.proofs.lemmas.Int.Digits.{digits_value-lt}
-use Rattle.std.proofs.lemmas.List.{take-append-drop, length-take-le, length-drop, drop_more, take_rest}
+use Rattle.std.proofs.lemmas.List.{take-append-drop, length-take-le, length-drop, drop-take, drop_more, take_rest}
 use Rattle.std.proofs.Math.Nat.{pow-suc, pow-le-pow_right}
 use Rattle.std.proofs.lemmas.Bool.{cases_lt}
 use Rattle.std.proofs.lemmas.Bool.Decides.{nat_tests}
@@ -51,6 +51,16 @@ few_digits ds h k =
     let small = digits_value-lt 10 ds h in
     let power : 10 ^ length ds ≤ 10 ^ 8 = pow-le-pow_right {n = 10} (omega arith) {i = length ds} {j = 8} (omega arith) in
     omega arith
+
+-- where the digits of the first nine bytes end, the digits end
+pub ends_in_nine : (text : List ℕ) (k : ℕ) → (k < 9 → (b : ℕ) (after : List ℕ) → drop k (take 9 text) ≡ b ∷ after → ¬ IsInRange 48 57 b)
+    → k < 9 → (b : ℕ) (after : List ℕ) → drop k text ≡ b ∷ after → ¬ IsInRange 48 57 b
+ends_in_nine text k ends lt b after here =
+    let nine : k + (9 - k) ≡ 9 = omega arith in
+    let cut : drop k (take 9 text) ≡ take (9 - k) (drop k text) =
+    subst (λ n. drop k (take n text) ≡ take (9 - k) (drop k text)) nine (drop-take k (9 - k) text) in
+    let more : 9 - k ≡ suc (8 - k) = omega arith in
+    ends lt b (take (8 - k) after) (cut ∙ ap₂ take more here)
 
 -- digits, and no more of them
 at_strict : (text ds : List ℕ) (count : ℕ) (rest : List ℕ) (n : ℕ) → AllDigits 10 ds → 1 ≤ count → count ≤ 9 → length ds ≡ count

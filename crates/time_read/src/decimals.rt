@@ -42,6 +42,22 @@ fn digits(text: &[u8]) -> (u32, usize)
     (number, count)
 }
 
+// The same. The compiler unrolls the loop for nine bytes.
+#[inline(always)]
+fn first_digits(text: &[u8]) -> (u32, usize)
+    ensures most { result.1 ≤ 9 }
+    ensures within { result.1 ≤ length text.now }
+    ensures digits { AllDigits 10 (take result.1 text.now) }
+    ensures value { result.0 ≡ digits_value 10 (take result.1 text.now) }
+    ensures end { result.1 < 9 → (b : ℕ) (after : List ℕ) → drop result.1 text.now ≡ b ∷ after
+        → ¬ IsInRange 48 57 b }
+{
+    if text.len() < 9 {
+        return digits(text);
+    }
+    digits(&text[..9])
+}
+
 // The nanosecond of the up to nine digits that begin a text, and how many they are.
 #[inline(never)]
 pub(crate) fn nanosecond(text: &[u8]) -> (u32, usize)
@@ -53,7 +69,7 @@ pub(crate) fn nanosecond(text: &[u8]) -> (u32, usize)
     ensures end { result.1 < 9 → (b : ℕ) (after : List ℕ) → drop result.1 text.now ≡ b ∷ after
         → ¬ IsInRange 48 57 b }
 {
-    let (number, count) = digits(text);
+    let (number, count) = first_digits(text);
     (number * POWERS[9 - count], count)
 }
 

@@ -4,16 +4,16 @@ use Rattle.time_read.proofs.decimals.nanosecond.Goals as goal
 
 pub overflow_mul-result : goal.overflow_mul-result
 overflow_mul-result c =
-    let e = c.digits-number.ensures in
-    let p = product c.args.text.now c.digits-number.result.1 c.digits-number.result.0 e.value e.digits e.most e.within in
+    let e = c.first_digits-number.ensures in
+    let p = product c.args.text.now c.first_digits-number.result.1 c.first_digits-number.result.0 e.value e.digits e.most e.within in
     omega (arith, p.1)
 
 pub returns-clause-value : goal.returns-clause-value
 returns-clause-value c =
-    let e = c.digits-number.ensures in
-    (product c.args.text.now c.digits-number.result.1 c.digits-number.result.0 e.value e.digits e.most e.within).0
+    let e = c.first_digits-number.ensures in
+    (product c.args.text.now c.first_digits-number.result.1 c.first_digits-number.result.0 e.value e.digits e.most e.within).0
 
 pub returns-clause-range : goal.returns-clause-range
 returns-clause-range c =
-    let e = c.digits-number.ensures in
-    (product c.args.text.now c.digits-number.result.1 c.digits-number.result.0 e.value e.digits e.most e.within).1
+    let e = c.first_digits-number.ensures in
+    (product c.args.text.now c.first_digits-number.result.1 c.first_digits-number.result.0 e.value e.digits e.most e.within).1

@@ -1,5 +1,4 @@
 //! Lines and what they become. The texts of moments are those of GNU `date -u`.
-use crate::{AtOffset, InPlace, InUtc, NowJob, ReadJob, Unit, UnixJob};
 use line_streams::LineJob;
 use std::alloc::{AllocError, Global};
 use std::io;
@@ -9,6 +8,7 @@ use std::time::{Clock, Duration};
 use time_below::UtcOffset;
 use time_fmt::parts::UNIX_TIMESTAMP;
 use time_known::{Rfc2822, Rfc3339};
+use time_lines::{AtOffset, InPlace, InUtc, NowJob, ReadJob, Unit, UnixJob};
 
 /// What a line becomes.
 fn assert_becomes<J: LineJob>(

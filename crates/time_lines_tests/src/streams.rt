@@ -1,7 +1,7 @@
 //! Runs over a source and a sink in memory, which give and take few bytes and may fail once.
 ghost use Rattle.std.specs.Prelude.{None};
 
-use crate::{Exchange, FilterError, LineJob, run};
+use line_streams::{Exchange, FilterError, LineJob, run};
 use std::alloc::{AllocError, Global};
 use std::process::Abort;
 use std::test::Fail;
@@ -62,6 +62,8 @@ impl Exchange for Memory<'_> {
     ghost got = { λ _. None };
 
     ghost put = { λ _. None };
+
+    ghost has_ended = { λ _. Unit {0} };
 
     fn read<J: LineJob>(&mut self, _job: &J, block: &mut [u8]) -> Result<usize, FilterError> {
         let done = self.reads.saturating_mul(self.step).min(self.source.len());
