@@ -139,10 +139,13 @@ pub fn nodes_fit<T: Node>(nodes: &[T], room: usize) -> bool
 {
     let mut left = room;
     for node in nodes {
-        match bound_of_text(node) {
-            Some(bound) if bound <= left => left -= bound,
-            _ => return false,
-        }
+        let Some(bound) = bound_of_text(node) else {
+            return false;
+        };
+        let Some(rest) = left.checked_sub(bound) else {
+            return false;
+        };
+        left = rest;
     }
     true
 }
