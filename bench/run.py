@@ -4,7 +4,7 @@
     bench/run.py [FOLDER]
 
 Works on a copy of the repository, in FOLDER or a temporary one, to which the files `*.rt.in` beside this one are
-added as a program, and once more with `LENT`. Both are proved before they are built, over libraries that earlier
+added as a program, and once more with `LENT`, and `kit/main.rt.in` as a third. All are proved before they are built, over libraries that earlier
 checks left in `crates/*/out`, and over new ones where there are none. Beside them stand `strftime` and {fmt} by
 `beside.cpp`, where g++ and Debian's libfmt-dev are installed, whose texts are compared with ours, and the counts of
 the Rust crate in `time-0.3.55.tsv`. Instructions are counted by callgrind, where it is installed, as the difference
@@ -26,6 +26,7 @@ from typing import NamedTuple
 HERE = pathlib.Path(__file__).resolve().parent
 TOP = HERE.parent
 LIBRARIES = "time_below time_digits time_provide time_fmt time_known time_describe time_plan time_log"
+KIT = "jiff httpdate arrayvec"
 COUNTED = 640, 1_920
 TIMED = 100_000, 500_000
 GROWN = 10, 30
@@ -79,6 +80,20 @@ PLANS = texts("q", [
     "a borrowed list of 11 items", "borrowed, the date nested", "`Sat, 19 Aug 6169 21:36:48 +0000`",
     "`6169-08-19 21:36:48.321 +00:00`", "a borrowed list of 11 items, of a `Timestamp`", "the plan of 11 items is made",
 ])
+# New strings, and refused values of the years 11900 to 19999. In the last row a date lacks the time.
+STRINGS = texts("s", [
+    "RFC 3339 as a `String`", "RFC 2822 as a `String`", "ISO 8601 by default as a `String`", "a list of 11 as a `String`",
+])
+REFUSED = texts("r", [
+    "RFC 3339, its year", "RFC 2822, its year", "ISO 8601 by default, its year", "a list of 5 items, its year",
+    "a list of 11 items, its hour",
+])
+# Texts of a moment by this library, and by the kit's crates where they write the same or nearly the same.
+PEERS = [
+    ("RFC 3339, nine digits", "a", "A"), ("RFC 3339, none", "b", "B"), ("RFC 2822", "c", "C"),
+    ("the date of HTTP, by `httpdate`", "c", "E"), ("`%Y-%m-%d %H:%M:%S`, by parts", "d", "D"),
+    ("the same by a borrowed list", "e", "D"), ("the same by a plan", "f", "D"),
+]
 # Times of log lines, by what is kept.
 LOGS = texts("k", [
     f"{decimals}, {second}" for second in ["the same second", "another second", "the same second, at +05:30"]
@@ -132,7 +147,7 @@ def copied(folder):
 
 
 def added(folder):
-    """The two programs of the measure, which the copy does not have."""
+    """The three programs of the measure, which the copy does not have."""
     for name, is_lent in [("time_bench", "false"), ("time_bench_lent", "true")]:
         sources = folder / "crates" / name / "src"
         sources.mkdir(parents=True, exist_ok=True)
@@ -143,6 +158,11 @@ def added(folder):
             (sources / file).write_text(code)
         with open(folder / "crates.txt", "a", encoding="utf-8") as crates:
             crates.write(f"{name}: {LIBRARIES}\n")
+    kit = folder / "crates" / "time_bench_kit" / "src"
+    kit.mkdir(parents=True, exist_ok=True)
+    shutil.copyfile(HERE / "kit" / "main.rt.in", kit / "main.rt")
+    with open(folder / "crates.txt", "a", encoding="utf-8") as crates:
+        crates.write(f"time_bench_kit: {KIT} {LIBRARIES}\n")
 
 
 def built(folder, name):
@@ -163,6 +183,11 @@ class Way(NamedTuple):
 def ours(program, text):
     head = (text.kind + chr(ord("0") + text.row) + "1").encode()
     return Way(lambda turns: [program], lambda turns: head + b"." * (turns - len(head)))
+
+
+def lettered(program, letter):
+    """The text of a program that knows it by a letter."""
+    return Way(lambda turns: [program], lambda turns: letter.encode() * turns)
 
 
 def theirs(program, way, name):
@@ -277,6 +302,16 @@ class Bench:
         self.table([head, "Behind", "0.3.55", "`strftime`", "{fmt}", "ns", "`strftime`", "{fmt}"],
                    (self.row(text, [self.lent]) for text in rows))
 
+    def peers(self):
+        """Texts of a moment, beside the kit's crates."""
+        kit = built(self.folder, "time_bench_kit")
+
+        def row(name, *letters):
+            ways = [lettered(kit, letter) for letter in letters]
+            return [name, *map(shown, [*counts_of(ways), *timed(ways)])]
+
+        self.table(["Text of a moment", "Here", "The kit's crate", "ns", "kit's"], (row(*peer) for peer in PEERS))
+
     def component(self, name, row, alone):
         """What the component costs over the two texts alone."""
         borrowed, third = Text(name, "b", row), Text(name, "v", row)
@@ -338,6 +373,9 @@ class Bench:
         self.behind("List of a type", TYPES)
         self.behind("By a plan", PLANS)
         self.behind("Time of a log line", LOGS)
+        self.behind("A new `String`", STRINGS)
+        self.behind("A refused value", REFUSED)
+        self.peers()
         self.components()
         self.growth()
         self.answers()

@@ -2,8 +2,11 @@
 
 import re
 
+import interface
+
+# `interface.py --check` tells a change in these.
+WRITTEN = "|".join([interface.PROTOTYPE, interface.ERRORS, interface.CASES, interface.KINDS, interface.KINDS_OF_RUST])
 TYPE = r"\b(?:[iu]\d+|[iu]size)\b"
-EXPORTS = r'extern "C" fn movaliren_\w+\(.*?\)\s*->\s*\w+'
 STRUCT = r"#\[repr\(C\)\].*?\n\}"
 ENUM = r"^pub enum .*?\n\}"
 # What follows in the header is there alone.
@@ -20,30 +23,19 @@ PLACES = [
     ("format.rs", r".*", r"(?<=^    fn )\w+"),
     ("batch.rs", r".*", r"(?<=^    fn )\w+"),
     ("Cargo.toml", r".*", r'(?<=^version = )"[^"]+"'),
-    ("error.rs", r".*", r'-\d+(?= =>)|(?<=Error::)\w+(?= =>|,$)|(?<!= )"[^"]+"'),
     ("description.rs", ENUM, r"^    [A-Z]\w+(?= = )|(?<= = )\d+(?=,$)"),
     ("config.rs", ENUM, r"^    [A-Z]\w+(?= = )|(?<= = )\d+(?=,$)"),
     ("config.rs", r".*", r"(?<=MAX_WIDTH: usize = )\d+"),
     ("description.rs", r"fn usual_flag.*?\n    \}", r"(?<=Kind::)\w+"),
-    ("component.rs", r"fn has_(?:sign|padding).*?\n    \}", r"(?<=Kind::)\w+"),
     ("parts.rt", r".*", r"(?<=: modifier::)\w+|(?<=one_indexed: )\w+|(?<=is_uppercase: )\w+"),
     ("known.rs", r".*", r"\d+(?= bytes;)|(?<=\[u8; )\d+"),
     ("moment.rs", STRUCT, rf"\w+(?=: )|{TYPE}"),
-    ("raw.rs", STRUCT, rf"\w+(?=: )|{TYPE}"),
-    ("raw.rs", r"fn movaliren_\w+\(.*?;", rf"movaliren_\w+|\w+(?=: )|{TYPE}|\b[A-Z]\w+"),
     ("library.rt", r".*", r"(?<=result ≡ )\d+"),
-    ("reason.rt", r".*", r"^    \w+(?= = \d)|(?<= = )\d+(?=,$)|\d+(?= => Ok)|(?<=Ok\()(?:true|false)"),
-    ("item.rt", r".*", r"\d+(?= => Ok)|(?<=Ok\()(?:Padding|SubsecondDigits)::\w+|\d+(?= => component!)|(?<=component!\()\w+"),
+    ("item.rt", r".*", r"\d+(?= => Ok)|(?<=Ok\()(?:Padding|SubsecondDigits)::\w+|(?<=component!\()\w+"),
     ("config.rt", r".*", r"\d+(?= => Ok)|(?<=Ok\()(?:\w+::\w+|true|false)"),
     ("*.rt", STRUCT, rf"\w+(?=: )|{TYPE}"),
-    ("*.rt", EXPORTS, rf"movaliren_\w+|\b(?!alloc\b)\w+(?=: )|{TYPE}|\bmut |(?<=[&\[])[A-Z]\w+|Progress"),
-    ("Answer.antt", r"^reason_number [^\n]*", r"(?<=reason\.)\w+|\d+(?=\)$)"),
-    ("Words.antt", r".*", r'(?<=codes )"[^"]+"|(?<=n == )\d+'),
-    ("Reading.antt", r"^place_at [^\n]*", r"(?<=\(expected\.)\w+|(?<=expected\.)End|(?<=expected = )\d"),
     ("read.rt", r"let \(expected,.*?\};", r"(?<=Expected::)\w+|(?<==> \()\d"),
     ("raw.rs", r"expected: match.*?\}", r"\d(?= => )|(?<=Expected::)\w+"),
-    ("Items.antt", r".*", r"(?<= component\.)\w+|(?<=numbered )[1-9]\d*|(?<=i\.kind == )\d+"),
-    ("*.antt", r"^(?:rfc3339_width|rfc2822_width|stamp_width|stamp_length) = .*?$", r"\d+$"),
 ]
 
 
@@ -61,7 +53,7 @@ def changes(texts, code):
         for path, text in texts.items():
             if not path.match(name):
                 continue
-            plain = code(text, path.suffix)
+            plain = re.sub(WRITTEN, lambda found: " " * len(found[0]), code(text, path.suffix), flags=re.S | re.M)
             for region in re.finditer(part, plain, re.S | re.M):
                 for found in re.compile(pattern, re.M).finditer(plain, *region.span()):
                     yield path, found.span(), changed(found[0])

@@ -1,11 +1,11 @@
 #!/usr/bin/env python3
-"""Compares the interface as the Rattle crate, the C header and the Rust crate declare it.
+"""Compares what the header and the Rust crate have by hand with the Rattle crate: `interface.py` writes the rest.
 
-Numbers of reasons, of kinds and of choices; the choices of each kind, and the usual ones; the texts of reasons; the
-greatest lengths of texts; fields of structs, in order, with their types; functions, with their parameters in order and
-the types of these and of the result; and the version. Also whether the header declares each name that it, the C programs and the documents use, whether the rows and
-the test of memory call each function, and whether `bindings/counts` counts each function from C and from Rust, under
-its name, and each method of the formats. Prints each difference, and ends with status 1 if there is one.
+Numbers of choices, and the usual ones; the greatest lengths of texts; fields of structs, in order, with their types; the words of
+a number that is no reason; what could have come in a text; and the version. Also whether the header declares each name that it, the C
+programs and the documents use, whether the rows and the test of memory call each function, and whether `bindings/counts` counts each
+function from C and from Rust, under its name, and each method of the formats. Prints each difference, and ends with status 1 if there
+is one.
 
     names.py --drifts      makes one change at a time in the names, numbers, texts and types, and ends with status 1 if
                            a change makes no difference
@@ -19,6 +19,7 @@ import sys
 
 sys.dont_write_bytecode = True
 import drifts
+import interface
 
 HERE = pathlib.Path(__file__).resolve().parent
 TOP = HERE.parent
@@ -36,17 +37,7 @@ ROWS = [HERE / "c/rows.c", HERE / "c/descriptions.c"]
 
 COMMENTS = {
     ".h": r"/\*.*?\*/", ".c": r"/\*.*?\*/", ".cpp": r"//[^\n]*", ".rs": r"//[^\n]*", ".rt": r"//[^\n]*",
-    ".antt": r"--[^\n]*", ".toml": r"#[^\n]*",
-}
-TYPES = {
-    "int8_t": "i8", "uint8_t": "u8", "int32_t": "i32", "uint32_t": "u32", "int64_t": "i64",
-    "size_t": "usize", "ptrdiff_t": "isize",
-}
-# Bytes are behind a `void *`, so that a caller may have an array of `char`.
-POINTED = {"void": "u8"}
-STRUCTS = {
-    "moment": "Moment", "utc_moment": "UtcMoment", "item": "Item", "iso_config": "IsoConfig",
-    "progress": "Progress", "place": "Place",
+    ".toml": r"#[^\n]*",
 }
 # The enums of a configuration and of an item: in the header, in the Rust crate, and the Rattle function that reads
 # their numbers. The header has no enum for the last two.
@@ -59,10 +50,7 @@ CHOICES = [
     (None, "DecimalSign", "sign_at"),
     (None, "SubsecondDigits", "digits_at"),
 ]
-# The greatest lengths of texts, by their names in the specs of time_known. A stamp is of the default of ISO 8601.
-WIDTHS = {
-    "rfc3339_width": "rfc3339", "rfc2822_width": "rfc2822", "stamp_width": "iso8601", "stamp_length": "stamp",
-}
+OF_C = {of_c: kind for kind, of_c in interface.C_TYPES.items()}
 # What makes no text of a moment.
 NOT_COUNTED = {"version", "error_words"}
 # Crates, a variable of the environment, and the mark of the header.
@@ -74,8 +62,7 @@ def read():
     paths = [
         HEADER, CARGO, PARTS, HERE / "c/expect.h", *HERE.glob("c/*.c"), *HERE.glob("c/*.cpp"), *RUST.glob("*.rs"),
         *SPEED.glob("*.rs"),
-        *CRATE.glob("src/**/*.rt"), *CRATE.glob("specs/*.antt"), TOP / "README.md", *TOP.glob("docs/*.md"),
-        *(TOP / f"crates/time_known/specs/{name}.antt" for name in ("Rfc3339", "Rfc2822", "Stamps")),
+        *CRATE.glob("src/**/*.rt"), TOP / "README.md", *TOP.glob("docs/*.md"),
     ]
     return {path: path.read_text() for path in sorted(paths)}
 
@@ -121,50 +108,12 @@ def numbers(pattern, *texts):
     return {words(name): int(number) for name, number in findall(pattern, *texts)}
 
 
-def c_type(declared):
-    """A type of the header in the words of Rust. One that the other interfaces cannot have stays."""
-    declared = declared.replace("struct movaliren_", "").strip()
-    base = declared.removeprefix("const ").rstrip("* ")
-    if "*" not in declared:
-        return STRUCTS.get(base) or TYPES.get(base, base)
-    base = STRUCTS.get(base) or POINTED.get(base, base)
-    return ("*const " if declared.startswith("const ") else "*mut ") + base
+def functions_of(header):
+    return found_in(interface.PROTOTYPE, header)
 
 
-@kept
-def c_functions(text):
-    found = findall(r"((?:\bstruct )?\b\w+) (movaliren_\w+)\(([^)]*)\);", text)
-    split = lambda parameter: re.fullmatch(r"\s*(.*?)(\w+)\s*", parameter, re.S).groups()
-    parameters = lambda all: [] if all == "void" else map(split, all.split(","))
-    return {
-        name: ([(parameter, c_type(kind)) for kind, parameter in parameters(all)], c_type(result))
-        for result, name, all in found
-    }
-
-
-@kept
-def rattle_functions(*texts):
-    """A slice is a pointer and a length in C, a reference a pointer, and `Global` nothing."""
-    functions = {}
-    for name, all, result in findall(r'extern "C" fn (movaliren_\w+)\((.*?)\)\s*->\s*(\w+)', *texts):
-        parameters = []
-        for parameter, kind in re.findall(r"(\w+): ([^,]+)", all):
-            kind = kind.strip()
-            reference = re.fullmatch(r"&(mut )?(\[)?(\w+)\]?", kind)
-            if reference:
-                parameters.append((parameter, ("*mut " if reference[1] else "*const ") + reference[3]))
-                if reference[2]:
-                    parameters.append((f"{parameter}_len", "usize"))
-            elif kind != "Global":
-                parameters.append((parameter, kind))
-        functions[name] = (parameters, result)
-    return functions
-
-
-@kept
-def rust_functions(*texts):
-    found = findall(r"pub\(super\) fn (movaliren_\w+)\((.*?)\)\s*->\s*(\w+);", *texts)
-    return {name: (re.findall(r"(\w+): ([^,]+?)\s*(?:,|$)", all), result) for name, all, result in found}
+def fields_of(pattern, head, *texts):
+    return findall(pattern, braces(head, *texts))
 
 
 class Interfaces:
@@ -172,8 +121,8 @@ class Interfaces:
         of = {suffix: [] for suffix in (*COMMENTS, ".md")}
         for path, text in texts.items():
             if path.parent != SPEED and path != PARTS:
-                of[path.suffix].append(code(text, path.suffix) if path.suffix in (".rt", ".antt", ".rs") else text)
-        self.rattle, self.specs, self.rust = of[".rt"], of[".antt"], of[".rs"]
+                of[path.suffix].append(code(text, path.suffix) if path.suffix in (".rt", ".rs") else text)
+        self.rattle, self.rust = of[".rt"], of[".rs"]
         self.users = of[".h"] + of[".c"] + of[".cpp"] + of[".md"]
         self.c, self.cargo, self.counted = (code(texts[path], path.suffix) for path in (HEADER, CARGO, COUNTED))
         self.speed = code("\n".join(texts[path] for path in sorted(texts) if path.parent == SPEED), ".rs")
@@ -186,37 +135,21 @@ class Interfaces:
         if any(interface != interfaces[0] for interface in interfaces):
             self.differences.append("\n".join([f"{what} differs:", *(f"    {interface}" for interface in interfaces)]))
 
-    def reasons(self):
-        rust = {words(name): int(number) for number, name in findall(r"(-\d+) => Error::(\w+),", *self.rust)}
-        specs = numbers(r"reason_number reason\.(\w+) = neg_ℤ \(pos (\d+)\)", *self.specs)
-        self.same(
-            "a reason",
-            {name: -number for name, number in numbers(r"(\w+) = (\d+)", braces("enum Reason", *self.rattle)).items()},
-            numbers(r"MOVALIREN_ERROR_(\w+) = (-\d+)", self.c),
-            rust,
-            {name: -number for name, number in specs.items()},
-        )
-
-    def texts(self):
-        c = findall(r'case MOVALIREN_ERROR_(\w+):\s*return ("[^"]*");', self.c)
-        rust = findall(r'Error::(\w+) => \{?\s*("[^"]*")', *self.rust)
-        here = {words(name): text for name, text in rust}
-        self.same("the text of a reason", {words(name): text for name, text in c}, here)
-        self.same("the set of texts", sorted(here), sorted(numbers(r"MOVALIREN_ERROR_(\w+) = (-\d+)", self.c)))
-        reasons = numbers(r"MOVALIREN_ERROR_(\w+) = (-\d+)", self.c)
-        header = {str(-reasons.get(words(name), 0)): text for name, text in c}
-        self.same("the text of a reason by its number", header, dict(findall(r'if n == (\d+) then codes ("[^"]*")', *self.specs)))
-        others = sum(findall(r'reason < 0 \? ("[^"]*") : ("[^"]*")', self.c), ())
-        unknown = only(r'&number, &mut room\)\.unwrap_or\(("[^"]*")\)', *self.rust)
-        self.same("the text of another number", others, tuple(findall(r'else codes ("\w[^"]*")', *self.specs)), (unknown, others[1]))
+    def words(self):
+        """Those of a number that is no reason."""
+        header = sum(findall(r'reason < 0 \? ("[^"]*") : ("[^"]*")', self.c), ())
+        rattle = findall(r'_ =>\s*b("[^"]*")', *self.rattle) + findall(r'b("no error")', *self.rattle)
+        self.same("the words of another number", list(header), rattle)
+        self.same("the words in Rust", header[:1], tuple(findall(r'&number, &mut room\)\.unwrap_or\(("[^"]*")\)', *self.rust)))
 
     def lengths(self):
         rust = numbers(r"\b(\w+) over [\w, ]+: (\d+) bytes;", *self.rust)
         for name in ("rfc3339", "rfc2822"):
             self.same(f"the greatest length of {name} at an offset", rust.pop(f"{name}local", None), rust.get(name))
-        specs = numbers(rf"^({'|'.join(WIDTHS)}) = (\d+)$", *self.specs)
-        self.same("the greatest length of a text", {WIDTHS[name]: specs.get(words(name)) for name in WIDTHS}, rust)
+        rattle = numbers(r"impl Format for (\w+) \{.*?const WIDTH: usize = (\d+);", *self.rattle)
+        self.same("the greatest length of a text", rattle, rust)
         rust["iso8601by"] = sum(map(int, findall(r"MAX_WIDTH: usize = (\d+)", *self.rust)))
+        self.same("the greatest length by a configuration", [str(rust["iso8601by"])], findall(r"ArraySink::<(\d+)>", *self.rattle))
         self.same("the length of a buffer", numbers(r"MOVALIREN_(\w+)_ROOM = (\d+)", self.c), rust)
         self.same("the array of a stamp", [rust.get("stamp")], [int(n) for n in findall(r"\[u8; (\d+)\]", *self.rust)])
 
@@ -241,29 +174,6 @@ class Interfaces:
             raise LookupError(f"enum movaliren_{enum} has no numbers")
         return found
 
-    def kinds(self):
-        body = braces("enum movaliren_kind", self.c)
-        header = numbers(r"MOVALIREN_(\w+) = (\d+)", body)
-        self.same(
-            "the kind of a text",
-            findall(r"MOVALIREN_TEXT = (\d+)", self.c),
-            findall(r"\bkind: (\d+)", *self.rust),
-            findall(r"\bif i\.kind == (\d+)", *self.specs),
-        )
-        header.pop("text", None)
-        self.same("a kind", header, numbers(r"(\w+) = (\d+)", braces("enum Kind", *self.rust)))
-        # The Rattle crate has longer names; each kind has one number in the header's order.
-        rattle = findall(r"(\d+) => component!\((\w+):", *self.rattle)
-        specs = []
-        for first, listed in findall(r"_component k [pfd ]+ = numbered (\d+) \((.*?)∷ \[\]\)", *self.specs):
-            specs += [(str(number), name) for number, name in enumerate(findall(r"component\.(\w+)", listed), int(first))]
-        self.same("a component", rattle, specs)
-        self.same("the number of a kind", sorted(header.values()), sorted(int(number) for number, _ in rattle))
-        names = {number: name for name, number in header.items()}
-        for number, name in rattle:
-            short = self.short_name(names.get(int(number), ""))
-            self.same(f"the component of kind {number}", short, self.short_name(words(name)))
-
     def usual_flags(self):
         """The kinds whose usual choices have the flag: by the header, the Rust crate, and the constants of parts. Of two
         constants of a component the first has the usual choices."""
@@ -287,25 +197,6 @@ class Interfaces:
             sorted(kinds[words(kind)] for kind in findall(r"Kind::(\w+)", rust)),
         )
 
-    def choices_of_kinds(self):
-        """The kinds that have a choice: by the code, and by the Rust crate, which leaves the others as they are."""
-        kinds = numbers(r"(\w+) = (\d+)", braces("enum Kind", *self.rust))
-        rattle = findall(r"(\d+) => component!\(\w+: ([\w, ]+)\)", *self.rattle)
-        named = lambda name: {kinds.get(words(kind)) for kind in findall(r"Kind::(\w+)", only(rf"fn {name}.*?\n    \}}", *self.rust))}
-        having = lambda choice: {int(number) for number, choices in rattle if choice in choices.split(", ")}
-        self.same("the kinds that have a sign", having("sign_is_mandatory"), named("has_sign"))
-        self.same("the kinds that have a padding", having("padding"), set(kinds.values()) - named("has_padding"))
-
-    @staticmethod
-    def short_name(name):
-        """Without the words that the header leaves out, or the Rattle crate."""
-        left_out = (
-            "calendaryear", "year", "full", "standardrange", "range", "numerical", "number", "timestamp", "24", "from",
-        )
-        for word in left_out:
-            name = name.replace(word, "")
-        return name
-
     def choices(self):
         for enum, name, reader in CHOICES:
             rust = numbers(r"(\w+) = (\d+)", braces(f"enum {name}", *self.rust))
@@ -325,22 +216,12 @@ class Interfaces:
         self.same("a flag", [("0", "false"), ("1", "true")] * (len(flags) // 2), flags)
 
     def structs(self):
-        field = r"(?:pub(?:\(\w+\))? )?(\w+): (\w+),"
-        for header, name in STRUCTS.items():
-            fields = findall(r"(\w+) (\w+);", braces(f"struct movaliren_{header}", self.c))
-            head = rf"#\[repr\(C\)\][^{{]*struct {name}"
-            self.same(
-                f"struct {name}",
-                findall(field, braces(head, *self.rattle)),
-                [(field, TYPES.get(kind, kind)) for kind, field in fields],
-                findall(field, braces(head, *self.rust)),
-            )
-
-    def functions(self):
-        interfaces = [rattle_functions(*self.rattle), c_functions(self.c), rust_functions(*self.rust)]
-        self.same("the set of functions", *(sorted(interface) for interface in interfaces))
-        for name in interfaces[0]:
-            self.same(name, *(interface.get(name) for interface in interfaces))
+        for name, fields in interface.structs(*self.rattle).items():
+            header = fields_of(r"(\w+) (\w+);", f"struct movaliren_{interface.snake(name).lower()}", self.c)
+            self.same(f"struct {name}", fields, [(field, OF_C.get(kind)) for kind, field in header])
+            if name in interface.OF_RUST:
+                head = rf"#\[repr\(C\)\][^{{]*struct {name}"
+                self.same(f"struct {name} in Rust", fields, fields_of(r"(?:pub )?(\w+): (\w+),", head, *self.rust))
 
     def uses(self):
         declared = findall(
@@ -356,11 +237,10 @@ class Interfaces:
         rust = {words(name): int(number) for number, name in findall(r"(\d+|_) => Expected::(\w+)", *self.rust) if number != "_"}
         rust[words(only(r"_ => Expected::(\w+)", *self.rust))] = len(header)
         rattle = {words(name): int(number) for name, number in findall(r"Expected::(\w+)(?:\([\w, ]+\))? => \((\d+)", *self.rattle)}
-        specs = numbers(r"expected\.(\w+)[^=]* = record \{ at = at; expected = (\d+)", *self.specs)
-        self.same("what could have come", header, rust, rattle, specs)
+        self.same("what could have come", header, rust, rattle)
 
     def tests(self):
-        functions = sorted(c_functions(self.c))
+        functions = sorted(functions_of(self.c))
         self.same("what the test of memory calls", functions, sorted(set(findall(r"(movaliren_\w+)\(", self.memory))))
         called = set(findall(r"(movaliren_\w+)\(", *self.rows))
         for name in findall(r"^ALONE_AND_AS_BATCH\((\w+),", *self.rows):
@@ -369,7 +249,7 @@ class Interfaces:
 
     def counts(self):
         """A row begins with the name of the function that it calls. One of another library has a slash."""
-        functions = {name.removeprefix("movaliren_") for name in c_functions(self.c)}
+        functions = {name.removeprefix("movaliren_") for name in functions_of(self.c)}
         table = self.counted.partition("ways[]")[2]
         rows = findall(r'\{ "([^"]+)",(.*?)\},$', table)
         names = {row for row, _ in rows if "/" not in row}
@@ -402,9 +282,8 @@ class Interfaces:
     def compared(self, stops=False):
         """All differences, or those of the first check that has one."""
         checks = (
-            self.functions, self.uses, self.structs, self.kinds, self.usual_flags, self.choices_of_kinds,
-            self.choices, self.reasons, self.texts, self.lengths,
-            self.version, self.places, self.tests, self.counts,
+            self.uses, self.structs, self.usual_flags, self.choices, self.words, self.lengths, self.version,
+            self.places, self.tests, self.counts,
         )
         for check in checks:
             try:
@@ -421,10 +300,10 @@ def main():
     if sys.argv[1:] == ["--drifts"]:
         return drifts.missed(texts, code, lambda changed: Interfaces(changed).compared(stops=True)) != 0
     if sys.argv[1:] == ["--functions"]:
-        print("\n".join(sorted(c_functions(code(texts[HEADER], ".h")))))
+        print("\n".join(sorted(functions_of(code(texts[HEADER], ".h")))))
         return 0
     differences = Interfaces(texts).compared()
-    print("\n".join(differences or ["names: the three interfaces are the same"]))
+    print("\n".join(differences or ["names: what is declared by hand is the same"]))
     return bool(differences)
 
 

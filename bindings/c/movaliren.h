@@ -75,7 +75,7 @@ enum movaliren_error {
     MOVALIREN_ERROR_BAD_ITEM = -19,
     MOVALIREN_ERROR_NO_ROOM = -20,
     MOVALIREN_ERROR_OUT_OF_MEMORY = -21, /* never returned */
-    MOVALIREN_ERROR_OTHER = -22,         /* never returned */
+    MOVALIREN_ERROR_OTHER = -22, /* never returned */
     MOVALIREN_ERROR_NOT_READ = -23
 };
 
@@ -201,16 +201,13 @@ struct movaliren_utc_moment {
 
 /* RFC 3339, as 1985-04-12T23:20:50.52Z. The decimals are as many as are needed, and none for a whole
  * second. */
-ptrdiff_t movaliren_rfc3339(
-    const struct movaliren_moment *moment, void *room, size_t room_len);
+ptrdiff_t movaliren_rfc3339(const struct movaliren_moment *moment, void *room, size_t room_len);
 
 /* RFC 2822, as Fri, 21 Nov 1997 09:55:06 -0600. The nanosecond is not written. */
-ptrdiff_t movaliren_rfc2822(
-    const struct movaliren_moment *moment, void *room, size_t room_len);
+ptrdiff_t movaliren_rfc2822(const struct movaliren_moment *moment, void *room, size_t room_len);
 
 /* ISO 8601 by default, as 1997-11-12T09:55:06.000000000-06:00. */
-ptrdiff_t movaliren_iso8601(
-    const struct movaliren_moment *moment, void *room, size_t room_len);
+ptrdiff_t movaliren_iso8601(const struct movaliren_moment *moment, void *room, size_t room_len);
 
 /* A stamp, as 1997-11-12T15:55:06.000000000Z, of 30 bytes. Stamps sort by bytes as their moments do. */
 ptrdiff_t movaliren_stamp(int64_t seconds, uint32_t nanosecond, void *room, size_t room_len);
@@ -283,12 +280,12 @@ ptrdiff_t movaliren_iso8601_by_utc(const struct movaliren_iso_config *config, in
  * of more than 25:59:59 either way is MOVALIREN_ERROR_OFFSET_HOURS. The formats refuse an offset with
  * seconds. The moment is tested first, then the offset. A local date outside the years -999999 to 999999
  * is MOVALIREN_ERROR_NO_PLACE_FOR_YEAR. */
-ptrdiff_t movaliren_rfc3339_local(
-    int64_t seconds, uint32_t nanosecond, int64_t offset, void *room, size_t room_len);
-ptrdiff_t movaliren_rfc2822_local(
-    int64_t seconds, uint32_t nanosecond, int64_t offset, void *room, size_t room_len);
-ptrdiff_t movaliren_iso8601_local(
-    int64_t seconds, uint32_t nanosecond, int64_t offset, void *room, size_t room_len);
+ptrdiff_t movaliren_rfc3339_local(int64_t seconds, uint32_t nanosecond, int64_t offset, void *room,
+    size_t room_len);
+ptrdiff_t movaliren_rfc2822_local(int64_t seconds, uint32_t nanosecond, int64_t offset, void *room,
+    size_t room_len);
+ptrdiff_t movaliren_iso8601_local(int64_t seconds, uint32_t nanosecond, int64_t offset, void *room,
+    size_t room_len);
 
 /* A line of a log in local time, as 1997-11-12T16:55:06.120+01:00:
  *
@@ -332,8 +329,8 @@ struct movaliren_place {
  *     char said[MOVALIREN_PLACE_ROOM];
  *     if (movaliren_read_rfc3339(text, strlen(text), &moment, &place) < 0)
  *         fprintf(stderr, "%s: %s\n", text, movaliren_place_text(&place, said)); */
-ptrdiff_t movaliren_read_rfc3339(const void *text, size_t text_len,
-    struct movaliren_moment *moment, struct movaliren_place *place);
+ptrdiff_t movaliren_read_rfc3339(const void *text, size_t text_len, struct movaliren_moment *moment,
+    struct movaliren_place *place);
 ptrdiff_t movaliren_read_rfc3339_utc(const void *text, size_t text_len,
     struct movaliren_utc_moment *moment, struct movaliren_place *place);
 
@@ -491,9 +488,8 @@ struct movaliren_item {
 /* A text by the items in order, whose literals are cut from one array of bytes. The items are tested
  * before the value. A year that its kind refuses is MOVALIREN_ERROR_OUT_OF_RANGE. A date has no time,
  * no offset and no seconds since 1970: an item of these is MOVALIREN_ERROR_INSUFFICIENT. */
-ptrdiff_t movaliren_format(const struct movaliren_item *items, size_t items_len,
-    const void *texts, size_t texts_len, const struct movaliren_moment *moment, void *room,
-    size_t room_len);
+ptrdiff_t movaliren_format(const struct movaliren_item *items, size_t items_len, const void *texts,
+    size_t texts_len, const struct movaliren_moment *moment, void *room, size_t room_len);
 ptrdiff_t movaliren_format_utc(const struct movaliren_item *items, size_t items_len,
     const void *texts, size_t texts_len, int64_t seconds, uint32_t nanosecond, void *room,
     size_t room_len);
@@ -506,8 +502,8 @@ ptrdiff_t movaliren_format_date(const struct movaliren_item *items, size_t items
 
 /* The most bytes that a text of these items has, up to PTRDIFF_MAX, or MOVALIREN_ERROR_BAD_ITEM:
  * a buffer of this many is large enough. */
-ptrdiff_t movaliren_width(const struct movaliren_item *items, size_t items_len,
-    const void *texts, size_t texts_len);
+ptrdiff_t movaliren_width(const struct movaliren_item *items, size_t items_len, const void *texts,
+    size_t texts_len);
 
 /* A description that is built in two arrays of the caller, who counts no offsets of texts:
  *

@@ -176,40 +176,6 @@ impl Kind {
         Component::new(self).item()
     }
 
-    const fn has_sign(self) -> bool {
-        matches!(
-            self,
-            Kind::YearExtended
-                | Kind::Year
-                | Kind::CenturyExtended
-                | Kind::Century
-                | Kind::IsoYearExtended
-                | Kind::IsoYear
-                | Kind::IsoCenturyExtended
-                | Kind::IsoCentury
-                | Kind::OffsetHour
-                | Kind::UnixSecond
-                | Kind::UnixMillisecond
-        )
-    }
-
-    /// Names, single digits, decimals and the time since 1970 have none.
-    const fn has_padding(self) -> bool {
-        !matches!(
-            self,
-            Kind::MonthShort
-                | Kind::MonthLong
-                | Kind::WeekdayShort
-                | Kind::WeekdayLong
-                | Kind::WeekdayFromSunday
-                | Kind::WeekdayFromMonday
-                | Kind::Period
-                | Kind::Subsecond
-                | Kind::UnixSecond
-                | Kind::UnixMillisecond
-        )
-    }
-
     /// The greatest number of bytes that a text has.
     const fn width(self) -> usize {
         match self {

@@ -1,4 +1,5 @@
 //! Why there is no text.
+use crate::library::words_of;
 use crate::raw;
 use core::fmt;
 
@@ -57,70 +58,12 @@ pub enum Error {
     Unknown(isize),
 }
 
-impl Error {
-    pub(crate) fn from_number(number: isize) -> Error {
-        match number {
-            -1 => Error::Year,
-            -2 => Error::Month,
-            -3 => Error::Day,
-            -4 => Error::Hour,
-            -5 => Error::Minute,
-            -6 => Error::Second,
-            -7 => Error::Nanosecond,
-            -8 => Error::OffsetHours,
-            -9 => Error::OffsetMinutes,
-            -10 => Error::OffsetSeconds,
-            -11 => Error::MomentSeconds,
-            -12 => Error::NoPlaceForYear,
-            -13 => Error::NoPlaceForOffsetHour,
-            -14 => Error::NoPlaceForOffsetMinute,
-            -15 => Error::NoPlaceForOffsetSecond,
-            -16 => Error::Insufficient,
-            -17 => Error::OutOfRange,
-            -18 => Error::BadConfig,
-            -19 => Error::BadItem,
-            -20 => Error::NoRoom,
-            -21 => Error::OutOfMemory,
-            -22 => Error::Other,
-            -23 => Error::NotRead,
-            other => Error::Unknown(other),
-        }
-    }
-}
-
 impl fmt::Display for Error {
     fn fmt(&self, f: &mut fmt::Formatter<'_>) -> fmt::Result {
-        let words = match self {
-            Error::Year => "the year is outside -999999 to 999999",
-            Error::Month => "the month is outside 1 to 12",
-            Error::Day => "the month has no such day",
-            Error::Hour => "the hour is outside 0 to 23",
-            Error::Minute => "the minute is outside 0 to 59",
-            Error::Second => "the second is outside 0 to 59",
-            Error::Nanosecond => "the nanosecond is outside 0 to 999999999",
-            Error::OffsetHours => "the hours of the offset are outside -25 to 25",
-            Error::OffsetMinutes => "the minutes of the offset are outside -59 to 59, or of another sign than its hours",
-            Error::OffsetSeconds => "the seconds of the offset are outside -59 to 59, or of another sign than its hours or minutes",
-            Error::MomentSeconds => "the seconds are outside the years -999999 to 999999",
-            Error::NoPlaceForYear => "the format cannot represent the year",
-            Error::NoPlaceForOffsetHour => "the format cannot represent the hours of the offset",
-            Error::NoPlaceForOffsetMinute => {
-                "the format cannot represent the minutes of the offset"
-            }
-            Error::NoPlaceForOffsetSecond => {
-                "the format cannot represent the seconds of the offset"
-            }
-            Error::Insufficient => "the value lacks a component of the format",
-            Error::OutOfRange => "a component is outside the range of its item",
-            Error::BadConfig => "invalid configuration value",
-            Error::BadItem => "invalid item",
-            Error::NoRoom => "the text does not fit the buffer",
-            Error::OutOfMemory => "out of memory",
-            Error::Other => "the format cannot represent a component",
-            Error::NotRead => "the text is not one of the format",
-            Error::Unknown(number) => return unknown(*number, f),
-        };
-        f.write_str(words)
+        match words_of(*self) {
+            Ok(words) => f.write_str(words),
+            Err(number) => unknown(number, f),
+        }
     }
 }
 

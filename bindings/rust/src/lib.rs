@@ -45,6 +45,8 @@ mod error;
 mod format;
 mod formatted;
 mod known;
+#[rustfmt::skip]
+mod library;
 #[doc(hidden)]
 pub mod list;
 mod moment;

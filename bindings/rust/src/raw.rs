@@ -5,6 +5,8 @@
 //! `#[repr(C)]`, with the fields of the header in its order. The library keeps no pointer. It writes
 //! bytes of a buffer or leaves them as they were, so none becomes uninitialized.
 use crate::known::{Iso8601, Rfc2822, Rfc2822Local, Rfc3339, Rfc3339Local, Stamp};
+use crate::library::{self, error_of};
+pub(crate) use crate::library::{IsoConfig, Item};
 use crate::read::{Expected, NotRead};
 use crate::{Date, Description, Error, Iso8601By, LocalMoment, Moment, Progress, UtcMoment};
 use alloc::boxed::Box;
@@ -14,18 +16,6 @@ use alloc::sync::Arc;
 use alloc::vec::Vec;
 use core::mem::MaybeUninit;
 use core::{slice, str};
-
-#[repr(C)]
-#[derive(Clone, Copy, Debug, PartialEq, Eq, Hash)]
-pub(crate) struct Item {
-    pub(crate) kind: u32,
-    pub(crate) padding: u8,
-    pub(crate) flag: u8,
-    pub(crate) digits: u8,
-    pub(crate) unused: u8,
-    pub(crate) start: usize,
-    pub(crate) len: usize,
-}
 
 impl Item {
     /// The text of no bytes.
@@ -38,281 +28,6 @@ impl Item {
         start: 0,
         len: 0,
     };
-}
-
-#[repr(C)]
-#[derive(Clone, Copy, Debug, PartialEq, Eq, Hash)]
-pub(crate) struct IsoConfig {
-    pub(crate) components: u8,
-    pub(crate) date_kind: u8,
-    pub(crate) time_precision: u8,
-    pub(crate) decimals: u8,
-    pub(crate) offset_precision: u8,
-    pub(crate) use_separators: u8,
-    pub(crate) year_is_six_digits: u8,
-    pub(crate) comma: u8,
-}
-
-mod library {
-    use super::{IsoConfig, Item};
-    use crate::{Moment, UtcMoment};
-
-    #[repr(C)]
-    #[derive(Clone, Copy)]
-    pub(super) struct Place {
-        pub(super) at: usize,
-        pub(super) expected: u8,
-        pub(super) first: u8,
-        pub(super) last: u8,
-        pub(super) is_lenient: u8,
-        pub(super) is_second_60: u8,
-    }
-
-    #[repr(C)]
-    pub(super) struct Progress {
-        pub(super) moments: usize,
-        pub(super) bytes: usize,
-        pub(super) reason: isize,
-    }
-
-    extern "C" {
-        pub(super) fn movaliren_version() -> u32;
-        pub(super) fn movaliren_error_words(reason: isize, room: *mut u8, room_len: usize)
-            -> isize;
-        pub(super) fn movaliren_rfc3339(
-            moment: *const Moment,
-            room: *mut u8,
-            room_len: usize,
-        ) -> isize;
-        pub(super) fn movaliren_rfc2822(
-            moment: *const Moment,
-            room: *mut u8,
-            room_len: usize,
-        ) -> isize;
-        pub(super) fn movaliren_iso8601(
-            moment: *const Moment,
-            room: *mut u8,
-            room_len: usize,
-        ) -> isize;
-        pub(super) fn movaliren_iso8601_by(
-            config: *const IsoConfig,
-            moment: *const Moment,
-            room: *mut u8,
-            room_len: usize,
-        ) -> isize;
-        pub(super) fn movaliren_stamp(
-            seconds: i64,
-            nanosecond: u32,
-            room: *mut u8,
-            room_len: usize,
-        ) -> isize;
-        pub(super) fn movaliren_rfc3339_batch(
-            moments: *const Moment,
-            moments_len: usize,
-            end: u8,
-            room: *mut u8,
-            room_len: usize,
-        ) -> Progress;
-        pub(super) fn movaliren_rfc2822_batch(
-            moments: *const Moment,
-            moments_len: usize,
-            end: u8,
-            room: *mut u8,
-            room_len: usize,
-        ) -> Progress;
-        pub(super) fn movaliren_iso8601_batch(
-            moments: *const Moment,
-            moments_len: usize,
-            end: u8,
-            room: *mut u8,
-            room_len: usize,
-        ) -> Progress;
-        pub(super) fn movaliren_iso8601_by_batch(
-            config: *const IsoConfig,
-            moments: *const Moment,
-            moments_len: usize,
-            end: u8,
-            room: *mut u8,
-            room_len: usize,
-        ) -> Progress;
-        pub(super) fn movaliren_stamp_batch(
-            moments: *const UtcMoment,
-            moments_len: usize,
-            end: u8,
-            room: *mut u8,
-            room_len: usize,
-        ) -> Progress;
-        pub(super) fn movaliren_rfc3339_utc(
-            seconds: i64,
-            nanosecond: u32,
-            room: *mut u8,
-            room_len: usize,
-        ) -> isize;
-        pub(super) fn movaliren_rfc2822_utc(
-            seconds: i64,
-            nanosecond: u32,
-            room: *mut u8,
-            room_len: usize,
-        ) -> isize;
-        pub(super) fn movaliren_iso8601_utc(
-            seconds: i64,
-            nanosecond: u32,
-            room: *mut u8,
-            room_len: usize,
-        ) -> isize;
-        pub(super) fn movaliren_iso8601_by_utc(
-            config: *const IsoConfig,
-            seconds: i64,
-            nanosecond: u32,
-            room: *mut u8,
-            room_len: usize,
-        ) -> isize;
-        pub(super) fn movaliren_rfc3339_local(
-            seconds: i64,
-            nanosecond: u32,
-            offset: i64,
-            room: *mut u8,
-            room_len: usize,
-        ) -> isize;
-        pub(super) fn movaliren_rfc2822_local(
-            seconds: i64,
-            nanosecond: u32,
-            offset: i64,
-            room: *mut u8,
-            room_len: usize,
-        ) -> isize;
-        pub(super) fn movaliren_iso8601_local(
-            seconds: i64,
-            nanosecond: u32,
-            offset: i64,
-            room: *mut u8,
-            room_len: usize,
-        ) -> isize;
-        pub(super) fn movaliren_iso8601_by_local(
-            config: *const IsoConfig,
-            seconds: i64,
-            nanosecond: u32,
-            offset: i64,
-            room: *mut u8,
-            room_len: usize,
-        ) -> isize;
-        pub(super) fn movaliren_read_rfc3339(
-            text: *const u8,
-            text_len: usize,
-            moment: *mut Moment,
-            place: *mut Place,
-        ) -> isize;
-        pub(super) fn movaliren_read_rfc3339_utc(
-            text: *const u8,
-            text_len: usize,
-            moment: *mut UtcMoment,
-            place: *mut Place,
-        ) -> isize;
-        pub(super) fn movaliren_read_rfc3339_lenient(
-            text: *const u8,
-            text_len: usize,
-            moment: *mut Moment,
-            place: *mut Place,
-        ) -> isize;
-        pub(super) fn movaliren_read_rfc3339_lenient_utc(
-            text: *const u8,
-            text_len: usize,
-            moment: *mut UtcMoment,
-            place: *mut Place,
-        ) -> isize;
-        pub(super) fn movaliren_rfc3339_utc_batch(
-            moments: *const UtcMoment,
-            moments_len: usize,
-            end: u8,
-            room: *mut u8,
-            room_len: usize,
-        ) -> Progress;
-        pub(super) fn movaliren_rfc2822_utc_batch(
-            moments: *const UtcMoment,
-            moments_len: usize,
-            end: u8,
-            room: *mut u8,
-            room_len: usize,
-        ) -> Progress;
-        pub(super) fn movaliren_iso8601_utc_batch(
-            moments: *const UtcMoment,
-            moments_len: usize,
-            end: u8,
-            room: *mut u8,
-            room_len: usize,
-        ) -> Progress;
-        pub(super) fn movaliren_iso8601_by_utc_batch(
-            config: *const IsoConfig,
-            moments: *const UtcMoment,
-            moments_len: usize,
-            end: u8,
-            room: *mut u8,
-            room_len: usize,
-        ) -> Progress;
-        pub(super) fn movaliren_rfc3339_local_batch(
-            moments: *const UtcMoment,
-            moments_len: usize,
-            offset: i64,
-            end: u8,
-            room: *mut u8,
-            room_len: usize,
-        ) -> Progress;
-        pub(super) fn movaliren_rfc2822_local_batch(
-            moments: *const UtcMoment,
-            moments_len: usize,
-            offset: i64,
-            end: u8,
-            room: *mut u8,
-            room_len: usize,
-        ) -> Progress;
-        pub(super) fn movaliren_format(
-            items: *const Item,
-            items_len: usize,
-            texts: *const u8,
-            texts_len: usize,
-            moment: *const Moment,
-            room: *mut u8,
-            room_len: usize,
-        ) -> isize;
-        pub(super) fn movaliren_format_utc(
-            items: *const Item,
-            items_len: usize,
-            texts: *const u8,
-            texts_len: usize,
-            seconds: i64,
-            nanosecond: u32,
-            room: *mut u8,
-            room_len: usize,
-        ) -> isize;
-        pub(super) fn movaliren_format_local(
-            items: *const Item,
-            items_len: usize,
-            texts: *const u8,
-            texts_len: usize,
-            seconds: i64,
-            nanosecond: u32,
-            offset: i64,
-            room: *mut u8,
-            room_len: usize,
-        ) -> isize;
-        pub(super) fn movaliren_format_date(
-            items: *const Item,
-            items_len: usize,
-            texts: *const u8,
-            texts_len: usize,
-            year: i32,
-            month: u8,
-            day: u8,
-            room: *mut u8,
-            room_len: usize,
-        ) -> isize;
-        pub(super) fn movaliren_width(
-            items: *const Item,
-            items_len: usize,
-            texts: *const u8,
-            texts_len: usize,
-        ) -> isize;
-    }
 }
 
 const _: () = assert!(core::mem::size_of::<Moment>() == 16);
@@ -383,7 +98,7 @@ behind_pointers!(&F, Box<F>, Rc<F>, Arc<F>);
 
 #[inline]
 fn count_of(answer: isize) -> Result<usize, Error> {
-    usize::try_from(answer).map_err(|_| Error::from_number(answer))
+    usize::try_from(answer).map_err(|_| error_of(answer))
 }
 
 #[inline]
@@ -393,7 +108,7 @@ fn progress_of(progress: library::Progress) -> Progress {
         bytes: progress.bytes,
         stopped: match progress.reason {
             0 => None,
-            reason => Some(Error::from_number(reason)),
+            reason => Some(error_of(reason)),
         },
     }
 }

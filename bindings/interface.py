@@ -1,0 +1,247 @@
+#!/usr/bin/env python3
+"""Writes what the header and the Rust crate have from the code.
+
+The exports of movaliren_c give the header's prototypes, each in its place, and the functions and structs of
+`library.rs`; `reason.rt` the reasons, and `library.rt` their words; `item.rt` the kinds of items and their choices, which
+`component.rt` of time_below documents.
+
+    bindings/interface.py           writes the header, `description.rs` and `library.rs`
+    bindings/interface.py --check   ends with status 1 where one is not what would be written
+"""
+
+import pathlib
+import re
+import sys
+import textwrap
+
+HERE = pathlib.Path(__file__).resolve().parent
+CRATES = HERE.parent / "crates"
+SOURCES = CRATES / "movaliren_c/src"
+COMPONENT = CRATES / "time_below/src/format_description/component.rt"
+HEADER = HERE / "c/movaliren.h"
+RUST = HERE / "rust/src"
+# The Rust crate documents these, and they have private fields.
+OF_RUST = ["Moment", "UtcMoment"]
+C_TYPES = {
+    "i8": "int8_t", "u8": "uint8_t", "i32": "int32_t", "u32": "uint32_t", "i64": "int64_t", "usize": "size_t",
+    "isize": "ptrdiff_t",
+}
+# What is written in a file that has more by hand.
+PROTOTYPE = r"^(?:struct )?\w+ (movaliren_\w+)\([^)]*\);"
+ERRORS = r"enum movaliren_error \{.*?\n\};"
+CASES = r"(?<=switch \(reason\) \{\n)(?:    case MOVALIREN_ERROR_\w+:\n        return [^\n]*\n)+"
+KINDS = r"enum movaliren_kind \{.*?\n\};"
+KINDS_OF_RUST = r"pub enum Kind \{.*?\n\}"
+USES = "use crate::{Error, Kind, Moment, UtcMoment};"
+NEVER_RETURNED = ["OutOfMemory", "Other"]
+# Words of a component's name, and those of the kind in their place.
+SHORTER = [
+    ("CalendarYearCentury", "Century"), ("IsoYearCentury", "IsoCentury"), ("CalendarYear", "Year"), ("YearFull", "Year"),
+    ("ExtendedRange", "Extended"), ("StandardRange", ""), ("WeekdaySunday", "WeekdayFromSunday"),
+    ("WeekdayMonday", "WeekdayFromMonday"), ("WeekNumber", "Week"), ("Numerical", ""), ("Hour24", "Hour"),
+    ("UnixTimestamp", "Unix"),
+]
+# The header's words for the choices of an item.
+CHOICES = {
+    "padding": "padding", "sign_is_mandatory": "flag: always a sign", "one_indexed": "flag: counted from 1",
+    "is_uppercase": "flag: upper case", "digits": "digits",
+}
+
+
+def source(name="**/*"):
+    return "\n".join(re.sub(r"//.*", "", path.read_text()) for path in sorted(SOURCES.glob(f"{name}.rt")))
+
+
+def snake(name):
+    return re.sub(r"(?<=[a-z])(?=[A-Z0-9])", "_", name)
+
+
+# ---- functions and structs
+
+
+def structs(*code):
+    """Each struct that crosses, with its fields."""
+    found = re.findall(r"#\[repr\(C\)\][^{]*struct (\w+) \{(.*?)\n\}", "\n".join(code or [source()]), re.S)
+    return {name: re.findall(r"(\w+): (\w+),", body) for name, body in found}
+
+
+def exports():
+    """Each function by its name: its parameters, and the type of its result. A type is that of Rust, a `*` that is
+    followed by `const` or `mut`, or a slice."""
+    functions = {}
+    for name, taken, result in re.findall(r'extern "C" fn (movaliren_\w+)\((.*?)\)\s*->\s*(\w+)', source(), re.S):
+        parameters = []
+        for parameter, kind in re.findall(r"(\w+): ([^,]+)", taken):
+            reference = re.fullmatch(r"&(mut )?(\[)?(\w+)\]?", kind.strip())
+            if reference:
+                parameters.append((parameter, ("mut " if reference[1] else "const ") + reference[3]))
+                if reference[2]:
+                    parameters.append((f"{parameter}_len", "usize"))
+            else:
+                parameters.append((parameter, kind.strip()))
+        functions[name] = (parameters, result)
+    return functions
+
+
+def c_type(kind):
+    """The type with the space after it. Bytes are behind a `void *`, so that a caller may have an array of `char`."""
+    way, _, name = kind.rpartition(" ")
+    of_c = C_TYPES.get(name) or f"struct movaliren_{snake(name).lower()}"
+    if not way:
+        return f"{of_c} "
+    return ("const " if way == "const" else "") + ("void *" if name == "u8" else f"{of_c} *")
+
+
+def prototype(name, function):
+    """The prototype, in lines of at most 100 columns, which end between parameters."""
+    parameters, result = function
+    words = ", ".join(f"{c_type(kind)}{parameter}".replace(" ", "\0") for parameter, kind in parameters)
+    line = f"{c_type(result)}{name}".replace(" ", "\0") + f"({words or 'void'});"
+    if any(len(part) > 100 for part in textwrap.wrap(line, 100)):
+        raise SystemExit(f"interface.py: {name} has too long a name for a line")
+    return textwrap.fill(line, 100, subsequent_indent="    ").replace("\0", " ")
+
+
+def with_prototypes(header):
+    functions = exports()
+    declared = re.findall(PROTOTYPE, header, re.M)
+    if sorted(declared) != sorted(functions):
+        raise SystemExit(f"interface.py: in the header or the code alone: {set(declared) ^ set(functions) or 'one twice'}")
+    return re.sub(PROTOTYPE, lambda found: prototype(found[1], functions[found[1]]), header, flags=re.M), declared
+
+
+# ---- reasons
+
+
+def reasons():
+    """Each reason by its number: its name and its words."""
+    words = {int(number): said for number, said in re.findall(r'^ +(\d+) =>\s*b("[^"]*")', source("library"), re.M)}
+    named = re.search(r"enum Reason \{(.*?)\n\}", source("reason"), re.S)[1]
+    return [(int(number), name, words[int(number)]) for name, number in re.findall(r"(\w+) = (\d+)", named)]
+
+
+def upper(name):
+    return snake(name).upper()
+
+
+def error_enum():
+    rows = [(f"    MOVALIREN_ERROR_{upper(name)} = -{number}", name) for number, name, _ in reasons()]
+    lines = [f"{row},{' /* never returned */' if name in NEVER_RETURNED else ''}" for row, name in rows]
+    return "enum movaliren_error {\n" + re.sub(r",$", "", "\n".join(lines)) + "\n};"
+
+
+def error_cases():
+    return "".join(f"    case MOVALIREN_ERROR_{upper(name)}:\n        return {said};\n" for _, name, said in reasons())
+
+
+# ---- kinds
+
+
+def kinds():
+    """Each component with its number and its choices, by the number."""
+    found = re.findall(r"(\d+) => component!\((\w+): ([\w, ]+)\)", source("item"))
+    return sorted((int(number), name, choices.split(", ")) for number, name, choices in found)
+
+
+def short(name):
+    for long, word in SHORTER:
+        name = name.replace(long, word)
+    return name
+
+
+def docs():
+    """What is said of each component, as lines of the code."""
+    return {name: doc for doc, name in re.findall(r"((?:    ///[^\n]*\n)+)    (\w+)\(", COMPONENT.read_text())}
+
+
+def comment(said, choices=()):
+    """A comment in lines of at most 100 columns. The choices stay on one line, and so does the end."""
+    joined = lambda words: words.replace(" ", "\0")
+    words = f"{said} [{joined('; '.join(choices))}]" if choices else said
+    lines = textwrap.fill(f"/* {words}\0*/", 100, initial_indent="    ", subsequent_indent="     * ")
+    return lines.replace("\0", " ")
+
+
+def kinds_of_header():
+    """The enum, with what is said of each component and its choices."""
+    said = {name: re.sub(r"\s*///\s*", " ", doc).strip() for name, doc in docs().items()}
+    lines = []
+    for number, name, choices in kinds():
+        shown = [CHOICES[choice] for choice in choices if choice in CHOICES]
+        lines += [comment(said[name], shown), f"    MOVALIREN_{upper(short(name))} = {number},"]
+    lines += [comment("len bytes of the texts, from start on"), "    MOVALIREN_TEXT = 255"]
+    return "enum movaliren_kind {\n" + "\n".join(lines) + "\n};"
+
+
+def kinds_of_rust():
+    """The enum with what is said of each component."""
+    said = docs()
+    rows = [f"{said[name]}    {short(name)} = {number},\n" for number, name, _ in kinds()]
+    return "pub enum Kind {\n" + "".join(rows) + "}"
+
+
+# ---- files
+
+
+def library(declared):
+    """The file of the Rust crate that has nothing by hand, with the functions in the header's order."""
+    pointed = lambda kind: "*" * (" " in kind) + kind
+    lines = ["//! What `bindings/interface.py` writes from the code of the library.", USES, ""]
+    for name, fields in structs().items():
+        if name not in OF_RUST:
+            lines += ["#[repr(C)]", "#[derive(Clone, Copy, Debug, PartialEq, Eq, Hash)]", f"pub(crate) struct {name} {{"]
+            lines += [*(f"    pub(crate) {field}: {kind}," for field, kind in fields), "}", ""]
+    lines.append('extern "C" {')
+    functions = exports()
+    for name in declared:
+        parameters, result = functions[name]
+        taken = ", ".join(f"{parameter}: {pointed(kind)}" for parameter, kind in parameters)
+        lines.append(f"    pub(crate) fn {name}({taken}) -> {result};")
+    lines += ["}", "", "pub(crate) fn error_of(number: isize) -> Error {", "    match number {"]
+    lines += [f"        -{number} => Error::{name}," for number, name, _ in reasons()]
+    lines += ["        other => Error::Unknown(other),", "    }", "}", ""]
+    lines += ["/// The words of a reason, or a number that this crate does not know."]
+    lines += ["pub(crate) fn words_of(error: Error) -> Result<&'static str, isize> {", "    Ok(match error {"]
+    lines += [f"        Error::{name} => {said}," for _, name, said in reasons()]
+    lines += ["        Error::Unknown(number) => return Err(number),", "    })", "}"]
+    lines += ["", "impl Kind {"]
+    for choice in ("padding", "sign_is_mandatory"):
+        having = " | ".join(f"Kind::{short(name)}" for _, name, choices in kinds() if choice in choices)
+        lines += [f"    pub(crate) const fn has_{choice.partition('_')[0]}(self) -> bool {{", f"        matches!(self, {having})", "    }"]
+    lines.append("}")
+    return "\n".join(lines) + "\n"
+
+
+def replaced(text, form, written):
+    """The text with what is written in the place of what has this form."""
+    changed, count = re.subn(form, lambda _: written, text, flags=re.S)
+    if count != 1:
+        raise SystemExit(f"interface.py: nothing of the form {form}")
+    return changed
+
+
+def written():
+    """Each file, as it is to be."""
+    header, declared = with_prototypes(HEADER.read_text())
+    header = replaced(header, ERRORS, error_enum())
+    header = replaced(header, CASES, error_cases())
+    header = replaced(header, KINDS, kinds_of_header())
+    description = replaced((RUST / "description.rs").read_text(), KINDS_OF_RUST, kinds_of_rust())
+    return {HEADER: header, RUST / "description.rs": description, RUST / "library.rs": library(declared)}
+
+
+def main():
+    status = 0
+    for path, text in written().items():
+        if path.exists() and path.read_text() == text:
+            continue
+        if sys.argv[1:] == ["--check"]:
+            print(f"{path.name} is not what the code gives: run bindings/interface.py")
+            status = 1
+        else:
+            path.write_text(text)
+    return status
+
+
+if __name__ == "__main__":
+    sys.exit(main())

@@ -1,0 +1,152 @@
+//! What `bindings/interface.py` writes from the code of the library.
+use crate::{Error, Kind, Moment, UtcMoment};
+
+#[repr(C)]
+#[derive(Clone, Copy, Debug, PartialEq, Eq, Hash)]
+pub(crate) struct Progress {
+    pub(crate) moments: usize,
+    pub(crate) bytes: usize,
+    pub(crate) reason: isize,
+}
+
+#[repr(C)]
+#[derive(Clone, Copy, Debug, PartialEq, Eq, Hash)]
+pub(crate) struct IsoConfig {
+    pub(crate) components: u8,
+    pub(crate) date_kind: u8,
+    pub(crate) time_precision: u8,
+    pub(crate) decimals: u8,
+    pub(crate) offset_precision: u8,
+    pub(crate) use_separators: u8,
+    pub(crate) year_is_six_digits: u8,
+    pub(crate) comma: u8,
+}
+
+#[repr(C)]
+#[derive(Clone, Copy, Debug, PartialEq, Eq, Hash)]
+pub(crate) struct Item {
+    pub(crate) kind: u32,
+    pub(crate) padding: u8,
+    pub(crate) flag: u8,
+    pub(crate) digits: u8,
+    pub(crate) unused: u8,
+    pub(crate) start: usize,
+    pub(crate) len: usize,
+}
+
+#[repr(C)]
+#[derive(Clone, Copy, Debug, PartialEq, Eq, Hash)]
+pub(crate) struct Place {
+    pub(crate) at: usize,
+    pub(crate) expected: u8,
+    pub(crate) first: u8,
+    pub(crate) last: u8,
+    pub(crate) is_lenient: u8,
+    pub(crate) is_second_60: u8,
+}
+
+extern "C" {
+    pub(crate) fn movaliren_version() -> u32;
+    pub(crate) fn movaliren_error_words(reason: isize, room: *mut u8, room_len: usize) -> isize;
+    pub(crate) fn movaliren_rfc3339(moment: *const Moment, room: *mut u8, room_len: usize) -> isize;
+    pub(crate) fn movaliren_rfc2822(moment: *const Moment, room: *mut u8, room_len: usize) -> isize;
+    pub(crate) fn movaliren_iso8601(moment: *const Moment, room: *mut u8, room_len: usize) -> isize;
+    pub(crate) fn movaliren_stamp(seconds: i64, nanosecond: u32, room: *mut u8, room_len: usize) -> isize;
+    pub(crate) fn movaliren_iso8601_by(config: *const IsoConfig, moment: *const Moment, room: *mut u8, room_len: usize) -> isize;
+    pub(crate) fn movaliren_rfc3339_utc(seconds: i64, nanosecond: u32, room: *mut u8, room_len: usize) -> isize;
+    pub(crate) fn movaliren_rfc2822_utc(seconds: i64, nanosecond: u32, room: *mut u8, room_len: usize) -> isize;
+    pub(crate) fn movaliren_iso8601_utc(seconds: i64, nanosecond: u32, room: *mut u8, room_len: usize) -> isize;
+    pub(crate) fn movaliren_iso8601_by_utc(config: *const IsoConfig, seconds: i64, nanosecond: u32, room: *mut u8, room_len: usize) -> isize;
+    pub(crate) fn movaliren_rfc3339_local(seconds: i64, nanosecond: u32, offset: i64, room: *mut u8, room_len: usize) -> isize;
+    pub(crate) fn movaliren_rfc2822_local(seconds: i64, nanosecond: u32, offset: i64, room: *mut u8, room_len: usize) -> isize;
+    pub(crate) fn movaliren_iso8601_local(seconds: i64, nanosecond: u32, offset: i64, room: *mut u8, room_len: usize) -> isize;
+    pub(crate) fn movaliren_iso8601_by_local(config: *const IsoConfig, seconds: i64, nanosecond: u32, offset: i64, room: *mut u8, room_len: usize) -> isize;
+    pub(crate) fn movaliren_read_rfc3339(text: *const u8, text_len: usize, moment: *mut Moment, place: *mut Place) -> isize;
+    pub(crate) fn movaliren_read_rfc3339_utc(text: *const u8, text_len: usize, moment: *mut UtcMoment, place: *mut Place) -> isize;
+    pub(crate) fn movaliren_read_rfc3339_lenient(text: *const u8, text_len: usize, moment: *mut Moment, place: *mut Place) -> isize;
+    pub(crate) fn movaliren_read_rfc3339_lenient_utc(text: *const u8, text_len: usize, moment: *mut UtcMoment, place: *mut Place) -> isize;
+    pub(crate) fn movaliren_rfc3339_batch(moments: *const Moment, moments_len: usize, end: u8, room: *mut u8, room_len: usize) -> Progress;
+    pub(crate) fn movaliren_rfc2822_batch(moments: *const Moment, moments_len: usize, end: u8, room: *mut u8, room_len: usize) -> Progress;
+    pub(crate) fn movaliren_iso8601_batch(moments: *const Moment, moments_len: usize, end: u8, room: *mut u8, room_len: usize) -> Progress;
+    pub(crate) fn movaliren_iso8601_by_batch(config: *const IsoConfig, moments: *const Moment, moments_len: usize, end: u8, room: *mut u8, room_len: usize) -> Progress;
+    pub(crate) fn movaliren_stamp_batch(moments: *const UtcMoment, moments_len: usize, end: u8, room: *mut u8, room_len: usize) -> Progress;
+    pub(crate) fn movaliren_rfc3339_utc_batch(moments: *const UtcMoment, moments_len: usize, end: u8, room: *mut u8, room_len: usize) -> Progress;
+    pub(crate) fn movaliren_rfc2822_utc_batch(moments: *const UtcMoment, moments_len: usize, end: u8, room: *mut u8, room_len: usize) -> Progress;
+    pub(crate) fn movaliren_iso8601_utc_batch(moments: *const UtcMoment, moments_len: usize, end: u8, room: *mut u8, room_len: usize) -> Progress;
+    pub(crate) fn movaliren_iso8601_by_utc_batch(config: *const IsoConfig, moments: *const UtcMoment, moments_len: usize, end: u8, room: *mut u8, room_len: usize) -> Progress;
+    pub(crate) fn movaliren_rfc3339_local_batch(moments: *const UtcMoment, moments_len: usize, offset: i64, end: u8, room: *mut u8, room_len: usize) -> Progress;
+    pub(crate) fn movaliren_rfc2822_local_batch(moments: *const UtcMoment, moments_len: usize, offset: i64, end: u8, room: *mut u8, room_len: usize) -> Progress;
+    pub(crate) fn movaliren_format(items: *const Item, items_len: usize, texts: *const u8, texts_len: usize, moment: *const Moment, room: *mut u8, room_len: usize) -> isize;
+    pub(crate) fn movaliren_format_utc(items: *const Item, items_len: usize, texts: *const u8, texts_len: usize, seconds: i64, nanosecond: u32, room: *mut u8, room_len: usize) -> isize;
+    pub(crate) fn movaliren_format_local(items: *const Item, items_len: usize, texts: *const u8, texts_len: usize, seconds: i64, nanosecond: u32, offset: i64, room: *mut u8, room_len: usize) -> isize;
+    pub(crate) fn movaliren_format_date(items: *const Item, items_len: usize, texts: *const u8, texts_len: usize, year: i32, month: u8, day: u8, room: *mut u8, room_len: usize) -> isize;
+    pub(crate) fn movaliren_width(items: *const Item, items_len: usize, texts: *const u8, texts_len: usize) -> isize;
+}
+
+pub(crate) fn error_of(number: isize) -> Error {
+    match number {
+        -1 => Error::Year,
+        -2 => Error::Month,
+        -3 => Error::Day,
+        -4 => Error::Hour,
+        -5 => Error::Minute,
+        -6 => Error::Second,
+        -7 => Error::Nanosecond,
+        -8 => Error::OffsetHours,
+        -9 => Error::OffsetMinutes,
+        -10 => Error::OffsetSeconds,
+        -11 => Error::MomentSeconds,
+        -12 => Error::NoPlaceForYear,
+        -13 => Error::NoPlaceForOffsetHour,
+        -14 => Error::NoPlaceForOffsetMinute,
+        -15 => Error::NoPlaceForOffsetSecond,
+        -16 => Error::Insufficient,
+        -17 => Error::OutOfRange,
+        -18 => Error::BadConfig,
+        -19 => Error::BadItem,
+        -20 => Error::NoRoom,
+        -21 => Error::OutOfMemory,
+        -22 => Error::Other,
+        -23 => Error::NotRead,
+        other => Error::Unknown(other),
+    }
+}
+
+/// The words of a reason, or a number that this crate does not know.
+pub(crate) fn words_of(error: Error) -> Result<&'static str, isize> {
+    Ok(match error {
+        Error::Year => "the year is outside -999999 to 999999",
+        Error::Month => "the month is outside 1 to 12",
+        Error::Day => "the month has no such day",
+        Error::Hour => "the hour is outside 0 to 23",
+        Error::Minute => "the minute is outside 0 to 59",
+        Error::Second => "the second is outside 0 to 59",
+        Error::Nanosecond => "the nanosecond is outside 0 to 999999999",
+        Error::OffsetHours => "the hours of the offset are outside -25 to 25",
+        Error::OffsetMinutes => "the minutes of the offset are outside -59 to 59, or of another sign than its hours",
+        Error::OffsetSeconds => "the seconds of the offset are outside -59 to 59, or of another sign than its hours or minutes",
+        Error::MomentSeconds => "the seconds are outside the years -999999 to 999999",
+        Error::NoPlaceForYear => "the format cannot represent the year",
+        Error::NoPlaceForOffsetHour => "the format cannot represent the hours of the offset",
+        Error::NoPlaceForOffsetMinute => "the format cannot represent the minutes of the offset",
+        Error::NoPlaceForOffsetSecond => "the format cannot represent the seconds of the offset",
+        Error::Insufficient => "the value lacks a component of the format",
+        Error::OutOfRange => "a component is outside the range of its item",
+        Error::BadConfig => "invalid configuration value",
+        Error::BadItem => "invalid item",
+        Error::NoRoom => "the text does not fit the buffer",
+        Error::OutOfMemory => "out of memory",
+        Error::Other => "the format cannot represent a component",
+        Error::NotRead => "the text is not one of the format",
+        Error::Unknown(number) => return Err(number),
+    })
+}
+
+impl Kind {
+    pub(crate) const fn has_padding(self) -> bool {
+        matches!(self, Kind::Day | Kind::Month | Kind::Ordinal | Kind::WeekIso | Kind::WeekSunday | Kind::WeekMonday | Kind::YearExtended | Kind::Year | Kind::CenturyExtended | Kind::Century | Kind::YearLastTwo | Kind::IsoYearExtended | Kind::IsoYear | Kind::IsoCenturyExtended | Kind::IsoCentury | Kind::IsoYearLastTwo | Kind::Hour12 | Kind::Hour | Kind::Minute | Kind::Second | Kind::OffsetHour | Kind::OffsetMinute | Kind::OffsetSecond)
+    }
+    pub(crate) const fn has_sign(self) -> bool {
+        matches!(self, Kind::YearExtended | Kind::Year | Kind::CenturyExtended | Kind::Century | Kind::IsoYearExtended | Kind::IsoYear | Kind::IsoCenturyExtended | Kind::IsoCentury | Kind::OffsetHour | Kind::UnixSecond | Kind::UnixMillisecond)
+    }
+}
