@@ -1,7 +1,7 @@
 //! The weekday and the weeks of the year: their texts, widths and writers.
 #![tactic(auto, using(crate::proofs::TextLemmas::text_lengths))]
 
-ghost use Rattle.std.specs.Prelude.{◌≡◌, ◌≤◌, length, take, decimal};
+ghost use Rattle.std.specs.Prelude.{◌≡◌, ◌≤◌, length, decimal};
 ghost use Rattle.time_below.specs.Calendar.{from_sunday};
 ghost use Rattle.time_below.specs.declared.format_description.component.Component.TheVariants as component;
 ghost use Rattle.time_below.specs.Weekday.{days_from_monday};
@@ -13,7 +13,7 @@ use crate::modifier::Modifier;
 use crate::refused::Refused;
 use crate::sink::Sink;
 use crate::writers::digits::{format_single_digit, format_two_digits};
-use crate::writers::plain::{write_first, write_three};
+use crate::writers::plain::{write_each, write_three};
 use time_below::Weekday;
 use time_below::format_description::{Group, modifier};
 use time_digits::ru8;
@@ -33,8 +33,7 @@ pub fn fmt_weekday_short<S: Sink>(
         (short_name (weekday_name (days_from_monday weekday))) }
 {
     let _ = modifier;
-    let (letters, _) = name_of_weekday(weekday);
-    write_three(output, &letters[..3])
+    write_three(output, &name_of_weekday(weekday).as_bytes()[..3])
 }
 
 impl Modifier for modifier::WeekdayShort {
@@ -68,8 +67,18 @@ pub fn fmt_weekday_long<S: Sink>(
     ensures writes { Puts (S.buffer output.old) (S.buffer output.new) result (weekday_name (days_from_monday weekday)) }
 {
     let _ = modifier;
-    let (letters, count) = name_of_weekday(weekday);
-    write_first(output, letters, count)
+    let mut taken = output.take_out();
+    let count = match weekday {
+        Weekday::Monday => write_each(&mut taken, b"Monday"),
+        Weekday::Tuesday => write_each(&mut taken, b"Tuesday"),
+        Weekday::Wednesday => write_each(&mut taken, b"Wednesday"),
+        Weekday::Thursday => write_each(&mut taken, b"Thursday"),
+        Weekday::Friday => write_each(&mut taken, b"Friday"),
+        Weekday::Saturday => write_each(&mut taken, b"Saturday"),
+        Weekday::Sunday => write_each(&mut taken, b"Sunday"),
+    };
+    output.put_back(taken);
+    count
 }
 
 impl Modifier for modifier::WeekdayLong {
@@ -269,21 +278,19 @@ impl Modifier for modifier::WeekNumberMonday {
     }
 }
 
-// The English name of a weekday with spaces after it, in nine bytes, and the number of its letters.
-#[inline]
-fn name_of_weekday(weekday: Weekday) -> (&'static [u8; 9], usize)
-    ensures name { take result.1 result.0.now ≡ weekday_name (days_from_monday weekday) }
-    ensures short { take 3 result.0.now ≡ short_name (weekday_name (days_from_monday weekday)) }
-    ensures length { result.1 ≡ length (weekday_name (days_from_monday weekday)) }
+// The English name of a weekday, of at least three letters.
+fn name_of_weekday(weekday: Weekday) -> &'static str
+    ensures name { result.now ≡ weekday_name (days_from_monday weekday) }
+    ensures least { 3 ≤ length result.now }
 {
     match weekday {
-        Weekday::Monday => (b"Monday   ", 6),
-        Weekday::Tuesday => (b"Tuesday  ", 7),
-        Weekday::Wednesday => (b"Wednesday", 9),
-        Weekday::Thursday => (b"Thursday ", 8),
-        Weekday::Friday => (b"Friday   ", 6),
-        Weekday::Saturday => (b"Saturday ", 8),
-        Weekday::Sunday => (b"Sunday   ", 6),
+        Weekday::Monday => "Monday",
+        Weekday::Tuesday => "Tuesday",
+        Weekday::Wednesday => "Wednesday",
+        Weekday::Thursday => "Thursday",
+        Weekday::Friday => "Friday",
+        Weekday::Saturday => "Saturday",
+        Weekday::Sunday => "Sunday",
     }
 }
 
