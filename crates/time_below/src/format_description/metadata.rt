@@ -139,13 +139,10 @@ pub fn nodes_fit<T: Node>(nodes: &[T], room: usize) -> bool
 {
     let mut left = room;
     for node in nodes {
-        let Some(bound) = bound_of_text(node) else {
-            return false;
-        };
-        let Some(rest) = left.checked_sub(bound) else {
-            return false;
-        };
-        left = rest;
+        match bound_of_text(node) {
+            Some(bound) if bound <= left => left -= bound,
+            _ => return false,
+        }
     }
     true
 }
