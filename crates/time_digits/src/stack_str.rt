@@ -37,7 +37,7 @@ impl<const N: usize> StackStr<N> {
     pub fn as_str(&self) -> &str
         ensures { result.now ≡ shown self.now }
     {
-        unsafe { std::str::from_utf8_unchecked(&self.bytes[..self.len]) }
+        text_of(&self.bytes[..self.len])
     }
 }
 
@@ -78,6 +78,15 @@ impl<const N: usize> StackTrailingStr<N> {
         ensures { result.now ≡ shown_end self.now }
     {
         let bytes = &self.bytes[..];
-        unsafe { std::str::from_utf8_unchecked(&bytes[self.start..]) }
+        text_of(&bytes[self.start..])
     }
+}
+
+// The bytes as a text, since ASCII is UTF-8.
+#[inline]
+fn text_of(bytes: &[u8]) -> &str
+    requires { IsAscii bytes.now }
+    ensures { result.now ≡ bytes.now }
+{
+    unsafe { std::str::from_utf8_unchecked(bytes) }
 }

@@ -1,6 +1,7 @@
 pub mod ConversionLemmas
 pub mod DecimalLemmas
 pub mod EndLemmas
+pub mod FirstLemmas
 pub mod Engine
 pub mod GuaranteeLemmas
 pub mod LawLemmas

@@ -63,6 +63,19 @@ pub longer_by_eight : (n : ℕ) → 100_000_000 ≤ n → n < 2 ^ 64
     → length (decimal n) ≡ length (decimal (n / 100_000_000)) + 8
 longer_by_eight = length-decimal_quotient 8
 
+-- a number by its first digits and its last four
+pub before_four : (n : ℕ) → 10_000 ≤ n → n < 2 ^ 64
+    → decimal (n / 10_000) ++ zero_padded 4 (n % 10_000) ≡ decimal n
+before_four n low high =
+    ap (λ xs. decimal (n / 10_000) ++ xs) (zero_padded_is 3 (n % 10_000) (omega arith) (omega arith) ∙ fixed-mod 4 n)
+    ∙ sym (decimal-split 4 n low high)
+
+-- it has four more than they have
+pub longer_by_four : (n : ℕ) → 10_000 ≤ n → n < 2 ^ 64 → length (decimal n) ≡ length (decimal (n / 10_000)) + 4
+longer_by_four = length-decimal_quotient 4
+
+pub ruleset four_after = (before_four, longer_by_four, four_zeros, length-append, append_assoc)
+
 pub ruleset eight_digits = (four_and_four, four_zeros, length-append, append_assoc)
 
 pub ruleset eight_after = (before_eight, longer_by_eight, length-fixed, length-append, append_assoc)

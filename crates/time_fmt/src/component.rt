@@ -32,6 +32,7 @@ pub fn write_often<S: Sink, V: ComponentProvider>(
     match component {
         Component::Day(part) => Some(write_part(part, output, value, state)),
         Component::MonthShort(part) => Some(write_part(part, output, value, state)),
+        Component::MonthLong(part) => Some(write_part(part, output, value, state)),
         Component::MonthNumerical(part) => Some(write_part(part, output, value, state)),
         Component::WeekdayShort(part) => Some(write_part(part, output, value, state)),
         Component::CalendarYearFullExtendedRange(part) => Some(write_part(

@@ -1,5 +1,5 @@
 //! Descriptions of a text.
-ghost use Rattle.std.specs.Prelude.{◌≡◌, ◌≢◌, ℕ, List, ◌+◌, ◌*◌, ◌<◌, ◌≤◌, max, None, IsOk, OnOk, OnErr, IfOk, IfErr, IsSomeAnd, IsTrue, IsUtf8, string_bytes, vec_len, vec_capacity};
+ghost use Rattle.std.specs.Prelude.{◌≡◌, ◌≢◌, ℕ, List, ◌+◌, ◌*◌, ◌<◌, ◌≤◌, max, None, IsOk, OnOk, OnErr, IfOk, IfErr, IfSome, IsSome, IsSomeAnd, IsTrue, [], IsUtf8, string_bytes, vec_len, vec_capacity};
 ghost use Rattle.time_below.specs.Facts.{Facts};
 ghost use Rattle.time_fmt.specs.Outcome.{Outcome, Names, Appends, Adds};
 ghost use Rattle.time_fmt.specs.Guarantee.{IsTextIf};
@@ -21,6 +21,7 @@ pub use into_sink::write_into_sink;
 pub use lists::{BorrowedItems, OwnedItems};
 pub use parts::Literal;
 use std::alloc::{AllocError, Global};
+use time_below::format_description::Metadata;
 use time_provide::ComponentProvider;
 pub use trees::v3_write_into;
 
@@ -149,8 +150,15 @@ pub trait Formattable: ComputeMetadata {
         ensures too_wide { usize.MAX ≤ Self.width_of self.now → result ≡ Err Format.OutOfMemory }
         ensures nothing_needed { Self.width_of self.now ≡ 0 → result ≢ Err Format.OutOfMemory }
     {
-        let mut output = Vec::new(alloc);
-        match self.format_into(&mut output, value, state) {
+        let Metadata {
+            max_bytes_needed: width,
+            guaranteed_utf8: is_text,
+        } = self.compute_metadata();
+        let Some(mut output) = with_room(alloc, width) else {
+            return Err(Format::OutOfMemory);
+        };
+        match self.write_into(&mut output, value, state) {
+            Ok(_) if is_text => Ok(text_of(output)),
             Ok(_) => into_text(output),
             Err(refusal) => Err(refusal),
         }
@@ -198,6 +206,31 @@ fn grow(output: &mut Vec<u8>, width: usize) -> Result<(), AllocError>
 {
     let (len, capacity) = (output.len(), output.capacity());
     output.reserve_exact(width.max(capacity.saturating_add(capacity - len)))
+}
+
+/// An empty vector with room for so many bytes, if they are fewer than the greatest `usize` and are there.
+#[inline]
+fn with_room(alloc: Global, width: usize) -> Option<Vec<u8>>
+    ensures items { IfSome result (λ v. v.items ≡ []) }
+    ensures len { IfSome result (λ v. vec_len v ≡ 0) }
+    ensures room { IfSome result (λ v. width ≤ vec_capacity v) }
+    ensures narrow { IfSome result (λ _. width < usize.MAX) }
+    ensures nothing_needed { width ≡ 0 → IsSome result }
+{
+    if width == usize::MAX {
+        return None;
+    }
+    Vec::with_capacity(alloc, width).ok()
+}
+
+/// The bytes as a text, which they are known to be.
+#[inline]
+fn text_of(bytes: Vec<u8>) -> String
+    requires { IsUtf8 bytes.items }
+    ensures text { string_bytes result ≡ lossy_text bytes.items }
+    ensures exact { string_bytes result ≡ bytes.items }
+{
+    unsafe { String::from_utf8_unchecked(bytes) }
 }
 
 /// The bytes as a text, with U+FFFD for what is no character; valid bytes are not copied.

@@ -2,7 +2,7 @@
 //!
 //! Writers and the engine are generic over them. `Formattable` appends to vectors alone, since a format
 //! may be one of its impls, and a pair takes the vector out by what is known of vectors.
-ghost use Rattle.std.specs.Prelude.{◌≡◌, ◌+◌, ◌++◌, ◌∷◌, []};
+ghost use Rattle.std.specs.Prelude.{◌≡◌, ◌+◌, ◌≤◌, ◌++◌, ◌∷◌, [], take, vec_len, vec_capacity};
 ghost use Rattle.time_fmt.specs.Sink.{Buffer, Fits, vec_buffer};
 
 use crate::writers::{put_back, take_out};
@@ -19,6 +19,21 @@ pub trait Sink: Sized {
         ensures len { (buffer self.new).len ≡ (buffer self.old).len + 1 }
         ensures capacity { (buffer self.new).capacity ≡ (buffer self.old).capacity }
         ensures lender { (buffer self.new).lender ≡ (buffer self.old).lender };
+
+    /// Appends the first of nine bytes, for all of which there is room.
+    fn put_first(&mut self, bytes: [u8; 9], count: usize)
+        requires most { count ≤ 9 }
+        requires room { Fits (buffer self.old) 9 }
+        ensures bytes { (buffer self.new).bytes ≡ (buffer self.old).bytes ++ take count bytes }
+        ensures len { (buffer self.new).len ≡ (buffer self.old).len + count }
+        ensures capacity { (buffer self.new).capacity ≡ (buffer self.old).capacity }
+        ensures lender { (buffer self.new).lender ≡ (buffer self.old).lender }
+    {
+        let first = &bytes[..count];
+        for byte in first {
+            self.put_byte(*byte);
+        }
+    }
 
     /// How many more bytes it can hold. A writer that adds counts asks for it, since nothing else bounds
     /// their sum.
@@ -44,6 +59,15 @@ impl Sink for Vec<u8> {
         self.push_reserved(byte);
     }
 
+    // All nine are two stores. Those after the first are taken back.
+    #[inline(always)]
+    #[tactic(auto, using(crate::proofs::FirstLemmas::first_bytes))]
+    fn put_first(&mut self, bytes: [u8; 9], count: usize) {
+        let end = self.len() + count;
+        push_nine(self, bytes);
+        self.truncate(end);
+    }
+
     #[inline(always)]
     fn room(&self) -> usize {
         self.capacity() - self.len()
@@ -58,4 +82,33 @@ impl Sink for Vec<u8> {
     fn put_back(&mut self, taken: Vec<u8>) {
         put_back(self, taken);
     }
+}
+
+// Appends nine bytes.
+#[inline(always)]
+fn push_nine(output: &mut Vec<u8>, bytes: [u8; 9])
+    requires room { Fits (vec_buffer output.old) 9 }
+    ensures bytes { output.new.items ≡ output.old.items ++ bytes }
+    ensures len { vec_len output.new ≡ vec_len output.old + 9 }
+    ensures capacity { vec_capacity output.new ≡ vec_capacity output.old }
+{
+    let [a, b, c, d, e, f, g, h, i] = bytes;
+    push_four(output, [a, b, c, d]);
+    push_four(output, [e, f, g, h]);
+    output.push_reserved(i);
+}
+
+// Appends four bytes.
+#[inline(always)]
+fn push_four(output: &mut Vec<u8>, bytes: [u8; 4])
+    requires room { Fits (vec_buffer output.old) 4 }
+    ensures bytes { output.new.items ≡ output.old.items ++ bytes }
+    ensures len { vec_len output.new ≡ vec_len output.old + 4 }
+    ensures capacity { vec_capacity output.new ≡ vec_capacity output.old }
+{
+    let [a, b, c, d] = bytes;
+    output.push_reserved(a);
+    output.push_reserved(b);
+    output.push_reserved(c);
+    output.push_reserved(d);
 }

@@ -73,18 +73,14 @@ fn write_leaf<T: Node, S: Sink, V: ComponentProvider>(
         (S.buffer output.old) (S.buffer output.new) result }
     ensures agrees { V.agrees state.new value.now }
 {
-    match node.layer() {
-        Layer::Bytes(bytes) => {
-            write_literal(output, bytes);
-            Some(Ok(()))
-        }
-        Layer::Text(text) => {
-            write_literal(output, text.as_bytes());
-            Some(Ok(()))
-        }
-        Layer::Component(component) => write_often(component, output, value, state),
-        _ => None,
-    }
+    let bytes = match node.layer() {
+        Layer::Bytes(bytes) => bytes,
+        Layer::Text(text) => text.as_bytes(),
+        Layer::Component(component) => return write_often(component, output, value, state),
+        _ => return None,
+    };
+    write_literal(output, bytes);
+    Some(Ok(()))
 }
 
 /// Writes a component that is not deprecated, and returns its refusal, if it is refused. Of any other node

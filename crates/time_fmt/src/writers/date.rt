@@ -1,7 +1,7 @@
 //! The day, the month and the day of the year: their texts, widths and writers.
 #![tactic(auto, using(crate::proofs::TextLemmas::text_lengths))]
 
-ghost use Rattle.std.specs.Prelude.{◌≡◌, ◌≤◌, length};
+ghost use Rattle.std.specs.Prelude.{◌≡◌, length, take};
 ghost use Rattle.time_below.specs.declared.format_description.component.Component.TheVariants as component;
 ghost use Rattle.time_below.specs.Month.{month_number};
 ghost use Rattle.time_fmt.specs.DateText.{month_name, short_name};
@@ -12,7 +12,7 @@ use crate::modifier::Modifier;
 use crate::refused::Refused;
 use crate::sink::Sink;
 use crate::writers::digits::{format_three_digits, format_two_digits};
-use crate::writers::plain::{write_each, write_three};
+use crate::writers::plain::{write_first, write_three};
 use time_below::Month;
 use time_below::format_description::{Group, modifier};
 use time_digits::ru8;
@@ -60,7 +60,8 @@ pub fn fmt_month_short<S: Sink>(
         (short_name (month_name (month_number month))) }
 {
     let _ = modifier;
-    write_three(output, &name_of_month(month).as_bytes()[..3])
+    let (letters, _) = name_of_month(month);
+    write_three(output, &letters[..3])
 }
 
 impl Modifier for modifier::MonthShort {
@@ -84,29 +85,14 @@ impl Modifier for modifier::MonthShort {
 }
 
 /// Appends the month's English name.
-#[inline]
+#[inline(always)]
 pub fn fmt_month_long<S: Sink>(output: &mut S, month: Month, modifier: modifier::MonthLong) -> usize
     requires room { Fits (S.buffer output.old) (length (month_name (month_number month))) }
     ensures writes { Puts (S.buffer output.old) (S.buffer output.new) result (month_name (month_number month)) }
 {
     let _ = modifier;
-    let mut taken = output.take_out();
-    let count = match month {
-        Month::January => write_each(&mut taken, b"January"),
-        Month::February => write_each(&mut taken, b"February"),
-        Month::March => write_each(&mut taken, b"March"),
-        Month::April => write_each(&mut taken, b"April"),
-        Month::May => write_each(&mut taken, b"May"),
-        Month::June => write_each(&mut taken, b"June"),
-        Month::July => write_each(&mut taken, b"July"),
-        Month::August => write_each(&mut taken, b"August"),
-        Month::September => write_each(&mut taken, b"September"),
-        Month::October => write_each(&mut taken, b"October"),
-        Month::November => write_each(&mut taken, b"November"),
-        Month::December => write_each(&mut taken, b"December"),
-    };
-    output.put_back(taken);
-    count
+    let (letters, count) = name_of_month(month);
+    write_first(output, letters, count)
 }
 
 impl Modifier for modifier::MonthLong {
@@ -195,23 +181,25 @@ impl Modifier for modifier::Ordinal {
     }
 }
 
-// The English name of a month, of at least three letters.
-fn name_of_month(month: Month) -> &'static str
-    ensures name { result.now ≡ month_name (month_number month) }
-    ensures least { 3 ≤ length result.now }
+// The English name of a month with spaces after it, in nine bytes, and the number of its letters.
+#[inline]
+fn name_of_month(month: Month) -> (&'static [u8; 9], usize)
+    ensures name { take result.1 result.0.now ≡ month_name (month_number month) }
+    ensures short { take 3 result.0.now ≡ short_name (month_name (month_number month)) }
+    ensures length { result.1 ≡ length (month_name (month_number month)) }
 {
     match month {
-        Month::January => "January",
-        Month::February => "February",
-        Month::March => "March",
-        Month::April => "April",
-        Month::May => "May",
-        Month::June => "June",
-        Month::July => "July",
-        Month::August => "August",
-        Month::September => "September",
-        Month::October => "October",
-        Month::November => "November",
-        Month::December => "December",
+        Month::January => (b"January  ", 7),
+        Month::February => (b"February ", 8),
+        Month::March => (b"March    ", 5),
+        Month::April => (b"April    ", 5),
+        Month::May => (b"May      ", 3),
+        Month::June => (b"June     ", 4),
+        Month::July => (b"July     ", 4),
+        Month::August => (b"August   ", 6),
+        Month::September => (b"September", 9),
+        Month::October => (b"October  ", 7),
+        Month::November => (b"November ", 8),
+        Month::December => (b"December ", 8),
     }
 }

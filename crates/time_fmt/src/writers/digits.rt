@@ -161,7 +161,7 @@ pub fn format_six_digits_pad_zero<S: Sink>(output: &mut S, value: ru32<0, 999_99
     write_many(output, &six_digits_zero_padded(value))
 }
 
-/// Appends all digits of a number, and nothing before them. Of nine to twelve the last eight have a
+/// Appends all digits of a number, and nothing before them. Of nine to sixteen the last eight have a
 /// length that is known.
 #[inline]
 #[tactic(auto, using(crate::proofs::NumberLemmas::eight_after))]
@@ -169,15 +169,35 @@ pub fn format_u64_pad_none<S: Sink>(output: &mut S, value: u64) -> usize
     requires room { Fits (S.buffer output.old) (length (decimal value)) }
     ensures writes { Puts (S.buffer output.old) (S.buffer output.new) result (decimal value) }
 {
-    if value < 100_000_000 || value > 999_999_999_999 {
+    if value < 100_000_000 || value > 9_999_999_999_999_999 {
         return write(output, u64_pad_none(value).as_str());
     }
+    let _room = output.room();
     let mut taken = output.take_out();
-    let first = ru16::within((value / 100_000_000) as u16);
-    let count = write_many(&mut taken, &one_to_four_digits_no_padding(first));
+    let count = write_at_most_eight(&mut taken, (value / 100_000_000) as u32);
     let last = write_eight_digits(&mut taken, (value % 100_000_000) as u32);
     output.put_back(taken);
     count + last
+}
+
+// Appends all digits of a number that has at most eight. Of five to eight the last four have a length
+// that is known.
+#[inline(always)]
+#[tactic(auto, using(crate::proofs::NumberLemmas::four_after))]
+fn write_at_most_eight<S: Sink>(output: &mut S, value: u32) -> usize
+    requires most { value < 100_000_000 }
+    requires room { Fits (S.buffer output.old) (length (decimal value)) }
+    ensures writes { Puts (S.buffer output.old) (S.buffer output.new) result (decimal value) }
+{
+    if value < 10_000 {
+        return write_many(
+            output,
+            &one_to_four_digits_no_padding(ru16::within(value as u16)),
+        );
+    }
+    let first = ru16::within((value / 10_000) as u16);
+    let count = write_many(output, &one_to_four_digits_no_padding(first));
+    count + format_four_digits_pad_zero(output, ru16::within((value % 10_000) as u16))
 }
 
 /// Appends a number in eight places, with zeros in front.

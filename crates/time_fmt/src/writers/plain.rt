@@ -1,5 +1,5 @@
 //! Bytes and texts as they are.
-ghost use Rattle.std.specs.Prelude.{◌≡◌, ◌+◌, ◌<◌, ◌++◌, length, [], if◌then◌else◌, vec_capacity};
+ghost use Rattle.std.specs.Prelude.{◌≡◌, ◌+◌, ◌<◌, ◌≤◌, ◌++◌, length, take, [], if◌then◌else◌, vec_capacity};
 ghost use Rattle.time_digits.specs.Digits.{joined};
 ghost use Rattle.time_fmt.specs.Sink.{Fits, Puts};
 
@@ -193,6 +193,20 @@ pub(super) fn write_three<S: Sink>(output: &mut S, bytes: &[u8]) -> usize
     output.put_byte(second);
     output.put_byte(third);
     3
+}
+
+// Appends the first of nine bytes, as of a name. Mostly there is room for all nine.
+#[inline(always)]
+pub(super) fn write_first<S: Sink>(output: &mut S, bytes: &[u8; 9], count: usize) -> usize
+    requires most { count ≤ 9 }
+    requires room { Fits (S.buffer output.old) count }
+    ensures writes { Puts (S.buffer output.old) (S.buffer output.new) result (take count bytes.now) }
+{
+    if output.room() < 9 {
+        return write_long_literal(output, &bytes[..count]);
+    }
+    output.put_first(*bytes, count);
+    count
 }
 
 /// Appends the texts one after another, and returns the number of their bytes.
