@@ -97,8 +97,7 @@ pub fn config_at(numbers: &IsoConfig) -> Result<Config, Reason>
     )
 }
 
-/// What these numbers choose of a text with separators, if the rest is chosen as by most callers. The
-/// numbers of a point and at most nine decimals are told by a few tests.
+/// What these numbers choose of a text with separators, if the rest is chosen as by most callers.
 #[inline(always)]
 pub fn separated_config_at(numbers: &IsoConfig) -> Option<Usual>
     ensures chosen { IfSome result (λ u. choices_at numbers.now ≡ Ok (separated u)) }
@@ -108,28 +107,16 @@ pub fn separated_config_at(numbers: &IsoConfig) -> Option<Usual>
         && numbers.date_kind == 0
         && numbers.time_precision == 2
         && numbers.offset_precision == 1;
-    let signs_are_usual = numbers.use_separators == 1
-        && numbers.year_is_six_digits == 0
-        && numbers.comma == 0;
-    if parts_are_usual && signs_are_usual {
-        Some(Usual {
+    let digits_are_usual = numbers.use_separators == 1 && numbers.year_is_six_digits == 0;
+    if !(parts_are_usual && digits_are_usual) {
+        return None;
+    }
+    match sign_at(numbers.comma) {
+        Ok(decimal_sign) => Some(Usual {
             has_separators: true,
             decimal_digits: ru8::new(numbers.decimals),
-            decimal_sign: DecimalSign::Point,
-        })
-    } else {
-        separated_by_choices(numbers)
-    }
-}
-
-/// What the numbers choose of a text with separators, told by the configuration that they make.
-#[inline(never)]
-fn separated_by_choices(numbers: &IsoConfig) -> Option<Usual>
-    ensures chosen { IfSome result (λ u. choices_at numbers.now ≡ Ok (separated u)) }
-    ensures separators { IfSome result (λ u. IsTrue u.has_separators) }
-{
-    match config_at(numbers) {
-        Ok(config) => config.separated(),
+            decimal_sign,
+        }),
         Err(_) => None,
     }
 }
