@@ -1,5 +1,5 @@
 //! Times of log lines: what the texts of one second have in common is kept by the caller.
-ghost use Rattle.std.specs.Prelude.{◌≡◌, ◌<◌, ◌≤◌, ◌++◌, ◌⊎◌, IsTrue, codes, take};
+ghost use Rattle.std.specs.Prelude.{◌≡◌, ◌<◌, ◌≤◌, ◌++◌, ◌⊎◌, IfOk, IsTrue, codes, length, take};
 ghost use Rattle.movaliren_c.specs.Answer.{IsAnswer, IsWritten};
 ghost use Rattle.movaliren_c.specs.Chosen.{iso8601_by};
 ghost use Rattle.movaliren_c.specs.Log.{IsKept, Remembers, log_config};
@@ -56,12 +56,11 @@ pub extern "C" fn movaliren_log_time(
         result room.old room.new }
     ensures kept { IsKept kept.old → IsKept kept.new }
 {
-    if !is_kept(kept, seconds, offset) {
-        keep_second(kept, seconds, offset);
-    } else if nanosecond < 1_000_000_000 && (decimals == 3 || decimals == 6 || decimals == 9) {
+    if is_kept(kept, seconds, offset) && is_usual(nanosecond, decimals) {
         let digits = decimals_of(ru32::within(nanosecond), decimals);
         return answer_number(write_kept(kept, digits.as_bytes(), room));
     }
+    keep_second(kept, seconds, offset);
     let config = log_config(decimals);
     movaliren_iso8601_by_local(&config, seconds, nanosecond, offset, room)
 }
@@ -75,6 +74,15 @@ fn is_kept(kept: &Log, seconds: i64, offset: i64) -> bool
     ensures inside { IsTrue result → kept.now.zone_len ≤ 6 }
 {
     kept.second == seconds && kept.offset == offset && kept.zone_len >= 1 && kept.zone_len <= 6
+}
+
+/// Whether the nanosecond is one, and the decimals are three, six or nine.
+#[inline(always)]
+fn is_usual(nanosecond: u32, decimals: u8) -> bool
+    ensures nanosecond { IsTrue result → nanosecond < 1_000_000_000 }
+    ensures decimals { IsTrue result → decimals ≡ 3 ⊎ decimals ≡ 6 ⊎ decimals ≡ 9 }
+{
+    nanosecond < 1_000_000_000 && matches!(decimals, 3 | 6 | 9)
 }
 
 /// The configuration with this many decimals.
@@ -113,35 +121,45 @@ fn decimals_of(nanosecond: Nanoseconds, decimals: u8) -> ArraySink<9>
 #[inline(always)]
 fn write_kept(kept: &Log, decimals: &[u8], room: &mut [u8]) -> Result<usize, Reason>
     requires inside { kept.now.zone_len ≤ 6 }
-    ensures { IsWritten result
+    ensures written { IsWritten result
         (done (kept.now.head ++ decimals.now ++ take kept.now.zone_len kept.now.zone))
         room.old room.new }
+    ensures fits { IfOk result (λ count. count ≤ length room.old) }
 {
-    write_pieces(&kept.head, decimals, &kept.zone[..kept.zone_len as usize], room)
+    write_pieces(
+        &kept.head,
+        decimals,
+        &kept.zone[..kept.zone_len as usize],
+        room,
+    )
 }
 
 /// Writes three pieces, if they fit.
 #[inline(always)]
 fn write_pieces(first: &[u8], second: &[u8], third: &[u8], room: &mut [u8]) -> Result<usize, Reason>
-    ensures { IsWritten result (done (first.now ++ second.now ++ third.now)) room.old room.new }
+    ensures written { IsWritten result (done (first.now ++ second.now ++ third.now))
+        room.old room.new }
+    ensures fits { IfOk result (λ count. count ≤ length room.old) }
 {
-    let after_second = first.len() + second.len();
-    let count = after_second + third.len();
-    if count > room.len() {
+    let (a, b) = (first.len(), second.len());
+    if a > room.len() || b > room.len() - a || third.len() > room.len() - a - b {
         return Err(Reason::NoRoom);
     }
     write_over(room, 0, first);
-    write_over(room, first.len(), second);
-    write_over(room, after_second, third);
-    Ok(count)
+    write_over(room, a, second);
+    write_over(room, a + b, third);
+    Ok(a + b + third.len())
 }
 
-/// Keeps what the texts of the second have in common, if it has texts.
+/// Keeps what the texts of the second have in common, if it has texts and is not kept.
 #[cold]
 #[inline(never)]
 fn keep_second(kept: &mut Log, seconds: i64, offset: i64)
     ensures { IsKept kept.old → IsKept kept.new }
 {
+    if is_kept(kept, seconds, offset) {
+        return;
+    }
     let moment = UtcMoment {
         seconds,
         nanosecond: 0,
