@@ -138,7 +138,7 @@ class Interfaces:
     def words(self):
         """Those of a number that is no reason."""
         header = sum(findall(r'reason < 0 \? ("[^"]*") : ("[^"]*")', self.c), ())
-        rattle = findall(r'_ =>\s*b("[^"]*")', *self.rattle) + findall(r'b("no error")', *self.rattle)
+        rattle = findall(r'fn words_numbered.*?_ =>\s*b("[^"]*")', *self.rattle) + findall(r'b("no error")', *self.rattle)
         self.same("the words of another number", list(header), rattle)
         self.same("the words in Rust", header[:1], tuple(findall(r'&number, &mut room\)\.unwrap_or\(("[^"]*")\)', *self.rust)))
 

@@ -310,8 +310,8 @@ struct movaliren_log {
 };
 
 /* What movaliren_iso8601_by_local writes by MOVALIREN_ISO_DECIMALS(decimals). Of the second and the offset that are
- * kept, a text of three, six or nine decimals is a copy with these decimals: it costs a fourth of the whole. Any
- * other number of decimals costs the whole. The offset is 0 for UTC.
+ * kept, a text of three, six or nine decimals is a copy with these decimals. Any other number of decimals costs the
+ * whole text. The offset is 0 for UTC.
  *
  *     static _Thread_local struct movaliren_log kept;
  *     n = MOVALIREN_STRING(

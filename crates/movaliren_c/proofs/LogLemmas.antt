@@ -4,7 +4,7 @@ use Rattle.std.proofs.Common.{unsigned_abs, Result, Ok, Err, Some}
 use Rattle.std.proofs.Common.{◌+◌, drop, length, sym, take, w64, FitsSigned, of_z, to_z}
 use Rattle.std.proofs.lemmas.Bool.{lt-ltb}
 use Rattle.std.proofs.lemmas.Int.{to_z-of_z}
-use Rattle.std.proofs.lemmas.List.{drop-drop, take-append-drop, take_at}
+use Rattle.std.proofs.lemmas.List.{drop-drop, take-append-drop, take_all, take_at}
 use Rattle.std.specs.Prelude.{◌+ℤ◌, codes, nat_lt}
 use Rattle.movaliren_c.specs.Answer.{IsAnswer, IsWritten, answer_number, gives}
 use Rattle.movaliren_c.specs.Chosen.{iso8601_by}
@@ -112,6 +112,10 @@ kept_text d n second seconds kept offset before after bytes answer number old ne
     ≡ Ok (done (before ++ decimals n 1_000_000_000 d ++ after)) =
     chosen d (local_value seconds n offset) few ∙ rw (← same, ← there) (remembers n d small) in
     rw text (answer, is, rw (← digits) written)
+
+-- a piece is all of its bytes
+pub whole_piece : (n : ℕ) (xs : List ℕ) → length xs ≡ n → take n xs ≡ xs
+whole_piece n xs e = take_all n xs (omega (arith, e))
 
 -- what is equal from a place on is so from a later place on
 drop_later : (a b c : ℕ) (xs ys : List ℕ) → drop a xs ≡ drop a ys → drop (a + b + c) xs ≡ drop (a + b + c) ys

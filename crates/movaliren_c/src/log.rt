@@ -1,5 +1,5 @@
 //! Times of log lines: what the texts of one second have in common is kept by the caller.
-ghost use Rattle.std.specs.Prelude.{◌≡◌, ◌<◌, ◌≤◌, ◌++◌, ◌⊎◌, IfOk, IsTrue, codes, length, take};
+ghost use Rattle.std.specs.Prelude.{◌≡◌, ◌<◌, ◌≤◌, ◌+◌, ◌++◌, ◌⊎◌, IfOk, IsTrue, codes, drop, length, take};
 ghost use Rattle.movaliren_c.specs.Answer.{IsAnswer, IsWritten};
 ghost use Rattle.movaliren_c.specs.Chosen.{iso8601_by};
 ghost use Rattle.movaliren_c.specs.Log.{IsKept, Remembers, log_config};
@@ -146,9 +146,29 @@ fn write_pieces(first: &[u8], second: &[u8], third: &[u8], room: &mut [u8]) -> R
         return Err(Reason::NoRoom);
     }
     write_over(room, 0, first);
-    write_over(room, a, second);
-    write_over(room, a + b, third);
+    write_short(room, a, second);
+    write_short(room, a + b, third);
     Ok(a + b + third.len())
+}
+
+/// Overwrites the bytes of the buffer from a place on. Those of an offset and of decimals have a number of
+/// bytes that the compiler knows.
+#[inline(always)]
+#[tactic(auto, using(crate::proofs::LogLemmas::whole_piece))]
+fn write_short(room: &mut [u8], at: usize, bytes: &[u8])
+    requires { at + length bytes.now ≤ length room.old }
+    ensures before { take (at + length bytes.now) room.new ≡ take at room.old ++ bytes.now }
+    ensures behind { drop (at + length bytes.now) room.new
+        ≡ drop (at + length bytes.now) room.old }
+    ensures len { length room.new ≡ length room.old }
+{
+    match bytes.len() {
+        1 => write_over(room, at, &bytes[..1]),
+        3 => write_over(room, at, &bytes[..3]),
+        6 => write_over(room, at, &bytes[..6]),
+        9 => write_over(room, at, &bytes[..9]),
+        _ => write_over(room, at, bytes),
+    }
 }
 
 /// Keeps what the texts of the second have in common, if it has texts and is not kept.
