@@ -26,6 +26,7 @@ C_TYPES = {
     "i8": "int8_t", "u8": "uint8_t", "i32": "int32_t", "u32": "uint32_t", "i64": "int64_t", "usize": "size_t",
     "isize": "ptrdiff_t",
 }
+FIELD = r"(\w+): (\w+|\[\w+; \d+\]),"
 # What is written in a file that has more by hand.
 PROTOTYPE = r"^(?:struct )?\w+ (movaliren_\w+)\([^)]*\);"
 ERRORS = r"enum movaliren_error \{.*?\n\};"
@@ -62,7 +63,7 @@ def snake(name):
 def structs(*code):
     """Each struct that crosses, with its fields."""
     found = re.findall(r"#\[repr\(C\)\][^{]*struct (\w+) \{(.*?)\n\}", "\n".join(code or [source()]), re.S)
-    return {name: re.findall(r"(\w+): (\w+),", body) for name, body in found}
+    return {name: re.findall(FIELD, body) for name, body in found}
 
 
 def exports():
@@ -115,7 +116,8 @@ def with_prototypes(header):
 
 def reasons():
     """Each reason by its number: its name and its words."""
-    words = {int(number): said for number, said in re.findall(r'^ +(\d+) =>\s*b("[^"]*")', source("library"), re.M)}
+    body = re.search(r"fn words_numbered.*?\n\}", source("library"), re.S)[0]
+    words = {int(number): said for number, said in re.findall(r'^ +(\d+) =>\s*b("[^"]*")', body, re.M)}
     named = re.search(r"enum Reason \{(.*?)\n\}", source("reason"), re.S)[1]
     return [(int(number), name, words[int(number)]) for name, number in re.findall(r"(\w+) = (\d+)", named)]
 

@@ -64,7 +64,7 @@ def read():
         *SPEED.glob("*.rs"),
         *CRATE.glob("src/**/*.rt"), TOP / "README.md", *TOP.glob("docs/*.md"),
     ]
-    return {path: path.read_text() for path in sorted(paths)}
+    return {path: path.read_text() for path in sorted(paths) if path.name != "library.rs"}
 
 
 # A change is in one text, so what was found in the others is kept.
@@ -138,7 +138,7 @@ class Interfaces:
     def words(self):
         """Those of a number that is no reason."""
         header = sum(findall(r'reason < 0 \? ("[^"]*") : ("[^"]*")', self.c), ())
-        rattle = findall(r'_ =>\s*b("[^"]*")', *self.rattle) + findall(r'b("no error")', *self.rattle)
+        rattle = findall(r'fn words_numbered.*?_ =>\s*b("[^"]*")', *self.rattle) + findall(r'b("no error")', *self.rattle)
         self.same("the words of another number", list(header), rattle)
         self.same("the words in Rust", header[:1], tuple(findall(r'&number, &mut room\)\.unwrap_or\(("[^"]*")\)', *self.rust)))
 
@@ -217,8 +217,9 @@ class Interfaces:
 
     def structs(self):
         for name, fields in interface.structs(*self.rattle).items():
-            header = fields_of(r"(\w+) (\w+);", f"struct movaliren_{interface.snake(name).lower()}", self.c)
-            self.same(f"struct {name}", fields, [(field, OF_C.get(kind)) for kind, field in header])
+            header = fields_of(r"(\w+) (\w+)(?:\[(\d+)\])?;", f"struct movaliren_{interface.snake(name).lower()}", self.c)
+            in_rust = lambda kind, many: f"[{OF_C.get(kind)}; {many}]" if many else OF_C.get(kind)
+            self.same(f"struct {name}", fields, [(field, in_rust(kind, many)) for kind, field, many in header])
             if name in interface.OF_RUST:
                 head = rf"#\[repr\(C\)\][^{{]*struct {name}"
                 self.same(f"struct {name} in Rust", fields, fields_of(r"(?:pub )?(\w+): (\w+),", head, *self.rust))

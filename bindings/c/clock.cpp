@@ -39,6 +39,8 @@ static movaliren_moment read_moment;
 static movaliren_utc_moment read_utc;
 static movaliren_place read_place;
 
+static movaliren_log kept;
+
 static movaliren_item items[11], names[7];
 static char texts[5], name_texts[8];
 static movaliren_description line = MOVALIREN_DESCRIPTION(items, texts);
@@ -177,6 +179,8 @@ typedef long one(const movaliren_utc_moment &moment);
 typedef movaliren_progress many();
 
 #define NOW moment.seconds, moment.nanosecond
+// Moments of one second.
+#define SECOND moments[0].seconds, moment.nanosecond
 #define ONE(call) [](const movaliren_utc_moment &moment) -> long { return long(call); }
 #define MANY(call) []() -> movaliren_progress { return call; }
 #define ALL_UTC moments, VALUES
@@ -303,6 +307,11 @@ static const struct {
     { "iso8601_by_utc:offset", ONE(movaliren_iso8601_by_utc(&offset_alone, NOW, OUT)), 0 },
     { "iso8601_by_local:three-decimals", ONE(movaliren_iso8601_by_local(&milliseconds, NOW, EAST, OUT)), 0 },
     DATE_AND_DECIMALS("iso8601_by_local:three-decimals", EAST, BOTH, PRINTED, ".", "03", 1000000, "+01:00"),
+    { "log_time:each-second", ONE(movaliren_log_time(&kept, 3, NOW, 0, OUT)), 0 },
+    THREE("log_time:each-second"),
+    { "log_time:three-decimals", ONE(movaliren_log_time(&kept, 3, SECOND, 0, OUT)), 0 },
+    { "log_time:six-decimals", ONE(movaliren_log_time(&kept, 6, SECOND, 0, OUT)), 0 },
+    { "log_time:nine-decimals", ONE(movaliren_log_time(&kept, 9, SECOND, EAST, OUT)), 0 },
     { "iso8601_by:three-decimals", BY_PARTS(movaliren_iso8601_by(&milliseconds, &value, OUT)), 0 },
     THREE("iso8601_by:three-decimals"),
     { "iso8601_by_utc_batch:three-decimals", 0,

@@ -296,6 +296,29 @@ ptrdiff_t movaliren_iso8601_local(int64_t seconds, uint32_t nanosecond, int64_t 
 ptrdiff_t movaliren_iso8601_by_local(const struct movaliren_iso_config *config, int64_t seconds,
     uint32_t nanosecond, int64_t offset, void *room, size_t room_len);
 
+/* ---- times of log lines */
+
+/* What the texts of one second at one offset have in common. The caller keeps it from one line to the next; each
+ * thread has one of its own. It is zeroed before the first call, and no other code writes to it: of other bytes
+ * the text is any, and still within the buffer. */
+struct movaliren_log {
+    int64_t second;
+    int64_t offset;
+    uint8_t head[20];
+    uint8_t zone[6];
+    uint8_t zone_len;
+};
+
+/* What movaliren_iso8601_by_local writes by MOVALIREN_ISO_DECIMALS(decimals). Of the second and the offset that are
+ * kept, a text of three, six or nine decimals is a copy with these decimals. Any other number of decimals costs the
+ * whole text. The offset is 0 for UTC.
+ *
+ *     static _Thread_local struct movaliren_log kept;
+ *     n = MOVALIREN_STRING(
+ *         line, movaliren_log_time, &kept, 3, now.tv_sec, (uint32_t)now.tv_nsec, local.tm_gmtoff); */
+ptrdiff_t movaliren_log_time(struct movaliren_log *kept, uint8_t decimals, int64_t seconds,
+    uint32_t nanosecond, int64_t offset, void *room, size_t room_len);
+
 /* ---- texts, read back */
 
 /* What could have come in a text. */

@@ -387,6 +387,75 @@ static void try_the_clock(void)
     }
 }
 
+static void expect_true(int is_right, const char *text, const char *name)
+{
+    if (is_right)
+        return;
+    failures++;
+    printf("%s: %s\n", text, name);
+}
+
+/* ---- times of log lines: the texts of RFC 3339, section 5.8, and those of the call that keeps nothing */
+
+static struct movaliren_log kept;
+
+static ptrdiff_t log_time(const void *format, const void *value, uint8_t *room, size_t room_len)
+{
+    const struct clock *c = value;
+    const uint8_t *decimals = format;
+    return movaliren_log_time(&kept, *decimals, NOW, c->offset, room, room_len);
+}
+
+static void try_log_times(void)
+{
+    static const struct {
+        uint8_t decimals;
+        struct clock clock;
+        const char *text;
+        int error;
+    } rows[] = {
+        { 3, { { 482196050, 520000000 }, 0 }, "1985-04-12T23:20:50.520Z", 0 },
+        { 6, { { 482196050, 1999 }, 0 }, "1985-04-12T23:20:50.000001Z", 0 },
+        { 9, { { 482196050, 999999999 }, 0 }, "1985-04-12T23:20:50.999999999Z", 0 },
+        { 3, { { 482196050, 999999999 }, 60 }, "1985-04-12T23:21:50.999+00:01", 0 },
+        { 3, { { 851042397, 0 }, -28800 }, "1996-12-19T16:39:57.000-08:00", 0 },
+        { 0, { { 851042397, 0 }, -28800 }, "1996-12-19T16:39:57-08:00", 0 },
+        { 1, { { 851042397, 987654321 }, -28800 }, "1996-12-19T16:39:57.9-08:00", 0 },
+        { 3, { { 851042397, 1000000000 }, -28800 }, 0, MOVALIREN_ERROR_NANOSECOND },
+        { 3, { { 851042397, 0 }, 1 }, 0, MOVALIREN_ERROR_NO_PLACE_FOR_OFFSET_SECOND },
+        { 3, { { 851042397, 0 }, 93600 }, 0, MOVALIREN_ERROR_OFFSET_HOURS },
+        { 3, { { 253402300800, 0 }, 0 }, 0, MOVALIREN_ERROR_NO_PLACE_FOR_YEAR },
+        { 3, { { INT64_MAX, 0 }, 0 }, 0, MOVALIREN_ERROR_MOMENT_SECONDS },
+        { 3, { { -1, 1000000 }, 0 }, "1969-12-31T23:59:59.001Z", 0 },
+        { 3, { { 0, 0 }, 0 }, "1970-01-01T00:00:00.000Z", 0 },
+    };
+    for (size_t i = 0; i < sizeof rows / sizeof *rows; i++)
+        if (rows[i].text)
+            expect_text(log_time, &rows[i].decimals, &rows[i].clock, rows[i].text);
+        else
+            expect_error(log_time, &rows[i].decimals, &rows[i].clock, rows[i].error);
+}
+
+/* Moments near to each other, of which many are of the second before, have the texts of the call that keeps nothing. */
+static void try_random_log_times(void)
+{
+    static const int64_t offsets[] = { 0, 3600, -12600, 93540, 1, 93600 };
+    uint64_t random = 88172645463325252u;
+    for (int i = 0; i < 10000; i++) {
+        random ^= random << 13, random ^= random >> 7, random ^= random << 17;
+        const struct movaliren_iso_config config = MOVALIREN_ISO_DECIMALS((uint8_t)(random % 12));
+        const int64_t seconds = (int64_t)(random >> 20 & 3) + (random >> 22 & 31 ? 253402300797 : 0);
+        const uint32_t nanosecond = (uint32_t)(random >> 32) % 1000000010;
+        const int64_t offset = random >> 27 & 7 ? offsets[0] : offsets[(random >> 30) % 6];
+        const size_t len = random >> 60 ? 40 : random >> 40 & 31;
+        uint8_t line[40] = { 0 }, wanted[40] = { 0 };
+        const ptrdiff_t n = movaliren_log_time(&kept, config.decimals, seconds, nanosecond, offset, line, len);
+        expect_true(n == movaliren_iso8601_by_local(&config, seconds, nanosecond, offset, wanted, len)
+                && !memcmp(line, wanted, sizeof line),
+            (const char *)wanted, "another time of a log");
+    }
+}
+
 /* ---- texts, read back: the examples of RFC 3339, section 5.8, and the first place at which a text is none */
 
 static int is_same_moment(const struct movaliren_moment *a, const struct movaliren_moment *b)
@@ -438,14 +507,6 @@ static const struct {
         "byte 0: expected a digit from 0 to 9" },
 };
 
-static void expect_read(int is_right, const char *text, const char *name)
-{
-    if (is_right)
-        return;
-    failures++;
-    printf("%s: %s\n", text, name);
-}
-
 /* Reads the text into a moment by its parts and into one in UTC. Where it is read the place is unchanged, and
  * else both moments are. */
 static void try_reading(size_t i, int is_lenient)
@@ -467,13 +528,13 @@ static void try_reading(size_t i, int is_lenient)
         answer = movaliren_read_rfc3339(text, len, &moment, &place);
         of_utc = movaliren_read_rfc3339_utc(text, len, &utc, &place_of_utc);
     }
-    expect_read(answer == error && of_utc == error, text, "read or refused");
-    expect_read(is_same_moment(&moment, &wanted), text, "another moment");
-    expect_read(utc.seconds == (words ? -7 : read_rows[i].utc.seconds), text, "another second");
-    expect_read(utc.nanosecond == (words ? 7 : read_rows[i].utc.nanosecond), text, "another nanosecond");
-    expect_read(place.at == place_of_utc.at && (words || place.at == 77), text, "another place");
+    expect_true(answer == error && of_utc == error, text, "read or refused");
+    expect_true(is_same_moment(&moment, &wanted), text, "another moment");
+    expect_true(utc.seconds == (words ? -7 : read_rows[i].utc.seconds), text, "another second");
+    expect_true(utc.nanosecond == (words ? 7 : read_rows[i].utc.nanosecond), text, "another nanosecond");
+    expect_true(place.at == place_of_utc.at && (words || place.at == 77), text, "another place");
     if (words)
-        expect_read(!strcmp(movaliren_place_text(&place, said), words), words, said);
+        expect_true(!strcmp(movaliren_place_text(&place, said), words), words, said);
 }
 
 static void try_reading_all(void)
@@ -506,13 +567,13 @@ static void try_version(void)
     char line[MOVALIREN_RFC3339_ROOM + 1];
     const unsigned version = movaliren_version();
     snprintf(line, sizeof line, "%u.%u.%u", version / 10000, version / 100 % 100, version % 100);
-    expect_read(!strcmp(line, MOVALIREN_VERSION), line, "the version");
-    expect_read(version == MOVALIREN_VERSION_NUMBER, line, "the number of the version");
-    expect_read(MOVALIREN_STRING(line, movaliren_rfc3339_utc, 0, 0) == 20, line, "the count");
-    expect_read(!strcmp(line, "1970-01-01T00:00:00Z"), line, "a string");
-    expect_read(MOVALIREN_STRING(line, movaliren_rfc3339_utc, 0, 1000000000) == MOVALIREN_ERROR_NANOSECOND, line,
+    expect_true(!strcmp(line, MOVALIREN_VERSION), line, "the version");
+    expect_true(version == MOVALIREN_VERSION_NUMBER, line, "the number of the version");
+    expect_true(MOVALIREN_STRING(line, movaliren_rfc3339_utc, 0, 0) == 20, line, "the count");
+    expect_true(!strcmp(line, "1970-01-01T00:00:00Z"), line, "a string");
+    expect_true(MOVALIREN_STRING(line, movaliren_rfc3339_utc, 0, 1000000000) == MOVALIREN_ERROR_NANOSECOND, line,
         "the error");
-    expect_read(!*line, line, "a string after an error");
+    expect_true(!*line, line, "a string after an error");
 }
 
 /* ---- batches */
@@ -569,6 +630,8 @@ int main(void)
     try_long_decimals();
     try_stamps();
     try_the_clock();
+    try_log_times();
+    try_random_log_times();
     try_reading_all();
     try_words();
     try_version();

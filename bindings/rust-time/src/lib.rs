@@ -33,7 +33,7 @@ pub mod rfc3339;
 mod timer;
 
 #[cfg(feature = "tracing")]
-pub use timer::{LocalTimer, Timer};
+pub use timer::{LocalTimer, LogTimer, Timer};
 
 /// A value with a local date, a local time and an offset from UTC.
 pub trait ToMoment {

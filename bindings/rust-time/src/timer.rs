@@ -1,6 +1,7 @@
 //! The timers.
-use movaliren::{Error, Format, LocalMoment, UtcMoment};
+use movaliren::{Error, Format, LocalMoment, LogTime, UtcMoment};
 use std::fmt;
+use std::thread::LocalKey;
 use tracing_subscriber::fmt::format::Writer;
 use tracing_subscriber::fmt::time::FormatTime;
 
@@ -60,6 +61,64 @@ impl<F: Format<LocalMoment>, O: Fn(UtcMoment) -> i64> FormatTime for LocalTimer<
     fn format_time(&self, writer: &mut Writer<'_>) -> fmt::Result {
         let now = UtcMoment::now();
         write_text(&self.format, &now.local((self.offset)(now)), writer)
+    }
+}
+
+thread_local! {
+    static MILLISECONDS: LogTime = const { LogTime::milliseconds() };
+    static MICROSECONDS: LogTime = const { LogTime::microseconds() };
+    static NANOSECONDS: LogTime = const { LogTime::nanoseconds() };
+}
+
+/// A timer that writes the system's clock in local time with three, six or nine decimals, as
+/// `1997-11-12T16:55:06.120+01:00`.
+///
+/// Each thread keeps what the times of one second have in common, as [`LogTime`] does. A function gives the
+/// seconds by which the local time is ahead of UTC at a moment: 0 for UTC.
+///
+/// ```
+/// use movaliren_time::LogTimer;
+///
+/// tracing_subscriber::fmt().with_timer(LogTimer::milliseconds(|_| 0)).init();
+/// tracing::info!("opened");
+/// ```
+#[derive(Clone, Copy, Debug)]
+pub struct LogTimer<O> {
+    times: &'static LocalKey<LogTime>,
+    offset: O,
+}
+
+impl<O: Fn(UtcMoment) -> i64> LogTimer<O> {
+    /// Returns a timer with three decimals, by this function of the offset.
+    pub fn milliseconds(offset: O) -> Self {
+        LogTimer {
+            times: &MILLISECONDS,
+            offset,
+        }
+    }
+
+    /// Returns a timer with six decimals, by this function of the offset.
+    pub fn microseconds(offset: O) -> Self {
+        LogTimer {
+            times: &MICROSECONDS,
+            offset,
+        }
+    }
+
+    /// Returns a timer with nine decimals, by this function of the offset.
+    pub fn nanoseconds(offset: O) -> Self {
+        LogTimer {
+            times: &NANOSECONDS,
+            offset,
+        }
+    }
+}
+
+impl<O: Fn(UtcMoment) -> i64> FormatTime for LogTimer<O> {
+    fn format_time(&self, writer: &mut Writer<'_>) -> fmt::Result {
+        let now = UtcMoment::now();
+        let local = now.local((self.offset)(now));
+        self.times.with(|time| write_text(time, &local, writer))
     }
 }
 

@@ -1,14 +1,14 @@
-//! Moments that `serde_json` writes.
+//! Moments that `serde_json` writes and reads.
 use movaliren::{Error, Moment, UtcMoment};
-use serde::Serialize;
+use serde::{Deserialize, Serialize};
 
-#[derive(Serialize)]
+#[derive(Debug, PartialEq, Serialize, Deserialize)]
 struct Entry {
-    #[serde(serialize_with = "movaliren_time::rfc3339::serialize")]
+    #[serde(with = "movaliren_time::rfc3339")]
     local: Moment,
-    #[serde(serialize_with = "movaliren_time::rfc3339::serialize")]
+    #[serde(with = "movaliren_time::rfc3339")]
     utc: UtcMoment,
-    #[serde(serialize_with = "movaliren_time::rfc3339::option::serialize")]
+    #[serde(with = "movaliren_time::rfc3339::option")]
     closed: Option<Moment>,
 }
 
@@ -43,4 +43,25 @@ fn a_moment_without_a_text_is_the_error_of_the_serializer() {
         let said = serde_json::to_string(&entry).unwrap_err().to_string();
         assert_eq!(said, error.to_string());
     }
+}
+
+#[test]
+fn what_was_written_is_read() {
+    for closed in [None, Some(Moment::default())] {
+        let entry = entry(NOVEMBER, closed);
+        let text = serde_json::to_string(&entry).unwrap();
+        assert_eq!(serde_json::from_str::<Entry>(&text).unwrap(), entry);
+    }
+}
+
+#[test]
+fn a_text_that_is_none_is_refused_at_its_first_fault() {
+    let read = |opened: &str| {
+        let text = format!(r#"{{"local":{opened},"utc":"1970-01-01T00:00:00Z","closed":null}}"#);
+        serde_json::from_str::<Entry>(&text)
+            .unwrap_err()
+            .to_string()
+    };
+    assert!(read(r#""2026-02-29T00:00:00Z""#).starts_with("byte 9: expected a digit from 0 to 8"));
+    assert!(read("7").starts_with("invalid type: integer `7`, expected a text of RFC 3339"));
 }

@@ -1,6 +1,6 @@
 //! The lines that `tracing-subscriber` writes with a timer.
 use movaliren::{description, Description, Format, Kind, Rfc3339Local, Text, UtcMoment};
-use movaliren_time::{LocalTimer, Timer};
+use movaliren_time::{LocalTimer, LogTimer, Timer};
 use std::io;
 use std::sync::{Arc, Mutex};
 use tracing_subscriber::fmt::time::FormatTime;
@@ -49,6 +49,21 @@ fn a_local_time_has_its_offset() {
     assert_eq!(line, "-03:30  INFO timer: opened\n");
     let line = logged_by(LocalTimer::new(OFFSET, |moment: UtcMoment| moment.seconds));
     assert_eq!(line, "<unknown time>  INFO timer: opened\n");
+}
+
+/// The time before the level, of this many bytes, ends with this zone.
+fn ends_with_zone(timer: impl FormatTime + Send + Sync + 'static, len: usize, zone: &str) {
+    let line = logged_by(timer);
+    let (time, _) = line.split_once("  INFO").unwrap();
+    assert_eq!((time.len(), time.ends_with(zone)), (len, true), "{time}");
+}
+
+#[test]
+fn a_time_of_a_log_has_its_decimals_and_its_offset() {
+    ends_with_zone(LogTimer::milliseconds(|_| 0), 24, "Z");
+    ends_with_zone(LogTimer::microseconds(|_| 3_600), 32, "+01:00");
+    ends_with_zone(LogTimer::nanoseconds(|_| -12_600), 35, "-03:30");
+    ends_with_zone(LogTimer::milliseconds(|_| 0), 24, "Z");
 }
 
 #[test]

@@ -49,6 +49,7 @@ mod known;
 mod library;
 #[doc(hidden)]
 pub mod list;
+mod log;
 mod moment;
 mod pointers;
 #[allow(unsafe_code)]
@@ -65,7 +66,9 @@ pub use error::Error;
 pub use format::Format;
 pub use formatted::Formatted;
 pub use known::{stamp, Iso8601, Rfc2822, Rfc2822Local, Rfc3339, Rfc3339Local, Stamp};
+pub use log::LogTime;
 pub use moment::{LocalMoment, Moment, UtcMoment};
+pub use raw::Read;
 pub use read::{Expected, NotRead};
 pub use text::Text;
 

@@ -36,6 +36,16 @@ pub(crate) struct Item {
 
 #[repr(C)]
 #[derive(Clone, Copy, Debug, PartialEq, Eq, Hash)]
+pub(crate) struct Log {
+    pub(crate) second: i64,
+    pub(crate) offset: i64,
+    pub(crate) head: [u8; 20],
+    pub(crate) zone: [u8; 6],
+    pub(crate) zone_len: u8,
+}
+
+#[repr(C)]
+#[derive(Clone, Copy, Debug, PartialEq, Eq, Hash)]
 pub(crate) struct Place {
     pub(crate) at: usize,
     pub(crate) expected: u8,
@@ -61,6 +71,7 @@ extern "C" {
     pub(crate) fn movaliren_rfc2822_local(seconds: i64, nanosecond: u32, offset: i64, room: *mut u8, room_len: usize) -> isize;
     pub(crate) fn movaliren_iso8601_local(seconds: i64, nanosecond: u32, offset: i64, room: *mut u8, room_len: usize) -> isize;
     pub(crate) fn movaliren_iso8601_by_local(config: *const IsoConfig, seconds: i64, nanosecond: u32, offset: i64, room: *mut u8, room_len: usize) -> isize;
+    pub(crate) fn movaliren_log_time(kept: *mut Log, decimals: u8, seconds: i64, nanosecond: u32, offset: i64, room: *mut u8, room_len: usize) -> isize;
     pub(crate) fn movaliren_read_rfc3339(text: *const u8, text_len: usize, moment: *mut Moment, place: *mut Place) -> isize;
     pub(crate) fn movaliren_read_rfc3339_utc(text: *const u8, text_len: usize, moment: *mut UtcMoment, place: *mut Place) -> isize;
     pub(crate) fn movaliren_read_rfc3339_lenient(text: *const u8, text_len: usize, moment: *mut Moment, place: *mut Place) -> isize;

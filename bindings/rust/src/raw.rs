@@ -5,10 +5,12 @@
 //! `#[repr(C)]`, with the fields of the header in its order. The library keeps no pointer. It writes
 //! bytes of a buffer or leaves them as they were, so none becomes uninitialized.
 use crate::known::{Iso8601, Rfc2822, Rfc2822Local, Rfc3339, Rfc3339Local, Stamp};
-use crate::library::{self, error_of};
+use crate::library::{self, error_of, Log};
 pub(crate) use crate::library::{IsoConfig, Item};
 use crate::read::{Expected, NotRead};
-use crate::{Date, Description, Error, Iso8601By, LocalMoment, Moment, Progress, UtcMoment};
+use crate::{
+    Date, Description, Error, Iso8601By, LocalMoment, LogTime, Moment, Progress, UtcMoment,
+};
 use alloc::boxed::Box;
 use alloc::rc::Rc;
 use alloc::string::String;
@@ -36,6 +38,7 @@ const _: () = assert!(core::mem::size_of::<IsoConfig>() == 8);
 const _: () = assert!(core::mem::size_of::<Item>() == 24);
 const _: () = assert!(core::mem::size_of::<library::Progress>() == 24);
 const _: () = assert!(core::mem::size_of::<library::Place>() == 16);
+const _: () = assert!(core::mem::size_of::<Log>() == 48);
 
 /// Memory that a call writes to. No result depends on what it held.
 type Buffer = [MaybeUninit<u8>];
@@ -334,7 +337,43 @@ unsafe impl Call<LocalMoment> for Iso8601By {
     }
 }
 
-/// A moment that a text of RFC 3339 is read into.
+impl Log {
+    /// Nothing.
+    pub(crate) const NONE: Log = Log {
+        second: 0,
+        offset: 0,
+        head: [0; 20],
+        zone: [0; 6],
+        zone_len: 0,
+    };
+}
+
+// SAFETY: the function returns how many bytes it has written to the start of the buffer, which are
+// ASCII where what is kept was zeroed or left by it, as in each `LogTime`.
+unsafe impl Call<LocalMoment> for LogTime {
+    #[inline]
+    fn call(&self, value: &LocalMoment, buffer: &mut Buffer, _: Inside) -> Result<usize, Error> {
+        let (kept, decimals) = self.parts();
+        let (seconds, nanosecond, offset) = (value.seconds, value.nanosecond, value.offset);
+        let (room, room_len) = (pointer(buffer), buffer.len());
+        // SAFETY: `Log` has the header's layout, and nothing borrows what is in a `Cell`; pointer and length
+        // are the buffer's.
+        count_of(unsafe {
+            let kept = kept.as_ptr();
+            library::movaliren_log_time(kept, decimals, seconds, nanosecond, offset, room, room_len)
+        })
+    }
+}
+
+// SAFETY: this is the call of the moment at the offset zero.
+unsafe impl Call<UtcMoment> for LogTime {
+    #[inline]
+    fn call(&self, value: &UtcMoment, buffer: &mut Buffer, _: Inside) -> Result<usize, Error> {
+        self.call(&value.local(0), buffer, Inside)
+    }
+}
+
+/// A moment that a text of RFC 3339 is read into, by [`Rfc3339::read`]. This trait is sealed.
 pub trait Read: Default {
     #[doc(hidden)]
     fn read(text: &[u8], is_lenient: bool, _: Inside) -> Result<Self, NotRead>;

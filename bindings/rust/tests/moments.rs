@@ -141,3 +141,29 @@ fn each_time_of_the_system_is_a_moment_and_back() {
         assert_eq!(error, Err(Error::Nanosecond));
     }
 }
+
+#[test]
+fn a_log_time_has_the_text_of_its_configuration() {
+    let times = [
+        (LogTime::milliseconds(), 3),
+        (LogTime::microseconds(), 6),
+        (LogTime::nanoseconds(), 9),
+    ];
+    for (time, decimals) in times {
+        let format = Iso8601By::new().time_precision(TimePrecision::Second, decimals);
+        for seconds in [0, 0, -1, 253_402_300_799, 253_402_300_800, 0] {
+            for nanosecond in [0, 999_999_999, 1_000_000_000, 1_999] {
+                for offset in [0, 3_600, 1, 93_540, 93_600] {
+                    let moment = UtcMoment::new(seconds, nanosecond).local(offset);
+                    assert_eq!(time.text(&moment), format.text(&moment));
+                    let mut short = [0; 28];
+                    let count = time.write(&mut short, &moment);
+                    assert_eq!(count, format.write(&mut [0; 28], &moment));
+                }
+            }
+        }
+        let moment = UtcMoment::new(1, 2);
+        assert_eq!(time.format(&moment), format.format(&moment));
+        assert!(time.format(&moment.local(60)).unwrap().len() == Format::<UtcMoment>::width(&time));
+    }
+}

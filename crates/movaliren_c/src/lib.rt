@@ -17,6 +17,7 @@ mod kept_offset;
 pub mod laws;
 mod library;
 mod local;
+mod log;
 mod moment;
 mod moment_text;
 mod read;

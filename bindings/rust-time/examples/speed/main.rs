@@ -98,6 +98,13 @@ fn ours(format: impl Format<UtcMoment> + 'static) -> Call {
     })
 }
 
+fn of_one_second(format: impl Format<UtcMoment> + 'static) -> Call {
+    let second = moments()[0].seconds;
+    each(move |moment, output| {
+        let _ = format.format_into(output, &UtcMoment::new(second, moment.nanosecond));
+    })
+}
+
 fn ours_east(format: impl Format<LocalMoment> + 'static) -> Call {
     each(move |moment, output| {
         let _ = format.format_into(output, &moment.local(EAST.into()));

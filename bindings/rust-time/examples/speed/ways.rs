@@ -1,13 +1,13 @@
 //! The ways to a text by their names.
 use crate::{
     batch, batch_of_parts, each, eleven, five, items_of_chrono, long, measured, names, of_date,
-    of_parts, of_time, of_time_east, ours, ours_east, reading, rfc2822_of_chrono,
+    of_one_second, of_parts, of_time, of_time_east, ours, ours_east, reading, rfc2822_of_chrono,
     rfc3339_of_chrono, Call, Ways, EAST, VALUES,
 };
 use chrono::SecondsFormat;
 use movaliren::{
-    stamp, Batch, DateKind, DecimalSign, Format, Iso8601, Iso8601By, Moment, Parts, Rfc2822,
-    Rfc2822Local, Rfc3339, Rfc3339Local, Stamp, TimePrecision, UtcMoment,
+    stamp, Batch, DateKind, DecimalSign, Format, Iso8601, Iso8601By, LogTime, Moment, Parts,
+    Rfc2822, Rfc2822Local, Rfc3339, Rfc3339Local, Stamp, TimePrecision, UtcMoment,
 };
 use std::cell::RefCell;
 use time::format_description::{well_known, FormatItem};
@@ -77,6 +77,17 @@ fn iso8601() -> Ways {
         ("iso8601_by_utc:three-decimals/time", of_time(THREE_OF_TIME)),
         ("iso8601_by_utc:three-decimals/chrono", three()),
         ("iso8601_by_local:three-decimals", ours_east(THREE)),
+        ("log_time:each-second", ours(LogTime::milliseconds())),
+        ("log_time:each-second/time", of_time(THREE_OF_TIME)),
+        ("log_time:each-second/chrono", three()),
+        (
+            "log_time:three-decimals",
+            of_one_second(LogTime::milliseconds()),
+        ),
+        (
+            "log_time:six-decimals",
+            of_one_second(LogTime::microseconds()),
+        ),
         ("iso8601_by:three-decimals", of_parts(THREE)),
         ("iso8601_by:three-decimals/time", of_time(THREE_OF_TIME)),
         ("iso8601_by:three-decimals/chrono", three()),

@@ -1,0 +1,142 @@
+-- What is kept for the times of log lines.
+use Rattle.std.proofs.Common.{◌≡◌, ◌∙◌, ℕ, ◌<◌, ℤ, Bool, true, false, List, [], ◌++◌, append_assoc, refl, ap, arith, ◌⊎◌, inl, inr}
+use Rattle.std.proofs.Common.{unsigned_abs, Result, Ok, Err, Some}
+use Rattle.std.proofs.Common.{◌+◌, drop, length, sym, take, w64, FitsSigned, of_z, to_z}
+use Rattle.std.proofs.lemmas.Bool.{lt-ltb}
+use Rattle.std.proofs.lemmas.Int.{to_z-of_z}
+use Rattle.std.proofs.lemmas.List.{drop-drop, take-append-drop, take_all, take_at}
+use Rattle.std.specs.Prelude.{◌+ℤ◌, codes, nat_lt}
+use Rattle.movaliren_c.specs.Answer.{IsAnswer, IsWritten, answer_number, gives}
+use Rattle.movaliren_c.specs.Chosen.{iso8601_by}
+use Rattle.movaliren_c.specs.Log.{Remembers, log_choices, log_config}
+use Rattle.movaliren_c.specs.Utc.{east_value, local_there, local_value}
+use Rattle.movaliren_c.specs.Value.{checked, is_in_years, with_value}
+use Rattle.movaliren_c.specs.declared.reason.Reason.{Reason}
+use Rattle.movaliren_c.specs.declared.reason.Reason.TheVariants as reason
+use Rattle.time_below.specs.Facts.{date_facts}
+use Rattle.time_below.specs.Moment.{Moment, OffsetDateAndTime, local_at}
+use Rattle.time_below.specs.Offset.{Offset, offset_seconds}
+use Rattle.time_fmt.specs.Decimals.{decimals}
+use Rattle.time_fmt.specs.Outcome.{Outcome, done}
+use Rattle.time_known.proofs.AcceptedLemmas.{usual_accepted}
+use Rattle.time_known.specs.Accepted.{checked_text}
+use Rattle.time_known.specs.Fields.{Shown, date_of_fields, fields, offset_of_fields}
+use Rattle.time_known.specs.Iso8601.{iso8601_of}
+use Rattle.time_known.specs.WellKnown.{clock_text}
+use Rattle.time_known.specs.declared.iso8601.config.DecimalSign.TheVariants as sign
+
+-- ---- moments of one second
+
+-- a value with this nanosecond
+abbrev at : ℕ → OffsetDateAndTime → OffsetDateAndTime
+at n v = record v { time = record v.time { nanosecond = n } }
+
+there : (b : Bool) (s : ℤ) (m n : ℕ) (o : Offset) (v : OffsetDateAndTime)
+    → checked b reason.NoPlaceForYear (Ok (local_at (record { seconds = s; nanosecond = m }) o)) ≡ Ok v
+    → checked b reason.NoPlaceForYear (Ok (local_at (record { seconds = s; nanosecond = n }) o)) ≡ Ok (at n v)
+there true s m n o v h =
+    let same : local_at (record { seconds = s; nanosecond = m }) o ≡ v = (let e = h in cc) in
+    rw (← same) refl
+there false s m n o v h = absurd (let e = h in cc)
+
+at_offset : (e : Result Offset Reason) (s : ℤ) (m n : ℕ) (v : OffsetDateAndTime)
+    → with_value e (λ o. local_there (record { seconds = s; nanosecond = m }) o) ≡ Ok v
+    → with_value e (λ o. local_there (record { seconds = s; nanosecond = n }) o) ≡ Ok (at n v)
+at_offset (Ok o) s m n v h = there (is_in_years (s +ℤ offset_seconds o)) s m n o v h
+at_offset (Err r) s m n v h = absurd (let e = h in cc)
+
+in_years : (b : Bool) (e : Result Offset Reason) (s : ℤ) (m n : ℕ) (v : OffsetDateAndTime)
+    → with_value (checked b reason.MomentSeconds (Ok (record { seconds = s; nanosecond = m }))) (λ i. with_value e (λ o. local_there i o)) ≡ Ok v
+    → with_value (checked b reason.MomentSeconds (Ok (record { seconds = s; nanosecond = n }))) (λ i. with_value e (λ o. local_there i o)) ≡ Ok (at n v)
+in_years true e s m n v h = at_offset e s m n v h
+in_years false e s m n v h = absurd (let x = h in cc)
+
+-- the value of each moment of a second that has one
+later : (s east : ℤ) (n : ℕ) (v : OffsetDateAndTime) → local_value s 0 east ≡ Ok v → n < 1_000_000_000
+    → local_value s n east ≡ Ok (at n v)
+later s east n v h small =
+    let below : nat_lt n 1_000_000_000 ≡ true = lt-ltb n 1_000_000_000 small in
+    rw below (in_years (is_in_years s) (east_value east) s 0 n v h)
+
+-- ---- texts of one second
+
+-- the text by its pieces
+regrouped : (date clock fraction offset : List ℕ)
+    → date ++ (codes "T" ++ (clock ++ (codes "." ++ fraction))) ++ offset
+    ≡ (date ++ codes "T" ++ clock ++ codes ".") ++ fraction ++ offset
+regrouped date clock fraction offset = simp append_assoc
+
+-- each moment of a second whose value has a text has one
+pub remembered : (s east : ℤ) (v : OffsetDateAndTime) (f : Shown) (before after : List ℕ) → local_value s 0 east ≡ Ok v
+    → checked_text 0 25 v.date.year (unsigned_abs v.offset.hours) (unsigned_abs v.offset.seconds) [] ≡ done []
+    → f ≡ fields (date_facts v.date) v.time v.offset
+    → before ≡ date_of_fields (codes "-") f ++ codes "T" ++ clock_text (codes ":") f.time ++ codes "."
+    → after ≡ offset_of_fields (codes ":") f.offset → Remembers s east before after
+remembered s east v f before after value accepted shown head zone = λ n d small.
+    let w = at n v in
+    let F = fields (date_facts w.date) w.time w.offset in
+    let date = date_of_fields (codes "-") F in
+    let clock = clock_text (codes ":") F.time in
+    let offset = offset_of_fields (codes ":") F.offset in
+    let text : iso8601_of (log_choices d) w ≡ done (date ++ (codes "T" ++ (clock ++ (codes "." ++ decimals n 1_000_000_000 d))) ++ offset) =
+    usual_accepted (log_choices d) true (Some d) sign.Point (date_facts w.date) w.time w.offset [] refl accepted in
+    let kept : before ≡ date ++ codes "T" ++ clock ++ codes "." = rw (head, shown) refl in
+    let last : after ≡ offset = rw (zone, shown) refl in
+    rw (later s east n v value small, text, kept, last) (ap (λ (t : List ℕ). Ok (done t)) (regrouped date clock (decimals n 1_000_000_000 d) offset))
+
+-- the bytes that are kept are those
+pub kept_bytes : (s o : ℤ) (before after head zone rest : List ℕ) → FitsSigned w64 s → FitsSigned w64 o → Remembers s o before after
+    → head ≡ before → zone ≡ after
+    → Remembers (to_z w64 (of_z w64 s)) (to_z w64 (of_z w64 o)) head (take (length after) (zone ++ rest))
+kept_bytes s o before after head zone rest small low remembers front last =
+    rw (to_z-of_z w64 s small, to_z-of_z w64 o low, front, last, take_at after rest _ refl) remembers
+
+-- ---- what is written
+
+-- the configurations of three, six and nine decimals
+chosen : (d : ℕ) (value : Result OffsetDateAndTime Reason) → (d ≡ 3) ⊎ ((d ≡ 6) ⊎ (d ≡ 9))
+    → iso8601_by (log_config d) value ≡ gives value (iso8601_of (log_choices d))
+unfolding iso8601_by
+chosen d value (inl three) = rw three refl
+chosen d value (inr (inl six)) = rw six refl
+chosen d value (inr (inr nine)) = rw nine refl
+
+-- what is kept is the text of a moment of its second
+pub kept_text : (d n : ℕ) (second seconds kept offset : ℤ) (before after bytes : List ℕ) (answer : Result ℕ Reason)
+    (number : ℤ) (old new : List ℕ) → Remembers second kept before after → second ≡ seconds → kept ≡ offset → n < 1_000_000_000
+    → (d ≡ 3) ⊎ ((d ≡ 6) ⊎ (d ≡ 9)) → number ≡ answer_number answer → bytes ≡ decimals n 1_000_000_000 d
+    → IsWritten answer (done (before ++ bytes ++ after)) old new
+    → IsAnswer (iso8601_by (log_config d) (local_value seconds n offset)) number old new
+kept_text d n second seconds kept offset before after bytes answer number old new remembers same there small few is digits written =
+    let text : iso8601_by (log_config d) (local_value seconds n offset)
+    ≡ Ok (done (before ++ decimals n 1_000_000_000 d ++ after)) =
+    chosen d (local_value seconds n offset) few ∙ rw (← same, ← there) (remembers n d small) in
+    rw text (answer, is, rw (← digits) written)
+
+-- a piece is all of its bytes
+pub whole_piece : (n : ℕ) (xs : List ℕ) → length xs ≡ n → take n xs ≡ xs
+whole_piece n xs e = take_all n xs (omega (arith, e))
+
+-- what is equal from a place on is so from a later place on
+drop_later : (a b c : ℕ) (xs ys : List ℕ) → drop a xs ≡ drop a ys → drop (a + b + c) xs ≡ drop (a + b + c) ys
+drop_later a b c xs ys h =
+    sym (drop-drop c (a + b) xs) ∙ ap (drop c) (sym (drop-drop b a xs) ∙ ap (drop b) h ∙ drop-drop b a ys)
+    ∙ drop-drop c (a + b) ys
+
+-- three pieces, one after another, at the start of a buffer
+pub three_pieces : (x y z before first second third : List ℕ) → take (0 + length x) first ≡ take 0 before ++ x
+    → drop (0 + length x) first ≡ drop (0 + length x) before
+    → take (length x + length y) second ≡ take (length x) first ++ y
+    → drop (length x + length y) second ≡ drop (length x + length y) first
+    → take (length x + length y + length z) third ≡ take (length x + length y) second ++ z
+    → drop (length x + length y + length z) third ≡ drop (length x + length y + length z) second
+    → third ≡ x ++ y ++ z ++ drop (length x + length y + length z) before
+three_pieces x y z before first second third a a' b b' c c' =
+    let zero : 0 + length x ≡ length x = omega arith in
+    let far : drop (length x + length y + length z) second ≡ drop (length x + length y + length z) first =
+    sym (drop-drop (length z) (length x + length y) second) ∙ ap (drop (length z)) b'
+    ∙ drop-drop (length z) (length x + length y) first in
+    let further : drop (length x + length y + length z) first ≡ drop (length x + length y + length z) before =
+    drop_later (length x) (length y) (length z) first before (rw zero at a') in
+    sym (take-append-drop (length x + length y + length z) third)
+    ∙ rw (c, b, rw zero at a, c', far, further) refl
