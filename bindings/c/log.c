@@ -8,12 +8,12 @@
 
 static void *work(void *name)
 {
-    static const struct movaliren_iso_config milliseconds = MOVALIREN_ISO_DECIMALS(3);
+    static _Thread_local struct movaliren_log kept;
     char stamp[MOVALIREN_ISO8601_ROOM + 1];
     struct timespec now;
     for (int line = 0; line < 3 && clock_gettime(CLOCK_REALTIME, &now) == 0; line++) {
         ptrdiff_t n = MOVALIREN_STRING(
-            stamp, movaliren_iso8601_by_utc, &milliseconds, now.tv_sec, (uint32_t)now.tv_nsec);
+            stamp, movaliren_log_time, &kept, 3, now.tv_sec, (uint32_t)now.tv_nsec, 0);
         printf("%s %s line %d\n", n < 0 ? movaliren_error_text(n) : stamp, (char *)name, line);
     }
     return 0;
