@@ -207,6 +207,22 @@ static void try_rooms(void)
     }
 }
 
+static ptrdiff_t fault_words(const void *format, const void *value, uint8_t *room, size_t room_len)
+{
+    (void)format;
+    return movaliren_fault_words(*(const uint8_t *)value, room, room_len);
+}
+
+static void try_words(void)
+{
+    const uint8_t reasons[] = { 0, MOVALIREN_FAULT_TOO_MANY_ITEMS, MOVALIREN_FAULT_FLAG_WITHOUT_NUMBER, 21, 255 };
+    expect_text(fault_words, 0, &reasons[0], "unknown reason");
+    expect_text(fault_words, 0, &reasons[1], "more than 65536 items");
+    expect_text(fault_words, 0, &reasons[2], "no flag is allowed before");
+    expect_text(fault_words, 0, &reasons[3], "unknown reason");
+    expect_text(fault_words, 0, &reasons[4], "unknown reason");
+}
+
 /* A text of so many copies of another has this fault. */
 static void expect_fault_of(const char *piece, size_t count, parser *parse, size_t at, uint8_t reason)
 {
@@ -230,7 +246,8 @@ static void try_prefixes(const char *text, int is_strftime)
         if (!prefix)
             exit(1);
         memcpy(prefix, text, len);
-        count = (is_strftime ? movaliren_describe_strftime : movaliren_describe)(prefix, len, items, 64, &fault);
+        count = is_strftime ? movaliren_describe_strftime(prefix, len, items, 64, &fault)
+                            : movaliren_describe(prefix, len, items, 64, &fault);
         if (count < 0)
             expect_true(count == MOVALIREN_ERROR_BAD_DESCRIPTION && fault.at <= len && !fault.items, text, "a prefix");
         else
@@ -269,6 +286,7 @@ int main(void)
     try_texts();
     try_faults();
     try_rooms();
+    try_words();
     for (size_t i = 0; i < sizeof rows / sizeof *rows; i++)
         try_prefixes(rows[i].format, rows[i].parse == movaliren_parse_strftime);
     for (size_t i = 0; i < sizeof faults / sizeof *faults; i++)
