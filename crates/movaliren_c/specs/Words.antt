@@ -27,7 +27,9 @@ words_numbered n =
     else (if n == 21 then codes "out of memory"
     else (if n == 22 then codes "the format cannot represent a component"
     else (if n == 23 then codes "the text is not one of the format"
-    else codes "unknown error"))))))))))))))))))))))
+    else (if n == 24 then codes "the text is not a description"
+    else (if n == 25 then codes "the description has more items than there is room for"
+    else codes "unknown error"))))))))))))))))))))))))
 
 -- those of any number
 abbrev pub error_words : ℤ → List ℕ

@@ -9,15 +9,17 @@
 
 mod batch;
 mod calendar_date;
+mod describe;
 mod described;
 mod fields;
 mod iso8601;
 mod item;
+mod item_room;
 mod kept_offset;
 pub mod laws;
 mod library;
 mod local;
-mod log;
+mod made_item;
 mod moment;
 mod moment_text;
 mod read;
@@ -28,4 +30,5 @@ mod room;
 mod sinks;
 mod source;
 mod stamp;
+mod syntax;
 mod writer;

@@ -63,6 +63,8 @@ fn words_numbered(number: usize) -> &'static [u8]
         21 => b"out of memory".as_slice(),
         22 => b"the format cannot represent a component".as_slice(),
         23 => b"the text is not one of the format".as_slice(),
+        24 => b"the text is not a description".as_slice(),
+        25 => b"the description has more items than there is room for".as_slice(),
         _ => b"unknown error".as_slice(),
     }
 }

@@ -154,7 +154,7 @@ impl Sink for RoomSink<'_> {
 /// before the compiler knows the lengths of pieces.
 #[inline]
 #[tactic(auto, using(crate::proofs::SinkLemmas::written_pieces))]
-pub fn write_over(room: &mut [u8], at: usize, bytes: &[u8])
+fn write_over(room: &mut [u8], at: usize, bytes: &[u8])
     requires { at + length bytes.now ≤ length room.old }
     ensures before { take (at + length bytes.now) room.new ≡ take at room.old ++ bytes.now }
     ensures behind { drop (at + length bytes.now) room.new
