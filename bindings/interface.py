@@ -116,7 +116,8 @@ def with_prototypes(header):
 
 def reasons():
     """Each reason by its number: its name and its words."""
-    words = {int(number): said for number, said in re.findall(r'^ +(\d+) =>\s*b("[^"]*")', source("library"), re.M)}
+    body = re.search(r"fn words_numbered.*?\n\}", source("library"), re.S)[0]
+    words = {int(number): said for number, said in re.findall(r'^ +(\d+) =>\s*b("[^"]*")', body, re.M)}
     named = re.search(r"enum Reason \{(.*?)\n\}", source("reason"), re.S)[1]
     return [(int(number), name, words[int(number)]) for name, number in re.findall(r"(\w+) = (\d+)", named)]
 

@@ -54,7 +54,7 @@ OF_C = {of_c: kind for kind, of_c in interface.C_TYPES.items()}
 # What makes no text of a moment.
 NOT_COUNTED = {"version", "error_words", "fault_words"}
 # What Rust calls by a description that it has read before.
-OF_C_ALONE = {"strftime_utc", "strftime_local", "described_utc", "described_local"}
+OF_C_ALONE = {"strftime_utc", "strftime_local"}
 # Crates, a variable of the environment, and the mark of the header.
 NOT_IN_HEADER = {"movaliren_c", "movaliren_cli", "movaliren_time", "MOVALIREN_LIB", "MOVALIREN_H"}
 
@@ -140,7 +140,7 @@ class Interfaces:
     def words(self):
         """Those of a number that is no reason."""
         header = sum(findall(r'reason < 0 \? ("[^"]*") : ("[^"]*")', self.c), ())
-        rattle = findall(r'_ =>\s*b("[^"]*")', *self.rattle) + findall(r'b("no error")', *self.rattle)
+        rattle = findall(r'fn words_numbered.*?_ =>\s*b("[^"]*")', *self.rattle) + findall(r'b("no error")', *self.rattle)
         self.same("the words of another number", list(header), rattle)
         self.same("the words in Rust", header[:1], tuple(findall(r'&number, &mut room\)\.unwrap_or\(("[^"]*")\)', *self.rust)))
 

@@ -540,16 +540,6 @@ ptrdiff_t movaliren_width(const struct movaliren_item *items, size_t items_len, 
 
 /* What is wrong in a text that is no description, and at which byte. */
 enum movaliren_fault_reason {
-    MOVALIREN_FAULT_UNCLOSED_BRACKET = 1,  /* the opening bracket */
-    MOVALIREN_FAULT_INVALID_ESCAPE = 2,    /* the backslash */
-    MOVALIREN_FAULT_MISSING_NAME = 3,      /* the closing bracket */
-    MOVALIREN_FAULT_UNKNOWN_NAME = 4,      /* the first byte of the name */
-    MOVALIREN_FAULT_UNKNOWN_MODIFIER = 5,  /* the first byte of its key */
-    MOVALIREN_FAULT_INVALID_VALUE = 6,     /* the first byte of its key */
-    MOVALIREN_FAULT_MISSING_MODIFIER = 7,  /* the closing bracket */
-    MOVALIREN_FAULT_MISSING_ITEMS = 8,     /* the closing bracket */
-    MOVALIREN_FAULT_UNEXPECTED_BYTE = 9,   /* that byte */
-    MOVALIREN_FAULT_TOO_DEEP = 10,         /* the opening bracket of the 33rd list */
     MOVALIREN_FAULT_TOO_MANY_ITEMS = 11,   /* more than 65,536 */
     MOVALIREN_FAULT_UNFINISHED = 12,       /* the `%` */
     MOVALIREN_FAULT_UNKNOWN_CONVERSION = 13, /* the letter, or the colon */
@@ -570,24 +560,17 @@ struct movaliren_fault {
     uint8_t byte;   /* the letter that the reason names, or 0 */
 };
 
-/* Reads a description into items, whose texts are cut from that text: in brackets, as [year]-[month]-[day], or in the
- * syntax of strftime. Returns the number of items, at the start of the array; the fault is then unchanged. The text is
+/* Reads a description in the syntax of strftime into items, whose texts are cut from that text. Returns the number of items, at the start of the array; the fault is then unchanged. The text is
  * the `texts` of each call that is given these items.
  *
  * Or returns MOVALIREN_ERROR_BAD_DESCRIPTION and sets the fault; or MOVALIREN_ERROR_MANY_ITEMS where the array is too
  * short, and sets `items` of the fault to their number. Then the first item of the array is invalid: each call that is
  * given it returns MOVALIREN_ERROR_BAD_ITEM. A fault comes before a lack of room. */
-ptrdiff_t movaliren_describe(const void *text, size_t text_len, struct movaliren_item *items,
-    size_t items_len, struct movaliren_fault *fault);
 ptrdiff_t movaliren_describe_strftime(const void *text, size_t text_len,
     struct movaliren_item *items, size_t items_len, struct movaliren_fault *fault);
 
 /* The text of a moment by a description of at most 64 items, which is read for this one text. Its errors are those of
- * movaliren_describe, and then those of movaliren_format_utc. */
-ptrdiff_t movaliren_described_utc(const void *text, size_t text_len, int64_t seconds,
-    uint32_t nanosecond, void *room, size_t room_len);
-ptrdiff_t movaliren_described_local(const void *text, size_t text_len, int64_t seconds,
-    uint32_t nanosecond, int64_t offset, void *room, size_t room_len);
+ * movaliren_describe_strftime, and then those of movaliren_format_utc. */
 ptrdiff_t movaliren_strftime_utc(const void *text, size_t text_len, int64_t seconds,
     uint32_t nanosecond, void *room, size_t room_len);
 ptrdiff_t movaliren_strftime_local(const void *text, size_t text_len, int64_t seconds,
@@ -646,17 +629,8 @@ MOVALIREN_INLINE ptrdiff_t movaliren_parsed(
     return description->reason;
 }
 
-/* Reads the description from a text in brackets, as [year]-[month]-[day]. Returns 0, or the reason and sets `fault`.
- * The text is not copied: it lasts as long as the description. */
-MOVALIREN_INLINE ptrdiff_t movaliren_parse(struct movaliren_description *description, const char *text)
-{
-    const size_t text_len = strlen(text);
-    return movaliren_parsed(description, text, text_len,
-        movaliren_describe(
-            text, text_len, description->items, description->items_room, &description->fault));
-}
-
-/* The same of a text in the syntax of strftime. */
+/* Reads the description from a text in the syntax of strftime. Returns 0, or the reason and sets `fault`. The text is
+ * not copied: it lasts as long as the description. */
 MOVALIREN_INLINE ptrdiff_t movaliren_parse_strftime(
     struct movaliren_description *description, const char *text)
 {
@@ -794,7 +768,7 @@ MOVALIREN_INLINE void movaliren_add_text(struct movaliren_description *descripti
 /* A buffer of this many bytes holds the words of any fault. */
 #define MOVALIREN_FAULT_ROOM 100
 
-/* The fault in words, as "unknown component at byte 1", and a zero after them. Returns the buffer, which has
+/* The fault in words, as "unknown conversion `%Q` at byte 1", and a zero after them. Returns the buffer, which has
  * MOVALIREN_FAULT_ROOM bytes. */
 MOVALIREN_INLINE const char *movaliren_fault_text(const struct movaliren_fault *fault, char *room)
 {

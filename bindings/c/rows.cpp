@@ -118,8 +118,6 @@ static void descriptions_from_texts()
 {
     const auto mail = movaliren::description::parse_strftime("%a, %d %b %Y %H:%M:%S %z");
     expect("strftime", mail.format(at(seconds(880127706)), hours(-6)), "Fri, 21 Nov 1997 09:55:06 -0600");
-    const auto day = movaliren::description::parse("[day padding:none] [month repr:long]");
-    expect("brackets", day.format(at(seconds(880127706))), "21 November");
     std::string many, wanted;
     for (int i = 0; i < 1000; i++)
         many += "%d-", wanted += "21-";

@@ -1,35 +1,14 @@
 //! Descriptions from a text.
 use crate::description::Description;
 use crate::library::{Fault, Item};
-use crate::raw::{self, Syntax};
+use crate::raw;
 use alloc::vec;
 use core::fmt;
-use core::str::FromStr;
 
 /// What is wrong in a text that is no description.
 #[derive(Clone, Copy, Debug, PartialEq, Eq, Hash)]
 #[non_exhaustive]
 pub enum FaultReason {
-    /// A bracket is not closed: the opening bracket.
-    UnclosedBracket = 1,
-    /// A backslash stands before a byte that needs none: the backslash.
-    InvalidEscape = 2,
-    /// A component has no name: its closing bracket.
-    MissingName = 3,
-    /// A component has a name that is none: its first byte.
-    UnknownName = 4,
-    /// A modifier has a key that is none of the component: its first byte.
-    UnknownModifier = 5,
-    /// A modifier has a value that is none: the first byte of its key.
-    InvalidValue = 6,
-    /// A component lacks a modifier: its closing bracket.
-    MissingModifier = 7,
-    /// A component lacks its items: its closing bracket.
-    MissingItems = 8,
-    /// A byte stands where none may: that byte.
-    UnexpectedByte = 9,
-    /// Lists stand in one another, more than 32: the opening bracket.
-    TooDeep = 10,
     /// There are more than 65,536 items.
     TooManyItems = 11,
     /// A conversion has no letter: its `%`.
@@ -79,17 +58,7 @@ impl InvalidDescription {
     }
 }
 
-const REASONS: [FaultReason; 20] = [
-    FaultReason::UnclosedBracket,
-    FaultReason::InvalidEscape,
-    FaultReason::MissingName,
-    FaultReason::UnknownName,
-    FaultReason::UnknownModifier,
-    FaultReason::InvalidValue,
-    FaultReason::MissingModifier,
-    FaultReason::MissingItems,
-    FaultReason::UnexpectedByte,
-    FaultReason::TooDeep,
+const REASONS: [FaultReason; 10] = [
     FaultReason::TooManyItems,
     FaultReason::Unfinished,
     FaultReason::UnknownConversion,
@@ -124,26 +93,6 @@ impl fmt::Display for InvalidDescription {
 impl std::error::Error for InvalidDescription {}
 
 impl Description {
-    /// Reads a description in brackets, as `[year]-[month]-[day]`.
-    ///
-    /// # Errors
-    ///
-    /// The text is none: the reason, and the byte.
-    ///
-    /// ```
-    /// use movaliren::{Date, Description, Format};
-    ///
-    /// let day = Description::parse("[day padding:none] [month repr:long] [year]")?;
-    /// let date = Date { year: 2026, month: 11, day: 2 };
-    /// assert_eq!(day.format(&date).as_deref(), Ok("2 November 2026"));
-    /// let error = Description::parse("[yaer]").unwrap_err();
-    /// assert_eq!(error.to_string(), "unknown component at byte 1");
-    /// # Ok::<(), movaliren::InvalidDescription>(())
-    /// ```
-    pub fn parse(text: &str) -> Result<Self, InvalidDescription> {
-        Description::read(text, Syntax::Brackets)
-    }
-
     /// Reads a description in the syntax of `strftime`.
     ///
     /// # Errors
@@ -161,16 +110,16 @@ impl Description {
     /// # Ok::<(), movaliren::InvalidDescription>(())
     /// ```
     pub fn parse_strftime(text: &str) -> Result<Self, InvalidDescription> {
-        Description::read(text, Syntax::Strftime)
+        Description::read(text)
     }
 
-    fn read(text: &str, syntax: Syntax) -> Result<Self, InvalidDescription> {
+    fn read(text: &str) -> Result<Self, InvalidDescription> {
         let mut few = [Item::NONE; 64];
-        match raw::describe(text, syntax, &mut few) {
+        match raw::describe(text, &mut few) {
             Ok(items) => Ok(Description::of_items(items, text)),
             Err(fault) if fault.items > 0 => {
                 let mut many = vec![Item::NONE; fault.items];
-                let items = raw::describe(text, syntax, &mut many);
+                let items = raw::describe(text, &mut many);
                 items
                     .map(|items| Description::of_items(items, text))
                     .map_err(|fault| InvalidDescription::of_fault(&fault))
@@ -191,20 +140,5 @@ impl Description {
             }
         }
         description
-    }
-}
-
-/// Reads a description in brackets, as [`Description::parse`] does.
-///
-/// ```
-/// let day: movaliren::Description = "[year]-[month]-[day]".parse()?;
-/// assert_eq!(day.width(), 11);
-/// # Ok::<(), movaliren::InvalidDescription>(())
-/// ```
-impl FromStr for Description {
-    type Err = InvalidDescription;
-
-    fn from_str(text: &str) -> Result<Self, InvalidDescription> {
-        Description::parse(text)
     }
 }
