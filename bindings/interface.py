@@ -171,6 +171,7 @@ def kinds_of_header():
     for number, name, choices in kinds():
         shown = [CHOICES[choice] for choice in choices if choice in CHOICES]
         lines += [comment(said[name], shown), f"    MOVALIREN_{upper(short(name))} = {number},"]
+    lines += [comment("the byte in the field `byte`"), "    MOVALIREN_BYTE = 254,"]
     lines += [comment("len bytes of the texts, from start on"), "    MOVALIREN_TEXT = 255"]
     return "enum movaliren_kind {\n" + "\n".join(lines) + "\n};"
 
@@ -193,7 +194,7 @@ def library(declared):
         if name not in OF_RUST:
             lines += ["#[repr(C)]", "#[derive(Clone, Copy, Debug, PartialEq, Eq, Hash)]", f"pub(crate) struct {name} {{"]
             lines += [*(f"    pub(crate) {field}: {kind}," for field, kind in fields), "}", ""]
-    lines.append('extern "C" {')
+    lines += ["// Some are for C alone.", "#[allow(dead_code)]", 'extern "C" {']
     functions = exports()
     for name in declared:
         parameters, result = functions[name]

@@ -33,7 +33,7 @@ METHODS = [RUST / "format.rs", RUST / "batch.rs"]
 MEMORY = HERE / "c/memory.c"
 # The usual choices of each component, as constants.
 PARTS = TOP / "crates/time_fmt/src/parts.rt"
-ROWS = [HERE / "c/rows.c", HERE / "c/descriptions.c"]
+ROWS = [HERE / "c/rows.c", HERE / "c/descriptions.c", HERE / "c/texts.c"]
 
 COMMENTS = {
     ".h": r"/\*.*?\*/", ".c": r"/\*.*?\*/", ".cpp": r"//[^\n]*", ".rs": r"//[^\n]*", ".rt": r"//[^\n]*",
@@ -52,7 +52,9 @@ CHOICES = [
 ]
 OF_C = {of_c: kind for kind, of_c in interface.C_TYPES.items()}
 # What makes no text of a moment.
-NOT_COUNTED = {"version", "error_words"}
+NOT_COUNTED = {"version", "error_words", "fault_words"}
+# What Rust calls by a description that it has read before.
+OF_C_ALONE = {"strftime_utc", "strftime_local"}
 # Crates, a variable of the environment, and the mark of the header.
 NOT_IN_HEADER = {"movaliren_c", "movaliren_cli", "movaliren_time", "MOVALIREN_LIB", "MOVALIREN_H"}
 
@@ -240,6 +242,14 @@ class Interfaces:
         rattle = {words(name): int(number) for name, number in findall(r"Expected::(\w+)(?:\([\w, ]+\))? => \((\d+)", *self.rattle)}
         self.same("what could have come", header, rust, rattle)
 
+    def faults(self):
+        header = numbers(r"MOVALIREN_FAULT_(\w+) = (\d+)", self.c)
+        rust = numbers(r"(\w+) = (\d+)", braces("enum FaultReason", *self.rust))
+        listed = findall(r"FaultReason::(\w+),", *self.rust)
+        rattle = findall(r"Reason::(\w+)(?:\(\w+\))? => \(?(\d+)", *self.rattle)
+        self.same("the reason of a fault", header, rust, {words(name): int(number) for name, number in rattle})
+        self.same("the reasons that Rust finds", sorted(header), sorted(map(words, listed)))
+
     def tests(self):
         functions = sorted(functions_of(self.c))
         self.same("what the test of memory calls", functions, sorted(set(findall(r"(movaliren_\w+)\(", self.memory))))
@@ -267,7 +277,7 @@ class Interfaces:
         rust = {row.partition("/")[0] for row in self.rust_rows()}
         calls = {f"{name}:{method}" for name in functions for method in [*methods, name]}
         self.same("a row of Rust alone", set(), rust - names - calls)
-        self.same("what bindings/counts does not count from Rust", set(), functions - set(map(self.function, rust)))
+        self.same("what bindings/counts does not count from Rust", set(), functions - OF_C_ALONE - set(map(self.function, rust)))
         self.same("a method that is not counted", set(), set(methods) - set(findall(r"\.(\w+)\(", self.speed)))
 
     @staticmethod
@@ -284,7 +294,7 @@ class Interfaces:
         """All differences, or those of the first check that has one."""
         checks = (
             self.uses, self.structs, self.usual_flags, self.choices, self.words, self.lengths, self.version,
-            self.places, self.tests, self.counts,
+            self.places, self.faults, self.tests, self.counts,
         )
         for check in checks:
             try:

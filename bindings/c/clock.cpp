@@ -40,6 +40,9 @@ static movaliren_utc_moment read_utc;
 static movaliren_place read_place;
 
 static movaliren_log kept;
+static movaliren_item made[16];
+static movaliren_fault fault;
+static const char conversions[] = "%Y-%m-%d %H:%M:%S";
 
 static movaliren_item items[11], names[7];
 static char texts[5], name_texts[8];
@@ -341,6 +344,11 @@ static const struct {
         BY_PARTS(movaliren_format_date(names, 7, name_texts, 4, value.year, value.month, value.day, OUT)), 0 },
     NO_DECIMALS("format_date:names", 0, "%A, %d %B %Y"),
     { "format_date:names/snprintf", ONE(names_by_snprintf(moment)), 0 },
+    { "describe_strftime:11-items", ONE(movaliren_describe_strftime(conversions, sizeof conversions - 1, made, 16, &fault)), 0 },
+    { "strftime_utc:11-items", ONE(movaliren_strftime_utc(conversions, sizeof conversions - 1, NOW, OUT)), 0 },
+    NO_DECIMALS("strftime_utc:11-items", 0, DATE " " CLOCK),
+    { "strftime_local:11-items", ONE(movaliren_strftime_local(conversions, sizeof conversions - 1, NOW, EAST, OUT)), 0 },
+    NO_DECIMALS("strftime_local:11-items", EAST, DATE " " CLOCK),
     { "width:11-items", ONE(movaliren_width(items, 11, texts, 5)), 0 },
     { "width:names", ONE(movaliren_width(names, 7, name_texts, 4)), 0 },
     { "read_rfc3339", ONE(movaliren_read_rfc3339(READ_TEXT, &read_moment, &read_place)), 0 },

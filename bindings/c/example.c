@@ -36,25 +36,14 @@ int main(void)
         movaliren_iso8601_by_utc(&milliseconds, 879350106, 120000000, room, most), room);
     show("local time", movaliren_rfc3339_local(879350106, 120000000, -21600, room, most), room);
 
-    struct movaliren_item items[7];
-    char texts[10];
-    struct movaliren_description line = MOVALIREN_DESCRIPTION(items, texts);
-    movaliren_add(&line, MOVALIREN_DAY, MOVALIREN_NO_PADDING, 0, 0);
-    movaliren_add_text(&line, " ");
-    movaliren_add_usual(&line, MOVALIREN_MONTH_LONG);
-    movaliren_add_text(&line, ", week ");
-    movaliren_add_usual(&line, MOVALIREN_ISO_YEAR);
-    movaliren_add_text(&line, "-W");
-    movaliren_add_usual(&line, MOVALIREN_WEEK_ISO);
-    if (line.reason)
-        return 1;
-    printf("%-13s %td\n", "width", movaliren_width(items, line.items_len, texts, line.texts_len));
-    show("a moment",
-        movaliren_format(items, line.items_len, texts, line.texts_len, &moment, room, most), room);
-    show("a date",
-        movaliren_format_date(
-            items, line.items_len, texts, line.texts_len, 2026, 11, 22, room, most),
-        room);
+    struct movaliren_item items[8];
+    struct movaliren_description line = MOVALIREN_ITEMS(items);
+    movaliren_parse_strftime(&line, "%-d %B, week %G-W%V");
+    printf("%-13s %td\n", "width", movaliren_width_by(&line));
+    show("a moment", movaliren_by(&line, &moment, room, most), room);
+    show("a date", movaliren_by_date(&line, 2026, 11, 22, room, most), room);
+    if (movaliren_parse_strftime(&line, "%-d %Q") < 0)
+        printf("%-13s none: %s\n", "%Q", movaliren_fault_text(&line.fault, room));
 
     struct movaliren_moment moments[] = { moment, moment, moment };
     moments[1].offset_hours = 0;

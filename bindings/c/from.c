@@ -8,7 +8,7 @@
 
 /* Sunday, 22 November 2026, at 15:55:06.12 in UTC, and at a place six hours behind. */
 static const time_t seconds = 1795362906;
-static const long nanosecond = 120000000;
+static const uint32_t nanosecond = 120000000;
 static struct tm utc, local;
 
 static char line[64], theirs[64];
@@ -31,7 +31,7 @@ static void moments(void)
     same(movaliren_rfc3339_utc(seconds, 0, line, most), "2026-11-22T15:55:06Z", theirs);
 
     size_t count = strftime(theirs, sizeof theirs, "%Y-%m-%dT%H:%M:%S", &utc);
-    snprintf(theirs + count, sizeof theirs - count, ".%03ldZ", nanosecond / 1000000);
+    snprintf(theirs + count, sizeof theirs - count, ".%03uZ", nanosecond / 1000000);
     static const struct movaliren_iso_config milliseconds = MOVALIREN_ISO_DECIMALS(3);
     same(movaliren_iso8601_by_utc(&milliseconds, seconds, nanosecond, line, most), "2026-11-22T15:55:06.120Z", theirs);
 
@@ -41,7 +41,7 @@ static void moments(void)
     same(movaliren_rfc3339_local(seconds, nanosecond, local.tm_gmtoff, line, most), "2026-11-22T09:55:06.12-06:00", NULL);
 
     count = strftime(theirs, sizeof theirs, "%Y-%m-%dT%H:%M:%S", &local);
-    snprintf(theirs + count, sizeof theirs - count, ".%03ld-06:00", nanosecond / 1000000);
+    snprintf(theirs + count, sizeof theirs - count, ".%03u-06:00", nanosecond / 1000000);
     same(movaliren_iso8601_by_local(&milliseconds, seconds, nanosecond, local.tm_gmtoff, line, most), "2026-11-22T09:55:06.120-06:00", theirs);
 
     strftime(theirs, sizeof theirs, "%G-W%V-%u", &utc);
@@ -53,16 +53,15 @@ static void moments(void)
 
 static void descriptions(void)
 {
-    struct movaliren_item items[5];
-    char texts[2];
-    struct movaliren_description day = MOVALIREN_DESCRIPTION(items, texts);
-    movaliren_add_usual(&day, MOVALIREN_DAY);
-    movaliren_add_text(&day, " ");
-    movaliren_add_usual(&day, MOVALIREN_MONTH_LONG);
-    movaliren_add_text(&day, " ");
-    movaliren_add_usual(&day, MOVALIREN_YEAR);
+    struct movaliren_item items[16];
+    struct movaliren_description day = MOVALIREN_ITEMS(items);
+    movaliren_parse_strftime(&day, "%d %B %Y");
     strftime(theirs, sizeof theirs, "%d %B %Y", &utc);
-    same(movaliren_format_utc(items, day.items_len, texts, day.texts_len, seconds, 0, line, most), "22 November 2026", theirs);
+    same(movaliren_by_utc(&day, seconds, 0, line, most), "22 November 2026", theirs);
+
+    const char *clock = "%A, %H:%M";
+    strftime(theirs, sizeof theirs, clock, &local);
+    same(movaliren_strftime_local(clock, strlen(clock), seconds, 0, local.tm_gmtoff, line, most), "Sunday, 09:55", theirs);
 }
 
 static void texts_read(void)

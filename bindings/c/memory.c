@@ -30,7 +30,7 @@ void *__wrap_calloc(size_t count, size_t size)
     return __real_calloc(count, size);
 }
 
-enum { ROOM = 300, CALLS = 45 };
+enum { ROOM = 300, CALLS = 49 };
 
 static const struct movaliren_moment moment = { .year = 1997, .month = 11, .day = 12, .hour = 9,
     .minute = 55, .second = 6, .nanosecond = 120000000, .offset_hours = -6 },
@@ -57,6 +57,8 @@ static struct movaliren_moment read;
 static struct movaliren_utc_moment read_utc;
 static struct movaliren_place place;
 static struct movaliren_log kept;
+static struct movaliren_item made[8];
+static struct movaliren_fault fault;
 
 static ptrdiff_t bytes_of(struct movaliren_progress progress)
 {
@@ -110,6 +112,10 @@ static ptrdiff_t call(int which, uint8_t *room)
     case 40: return -movaliren_read_rfc3339_lenient_utc(leap_day, 19, &read_utc, &place);
     case 41: return movaliren_error_words(MOVALIREN_ERROR_NO_ROOM, room, ROOM);
     case 42: return (ptrdiff_t)movaliren_version();
+    case 45: return movaliren_describe_strftime("%H:%M", 5, made, 8, &fault);
+    case 46: return movaliren_strftime_utc("%H:%M", 5, 0, 0, room, ROOM);
+    case 47: return movaliren_strftime_local("%H:%M", 5, 0, 0, 60, room, ROOM);
+    case 44: return movaliren_fault_words(MOVALIREN_FAULT_UNFINISHED, room, ROOM);
     case 43: return movaliren_log_time(&kept, 3, 0, 1, 60, room, ROOM);
     default: return movaliren_format_date(usual, 3, dash, 1, 0, 1, 1, room, ROOM);
     }

@@ -76,7 +76,9 @@ enum movaliren_error {
     MOVALIREN_ERROR_NO_ROOM = -20,
     MOVALIREN_ERROR_OUT_OF_MEMORY = -21, /* never returned */
     MOVALIREN_ERROR_OTHER = -22, /* never returned */
-    MOVALIREN_ERROR_NOT_READ = -23
+    MOVALIREN_ERROR_NOT_READ = -23,
+    MOVALIREN_ERROR_BAD_DESCRIPTION = -24,
+    MOVALIREN_ERROR_MANY_ITEMS = -25
 };
 
 uint32_t movaliren_version(void);
@@ -135,6 +137,10 @@ MOVALIREN_INLINE const char *movaliren_error_text(ptrdiff_t reason)
         return "the format cannot represent a component";
     case MOVALIREN_ERROR_NOT_READ:
         return "the text is not one of the format";
+    case MOVALIREN_ERROR_BAD_DESCRIPTION:
+        return "the text is not a description";
+    case MOVALIREN_ERROR_MANY_ITEMS:
+        return "the description has more items than there is room for";
     default:
         return reason < 0 ? "unknown error" : "no error";
     }
@@ -488,6 +494,8 @@ enum movaliren_kind {
     /* The milliseconds since 1970-01-01T00:00:00 UTC, rounded toward zero, at most 17 digits.
      * [flag: always a sign] */
     MOVALIREN_UNIX_MILLISECOND = 33,
+    /* the byte in the field `byte` */
+    MOVALIREN_BYTE = 254,
     /* len bytes of the texts, from start on */
     MOVALIREN_TEXT = 255
 };
@@ -503,7 +511,7 @@ struct movaliren_item {
     uint8_t padding; /* movaliren_padding */
     uint8_t flag;    /* 0 or 1 */
     uint8_t digits;  /* of a second: 0 for as many as are needed, or 1 to 9 */
-    uint8_t unused;  /* any number */
+    uint8_t byte;    /* of MOVALIREN_BYTE; of another kind any number */
     size_t start;    /* of a text */
     size_t len;
 };
@@ -528,7 +536,155 @@ ptrdiff_t movaliren_format_date(const struct movaliren_item *items, size_t items
 ptrdiff_t movaliren_width(const struct movaliren_item *items, size_t items_len, const void *texts,
     size_t texts_len);
 
-/* A description that is built in two arrays of the caller, who counts no offsets of texts:
+/* ---- descriptions from a text */
+
+/* What is wrong in a text that is no description, and at which byte. */
+enum movaliren_fault_reason {
+    MOVALIREN_FAULT_TOO_MANY_ITEMS = 11,   /* more than 65,536 */
+    MOVALIREN_FAULT_UNFINISHED = 12,       /* the `%` */
+    MOVALIREN_FAULT_UNKNOWN_CONVERSION = 13, /* the letter, or the colon */
+    MOVALIREN_FAULT_ZONE_NAME = 14,        /* the Z of `%Z` */
+    MOVALIREN_FAULT_LOCALE_MODIFIER = 15,  /* E or O */
+    MOVALIREN_FAULT_FIELD_WIDTH = 16,      /* the first digit */
+    MOVALIREN_FAULT_CASE_FLAG = 17,        /* ^ or # */
+    MOVALIREN_FAULT_PLUS_FLAG = 18,        /* + */
+    MOVALIREN_FAULT_SECOND_FLAG = 19,      /* the second flag */
+    MOVALIREN_FAULT_FLAG_WITHOUT_NUMBER = 20 /* the letter */
+};
+
+/* Why a text gave no items. */
+struct movaliren_fault {
+    size_t at;      /* the index of the byte; after MOVALIREN_ERROR_MANY_ITEMS 0 */
+    size_t items;   /* after MOVALIREN_ERROR_MANY_ITEMS how many items there are, else 0 */
+    uint8_t reason; /* movaliren_fault_reason; after MOVALIREN_ERROR_MANY_ITEMS 0 */
+    uint8_t byte;   /* the letter that the reason names, or 0 */
+};
+
+/* Reads a description in the syntax of strftime into items, whose texts are cut from that text. Returns the number of items, at the start of the array; the fault is then unchanged. The text is
+ * the `texts` of each call that is given these items.
+ *
+ * Or returns MOVALIREN_ERROR_BAD_DESCRIPTION and sets the fault; or MOVALIREN_ERROR_MANY_ITEMS where the array is too
+ * short, and sets `items` of the fault to their number. Then the first item of the array is invalid: each call that is
+ * given it returns MOVALIREN_ERROR_BAD_ITEM. A fault comes before a lack of room. */
+ptrdiff_t movaliren_describe_strftime(const void *text, size_t text_len,
+    struct movaliren_item *items, size_t items_len, struct movaliren_fault *fault);
+
+/* The text of a moment by a description of at most 64 items, which is read for this one text. Its errors are those of
+ * movaliren_describe_strftime, and then those of movaliren_format_utc. */
+ptrdiff_t movaliren_strftime_utc(const void *text, size_t text_len, int64_t seconds,
+    uint32_t nanosecond, void *room, size_t room_len);
+ptrdiff_t movaliren_strftime_local(const void *text, size_t text_len, int64_t seconds,
+    uint32_t nanosecond, int64_t offset, void *room, size_t room_len);
+
+/* Writes the reason of a fault in words, without the byte. Of a number that is no movaliren_fault_reason these are
+ * "unknown reason". */
+ptrdiff_t movaliren_fault_words(uint8_t reason, void *room, size_t room_len);
+
+/* ---- descriptions, each one argument */
+
+/* A description over arrays of the caller: it is read from a text, or built item by item.
+ *
+ *     struct movaliren_item items[16];
+ *     struct movaliren_description line = MOVALIREN_ITEMS(items);
+ *     char said[MOVALIREN_FAULT_ROOM];
+ *     if (movaliren_parse_strftime(&line, "%a, %d %b %Y %H:%M:%S") < 0)
+ *         fprintf(stderr, "%s\n", movaliren_fault_text(&line.fault, said));
+ *     n = MOVALIREN_STRING(text, movaliren_by_utc, &line, now.tv_sec, (uint32_t)now.tv_nsec);
+ *
+ * One that was not made whole has a reason, which each call returns that is given it: it writes no part of the text. */
+struct movaliren_description {
+    struct movaliren_item *items;
+    size_t items_len, items_room;
+    const char *texts; /* the literals are cut from it: it lasts as long as the description */
+    size_t texts_len;
+    char *texts_array; /* where a literal that is added is kept, of so many bytes */
+    size_t texts_room;
+    ptrdiff_t reason; /* 0 or a movaliren_error */
+    struct movaliren_fault fault;
+};
+
+/* The description over an array of items, as an initialiser, before a text is read. */
+#define MOVALIREN_ITEMS(items)                                                         \
+    {                                                                                  \
+        items, 0, sizeof(items) / sizeof *(items), "", 0, NULL, 0,                     \
+            MOVALIREN_ERROR_BAD_DESCRIPTION, { 0, 0, 0, 0 }                            \
+    }
+
+/* The empty description over two arrays, as an initialiser, to which items are added. */
+#define MOVALIREN_DESCRIPTION(items, texts)                                            \
+    {                                                                                  \
+        items, 0, sizeof(items) / sizeof *(items), texts, 0, texts, sizeof(texts), 0,  \
+            { 0, 0, 0, 0 }                                                             \
+    }
+
+/* Keeps what reading a text gave, and returns 0 or the reason. */
+MOVALIREN_INLINE ptrdiff_t movaliren_parsed(
+    struct movaliren_description *description, const char *text, size_t text_len, ptrdiff_t count)
+{
+    description->texts = text;
+    description->texts_len = text_len;
+    description->texts_room = text_len;
+    description->items_len = count < 0 ? 0 : (size_t)count;
+    description->reason = count < 0 ? count : 0;
+    return description->reason;
+}
+
+/* Reads the description from a text in the syntax of strftime. Returns 0, or the reason and sets `fault`. The text is
+ * not copied: it lasts as long as the description. */
+MOVALIREN_INLINE ptrdiff_t movaliren_parse_strftime(
+    struct movaliren_description *description, const char *text)
+{
+    const size_t text_len = strlen(text);
+    return movaliren_parsed(description, text, text_len,
+        movaliren_describe_strftime(
+            text, text_len, description->items, description->items_room, &description->fault));
+}
+
+/* The text by the description: of a moment with its parts, in UTC, at an offset, and of a date. */
+MOVALIREN_INLINE ptrdiff_t movaliren_by(const struct movaliren_description *description,
+    const struct movaliren_moment *moment, void *room, size_t room_len)
+{
+    return description->reason ? description->reason
+                               : movaliren_format(description->items, description->items_len,
+                                   description->texts, description->texts_len, moment, room, room_len);
+}
+
+MOVALIREN_INLINE ptrdiff_t movaliren_by_utc(const struct movaliren_description *description,
+    int64_t seconds, uint32_t nanosecond, void *room, size_t room_len)
+{
+    return description->reason
+        ? description->reason
+        : movaliren_format_utc(description->items, description->items_len, description->texts,
+            description->texts_len, seconds, nanosecond, room, room_len);
+}
+
+MOVALIREN_INLINE ptrdiff_t movaliren_by_local(const struct movaliren_description *description,
+    int64_t seconds, uint32_t nanosecond, int64_t offset, void *room, size_t room_len)
+{
+    return description->reason
+        ? description->reason
+        : movaliren_format_local(description->items, description->items_len, description->texts,
+            description->texts_len, seconds, nanosecond, offset, room, room_len);
+}
+
+MOVALIREN_INLINE ptrdiff_t movaliren_by_date(const struct movaliren_description *description,
+    int32_t year, uint8_t month, uint8_t day, void *room, size_t room_len)
+{
+    return description->reason
+        ? description->reason
+        : movaliren_format_date(description->items, description->items_len, description->texts,
+            description->texts_len, year, month, day, room, room_len);
+}
+
+/* The most bytes that a text of the description has. */
+MOVALIREN_INLINE ptrdiff_t movaliren_width_by(const struct movaliren_description *description)
+{
+    return description->reason ? description->reason
+                               : movaliren_width(description->items, description->items_len,
+                                   description->texts, description->texts_len);
+}
+
+/* ---- descriptions that are built
  *
  *     struct movaliren_item items[8];
  *     char texts[32];
@@ -536,25 +692,10 @@ ptrdiff_t movaliren_width(const struct movaliren_item *items, size_t items_len, 
  *     movaliren_add(&line, MOVALIREN_DAY, MOVALIREN_NO_PADDING, 0, 0);
  *     movaliren_add_text(&line, " of ");
  *     movaliren_add_usual(&line, MOVALIREN_MONTH_LONG);
- *     if (line.reason == 0)
- *         n = movaliren_format(line.items, line.items_len, line.texts, line.texts_len, &moment, ..);
+ *     n = movaliren_by(&line, &moment, ..);
  *
- * After an item that did not fit, or is invalid, nothing more is added, and `reason` says why. Then the
- * first item is one that each call refuses as MOVALIREN_ERROR_BAD_ITEM, so that no part of the text is
- * written where `reason` is not tested. */
-struct movaliren_description {
-    struct movaliren_item *items;
-    size_t items_len, items_room;
-    char *texts;
-    size_t texts_len, texts_room;
-    ptrdiff_t reason; /* 0, MOVALIREN_ERROR_NO_ROOM or MOVALIREN_ERROR_BAD_ITEM */
-};
-
-/* The empty description over two arrays, as an initialiser. */
-#define MOVALIREN_DESCRIPTION(items, texts)                                            \
-    {                                                                                  \
-        items, 0, sizeof(items) / sizeof *(items), texts, 0, sizeof(texts), 0          \
-    }
+ * After an item that did not fit, or is invalid, nothing more is added, and `reason` says why. Then the first item is
+ * one that each call refuses as MOVALIREN_ERROR_BAD_ITEM, also where the reason is not tested. */
 
 /* Ends the description for the first reason. */
 MOVALIREN_INLINE void movaliren_refuse(struct movaliren_description *description, ptrdiff_t reason)
@@ -610,8 +751,8 @@ MOVALIREN_INLINE void movaliren_add_bytes(
     if (len > description->texts_room - description->texts_len)
         movaliren_refuse(description, MOVALIREN_ERROR_NO_ROOM);
     movaliren_add_item(description, item);
-    if (description->reason == 0) {
-        memcpy(description->texts + description->texts_len, bytes, len);
+    if (description->reason == 0 && len > 0) {
+        memcpy(description->texts_array + description->texts_len, bytes, len);
         description->texts_len += len;
     }
 }
@@ -622,7 +763,30 @@ MOVALIREN_INLINE void movaliren_add_text(struct movaliren_description *descripti
     movaliren_add_bytes(description, text, strlen(text));
 }
 
-/* ---- places in words */
+/* ---- faults and places in words */
+
+/* A buffer of this many bytes holds the words of any fault. */
+#define MOVALIREN_FAULT_ROOM 100
+
+/* The fault in words, as "unknown conversion `%Q` at byte 1", and a zero after them. Returns the buffer, which has
+ * MOVALIREN_FAULT_ROOM bytes. */
+MOVALIREN_INLINE const char *movaliren_fault_text(const struct movaliren_fault *fault, char *room)
+{
+    static const char *const percents[] = { "%", "" };
+    const char *percent = percents[fault->reason >= MOVALIREN_FAULT_SECOND_FLAG];
+    const ptrdiff_t count = movaliren_fault_words(fault->reason, room, MOVALIREN_FAULT_ROOM - 40);
+    char *rest = room + (count < 0 ? 0 : count);
+    if (fault->items > 0) {
+        sprintf(room, "the description has %lu items", (unsigned long)fault->items);
+        return room;
+    }
+    if (fault->byte > 0x20 && fault->byte < 0x7f)
+        rest += sprintf(rest, " `%s%c`", percent, fault->byte);
+    else if (fault->byte != 0)
+        rest += sprintf(rest, " `%s\\x%02x`", percent, fault->byte);
+    sprintf(rest, " at byte %lu", (unsigned long)fault->at);
+    return room;
+}
 
 /* A buffer of this many bytes holds the words of any place. */
 #define MOVALIREN_PLACE_ROOM 100

@@ -50,7 +50,9 @@ enum class errc : int {
     bad_item = MOVALIREN_ERROR_BAD_ITEM,
     no_room = MOVALIREN_ERROR_NO_ROOM,
     out_of_memory = MOVALIREN_ERROR_OUT_OF_MEMORY,
-    not_read = MOVALIREN_ERROR_NOT_READ
+    not_read = MOVALIREN_ERROR_NOT_READ,
+    bad_description = MOVALIREN_ERROR_BAD_DESCRIPTION,
+    many_items = MOVALIREN_ERROR_MANY_ITEMS
 };
 
 // The category of these errors, whose messages are those of movaliren_error_text.
@@ -313,12 +315,35 @@ inline reading<movaliren_moment> read_rfc3339_local(std::string_view text, profi
     });
 }
 
-// A description made of components and texts, which is made once and formats any number of moments.
+// A text is no description: what is wrong, and at which byte. what() says both.
+class invalid_description : public std::system_error {
+public:
+    explicit invalid_description(const movaliren_fault &fault)
+        : std::system_error(make_error_code(errc::bad_description), message(fault)), fault_(fault)
+    {
+    }
+
+    const movaliren_fault &fault() const noexcept { return fault_; }
+
+private:
+    static std::string message(const movaliren_fault &fault)
+    {
+        char room[MOVALIREN_FAULT_ROOM];
+        return movaliren_fault_text(&fault, room);
+    }
+
+    movaliren_fault fault_;
+};
+
+// A description, which is made once from a text, or of components and texts, and formats any number of moments.
 //
-//     const auto day = movaliren::description().add(MOVALIREN_DAY).add(" of ").add(MOVALIREN_MONTH_LONG);
+//     const auto day = movaliren::description::parse_strftime("%d of %B");
 //     std::string text = day.format(std::chrono::system_clock::now());
 class description {
 public:
+    // The description in the syntax of strftime. Throws invalid_description.
+    static description parse_strftime(std::string_view text) { return read(text, movaliren_describe_strftime); }
+
     // Adds a component by its usual choices, as movaliren_add_usual does.
     description &add(movaliren_kind kind)
     {
@@ -378,6 +403,23 @@ public:
     }
 
 private:
+    template <class Describe> static description read(std::string_view text, Describe describe)
+    {
+        description made;
+        made.texts_ = text;
+        made.items_.resize(16);
+        movaliren_fault fault;
+        auto count = describe(made.texts_.data(), text.size(), made.items_.data(), made.items_.size(), &fault);
+        if (count == MOVALIREN_ERROR_MANY_ITEMS) {
+            made.items_.resize(fault.items);
+            count = describe(made.texts_.data(), text.size(), made.items_.data(), made.items_.size(), &fault);
+        }
+        if (count < 0)
+            throw invalid_description(fault);
+        made.items_.resize(static_cast<std::size_t>(count));
+        return made;
+    }
+
     // No pointer is null, not even to no items.
     const movaliren_item *items() const noexcept
     {

@@ -113,6 +113,26 @@ static void descriptions()
     }
 }
 
+// A text of more items than are read at first, and each kind of fault that C++ adds to.
+static void descriptions_from_texts()
+{
+    const auto mail = movaliren::description::parse_strftime("%a, %d %b %Y %H:%M:%S %z");
+    expect("strftime", mail.format(at(seconds(880127706)), hours(-6)), "Fri, 21 Nov 1997 09:55:06 -0600");
+    std::string many, wanted;
+    for (int i = 0; i < 1000; i++)
+        many += "%d-", wanted += "21-";
+    expect("2,000 items", movaliren::description::parse_strftime(many).format(at(seconds(880127706))), wanted);
+    expect("a text that ends within", movaliren::description::parse_strftime(std::string_view("%d%Q", 2)).format(at(seconds(0))), "01");
+    try {
+        movaliren::description::parse_strftime("%d %Q");
+        failed++;
+    } catch (const movaliren::invalid_description &error) {
+        expect_error("no description", error.code(), errc::bad_description);
+        expect("its byte", std::to_string(error.fault().at), "4");
+        expect("its words", std::string_view(error.what()).substr(0, 31), "unknown conversion `%Q` at byte");
+    }
+}
+
 static void readings()
 {
     const auto moment = movaliren::read_rfc3339("1937-01-01T12:00:27.87+00:20");
@@ -170,6 +190,7 @@ int main()
     durations();
     errors();
     descriptions();
+    descriptions_from_texts();
     readings();
     random_moments();
     formatted();

@@ -15,13 +15,13 @@ import (
 	"unsafe"
 )
 
-var milliseconds = C.struct_movaliren_iso_config{5, 0, 2, 3, 1, 1, 0, 0}
+var line = []byte("%FT%T.%3N%:z")
 
 func opened(moment time.Time) {
 	var room [C.MOVALIREN_ISO8601_ROOM]byte
 	_, offset := moment.Zone()
-	n := C.movaliren_iso8601_by_local(&milliseconds, C.int64_t(moment.Unix()), C.uint32_t(moment.Nanosecond()),
-		C.int64_t(offset), unsafe.Pointer(&room), C.MOVALIREN_ISO8601_ROOM)
+	n := C.movaliren_strftime_local(unsafe.Pointer(&line[0]), C.size_t(len(line)), C.int64_t(moment.Unix()),
+		C.uint32_t(moment.Nanosecond()), C.int64_t(offset), unsafe.Pointer(&room), C.MOVALIREN_ISO8601_ROOM)
 	if n < 0 {
 		log.Fatal(C.GoString(C.movaliren_error_text(n)))
 	}

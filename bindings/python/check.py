@@ -19,9 +19,12 @@ def error_of(call, *numbers):
         return f"{error.number}: {error}"
 
 
-expect(movaliren.local_line(851042397, 0, -28800), "1996-12-19T16:39:57.000-08:00")
-expect(movaliren.local_line(-1041337173, 870_000_000, 1200), "1937-01-01T12:00:27.870+00:20")
-expect(error_of(movaliren.local_line, 0, 0, 93600), "-8: the hours of the offset are outside -25 to 25")
+LINE = "%FT%T.%3N%:z"
+expect(movaliren.strftime(LINE, 851042397, 0, -28800), "1996-12-19T16:39:57.000-08:00")
+expect(movaliren.strftime(LINE, -1041337173, 870_000_000, 1200), "1937-01-01T12:00:27.870+00:20")
+expect(movaliren.strftime("%a é " * 30, 851042397, 0, 0), "Fri é " * 30)
+expect(error_of(movaliren.strftime, LINE, 0, 0, 93600), "-8: the hours of the offset are outside -25 to 25")
+expect(error_of(movaliren.strftime, "%Q", 0, 0, 0), "-24: the text is not a description")
 expect(movaliren.rfc3339_lines([]), b"")
 expect(error_of(movaliren.rfc3339_lines, [(0, 10**9)]), "-7: the nanosecond is outside 0 to 999999999")
 MOMENTS = [(second * 86_399, 5 * second + 1) for second in range(10_000)]

@@ -11,11 +11,11 @@ import movaliren
 class Formatter(logging.Formatter):
     def formatTime(self, record, datefmt=None):
         second = int(record.created // 1)
-        return movaliren.local_line(second, int(record.msecs) * 1_000_000, time.localtime(second).tm_gmtoff)
+        return movaliren.strftime(datefmt, second, int(record.msecs) * 1_000_000, time.localtime(second).tm_gmtoff)
 
 
 handler = logging.StreamHandler(sys.stdout)
-handler.setFormatter(Formatter("%(asctime)s %(message)s"))
+handler.setFormatter(Formatter("%(asctime)s %(message)s", "%FT%T.%3N%:z"))
 handler.handle(logging.makeLogRecord({"msg": "opened"}))
 for line in sys.stdin:
     second, nanosecond = map(int, line.split())

@@ -1,16 +1,15 @@
-"""Calls of the library libmovaliren.so.0, by ctypes: a line of a log in local time, and the texts of many moments in one
-call. movaliren.h says what each call writes and refuses.
+"""Calls of the library libmovaliren.so.0, by ctypes: a local time by a text in the syntax of strftime, and the texts of
+many moments in one call. movaliren.h says what each call writes and refuses.
 
-    movaliren.local_line(879350106, 120_000_000, 3600)     '1997-11-12T16:55:06.120+01:00'
+    movaliren.strftime("%FT%T.%3N%:z", 879350106, 120_000_000, 3600)     '1997-11-12T16:55:06.120+01:00'
     movaliren.rfc3339_lines([(879350106, 0), (0, 1)])      b'1997-11-12T15:55:06Z\\n1970-01-01T00:00:00.000000001Z\\n'
 """
 
 import ctypes
 
 _library = ctypes.CDLL("libmovaliren.so.0")
-# The components, the kind of date, the precision, the decimals, the offset's precision, separators, year and comma.
-_MILLISECONDS = bytes([5, 0, 2, 3, 1, 1, 0, 0])
 _ROOM = 35
+_NO_ROOM = -20
 
 
 class Error(ValueError):
@@ -34,21 +33,24 @@ class _Progress(ctypes.Structure):
 _number, _size = ctypes.c_int64, ctypes.c_size_t
 _library.movaliren_error_words.argtypes = [ctypes.c_ssize_t, ctypes.c_char_p, _size]
 _library.movaliren_error_words.restype = ctypes.c_ssize_t
-_local = _library.movaliren_iso8601_by_local
-_local.argtypes = [ctypes.c_char_p, _number, ctypes.c_uint32, _number, ctypes.c_char_p, _size]
+_local = _library.movaliren_strftime_local
+_local.argtypes = [ctypes.c_char_p, _size, _number, ctypes.c_uint32, _number, ctypes.c_char_p, _size]
 _local.restype = ctypes.c_ssize_t
 _batch = _library.movaliren_rfc3339_utc_batch
 _batch.argtypes = [ctypes.POINTER(_Moment), _size, ctypes.c_uint8, ctypes.c_char_p, _size]
 _batch.restype = _Progress
 
 
-def local_line(seconds, nanosecond, offset):
-    """The local time with milliseconds, of a moment by its seconds since 1970 and its nanosecond, where clocks are
-    so many seconds ahead of UTC."""
+def strftime(description, seconds, nanosecond, offset):
+    """The local time by a description, of a moment by its seconds since 1970 and its nanosecond, where clocks are so many
+    seconds ahead of UTC."""
     if not (-(2**63) <= seconds < 2**63 and 0 <= nanosecond < 2**32 and -(2**63) <= offset < 2**63):
         raise OverflowError("a number of the moment is out of its range")
-    room = ctypes.create_string_buffer(_ROOM)
-    count = _local(_MILLISECONDS, seconds, nanosecond, offset, room, _ROOM)
+    text, most, count = description.encode(), 32, _NO_ROOM
+    while count == _NO_ROOM:
+        most *= 2
+        room = ctypes.create_string_buffer(most)
+        count = _local(text, len(text), seconds, nanosecond, offset, room, most)
     if count < 0:
         raise Error(count)
     return room.raw[:count].decode()

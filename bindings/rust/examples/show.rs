@@ -1,7 +1,7 @@
 //! The example of the front page: each way to a text once, and an error.
 use movaliren::{
-    stamp, Batch, DateKind, DecimalSign, Description, Format, Iso8601, Iso8601By, Kind, Moment,
-    Padding, Rfc2822, Rfc3339, TimePrecision, UtcMoment,
+    stamp, Batch, DateKind, DecimalSign, Description, Format, Iso8601, Iso8601By, Moment, Rfc2822,
+    Rfc3339, TimePrecision, UtcMoment,
 };
 
 fn main() -> Result<(), Box<dyn std::error::Error>> {
@@ -20,14 +20,7 @@ fn main() -> Result<(), Box<dyn std::error::Error>> {
     let text = stamp(&UtcMoment::new(879_350_106, 120_000_000))?;
     println!("stamp         {}", String::from_utf8_lossy(&text));
 
-    let description = Description::new()
-        .component(Kind::Day.padding(Padding::NoPadding))
-        .literal(" ")
-        .component(Kind::MonthLong)
-        .literal(", week ")
-        .component(Kind::IsoYear)
-        .literal("-W")
-        .component(Kind::WeekIso);
+    let description = Description::parse_strftime("%-d %B, week %G-W%V")?;
     println!("width         {}", description.width());
     println!("a moment      {}", description.format(&moment)?);
 

@@ -237,8 +237,21 @@ impl Description {
             self.texts.to_mut().extend_from_slice(text.as_bytes());
         }
         debug_assert_eq!(raw::width(&[raw], &self.texts), Ok(item.width()));
-        self.items.to_mut().push(raw);
-        let width = self.width.saturating_add(item.width());
+        self.push(raw, item.width());
+    }
+
+    pub(crate) fn add_literal(&mut self, text: &str) {
+        self.add(Item::Literal(text));
+    }
+
+    /// Adds a component that the library has made, which is valid.
+    pub(crate) fn add_raw(&mut self, item: raw::Item) {
+        self.push(item, raw::width(&[item], &[]).unwrap_or(0));
+    }
+
+    fn push(&mut self, item: raw::Item, width: usize) {
+        self.items.to_mut().push(item);
+        let width = self.width.saturating_add(width);
         self.width = width.min(isize::MAX as usize);
     }
 }

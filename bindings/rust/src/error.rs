@@ -54,6 +54,11 @@ pub enum Error {
     /// The text is not one of the format. [`Rfc3339::read`](crate::Rfc3339::read) returns
     /// [`NotRead`](crate::NotRead) in its place.
     NotRead,
+    /// The text is not a description. [`Description::parse_strftime`](crate::Description::parse_strftime) returns
+    /// [`InvalidDescription`](crate::InvalidDescription) in its place.
+    BadDescription,
+    /// The description has more items than there is room for. This crate makes room for all.
+    ManyItems,
     /// The library returned a number that this crate does not know.
     Unknown(isize),
 }

@@ -51,6 +51,7 @@ mod library;
 pub mod list;
 mod log;
 mod moment;
+mod parse;
 mod pointers;
 #[allow(unsafe_code)]
 mod raw;
@@ -68,6 +69,7 @@ pub use formatted::Formatted;
 pub use known::{stamp, Iso8601, Rfc2822, Rfc2822Local, Rfc3339, Rfc3339Local, Stamp};
 pub use log::LogTime;
 pub use moment::{LocalMoment, Moment, UtcMoment};
+pub use parse::{FaultReason, InvalidDescription};
 pub use raw::Read;
 pub use read::{Expected, NotRead};
 pub use text::Text;

@@ -29,7 +29,7 @@ pub(crate) struct Item {
     pub(crate) padding: u8,
     pub(crate) flag: u8,
     pub(crate) digits: u8,
-    pub(crate) unused: u8,
+    pub(crate) byte: u8,
     pub(crate) start: usize,
     pub(crate) len: usize,
 }
@@ -55,6 +55,17 @@ pub(crate) struct Place {
     pub(crate) is_second_60: u8,
 }
 
+#[repr(C)]
+#[derive(Clone, Copy, Debug, PartialEq, Eq, Hash)]
+pub(crate) struct Fault {
+    pub(crate) at: usize,
+    pub(crate) items: usize,
+    pub(crate) reason: u8,
+    pub(crate) byte: u8,
+}
+
+// Some are for C alone.
+#[allow(dead_code)]
 extern "C" {
     pub(crate) fn movaliren_version() -> u32;
     pub(crate) fn movaliren_error_words(reason: isize, room: *mut u8, room_len: usize) -> isize;
@@ -92,6 +103,10 @@ extern "C" {
     pub(crate) fn movaliren_format_local(items: *const Item, items_len: usize, texts: *const u8, texts_len: usize, seconds: i64, nanosecond: u32, offset: i64, room: *mut u8, room_len: usize) -> isize;
     pub(crate) fn movaliren_format_date(items: *const Item, items_len: usize, texts: *const u8, texts_len: usize, year: i32, month: u8, day: u8, room: *mut u8, room_len: usize) -> isize;
     pub(crate) fn movaliren_width(items: *const Item, items_len: usize, texts: *const u8, texts_len: usize) -> isize;
+    pub(crate) fn movaliren_describe_strftime(text: *const u8, text_len: usize, items: *mut Item, items_len: usize, fault: *mut Fault) -> isize;
+    pub(crate) fn movaliren_strftime_utc(text: *const u8, text_len: usize, seconds: i64, nanosecond: u32, room: *mut u8, room_len: usize) -> isize;
+    pub(crate) fn movaliren_strftime_local(text: *const u8, text_len: usize, seconds: i64, nanosecond: u32, offset: i64, room: *mut u8, room_len: usize) -> isize;
+    pub(crate) fn movaliren_fault_words(reason: u8, room: *mut u8, room_len: usize) -> isize;
 }
 
 pub(crate) fn error_of(number: isize) -> Error {
@@ -119,6 +134,8 @@ pub(crate) fn error_of(number: isize) -> Error {
         -21 => Error::OutOfMemory,
         -22 => Error::Other,
         -23 => Error::NotRead,
+        -24 => Error::BadDescription,
+        -25 => Error::ManyItems,
         other => Error::Unknown(other),
     }
 }
@@ -149,6 +166,8 @@ pub(crate) fn words_of(error: Error) -> Result<&'static str, isize> {
         Error::OutOfMemory => "out of memory",
         Error::Other => "the format cannot represent a component",
         Error::NotRead => "the text is not one of the format",
+        Error::BadDescription => "the text is not a description",
+        Error::ManyItems => "the description has more items than there is room for",
         Error::Unknown(number) => return Err(number),
     })
 }

@@ -5,7 +5,7 @@
 //! `#[repr(C)]`, with the fields of the header in its order. The library keeps no pointer. It writes
 //! bytes of a buffer or leaves them as they were, so none becomes uninitialized.
 use crate::known::{Iso8601, Rfc2822, Rfc2822Local, Rfc3339, Rfc3339Local, Stamp};
-use crate::library::{self, error_of, Log};
+use crate::library::{self, error_of, Fault, Log};
 pub(crate) use crate::library::{IsoConfig, Item};
 use crate::read::{Expected, NotRead};
 use crate::{
@@ -26,7 +26,7 @@ impl Item {
         padding: 0,
         flag: 0,
         digits: 0,
-        unused: 0,
+        byte: 0,
         start: 0,
         len: 0,
     };
@@ -39,6 +39,7 @@ const _: () = assert!(core::mem::size_of::<Item>() == 24);
 const _: () = assert!(core::mem::size_of::<library::Progress>() == 24);
 const _: () = assert!(core::mem::size_of::<library::Place>() == 16);
 const _: () = assert!(core::mem::size_of::<Log>() == 48);
+const _: () = assert!(core::mem::size_of::<Fault>() == 24);
 
 /// Memory that a call writes to. No result depends on what it held.
 type Buffer = [MaybeUninit<u8>];
@@ -540,6 +541,44 @@ unsafe impl Call<Date> for Description {
         })
     }
 }
+
+/// The number of a fault's reason, for its words.
+pub(crate) struct FaultWords;
+
+// SAFETY: the function returns how many bytes it has written to the start of the buffer, which are
+// ASCII.
+unsafe impl Call<u8> for FaultWords {
+    fn call(&self, value: &u8, buffer: &mut Buffer, _: Inside) -> Result<usize, Error> {
+        // SAFETY: pointer and length are the buffer's.
+        count_of(unsafe { library::movaliren_fault_words(*value, pointer(buffer), buffer.len()) })
+    }
+}
+
+/// The items of the text at the start of the array, or why there are none.
+pub(crate) fn describe<'a>(text: &str, items: &'a mut [Item]) -> Result<&'a [Item], Fault> {
+    let mut fault = NO_FAULT;
+    // SAFETY: each pointer comes with the length of its slice, and both structs have the header's layout.
+    let count = unsafe {
+        library::movaliren_describe_strftime(
+            text.as_ptr(),
+            text.len(),
+            items.as_mut_ptr(),
+            items.len(),
+            &mut fault,
+        )
+    };
+    match usize::try_from(count) {
+        Ok(count) => Ok(&items[..count]),
+        Err(_) => Err(fault),
+    }
+}
+
+const NO_FAULT: Fault = Fault {
+    at: 0,
+    items: 0,
+    reason: 0,
+    byte: 0,
+};
 
 /// The greatest number of bytes that a text of the items has.
 pub(crate) fn width(items: &[Item], texts: &[u8]) -> Result<usize, Error> {

@@ -254,3 +254,50 @@ fn a_value_without_a_text_is_shown_as_the_reason() {
     let text = date.display(long).to_string();
     assert_eq!(text, "<the value lacks a component of the format>");
 }
+
+#[test]
+fn a_description_from_a_text_is_the_one_of_its_items() {
+    let items = description![
+        "[",
+        Kind::Day.padding(Padding::NoPadding),
+        "] of ",
+        Kind::MonthLong,
+        " \u{e9}"
+    ];
+    assert_eq!(Description::parse_strftime("[%-d] of %B \u{e9}"), Ok(items));
+    let clock = description![Kind::Hour, ":", Kind::Minute];
+    assert_eq!(Description::parse_strftime("%H:%M"), Ok(clock.clone()));
+    assert_eq!(Description::parse_strftime("%R"), Ok(clock));
+    assert_eq!(Description::parse_strftime(""), Ok(Description::new()));
+    let many = Description::parse_strftime(&"%d-".repeat(1_000)).unwrap();
+    let text = many.format(&Moment::new(2026, 11, 22)).unwrap();
+    assert_eq!((text, many.width()), ("22-".repeat(1_000), 3_000));
+}
+
+#[test]
+fn a_text_that_is_no_description_has_its_reason_and_byte() {
+    for (text, reason, byte, words) in [
+        (
+            "%",
+            FaultReason::Unfinished,
+            None,
+            "unfinished conversion `%` at byte 0",
+        ),
+        (
+            "%d%\u{e9}",
+            FaultReason::UnknownConversion,
+            Some(0xc3),
+            "unknown conversion `%\\xc3` at byte 3",
+        ),
+        (
+            "%-F",
+            FaultReason::FlagWithoutNumber,
+            Some(b'F'),
+            "no flag is allowed before `F` at byte 2",
+        ),
+    ] {
+        let error = Description::parse_strftime(text).unwrap_err();
+        assert_eq!((error.reason, error.byte), (Some(reason), byte));
+        assert_eq!(error.to_string(), words);
+    }
+}

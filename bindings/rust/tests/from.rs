@@ -59,6 +59,9 @@ fn descriptions() {
         day: 22,
     };
     assert_eq!(LONG.format(&date).unwrap(), "Sunday, 22 November");
+    let long = Description::parse_strftime("%A, %-d %B").unwrap();
+    assert_eq!(long.format(&date).unwrap(), "Sunday, 22 November");
+    assert_eq!(long, LONG);
 }
 
 #[test]

@@ -1,8 +1,8 @@
 -- Reading the syntax of strftime, a part at a time.
 use Rattle.std.proofs.Common.{◌≡◌, ℕ, zero, suc, ◌+◌, ◌≤◌, ◌<◌, Bool, true, false, List, [], ◌∷◌, ◌++◌, length, drop, Some, None, Ok, Err, refl, sym, ap, ◌∙◌, append_assoc, arith}
-use Rattle.std.specs.Prelude.{nat_le, ◌==◌}
+use Rattle.std.specs.Prelude.{◌-◌, nat_le, slice_range, take, ◌==◌}
 use Rattle.std.proofs.lemmas.Bool.{le-leb, leb-true}
-use Rattle.std.proofs.lemmas.List.{append-nil}
+use Rattle.std.proofs.lemmas.List.{append-nil, length-drop, take_all}
 use Rattle.time_below.specs.declared.format_description.component.Component.{Component}
 use Rattle.time_below.specs.Tree.{Tree, of_component}
 use Rattle.time_describe.specs.Conversions.{component_of, composed}
@@ -67,6 +67,17 @@ part_exceeds before now (b ∷ bs) f some is now-is lt =
 pub part_refused : (before : List Tree) (text : List ℕ) (fault : Fault) → 0 < length text → first_part text ≡ Err fault → read before 0 text ≡ Err fault
 part_refused before [] fault some is = absurd (omega arith)
 part_refused before (b ∷ bs) fault some is = refuse before b bs fault is
+
+-- ---- a text from a place on
+
+pub from_place : (text : List ℕ) (at : ℕ) → take (length text - at) (drop at text) ≡ drop at text
+from_place text at = take_all _ _ (omega (arith, length-drop at text))
+
+-- the bytes of its first part
+pub own_bytes : (text : List ℕ) (at n : ℕ) → slice_range text at (at + n) ≡ take n (take (length text - at) (drop at text))
+own_bytes text at n =
+    let count : at + n - at ≡ n = omega arith in
+    ap (λ (k : ℕ). take k (drop at text)) count ∙ ap (take n) (sym (from_place text at))
 
 -- ---- compositions
 

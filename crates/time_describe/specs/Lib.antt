@@ -7,6 +7,7 @@ pub mod Outcome
 pub mod Description
 pub mod Grammar
 pub mod Literal
+pub mod Items
 pub mod Limit
 pub mod Conversions
 pub mod Strftime

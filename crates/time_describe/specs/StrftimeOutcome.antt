@@ -1,6 +1,5 @@
 -- What calls return that read the syntax of strftime.
-use Rattle.std.specs.Prelude.{◌≡◌, ℕ, ◌-◌, ◌<◌, List, [], ◌∷◌, Result, Ok, Err}
-use Rattle.std.proofs.Common.{Bor}
+use Rattle.std.specs.Prelude.{◌≡◌, ℕ, ◌+◌, ◌-◌, ◌<◌, Bool, IsTrue, List, [], ◌∷◌, take, drop, Result, Ok, Err}
 use Rattle.time_below.specs.Tree.{Tree, trees, of_component, all_of}
 use Rattle.time_describe.specs.Conversions.{offset, composed}
 use Rattle.time_describe.specs.Literal.{literal_of}
@@ -13,17 +12,18 @@ use Rattle.time_describe.specs.declared.strftime.part.Part.TheVariants as part
 use Rattle.time_describe.specs.declared.strftime.InvalidStrftime.{InvalidStrftime}
 use Rattle.time_describe.specs.declared.strftime.InvalidStrftime.TheVariants as error
 
--- the items of a part
-abbrev pub items_of_part : Part → List Tree
-items_of_part (part.Literal bytes) = literal_of bytes.now ∷ []
-items_of_part (part.Component c) = of_component c ∷ []
-items_of_part (part.Offset with_colon) = offset with_colon
-items_of_part (part.Composition text) = composed text.now
+-- the items of a part to which these bytes belong
+abbrev pub items_of_part : List ℕ → Part → List Tree
+items_of_part own part.Literal = literal_of own ∷ []
+items_of_part own (part.Byte b) = literal_of (b ∷ []) ∷ []
+items_of_part own (part.Component c) = of_component c ∷ []
+items_of_part own (part.Offset with_colon) = offset with_colon
+items_of_part own (part.Composition text) = composed text.now
 
--- a part and how many bytes belong to it behind its first one, or its fault
-abbrev pub front_of : Result (Part × ℕ) Fault → Result Front Fault
-front_of (Ok x) = Ok (record { items = items_of_part x.0; behind = x.1 })
-front_of (Err fault) = Err fault
+-- the part at the front of a text and how many bytes belong to it behind its first one, or its fault
+abbrev pub front_of : List ℕ → Result (Part × ℕ) Fault → Result Front Fault
+front_of text (Ok x) = Ok (record { items = items_of_part (take (x.1 + 1) text) x.0; behind = x.1 })
+front_of text (Err fault) = Err fault
 
 -- the tree of a text, or its fault
 abbrev pub tree_of : Result (List Tree) Fault → Result Tree Fault
@@ -40,16 +40,25 @@ abbrev pub IsWithin : ℕ → InvalidStrftime → Type 0
 IsWithin len error.OutOfMemory = Unit {0}
 IsWithin len (error.Invalid reason index) = index < len
 
--- a failure is of memory, or it is the fault
-abbrev pub Fails : {A : Type 0} → Failure → Result A Fault → Type 0
-Fails failure.OutOfMemory read = Unit {0}
-Fails (failure.Invalid f) read = read ≡ Err f
+-- memory runs out only where a list may refuse an item
+abbrev pub MayRefuse : Bool → InvalidStrftime → Type 0
+MayRefuse can_refuse error.OutOfMemory = IsTrue can_refuse
+MayRefuse can_refuse (error.Invalid reason index) = Unit {0}
 
-abbrev pub Gives : {X Y : Type 0} → (X → Y) → Result X Failure → Result Y Fault → Type 0
-Gives view (Ok x) read = read ≡ Ok (view x)
-Gives view (Err e) read = Fails e read
+-- a failure is of memory, where a list may refuse an item, or it is the fault
+abbrev pub Fails : {A : Type 0} → Bool → Failure → Result A Fault → Type 0
+Fails can_refuse failure.OutOfMemory read = IsTrue can_refuse
+Fails can_refuse (failure.Invalid f) read = read ≡ Err f
+
+-- a list holds the items that were read
+abbrev pub IsFound : Result (List Tree) Fault → (List Tree → Type 0) → Type 0
+IsFound read Holds = (all : List Tree) × (read ≡ Ok all) × Holds all
+
+-- a list holds the items so far, and reading goes on at a place of the text
+abbrev pub IsAt : List ℕ → ℕ → (List Tree → Type 0) → Result (List Tree) Fault → Type 0
+IsAt text at Holds reading = (items : List Tree) × Holds items × (reading ≡ read items 0 (drop at text))
 
 -- reading goes on behind what was read
-abbrev pub GoesOn : Result (Bor (List ℕ)) Failure → Result (List Tree) Fault → List Tree → Type 0
-GoesOn (Ok rest) reading items = reading ≡ read items 0 rest.now
-GoesOn (Err e) reading items = Fails e reading
+abbrev pub GoesOn : Bool → List ℕ → (List Tree → Type 0) → Result ℕ Failure → Result (List Tree) Fault → Type 0
+GoesOn can_refuse text Holds (Ok at) reading = IsAt text at Holds reading
+GoesOn can_refuse text Holds (Err e) reading = Fails can_refuse e reading

@@ -3,13 +3,14 @@
 //! The conversions are those of POSIX.1-2017 but `%Z`, and of GNU `%k`, `%l`, `%N`, `%P`, `%s` and
 //! `%:z`. A number takes one flag: `-` for no padding, `_` for spaces, `0` for zeros. A year has at
 //! least four digits, unless a flag says otherwise.
-ghost use Rattle.std.specs.Prelude.{◌≡◌, ◌∷◌, ◌++◌, ◌<◌, [], length, map, Ok, IfOk, IfErr, OnOk};
-ghost use Rattle.time_below.specs.Tree.{owned_tree};
+ghost use Rattle.std.specs.Prelude.{◌≡◌, ◌+◌, ◌<◌, ◌≤◌, ℕ, List, [], length, drop, slice_range, Ok, IfOk, IfErr, OnOk, IsTrue};
+ghost use Rattle.time_below.specs.Tree.{Tree, owned_tree};
 ghost use Rattle.time_describe.specs.Conversions.{composed, offset};
+ghost use Rattle.time_describe.specs.Items.{Adds};
 ghost use Rattle.time_describe.specs.Strftime.{described, read};
-ghost use Rattle.time_describe.specs.StrftimeOutcome.{items_of_part, tree_of, Says, IsWithin, Gives, GoesOn};
+ghost use Rattle.time_describe.specs.StrftimeOutcome.{items_of_part, tree_of, Fails, GoesOn, IsFound, IsWithin, MayRefuse, Says};
 
-use crate::building::{put_component, put_literal};
+use crate::items::{Items, OwnedList};
 use crate::literal::MOST_ITEMS;
 use crate::pieces::first_and_rest;
 use std::alloc::{AllocError, Global};
@@ -41,50 +42,43 @@ pub enum InvalidStrftime {
 }
 
 /// Adds the hours of the offset with their sign, perhaps a colon, and the minutes.
-fn put_offset(
-    alloc: Global,
-    items: &mut Vec<OwnedFormatItem>,
-    with_colon: bool,
-) -> Result<(), AllocError>
-    ensures { OnOk result (map owned_tree items.new.items ≡ map owned_tree items.old.items ++ offset with_colon) }
+fn put_offset<I: Items>(items: &mut I, with_colon: bool) -> Result<(), AllocError>
+    ensures put { OnOk result ((text : List ℕ)
+        → Adds (I.Holds text) items.old items.new (offset with_colon)) }
+    ensures refusal { IfErr result (λ _. IsTrue I.can_refuse) }
+    ensures lender { I.lender items.new ≡ I.lender items.old }
 {
-    put_component(
-        items,
-        Component::OffsetHour(modifier::OffsetHour {
-            padding: Padding::Zero,
-            sign_is_mandatory: true,
-        }),
-    )?;
+    items.put_component(Component::OffsetHour(modifier::OffsetHour {
+        padding: Padding::Zero,
+        sign_is_mandatory: true,
+    }))?;
     if with_colon {
-        put_literal(alloc, items, b":")?;
+        items.put_byte(b':')?;
     }
-    put_component(
-        items,
-        Component::OffsetMinute(modifier::OffsetMinute {
-            padding: Padding::Zero,
-        }),
-    )
+    items.put_component(Component::OffsetMinute(modifier::OffsetMinute {
+        padding: Padding::Zero,
+    }))?;
+    Ok(())
 }
 
 /// Adds the components of a composition, and the bytes between them.
-fn put_composed(
-    alloc: Global,
-    items: &mut Vec<OwnedFormatItem>,
-    text: &[u8],
-) -> Result<(), AllocError>
-    ensures { OnOk result (map owned_tree items.new.items ≡ map owned_tree items.old.items ++ composed text.now) }
+fn put_composed<I: Items>(items: &mut I, text: &[u8]) -> Result<(), AllocError>
+    ensures put { OnOk result ((of : List ℕ)
+        → Adds (I.Holds of) items.old items.new (composed text.now)) }
+    ensures refusal { IfErr result (λ _. IsTrue I.can_refuse) }
+    ensures lender { I.lender items.new ≡ I.lender items.old }
 {
     let mut rest = text;
     'parts: while let Some((first, after)) = first_and_rest(rest) {
         match first_and_rest(after) {
             Some((letter, behind)) if first == b'%' => {
                 if let Some(component) = component_of(letter) {
-                    put_component(items, component)?;
+                    items.put_component(component)?;
                 }
                 rest = behind;
             }
             _ => {
-                put_literal(alloc, items, &[first])?;
+                items.put_byte(first)?;
                 rest = after;
             }
         }
@@ -92,53 +86,86 @@ fn put_composed(
     Ok(())
 }
 
-/// Adds the items of a part.
-fn put_part(
-    alloc: Global,
-    items: &mut Vec<OwnedFormatItem>,
+/// Adds the items of a part, to which so many bytes of the text belong, from a place on.
+fn put_part<I: Items>(
+    items: &mut I,
+    text: &[u8],
+    start: usize,
+    len: usize,
     part: Part<'_>,
 ) -> Result<(), AllocError>
-    ensures { OnOk result (map owned_tree items.new.items ≡ map owned_tree items.old.items ++ items_of_part part.entry) }
+    requires within { start + len ≤ length text.now }
+    ensures put { OnOk result (Adds (I.Holds text.now) items.old items.new
+        (items_of_part (slice_range text.now start (start + len)) part.entry)) }
+    ensures refusal { IfErr result (λ _. IsTrue I.can_refuse) }
+    ensures lender { I.lender items.new ≡ I.lender items.old }
 {
     match part {
-        Part::Literal(bytes) => put_literal(alloc, items, bytes),
-        Part::Component(component) => put_component(items, component),
-        Part::Offset(with_colon) => put_offset(alloc, items, with_colon),
-        Part::Composition(text) => put_composed(alloc, items, text),
+        Part::Literal => items.put_literal(text, start, len)?,
+        Part::Byte(byte) => items.put_byte(byte)?,
+        Part::Component(component) => items.put_component(component)?,
+        Part::Offset(with_colon) => put_offset(items, with_colon)?,
+        Part::Composition(composition) => put_composed(items, composition)?,
     }
+    Ok(())
 }
 
-/// Reads the first part of the text, and returns what follows it.
-fn step<'a>(
-    alloc: Global,
-    items: &mut Vec<OwnedFormatItem>,
-    text: &'a [u8],
-) -> Result<&'a [u8], Failure>
-    requires { 0 < length text.now }
-    ensures goes_on { GoesOn result (read (map owned_tree items.old.items) 0 text.now) (map owned_tree items.new.items) }
-    ensures shorter { IfOk result (λ rest. length rest.now < length text.now) }
+/// Reads the part at a place of the text, and returns the place behind it.
+fn step<I: Items>(items: &mut I, text: &[u8], at: usize) -> Result<usize, Failure>
+    requires { at < length text.now }
+    ensures goes_on { (before : List Tree) → I.Holds text.now items.old before
+        → GoesOn I.can_refuse text.now (I.Holds text.now items.new) result
+        (read before 0 (drop at text.now)) }
+    ensures further { IfOk result (λ next. at < next) }
+    ensures within { IfOk result (λ next. next ≤ length text.now) }
+    ensures lender { I.lender items.new ≡ I.lender items.old }
 {
-    let (part, behind) = first_part(text)?;
-    put_part(alloc, items, part)?;
+    let (part, behind) = first_part(&text[at..])?;
+    put_part(items, text, at, behind + 1, part)?;
     if items.len() > MOST_ITEMS {
         return Err(Failure::Invalid(Fault {
             reason: StrftimeReason::TooManyItems,
-            left: text.len(),
+            left: text.len() - at,
         }));
     }
-    Ok(&text[behind + 1..])
+    Ok(at + behind + 1)
 }
 
-/// The items of a text.
-fn items(alloc: Global, text: &[u8]) -> Result<Vec<OwnedFormatItem>, Failure>
-    ensures { Gives (λ v. map owned_tree v.items) result (described text.now) }
+/// Adds the items of a text.
+fn put_all<I: Items>(items: &mut I, text: &[u8]) -> Result<(), Failure>
+    requires { I.Holds text.now items.old [] }
+    ensures found { OnOk result (IsFound (described text.now) (I.Holds text.now items.new)) }
+    ensures fails { IfErr result (λ e. Fails I.can_refuse e (described text.now)) }
+    ensures lender { I.lender items.new ≡ I.lender items.old }
 {
-    let mut items = Vec::new(alloc);
-    let mut rest = text;
-    'steps: while !rest.is_empty() {
-        rest = step(alloc, &mut items, rest)?;
+    let mut at = 0;
+    'steps: while at < text.len() {
+        at = step(items, text, at)?;
     }
-    Ok(items)
+    Ok(())
+}
+
+/// Adds the items that a text in the syntax of strftime describes to a list that has none.
+///
+/// Each run of bytes other than `%` is one literal. Each conversion is the items that
+/// `specs/Conversions.antt` lists for it. There are at most 65,536 items. After an error the list may
+/// hold the items before the fault.
+pub fn describe_strftime<I: Items>(items: &mut I, text: &[u8]) -> Result<(), InvalidStrftime>
+    requires { I.Holds text.now items.old [] }
+    ensures found { OnOk result (IsFound (described text.now) (I.Holds text.now items.new)) }
+    ensures says { IfErr result (Says (length text.now) (described text.now)) }
+    ensures inside { IfErr result (IsWithin (length text.now)) }
+    ensures refusal { IfErr result (MayRefuse I.can_refuse) }
+    ensures lender { I.lender items.new ≡ I.lender items.old }
+{
+    match put_all(items, text) {
+        Ok(()) => Ok(()),
+        Err(Failure::OutOfMemory) => Err(InvalidStrftime::OutOfMemory),
+        Err(Failure::Invalid(fault)) => Err(InvalidStrftime::Invalid {
+            reason: fault.reason,
+            index: text.len().saturating_sub(fault.left),
+        }),
+    }
 }
 
 /// The description that a text in the syntax of strftime is.
@@ -150,12 +177,9 @@ pub fn parse_strftime_owned(alloc: Global, text: &[u8]) -> Result<OwnedFormatIte
     ensures says { IfErr result (Says (length text.now) (described text.now)) }
     ensures inside { IfErr result (IsWithin (length text.now)) }
 {
-    match items(alloc, text) {
-        Ok(items) => Ok(OwnedFormatItem::Compound(items)),
-        Err(Failure::OutOfMemory) => Err(InvalidStrftime::OutOfMemory),
-        Err(Failure::Invalid(fault)) => Err(InvalidStrftime::Invalid {
-            reason: fault.reason,
-            index: text.len().saturating_sub(fault.left),
-        }),
+    let mut items = OwnedList::new(alloc);
+    match describe_strftime(&mut items, text) {
+        Ok(()) => Ok(OwnedFormatItem::Compound(items.into_items())),
+        Err(error) => Err(error),
     }
 }

@@ -6,12 +6,14 @@ use crate::{
 };
 use chrono::SecondsFormat;
 use movaliren::{
-    stamp, Batch, DateKind, DecimalSign, Format, Iso8601, Iso8601By, LogTime, Moment, Parts,
+    stamp, Batch, DateKind, DecimalSign, Description, Format, Iso8601, Iso8601By, LogTime, Moment, Parts,
     Rfc2822, Rfc2822Local, Rfc3339, Rfc3339Local, Stamp, TimePrecision, UtcMoment,
 };
 use std::cell::RefCell;
 use time::format_description::{well_known, FormatItem};
 use time::macros::format_description;
+
+const CONVERSIONS: &str = "%Y-%m-%d %H:%M:%S";
 
 const THREE: Iso8601By = Iso8601By::new().time_precision(TimePrecision::Second, 3);
 
@@ -313,6 +315,10 @@ fn other_calls() -> Ways {
         (
             "stamp:stamp",
             measured(|moment| stamp(moment).map_or(0, |text| text.len())),
+        ),
+        (
+            "describe_strftime:11-items",
+            measured(|_| Description::parse_strftime(CONVERSIONS).map_or(0, |it| it.width())),
         ),
         ("width:11-items", measured(move |_| built.width())),
     ]

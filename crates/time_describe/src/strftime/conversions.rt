@@ -1,5 +1,5 @@
 //! The conversions of strftime, by the letter that each one has.
-ghost use Rattle.std.specs.Prelude.{◌≡◌, option_map};
+ghost use Rattle.std.specs.Prelude.{◌≡◌, ◌∷◌, [], option_map};
 ghost use Rattle.time_describe.specs.Conversions.{flag_named, number, word, sign, composition, width, refusal};
 
 use crate::strftime::fault::StrftimeReason;
@@ -151,13 +151,13 @@ pub fn composition(letter: u8) -> Option<&'static [u8]>
 
 /// The byte that a letter stands for.
 #[tactic(auto, unfolding(crate::specs::Conversions::sign))]
-pub fn sign(letter: u8) -> Option<&'static [u8]>
-    ensures { option_map (λ bytes. bytes.now) result ≡ sign letter }
+pub fn sign(letter: u8) -> Option<u8>
+    ensures { option_map (λ byte. byte ∷ []) result ≡ sign letter }
 {
     match letter {
-        b'%' => Some(b"%".as_slice()),
-        b'n' => Some(b"\n".as_slice()),
-        b't' => Some(b"\t".as_slice()),
+        b'%' => Some(b'%'),
+        b'n' => Some(b'\n'),
+        b't' => Some(b'\t'),
         _ => None,
     }
 }

@@ -1,5 +1,5 @@
 //! The parts of a text in the syntax of strftime, before anything is made of them.
-ghost use Rattle.std.specs.Prelude.{◌≡◌, ◌≤◌, ◌<◌, ◌+◌, length, IfOk, option_map, position};
+ghost use Rattle.std.specs.Prelude.{◌≡◌, ◌≤◌, ◌<◌, ◌+◌, ℕ, List, length, IfOk, option_map, position};
 ghost use Rattle.std.specs.List.{position_or_len};
 ghost use Rattle.time_describe.specs.Conversions.{component_of, is_offered, refusal_behind_flag, items_of};
 ghost use Rattle.time_describe.specs.Strftime.{is_percent, flagged, with_colon, with_width, conversion, first_part};
@@ -14,8 +14,10 @@ use time_below::format_description::{Component, modifier};
 /// A part of a text.
 #[derive(Clone, Copy)]
 pub enum Part<'a> {
-    /// Bytes that stand for themselves.
-    Literal(&'a [u8]),
+    /// The bytes that belong to it, which stand for themselves.
+    Literal,
+    /// One byte.
+    Byte(u8),
     /// One component.
     Component(Component),
     /// The offset from UTC, and whether a colon stands before its minutes.
@@ -57,13 +59,13 @@ fn refusal_behind_flag(letter: u8) -> StrftimeReason
 
 /// What a letter stands for that has no flag.
 fn part_of(letter: u8) -> Option<Part<'static>>
-    ensures { option_map items_of_part result ≡ items_of letter }
+    ensures { (own : List ℕ) → option_map (items_of_part own) result ≡ items_of letter }
 {
     if let Some(component) = component_of(letter) {
         return Some(Part::Component(component));
     }
-    if let Some(bytes) = sign(letter) {
-        return Some(Part::Literal(bytes));
+    if let Some(byte) = sign(letter) {
+        return Some(Part::Byte(byte));
     }
     if letter == b'z' {
         return Some(Part::Offset(false));
@@ -74,7 +76,7 @@ fn part_of(letter: u8) -> Option<Part<'static>>
 /// What is behind a flag, and that it takes two bytes behind the `%`.
 #[tactic(auto, unfolding(crate::specs::Strftime::flagged))]
 fn flagged<'a>(flag: Padding, bytes: &'a [u8]) -> Result<(Part<'a>, usize), Fault>
-    ensures part { front_of result ≡ flagged (Some flag) bytes.now }
+    ensures part { (text : List ℕ) → front_of text result ≡ flagged (Some flag) bytes.now }
     ensures within { IfOk result (λ x. x.1 ≤ length bytes.now + 1) }
 {
     let Some((letter, _)) = first_and_rest(bytes) else {
@@ -98,7 +100,7 @@ fn flagged<'a>(flag: Padding, bytes: &'a [u8]) -> Result<(Part<'a>, usize), Faul
 #[tactic(auto, unfolding(crate::specs::Strftime::with_colon))]
 fn with_colon<'a>(left: usize, bytes: &'a [u8]) -> Result<(Part<'a>, usize), Fault>
     requires { left ≡ length bytes.now + 1 }
-    ensures part { front_of result ≡ with_colon bytes.now }
+    ensures part { (text : List ℕ) → front_of text result ≡ with_colon bytes.now }
     ensures within { IfOk result (λ x. x.1 ≤ length bytes.now + 1) }
 {
     match first_and_rest(bytes) {
@@ -121,7 +123,7 @@ fn with_width<'a>(
     bytes: &'a [u8],
 ) -> Result<(Part<'a>, usize), Fault>
     requires { left ≡ length bytes.now + 1 }
-    ensures part { front_of result ≡ with_width digit (Some digits) bytes.now }
+    ensures part { (text : List ℕ) → front_of text result ≡ with_width digit (Some digits) bytes.now }
     ensures within { IfOk result (λ x. x.1 ≤ length bytes.now + 1) }
 {
     match first_and_rest(bytes) {
@@ -143,7 +145,7 @@ fn with_width<'a>(
 /// What is behind a `%`, and how many bytes belong to it.
 #[tactic(auto, unfolding(crate::specs::Strftime::conversion))]
 fn conversion<'a>(bytes: &'a [u8]) -> Result<(Part<'a>, usize), Fault>
-    ensures part { front_of result ≡ conversion bytes.now }
+    ensures part { (text : List ℕ) → front_of text result ≡ conversion bytes.now }
     ensures within { IfOk result (λ x. x.1 ≤ length bytes.now) }
 {
     let Some((first, rest)) = first_and_rest(bytes) else {
@@ -194,7 +196,7 @@ fn literal_len(bytes: &[u8]) -> usize
 #[tactic(auto, unfolding(crate::specs::Strftime::first_part))]
 pub fn first_part<'a>(text: &'a [u8]) -> Result<(Part<'a>, usize), Fault>
     requires { 0 < length text.now }
-    ensures part { front_of result ≡ first_part text.now }
+    ensures part { front_of text.now result ≡ first_part text.now }
     ensures within { IfOk result (λ x. x.1 < length text.now) }
 {
     let Some((first, rest)) = first_and_rest(text) else {
@@ -204,5 +206,5 @@ pub fn first_part<'a>(text: &'a [u8]) -> Result<(Part<'a>, usize), Fault>
         return conversion(rest);
     }
     let behind = literal_len(rest);
-    Ok((Part::Literal(&text[..behind + 1]), behind))
+    Ok((Part::Literal, behind))
 }

@@ -1,10 +1,14 @@
-use Rattle.std.proofs.Common.{◌≡◌, ◌++◌, length, map}
-use Rattle.time_below.specs.Tree.{owned_tree}
+use Rattle.std.proofs.Common.{◌≡◌, ◌++◌, ℕ, List, length}
+use Rattle.time_below.specs.Tree.{Tree}
 use Rattle.time_describe.specs.Conversions.{composed}
 use Rattle.time_describe.proofs.strftime.put_composed.Given as goal
 
 abbrev pub invariant-parts : goal.invariant-parts
-invariant-parts l = map owned_tree l.items.items ++ composed l.rest ≡ map owned_tree l.initial.items.items ++ composed l.text
+invariant-parts g l = record {
+  along : (of : List ℕ) (before : List Tree) → g.I.Items.Holds of l.fn.items before
+      → (now : List Tree) × g.I.Items.Holds of l.items now × (now ++ composed l.rest ≡ before ++ composed l.text);
+  lender : g.I.Items.lender l.items ≡ g.I.Items.lender l.fn.items;
+}
 
 abbrev pub decreases-parts : goal.decreases-parts
-decreases-parts l = length l.rest
+decreases-parts g l = length l.rest
