@@ -1,11 +1,13 @@
 //! Descriptions that cross as data, whose texts allocate nothing.
-ghost use Rattle.std.specs.Prelude.{◌≡◌, IfOk, MatchOption, []};
+ghost use Rattle.std.specs.Prelude.{◌≡◌, IfOk, MatchOption, [], length};
 ghost use Rattle.movaliren_c.specs.Answer.{Answers};
 ghost use Rattle.movaliren_c.specs.Items.{EndsItem, EndsOrIsLost, FitsOrIsLost, IsDescribed, IsPut, IsShown, ItemEndsOrIsLost, item_tree, part_tree, reason_before, trees_of, width_answer};
 ghost use Rattle.movaliren_c.specs.Value.{date_value, moment_value, timestamp_value};
 ghost use Rattle.time_below.specs.Facts.{Facts, facts_of_date, facts_of_offset_date_time, facts_of_timestamp};
-ghost use Rattle.time_below.specs.Width.{tree_width};
-ghost use Rattle.time_fmt.specs.Description.{tree_outcome};
+ghost use Rattle.time_below.specs.Width.{component_width, tree_width};
+ghost use Rattle.time_fmt.specs.Description.{component_outcome, tree_outcome};
+ghost use Rattle.time_fmt.specs.Ends.{Ends};
+ghost use Rattle.time_fmt.specs.Sink.{Fits, Puts, Ready};
 
 use crate::calendar_date::CalendarDate;
 use crate::item::{Item, Part, part_of};
@@ -19,7 +21,9 @@ use time_below::Date;
 use time_below::format_description::modifier::Padding;
 use time_below::format_description::{component_width, modifier};
 use time_fmt::writers::write_bytes;
-use time_fmt::{Before, Refused, RoomSink, Sink, end_component, write_into_room, write_part};
+use time_fmt::{
+    Before, Modifier, Refused, RoomSink, Sink, end_component, write_into_room, write_part,
+};
 use time_provide::ComponentProvider;
 
 // The greatest width that is returned. No buffer is so long.
@@ -35,6 +39,13 @@ const LONGEST: usize = 18;
 macro_rules! usual {
     ($name:ident: $($choice:ident),+; $output:ident, $value:ident, $state:ident) => {
         Some(write_part(modifier::$name { $($choice),+ }, $output, $value, $state))
+    };
+}
+
+/// Writes a component with these choices by a call.
+macro_rules! by_call {
+    ($name:ident: $($choice:ident),+; $output:ident, $value:ident, $state:ident) => {
+        Some(write_apart(modifier::$name { $($choice),+ }, $output, $value, $state))
     };
 }
 
@@ -217,7 +228,7 @@ fn write_usual<S: Sink, V: ComponentProvider>(
     ensures agrees { V.agrees state.new value.now }
 {
     if item.kind == 255 {
-        return write_literal(item, texts, output);
+        return write_usual_text(item, texts, output);
     }
     if item.padding != 0 || item.flag != 0 || item.digits != 0 || output.room() < LONGEST {
         return None;
@@ -226,11 +237,14 @@ fn write_usual<S: Sink, V: ComponentProvider>(
     match item.kind {
         1 => usual!(Day: padding; output, value, state),
         2 => usual!(MonthShort: case_sensitive; output, value, state),
+        3 => by_call!(MonthLong: case_sensitive; output, value, state),
         4 => usual!(MonthNumerical: padding; output, value, state),
+        6 => usual!(WeekdayShort: case_sensitive; output, value, state),
+        7 => by_call!(WeekdayLong: case_sensitive; output, value, state),
         13 =>
             usual!(CalendarYearFullExtendedRange: padding, sign_is_mandatory; output, value, state),
         14 =>
-            usual!(CalendarYearFullStandardRange: padding, sign_is_mandatory; output, value, state),
+            by_call!(CalendarYearFullStandardRange: padding, sign_is_mandatory; output, value, state),
         24 => usual!(Hour24: padding; output, value, state),
         25 => usual!(Minute: padding; output, value, state),
         27 => usual!(Second: padding; output, value, state),
@@ -243,20 +257,58 @@ fn write_usual<S: Sink, V: ComponentProvider>(
     }
 }
 
+/// Writes a component to the sink taken out, so that a call does not keep the loop's in memory.
+#[inline(always)]
+fn write_apart<M: Modifier, S: Sink, V: ComponentProvider>(
+    part: M,
+    output: &mut S,
+    value: &V,
+    state: &mut V::State,
+) -> Result<(), Refused>
+    requires ready { Ready (S.buffer output.old) (component_width (M.component_of part))
+        (V.agrees state.old value.now) }
+    ensures writes { Ends (component_width (M.component_of part)) (S.buffer output.old) (S.buffer output.new) result
+        (component_outcome (M.component_of part) (V.facts value.now)) × V.agrees state.new value.now }
+{
+    let mut apart = output.take_out();
+    let answer = write_part(part, &mut apart, value, state);
+    output.put_back(apart);
+    answer
+}
+
 /// Writes a literal if it fits, or else nothing.
 #[inline(always)]
-fn write_literal<S: Sink>(item: &Item, texts: &[u8], output: &mut S) -> Option<Result<(), Refused>>
+fn write_usual_text<S: Sink>(
+    item: &Item,
+    texts: &[u8],
+    output: &mut S,
+) -> Option<Result<(), Refused>>
     ensures { MatchOption result (S.buffer output.new ≡ S.buffer output.old)
         (λ answer. (f : Facts) → EndsItem (item_tree texts.now item.now) f
         (S.buffer output.old) (S.buffer output.new) answer) }
 {
     match part_of(item, texts) {
         Ok(Part::Text(text)) if text.len() <= output.room() => {
-            write_bytes(output, text);
+            write_fitting(output, text);
             Some(Ok(()))
         }
         _ => None,
     }
+}
+
+/// Writes a text that fits. A long one is written to the sink taken out, since a call writes it.
+#[inline(always)]
+fn write_fitting<S: Sink>(output: &mut S, text: &[u8]) -> usize
+    requires room { Fits (S.buffer output.old) (length text.now) }
+    ensures writes { Puts (S.buffer output.old) (S.buffer output.new) result text.now }
+{
+    if text.len() <= 2 {
+        return write_bytes(output, text);
+    }
+    let mut taken = output.take_out();
+    let count = write_bytes(&mut taken, text);
+    output.put_back(taken);
+    count
 }
 
 /// Writes any item if its text fits, and returns the number of bytes that are lost if it does not.
