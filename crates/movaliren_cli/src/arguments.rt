@@ -66,62 +66,78 @@ fn option<'a>(alloc: Global, name: &'a str, value: &'a str, help: &'a str) -> Ar
         .help(help)
 }
 
-/// The description and the options of all jobs.
+/// The command with one option more.
+fn with<'a>(command: Command<'a>, option: Arg<'a>) -> Result<Command<'a>, Error> {
+    Ok(command.arg(option)?)
+}
+
+/// The command with options of which at most one is given.
+fn with_choice<'a>(
+    alloc: Global,
+    command: Command<'a>,
+    name: &'a str,
+    options: &[&'a str],
+) -> Result<Command<'a>, Error> {
+    let group = ArgGroup::new(alloc, name).args(options)?;
+    Ok(command.group(group)?)
+}
+
+/// The command with the description and the options of all jobs.
 fn with_options<'a>(alloc: Global, command: Command<'a>) -> Result<Command<'a>, Error> {
     let description = Arg::new(alloc, "DESCRIPTION")
         .help("What the text of a moment looks like")
         .default_value("rfc3339");
-    let command = with_offset(alloc, command.after_help(DESCRIPTIONS).arg(description)?)?;
-    let command = with_zone(alloc, command)?;
-    let clock = ArgGroup::new(alloc, "clock");
-    let clock = clock.arg("utc")?.arg("offset")?.arg("zone")?.arg("local")?;
-    Ok(command.group(clock)?)
+    let command = with(command.after_help(DESCRIPTIONS), description)?;
+    let command = with_clock(alloc, command)?;
+    with_choice(alloc, command, "clock", &["utc", "offset", "zone", "local"])
 }
 
-/// The options for UTC and for an offset from it.
-fn with_offset<'a>(alloc: Global, command: Command<'a>) -> Result<Command<'a>, Error> {
+/// The command with the options for a clock.
+fn with_clock<'a>(alloc: Global, command: Command<'a>) -> Result<Command<'a>, Error> {
     let utc = flag(alloc, "utc", "Shows UTC, which is the default").short('u');
-    let command = command.arg(utc)?;
+    let command = with(command, utc)?;
     let help = "Shows the time at an offset such as +05:30";
     let offset = option(alloc, "offset", "OFFSET", help).allow_hyphen_values(true);
-    Ok(command.arg(offset)?)
-}
-
-/// The options for a zone.
-fn with_zone<'a>(alloc: Global, command: Command<'a>) -> Result<Command<'a>, Error> {
+    let command = with(command, offset)?;
     let help = "Shows the time in a zone such as Europe/Berlin";
-    let command = command.arg(option(alloc, "zone", "NAME", help).short('z'))?;
+    let command = with(command, option(alloc, "zone", "NAME", help).short('z'))?;
     let help = "Shows the time in the zone of the system, or of the variable TZ";
-    Ok(command.arg(flag(alloc, "local", help).short('l'))?)
+    with(command, flag(alloc, "local", help).short('l'))
 }
 
-/// The options for numbers.
+/// The command with the options for numbers.
 fn with_numbers<'a>(alloc: Global, command: Command<'a>) -> Result<Command<'a>, Error> {
     let help = "How many digits a number has at least [default: 9]";
     let digits = option(alloc, "digits", "N", help)
         .short('d')
         .value_parser(value_parser!(u8).range(1..20));
-    let command = with_units(alloc, command.arg(digits)?)?;
-    let unit = ArgGroup::new(alloc, "unit");
-    let unit = unit
-        .arg("milliseconds")?
-        .arg("microseconds")?
-        .arg("nanoseconds")?;
-    Ok(command.group(unit)?)
+    let command = with_units(alloc, with(command, digits)?)?;
+    with_choice(
+        alloc,
+        command,
+        "unit",
+        &["milliseconds", "microseconds", "nanoseconds"],
+    )
 }
 
-/// The options for the unit of a number.
+/// The command with the options for the unit of a number.
 fn with_units<'a>(alloc: Global, command: Command<'a>) -> Result<Command<'a>, Error> {
     let help = "Numbers are milliseconds, and not seconds";
-    let command = command.arg(flag(alloc, "milliseconds", help))?;
-    let command = command.arg(flag(alloc, "microseconds", "Numbers are microseconds"))?;
-    Ok(command.arg(flag(alloc, "nanoseconds", "Numbers are nanoseconds"))?)
+    let command = with(command, flag(alloc, "milliseconds", help))?;
+    let command = with(
+        command,
+        flag(alloc, "microseconds", "Numbers are microseconds"),
+    )?;
+    with(
+        command,
+        flag(alloc, "nanoseconds", "Numbers are nanoseconds"),
+    )
 }
 
-/// The option for lines without a moment.
+/// The command with the option for lines without a moment.
 fn with_quiet<'a>(alloc: Global, command: Command<'a>) -> Result<Command<'a>, Error> {
     let help = "Does not count the lines that pass as they are";
-    Ok(command.arg(flag(alloc, "quiet", help).short('q'))?)
+    with(command, flag(alloc, "quiet", help).short('q'))
 }
 
 /// The job `now`.
@@ -146,15 +162,23 @@ fn read_back<'a>(alloc: Global) -> Result<Command<'a>, Error> {
     )
 }
 
+/// The command with one job more, if that could be made.
+fn with_job<'a>(
+    command: Command<'a>,
+    job: Result<Command<'a>, Error>,
+) -> Result<Command<'a>, Error> {
+    Ok(command.subcommand(job?)?)
+}
+
 fn command<'a>(alloc: Global) -> Result<Command<'a>, Error> {
     let command = Command::new(alloc, "movaliren")
         .version("0.1.0")
         .about("Formats the moments of the lines of standard input")
         .subcommand_required(true)
         .arg_required_else_help(true);
-    let command = command.subcommand(now(alloc)?)?;
-    let command = command.subcommand(unix(alloc)?)?;
-    Ok(command.subcommand(read_back(alloc)?)?)
+    let command = with_job(command, now(alloc))?;
+    let command = with_job(command, unix(alloc))?;
+    with_job(command, read_back(alloc))
 }
 
 fn clock_of<'a>(matches: &ArgMatches<'a>) -> Clock<'a> {
@@ -189,25 +213,34 @@ fn least_of(matches: &ArgMatches<'_>) -> usize {
     }
 }
 
-/// Reads the words of the command line.
-pub fn read<'a>(alloc: Global, words: &'a [String]) -> Result<Asked<'a>, Error> {
-    let matches = command(alloc)?.try_get_matches_from(words)?;
-    let (name, below) = match matches.subcommand() {
-        Some(found) => found,
-        None => return Err(command(alloc)?.error(ErrorKind::MissingSubcommand, "no job")?),
-    };
+/// What a job of this name and its words ask for.
+fn asked_of<'a>(name: &str, words: &ArgMatches<'a>) -> Asked<'a> {
     let job = match name {
         "now" => Job::Now,
         "read" => Job::Read,
         _ => Job::Unix {
-            unit: unit_of(below),
-            least: least_of(below),
+            unit: unit_of(words),
+            least: least_of(words),
         },
     };
-    Ok(Asked {
+    Asked {
         job,
-        description: below.get_str("DESCRIPTION").unwrap_or("rfc3339"),
-        clock: clock_of(below),
-        is_quiet: below.get_flag("quiet"),
-    })
+        description: words.get_str("DESCRIPTION").unwrap_or("rfc3339"),
+        clock: clock_of(words),
+        is_quiet: words.get_flag("quiet"),
+    }
+}
+
+/// The refusal of words without a job.
+fn no_job(alloc: Global) -> Result<Error, Error> {
+    Ok(command(alloc)?.error(ErrorKind::MissingSubcommand, "no job")?)
+}
+
+/// Reads the words of the command line.
+pub fn read<'a>(alloc: Global, words: &'a [String]) -> Result<Asked<'a>, Error> {
+    let matches = command(alloc)?.try_get_matches_from(words)?;
+    match matches.subcommand() {
+        Some((name, below)) => Ok(asked_of(name, below)),
+        None => Err(no_job(alloc)?),
+    }
 }

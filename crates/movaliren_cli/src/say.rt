@@ -103,20 +103,31 @@ pub fn refuse_local(rt: &HostRuntime, fault: ZoneError) -> ExitCode {
     ExitCode::from(USAGE)
 }
 
-/// The text with its control characters as spaces, and below it a mark at this byte.
-fn marked(rt: &HostRuntime, text: &str, index: usize) -> Result<String, AllocError> {
-    let mut shown = String::from_str(rt.alloc(), "  ")?;
+/// Appends the text with its control characters as spaces.
+fn push_line(shown: &mut String, text: &str) -> Result<(), AllocError> {
     for letter in text.chars() {
         shown.push(if letter.is_control() { ' ' } else { letter })?;
     }
-    shown.push_str("\n  ")?;
+    Ok(())
+}
+
+/// Appends a mark that stands below this byte of the text.
+fn push_mark(shown: &mut String, text: &str, index: usize) -> Result<(), AllocError> {
     for (at, _) in text.char_indices() {
         if at >= index {
             break;
         }
         shown.push(' ')?;
     }
-    shown.push('^')?;
+    shown.push('^')
+}
+
+/// The text, and below it a mark at this byte.
+fn marked(rt: &HostRuntime, text: &str, index: usize) -> Result<String, AllocError> {
+    let mut shown = String::from_str(rt.alloc(), "  ")?;
+    push_line(&mut shown, text)?;
+    shown.push_str("\n  ")?;
+    push_mark(&mut shown, text, index)?;
     Ok(shown)
 }
 

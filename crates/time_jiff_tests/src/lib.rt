@@ -1,6 +1,7 @@
 //! Worked rows of `time_jiff`, by public calls alone, and the recipes that format a value of `jiff`.
 #![tactic(auto)]
 
-pub mod recipes;
+#[cfg(test)]
+mod recipes;
 #[cfg(test)]
 mod rows;
