@@ -34,8 +34,7 @@
 
 #define MOVALIREN_VERSION "0.1.0"
 
-/* The same as one number, for #if: 10,000 for the first part, 100 for the second, and the third.
- * movaliren_version returns that of the library that the program runs with. */
+/* The same as one number, for #if: 10,000 for the first part, 100 for the second, and the third. */
 #define MOVALIREN_VERSION_NUMBER 100
 
 /* How this compiler names a function that each file may have. */
@@ -81,6 +80,7 @@ enum movaliren_error {
     MOVALIREN_ERROR_MANY_ITEMS = -25
 };
 
+/* The version of the library that the program runs with, as a number like MOVALIREN_VERSION_NUMBER. */
 uint32_t movaliren_version(void);
 
 /* Writes the reason in words, which are those of movaliren_error_text, for programs that cannot call what stands
@@ -274,7 +274,8 @@ ptrdiff_t movaliren_rfc3339_utc(int64_t seconds, uint32_t nanosecond, void *room
 ptrdiff_t movaliren_rfc2822_utc(int64_t seconds, uint32_t nanosecond, void *room, size_t room_len);
 ptrdiff_t movaliren_iso8601_utc(int64_t seconds, uint32_t nanosecond, void *room, size_t room_len);
 
-/* A line of a log with milliseconds, as 1997-11-12T15:55:06.120Z:
+/* ISO 8601 by a configuration, of a moment in UTC. With three decimals it is the time of a line of a log, as
+ * 1997-11-12T15:55:06.120Z.
  *
  *     static const struct movaliren_iso_config milliseconds = MOVALIREN_ISO_DECIMALS(3);
  *     n = MOVALIREN_STRING(
@@ -293,7 +294,8 @@ ptrdiff_t movaliren_rfc2822_local(int64_t seconds, uint32_t nanosecond, int64_t 
 ptrdiff_t movaliren_iso8601_local(int64_t seconds, uint32_t nanosecond, int64_t offset, void *room,
     size_t room_len);
 
-/* A line of a log in local time, as 1997-11-12T16:55:06.120+01:00:
+/* ISO 8601 by a configuration, of a moment by its local date and time. With three decimals it is the time of a
+ * line of a log, as 1997-11-12T16:55:06.120+01:00.
  *
  *     struct tm local;
  *     localtime_r(&now.tv_sec, &local);
@@ -560,12 +562,14 @@ struct movaliren_fault {
     uint8_t byte;   /* the letter that the reason names, or 0 */
 };
 
-/* Reads a description in the syntax of strftime into items, whose texts are cut from that text. Returns the number of items, at the start of the array; the fault is then unchanged. The text is
- * the `texts` of each call that is given these items.
+/* Reads a description in the syntax of strftime into items at the start of the array. Returns their number; the fault
+ * is then unchanged. The literals of the items are cut from the text: it is the `texts` of each call that is given
+ * these items. A conversion is at most 13 items, as %c is, and the text between two conversions is one.
  *
- * Or returns MOVALIREN_ERROR_BAD_DESCRIPTION and sets the fault; or MOVALIREN_ERROR_MANY_ITEMS where the array is too
- * short, and sets `items` of the fault to their number. Then the first item of the array is invalid: each call that is
- * given it returns MOVALIREN_ERROR_BAD_ITEM. A fault comes before a lack of room. */
+ * A text that is no description is MOVALIREN_ERROR_BAD_DESCRIPTION, and the fault says why. Where the array is too
+ * short, the call returns MOVALIREN_ERROR_MANY_ITEMS and sets `items` of the fault to the number of items. A text
+ * with both is MOVALIREN_ERROR_BAD_DESCRIPTION. After an error the first item of the array is invalid: each call that
+ * is given it returns MOVALIREN_ERROR_BAD_ITEM. */
 ptrdiff_t movaliren_describe_strftime(const void *text, size_t text_len,
     struct movaliren_item *items, size_t items_len, struct movaliren_fault *fault);
 
@@ -591,7 +595,8 @@ ptrdiff_t movaliren_fault_words(uint8_t reason, void *room, size_t room_len);
  *         fprintf(stderr, "%s\n", movaliren_fault_text(&line.fault, said));
  *     n = MOVALIREN_STRING(text, movaliren_by_utc, &line, now.tv_sec, (uint32_t)now.tv_nsec);
  *
- * One that was not made whole has a reason, which each call returns that is given it: it writes no part of the text. */
+ * A description that could not be read or built has a `reason`. A call that is given it returns the reason, and writes
+ * nothing. */
 struct movaliren_description {
     struct movaliren_item *items;
     size_t items_len, items_room;
@@ -709,6 +714,7 @@ MOVALIREN_INLINE void movaliren_refuse(struct movaliren_description *description
     }
 }
 
+/* Adds an item. After a reason nothing is added. An array that is full is MOVALIREN_ERROR_NO_ROOM. */
 MOVALIREN_INLINE void movaliren_add_item(
     struct movaliren_description *description, struct movaliren_item item)
 {
