@@ -6,8 +6,8 @@ use crate::{
 };
 use chrono::SecondsFormat;
 use movaliren::{
-    stamp, Batch, DateKind, DecimalSign, Description, Format, Iso8601, Iso8601By, LogTime, Moment, Parts,
-    Rfc2822, Rfc2822Local, Rfc3339, Rfc3339Local, Stamp, TimePrecision, UtcMoment,
+    stamp, Batch, DateKind, DecimalSign, Description, Format, Iso8601, Iso8601By, LogTime, Moment,
+    Parts, Rfc2822, Rfc2822Local, Rfc3339, Rfc3339Local, Stamp, TimePrecision, UtcMoment,
 };
 use std::cell::RefCell;
 use time::format_description::{well_known, FormatItem};
