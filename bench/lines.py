@@ -32,13 +32,13 @@ ROWS = [
     ("`unix --zone Europe/Berlin`", ["unix", "--zone", "Europe/Berlin"], LINE, None, 450),
     ("`unix rfc2822`", ["unix", "rfc2822"], LINE, None, 393),
     ("`unix iso8601`", ["unix", "iso8601"], LINE, None, 562),
-    ("`unix '%Y-%m-%d %H:%M:%S'`", ["unix", "%Y-%m-%d %H:%M:%S"], LINE, 520, 461),
+    ("`unix '%Y-%m-%d %H:%M:%S'`", ["unix", "%Y-%m-%d %H:%M:%S"], LINE, 520, 435),
     ("`unix '[year]-[month]-[day] [hour]:[minute]:[second]'`",
-     ["unix", "[year]-[month]-[day] [hour]:[minute]:[second]"], LINE, 520, 461),
+     ["unix", "[year]-[month]-[day] [hour]:[minute]:[second]"], LINE, 520, 435),
     ("`unix`, the number inside", ["unix"], AUDIT, 500, 547),
     ("`unix`, no number", ["unix", "-q"], PLAIN, None, 202),
-    ("`read '%H:%M:%S'`", ["read", "%H:%M:%S"], DOCKER, 600, 774),
-    ("`read --zone Europe/Berlin`", ["read", "--zone", "Europe/Berlin"], DOCKER, 600, 932),
+    ("`read '%H:%M:%S'`", ["read", "%H:%M:%S"], DOCKER, 600, 744),
+    ("`read --zone Europe/Berlin`", ["read", "--zone", "Europe/Berlin"], DOCKER, 600, 916),
     ("`now`", ["now"], PLAIN, 120, 120),
 ]
 
