@@ -203,10 +203,12 @@ impl Description {
         self.item(Item::Component(component.into()))
     }
 
-    /// Adds the decimals of the second. A number of decimals that no text has does not compile:
+    /// Adds the decimals of the second: one to nine of them, or as many as are needed.
+    ///
+    /// They are named, since a text has no other number of them. A plain number does not compile:
     ///
     /// ```compile_fail,E0308
-    /// movaliren::Description::new().subsecond(Some(0));
+    /// movaliren::Description::new().subsecond(0);
     /// ```
     pub fn subsecond(self, digits: SubsecondDigits) -> Self {
         self.component(Kind::Subsecond.digits(digits))
