@@ -2,6 +2,8 @@ pub mod AnswerLemmas
 pub mod BatchLemmas
 pub mod DateLemmas
 pub mod DescribedLemmas
+pub mod FlatLemmas
+pub mod ItemLemmas
 pub mod MeaningLemmas
 pub mod NumberLemmas
 pub mod ReadLemmas

@@ -35,6 +35,8 @@ reason_number reason.NoRoom = neg_ℤ (pos 20)
 reason_number reason.OutOfMemory = neg_ℤ (pos 21)
 reason_number reason.Other = neg_ℤ (pos 22)
 reason_number reason.NotRead = neg_ℤ (pos 23)
+reason_number reason.BadDescription = neg_ℤ (pos 24)
+reason_number reason.ManyItems = neg_ℤ (pos 25)
 
 -- a count, or the number of a reason
 abbrev pub answer_number : Result ℕ Reason → ℤ

@@ -93,14 +93,16 @@ component_of i =
     with_value (digits_at i.digits) (λ d.
     component_at i.kind p f d)))
 
--- the bytes of the texts that an item of kind 255 names, or a component; kind 0 is neither
+-- the bytes of the texts that an item of kind 255 names, the byte that stands in one of kind 254, or a component; kind 0
+-- is none of these
 abbrev pub item_tree : List ℕ → Item → Result Tree Reason
 item_tree texts i =
     if i.kind == 255
     then (if nat_le i.start (length texts) && nat_le i.len (length texts - i.start)
     then Ok (byte_literal (slice_range texts i.start (i.start + i.len)))
     else Err reason.BadItem)
-    else with_value (component_of i) (λ c. Ok (of_component c))
+    else (if i.kind == 254 then Ok (byte_literal (i.byte ∷ []))
+    else with_value (component_of i) (λ c. Ok (of_component c)))
 
 -- all values in order, or the first reason
 abbrev pub list_of : {A : Type 0} → List (Result A Reason) → Result (List A) Reason
@@ -115,6 +117,7 @@ trees_of texts items = list_of (map (item_tree texts) items)
 -- the tree of a part
 abbrev pub part_tree : Part → Tree
 part_tree (part.Text bytes) = byte_literal bytes.now
+part_tree (part.Byte b) = byte_literal (b ∷ [])
 part_tree (part.Component c) = of_component c
 
 abbrev pub tree_of : Result Part Reason → Result Tree Reason

@@ -27,8 +27,25 @@ words_numbered n =
     else (if n == 21 then codes "out of memory"
     else (if n == 22 then codes "the format cannot represent a component"
     else (if n == 23 then codes "the text is not one of the format"
-    else codes "unknown error"))))))))))))))))))))))
+    else (if n == 24 then codes "the text is not a description"
+    else (if n == 25 then codes "the description has more items than there is room for"
+    else codes "unknown error"))))))))))))))))))))))))
 
 -- those of any number
 abbrev pub error_words : ℤ → List ℕ
 error_words number = if int_lt number (pos 0) then words_numbered (unsigned_abs number) else codes "no error"
+
+-- those of a reason why a text is no description, without the byte that it names
+unfoldable pub fault_words : ℕ → List ℕ
+fault_words n =
+    if n == 11 then codes "more than 65536 items"
+    else (if n == 12 then codes "unfinished conversion `%`"
+    else (if n == 13 then codes "unknown conversion"
+    else (if n == 14 then codes "unsupported conversion `%Z`"
+    else (if n == 15 then codes "unsupported modifier"
+    else (if n == 16 then codes "unsupported field width"
+    else (if n == 17 then codes "unsupported flag"
+    else (if n == 18 then codes "unsupported flag `%+`"
+    else (if n == 19 then codes "second flag"
+    else (if n == 20 then codes "no flag is allowed before"
+    else codes "unknown reason")))))))))

@@ -235,6 +235,10 @@ fn write_usual<S: Sink, V: ComponentProvider>(
         25 => usual!(Minute: padding; output, value, state),
         27 => usual!(Second: padding; output, value, state),
         30 => usual!(OffsetMinute: padding; output, value, state),
+        254 => {
+            output.put_byte(item.byte);
+            Some(Ok(()))
+        }
         _ => None,
     }
 }
@@ -291,6 +295,7 @@ fn write_any<S: Sink, V: ComponentProvider>(
 {
     let component = match part {
         Part::Text(text) => return Ok(write_text(output, text)),
+        Part::Byte(byte) => return Ok(write_text(output, &[byte])),
         Part::Component(component) => component,
     };
     if LONGEST <= output.room() {
@@ -338,6 +343,7 @@ fn part_width(part: Part<'_>) -> usize
 {
     match part {
         Part::Text(text) => text.len(),
+        Part::Byte(_) => 1,
         Part::Component(component) => component_width(&component),
     }
 }

@@ -3,11 +3,12 @@ ghost use Rattle.std.specs.Prelude.{◌≡◌};
 ghost use Rattle.movaliren_c.specs.Items.{padding_at, digits_at, date_component, year_component, time_component, component_at, component_of, item_tree, part_tree, tree_of};
 
 use crate::reason::{Reason, flag_at};
+use std::slice;
 use time_below::format_description::modifier::{Padding, SubsecondDigits};
 use time_below::format_description::{Component, Layer, Node, modifier};
 
-/// An item of a description: kind 255 is `len` bytes of the texts from `start` on, any other a
-/// component with its choices.
+/// An item of a description: kind 255 is `len` bytes of the texts from `start` on, kind 254 the byte in
+/// `byte`, any other a component with its choices.
 #[repr(C)]
 #[derive(Clone, Copy)]
 pub struct Item {
@@ -15,7 +16,7 @@ pub struct Item {
     pub padding: u8,
     pub flag: u8,
     pub digits: u8,
-    pub unused: u8,
+    pub byte: u8,
     pub start: usize,
     pub len: usize,
 }
@@ -24,6 +25,7 @@ pub struct Item {
 #[derive(Clone, Copy)]
 pub enum Part<'a> {
     Text(&'a [u8]),
+    Byte(u8),
     Component(Component),
 }
 
@@ -35,6 +37,7 @@ impl Node for Part<'_> {
     fn layer(&self) -> Layer<'_, Self> {
         match self {
             Part::Text(bytes) => Layer::Bytes(bytes),
+            Part::Byte(byte) => Layer::Bytes(slice::from_ref(byte)),
             Part::Component(component) => Layer::Component(*component),
         }
     }
@@ -186,6 +189,9 @@ pub fn part_of<'a>(item: &Item, texts: &'a [u8]) -> Result<Part<'a>, Reason>
         }
         let end = item.start + item.len;
         return Ok(Part::Text(&texts[item.start..end]));
+    }
+    if item.kind == 254 {
+        return Ok(Part::Byte(item.byte));
     }
     match component_of(item) {
         Ok(component) => Ok(Part::Component(component)),

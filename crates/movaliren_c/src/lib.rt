@@ -1,5 +1,5 @@
 //! Moments as text, for C: RFC 3339, RFC 2822, ISO 8601, stamps, and descriptions that cross as
-//! data; and texts of RFC 3339, read back.
+//! data or as a text in the syntax of `strftime`; and texts of RFC 3339, read back.
 //!
 //! An export of one text returns the number of bytes at the start of the buffer, which are the whole
 //! text, or a negative number that names the error; the buffer is then unchanged. A batch returns how
@@ -9,14 +9,17 @@
 
 mod batch;
 mod calendar_date;
+mod describe;
 mod described;
 mod fields;
 mod iso8601;
 mod item;
+mod item_room;
 mod kept_offset;
 pub mod laws;
 mod library;
 mod local;
+mod made_item;
 mod moment;
 mod moment_text;
 mod read;
@@ -27,4 +30,5 @@ mod room;
 mod sinks;
 mod source;
 mod stamp;
+mod syntax;
 mod writer;

@@ -1,7 +1,7 @@
-//! What a program asks of the library itself: its version, and the words of a reason.
+//! What a program asks of the library itself: its version, and the words of reasons.
 ghost use Rattle.std.specs.Prelude.{◌≡◌, Ok};
 ghost use Rattle.movaliren_c.specs.Answer.{IsAnswer};
-ghost use Rattle.movaliren_c.specs.Words.{error_words, words_numbered};
+ghost use Rattle.movaliren_c.specs.Words.{error_words, fault_words, words_numbered};
 ghost use Rattle.time_fmt.specs.Outcome.{done};
 
 use crate::reason::answer_number;
@@ -63,6 +63,35 @@ fn words_numbered(number: usize) -> &'static [u8]
         21 => b"out of memory".as_slice(),
         22 => b"the format cannot represent a component".as_slice(),
         23 => b"the text is not one of the format".as_slice(),
+        24 => b"the text is not a description".as_slice(),
+        25 => b"the description has more items than there is room for".as_slice(),
         _ => b"unknown error".as_slice(),
+    }
+}
+
+/// The words of a reason why a text is no description, without the byte that it names.
+#[unsafe(no_mangle)]
+pub extern "C" fn movaliren_fault_words(reason: u8, room: &mut [u8]) -> isize
+    ensures { IsAnswer (Ok (done (fault_words reason))) result room.old room.new }
+{
+    answer_number(copy_text(fault_words(reason), room))
+}
+
+#[tactic(auto, unfolding(crate::specs::Words::fault_words))]
+fn fault_words(number: u8) -> &'static [u8]
+    ensures { result.now ≡ fault_words number }
+{
+    match number {
+        11 => b"more than 65536 items".as_slice(),
+        12 => b"unfinished conversion `%`".as_slice(),
+        13 => b"unknown conversion".as_slice(),
+        14 => b"unsupported conversion `%Z`".as_slice(),
+        15 => b"unsupported modifier".as_slice(),
+        16 => b"unsupported field width".as_slice(),
+        17 => b"unsupported flag".as_slice(),
+        18 => b"unsupported flag `%+`".as_slice(),
+        19 => b"second flag".as_slice(),
+        20 => b"no flag is allowed before".as_slice(),
+        _ => b"unknown reason".as_slice(),
     }
 }

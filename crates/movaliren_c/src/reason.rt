@@ -57,6 +57,10 @@ pub enum Reason {
     Other = 22,
     /// The text is none of its format.
     NotRead = 23,
+    /// The text is no description.
+    BadDescription = 24,
+    /// The description has more items than there is room for.
+    ManyItems = 25,
 }
 
 /// The number of the reason.

@@ -2,6 +2,7 @@
 use Rattle.std.specs.Prelude.{◌≡◌, ℕ, ◌+◌, ◌-◌, ◌<◌, Bool, IsTrue, List, [], ◌∷◌, take, drop, Result, Ok, Err}
 use Rattle.time_below.specs.Tree.{Tree, trees, of_component, all_of}
 use Rattle.time_describe.specs.Conversions.{offset, composed}
+use Rattle.time_describe.specs.Items.{are_leaves}
 use Rattle.time_describe.specs.Literal.{literal_of}
 use Rattle.time_describe.specs.Strftime.{Front, read}
 use Rattle.time_describe.specs.declared.strftime.fault.Fault.{Fault}
@@ -56,7 +57,7 @@ IsFound read Holds = (all : List Tree) × (read ≡ Ok all) × Holds all
 
 -- a list holds the items so far, and reading goes on at a place of the text
 abbrev pub IsAt : List ℕ → ℕ → (List Tree → Type 0) → Result (List Tree) Fault → Type 0
-IsAt text at Holds reading = (items : List Tree) × Holds items × (reading ≡ read items 0 (drop at text))
+IsAt text at Holds reading = (items : List Tree) × IsTrue (are_leaves items) × Holds items × (reading ≡ read items 0 (drop at text))
 
 -- reading goes on behind what was read
 abbrev pub GoesOn : Bool → List ℕ → (List Tree → Type 0) → Result ℕ Failure → Result (List Tree) Fault → Type 0

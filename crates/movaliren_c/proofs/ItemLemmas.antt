@@ -1,0 +1,267 @@
+-- Items of a text, in an array and in what they show.
+use Rattle.std.proofs.Common.{◌≡◌, ◌<◌, ◌≤◌, ◌+◌, ◌++◌, ℕ, min, ◌-◌, Bool, true, false, List, [], ◌∷◌, length, take, set, Result, Ok, Err, refl, sym, ap, ◌∙◌, subst, arith, ne_eqb}
+use Rattle.std.specs.Prelude.{IsTrue, nat_le, slice_range, ◌==◌}
+use Rattle.std.specs.Str.{is_utf8}
+use Rattle.std.proofs.lemmas.Bool.{le-leb, leb-true, leb-false}
+use Rattle.std.proofs.lemmas.List.{length-append, take_more_set}
+use Rattle.movaliren_c.specs.Described.{AreItems, DescribeNothing, Describes, HoldsItems, IsHeld, IsItem, IsItemOf, Leaves, LeavesItems, few_in, fault_at, is_shown, many, no_item, of_strftime, shown, strftime_items, strftime_number}
+use Rattle.movaliren_c.specs.Items.{component_of, date_component, described, item_tree, trees_of}
+use Rattle.movaliren_c.specs.declared.item.Item.{Item}
+use Rattle.movaliren_c.specs.declared.reason.Reason.{Reason}
+use Rattle.movaliren_c.specs.declared.syntax.Fault.{Fault}
+use Rattle.movaliren_c.specs.declared.reason.Reason.TheVariants as reason
+use Rattle.time_below.specs.Conversion.{current_component, is_current}
+use Rattle.time_below.specs.Facts.{Facts}
+use Rattle.time_below.specs.Tree.{Tree, trees, byte_literal, of_component}
+use Rattle.time_below.specs.declared.format_description.component.Component.{Component}
+use Rattle.time_below.specs.declared.format_description.component.Component.TheVariants as component
+use Rattle.time_describe.specs.Literal.{literal_of}
+use Rattle.time_describe.specs.Strftime as strftime
+use Rattle.time_describe.specs.StrftimeOutcome.{IsFound, Says}
+use Rattle.time_describe.specs.declared.strftime.InvalidStrftime.TheVariants as error
+use Rattle.time_describe.specs.declared.strftime.fault.StrftimeReason.{StrftimeReason}
+use Rattle.time_fmt.specs.Description.{current_outcome, tree_outcome, trees_outcome}
+use Rattle.time_fmt.specs.Outcome.{Outcome, done, join}
+
+-- ---- one item
+
+-- what parsers alone read makes no difference
+shown_same : (c : Component) → IsTrue (is_current c) → (f : Facts) → current_outcome (current_component (shown c)) f ≡ current_outcome c f
+shown_same (component.Month m) h f = let never : ⊥ = cc in absurd never
+shown_same (component.Weekday m) h f = let never : ⊥ = cc in absurd never
+shown_same (component.WeekNumber m) h f = let never : ⊥ = cc in absurd never
+shown_same (component.Hour m) h f = let never : ⊥ = cc in absurd never
+shown_same (component.UnixTimestamp m) h f = let never : ⊥ = cc in absurd never
+shown_same (component.Year m) h f = let never : ⊥ = cc in absurd never
+shown_same c h f = refl
+
+-- nothing is written of these
+nothing_shown : (c : Component) → is_shown c ≡ false → IsTrue (is_current c) → (f : Facts) → current_outcome c f ≡ done []
+nothing_shown (component.Ignore m) none h f = refl
+nothing_shown (component.End m) none h f = refl
+nothing_shown (component.Month m) none h f = let never : ⊥ = cc in absurd never
+nothing_shown (component.Weekday m) none h f = let never : ⊥ = cc in absurd never
+nothing_shown (component.WeekNumber m) none h f = let never : ⊥ = cc in absurd never
+nothing_shown (component.Hour m) none h f = let never : ⊥ = cc in absurd never
+nothing_shown (component.UnixTimestamp m) none h f = let never : ⊥ = cc in absurd never
+nothing_shown (component.Year m) none h f = let never : ⊥ = cc in absurd never
+nothing_shown c none h f = let never : ⊥ = cc in absurd never
+
+pub item_is_of : (text : List ℕ) (c : Component) (i : Item) → IsTrue (is_current (current_component c)) → IsItemOf (current_component c) i
+    → IsItem text i (of_component c)
+item_is_of text c i current is =
+    let no_text : (i.kind == 255) ≡ false = ne_eqb i.kind 255 (λ h. omega (arith, is.kind)) in
+    let no_byte : (i.kind == 254) ≡ false = ne_eqb i.kind 254 (λ h. omega (arith, is.kind)) in
+    record {
+      tree = of_component (shown (current_component c));
+      there = rw (no_text, no_byte, is.component) refl;
+      same = λ f. shown_same (current_component c) current f;
+    }
+
+abbrev pub text_of : ℕ → ℕ → Item
+text_of start len = record { kind = 255; padding = 0; flag = 0; digits = 0; byte = 0; start = start; len = len }
+
+literal_by : (b : Bool) (bytes : List ℕ) (f : Facts) → is_utf8 bytes ≡ b → done bytes ≡ tree_outcome (literal_of bytes) f
+unfolding literal_of
+literal_by true bytes f is = rw is refl
+literal_by false bytes f is = rw is refl
+
+literal_outcome : (bytes : List ℕ) (f : Facts) → done bytes ≡ tree_outcome (literal_of bytes) f
+literal_outcome bytes f = literal_by (is_utf8 bytes) bytes f refl
+
+text_there : (text : List ℕ) (start len : ℕ) → start + len ≤ length text → item_tree text (text_of start len) ≡ Ok (byte_literal (slice_range text start (start + len)))
+text_there text start len fits =
+    let starts : nat_le start (length text) ≡ true = le-leb _ _ (omega arith) in
+    let ends : nat_le len (length text - start) ≡ true = le-leb _ _ (omega arith) in
+    rw (starts, ends) refl
+
+pub text_is : (text : List ℕ) (start len : ℕ) → start + len ≤ length text → IsItem text (text_of start len) (literal_of (slice_range text start (start + len)))
+text_is text start len fits = record {
+  tree = byte_literal (slice_range text start (start + len));
+  there = text_there text start len fits;
+  same = λ f. literal_outcome (slice_range text start (start + len)) f;
+}
+
+pub byte_is : (text : List ℕ) (b : ℕ) → IsItem text (record { kind = 254; padding = 0; flag = 0; digits = 0; byte = b; start = 0; len = 0 }) (literal_of (b ∷ []))
+byte_is text b = record { tree = byte_literal (b ∷ []); there = refl; same = λ f. literal_outcome (b ∷ []) f }
+
+pub no_text_is : (text : List ℕ) (c : Component) → IsTrue (is_current (current_component c)) → is_shown (current_component c) ≡ false → IsItem text (text_of 0 0) (of_component c)
+no_text_is text c current none = record {
+  tree = byte_literal (slice_range text 0 (0 + 0));
+  there = text_there text 0 0 (omega arith);
+  same = λ f. sym (nothing_shown (current_component c) none current f);
+}
+
+-- ---- many items
+
+items_more : (text : List ℕ) (is : List Item) (ts : List Tree) (i : Item) (t : Tree) → AreItems text is ts → IsItem text i t
+    → AreItems text (is ++ i ∷ []) (ts ++ t ∷ [])
+items_more text [] [] i t are is-one = (is-one, tt)
+items_more text [] (y ∷ ys) i t are is-one = absurd are
+items_more text (x ∷ xs) [] i t are is-one = absurd are
+items_more text (x ∷ xs) (y ∷ ys) i t are is-one = (are.0, items_more text xs ys i t are.1 is-one)
+
+-- one item more, in its place if there is room
+pub item_put : (text : List ℕ) (array new : List Item) (count total : ℕ) (ts : List Tree) (i : Item) (t : Tree)
+    → (count < length array → new ≡ set array count i) → length new ≡ length array → length array ≤ 0xffff_ffff_ffff_ffff
+    → total ≡ min (count + 1) 0xffff_ffff_ffff_ffff → IsItem text i t → HoldsItems text array count ts
+    → HoldsItems text new total (ts ++ t ∷ [])
+item_put text array new count total ts i t stored same bound sum is-one holds =
+    let long : length (ts ++ t ∷ []) ≡ length ts + 1 = length-append ts (t ∷ []) in
+    record {
+      counted = omega (arith, sum, holds.counted, long);
+      held = λ fits.
+          let room : length ts < length array = omega (arith, fits, long, same) in
+          let at : count ≡ length ts = omega (arith, holds.counted, room, bound) in
+          let inside : count < length array = omega (arith, at, room) in
+          let is : take (length (ts ++ t ∷ [])) new ≡ take (length ts) array ++ i ∷ [] =
+          ap (λ (n : ℕ). take n new) long ∙ ap (take (length ts + 1)) (stored inside ∙ ap (λ (n : ℕ). set array n i) at)
+          ∙ take_more_set array (length ts) i room in
+          let few : length ts ≤ length array = omega (arith, room) in
+          subst (λ (v : List Item). AreItems text v (ts ++ t ∷ [])) (sym is)
+          (items_more text (take (length ts) array) ts i t (holds.held few) is-one);
+    }
+
+-- items that show what the trees do are a description that does
+pub describes : (text : List ℕ) (is : List Item) (ts : List Tree) → AreItems text is ts → Describes text is ts
+describes text [] [] are = record { description = []; there = refl; same = λ f. refl }
+describes text [] (y ∷ ys) are = absurd are
+describes text (x ∷ xs) [] are = absurd are
+describes text (x ∷ xs) (y ∷ ys) are =
+    let rest = describes text xs ys are.1 in record {
+      description = are.0.tree ∷ rest.description;
+      there = rw (are.0.there, rest.there) refl;
+      same = λ f. ap (λ (o : Outcome). join o (trees_outcome (trees rest.description) f)) (are.0.same f)
+          ∙ ap (join (tree_outcome y f)) (rest.same f);
+    }
+
+pub describes_flat : (text : List ℕ) (is : List Item) (all : List Tree) → AreItems text is (flat_items all) → Describes text is all
+describes_flat text is all are =
+    let d = describes text is (flat_items all) are in record {
+      description = d.description;
+      there = d.there;
+      same = λ f. d.same f ∙ all_flat_same (trees all) f;
+    }
+
+no_tree : (text : List ℕ) → item_tree text no_item ≡ Err reason.BadItem
+unfolding component_of date_component
+no_tree text = refl
+
+-- an array whose first item is none
+pub cleared : (array new : List Item) → (0 < length array → new ≡ set array 0 no_item) → length new ≡ length array → DescribeNothing new
+cleared [] [] stored same = tt
+cleared [] (y ∷ ys) stored same = absurd (omega (arith, same))
+cleared (x ∷ xs) new stored same =
+    let is : new ≡ no_item ∷ xs = stored (omega arith) in
+    subst DescribeNothing (sym is) no_tree
+
+-- ---- the items of a text
+
+pub none_held : (text : List ℕ) (array : List Item) (count : ℕ) (hidden : Option ℕ) → count ≡ 0 → hidden ≡ None → HoldsIn text [] array count hidden []
+none_held text array count hidden none shown = record { hidden = shown; held = record { counted = omega (arith, none); held = λ _. tt } }
+
+pub strftime_held : (text : List ℕ) (array : List Item) (count : ℕ) (hidden : Option ℕ)
+    → strftime_found.IsFound (strftime.described text) (HoldsIn text [] array count hidden) → IsHeld text (strftime_items text) array count
+strftime_held text array count hidden found = record { all = found.0; is = ap (of_strftime (length text)) found.1; held = found.2.held }
+
+pub strftime_faulty : (text : List ℕ) (reason : StrftimeReason) (index : ℕ) → Says (length text) (strftime.described text) (error.Invalid reason index)
+    → strftime_items text ≡ Err (fault_at index (strftime_number reason))
+strftime_faulty text reason index says =
+    ap (of_strftime (length text)) says.1 ∙ ap (λ (at : ℕ). Err (fault_at at (strftime_number reason))) (sym says.2)
+
+pub brackets_held : (text : List ℕ) (array : List Item) (count : ℕ) (hidden : Option ℕ)
+    → bracket_found.IsFound (reading.described text) (HoldsIn text [] array count hidden) → IsHeld text (bracket_items text) array count
+brackets_held text array count hidden found = record { all = found.0; is = ap (of_brackets (length text)) found.1; held = found.2.held }
+
+pub brackets_faulty : (text : List ℕ) (reason : bracket_reasons.Reason) (index : ℕ)
+    → bracket_says.Says (length text) (reading.described text) (bracket_error.Invalid reason index) → bracket_items text ≡ Err (fault_at index (bracket_number reason))
+brackets_faulty text reason index says =
+    ap (of_brackets (length text)) says.1 ∙ ap (λ (at : ℕ). Err (fault_at at (bracket_number reason))) (sym says.2)
+
+-- ---- items in open lists
+
+shown_by : (o : Option ℕ) (text : List ℕ) (fs : List Frame) (old new : List Item) (count total : ℕ) (items : List Tree) (t : Tree)
+    → hidden_at fs ≡ o → flat t ≡ t ∷ []
+    → (o ≡ None → HoldsItems text new total (shown_in fs (flat_items items) ++ t ∷ []))
+    → (IsSome o → HoldsItems text new total (shown_in fs (flat_items items)))
+    → HoldsItems text new total (shown_in fs (flat_items (items ++ t ∷ [])))
+shown_by None text fs old new count total items t is leaf more kept =
+    let same : shown_in fs (flat_items (items ++ t ∷ [])) ≡ shown_in fs (flat_items items) ++ t ∷ [] =
+    ap (shown_in fs) (flat_more items (t ∷ []) ∙ ap (λ (v : List Tree). flat_items items ++ v) (append-nil (flat t) ∙ leaf))
+    ∙ shown_more fs (flat_items items) (t ∷ []) is in
+    subst (λ (v : List Tree). HoldsItems text new total v) (sym same) (more refl)
+shown_by (Some d) text fs old new count total items t is leaf more kept =
+    subst (λ (v : List Tree). HoldsItems text new total v) (shown_hidden fs (flat_items items) (flat_items (items ++ t ∷ [])) d is) (kept tt)
+
+-- ---- what a call leaves
+
+complete_by : (fits : Bool) (text : List ℕ) (all : List Tree) (array : List Item) (count : ℕ) (old : Fault) → nat_le (length (flat_items all)) (length array) ≡ fits
+    → count ≡ length (flat_items all) → count ≤ length array → AreItems text (take (length (flat_items all)) array) (flat_items all) → LeavesItems fits text all (Ok count) array old old
+complete_by true text all array count old test same le are = (ap Ok same, describes_flat text (take (length (flat_items all)) array) all are, refl)
+complete_by false text all array count old test same le are = absurd (omega (arith, leb-false _ _ test, same, le))
+
+pub left_complete : (text : List ℕ) (d : Result (List Tree) Fault) (array : List Item) (count : ℕ) (old : Fault) → IsHeld text d array count
+    → count ≤ length array → length array < 0xffff_ffff_ffff_ffff → Leaves text d (Ok count) array old old
+left_complete text d array count old held le bound =
+    let same : count ≡ length (flat_items held.all) = omega (arith, held.held.counted, le, bound) in
+    let fits : length (flat_items held.all) ≤ length array = omega (arith, same, le) in
+    subst (λ (r : Result (List Tree) Fault). Leaves text r (Ok count) array old old) (sym held.is)
+    (complete_by (nat_le (length (flat_items held.all)) (length array)) text held.all array count old refl same le (held.held.held fits))
+
+many_by : (fits : Bool) (text : List ℕ) (all : List Tree) (new : List Item) (count : ℕ) (old : Fault) → nat_le (length (flat_items all)) (length new) ≡ fits
+    → count ≡ min (length (flat_items all)) 0xffff_ffff_ffff_ffff → length new < count → DescribeNothing new → LeavesItems fits text all (Err reason.ManyItems) new old (many count)
+many_by true text all new count old test same lt none = absurd (omega (arith, leb-true _ _ test, same, lt))
+many_by false text all new count old test same lt none = (refl, none, ap many same)
+
+pub left_many : (text : List ℕ) (d : Result (List Tree) Fault) (array new : List Item) (count : ℕ) (old : Fault) → IsHeld text d array count
+    → length array < count → length new ≡ length array → DescribeNothing new → Leaves text d (Err reason.ManyItems) new old (many count)
+left_many text d array new count old held lt same none =
+    subst (λ (r : Result (List Tree) Fault). Leaves text r (Err reason.ManyItems) new old (many count)) (sym held.is)
+    (many_by (nat_le (length (flat_items held.all)) (length new)) text held.all new count old refl held.held.counted (omega (arith, lt, same)) none)
+
+pub left_fault : (text : List ℕ) (d : Result (List Tree) Fault) (new : List Item) (old f : Fault) → d ≡ Err f → DescribeNothing new
+    → Leaves text d (Err reason.BadDescription) new old f
+left_fault text d new old f is none =
+    subst (λ (r : Result (List Tree) Fault). Leaves text r (Err reason.BadDescription) new old f) (sym is) (refl, none, refl)
+
+-- ---- a text that is formatted at once
+
+same_by : {A : Type 0} (description all : List Tree) (value : Result A Reason) (facts : A → Facts)
+    → ((f : Facts) → trees_outcome (trees description) f ≡ trees_outcome (trees all) f)
+    → described (Ok all) value facts ≡ described (Ok description) value facts
+same_by description all (Ok v) facts same = ap Ok (sym (same (facts v)))
+same_by description all (Err r) facts same = refl
+
+given_by : {A : Type 0} (fits : Bool) (text : List ℕ) (all : List Tree) (count room : ℕ) (items : List Item) (old new : Fault) (value : Result A Reason)
+    (facts : A → Facts) → nat_le (length (flat_items all)) room ≡ fits → LeavesItems fits text all (Ok count) items old new
+    → described (few_in room (Ok all)) value facts ≡ described (trees_of text (take count items)) value facts
+given_by true text all count room items old new value facts test h =
+    let same : count ≡ length (flat_items all) = let e = h.0 in cc in
+    let few : few_in room (Ok all) ≡ Ok all = rw test refl in
+    ap (λ (d : Result (List Tree) Reason). described d value facts) few
+    ∙ same_by h.1.description all value facts h.1.same
+    ∙ ap (λ (d : Result (List Tree) Reason). described d value facts) (sym h.1.there)
+    ∙ ap (λ (n : ℕ). described (trees_of text (take n items)) value facts) (sym same)
+given_by false text all count room items old new value facts test h = absurd (let e = h.0 in cc)
+
+-- the items give what the text does
+pub text_given : {A : Type 0} (text : List ℕ) (d : Result (List Tree) Fault) (count : ℕ) (items : List Item) (old new : Fault) (value : Result A Reason)
+    (facts : A → Facts) → Leaves text d (Ok count) items old new
+    → described (few_in (length items) d) value facts ≡ described (trees_of text (take count items)) value facts
+text_given text (Ok all) count items old new value facts h =
+    given_by (nat_le (length (flat_items all)) (length items)) text all count (length items) items old new value facts refl h
+text_given text (Err f) count items old new value facts h = absurd (let e = h.0 in cc)
+
+refused_by : (fits : Bool) (text : List ℕ) (all : List Tree) (r : Reason) (room : ℕ) (items : List Item) (old new : Fault) → nat_le (length (flat_items all)) room ≡ fits
+    → LeavesItems fits text all (Err r) items old new → few_in room (Ok all) ≡ Err r
+refused_by true text all r room items old new test h = absurd (let e = h.0 in cc)
+refused_by false text all r room items old new test h =
+    let many : few_in room (Ok all) ≡ Err reason.ManyItems = rw test refl in
+    let same : r ≡ reason.ManyItems = let e = h.0 in cc in many ∙ ap Err (sym same)
+
+-- or there is the same reason for none
+pub text_refused : (text : List ℕ) (d : Result (List Tree) Fault) (r : Reason) (items : List Item) (old new : Fault) → Leaves text d (Err r) items old new
+    → few_in (length items) d ≡ Err r
+text_refused text (Ok all) r items old new h = refused_by (nat_le (length (flat_items all)) (length items)) text all r (length items) items old new refl h
+text_refused text (Err f) r items old new h =
+    let same : r ≡ reason.BadDescription = let e = h.0 in cc in ap Err (sym same)

@@ -1,0 +1,175 @@
+-- What calls leave that read a text as a description.
+use Rattle.std.specs.Prelude.{ℕ, ◌≡◌, ◌<◌, ◌≤◌, ◌-◌, ◌++◌, min, Option, Bool, true, false, nat_le, List, [], ◌∷◌, length, take, Result, Ok, Err, if◌then◌else◌}
+use Rattle.movaliren_c.specs.Flat.{first_shown, flat_items, hidden_at, shown_in}
+use Rattle.movaliren_c.specs.Items.{component_of, item_tree, trees_of}
+use Rattle.movaliren_c.specs.declared.item.Item.{Item}
+use Rattle.movaliren_c.specs.declared.reason.Reason.{Reason}
+use Rattle.movaliren_c.specs.declared.reason.Reason.TheVariants as reason
+use Rattle.movaliren_c.specs.declared.syntax.Fault.{Fault}
+use Rattle.time_below.specs.Facts.{Facts}
+use Rattle.time_below.specs.Tree.{Tree, trees}
+use Rattle.time_below.specs.declared.format_description.component.Component.{Component}
+use Rattle.time_below.specs.declared.format_description.component.Component.TheVariants as component
+use Rattle.time_describe.specs.Reading as reading
+use Rattle.time_describe.specs.Reading.{Frame}
+use Rattle.time_describe.specs.Strftime as strftime
+use Rattle.time_describe.specs.declared.fault.Fault as bracket_fault
+use Rattle.time_describe.specs.declared.fault.Reason as bracket_reasons
+use Rattle.time_describe.specs.declared.fault.Reason.TheVariants as bracket_reason
+use Rattle.time_describe.specs.declared.strftime.fault.Fault as strftime_fault
+use Rattle.time_describe.specs.declared.strftime.fault.StrftimeReason.{StrftimeReason}
+use Rattle.time_describe.specs.declared.strftime.fault.StrftimeReason.TheVariants as strftime_reason
+use Rattle.time_fmt.specs.Description.{tree_outcome, trees_outcome}
+
+-- ---- items of trees
+
+-- the component with all that a text shows of it: what parsers alone read is as an item has it
+abbrev pub shown : Component → Component
+shown (component.MonthShort m) = component.MonthShort (record { case_sensitive = true })
+shown (component.MonthLong m) = component.MonthLong (record { case_sensitive = true })
+shown (component.WeekdayShort m) = component.WeekdayShort (record { case_sensitive = true })
+shown (component.WeekdayLong m) = component.WeekdayLong (record { case_sensitive = true })
+shown (component.Period m) = component.Period (record { is_uppercase = m.is_uppercase; case_sensitive = true })
+shown c = c
+
+-- whether a text shows something of the component, which is not deprecated
+abbrev pub is_shown : Component → Bool
+is_shown (component.Ignore m) = false
+is_shown (component.End m) = false
+is_shown (component.Month m) = false
+is_shown (component.Weekday m) = false
+is_shown (component.WeekNumber m) = false
+is_shown (component.Hour m) = false
+is_shown (component.UnixTimestamp m) = false
+is_shown (component.Year m) = false
+is_shown c = true
+
+-- an item of this component
+pub record IsItemOf (c : Component) (i : Item) : Type 0 where
+  pub kind : i.kind < 254
+  pub component : component_of i ≡ Ok (shown c)
+
+-- the item shows what the tree does, of any value
+pub record IsItem (text : List ℕ) (i : Item) (t : Tree) : Type 0 where
+  pub tree : Tree
+  pub there : item_tree text i ≡ Ok tree
+  pub same : (f : Facts) → tree_outcome tree f ≡ tree_outcome t f
+
+-- each item shows what the tree at its place does
+abbrev pub AreItems : List ℕ → List Item → List Tree → Type 0
+AreItems text [] [] = Unit {0}
+AreItems text [] (t ∷ ts) = ⊥
+AreItems text (i ∷ is) [] = ⊥
+AreItems text (i ∷ is) (t ∷ ts) = IsItem text i t × AreItems text is ts
+
+-- An array, and how many items there are, up to the greatest `usize`: one for each tree. If all of them fit, they are at
+-- the start of the array.
+pub record HoldsItems (text : List ℕ) (array : List Item) (count : ℕ) (ts : List Tree) : Type 0 where
+  pub counted : count ≡ min (length ts) 0xffff_ffff_ffff_ffff
+  pub held : length ts ≤ length array → AreItems text (take (length ts) array) ts
+
+-- the same of what is shown of items in open lists, of which so many are around the outermost one that is left out
+pub record HoldsIn (text : List ℕ) (fs : List Frame) (array : List Item) (count : ℕ) (hidden : Option ℕ) (items : List Tree) : Type 0 where
+  pub hidden : hidden ≡ hidden_at fs
+  pub held : HoldsItems text array count (shown_in fs (flat_items items))
+
+-- and of lists in brackets, behind items
+pub record HoldsListsIn (text : List ℕ) (fs : List Frame) (items : List Tree) (array : List Item) (count : ℕ) (hidden : Option ℕ) (lists : List Tree) : Type 0 where
+  pub hidden : hidden ≡ hidden_at fs
+  pub held : HoldsItems text array count (shown_in fs (flat_items items ++ first_shown lists []))
+
+-- an array has the items of a text, as far as they fit
+pub record IsHeld (text : List ℕ) (described : Result (List Tree) Fault) (array : List Item) (count : ℕ) : Type 0 where
+  pub all : List Tree
+  pub is : described ≡ Ok all
+  pub held : HoldsItems text array count (flat_items all)
+
+-- ---- faults, as C sees them
+
+-- the number of a reason, and the byte that it names
+abbrev pub strftime_number : StrftimeReason → ℕ × ℕ
+strftime_number strftime_reason.Unfinished = (12, 0)
+strftime_number (strftime_reason.UnknownConversion b) = (13, b)
+strftime_number strftime_reason.ZoneName = (14, 0)
+strftime_number (strftime_reason.LocaleModifier b) = (15, b)
+strftime_number (strftime_reason.FieldWidth b) = (16, b)
+strftime_number (strftime_reason.CaseFlag b) = (17, b)
+strftime_number strftime_reason.PlusFlag = (18, 0)
+strftime_number (strftime_reason.SecondFlag b) = (19, b)
+strftime_number (strftime_reason.FlagWithoutNumber b) = (20, b)
+strftime_number strftime_reason.TooManyItems = (11, 0)
+
+abbrev pub bracket_number : bracket_reasons.Reason → ℕ × ℕ
+bracket_number bracket_reason.UnclosedBracket = (1, 0)
+bracket_number bracket_reason.InvalidEscape = (2, 0)
+bracket_number bracket_reason.MissingName = (3, 0)
+bracket_number bracket_reason.UnknownName = (4, 0)
+bracket_number bracket_reason.UnknownModifier = (5, 0)
+bracket_number bracket_reason.InvalidValue = (6, 0)
+bracket_number bracket_reason.MissingModifier = (7, 0)
+bracket_number bracket_reason.MissingItems = (8, 0)
+bracket_number bracket_reason.UnexpectedByte = (9, 0)
+bracket_number bracket_reason.TooDeep = (10, 0)
+bracket_number bracket_reason.TooManyItems = (11, 0)
+
+-- a fault at a byte
+abbrev pub fault_at : ℕ → ℕ × ℕ → Fault
+fault_at at reason = record { at = at; items = 0; reason = reason.0; byte = reason.1 }
+
+-- the lack of room for so many items
+abbrev pub many : ℕ → Fault
+many items = record { at = 0; items = items; reason = 0; byte = 0 }
+
+-- what a text in the syntax of strftime describes: the trees of its items, or its first fault
+abbrev pub of_strftime : ℕ → Result (List Tree) strftime_fault.Fault → Result (List Tree) Fault
+of_strftime len (Ok all) = Ok all
+of_strftime len (Err f) = Err (fault_at (len - f.left) (strftime_number f.reason))
+
+abbrev pub strftime_items : List ℕ → Result (List Tree) Fault
+strftime_items text = of_strftime (length text) (strftime.described text)
+
+-- what a text in brackets describes
+abbrev pub of_brackets : ℕ → Result (List Tree) bracket_fault.Fault → Result (List Tree) Fault
+of_brackets len (Ok all) = Ok all
+of_brackets len (Err f) = Err (fault_at (len - f.left) (bracket_number f.reason))
+
+abbrev pub bracket_items : List ℕ → Result (List Tree) Fault
+bracket_items text = of_brackets (length text) (reading.described text)
+
+-- ---- what is left
+
+-- the items are a description that gives what the trees do, of any value
+pub record Describes (text : List ℕ) (items : List Item) (all : List Tree) : Type 0 where
+  pub description : List Tree
+  pub there : trees_of text items ≡ Ok description
+  pub same : (f : Facts) → trees_outcome (trees description) f ≡ trees_outcome (trees all) f
+
+-- an item of zeros alone, which is none
+abbrev pub no_item : Item
+no_item = record { kind = 0; padding = 0; flag = 0; digits = 0; byte = 0; start = 0; len = 0 }
+
+-- no items from the first on are a description
+abbrev pub DescribeNothing : List Item → Type 0
+DescribeNothing [] = Unit {0}
+DescribeNothing (i ∷ is) = (text : List ℕ) → item_tree text i ≡ Err reason.BadItem
+
+abbrev pub LeavesItems : Bool → List ℕ → List Tree → Result ℕ Reason → List Item → Fault → Fault → Type 0
+LeavesItems true text all answer items old new = (answer ≡ Ok (length (flat_items all))) × Describes text (take (length (flat_items all)) items) all
+    × (new ≡ old)
+LeavesItems false text all answer items old new = (answer ≡ Err reason.ManyItems) × DescribeNothing items
+    × (new ≡ many (min (length (flat_items all)) 0xffff_ffff_ffff_ffff))
+
+-- The items of the text are at the start of an array that has room for them, and the fault is unchanged. Or the array
+-- describes nothing, and the fault says why.
+abbrev pub Leaves : List ℕ → Result (List Tree) Fault → Result ℕ Reason → List Item → Fault → Fault → Type 0
+Leaves text (Ok all) answer items old new = LeavesItems (nat_le (length (flat_items all)) (length items)) text all answer items old new
+Leaves text (Err f) answer items old new = (answer ≡ Err reason.BadDescription) × DescribeNothing items × (new ≡ f)
+
+-- the trees of a text, which are at most so many
+abbrev pub few_in : ℕ → Result (List Tree) Fault → Result (List Tree) Reason
+few_in room (Ok all) = if nat_le (length (flat_items all)) room then Ok all else Err reason.ManyItems
+few_in room (Err f) = Err reason.BadDescription
+
+-- those of a text that is formatted in one call are at most 64
+abbrev pub few : Result (List Tree) Fault → Result (List Tree) Reason
+few described = few_in 64 described

@@ -1,0 +1,111 @@
+//! Descriptions from a text, in items or at once.
+ghost use Rattle.std.specs.Prelude.{◌≡◌, ◌≤◌, IfOk, length};
+ghost use Rattle.movaliren_c.specs.Answer.{Answers, IsText};
+ghost use Rattle.movaliren_c.specs.Described.{Leaves, few, strftime_items};
+ghost use Rattle.movaliren_c.specs.Items.{described};
+ghost use Rattle.movaliren_c.specs.Utc.{local_value};
+ghost use Rattle.movaliren_c.specs.Value.{timestamp_value};
+ghost use Rattle.time_below.specs.Facts.{facts_of_offset_date_time, facts_of_timestamp};
+
+use crate::described::write_described;
+use crate::item::Item;
+use crate::item_room::ItemRoom;
+use crate::made_item::NO_ITEM;
+use crate::moment::{UtcMoment, timestamp_value};
+use crate::reason::{Reason, answer_number};
+use crate::source::{AtOffset, provided};
+use crate::syntax::{Fault, Strftime, Syntax};
+use time_provide::ComponentProvider;
+
+/// The most items of a text that is formatted in one call.
+const FEW: usize = 64;
+
+/// Reads the items of a text in the syntax of strftime into an array.
+#[unsafe(no_mangle)]
+pub extern "C" fn movaliren_describe_strftime(
+    text: &[u8],
+    items: &mut [Item],
+    fault: &mut Fault,
+) -> isize
+    ensures { Answers result (λ answer. Leaves text.now (strftime_items text.now)
+        answer items.new fault.old fault.new) }
+{
+    answer_number(describe::<Strftime>(text, items, fault))
+}
+
+/// The text of a moment in UTC by a description in the syntax of strftime.
+#[unsafe(no_mangle)]
+pub extern "C" fn movaliren_strftime_utc(
+    text: &[u8],
+    seconds: i64,
+    nanosecond: u32,
+    room: &mut [u8],
+) -> isize
+    ensures { Answers result (λ answer. IsText (described (few (strftime_items text.now))
+        (timestamp_value seconds nanosecond) facts_of_timestamp) answer room.old room.new) }
+{
+    let value = timestamp_value(seconds, nanosecond);
+    answer_number(write_text::<Strftime, _>(text, value, room))
+}
+
+/// The text of a moment by a description in the syntax of strftime, at an offset of this many seconds
+/// east of UTC.
+#[unsafe(no_mangle)]
+pub extern "C" fn movaliren_strftime_local(
+    text: &[u8],
+    seconds: i64,
+    nanosecond: u32,
+    offset: i64,
+    room: &mut [u8],
+) -> isize
+    ensures { Answers result (λ answer. IsText (described (few (strftime_items text.now))
+        (local_value seconds nanosecond offset) facts_of_offset_date_time) answer room.old room.new) }
+{
+    let moment = UtcMoment {
+        seconds,
+        nanosecond,
+    };
+    let value = provided(AtOffset { east: offset }, &moment);
+    answer_number(write_text::<Strftime, _>(text, value, room))
+}
+
+/// Reads the items of a text into an array. If there are none, or they do not fit, the first item of the
+/// array is none.
+fn describe<S: Syntax>(text: &[u8], items: &mut [Item], fault: &mut Fault) -> Result<usize, Reason>
+    ensures leaves { Leaves text.now (S.described text.now) result items.new fault.old fault.new }
+    ensures fits { IfOk result (λ count. count ≤ length items.new) }
+    ensures len { length items.new ≡ length items.old }
+{
+    let mut room = ItemRoom::new(items);
+    match S::put_items(&mut room, text) {
+        Ok(()) if room.is_complete() => Ok(room.count()),
+        Ok(()) => {
+            *fault = Fault::many(room.count());
+            room.clear();
+            Err(Reason::ManyItems)
+        }
+        Err(first) => {
+            *fault = first;
+            room.clear();
+            Err(Reason::BadDescription)
+        }
+    }
+}
+
+/// Writes the text of the value by the description that another text is.
+fn write_text<S: Syntax, V: ComponentProvider + Drop>(
+    text: &[u8],
+    value: Result<V, Reason>,
+    room: &mut [u8],
+) -> Result<usize, Reason>
+where
+    V::State: Drop,
+    ensures { IsText (described (few (S.described text.now)) value V.facts) result room.old room.new }
+{
+    let mut items = [NO_ITEM; FEW];
+    let mut fault = Fault::many(0);
+    match describe::<S>(text, &mut items, &mut fault) {
+        Ok(count) => write_described(&items[..count], text, value, room),
+        Err(reason) => Err(reason),
+    }
+}

@@ -1,0 +1,96 @@
+//! The syntaxes of descriptions, and what is wrong in a text.
+ghost use Rattle.std.specs.Prelude.{◌≡◌, ℕ, List, Err, OnOk, IfErr, Result};
+ghost use Rattle.movaliren_c.specs.Described.{IsHeld, fault_at, many, strftime_items, strftime_number};
+ghost use Rattle.movaliren_c.specs.declared.syntax.Fault.{Fault};
+ghost use Rattle.time_below.specs.Tree.{Tree};
+
+use crate::item_room::ItemRoom;
+use time_describe::{InvalidStrftime, StrftimeReason, describe_strftime};
+
+/// Why a text gave no items.
+#[repr(C)]
+#[derive(Clone, Copy)]
+pub struct Fault {
+    /// The index of the byte.
+    pub at: usize,
+    /// How many items there are, if these are too many for an array, or else 0.
+    pub items: usize,
+    /// The number of the reason.
+    pub reason: u8,
+    /// The byte that the reason names, or 0.
+    pub byte: u8,
+}
+
+impl Fault {
+    /// The lack of room for so many items.
+    pub fn many(items: usize) -> Fault
+        ensures { result ≡ many items }
+    {
+        Fault {
+            at: 0,
+            items,
+            reason: 0,
+            byte: 0,
+        }
+    }
+}
+
+/// A syntax of descriptions.
+pub trait Syntax {
+    /// The trees of the items of a text, or its first fault.
+    ghost described: { List ℕ → Result (List Tree) Fault };
+
+    /// Adds the items of a text to an array that has none.
+    fn put_items(items: &mut ItemRoom<'_>, text: &[u8]) -> Result<(), Fault>
+        requires { items.old.count ≡ 0 }
+        ensures found { OnOk result (IsHeld text.now (described text.now) items.new.array.now items.new.count) }
+        ensures fault { IfErr result (λ f. described text.now ≡ Err f) }
+        ensures same_reference { items.new.array.ghost_name ≡ items.old.array.ghost_name };
+}
+
+/// The syntax of strftime.
+pub struct Strftime;
+
+impl Syntax for Strftime {
+    ghost described = { strftime_items };
+
+    #[tactic(auto, using(crate::proofs::ItemLemmas::none_held, crate::proofs::ItemLemmas::strftime_held, crate::proofs::ItemLemmas::strftime_faulty))]
+    fn put_items(items: &mut ItemRoom<'_>, text: &[u8]) -> Result<(), Fault> {
+        match describe_strftime(items, text) {
+            Ok(()) => Ok(()),
+            Err(InvalidStrftime::OutOfMemory) => unreachable!(),
+            Err(InvalidStrftime::Invalid { reason, index }) => Err(strftime_fault(reason, index)),
+        }
+    }
+}
+
+/// The number of a reason, and the byte that it names.
+fn strftime_number(reason: StrftimeReason) -> (u8, u8)
+    ensures { result ≡ strftime_number reason }
+{
+    match reason {
+        StrftimeReason::TooManyItems => (11, 0),
+        StrftimeReason::Unfinished => (12, 0),
+        StrftimeReason::UnknownConversion(byte) => (13, byte),
+        StrftimeReason::ZoneName => (14, 0),
+        StrftimeReason::LocaleModifier(byte) => (15, byte),
+        StrftimeReason::FieldWidth(byte) => (16, byte),
+        StrftimeReason::CaseFlag(byte) => (17, byte),
+        StrftimeReason::PlusFlag => (18, 0),
+        StrftimeReason::SecondFlag(byte) => (19, byte),
+        StrftimeReason::FlagWithoutNumber(byte) => (20, byte),
+    }
+}
+
+/// A fault at the byte of this index.
+fn strftime_fault(reason: StrftimeReason, index: usize) -> Fault
+    ensures { result ≡ fault_at index (strftime_number reason) }
+{
+    let (reason, byte) = strftime_number(reason);
+    Fault {
+        at: index,
+        items: 0,
+        reason,
+        byte,
+    }
+}
