@@ -1,21 +1,19 @@
 //! Descriptions that cross as data, whose texts allocate nothing.
-ghost use Rattle.std.specs.Prelude.{◌≡◌, IfOk, MatchOption, []};
+ghost use Rattle.std.specs.Prelude.{◌≡◌, IfOk, MatchOption, [], length};
 ghost use Rattle.movaliren_c.specs.Answer.{Answers};
 ghost use Rattle.movaliren_c.specs.Items.{EndsItem, EndsOrIsLost, FitsOrIsLost, IsDescribed, IsPut, IsShown, ItemEndsOrIsLost, item_tree, part_tree, reason_before, trees_of, width_answer};
 ghost use Rattle.movaliren_c.specs.Value.{date_value, moment_value, timestamp_value};
 ghost use Rattle.time_below.specs.Facts.{Facts, facts_of_date, facts_of_offset_date_time, facts_of_timestamp};
 ghost use Rattle.time_below.specs.Width.{tree_width};
 ghost use Rattle.time_fmt.specs.Description.{tree_outcome};
+ghost use Rattle.time_fmt.specs.Sink.{Fits, Puts};
 
-use crate::calendar_date::CalendarDate;
 use crate::item::{Item, Part, part_of};
-use crate::moment::{Moment, timestamp_value};
+use crate::moment::{Moment, date_value, moment_value, timestamp_value};
 use crate::reason::{Reason, answer_number, reason_of};
 use crate::room::copy_text;
-use crate::source::{ByParts, provided};
 use std::default::Default;
 use std::marker::Brand;
-use time_below::Date;
 use time_below::format_description::modifier::Padding;
 use time_below::format_description::{component_width, modifier};
 use time_fmt::writers::write_bytes;
@@ -49,7 +47,7 @@ pub extern "C" fn movaliren_format(
     ensures { Answers result (λ answer. IsDescribed texts.now items.now
         (moment_value moment.now) facts_of_offset_date_time answer room.old room.new) }
 {
-    answer_number(write_described(items, texts, provided(ByParts, moment), room))
+    answer_number(write_described(items, texts, moment_value(moment), room))
 }
 
 /// The text of a moment in UTC.
@@ -81,7 +79,7 @@ pub extern "C" fn movaliren_format_date(
     ensures { Answers result (λ answer. IsDescribed texts.now items.now
         (date_value year month day) facts_of_date answer room.old room.new) }
 {
-    answer_number(write_described(items, texts, provided_date(year, month, day), room))
+    answer_number(write_described(items, texts, date_value(year, month, day), room))
 }
 
 /// The most bytes that a text of the description has, up to the greatest `isize`.
@@ -90,16 +88,6 @@ pub extern "C" fn movaliren_width(items: &[Item], texts: &[u8]) -> isize
     ensures { Answers result (λ answer. answer ≡ width_answer (trees_of texts.now items.now)) }
 {
     answer_number(width(items, texts))
-}
-
-/// The date of these parts, or the first part that is outside its range.
-fn provided_date(year: i32, month: u8, day: u8) -> Result<Date, Reason>
-    ensures { result ≡ date_value year month day }
-{
-    match CalendarDate::new(year, month, day) {
-        Ok(value) => Ok(value.date()),
-        Err(reason) => Err(reason),
-    }
 }
 
 /// Writes the text of the value by the description, if there are both. The text is written to an array
@@ -217,7 +205,7 @@ fn write_usual<S: Sink, V: ComponentProvider>(
     ensures agrees { V.agrees state.new value.now }
 {
     if item.kind == 255 {
-        return write_literal(item, texts, output);
+        return write_usual_text(item, texts, output);
     }
     if item.padding != 0 || item.flag != 0 || item.digits != 0 || output.room() < LONGEST {
         return None;
@@ -226,7 +214,10 @@ fn write_usual<S: Sink, V: ComponentProvider>(
     match item.kind {
         1 => usual!(Day: padding; output, value, state),
         2 => usual!(MonthShort: case_sensitive; output, value, state),
+        3 => usual!(MonthLong: case_sensitive; output, value, state),
         4 => usual!(MonthNumerical: padding; output, value, state),
+        6 => usual!(WeekdayShort: case_sensitive; output, value, state),
+        7 => usual!(WeekdayLong: case_sensitive; output, value, state),
         13 =>
             usual!(CalendarYearFullExtendedRange: padding, sign_is_mandatory; output, value, state),
         14 =>
@@ -241,18 +232,37 @@ fn write_usual<S: Sink, V: ComponentProvider>(
 
 /// Writes a literal if it fits, or else nothing.
 #[inline(always)]
-fn write_literal<S: Sink>(item: &Item, texts: &[u8], output: &mut S) -> Option<Result<(), Refused>>
+fn write_usual_text<S: Sink>(
+    item: &Item,
+    texts: &[u8],
+    output: &mut S,
+) -> Option<Result<(), Refused>>
     ensures { MatchOption result (S.buffer output.new ≡ S.buffer output.old)
         (λ answer. (f : Facts) → EndsItem (item_tree texts.now item.now) f
         (S.buffer output.old) (S.buffer output.new) answer) }
 {
     match part_of(item, texts) {
         Ok(Part::Text(text)) if text.len() <= output.room() => {
-            write_bytes(output, text);
+            write_fitting(output, text);
             Some(Ok(()))
         }
         _ => None,
     }
+}
+
+/// Writes a text that fits. For a long one, which a call writes, the sink is taken out.
+#[inline(always)]
+fn write_fitting<S: Sink>(output: &mut S, text: &[u8]) -> usize
+    requires room { Fits (S.buffer output.old) (length text.now) }
+    ensures writes { Puts (S.buffer output.old) (S.buffer output.new) result text.now }
+{
+    if text.len() <= 2 {
+        return write_bytes(output, text);
+    }
+    let mut taken = output.take_out();
+    let count = write_bytes(&mut taken, text);
+    output.put_back(taken);
+    count
 }
 
 /// Writes any item if its text fits, and returns the number of bytes that are lost if it does not.

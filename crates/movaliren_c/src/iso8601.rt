@@ -14,7 +14,7 @@ mod config;
 
 use crate::batch::{Progress, write_lines};
 use crate::fields::{accepted_year_of, fields_of, parts_of};
-use crate::moment::{LocalMoment, Moment, UtcMoment};
+use crate::moment::{Moment, UtcMoment};
 use crate::moment_text::{Format, answer_at, put_at_start, texts_of};
 use crate::reason::{Reason, answer_number, reason_for};
 use crate::room::copy_text;
@@ -23,6 +23,7 @@ use crate::source::{ByParts, InUtc, Source};
 use crate::writer::Writer;
 use config::separated_config_at;
 pub use config::{IsoConfig, config_at};
+use time_below::OffsetDateTime;
 use time_digits::ru8;
 use time_known::iso8601::{Config, DecimalSign, SeparatedText, Usual, put_parts};
 use time_known::sink::Text;
@@ -41,7 +42,7 @@ impl Format for Iso8601 {
     ghost outcome = { λ _. iso8601_of default_choices };
 
     #[inline(always)]
-    fn text(self, value: &LocalMoment) -> Result<SeparatedText, Reason> {
+    fn text(self, value: &OffsetDateTime) -> Result<SeparatedText, Reason> {
         let usual = Usual {
             has_separators: true,
             decimal_digits: ru8::new(9),
@@ -53,7 +54,7 @@ impl Format for Iso8601 {
 
 /// The text of the value by such choices with separators, or the reason why it has none.
 #[inline(always)]
-fn separated_text(usual: &Usual, value: &LocalMoment) -> Result<SeparatedText, Reason>
+fn separated_text(usual: &Usual, value: &OffsetDateTime) -> Result<SeparatedText, Reason>
     ensures chosen { IfOk result (λ t. t.usual ≡ usual.now) }
     ensures text { IfOk result (λ t. iso8601_of (separated usual.now) value.now
         ≡ done (⟦<SeparatedText as Text>⟧.text t)) }
@@ -214,7 +215,7 @@ impl<S: Source> Iso8601By<S> {
     fn put_usual(
         &self,
         usual: &Usual,
-        value: &LocalMoment,
+        value: &OffsetDateTime,
         room: &mut [u8],
     ) -> Result<usize, Reason>
         requires room { iso8601_width (separated usual.now) ≤ length room.old }
@@ -248,7 +249,7 @@ impl<S: Source> Iso8601By<S> {
 /// of the date, 265 of the time and 6 of the offset.
 #[inline(never)]
 #[tactic(auto, using(time_known::proofs::iso8601::PartsLemmas::chosen_text, time_known::proofs::iso8601::PartsLemmas::chosen_width, crate::proofs::AnswerLemmas::copied_whole))]
-fn copy_by(config: &Config, value: &LocalMoment, room: &mut [u8]) -> Result<usize, Reason>
+fn copy_by(config: &Config, value: &OffsetDateTime, room: &mut [u8]) -> Result<usize, Reason>
     ensures { IsWritten result (iso8601_of config.now value.now) room.old room.new }
 {
     if config.formats_nothing() {

@@ -8,12 +8,10 @@
 #![tactic(auto)]
 
 mod batch;
-mod calendar_date;
 mod described;
 mod fields;
 mod iso8601;
 mod item;
-mod kept_offset;
 pub mod laws;
 mod library;
 mod local;

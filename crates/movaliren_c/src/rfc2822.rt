@@ -7,11 +7,12 @@ ghost use Rattle.time_known.specs.Rfc2822.{rfc2822_of};
 
 use crate::batch::{Progress, write_lines};
 use crate::fields::{accepted_year_of, fields_of};
-use crate::moment::{LocalMoment, Moment, UtcMoment};
+use crate::moment::{Moment, UtcMoment};
 use crate::moment_text::{Format, answer_at, texts_of};
 use crate::reason::{Reason, answer_number, reason_for};
 use crate::source::{AtOffset, ByParts, InUtc};
 use crate::writer::Writer;
+use time_below::OffsetDateTime;
 use time_known::rfc2822::Rfc2822Text;
 
 /// The format of RFC 2822.
@@ -29,10 +30,10 @@ impl Format for Rfc2822 {
 
     #[inline(always)]
     #[tactic(auto, using(time_known::proofs::AcceptedLemmas::any_hour))]
-    fn text(self, value: &LocalMoment) -> Result<Rfc2822Text, Reason> {
+    fn text(self, value: &OffsetDateTime) -> Result<Rfc2822Text, Reason> {
         match accepted_year_of(1900, 25, value) {
             Ok(year) => {
-                let weekday = value.date().date().weekday();
+                let weekday = value.date().weekday();
                 let fields = fields_of(year, value);
                 Ok(Rfc2822Text { weekday, fields })
             }

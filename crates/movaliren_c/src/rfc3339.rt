@@ -7,11 +7,12 @@ ghost use Rattle.time_known.specs.Rfc3339.{rfc3339_of};
 
 use crate::batch::{Progress, write_lines};
 use crate::fields::{accepted_year_of, fields_of};
-use crate::moment::{LocalMoment, Moment, UtcMoment};
+use crate::moment::{Moment, UtcMoment};
 use crate::moment_text::{Format, answer_at, texts_of};
 use crate::reason::{Reason, answer_number, reason_for};
 use crate::source::{AtOffset, ByParts, InUtc};
 use crate::writer::Writer;
+use time_below::OffsetDateTime;
 use time_known::rfc3339::Rfc3339Text;
 
 /// The format of RFC 3339.
@@ -28,7 +29,7 @@ impl Format for Rfc3339 {
     ghost outcome = { λ _. rfc3339_of };
 
     #[inline(always)]
-    fn text(self, value: &LocalMoment) -> Result<Rfc3339Text, Reason> {
+    fn text(self, value: &OffsetDateTime) -> Result<Rfc3339Text, Reason> {
         match accepted_year_of(0, 23, value) {
             Ok(year) => {
                 let fields = fields_of(year, value);

@@ -6,11 +6,12 @@ ghost use Rattle.time_known.specs.Stamps.{stamp_length, stamp_of};
 
 use crate::batch::{Progress, write_lines};
 use crate::fields::fields_of;
-use crate::moment::{LocalMoment, UtcMoment};
+use crate::moment::UtcMoment;
 use crate::moment_text::{Format, answer_at, texts_of};
 use crate::reason::{Reason, reason_for};
 use crate::source::InUtc;
 use crate::writer::Writer;
+use time_below::OffsetDateTime;
 use time_known::accepted::accepted_year;
 use time_known::iso8601::StampText;
 
@@ -28,7 +29,7 @@ impl Format for Stamp {
     ghost outcome = { λ _ v. stamp_of (record { date = v.date; time = v.time }) };
 
     #[inline(always)]
-    fn text(self, value: &LocalMoment) -> Result<StampText, Reason> {
+    fn text(self, value: &OffsetDateTime) -> Result<StampText, Reason> {
         match accepted_year(0, 25, value.date().year(), 0, 0) {
             Ok(year) => {
                 let fields = fields_of(year, value);

@@ -1,6 +1,6 @@
 use Rattle.std.proofs.Common.{◌∙◌, w8, rules, FitsSigned}
 use Rattle.std.proofs.lemmas.Int.{to_z-of_z}
-use Rattle.movaliren_c.proofs.kept_offset.offset_of.Goals as goal
+use Rattle.movaliren_c.proofs.moment.offset_of.Goals as goal
 use Rattle.time_below.proofs.OffsetLemmas.{settled-same}
 
 pub returns : goal.returns
