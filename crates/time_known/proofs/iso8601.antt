@@ -6,4 +6,5 @@ pub mod OffsetLemmas
 pub mod PartsLemmas
 pub mod ReadBackLemmas
 pub mod TimeLemmas
+pub mod WayLemmas
 pub mod WholeLemmas

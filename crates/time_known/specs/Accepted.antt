@@ -1,5 +1,5 @@
 -- What of a value a format has no place for.
-use Rattle.std.specs.Prelude.{ℕ, ℤ, ◌≡◌, ◌+◌, ◌≤◌, ◌++◌, List, length, codes, nat_lt, Option, Some, None, Result, Ok, Err}
+use Rattle.std.specs.Prelude.{ℕ, ℤ, ◌≡◌, ◌+◌, ◌≤◌, ◌++◌, List, length, codes, nat_lt, Option, Some, None, Result, Ok, Err, IfOk}
 use Rattle.std.specs.Prelude.{Vec, vec_len, vec_capacity}
 use Rattle.std.specs.Global.{Global}
 use Rattle.time_fmt.specs.Outcome.{Outcome, Refusal, done, refused, invalid_component}
@@ -27,13 +27,14 @@ checked_text first greatest_hour year hour second text =
     (refused_if (nat_lt 0 second) (codes "offset_second") (done text)))
 
 -- the refusal of the component that has no place, if there is one
-abbrev pub refusal_of : Result Unit OutOfRange → Option Refusal
-refusal_of (Ok u) = None
+abbrev pub refusal_of : {A : Type 0} → Result A OutOfRange → Option Refusal
+refusal_of (Ok a) = None
 refusal_of (Err component) = Some (invalid_component (component_name component))
 
--- the bytes of the outcome were appended, and the answer is its refusal
-pub record AppendsOrRefuses (width : ℕ) (old new : Vec ℕ Global) (answer : Result Unit OutOfRange) (o : Outcome) : Type 0 where
+-- the bytes of the outcome were appended, and the answer is their number, or its refusal
+pub record AppendsOrRefuses (width : ℕ) (old new : Vec ℕ Global) (answer : Result ℕ OutOfRange) (o : Outcome) : Type 0 where
   pub appended : new.items ≡ old.items ++ o.bytes
+  pub counted : IfOk answer (λ n. n ≡ length o.bytes)
   pub refusal : o.refusal ≡ refusal_of answer
   pub grown : vec_len new ≡ vec_len old + length o.bytes
   pub capacity : vec_capacity new ≡ vec_capacity old

@@ -1,16 +1,13 @@
 -- Which groups of a value a text of ISO 8601 is made of.
-use Rattle.std.proofs.Common.{◌≡◌, ℕ, false, refl, sym, ap, subst, ◌∙◌, arith, Result, Vec}
-use Rattle.std.specs.Global.{Global}
+use Rattle.std.proofs.Common.{◌≡◌, false, refl, sym, ap, ◌∙◌, arith}
 use Rattle.std.proofs.lemmas.Grind.{common_steps}
-use Rattle.time_fmt.specs.declared.error.Format.{Format}
-use Rattle.time_fmt.specs.Outcome.{AppendsUpTo, refused, insufficient}
+use Rattle.time_fmt.specs.Outcome.{refused, insufficient}
 use Rattle.time_known.specs.Config.{Choices, groups_of, FormattedComponents}
 use Rattle.time_known.specs.Values.{Facts}
 use Rattle.time_known.specs.declared.groups.Groups.{Groups}
 use Rattle.time_known.specs.declared.iso8601.config.FormattedComponents.TheVariants as components
 use Rattle.time_known.specs.Groups.{has_groups}
 use Rattle.time_known.specs.Iso8601.{iso8601_outcome, iso8601_outcome_of}
-use Rattle.time_known.specs.Iso8601Width.{iso8601_width, iso8601_width_of}
 use Rattle.time_known.proofs.GroupLemmas.{of_unsupplied_group}
 
 -- facts that lack a group which is formatted are refused
@@ -26,11 +23,3 @@ pub missing_group_refused : (c read : Choices) (f : Facts) (needed : Groups) →
 missing_group_refused c read f needed e groups h =
     ap (λ (choices : Choices). iso8601_outcome choices f) (sym e)
     ∙ lacking_of read.formatted_components read f (ap (λ (g : Groups). has_groups g f) (sym groups) ∙ h)
-
--- what is appended by the parts that are chosen is appended by the choices
-pub by_choice : {old new : Vec ℕ Global} {answer : Result ℕ Format} (c : Choices) (f : Facts)
-    (parts : FormattedComponents) → c.formatted_components ≡ parts
-    → AppendsUpTo (iso8601_width_of parts c) old new answer (iso8601_outcome_of parts c f)
-    → AppendsUpTo (iso8601_width c) old new answer (iso8601_outcome c f)
-by_choice {old} {new} {answer} c f parts e h =
-    subst (λ p. AppendsUpTo (iso8601_width_of p c) old new answer (iso8601_outcome_of p c f)) (sym e) h

@@ -2,7 +2,7 @@
 ghost use Rattle.std.specs.Prelude.{◌≡◌, ◌↔◌, IfSome, IsTrue, true};
 ghost use Rattle.time_known.specs.Config.{default_choices, separator, decimal_sign_text, has_time_letter, has_date, has_time, has_offset, groups_of};
 ghost use Rattle.time_known.specs.UsualText.{IsUsual, usual_choices, usual_of};
-ghost use Rattle.time_known.specs.Ways.{FitsWay, way_of};
+ghost use Rattle.time_known.specs.Ways.{FitsWay, date_of_kind, known_by, to_second, way_of, whole_of_kind};
 
 use crate::groups::Groups;
 use std::default::Default;
@@ -82,23 +82,24 @@ pub struct Usual {
 }
 
 /// The function by which a text is written, so far as a configuration decides it. Each of them but the last
-/// writes where nothing of the value is refused.
+/// writes texts of one shape, which the compiler knows: with four digits of the year, the time to the second or to
+/// decimals of it, and the offset to the minute.
 #[derive(Clone, Copy)]
 pub(super) enum Way {
-    /// All parts, with what is left to choose.
-    Usual(Usual),
-    /// The date alone by month and day, after four digits of the year.
+    /// The date by month and day, the time and the offset.
+    Whole,
+    /// The date by week and weekday, the time and the offset.
+    WholeByWeek,
+    /// The date by month and day, and the time.
+    DateTime,
+    /// The time alone.
+    Time,
+    /// The date alone by month and day.
     CalendarDate,
     /// The date alone by week and weekday.
     WeekDate,
-    /// The date alone by the day of the year, with a dash before it.
+    /// The date alone by the day of the year.
     OrdinalDate,
-    /// The date alone by the day of the year, without a dash.
-    CompactOrdinalDate,
-    /// The time alone.
-    Time,
-    /// The date by month and day, after four digits of the year, and the time.
-    DateTime,
     /// Any other text.
     Other,
 }
@@ -308,23 +309,97 @@ impl Config {
         ensures way { result ≡ way_of self.now }
         ensures fits { FitsWay self.now result }
     {
-        match self.formatted_components {
-            FormattedComponents::Date if !self.year_is_six_digits => match self.date_kind {
-                DateKind::Calendar => Way::CalendarDate,
-                DateKind::Week => Way::WeekDate,
-                DateKind::Ordinal if self.use_separators => Way::OrdinalDate,
-                DateKind::Ordinal => Way::CompactOrdinalDate,
-            },
-            FormattedComponents::Time => Way::Time,
-            FormattedComponents::DateTime if !self.year_is_six_digits => match self.date_kind {
-                DateKind::Calendar => Way::DateTime,
+        let precisions = (self.time_precision, self.offset_precision);
+        match (
+            self.formatted_components,
+            self.date_kind,
+            self.year_is_six_digits,
+        ) {
+            (FormattedComponents::Date, DateKind::Calendar, false) => Way::CalendarDate,
+            (FormattedComponents::Date, DateKind::Week, false) => Way::WeekDate,
+            (FormattedComponents::Date, DateKind::Ordinal, false) => Way::OrdinalDate,
+            (FormattedComponents::Time, _, _) => match precisions {
+                (TimePrecision::Second { .. }, _) => Way::Time,
                 _ => Way::Other,
             },
-            FormattedComponents::DateTimeOffset => match self.usual() {
-                Some(usual) => Way::Usual(usual),
-                None => Way::Other,
+            (FormattedComponents::DateTime, DateKind::Calendar, false) => match precisions {
+                (TimePrecision::Second { .. }, _) => Way::DateTime,
+                _ => Way::Other,
+            },
+            (FormattedComponents::DateTimeOffset, kind, false) => match (kind, precisions) {
+                (DateKind::Calendar, (TimePrecision::Second { .. }, OffsetPrecision::Minute)) => {
+                    Way::Whole
+                }
+                (DateKind::Week, (TimePrecision::Second { .. }, OffsetPrecision::Minute)) => {
+                    Way::WholeByWeek
+                }
+                _ => Way::Other,
             },
             _ => Way::Other,
+        }
+    }
+
+    // The same configuration, of which the compiler knows what the way says.
+    #[inline(always)]
+    pub(super) fn known_by(&self, way: Way) -> Config
+        ensures { result ≡ known_by way self.now }
+    {
+        match way {
+            Way::Whole => self.whole_of_kind(DateKind::Calendar),
+            Way::WholeByWeek => self.whole_of_kind(DateKind::Week),
+            Way::DateTime => Config {
+                formatted_components: FormattedComponents::DateTime,
+                year_is_six_digits: false,
+                date_kind: DateKind::Calendar,
+                time_precision: self.time_precision.to_second(),
+                ..*self
+            },
+            Way::Time => Config {
+                formatted_components: FormattedComponents::Time,
+                time_precision: self.time_precision.to_second(),
+                ..*self
+            },
+            Way::CalendarDate => self.date_of_kind(DateKind::Calendar),
+            Way::WeekDate => self.date_of_kind(DateKind::Week),
+            Way::OrdinalDate => self.date_of_kind(DateKind::Ordinal),
+            Way::Other => *self,
+        }
+    }
+
+    // The same configuration, whose separators the compiler knows.
+    #[inline(always)]
+    pub(super) fn with_known_separators(&self, use_separators: bool) -> Config
+        requires { self.now.use_separators ≡ use_separators }
+        ensures { result ≡ self.now }
+    {
+        self.set_use_separators(use_separators)
+    }
+
+    // The date of this kind alone, after four digits of the year.
+    #[inline(always)]
+    fn date_of_kind(&self, date_kind: DateKind) -> Config
+        ensures { result ≡ date_of_kind date_kind self.now }
+    {
+        Config {
+            formatted_components: FormattedComponents::Date,
+            year_is_six_digits: false,
+            date_kind,
+            ..*self
+        }
+    }
+
+    // Such a date, the time to the second, and the offset to the minute.
+    #[inline(always)]
+    fn whole_of_kind(&self, date_kind: DateKind) -> Config
+        ensures { result ≡ whole_of_kind date_kind self.now }
+    {
+        Config {
+            formatted_components: FormattedComponents::DateTimeOffset,
+            year_is_six_digits: false,
+            date_kind,
+            time_precision: self.time_precision.to_second(),
+            offset_precision: OffsetPrecision::Minute,
+            ..*self
         }
     }
 
@@ -400,6 +475,20 @@ impl Config {
                 | FormattedComponents::DateTimeOffset
                 | FormattedComponents::TimeOffset
         )
+    }
+}
+
+impl TimePrecision {
+    // The same decimals, of the second.
+    #[inline(always)]
+    fn to_second(self) -> TimePrecision
+        ensures { result ≡ to_second self }
+    {
+        match self {
+            TimePrecision::Hour { decimal_digits }
+            | TimePrecision::Minute { decimal_digits }
+            | TimePrecision::Second { decimal_digits } => TimePrecision::Second { decimal_digits },
+        }
     }
 }
 

@@ -1,5 +1,5 @@
 //! The date of a text of ISO 8601-1:2019, section 5.2.
-ghost use Rattle.std.specs.Prelude.{◌≡◌, MatchOption, Ok, false, ◌+◌, ◌*◌, ◌++◌, length, pos, int_lt, unsigned_abs, true, IsTrue, codes};
+ghost use Rattle.std.specs.Prelude.{◌≡◌, ◌+◌, ◌*◌, ◌++◌, length, pos, int_lt, unsigned_abs, true, IsTrue, codes};
 ghost use Rattle.time_below.specs.Facts.{the_date};
 ghost use Rattle.time_digits.specs.Digits.{zero_padded};
 ghost use Rattle.time_fmt.specs.Outcome.{AppendsUpTo};
@@ -16,7 +16,7 @@ ghost use Rattle.time_known.specs.Sink.{Fits, PutsJust, PutsUpTo};
 
 use crate::accepted::OutOfRange;
 use crate::days::ordinal_digits;
-use crate::iso8601::config::{Config, DateKind};
+use crate::iso8601::config::Config;
 use crate::iso8601::parts::{DateParts, RestOfDate, date_of};
 use crate::put::{put_both, put_four_digits, put_month_and_day, put_pair};
 use crate::sink::Sink;
@@ -55,77 +55,6 @@ pub fn format_date<V: ComponentProvider>(
         Ok(()) => Ok(count),
         Err(component) => Err(Format::InvalidComponent(component.name())),
     }
-}
-
-// Appends the date, where four digits hold its year; else it appends nothing. The compiler sees the
-// kind, and perhaps whether there are dashes, so that no other is tested.
-#[inline(always)]
-pub(super) fn write_date_by<V: ComponentProvider>(
-    config: &Config,
-    kind: DateKind,
-    has_dash: bool,
-    output: &mut Vec<u8>,
-    value: &V,
-    state: &mut V::State,
-) -> Option<usize>
-    requires kind { config.now.date_kind ≡ kind }
-    requires dash { config.now.use_separators ≡ has_dash }
-    requires short { config.now.year_is_six_digits ≡ false }
-    requires supplied { IsTrue V.SUPPLIES_DATE }
-    requires room { HasRoom output.old (iso_date_width config.now) }
-    requires agrees { V.agrees state.old value.now }
-    ensures appends { MatchOption result (output.new ≡ output.old)
-        (λ n. AppendsUpTo (iso_date_width config.now) output.old output.new (Ok n)
-        (iso_date config.now (the_date (V.facts value.now)))) }
-    ensures agrees { AgreesOnDate (V.agrees state.new value.now) (V.facts value.now) }
-{
-    append_short(config, has_dash, output, date_of(kind, value, state))
-}
-
-// Appends a date, where four digits hold its year.
-#[inline(always)]
-#[tactic(auto, using(crate::proofs::LengthLemmas::joined_lengths))]
-fn append_short(
-    config: &Config,
-    has_dash: bool,
-    output: &mut Vec<u8>,
-    date: DateParts,
-) -> Option<usize>
-    requires short { config.now.year_is_six_digits ≡ false }
-    requires dash { config.now.use_separators ≡ has_dash }
-    requires room { HasRoom output.old (date_parts_width config.now date) }
-    ensures appends { MatchOption result (output.new ≡ output.old)
-        (λ n. AppendsUpTo (date_parts_width config.now date) output.old output.new (Ok n)
-        (date_of_parts config.now date)) }
-{
-    let number = date.year.get();
-    if number < 0 || number > 9_999 {
-        return None;
-    }
-    let year = ru16::within(number.unsigned_abs() as u16);
-    let mut taken = take_out(output);
-    let begin = taken.len();
-    if has_dash {
-        put_short(&mut taken, year, &date.rest, true);
-    } else {
-        put_short(&mut taken, year, &date.rest, false);
-    }
-    let count = taken.len() - begin;
-    put_back(output, taken);
-    Some(count)
-}
-
-// Puts four digits of the year, and what follows it.
-#[inline(always)]
-#[tactic(auto, using(crate::proofs::LengthLemmas::joined_lengths))]
-fn put_short<S: Sink>(output: &mut S, year: ru16<0, 9_999>, rest: &RestOfDate, has_dash: bool)
-    requires room { Fits (4 + rest_width (length (dash has_dash)) rest.now) (S.buffer output.old) }
-    ensures puts { PutsUpTo (4 + rest_width (length (dash has_dash)) rest.now)
-        (S.buffer output.old) (S.buffer output.new)
-        (zero_padded 4 year ++ rest_text (dash has_dash) rest.now) }
-{
-    put_four_digits(output, year);
-    put_rest(output, rest, has_dash);
 }
 
 // Puts the date, if there is one.

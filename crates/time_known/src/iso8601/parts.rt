@@ -1,27 +1,28 @@
 //! The parts of a value that a text is made of, one after another.
-ghost use Rattle.std.specs.Prelude.{◌≡◌, ◌≢◌, ◌+◌, IsTrue, MatchOption, Ok, OnOk, OnSome, false};
-ghost use Rattle.time_below.specs.Facts.{the_date, the_time};
-ghost use Rattle.time_fmt.specs.Outcome.{AppendsUpTo, join};
+ghost use Rattle.std.specs.Prelude.{◌≡◌, ◌≢◌, IsErr, IsTrue, IfErr, IfOk, Ok, OnOk};
+ghost use Rattle.time_below.specs.Facts.{the_date};
+ghost use Rattle.time_fmt.specs.Outcome.{AppendsUpTo, Names, invalid_component};
 ghost use Rattle.time_fmt.specs.Room.{HasRoom};
 ghost use Rattle.time_provide.specs.Real.{AgreesOnDate, AreReal};
 ghost use Rattle.time_known.specs.Config.{groups_of};
 ghost use Rattle.time_known.specs.Groups.{are_supplied};
-ghost use Rattle.time_known.specs.Iso8601.{iso8601_outcome, iso_date, iso_time};
+ghost use Rattle.time_known.specs.Iso8601.{iso8601_outcome};
 ghost use Rattle.time_known.specs.Iso8601Parts.{chosen_parts, date_parts, parts_text, parts_width, shown_date, shown_parts};
-ghost use Rattle.time_known.specs.Iso8601Width.{iso8601_width, iso_date_width, iso_time_width};
+ghost use Rattle.time_known.specs.Iso8601Width.{iso8601_width};
 ghost use Rattle.time_known.specs.Sink.{Fits};
-ghost use Rattle.time_known.specs.Accepted.{AppendsOrRefuses, PutsOutcome};
+ghost use Rattle.time_known.specs.Accepted.{AppendsOrRefuses, PutsOutcome, component_name};
 ghost use Rattle.time_known.specs.Ways.{FitsWay};
+ghost use Rattle.time_known.specs.declared.iso8601.config.Way.{Way};
 
 use crate::accepted::OutOfRange;
 use crate::days::CalendarDay;
 use crate::fields::{OffsetFields, offset_of, time_of};
 use crate::iso8601::config::{Config, DateKind, FormattedComponents, Way};
-use crate::iso8601::date::{put_date_part, write_date_by};
+use crate::iso8601::date::put_date_part;
 use crate::iso8601::offset::put_offset_part;
-use crate::iso8601::time::{put_time_part, write_time};
-use crate::iso8601::usual_text::write_usual;
+use crate::iso8601::time::put_time_part;
 use crate::sink::Sink;
+use std::marker::PhantomData;
 use time_below::Time;
 use time_digits::ru8;
 use time_fmt::Format;
@@ -77,19 +78,64 @@ pub fn put_parts<S: Sink>(output: &mut S, config: &Config, parts: &Parts) -> Res
     put_offset_part(output, config, &parts.offset)
 }
 
-// Appends the parts, or the bytes before a refusal. Takes no memory. The configuration is copied first, so that no
-// byte that is written may change it.
+// A vector that texts of one shape are put into, so that the compiler makes all functions anew for the shape.
+struct ShapeSink<T, const HAS_SEPARATORS: bool> {
+    taken: Vec<u8>,
+    shape: PhantomData<T>,
+}
+
+impl<T, const HAS_SEPARATORS: bool> Sink for ShapeSink<T, HAS_SEPARATORS> {
+    ghost use Rattle.std.specs.Prelude.{[], None, vec_len, vec_capacity};
+
+    ghost buffer = { λ s. record {
+      bytes = s.taken.items;
+      len = vec_len s.taken;
+      capacity = vec_capacity s.taken;
+      rest = [];
+      lender = None;
+    } };
+
+    #[inline(always)]
+    fn put(&mut self, piece: &str) {
+        self.taken.put(piece);
+    }
+
+    #[inline(always)]
+    fn put_seldom(&mut self, piece: &str) {
+        self.taken.put_seldom(piece);
+    }
+
+    #[inline(always)]
+    fn put_decimals(&mut self, rest: u64, unit: u64, digits: ru8<1, 255>) {
+        self.taken.put_decimals(rest, unit, digits);
+    }
+}
+
+// Appends the parts, or the bytes before a refusal. Takes no memory.
 #[inline(always)]
-fn append_parts(config: &Config, output: &mut Vec<u8>, parts: &Parts) -> Result<(), OutOfRange>
+fn append_parts<T, const HAS_SEPARATORS: bool>(
+    config: &Config,
+    output: &mut Vec<u8>,
+    parts: &Parts,
+) -> Result<usize, OutOfRange>
     requires room { HasRoom output.old (parts_width config.now parts.now) }
     ensures appends { AppendsOrRefuses (parts_width config.now parts.now) output.old output.new
         result (parts_text config.now parts.now) }
 {
-    let config = *config;
-    let mut taken = take_out(output);
-    let answer = put_parts(&mut taken, &config, parts);
+    let taken = take_out(output);
+    let begin = taken.len();
+    let mut sink = ShapeSink::<T, HAS_SEPARATORS> {
+        taken,
+        shape: PhantomData,
+    };
+    let answer = put_parts(&mut sink, config, parts);
+    let ShapeSink { taken, shape: _ } = sink;
+    let count = taken.len() - begin;
     put_back(output, taken);
-    answer
+    match answer {
+        Ok(()) => Ok(count),
+        Err(component) => Err(component),
+    }
 }
 
 // The fields of the value's date by this kind.
@@ -163,16 +209,16 @@ fn parts_of<V: ComponentProvider>(config: &Config, value: &V, state: &mut V::Sta
 }
 
 // Appends the parts that are formatted, of a value that supplies their groups. A configuration that
-// formats nothing is refused.
+// formats nothing is refused. The text that most callers want is no call.
 #[inline(always)]
 pub(super) fn write_parts<V: ComponentProvider>(
     config: &Config,
-    way: &Way,
+    way: Way,
     output: &mut Vec<u8>,
     value: &V,
     state: &mut V::State,
 ) -> Result<usize, Format>
-    requires way { FitsWay config.now way.now }
+    requires way { FitsWay config.now way }
     requires supplied { IsTrue (are_supplied (groups_of config.now.formatted_components)
         V.SUPPLIES_DATE V.SUPPLIES_TIME V.SUPPLIES_OFFSET) }
     requires room { HasRoom output.old (iso8601_width config.now) }
@@ -184,28 +230,174 @@ pub(super) fn write_parts<V: ComponentProvider>(
         → AreReal (V.facts value.now)) }
     ensures agrees { V.agrees state.new value.now }
 {
-    if let Some(count) = write_by_way(config, way, output, value, state) {
-        return Ok(count);
+    match way {
+        Way::Whole => answer_of(write_known::<V, Whole>(config, output, value, state)),
+        _ => write_by_way(config, way, output, value, state),
     }
-    if config.formats_nothing() {
-        return Err(Format::InsufficientTypeInformation);
-    }
-    let begin = output.len();
-    match write_each(config, output, value, state) {
-        Ok(()) => Ok(output.len() - begin),
+}
+
+// Appends by the function of the way.
+#[inline(never)]
+fn write_by_way<V: ComponentProvider>(
+    config: &Config,
+    way: Way,
+    output: &mut Vec<u8>,
+    value: &V,
+    state: &mut V::State,
+) -> Result<usize, Format>
+    requires way { FitsWay config.now way }
+    requires supplied { IsTrue (are_supplied (groups_of config.now.formatted_components)
+        V.SUPPLIES_DATE V.SUPPLIES_TIME V.SUPPLIES_OFFSET) }
+    requires room { HasRoom output.old (iso8601_width config.now) }
+    requires agrees { V.agrees state.old value.now }
+    ensures appends { AppendsUpTo (iso8601_width config.now) output.old output.new result
+        (iso8601_outcome config.now (V.facts value.now)) }
+    ensures real { OnOk result
+        (config.now.formatted_components ≡ FormattedComponents.DateTimeOffset
+        → AreReal (V.facts value.now)) }
+    ensures agrees { V.agrees state.new value.now }
+{
+    let answer = match way {
+        Way::WholeByWeek => write_apart::<V, WholeByWeek>(config, output, value, state),
+        Way::DateTime => write_apart::<V, DateTime>(config, output, value, state),
+        Way::Time => write_apart::<V, TimeAlone>(config, output, value, state),
+        Way::CalendarDate => write_apart::<V, CalendarDate>(config, output, value, state),
+        Way::WeekDate => write_apart::<V, WeekDate>(config, output, value, state),
+        Way::OrdinalDate => write_apart::<V, OrdinalDate>(config, output, value, state),
+        Way::Whole | Way::Other => {
+            if config.formats_nothing() {
+                return Err(Format::InsufficientTypeInformation);
+            }
+            write_apart::<V, Any>(config, output, value, state)
+        }
+    };
+    answer_of(answer)
+}
+
+// The answer of the formatter.
+#[inline(always)]
+fn answer_of(answer: Result<usize, OutOfRange>) -> Result<usize, Format>
+    ensures count { IfOk answer (λ n. result ≡ Ok n) }
+    ensures named { IfErr answer (λ component. IfErr result
+        (λ e. Names e (invalid_component (component_name component)))) }
+    ensures refused { IfErr answer (λ _. IsErr result) }
+{
+    match answer {
+        Ok(count) => Ok(count),
         Err(component) => Err(Format::InvalidComponent(component.name())),
     }
 }
 
-// Appends the parts that are formatted, by any configuration that formats something.
+// Texts of one shape.
+trait Shape {
+    // The way of such a text.
+    ghost way: { Way };
+
+    // The same configuration, of which the compiler knows what the way says.
+    fn known(config: &Config) -> Config
+        requires { FitsWay config.now way }
+        ensures { result ≡ config.now };
+}
+
+struct Whole;
+
+impl Shape for Whole {
+    ghost way = { Way.Whole };
+
+    #[inline(always)]
+    fn known(config: &Config) -> Config {
+        config.known_by(Way::Whole)
+    }
+}
+
+struct WholeByWeek;
+
+impl Shape for WholeByWeek {
+    ghost way = { Way.WholeByWeek };
+
+    #[inline(always)]
+    fn known(config: &Config) -> Config {
+        config.known_by(Way::WholeByWeek)
+    }
+}
+
+struct DateTime;
+
+impl Shape for DateTime {
+    ghost way = { Way.DateTime };
+
+    #[inline(always)]
+    fn known(config: &Config) -> Config {
+        config.known_by(Way::DateTime)
+    }
+}
+
+struct TimeAlone;
+
+impl Shape for TimeAlone {
+    ghost way = { Way.Time };
+
+    #[inline(always)]
+    fn known(config: &Config) -> Config {
+        config.known_by(Way::Time)
+    }
+}
+
+struct CalendarDate;
+
+impl Shape for CalendarDate {
+    ghost way = { Way.CalendarDate };
+
+    #[inline(always)]
+    fn known(config: &Config) -> Config {
+        config.known_by(Way::CalendarDate)
+    }
+}
+
+struct WeekDate;
+
+impl Shape for WeekDate {
+    ghost way = { Way.WeekDate };
+
+    #[inline(always)]
+    fn known(config: &Config) -> Config {
+        config.known_by(Way::WeekDate)
+    }
+}
+
+struct OrdinalDate;
+
+impl Shape for OrdinalDate {
+    ghost way = { Way.OrdinalDate };
+
+    #[inline(always)]
+    fn known(config: &Config) -> Config {
+        config.known_by(Way::OrdinalDate)
+    }
+}
+
+struct Any;
+
+impl Shape for Any {
+    ghost way = { Way.Other };
+
+    #[inline(always)]
+    fn known(config: &Config) -> Config {
+        config.known_by(Way::Other)
+    }
+}
+
+// Appends the parts that are formatted by a text of this shape, in a function of its own.
 #[inline(never)]
-fn write_each<V: ComponentProvider>(
+fn write_apart<V: ComponentProvider, T: Shape>(
     config: &Config,
     output: &mut Vec<u8>,
     value: &V,
     state: &mut V::State,
-) -> Result<(), OutOfRange>
-    requires some { config.now.formatted_components ≢ FormattedComponents.None }
+) -> Result<usize, OutOfRange>
+    requires way { FitsWay config.now T.way }
+    requires some { T.way ≡ Way.Other
+        → config.now.formatted_components ≢ FormattedComponents.None }
     requires supplied { IsTrue (are_supplied (groups_of config.now.formatted_components)
         V.SUPPLIES_DATE V.SUPPLIES_TIME V.SUPPLIES_OFFSET) }
     requires room { HasRoom output.old (iso8601_width config.now) }
@@ -216,80 +408,49 @@ fn write_each<V: ComponentProvider>(
         → AreReal (V.facts value.now) }
     ensures agrees { V.agrees state.new value.now }
 {
-    let parts = parts_of(config, value, state);
-    append_parts(config, output, &parts)
+    write_known::<V, T>(config, output, value, state)
 }
 
-// Appends by the function that the configuration decided, where nothing of the value is refused; else it
-// appends nothing.
+// Appends the parts that are formatted by a text of this shape.
 #[inline(always)]
-#[tactic(auto, using(crate::proofs::iso8601::GroupLemmas::by_choice))]
-fn write_by_way<V: ComponentProvider>(
+fn write_known<V: ComponentProvider, T: Shape>(
     config: &Config,
-    way: &Way,
     output: &mut Vec<u8>,
     value: &V,
     state: &mut V::State,
-) -> Option<usize>
-    requires way { FitsWay config.now way.now }
+) -> Result<usize, OutOfRange>
+    requires way { FitsWay config.now T.way }
+    requires some { T.way ≡ Way.Other
+        → config.now.formatted_components ≢ FormattedComponents.None }
     requires supplied { IsTrue (are_supplied (groups_of config.now.formatted_components)
         V.SUPPLIES_DATE V.SUPPLIES_TIME V.SUPPLIES_OFFSET) }
     requires room { HasRoom output.old (iso8601_width config.now) }
     requires agrees { V.agrees state.old value.now }
-    ensures appends { MatchOption result (output.new ≡ output.old)
-        (λ n. AppendsUpTo (iso8601_width config.now) output.old output.new (Ok n)
-        (iso8601_outcome config.now (V.facts value.now))) }
-    ensures real { OnSome result
-        (config.now.formatted_components ≡ FormattedComponents.DateTimeOffset
-        → AreReal (V.facts value.now)) }
+    ensures appends { AppendsOrRefuses (iso8601_width config.now) output.old output.new result
+        (iso8601_outcome config.now (V.facts value.now)) }
+    ensures real { config.now.formatted_components ≡ FormattedComponents.DateTimeOffset
+        → AreReal (V.facts value.now) }
     ensures agrees { V.agrees state.new value.now }
 {
-    match way {
-        Way::Usual(usual) => write_usual(config, usual, output, value, state),
-        Way::CalendarDate => {
-            let has_dash = config.use_separators();
-            write_date_by(config, DateKind::Calendar, has_dash, output, value, state)
-        }
-        Way::WeekDate => {
-            let has_dash = config.use_separators();
-            write_date_by(config, DateKind::Week, has_dash, output, value, state)
-        }
-        Way::OrdinalDate => { write_date_by(config, DateKind::Ordinal, true, output, value, state) }
-        Way::CompactOrdinalDate => {
-            write_date_by(config, DateKind::Ordinal, false, output, value, state)
-        }
-        Way::Time => {
-            let has_letter = !config.use_separators();
-            Some(write_time(config, has_letter, output, value, state))
-        }
-        Way::DateTime => write_date_time(config, output, value, state),
-        Way::Other => None,
-    }
+    let known = T::known(config);
+    let parts = parts_of(&known, value, state);
+    append_known::<T>(&known, output, &parts)
 }
 
-// Appends the date by month and day after four digits of the year, and the time.
-#[inline(never)]
-#[tactic(auto, using(time_fmt::proofs::WriteLemmas::appends_both))]
-fn write_date_time<V: ComponentProvider>(
+// Appends the parts by separators that the compiler knows, and so where each part stands.
+#[inline(always)]
+fn append_known<T: Shape>(
     config: &Config,
     output: &mut Vec<u8>,
-    value: &V,
-    state: &mut V::State,
-) -> Option<usize>
-    requires parts { config.now.formatted_components ≡ FormattedComponents.DateTime }
-    requires short { config.now.year_is_six_digits ≡ false }
-    requires kind { config.now.date_kind ≡ DateKind.Calendar }
-    requires date { IsTrue V.SUPPLIES_DATE }
-    requires time { IsTrue V.SUPPLIES_TIME }
-    requires room { HasRoom output.old (iso_date_width config.now + iso_time_width config.now) }
-    requires agrees { V.agrees state.old value.now }
-    ensures appends { MatchOption result (output.new ≡ output.old)
-        (λ n. AppendsUpTo (iso_date_width config.now + iso_time_width config.now)
-        output.old output.new (Ok n) (join (iso_date config.now (the_date (V.facts value.now)))
-        (iso_time config.now (the_time (V.facts value.now))))) }
-    ensures agrees { V.agrees state.new value.now }
+    parts: &Parts,
+) -> Result<usize, OutOfRange>
+    requires room { HasRoom output.old (parts_width config.now parts.now) }
+    ensures appends { AppendsOrRefuses (parts_width config.now parts.now) output.old output.new
+        result (parts_text config.now parts.now) }
 {
-    let has_dash = config.use_separators();
-    let date = write_date_by(config, DateKind::Calendar, has_dash, output, value, state)?;
-    Some(date + write_time(config, true, output, value, state))
+    if config.use_separators() {
+        append_parts::<T, true>(&config.with_known_separators(true), output, parts)
+    } else {
+        append_parts::<T, false>(&config.with_known_separators(false), output, parts)
+    }
 }

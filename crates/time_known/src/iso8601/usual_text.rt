@@ -1,83 +1,24 @@
 //! The texts of the usual configurations, in pieces that are inlined.
 #![tactic(auto, using(crate::proofs::LengthLemmas::joined_lengths))]
 
-ghost use Rattle.std.specs.Prelude.{◌≡◌, ◌≤◌, ◌+◌, ◌*◌, ◌++◌, length, OnSome, MatchOption, Ok, true};
+ghost use Rattle.std.specs.Prelude.{◌≤◌, ◌+◌, ◌*◌, ◌++◌, length, true};
 ghost use Rattle.time_fmt.specs.Decimals.{decimals};
-ghost use Rattle.time_fmt.specs.Outcome.{AppendsUpTo};
-ghost use Rattle.time_fmt.specs.Room.{HasRoom};
-ghost use Rattle.time_provide.specs.Real.{AreReal};
 ghost use Rattle.time_known.specs.Fields.{date_of_fields, offset_of_fields, shown};
-ghost use Rattle.time_known.specs.Groups.{AreAllSupplied, at_groups};
-ghost use Rattle.time_known.specs.Iso8601.{decimal_part, iso_of_groups};
+ghost use Rattle.time_known.specs.Iso8601.{decimal_part};
 ghost use Rattle.time_known.specs.Iso8601Width.{decimal_part_width, iso8601_width};
 ghost use Rattle.time_known.specs.Sink.{Fits, Puts, PutsUpTo};
 ghost use Rattle.time_known.specs.Stamps.{stamp_length, stamp_of_fields};
 ghost use Rattle.time_known.specs.UsualText.{usual_choices, usual_of_fields, usual_time_text};
 
-use crate::fields::{Fields, accepted_fields};
-use crate::iso8601::config::{Config, DecimalSign, Usual};
+use crate::fields::Fields;
+use crate::iso8601::config::{DecimalSign, Usual};
 use crate::iso8601::time::{NANOSECONDS_PER_SECOND, put_to_second};
 use crate::pieces::piece;
 use crate::put::{put_date, put_nine_digits, put_offset, put_six_decimals, put_three_decimals};
-use crate::sink::{Sink, Text, append};
+use crate::sink::{Sink, Text};
 use time_below::Time;
 use time_digits::{ru8, single_digit};
-use time_provide::ComponentProvider;
 use time_provide::ranges::Nanoseconds;
-
-// Appends the text by these choices, where nothing of the value is refused; else it appends nothing.
-#[inline(always)]
-pub(super) fn write_usual<V: ComponentProvider>(
-    config: &Config,
-    usual: &Usual,
-    output: &mut Vec<u8>,
-    value: &V,
-    state: &mut V::State,
-) -> Option<usize>
-    requires usual { config.now
-        ≡ usual_choices usual.now.has_separators usual.now.decimal_digits usual.now.decimal_sign }
-    requires supplied { AreAllSupplied V.SUPPLIES_DATE V.SUPPLIES_TIME V.SUPPLIES_OFFSET }
-    requires room { HasRoom output.old (iso8601_width config.now) }
-    requires agrees { V.agrees state.old value.now }
-    ensures appends { MatchOption result (output.new ≡ output.old)
-        (λ n. AppendsUpTo (iso8601_width config.now) output.old output.new (Ok n)
-        (at_groups (iso_of_groups config.now) (V.facts value.now))) }
-    ensures real { OnSome result (AreReal (V.facts value.now)) }
-    ensures agrees { V.agrees state.new value.now }
-{
-    match accepted_fields(0, 25, value, state) {
-        Ok(fields) => {
-            let usual = *usual;
-            Some(append(output, &UsualText { usual, fields }))
-        }
-        Err(_) => None,
-    }
-}
-
-// The text by such choices, of fields of which nothing is refused.
-#[derive(Clone, Copy)]
-struct UsualText {
-    usual: Usual,
-    fields: Fields,
-}
-
-impl Text for UsualText {
-    ghost width = { λ t. iso8601_width
-        (usual_choices t.usual.has_separators t.usual.decimal_digits t.usual.decimal_sign) };
-
-    ghost text = { λ t. usual_of_fields
-        (usual_choices t.usual.has_separators t.usual.decimal_digits t.usual.decimal_sign)
-        t.usual.decimal_digits (shown t.fields) };
-
-    #[inline(always)]
-    fn put_into<S: Sink>(&self, output: &mut S) {
-        if self.usual.has_separators {
-            put_usual(output, &self.usual, &self.fields, "-", ":");
-        } else {
-            put_usual(output, &self.usual, &self.fields, "", "");
-        }
-    }
-}
 
 /// The text by such choices with separators, of fields of which nothing is refused.
 #[derive(Clone, Copy)]
