@@ -337,8 +337,8 @@ private:
 
 // A description, which is made once from a text, or of components and texts, and formats any number of moments.
 //
-//     const auto day = movaliren::description::parse_strftime("%d of %B");
-//     std::string text = day.format(std::chrono::system_clock::now());
+//     const auto line = movaliren::description::parse_strftime("%d of %B");
+//     const std::string today = line.format(std::chrono::system_clock::now());
 class description {
 public:
     // The description in the syntax of strftime. Throws invalid_description.

@@ -118,6 +118,9 @@ static void descriptions_from_texts()
 {
     const auto mail = movaliren::description::parse_strftime("%a, %d %b %Y %H:%M:%S %z");
     expect("strftime", mail.format(at(seconds(880127706)), hours(-6)), "Fri, 21 Nov 1997 09:55:06 -0600");
+    const auto line = movaliren::description::parse_strftime("%d of %B");
+    const std::string today = line.format(std::chrono::system_clock::now());
+    expect("the clock's day", today.substr(2, 4), " of ");
     std::string many, wanted;
     for (int i = 0; i < 1000; i++)
         many += "%d-", wanted += "21-";
