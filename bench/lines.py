@@ -1,5 +1,6 @@
 #!/usr/bin/env python3
-"""Counts what `movaliren` costs a line, times it beside other programs, and prints two tables.
+"""Counts what `movaliren` costs a line, times it beside other programs, and prints two tables; each names the commit and
+the load.
 
     bench/lines.py [PROGRAM] [--check]
 
@@ -16,6 +17,8 @@ import shutil
 import subprocess
 import sys
 import tempfile
+
+import run
 
 TOP = pathlib.Path(__file__).resolve().parent.parent
 MORE = 10_000
@@ -98,19 +101,27 @@ def check(program):
     return all(count <= most for (*_, most), count in zip(ROWS, counts))
 
 
+def tell_commit(before):
+    print(f"\n{run.Bench.commit()}, load {before:.1f} to {os.getloadavg()[0]:.1f}.\n", flush=True)
+
+
 def main():
     named = [it for it in sys.argv[1:] if not it.startswith("-")]
     program = os.path.abspath(named[0] if named else TOP / "crates/movaliren_cli/out/movaliren_cli")
     if "--check" in sys.argv:
         return not check(program)
+    before = os.getloadavg()[0]
     print("|A line of `movaliren`|Instructions|Aim|\n|---|---|---|")
     for what, words, line, aim, _ in ROWS:
         print(f"|{what}|{cost([program, *words], line)}|{aim or ''}|", flush=True)
+    tell_commit(before)
     rows = [(f"`movaliren` {what}", [program, *words], line) for what, words, line, *_ in ROWS[:1] + ROWS[-1:]]
     rows += [it for it in OTHERS if shutil.which(it[1][0])]
-    print("\n|A million lines|User and system, ms|\n|---|---|")
+    before = os.getloadavg()[0]
+    print("|A million lines|User and system, ms|\n|---|---|")
     for (what, _, _), time in zip(rows, timed(rows)):
         print(f"|{what}|{time}|")
+    tell_commit(before)
     return 0
 
 

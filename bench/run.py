@@ -8,10 +8,13 @@ added as a program, and once more with `LENT`, and `kit/main.rt.in` as a third. 
 checks left in `crates/*/out`, and over new ones where there are none. Beside them stand `strftime` and {fmt} by
 `beside.cpp`, where g++ and Debian's libfmt-dev are installed, whose texts are compared with ours, and the counts of
 the Rust crate in `time-0.3.55.tsv`. Instructions are counted by callgrind, where it is installed, as the difference
-of two runs. Times are the least of some rounds, in each of which every way has a turn.
+of two runs. FOLDER keeps them, so that a second run counts only what a changed program costs. Times are the least of
+some rounds, in each of which every way has a turn, and are always taken again.
 """
 
 import concurrent.futures
+import hashlib
+import json
 import os
 import pathlib
 import random
@@ -20,6 +23,7 @@ import shutil
 import subprocess
 import sys
 import tempfile
+import threading
 import time
 from typing import NamedTuple
 
@@ -199,9 +203,38 @@ def answer(way, turns, *before):
     return run.stdout, run.stderr
 
 
+class Kept:
+    """Counts by the program, its words and what it reads, in a file of the folder."""
+
+    def __init__(self):
+        self.path, self.counts, self.lock = None, {}, threading.Lock()
+
+    def open(self, folder):
+        self.path = folder / "counts.json"
+        self.counts = json.loads(self.path.read_text()) if self.path.exists() else {}
+
+    @staticmethod
+    def key(way, turns):
+        program, *words = way.command(turns)
+        read = [pathlib.Path(program).read_bytes(), way.data(turns)]
+        return " ".join([*words, *(hashlib.sha256(it).hexdigest() for it in read)])
+
+    def keep(self, key, count):
+        with self.lock:
+            self.counts[key] = count
+            if self.path:
+                self.path.write_text(json.dumps(self.counts))
+
+
+KEPT = Kept()
+
+
 def instructions(way, turns):
-    told = answer(way, turns, "valgrind", "--tool=callgrind", "--callgrind-out-file=/dev/null")[1]
-    return int(re.search(rb"Collected : (\d+)", told)[1])
+    key = KEPT.key(way, turns)
+    if key not in KEPT.counts:
+        told = answer(way, turns, "valgrind", "--tool=callgrind", "--callgrind-out-file=/dev/null")[1]
+        KEPT.keep(key, int(re.search(rb"Collected : (\d+)", told)[1]))
+    return KEPT.counts[key]
 
 
 def counted(way, sizes=COUNTED):
@@ -240,6 +273,7 @@ def counts_of(ways):
 class Bench:
     def __init__(self, folder):
         self.folder = folder
+        KEPT.open(folder)
         copied(folder)
         added(folder)
         self.lent = built(folder, "time_bench_lent")
