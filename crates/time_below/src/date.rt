@@ -55,7 +55,6 @@ impl Model for Date {
 impl Date {
     /// The date of a year -999,999 to 999,999, a month and a day 1 to the length of that month.
     /// Refuses the year, then the day, whose range the year and the month set.
-    #[tactic(auto, using(crate::proofs::MonthLemmas::month_within))]
     pub fn from_calendar_date(year: i32, month: Month, day: u8) -> Result<Date, ComponentRange>
         ensures accepted { IsOk result
             ↔ (IsYear year × IsDayOfMonth year (month_number month) day) }
@@ -67,15 +66,26 @@ impl Date {
         if !is_year(year) {
             return Err(ComponentRange::unconditional("year"));
         }
-        let is_leap = calendar::is_leap_year(year);
-        let number = u8::from(month);
-        if day == 0 || day > calendar::days_in_month(is_leap, number) {
+        if day == 0 || day > month.length(year) {
             return Err(ComponentRange::conditional("day"));
         }
-        Ok(Date {
+        Ok(Date::from_valid_calendar_date(year, month, day))
+    }
+
+    /// The date of a year, a month and a day that `from_calendar_date` takes, as the caller knows. Nothing
+    /// is tested.
+    #[inline]
+    #[tactic(auto, using(crate::proofs::MonthLemmas::month_within))]
+    pub fn from_valid_calendar_date(year: i32, month: Month, day: u8) -> Date
+        requires year { IsYear year }
+        requires day { IsDayOfMonth year (month_number month) day }
+        ensures { result ≡ date_of year (month_number month) day }
+    {
+        let is_leap = calendar::is_leap_year(year);
+        Date {
             year,
-            ordinal: calendar::days_before_month(is_leap, number) + day as u16,
-        })
+            ordinal: calendar::days_before_month(is_leap, u8::from(month)) + day as u16,
+        }
     }
 
     /// The date of a year -999,999 to 999,999 and a day of the year, 1 to 365, or 366 in a leap

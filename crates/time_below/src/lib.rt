@@ -18,6 +18,7 @@ mod utc_date_time;
 mod utc_offset;
 mod weekday;
 
+pub use calendar::is_leap_year;
 pub use component_range::ComponentRange;
 pub use date::Date;
 pub use different_variant::DifferentVariant;

@@ -1,8 +1,10 @@
 //! The months of the calendar.
 ghost use Rattle.std.specs.Prelude.{◌≡◌};
 ghost use Rattle.std.specs.Int.{IsInRange};
+ghost use Rattle.time_below.specs.Calendar.{days_in_month, is_leap_year};
 ghost use Rattle.time_below.specs.Month.{month_number};
 
+use crate::calendar;
 use crate::component_range::ComponentRange;
 use std::convert::TryFrom;
 
@@ -36,8 +38,9 @@ pub enum Month {
 }
 
 impl Month {
-    // The month of a number from 1 to 12.
-    pub(crate) fn from_number(number: u8) -> Month
+    /// The month of a number from 1 to 12, as the caller knows. Nothing is tested.
+    #[inline]
+    pub fn from_number(number: u8) -> Month
         requires { IsInRange 1 12 number }
         ensures { month_number result ≡ number }
     {
@@ -56,6 +59,15 @@ impl Month {
             12 => Month::December,
             _ => unreachable!(),
         }
+    }
+
+    /// The number of days of the month in this year, 28 to 31.
+    #[inline]
+    pub fn length(self, year: i32) -> u8
+        ensures value { result ≡ days_in_month (is_leap_year year) (month_number self) }
+        ensures range { IsInRange 28 31 result }
+    {
+        calendar::days_in_month(calendar::is_leap_year(year), u8::from(self))
     }
 }
 

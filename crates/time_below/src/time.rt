@@ -67,12 +67,23 @@ impl Time {
         if nanosecond > 999_999_999 {
             return Err(ComponentRange::unconditional("nanosecond"));
         }
-        Ok(Time {
+        Ok(Time::from_valid_hms_nano(hour, minute, second, nanosecond))
+    }
+
+    /// The time of parts that are in the ranges of `from_hms_nano`, as the caller knows. Nothing is tested.
+    #[inline]
+    pub fn from_valid_hms_nano(hour: u8, minute: u8, second: u8, nanosecond: u32) -> Time
+        requires { IsTimeOfDay (
+            record { hour = hour; minute = minute; second = second; nanosecond = nanosecond }) }
+        ensures { result
+            ≡ record { hour = hour; minute = minute; second = second; nanosecond = nanosecond } }
+    {
+        Time {
             hour,
             minute,
             second,
             nanosecond,
-        })
+        }
     }
 
     /// The hour, 0 to 23.

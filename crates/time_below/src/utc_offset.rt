@@ -88,12 +88,36 @@ impl UtcOffset {
         if seconds.unsigned_abs() > 59 {
             return Err(ComponentRange::unconditional("seconds"));
         }
+        Ok(UtcOffset::from_ranged_hms(hours, minutes, seconds))
+    }
+
+    /// The offset of parts that are in the ranges of `from_hms`, as the caller knows. Nothing is tested.
+    /// If signs differ, the smaller parts take the sign of the largest part that is not zero.
+    #[inline]
+    pub fn from_ranged_hms(hours: i8, minutes: i8, seconds: i8) -> UtcOffset
+        requires { AreOffsetParts hours minutes seconds }
+        ensures { result ≡ settled hours minutes seconds }
+    {
         let seconds = signed_like(hours, signed_like(minutes, seconds));
-        Ok(UtcOffset {
+        UtcOffset {
             hours,
             minutes: signed_like(hours, minutes),
             seconds,
-        })
+        }
+    }
+
+    /// The offset of parts that are in the ranges of `from_hms` and have one sign at most, as the caller
+    /// knows. Nothing is tested.
+    #[inline]
+    pub fn from_valid_hms(hours: i8, minutes: i8, seconds: i8) -> UtcOffset
+        requires { IsOffset (record { hours = hours; minutes = minutes; seconds = seconds }) }
+        ensures { result ≡ record { hours = hours; minutes = minutes; seconds = seconds } }
+    {
+        UtcOffset {
+            hours,
+            minutes,
+            seconds,
+        }
     }
 
     /// The offset of -93,599 to 93,599 seconds, which is 25:59:59 either way. Refuses any other number as
@@ -131,14 +155,16 @@ impl UtcOffset {
     pub fn is_utc(self) -> bool
         ensures { result ≡ is_utc self }
     {
-        self.hours == 0 && self.minutes == 0 && self.seconds == 0
+        // No test is a branch, so that the compiler computes the answer only where it is used.
+        (self.hours == 0) & (self.minutes == 0) & (self.seconds == 0)
     }
 
     /// Whether some part is below zero.
     pub fn is_negative(self) -> bool
         ensures { result ≡ is_negative self }
     {
-        self.hours < 0 || self.minutes < 0 || self.seconds < 0
+        // Without branches, as above.
+        (self.hours < 0) | (self.minutes < 0) | (self.seconds < 0)
     }
 
     /// The whole offset in seconds, -93,599 to 93,599.

@@ -2,7 +2,7 @@ use Rattle.std.proofs.Common.{◌≡◌, ℕ, ℤ, ◌+ℤ◌, ◌<◌, unsigned
 use Rattle.std.proofs.lemmas.Int.{ints}
 use Rattle.time_below.proofs.MomentLemmas.{local_unix_seconds-local_at}
 use Rattle.time_below.proofs.timestamp.Timestamp.checked_to_offset.Goals as goal
-use Rattle.time_below.specs.Moment.{Moment, IsMoment, IsTimestampSecond, local_at, moved, local_unix_seconds, utc_date, utc_time}
+use Rattle.time_below.specs.Moment.{Moment, IsMoment, IsTimestampSecond, moved}
 use Rattle.time_below.specs.Offset.{Offset, offset_seconds}
 
 -- the sum as the code holds it

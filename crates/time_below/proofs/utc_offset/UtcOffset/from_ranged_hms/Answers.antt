@@ -1,12 +1,17 @@
-use Rattle.std.proofs.Common.{ap, ◌∙◌, arith, rules, ℤ, w8, to_z, of_z, FitsSigned}
+use Rattle.std.proofs.Common.{ap, ℕ, ◌≤◌, unsigned_abs, ◌∙◌, arith, rules, ℤ, w8, to_z, of_z, FitsSigned}
 use Rattle.std.proofs.lemmas.Int.{to_z-of_z}
 use Rattle.time_below.specs.Offset.{signed_like}
 use Rattle.time_below.proofs.OffsetLemmas.{IsOffset-parts}
-use Rattle.time_below.proofs.utc_offset.UtcOffset.from_hms.Goals as goal
+use Rattle.time_below.proofs.utc_offset.UtcOffset.from_ranged_hms.Goals as goal
 
 -- the parts as the code holds them
 abbrev held_part : ℤ → ℤ
 held_part part = to_z w8 (of_z w8 part)
+
+-- a part within its range is held as it is
+kept : (greatest : ℕ) (part : ℤ) → greatest ≤ 59 → unsigned_abs part ≤ greatest → unsigned_abs (held_part part) ≤ greatest
+kept greatest part small h =
+    let fits : FitsSigned w8 part = search (rules, small, h) in rw (to_z-of_z w8 part fits) h
 
 pub invariant_of-result : goal.invariant_of-result
 invariant_of-result c =
@@ -20,4 +25,8 @@ invariant_of-result c =
     ∙ c.signed_like-seconds.ensures.value
     ∙ ap (signed_like (held_part c.args.hours)) inner in
     IsOffset-parts (held_part c.args.hours) (held_part c.args.minutes) (held_part c.args.seconds) _ _ minutes
-    seconds (omega arith, omega arith, omega arith)
+    seconds (
+      kept 25 c.args.hours (omega arith) c.requires.0,
+      kept 59 c.args.minutes (omega arith) c.requires.1,
+      kept 59 c.args.seconds (omega arith) c.requires.2,
+    )
