@@ -32,6 +32,8 @@ impl ComputeMetadata for BorrowedItems<'_> {
 impl Formattable for BorrowedItems<'_> {
     ghost outcome_of = { λ items. trees_outcome (trees (map borrowed_tree items.0.now)) };
 
+    // More than one caller would else call it for each text.
+    #[inline(always)]
     fn write_into<V: ComponentProvider>(
         &self,
         output: &mut Vec<u8>,
@@ -66,6 +68,8 @@ impl ComputeMetadata for OwnedItems<'_> {
 impl Formattable for OwnedItems<'_> {
     ghost outcome_of = { λ items. trees_outcome (trees (map owned_tree items.0.now)) };
 
+    // More than one caller would else call it for each text.
+    #[inline(always)]
     fn write_into<V: ComponentProvider>(
         &self,
         output: &mut Vec<u8>,
