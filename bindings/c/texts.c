@@ -92,7 +92,7 @@ static const struct {
         "Fri, 21 Nov 1997", "Fri, 21 Nov 1997" },
     { movaliren_parse, "[year]-[month]-[day]T[hour]:[minute]:[second].[subsecond digits:3][offset_hour sign:mandatory]:[offset_minute]",
         "1997-11-21T09:55:06.120-06:00", "1997-11-21T15:55:06.120+00:00", 0 },
-    { movaliren_parse, "\\[[day padding:none]\\] [[\\\\", "[21] [\\", "[21] [\\", "[21] [\\" },
+    { movaliren_parse, "\\[[day padding:none]\\] \\[\\\\", "[21] [\\", "[21] [\\", "[21] [\\" },
     { movaliren_parse, "[year base:iso_week]-W[week_number]-[weekday repr:monday]", "1997-W47-5",
         "1997-W47-5", "1997-W47-5" },
     { movaliren_parse, "\xe6\x97\xa5 [hour repr:12]", "\xe6\x97\xa5 09", "\xe6\x97\xa5 03", 0 },
@@ -296,7 +296,7 @@ int main(void)
     for (size_t i = 0; i < sizeof faults / sizeof *faults; i++)
         try_prefixes(faults[i].format, faults[i].parse == movaliren_parse_strftime);
     expect_fault_of("[first [", 33, movaliren_parse, 263, MOVALIREN_FAULT_TOO_DEEP);
-    expect_fault_of("\\[", 65537, movaliren_parse, 131072, MOVALIREN_FAULT_TOO_MANY_ITEMS);
+    expect_fault_of("\\[", 32769, movaliren_parse, 65536, MOVALIREN_FAULT_TOO_MANY_ITEMS);
     expect_fault_of("%%", 65537, movaliren_parse_strftime, 131072, MOVALIREN_FAULT_TOO_MANY_ITEMS);
     try_random_moments();
     printf("texts: %d wrong\n", failures);
