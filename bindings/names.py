@@ -54,7 +54,7 @@ OF_C = {of_c: kind for kind, of_c in interface.C_TYPES.items()}
 # What makes no text of a moment.
 NOT_COUNTED = {"version", "error_words", "fault_words"}
 # What Rust calls by a description that it has read before.
-OF_C_ALONE = {"strftime_utc", "strftime_local"}
+OF_C_ALONE = {"brackets_utc", "brackets_local", "strftime_utc", "strftime_local"}
 # Crates, a variable of the environment, and the mark of the header.
 NOT_IN_HEADER = {"movaliren_c", "movaliren_cli", "movaliren_time", "MOVALIREN_LIB", "MOVALIREN_H"}
 

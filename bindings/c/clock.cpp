@@ -42,7 +42,7 @@ static movaliren_place read_place;
 static movaliren_log kept;
 static movaliren_item made[16];
 static movaliren_fault fault;
-static const char conversions[] = "%Y-%m-%d %H:%M:%S";
+static const char brackets[] = "[year]-[month]-[day] [hour]:[minute]:[second]", conversions[] = "%Y-%m-%d %H:%M:%S";
 
 static movaliren_item items[11], names[7];
 static char texts[5], name_texts[8];
@@ -344,6 +344,9 @@ static const struct {
         BY_PARTS(movaliren_format_date(names, 7, name_texts, 4, value.year, value.month, value.day, OUT)), 0 },
     NO_DECIMALS("format_date:names", 0, "%A, %d %B %Y"),
     { "format_date:names/snprintf", ONE(names_by_snprintf(moment)), 0 },
+    { "describe:11-items", ONE(movaliren_describe(brackets, sizeof brackets - 1, made, 16, &fault)), 0 },
+    { "brackets_utc:11-items", ONE(movaliren_brackets_utc(brackets, sizeof brackets - 1, NOW, OUT)), 0 },
+    { "brackets_local:11-items", ONE(movaliren_brackets_local(brackets, sizeof brackets - 1, NOW, EAST, OUT)), 0 },
     { "describe_strftime:11-items", ONE(movaliren_describe_strftime(conversions, sizeof conversions - 1, made, 16, &fault)), 0 },
     { "strftime_utc:11-items", ONE(movaliren_strftime_utc(conversions, sizeof conversions - 1, NOW, OUT)), 0 },
     NO_DECIMALS("strftime_utc:11-items", 0, DATE " " CLOCK),

@@ -542,6 +542,16 @@ ptrdiff_t movaliren_width(const struct movaliren_item *items, size_t items_len, 
 
 /* What is wrong in a text that is no description, and at which byte. */
 enum movaliren_fault_reason {
+    MOVALIREN_FAULT_UNCLOSED_BRACKET = 1,  /* the opening bracket */
+    MOVALIREN_FAULT_INVALID_ESCAPE = 2,    /* the backslash */
+    MOVALIREN_FAULT_MISSING_NAME = 3,      /* the closing bracket */
+    MOVALIREN_FAULT_UNKNOWN_NAME = 4,      /* the first byte of the name */
+    MOVALIREN_FAULT_UNKNOWN_MODIFIER = 5,  /* the first byte of the modifier */
+    MOVALIREN_FAULT_INVALID_VALUE = 6,     /* the first byte of the modifier */
+    MOVALIREN_FAULT_MISSING_MODIFIER = 7,  /* the closing bracket */
+    MOVALIREN_FAULT_MISSING_ITEMS = 8,     /* the closing bracket */
+    MOVALIREN_FAULT_UNEXPECTED_BYTE = 9,   /* that byte */
+    MOVALIREN_FAULT_TOO_DEEP = 10,         /* the opening bracket of the 33rd list */
     MOVALIREN_FAULT_TOO_MANY_ITEMS = 11,   /* more than 65,536 */
     MOVALIREN_FAULT_UNFINISHED = 12,       /* the `%` */
     MOVALIREN_FAULT_UNKNOWN_CONVERSION = 13, /* the letter, or the colon */
@@ -562,19 +572,33 @@ struct movaliren_fault {
     uint8_t byte;   /* the letter that the reason names, or 0 */
 };
 
-/* Reads a description in the syntax of strftime into items at the start of the array. Returns their number; the fault
- * is then unchanged. The literals of the items are cut from the text: it is the `texts` of each call that is given
- * these items. A conversion is at most 13 items, as %c is, and the text between two conversions is one.
+/* Reads a description into items at the start of the array: in brackets, as [year]-[month]-[day], or in the syntax of
+ * strftime. Returns their number; the fault is then unchanged. The literals of the items are cut from the text: it is
+ * the `texts` of each call that is given these items.
+ *
+ * In brackets a component is one item, an escaped byte is one, and so is the text between two of these. The items of an
+ * `optional` stand in its place, and of a `first` those of its first list. A conversion is at most 13 items, as %c is,
+ * and the text between two conversions is one.
  *
  * A text that is no description is MOVALIREN_ERROR_BAD_DESCRIPTION, and the fault says why. Where the array is too
  * short, the call returns MOVALIREN_ERROR_MANY_ITEMS and sets `items` of the fault to the number of items. A text
  * with both is MOVALIREN_ERROR_BAD_DESCRIPTION. After an error the first item of the array is invalid: each call that
  * is given it returns MOVALIREN_ERROR_BAD_ITEM. */
+ptrdiff_t movaliren_describe(const void *text, size_t text_len, struct movaliren_item *items,
+    size_t items_len, struct movaliren_fault *fault);
 ptrdiff_t movaliren_describe_strftime(const void *text, size_t text_len,
     struct movaliren_item *items, size_t items_len, struct movaliren_fault *fault);
 
-/* The text of a moment by a description of at most 64 items, which is read for this one text. Its errors are those of
- * movaliren_describe_strftime, and then those of movaliren_format_utc. */
+/* The text of a moment by a description of at most 64 items, which is read for this one text: in brackets, or in the
+ * syntax of strftime. The errors are those of movaliren_describe, and then those of movaliren_format_utc.
+ *
+ *     static const char day[] = "[day] [month repr:long]";
+ *     n = movaliren_brackets_utc(day, sizeof day - 1, now.tv_sec, 0, line, sizeof line);
+ */
+ptrdiff_t movaliren_brackets_utc(const void *text, size_t text_len, int64_t seconds,
+    uint32_t nanosecond, void *room, size_t room_len);
+ptrdiff_t movaliren_brackets_local(const void *text, size_t text_len, int64_t seconds,
+    uint32_t nanosecond, int64_t offset, void *room, size_t room_len);
 ptrdiff_t movaliren_strftime_utc(const void *text, size_t text_len, int64_t seconds,
     uint32_t nanosecond, void *room, size_t room_len);
 ptrdiff_t movaliren_strftime_local(const void *text, size_t text_len, int64_t seconds,
@@ -634,8 +658,17 @@ MOVALIREN_INLINE ptrdiff_t movaliren_parsed(
     return description->reason;
 }
 
-/* Reads the description from a text in the syntax of strftime. Returns 0, or the reason and sets `fault`. The text is
- * not copied: it lasts as long as the description. */
+/* Reads the description from a text in brackets, as [year]-[month]-[day]. Returns 0, or the reason and sets `fault`.
+ * The text is not copied: it lasts as long as the description. */
+MOVALIREN_INLINE ptrdiff_t movaliren_parse(struct movaliren_description *description, const char *text)
+{
+    const size_t text_len = strlen(text);
+    return movaliren_parsed(description, text, text_len,
+        movaliren_describe(
+            text, text_len, description->items, description->items_room, &description->fault));
+}
+
+/* The same from a text in the syntax of strftime. */
 MOVALIREN_INLINE ptrdiff_t movaliren_parse_strftime(
     struct movaliren_description *description, const char *text)
 {

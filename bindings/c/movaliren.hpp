@@ -341,6 +341,9 @@ private:
 //     const std::string today = line.format(std::chrono::system_clock::now());
 class description {
 public:
+    // The description in brackets, as [year]-[month]-[day]. Throws invalid_description.
+    static description parse(std::string_view text) { return read(text, movaliren_describe); }
+
     // The description in the syntax of strftime. Throws invalid_description.
     static description parse_strftime(std::string_view text) { return read(text, movaliren_describe_strftime); }
 

@@ -116,6 +116,8 @@ static void descriptions()
 // A text of more items than are read at first, and each kind of fault that C++ adds to.
 static void descriptions_from_texts()
 {
+    const auto day = movaliren::description::parse("[day padding:none] [month repr:long]");
+    expect("brackets", day.format(at(seconds(880127706))), "21 November");
     const auto mail = movaliren::description::parse_strftime("%a, %d %b %Y %H:%M:%S %z");
     expect("strftime", mail.format(at(seconds(880127706)), hours(-6)), "Fri, 21 Nov 1997 09:55:06 -0600");
     const auto line = movaliren::description::parse_strftime("%d of %B");

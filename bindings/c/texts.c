@@ -54,6 +54,20 @@ static ptrdiff_t strftime_local(const void *format, const void *value, uint8_t *
         format, strlen(format), moment->seconds, moment->nanosecond, -21600, room, room_len);
 }
 
+static ptrdiff_t brackets_utc(const void *format, const void *value, uint8_t *room, size_t room_len)
+{
+    const struct movaliren_utc_moment *moment = value;
+    return movaliren_brackets_utc(
+        format, strlen(format), moment->seconds, moment->nanosecond, room, room_len);
+}
+
+static ptrdiff_t brackets_local(const void *format, const void *value, uint8_t *room, size_t room_len)
+{
+    const struct movaliren_utc_moment *moment = value;
+    return movaliren_brackets_local(
+        format, strlen(format), moment->seconds, moment->nanosecond, -21600, room, room_len);
+}
+
 /* ---- what is written: the examples of RFC 2822, appendix A.1.1, of RFC 3339, section 5.8, and of ISO 8601 */
 
 static const struct movaliren_moment mail = MOMENT(1997, 11, 21, 9, 55, 6, 120000000, -6, 0, 0);
@@ -74,6 +88,18 @@ static const struct {
     { movaliren_parse_strftime, "%-d. %B %Y \xc3\xa0 %-I %p", "21. November 1997 \xc3\xa0 9 AM",
         "21. November 1997 \xc3\xa0 3 PM", 0 },
     { movaliren_parse_strftime, "", "", "", "" },
+    { movaliren_parse, "[weekday repr:short], [day] [month repr:short] [year]", "Fri, 21 Nov 1997",
+        "Fri, 21 Nov 1997", "Fri, 21 Nov 1997" },
+    { movaliren_parse, "[year]-[month]-[day]T[hour]:[minute]:[second].[subsecond digits:3][offset_hour sign:mandatory]:[offset_minute]",
+        "1997-11-21T09:55:06.120-06:00", "1997-11-21T15:55:06.120+00:00", 0 },
+    { movaliren_parse, "\\[[day padding:none]\\] \\[\\\\", "[21] [\\", "[21] [\\", "[21] [\\" },
+    { movaliren_parse, "[year base:iso_week]-W[week_number]-[weekday repr:monday]", "1997-W47-5",
+        "1997-W47-5", "1997-W47-5" },
+    { movaliren_parse, "\xe6\x97\xa5 [hour repr:12]", "\xe6\x97\xa5 09", "\xe6\x97\xa5 03", 0 },
+    { movaliren_parse, "[first [[month]/[first [[day]] [x]]] [[hour]]][optional [ in [year]]][first]", "11/21 in 1997",
+        "11/21 in 1997", "11/21 in 1997" },
+    { movaliren_parse, "[day][first [[optional [a[end]]]b] [[optional [c]][hour]]]d[ignore count:2]", "21abd", "21abd", "21abd" },
+    { movaliren_parse, "", "", "", "" },
 };
 
 static void try_texts(void)
@@ -81,6 +107,7 @@ static void try_texts(void)
     struct movaliren_item items[32];
     for (size_t i = 0; i < sizeof rows / sizeof *rows; i++) {
         struct movaliren_description line = MOVALIREN_ITEMS(items);
+        const int is_strftime = rows[i].parse == movaliren_parse_strftime;
         expect_true(rows[i].parse(&line, rows[i].format) == 0, rows[i].format, "not read");
         expect_text(by, &line, &mail, rows[i].text);
         expect_text(by_local, &line, &mail_utc, rows[i].text);
@@ -89,8 +116,8 @@ static void try_texts(void)
             expect_text(by_date, &line, &mail, rows[i].date);
         else
             expect_error(by_date, &line, &mail, MOVALIREN_ERROR_INSUFFICIENT);
-        expect_text(strftime_utc, rows[i].format, &mail_utc, rows[i].utc);
-        expect_text(strftime_local, rows[i].format, &mail_utc, rows[i].text);
+        expect_text(is_strftime ? strftime_utc : brackets_utc, rows[i].format, &mail_utc, rows[i].utc);
+        expect_text(is_strftime ? strftime_local : brackets_local, rows[i].format, &mail_utc, rows[i].text);
         expect_true(movaliren_width_by(&line) >= (ptrdiff_t)strlen(rows[i].text), rows[i].format, "its width");
     }
 }
@@ -104,6 +131,15 @@ static const struct {
     uint8_t reason, byte;
     const char *words;
 } faults[] = {
+    { movaliren_parse, "[year", 0, MOVALIREN_FAULT_UNCLOSED_BRACKET, 0, "unclosed bracket at byte 0" },
+    { movaliren_parse, "x\\y", 1, MOVALIREN_FAULT_INVALID_ESCAPE, 0, "invalid escape sequence at byte 1" },
+    { movaliren_parse, "a[]", 2, MOVALIREN_FAULT_MISSING_NAME, 0, "missing component name at byte 2" },
+    { movaliren_parse, "[yaer]", 1, MOVALIREN_FAULT_UNKNOWN_NAME, 0, "unknown component at byte 1" },
+    { movaliren_parse, "[day pad:none]", 5, MOVALIREN_FAULT_UNKNOWN_MODIFIER, 0, "unknown modifier at byte 5" },
+    { movaliren_parse, "[day padding:no]", 5, MOVALIREN_FAULT_INVALID_VALUE, 0, "invalid modifier value at byte 5" },
+    { movaliren_parse, "[ignore]", 7, MOVALIREN_FAULT_MISSING_MODIFIER, 0, "missing modifier `count` at byte 7" },
+    { movaliren_parse, "a[optional ]", 11, MOVALIREN_FAULT_MISSING_ITEMS, 0, "missing list of items at byte 11" },
+    { movaliren_parse, "[first [a] x]", 11, MOVALIREN_FAULT_UNEXPECTED_BYTE, 0, "unexpected text at byte 11" },
     { movaliren_parse_strftime, "%H:%", 3, MOVALIREN_FAULT_UNFINISHED, 0, "unfinished conversion `%` at byte 3" },
     { movaliren_parse_strftime, "at %Q", 4, MOVALIREN_FAULT_UNKNOWN_CONVERSION, 'Q', "unknown conversion `%Q` at byte 4" },
     { movaliren_parse_strftime, "%\xc3\xa9", 1, MOVALIREN_FAULT_UNKNOWN_CONVERSION, 0xc3, "unknown conversion `%\\xc3` at byte 1" },
@@ -136,6 +172,7 @@ static void try_faults(void)
     char said[MOVALIREN_FAULT_ROOM];
     for (size_t i = 0; i < sizeof faults / sizeof *faults; i++) {
         const char *format = faults[i].format;
+        const int is_strftime = faults[i].parse == movaliren_parse_strftime;
         struct movaliren_description line = MOVALIREN_ITEMS(items);
         memset(items, 0xff, sizeof items);
         expect_true(faults[i].parse(&line, format) == MOVALIREN_ERROR_BAD_DESCRIPTION, format, "read");
@@ -144,8 +181,8 @@ static void try_faults(void)
             format, "another fault");
         expect_true(!strcmp(movaliren_fault_text(&line.fault, said), faults[i].words), faults[i].words, said);
         expect_refused(&line, MOVALIREN_ERROR_BAD_DESCRIPTION, format);
-        expect_error(strftime_utc, format, &mail_utc, MOVALIREN_ERROR_BAD_DESCRIPTION);
-        expect_error(strftime_local, format, &mail_utc, MOVALIREN_ERROR_BAD_DESCRIPTION);
+        expect_error(is_strftime ? strftime_utc : brackets_utc, format, &mail_utc, MOVALIREN_ERROR_BAD_DESCRIPTION);
+        expect_error(is_strftime ? strftime_local : brackets_local, format, &mail_utc, MOVALIREN_ERROR_BAD_DESCRIPTION);
     }
 }
 
@@ -203,7 +240,7 @@ static void expect_fault_of(const char *piece, size_t count, parser *parse, size
 }
 
 /* Each prefix is read or has a fault within it. Its bytes end where its memory does. */
-static void try_prefixes(const char *text)
+static void try_prefixes(const char *text, int is_strftime)
 {
     struct movaliren_item items[64];
     for (size_t len = 0; len <= strlen(text); len++) {
@@ -213,7 +250,8 @@ static void try_prefixes(const char *text)
         if (!prefix)
             exit(1);
         memcpy(prefix, text, len);
-        count = movaliren_describe_strftime(prefix, len, items, 64, &fault);
+        count = is_strftime ? movaliren_describe_strftime(prefix, len, items, 64, &fault)
+                            : movaliren_describe(prefix, len, items, 64, &fault);
         if (count < 0)
             expect_true(count == MOVALIREN_ERROR_BAD_DESCRIPTION && fault.at <= len && !fault.items, text, "a prefix");
         else
@@ -254,9 +292,11 @@ int main(void)
     try_rooms();
     try_words();
     for (size_t i = 0; i < sizeof rows / sizeof *rows; i++)
-        try_prefixes(rows[i].format);
+        try_prefixes(rows[i].format, rows[i].parse == movaliren_parse_strftime);
     for (size_t i = 0; i < sizeof faults / sizeof *faults; i++)
-        try_prefixes(faults[i].format);
+        try_prefixes(faults[i].format, faults[i].parse == movaliren_parse_strftime);
+    expect_fault_of("[first [", 33, movaliren_parse, 263, MOVALIREN_FAULT_TOO_DEEP);
+    expect_fault_of("\\[", 32769, movaliren_parse, 65536, MOVALIREN_FAULT_TOO_MANY_ITEMS);
     expect_fault_of("%%", 65537, movaliren_parse_strftime, 131072, MOVALIREN_FAULT_TOO_MANY_ITEMS);
     try_random_moments();
     printf("texts: %d wrong\n", failures);

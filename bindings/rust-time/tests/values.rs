@@ -106,6 +106,32 @@ fn descriptions_are_those_of_time() {
     }
 }
 
+/// Descriptions in brackets that version 1 of the syntax, which `time` 0.3.9 reads, has too.
+const BRACKETS: [&str; 10] = [
+    "[weekday], [day padding:none] [month repr:long] [year]",
+    "[weekday repr:short] [month repr:short] [day padding:space] [hour repr:12]:[minute] [period case:lower]",
+    "[year base:iso_week]-W[week_number]-[weekday repr:monday]",
+    "[year repr:last_two]/[ordinal]/[week_number repr:sunday]/[week_number repr:monday padding:none]",
+    "[weekday repr:sunday one_indexed:false] [weekday repr:monday one_indexed:true]",
+    "[hour padding:none]:[minute padding:space]:[second].[subsecond]",
+    "[subsecond digits:1] [subsecond digits:4] [subsecond digits:9]",
+    "[offset_hour sign:mandatory]:[offset_minute]",
+    "[year sign:mandatory padding:space]-[month padding:none]-[ day ]",
+    " \u{fc} [hour repr:24 padding:space] \u{65e5}",
+];
+
+#[test]
+fn descriptions_in_brackets_are_those_of_time() {
+    for (index, text) in BRACKETS.iter().enumerate() {
+        let theirs = time::format_description::parse(text).unwrap();
+        let ours = Description::parse(text).unwrap();
+        let times = values().skip(index).step_by(BRACKETS.len());
+        for time in times.filter_map(time_of) {
+            assert_same(ours.format(&time.to_moment()), time.format(&theirs));
+        }
+    }
+}
+
 #[test]
 fn texts_of_seconds_are_those_of_time() {
     for value in values() {

@@ -54,7 +54,7 @@ pub enum Error {
     /// The text is not one of the format. [`Rfc3339::read`](crate::Rfc3339::read) returns
     /// [`NotRead`](crate::NotRead) in its place.
     NotRead,
-    /// The text is not a description. [`Description::parse_strftime`](crate::Description::parse_strftime) returns
+    /// The text is not a description. [`Description::parse`](crate::Description::parse) returns
     /// [`InvalidDescription`](crate::InvalidDescription) in its place.
     BadDescription,
     /// The description has more items than there is room for. This crate makes room for all.

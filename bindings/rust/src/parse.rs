@@ -1,14 +1,35 @@
 //! Descriptions from a text.
 use crate::description::Description;
 use crate::library::{Fault, Item};
-use crate::raw;
+use crate::raw::{self, Syntax};
 use alloc::vec;
 use core::fmt;
+use core::str::FromStr;
 
 /// What is wrong in a text that is no description.
 #[derive(Clone, Copy, Debug, PartialEq, Eq, Hash)]
 #[non_exhaustive]
 pub enum FaultReason {
+    /// A bracket is not closed, or another one or a backslash stands in it: the opening bracket.
+    UnclosedBracket = 1,
+    /// What follows a backslash is no backslash and no bracket: the backslash.
+    InvalidEscape = 2,
+    /// Brackets have no name in them: the closing bracket.
+    MissingName = 3,
+    /// No component has this name: its first byte.
+    UnknownName = 4,
+    /// The component has no such modifier: its first byte.
+    UnknownModifier = 5,
+    /// The modifier has no such value: the first byte of the modifier.
+    InvalidValue = 6,
+    /// An `ignore` has no `count`: the closing bracket.
+    MissingModifier = 7,
+    /// An `optional` has no list of items: the closing bracket.
+    MissingItems = 8,
+    /// Text stands between lists of items, or an `optional` has a second one: its first byte.
+    UnexpectedByte = 9,
+    /// More than 32 lists of items stand in one another: the opening bracket of the 33rd.
+    TooDeep = 10,
     /// There are more than 65,536 items.
     TooManyItems = 11,
     /// A conversion has no letter: its `%`.
@@ -58,7 +79,17 @@ impl InvalidDescription {
     }
 }
 
-const REASONS: [FaultReason; 10] = [
+const REASONS: [FaultReason; 20] = [
+    FaultReason::UnclosedBracket,
+    FaultReason::InvalidEscape,
+    FaultReason::MissingName,
+    FaultReason::UnknownName,
+    FaultReason::UnknownModifier,
+    FaultReason::InvalidValue,
+    FaultReason::MissingModifier,
+    FaultReason::MissingItems,
+    FaultReason::UnexpectedByte,
+    FaultReason::TooDeep,
     FaultReason::TooManyItems,
     FaultReason::Unfinished,
     FaultReason::UnknownConversion,
@@ -93,6 +124,26 @@ impl fmt::Display for InvalidDescription {
 impl std::error::Error for InvalidDescription {}
 
 impl Description {
+    /// Reads a description in brackets, as `[year]-[month]-[day]`.
+    ///
+    /// # Errors
+    ///
+    /// The text is none: the reason, and the byte.
+    ///
+    /// ```
+    /// use movaliren::{Date, Description, Format};
+    ///
+    /// let day = Description::parse("[day padding:none] [month repr:long] [year]")?;
+    /// let date = Date { year: 2026, month: 11, day: 2 };
+    /// assert_eq!(day.format(&date).as_deref(), Ok("2 November 2026"));
+    /// let error = Description::parse("[yaer]").unwrap_err();
+    /// assert_eq!(error.to_string(), "unknown component at byte 1");
+    /// # Ok::<(), movaliren::InvalidDescription>(())
+    /// ```
+    pub fn parse(text: &str) -> Result<Self, InvalidDescription> {
+        Description::read(text, Syntax::Brackets)
+    }
+
     /// Reads a description in the syntax of `strftime`.
     ///
     /// # Errors
@@ -110,16 +161,16 @@ impl Description {
     /// # Ok::<(), movaliren::InvalidDescription>(())
     /// ```
     pub fn parse_strftime(text: &str) -> Result<Self, InvalidDescription> {
-        Description::read(text)
+        Description::read(text, Syntax::Strftime)
     }
 
-    fn read(text: &str) -> Result<Self, InvalidDescription> {
+    fn read(text: &str, syntax: Syntax) -> Result<Self, InvalidDescription> {
         let mut few = [Item::NONE; 64];
-        match raw::describe(text, &mut few) {
+        match raw::describe(text, syntax, &mut few) {
             Ok(items) => Ok(Description::of_items(items, text)),
             Err(fault) if fault.items > 0 => {
                 let mut many = vec![Item::NONE; fault.items];
-                let items = raw::describe(text, &mut many);
+                let items = raw::describe(text, syntax, &mut many);
                 items
                     .map(|items| Description::of_items(items, text))
                     .map_err(|fault| InvalidDescription::of_fault(&fault))
@@ -140,5 +191,20 @@ impl Description {
             }
         }
         description
+    }
+}
+
+/// Reads a description in brackets, as [`Description::parse`] does.
+///
+/// ```
+/// let day: movaliren::Description = "[year]-[month]-[day]".parse()?;
+/// assert_eq!(day.width(), 13);
+/// # Ok::<(), movaliren::InvalidDescription>(())
+/// ```
+impl FromStr for Description {
+    type Err = InvalidDescription;
+
+    fn from_str(text: &str) -> Result<Self, InvalidDescription> {
+        Description::parse(text)
     }
 }

@@ -554,12 +554,27 @@ unsafe impl Call<u8> for FaultWords {
     }
 }
 
+/// The syntax of a description.
+#[derive(Clone, Copy)]
+pub(crate) enum Syntax {
+    Brackets,
+    Strftime,
+}
+
 /// The items of the text at the start of the array, or why there are none.
-pub(crate) fn describe<'a>(text: &str, items: &'a mut [Item]) -> Result<&'a [Item], Fault> {
+pub(crate) fn describe<'a>(
+    text: &str,
+    syntax: Syntax,
+    items: &'a mut [Item],
+) -> Result<&'a [Item], Fault> {
+    let function = match syntax {
+        Syntax::Brackets => library::movaliren_describe,
+        Syntax::Strftime => library::movaliren_describe_strftime,
+    };
     let mut fault = NO_FAULT;
     // SAFETY: each pointer comes with the length of its slice, and both structs have the header's layout.
     let count = unsafe {
-        library::movaliren_describe_strftime(
+        function(
             text.as_ptr(),
             text.len(),
             items.as_mut_ptr(),

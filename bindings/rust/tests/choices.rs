@@ -265,10 +265,22 @@ fn a_description_from_a_text_is_the_one_of_its_items() {
         " \u{e9}"
     ];
     assert_eq!(Description::parse_strftime("[%-d] of %B \u{e9}"), Ok(items));
+    let brackets = "\\[[day padding:none]\\] of [month repr:long] \u{e9}";
+    let items = description![
+        "[",
+        Kind::Day.padding(Padding::NoPadding),
+        "]",
+        " of ",
+        Kind::MonthLong,
+        " \u{e9}"
+    ];
+    assert_eq!(Description::parse(brackets), Ok(items));
+    assert_eq!(brackets.parse(), Description::parse(brackets));
     let clock = description![Kind::Hour, ":", Kind::Minute];
     assert_eq!(Description::parse_strftime("%H:%M"), Ok(clock.clone()));
     assert_eq!(Description::parse_strftime("%R"), Ok(clock));
     assert_eq!(Description::parse_strftime(""), Ok(Description::new()));
+    assert_eq!(Description::parse(""), Ok(Description::new()));
     let many = Description::parse_strftime(&"%d-".repeat(1_000)).unwrap();
     let text = many.format(&Moment::new(2026, 11, 22)).unwrap();
     assert_eq!((text, many.width()), ("22-".repeat(1_000), 3_000));
@@ -298,6 +310,30 @@ fn a_text_that_is_no_description_has_its_reason_and_byte() {
     ] {
         let error = Description::parse_strftime(text).unwrap_err();
         assert_eq!((error.reason, error.byte), (Some(reason), byte));
+        assert_eq!(error.to_string(), words);
+    }
+    for (text, reason, at, words) in [
+        (
+            "[year",
+            FaultReason::UnclosedBracket,
+            0,
+            "unclosed bracket at byte 0",
+        ),
+        (
+            "\u{e9}\\",
+            FaultReason::InvalidEscape,
+            2,
+            "invalid escape sequence at byte 2",
+        ),
+        (
+            "[first [a] x]",
+            FaultReason::UnexpectedByte,
+            11,
+            "unexpected text at byte 11",
+        ),
+    ] {
+        let error = Description::parse(text).unwrap_err();
+        assert_eq!((error.reason, error.at), (Some(reason), at));
         assert_eq!(error.to_string(), words);
     }
 }

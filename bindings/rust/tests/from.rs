@@ -59,6 +59,8 @@ fn descriptions() {
         day: 22,
     };
     assert_eq!(LONG.format(&date).unwrap(), "Sunday, 22 November");
+    let day = Description::parse("[day] [month repr:long]").unwrap();
+    assert_eq!(day.format(&date).unwrap(), "22 November");
     let long = Description::parse_strftime("%A, %-d %B").unwrap();
     assert_eq!(long.format(&date).unwrap(), "Sunday, 22 November");
     assert_eq!(long, LONG);

@@ -1,10 +1,11 @@
 -- Items of a text, in an array and in what they show.
-use Rattle.std.proofs.Common.{◌≡◌, ◌<◌, ◌≤◌, ◌+◌, ◌++◌, ℕ, min, ◌-◌, Bool, true, false, List, [], ◌∷◌, length, take, set, Result, Ok, Err, refl, sym, ap, ◌∙◌, subst, arith, ne_eqb}
+use Rattle.std.proofs.Common.{◌≡◌, ◌<◌, ◌≤◌, ◌+◌, ◌++◌, ℕ, min, ◌-◌, Bool, true, false, List, [], ◌∷◌, length, take, set, Option, Some, None, is_some, Result, Ok, Err, refl, sym, ap, ◌∙◌, subst, arith, ne_eqb}
 use Rattle.std.specs.Prelude.{IsTrue, nat_le, slice_range, ◌==◌}
 use Rattle.std.specs.Str.{is_utf8}
 use Rattle.std.proofs.lemmas.Bool.{le-leb, leb-true, leb-false}
-use Rattle.std.proofs.lemmas.List.{length-append, take_more_set}
-use Rattle.movaliren_c.specs.Described.{AreItems, DescribeNothing, Describes, HoldsItems, IsHeld, IsItem, IsItemOf, Leaves, LeavesItems, few_in, fault_at, is_shown, many, no_item, of_strftime, shown, strftime_items, strftime_number}
+use Rattle.std.proofs.lemmas.List.{append-nil, length-append, take_more_set}
+use Rattle.movaliren_c.specs.Described.{AreItems, DescribeNothing, Describes, HoldsIn, HoldsItems, HoldsListsIn, IsHeld, IsItem, IsItemOf, Leaves, LeavesItems, bracket_items, bracket_number, few_in, fault_at, is_shown, many, no_item, of_brackets, of_strftime, shown, strftime_items, strftime_number}
+use Rattle.movaliren_c.specs.Flat.{closed_at, flat, flat_items, hidden_at, or_at, shown_in}
 use Rattle.movaliren_c.specs.Items.{component_of, date_component, described, item_tree, trees_of}
 use Rattle.movaliren_c.specs.declared.item.Item.{Item}
 use Rattle.movaliren_c.specs.declared.reason.Reason.{Reason}
@@ -12,16 +13,25 @@ use Rattle.movaliren_c.specs.declared.syntax.Fault.{Fault}
 use Rattle.movaliren_c.specs.declared.reason.Reason.TheVariants as reason
 use Rattle.time_below.specs.Conversion.{current_component, is_current}
 use Rattle.time_below.specs.Facts.{Facts}
-use Rattle.time_below.specs.Tree.{Tree, trees, byte_literal, of_component}
+use Rattle.time_below.specs.Tree.{Tree, trees, all_of, byte_literal, of_component}
 use Rattle.time_below.specs.declared.format_description.component.Component.{Component}
 use Rattle.time_below.specs.declared.format_description.component.Component.TheVariants as component
+use Rattle.time_describe.specs.Description as bracket_says
+use Rattle.time_describe.specs.Items.{are_leaves, is_nil}
 use Rattle.time_describe.specs.Literal.{literal_of}
+use Rattle.time_describe.specs.Outcome as bracket_found
+use Rattle.time_describe.specs.Reading as reading
+use Rattle.time_describe.specs.Reading.{Frame}
 use Rattle.time_describe.specs.Strftime as strftime
 use Rattle.time_describe.specs.StrftimeOutcome.{IsFound, Says}
+use Rattle.time_describe.specs.declared.description.InvalidDescription.TheVariants as bracket_error
+use Rattle.time_describe.specs.declared.fault.Reason as bracket_reasons
+use Rattle.time_describe.specs.declared.pieces.Nest.{Nest}
 use Rattle.time_describe.specs.declared.strftime.InvalidStrftime.TheVariants as error
 use Rattle.time_describe.specs.declared.strftime.fault.StrftimeReason.{StrftimeReason}
 use Rattle.time_fmt.specs.Description.{current_outcome, tree_outcome, trees_outcome}
 use Rattle.time_fmt.specs.Outcome.{Outcome, done, join}
+use Rattle.movaliren_c.proofs.FlatLemmas.{begun_shown, closed_hidden, closed_shown, ended_shown, flat_more, leaves_flat, opened_hidden, shown_hidden, shown_more}
 
 -- ---- one item
 
@@ -149,17 +159,89 @@ cleared (x ∷ xs) new stored same =
 
 -- ---- the items of a text
 
-pub none_held : (text : List ℕ) (array : List Item) (count : ℕ) → count ≡ 0 → HoldsItems text array count []
-none_held text array count none = record { counted = omega (arith, none); held = λ _. tt }
+pub none_held : (text : List ℕ) (array : List Item) (count : ℕ) (hidden : Option ℕ) → count ≡ 0 → hidden ≡ None → HoldsIn text [] array count hidden []
+none_held text array count hidden none shown = record { hidden = shown; held = record { counted = omega (arith, none); held = λ _. tt } }
 
-pub strftime_held : (text : List ℕ) (array : List Item) (count : ℕ) → IsFound (strftime.described text) (HoldsItems text array count)
+pub strftime_held : (text : List ℕ) (array : List Item) (count : ℕ) (hidden : Option ℕ) → IsFound (strftime.described text) (HoldsIn text [] array count hidden)
     → IsHeld text (strftime_items text) array count
-strftime_held text array count found = record { all = found.0; is = ap (of_strftime (length text)) found.1; held = found.2 }
+strftime_held text array count hidden found = record {
+  all = found.0;
+  is = ap (of_strftime (length text)) found.1;
+  held = subst (λ (v : List Tree). HoldsItems text array count v) (leaves_flat found.0 found.2) found.3.held;
+}
 
 pub strftime_faulty : (text : List ℕ) (reason : StrftimeReason) (index : ℕ) → Says (length text) (strftime.described text) (error.Invalid reason index)
     → strftime_items text ≡ Err (fault_at index (strftime_number reason))
 strftime_faulty text reason index says =
     ap (of_strftime (length text)) says.1 ∙ ap (λ (at : ℕ). Err (fault_at at (strftime_number reason))) (sym says.2)
+
+pub brackets_held : (text : List ℕ) (array : List Item) (count : ℕ) (hidden : Option ℕ)
+    → bracket_found.IsFound (reading.described text) (HoldsIn text [] array count hidden) → IsHeld text (bracket_items text) array count
+brackets_held text array count hidden found = record { all = flat_items found.0; is = ap (of_brackets (length text)) found.1; held = found.2.held }
+
+pub brackets_faulty : (text : List ℕ) (reason : bracket_reasons.Reason) (index : ℕ)
+    → bracket_says.Says (length text) (reading.described text) (bracket_error.Invalid reason index) → bracket_items text ≡ Err (fault_at index (bracket_number reason))
+brackets_faulty text reason index says =
+    ap (of_brackets (length text)) says.1 ∙ ap (λ (at : ℕ). Err (fault_at at (bracket_number reason))) (sym says.2)
+
+-- ---- items in open lists
+
+none_there : (o : Option ℕ) → is_some o ≡ false → o ≡ None
+none_there None is = refl
+none_there (Some n) is = absurd cc
+
+-- one item more is shown where each list is the first in its brackets
+pub put_shown : (text : List ℕ) (fs : List Frame) (new : List Item) (total : ℕ) (hidden : Option ℕ) (items : List Tree) (t : Tree) → is_some hidden ≡ false → flat t ≡ t ∷ []
+    → hidden ≡ hidden_at fs → HoldsItems text new total (shown_in fs (flat_items items) ++ t ∷ []) → HoldsIn text fs new total hidden (items ++ t ∷ [])
+put_shown text fs new total hidden items t some leaf kept more =
+    let same : shown_in fs (flat_items (items ++ t ∷ [])) ≡ shown_in fs (flat_items items) ++ t ∷ [] =
+    ap (shown_in fs) (flat_more items (t ∷ []) ∙ ap (λ (v : List Tree). flat_items items ++ v) (append-nil (flat t) ∙ leaf))
+    ∙ shown_more fs (flat_items items) (t ∷ []) (sym kept ∙ none_there hidden some) in
+    record { hidden = kept; held = subst (λ (v : List Tree). HoldsItems text new total v) (sym same) more }
+
+-- and makes no difference where one is not
+pub put_hidden : (text : List ℕ) (fs : List Frame) (array : List Item) (count : ℕ) (hidden : Option ℕ) (items : List Tree) (t : Tree) → is_some hidden ≡ true
+    → HoldsIn text fs array count hidden items → HoldsIn text fs array count hidden (items ++ t ∷ [])
+put_hidden text fs array count None items t some holds = absurd cc
+put_hidden text fs array count (Some d) items t some holds = record {
+  hidden = holds.hidden;
+  held = subst (λ (v : List Tree). HoldsItems text array count v) (shown_hidden fs (flat_items items) (flat_items (items ++ t ∷ [])) d (sym holds.hidden)) holds.held;
+}
+
+pub begun : (text : List ℕ) (fs : List Frame) (array : List Item) (count : ℕ) (hidden : Option ℕ) (items : List Tree) → HoldsIn text fs array count hidden items
+    → HoldsListsIn text fs items array count hidden []
+begun text fs array count hidden items holds = record {
+  hidden = holds.hidden;
+  held = subst (λ (v : List Tree). HoldsItems text array count v) (begun_shown fs items) holds.held;
+}
+
+pub opened : (text : List ℕ) (f : Frame) (fs : List Frame) (array : List Item) (count depth : ℕ) (hidden new : Option ℕ) (is_first : Bool) → depth ≡ length fs
+    → is_first ≡ is_nil f.lists → new ≡ or_at hidden is_first depth → HoldsListsIn text fs f.items array count hidden f.lists → HoldsIn text (f ∷ fs) array count new []
+opened text f fs array count depth hidden new is_first deep first is holds = record {
+  hidden = is ∙ opened_hidden hidden fs f is_first depth holds.hidden deep first;
+  held = holds.held;
+}
+
+pub closed : (text : List ℕ) (f : Frame) (fs : List Frame) (array : List Item) (count depth : ℕ) (hidden new : Option ℕ) (items : List Tree) → depth ≡ length fs
+    → new ≡ closed_at hidden depth → HoldsIn text (f ∷ fs) array count hidden items
+    → HoldsListsIn text fs f.items array count new (f.lists ++ all_of (trees items) ∷ [])
+closed text f fs array count depth hidden new items deep is holds = record {
+  hidden = is ∙ closed_hidden fs f hidden depth holds.hidden deep;
+  held = subst (λ (v : List Tree). HoldsItems text array count v) (closed_shown fs f items) holds.held;
+}
+
+pub ended : (text : List ℕ) (fs : List Frame) (nest : Nest) (items lists : List Tree) (array : List Item) (count left : ℕ) (hidden : Option ℕ) (item : Tree)
+    → HoldsListsIn text fs items array count hidden lists → reading.nested nest lists left ≡ Ok item → HoldsIn text fs array count hidden (items ++ item ∷ [])
+ended text fs nest items lists array count left hidden item holds is = record {
+  hidden = holds.hidden;
+  held = subst (λ (v : List Tree). HoldsItems text array count v) (ended_shown fs nest items lists left item is) holds.held;
+}
+
+-- how many items there are, of which none is a list
+pub counted_leaves : (text : List ℕ) (array : List Item) (count : ℕ) (hidden : Option ℕ) (all : List Tree) → IsTrue (are_leaves all)
+    → HoldsIn text [] array count hidden all → count ≡ min (length all) 0xffff_ffff_ffff_ffff
+counted_leaves text array count hidden all leaves holds =
+    holds.held.counted ∙ ap (λ (v : List Tree). min (length v) 0xffff_ffff_ffff_ffff) (leaves_flat all leaves)
 
 -- ---- what a call leaves
 

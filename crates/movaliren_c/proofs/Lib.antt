@@ -2,6 +2,7 @@ pub mod AnswerLemmas
 pub mod BatchLemmas
 pub mod DateLemmas
 pub mod DescribedLemmas
+pub mod FlatLemmas
 pub mod ItemLemmas
 pub mod LogLemmas
 pub mod MeaningLemmas

@@ -1,5 +1,6 @@
 -- What calls leave that read a text as a description.
-use Rattle.std.specs.Prelude.{ℕ, ◌≡◌, ◌<◌, ◌≤◌, ◌-◌, min, Bool, true, false, nat_le, List, [], ◌∷◌, length, take, Result, Ok, Err, if◌then◌else◌}
+use Rattle.std.specs.Prelude.{ℕ, ◌≡◌, ◌<◌, ◌≤◌, ◌-◌, ◌++◌, min, Option, Bool, true, false, nat_le, List, [], ◌∷◌, length, take, Result, Ok, Err, if◌then◌else◌}
+use Rattle.movaliren_c.specs.Flat.{first_shown, flat_items, hidden_at, shown_in}
 use Rattle.movaliren_c.specs.Items.{component_of, item_tree, trees_of}
 use Rattle.movaliren_c.specs.declared.item.Item.{Item}
 use Rattle.movaliren_c.specs.declared.reason.Reason.{Reason}
@@ -9,7 +10,12 @@ use Rattle.time_below.specs.Facts.{Facts}
 use Rattle.time_below.specs.Tree.{Tree, trees}
 use Rattle.time_below.specs.declared.format_description.component.Component.{Component}
 use Rattle.time_below.specs.declared.format_description.component.Component.TheVariants as component
+use Rattle.time_describe.specs.Reading as reading
+use Rattle.time_describe.specs.Reading.{Frame}
 use Rattle.time_describe.specs.Strftime as strftime
+use Rattle.time_describe.specs.declared.fault.Fault as bracket_fault
+use Rattle.time_describe.specs.declared.fault.Reason as bracket_reasons
+use Rattle.time_describe.specs.declared.fault.Reason.TheVariants as bracket_reason
 use Rattle.time_describe.specs.declared.strftime.fault.Fault as strftime_fault
 use Rattle.time_describe.specs.declared.strftime.fault.StrftimeReason.{StrftimeReason}
 use Rattle.time_describe.specs.declared.strftime.fault.StrftimeReason.TheVariants as strftime_reason
@@ -62,6 +68,16 @@ pub record HoldsItems (text : List ℕ) (array : List Item) (count : ℕ) (ts : 
   pub counted : count ≡ min (length ts) 0xffff_ffff_ffff_ffff
   pub held : length ts ≤ length array → AreItems text (take (length ts) array) ts
 
+-- the same of what is shown of items in open lists, of which so many are around the outermost one that is left out
+pub record HoldsIn (text : List ℕ) (fs : List Frame) (array : List Item) (count : ℕ) (outermost : Option ℕ) (items : List Tree) : Type 0 where
+  pub hidden : outermost ≡ hidden_at fs
+  pub held : HoldsItems text array count (shown_in fs (flat_items items))
+
+-- and of lists in brackets, behind items
+pub record HoldsListsIn (text : List ℕ) (fs : List Frame) (items : List Tree) (array : List Item) (count : ℕ) (outermost : Option ℕ) (lists : List Tree) : Type 0 where
+  pub hidden : outermost ≡ hidden_at fs
+  pub held : HoldsItems text array count (shown_in fs (flat_items items ++ first_shown lists []))
+
 -- an array has the items of a text, as far as they fit
 pub record IsHeld (text : List ℕ) (described : Result (List Tree) Fault) (array : List Item) (count : ℕ) : Type 0 where
   pub all : List Tree
@@ -83,6 +99,19 @@ strftime_number (strftime_reason.SecondFlag b) = (19, b)
 strftime_number (strftime_reason.FlagWithoutNumber b) = (20, b)
 strftime_number strftime_reason.TooManyItems = (11, 0)
 
+abbrev pub bracket_number : bracket_reasons.Reason → ℕ × ℕ
+bracket_number bracket_reason.UnclosedBracket = (1, 0)
+bracket_number bracket_reason.InvalidEscape = (2, 0)
+bracket_number bracket_reason.MissingName = (3, 0)
+bracket_number bracket_reason.UnknownName = (4, 0)
+bracket_number bracket_reason.UnknownModifier = (5, 0)
+bracket_number bracket_reason.InvalidValue = (6, 0)
+bracket_number bracket_reason.MissingModifier = (7, 0)
+bracket_number bracket_reason.MissingItems = (8, 0)
+bracket_number bracket_reason.UnexpectedByte = (9, 0)
+bracket_number bracket_reason.TooDeep = (10, 0)
+bracket_number bracket_reason.TooManyItems = (11, 0)
+
 -- a fault at a byte
 abbrev pub fault_at : ℕ → ℕ × ℕ → Fault
 fault_at at reason = record { at = at; items = 0; reason = reason.0; byte = reason.1 }
@@ -98,6 +127,14 @@ of_strftime len (Err f) = Err (fault_at (len - f.left) (strftime_number f.reason
 
 abbrev pub strftime_items : List ℕ → Result (List Tree) Fault
 strftime_items text = of_strftime (length text) (strftime.described text)
+
+-- what a text in brackets describes, with the items of lists in their places
+abbrev pub of_brackets : ℕ → Result (List Tree) bracket_fault.Fault → Result (List Tree) Fault
+of_brackets len (Ok all) = Ok (flat_items all)
+of_brackets len (Err f) = Err (fault_at (len - f.left) (bracket_number f.reason))
+
+abbrev pub bracket_items : List ℕ → Result (List Tree) Fault
+bracket_items text = of_brackets (length text) (reading.described text)
 
 -- ---- what is left
 

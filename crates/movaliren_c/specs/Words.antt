@@ -38,7 +38,17 @@ error_words number = if int_lt number (pos 0) then words_numbered (unsigned_abs 
 -- those of a reason why a text is no description, without the byte that it names
 unfoldable pub fault_words : ℕ → List ℕ
 fault_words n =
-    if n == 11 then codes "more than 65536 items"
+    if n == 1 then codes "unclosed bracket"
+    else (if n == 2 then codes "invalid escape sequence"
+    else (if n == 3 then codes "missing component name"
+    else (if n == 4 then codes "unknown component"
+    else (if n == 5 then codes "unknown modifier"
+    else (if n == 6 then codes "invalid modifier value"
+    else (if n == 7 then codes "missing modifier `count`"
+    else (if n == 8 then codes "missing list of items"
+    else (if n == 9 then codes "unexpected text"
+    else (if n == 10 then codes "more than 32 lists in one another"
+    else (if n == 11 then codes "more than 65536 items"
     else (if n == 12 then codes "unfinished conversion `%`"
     else (if n == 13 then codes "unknown conversion"
     else (if n == 14 then codes "unsupported conversion `%Z`"
@@ -48,4 +58,4 @@ fault_words n =
     else (if n == 18 then codes "unsupported flag `%+`"
     else (if n == 19 then codes "second flag"
     else (if n == 20 then codes "no flag is allowed before"
-    else codes "unknown reason")))))))))
+    else codes "unknown reason")))))))))))))))))))

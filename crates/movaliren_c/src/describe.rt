@@ -1,7 +1,7 @@
 //! Descriptions from a text, in items or at once.
 ghost use Rattle.std.specs.Prelude.{◌≡◌, ◌≤◌, IfOk, length};
 ghost use Rattle.movaliren_c.specs.Answer.{Answers, IsText};
-ghost use Rattle.movaliren_c.specs.Described.{Leaves, few, strftime_items};
+ghost use Rattle.movaliren_c.specs.Described.{Leaves, bracket_items, few, strftime_items};
 ghost use Rattle.movaliren_c.specs.Items.{described};
 ghost use Rattle.movaliren_c.specs.Utc.{local_value};
 ghost use Rattle.movaliren_c.specs.Value.{timestamp_value};
@@ -14,11 +14,55 @@ use crate::made_item::NO_ITEM;
 use crate::moment::{UtcMoment, timestamp_value};
 use crate::reason::{Reason, answer_number};
 use crate::source::{AtOffset, provided};
-use crate::syntax::{Fault, Strftime, Syntax};
+use crate::syntax::{Brackets, Fault, Strftime, Syntax};
 use time_provide::ComponentProvider;
 
 /// The most items of a text that is formatted in one call.
 const FEW: usize = 64;
+
+/// Reads the items of a text in brackets into an array.
+#[unsafe(no_mangle)]
+pub extern "C" fn movaliren_describe(text: &[u8], items: &mut [Item], fault: &mut Fault) -> isize
+    ensures { Answers result (λ answer. Leaves text.now (bracket_items text.now)
+        answer items.new fault.old fault.new) }
+{
+    answer_number(describe::<Brackets>(text, items, fault))
+}
+
+/// The text of a moment in UTC by a description in brackets.
+#[unsafe(no_mangle)]
+pub extern "C" fn movaliren_brackets_utc(
+    text: &[u8],
+    seconds: i64,
+    nanosecond: u32,
+    room: &mut [u8],
+) -> isize
+    ensures { Answers result (λ answer. IsText (described (few (bracket_items text.now))
+        (timestamp_value seconds nanosecond) facts_of_timestamp) answer room.old room.new) }
+{
+    let value = timestamp_value(seconds, nanosecond);
+    answer_number(write_text::<Brackets, _>(text, value, room))
+}
+
+/// The text of a moment by a description in brackets, at an offset of this many seconds east of UTC.
+#[unsafe(no_mangle)]
+pub extern "C" fn movaliren_brackets_local(
+    text: &[u8],
+    seconds: i64,
+    nanosecond: u32,
+    offset: i64,
+    room: &mut [u8],
+) -> isize
+    ensures { Answers result (λ answer. IsText (described (few (bracket_items text.now))
+        (local_value seconds nanosecond offset) facts_of_offset_date_time) answer room.old room.new) }
+{
+    let moment = UtcMoment {
+        seconds,
+        nanosecond,
+    };
+    let value = provided(AtOffset { east: offset }, &moment);
+    answer_number(write_text::<Brackets, _>(text, value, room))
+}
 
 /// Reads the items of a text in the syntax of strftime into an array.
 #[unsafe(no_mangle)]

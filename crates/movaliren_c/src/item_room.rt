@@ -1,30 +1,39 @@
 //! Items at the start of an array.
-ghost use Rattle.std.specs.Prelude.{◌≡◌, ◌<◌, ◌≤◌, ◌∷◌, [], List, ℕ, length, min, nat_le, slice_set};
-ghost use Rattle.movaliren_c.specs.Described.{DescribeNothing, HoldsItems, IsItem};
+ghost use Rattle.std.specs.Prelude.{◌≡◌, ◌<◌, ◌≤◌, ◌∷◌, [], List, ℕ, Option, None, length, min, nat_le, slice_set};
+ghost use Rattle.movaliren_c.specs.Described.{DescribeNothing, HoldsIn, HoldsItems, HoldsListsIn, IsItem};
+ghost use Rattle.movaliren_c.specs.Flat.{closed_at, flat, or_at};
 ghost use Rattle.time_below.specs.Tree.{Tree};
 ghost use Rattle.time_describe.specs.Items.{Adds};
+ghost use Rattle.time_describe.specs.Reading.{Frame};
 
 use crate::item::Item;
 use crate::made_item::{NO_ITEM, byte_item, item_of, text_item};
 use std::alloc::AllocError;
 use time_below::format_description::Component;
-use time_describe::Items;
+use time_describe::{Items, Nest};
 
-/// Items at the start of an array. Those that do not fit are counted alone.
+/// Items at the start of an array. Those that do not fit are counted alone. Those of lists that are not the
+/// first in their brackets are left out.
 #[derive(Drop)]
 pub struct ItemRoom<'a> {
     array: &'a mut [Item],
     count: usize,
+    hidden_at: Option<usize>,
 }
 
 impl<'a> ItemRoom<'a> {
     /// No items.
     pub fn new(array: &'a mut [Item]) -> ItemRoom<'a>
         ensures count { result.count ≡ 0 }
+        ensures hidden { result.hidden_at ≡ None }
         ensures same_reference { result.array.ghost_name ≡ array.entry.ghost_name }
         ensures array { result.array.now ≡ array.old }
     {
-        ItemRoom { array, count: 0 }
+        ItemRoom {
+            array,
+            count: 0,
+            hidden_at: None,
+        }
     }
 
     /// How many items there are, up to the greatest `usize`.
@@ -52,15 +61,49 @@ impl<'a> ItemRoom<'a> {
         store(self.array, 0, NO_ITEM);
     }
 
-    /// Adds an item.
+    /// Adds an item behind all others.
     #[tactic(auto, using(crate::proofs::ItemLemmas::item_put))]
-    fn put(&mut self, item: Item)
+    fn push(&mut self, item: Item)
         ensures put { (text : List ℕ) (tree : Tree) → IsItem text item tree
             → Adds (λ room all. HoldsItems text room.array.now room.count all) self.old self.new (tree ∷ []) }
+        ensures hidden { self.new.hidden_at ≡ self.old.hidden_at }
         ensures same_reference { self.new.array.ghost_name ≡ self.old.array.ghost_name }
     {
         store(self.array, self.count, item);
         self.count = self.count.saturating_add(1);
+    }
+
+    /// Adds an item, unless it is left out.
+    fn put(&mut self, item: Item)
+        ensures put { (text : List ℕ) (fs : List Frame) (tree : Tree) → IsItem text item tree → flat tree ≡ tree ∷ []
+            → Adds (λ room all. HoldsIn text fs room.array.now room.count room.hidden_at all) self.old self.new (tree ∷ []) }
+        ensures same_reference { self.new.array.ghost_name ≡ self.old.array.ghost_name }
+    {
+        if self.hidden_at.is_some() {
+            return;
+        }
+        self.push(item);
+    }
+}
+
+/// Where the lists begin that are left out, if a list is opened in so many others.
+fn opened_at(hidden_at: Option<usize>, is_first: bool, depth: usize) -> Option<usize>
+    ensures { result ≡ or_at hidden_at is_first depth }
+{
+    match hidden_at {
+        Some(outer) => Some(outer),
+        None if is_first => None,
+        None => Some(depth),
+    }
+}
+
+/// The same, if a list is closed in so many others.
+fn closed_at(hidden_at: Option<usize>, depth: usize) -> Option<usize>
+    ensures { result ≡ closed_at hidden_at depth }
+{
+    match hidden_at {
+        Some(outer) if outer != depth => Some(outer),
+        _ => None,
     }
 }
 
@@ -78,7 +121,9 @@ fn store(array: &mut [Item], at: usize, item: Item)
 impl Items for ItemRoom<'_> {
     ghost use Rattle.std.specs.Prelude.{Some, false};
 
-    ghost Holds = { λ text room all. HoldsItems text room.array.now room.count all };
+    ghost Holds = { λ text fs room items. HoldsIn text fs room.array.now room.count room.hidden_at items };
+
+    ghost HoldsLists = { λ text fs _ items room lists. HoldsListsIn text fs items room.array.now room.count room.hidden_at lists };
 
     ghost can_refuse = { false };
 
@@ -101,5 +146,22 @@ impl Items for ItemRoom<'_> {
 
     fn len(&self) -> usize {
         self.count
+    }
+
+    fn begin_lists(&mut self) -> Result<(), AllocError> {
+        Ok(())
+    }
+
+    fn open_list(&mut self, depth: usize, is_first: bool) {
+        self.hidden_at = opened_at(self.hidden_at, is_first, depth);
+    }
+
+    fn close_list(&mut self, depth: usize) -> Result<(), AllocError> {
+        self.hidden_at = closed_at(self.hidden_at, depth);
+        Ok(())
+    }
+
+    fn end_lists(&mut self, _nest: Nest) -> Result<(), AllocError> {
+        Ok(())
     }
 }

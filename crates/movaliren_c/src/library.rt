@@ -82,6 +82,16 @@ fn fault_words(number: u8) -> &'static [u8]
     ensures { result.now ≡ fault_words number }
 {
     match number {
+        1 => b"unclosed bracket".as_slice(),
+        2 => b"invalid escape sequence".as_slice(),
+        3 => b"missing component name".as_slice(),
+        4 => b"unknown component".as_slice(),
+        5 => b"unknown modifier".as_slice(),
+        6 => b"invalid modifier value".as_slice(),
+        7 => b"missing modifier `count`".as_slice(),
+        8 => b"missing list of items".as_slice(),
+        9 => b"unexpected text".as_slice(),
+        10 => b"more than 32 lists in one another".as_slice(),
         11 => b"more than 65536 items".as_slice(),
         12 => b"unfinished conversion `%`".as_slice(),
         13 => b"unknown conversion".as_slice(),

@@ -1,11 +1,13 @@
 //! The syntaxes of descriptions, and what is wrong in a text.
-ghost use Rattle.std.specs.Prelude.{◌≡◌, ℕ, List, Err, OnOk, IfErr, Result};
-ghost use Rattle.movaliren_c.specs.Described.{IsHeld, fault_at, many, strftime_items, strftime_number};
+ghost use Rattle.std.specs.Prelude.{◌≡◌, ℕ, List, None, Err, OnOk, IfErr, Result};
+ghost use Rattle.movaliren_c.specs.Described.{IsHeld, bracket_items, bracket_number, fault_at, many, strftime_items, strftime_number};
 ghost use Rattle.movaliren_c.specs.declared.syntax.Fault.{Fault};
 ghost use Rattle.time_below.specs.Tree.{Tree};
 
 use crate::item_room::ItemRoom;
-use time_describe::{InvalidStrftime, StrftimeReason, describe_strftime};
+use time_describe::{
+    InvalidDescription, InvalidStrftime, Reason, StrftimeReason, describe, describe_strftime,
+};
 
 /// Why a text gave no items.
 #[repr(C)]
@@ -22,6 +24,18 @@ pub struct Fault {
 }
 
 impl Fault {
+    /// A fault at the byte of this index, by the number of its reason and the byte that it names.
+    fn at(index: usize, number: (u8, u8)) -> Fault
+        ensures { result ≡ fault_at index number }
+    {
+        Fault {
+            at: index,
+            items: 0,
+            reason: number.0,
+            byte: number.1,
+        }
+    }
+
     /// The lack of room for so many items.
     pub fn many(items: usize) -> Fault
         ensures { result ≡ many items }
@@ -42,10 +56,29 @@ pub trait Syntax {
 
     /// Adds the items of a text to an array that has none.
     fn put_items(items: &mut ItemRoom<'_>, text: &[u8]) -> Result<(), Fault>
-        requires { items.old.count ≡ 0 }
+        requires none { items.old.count ≡ 0 }
+        requires shown { items.old.hidden_at ≡ None }
         ensures found { OnOk result (IsHeld text.now (described text.now) items.new.array.now items.new.count) }
         ensures fault { IfErr result (λ f. described text.now ≡ Err f) }
         ensures same_reference { items.new.array.ghost_name ≡ items.old.array.ghost_name };
+}
+
+/// The syntax of `time`'s format descriptions, version 2, as `[year]-[month]-[day]`.
+pub struct Brackets;
+
+impl Syntax for Brackets {
+    ghost described = { bracket_items };
+
+    #[tactic(auto, using(crate::proofs::ItemLemmas::none_held, crate::proofs::ItemLemmas::brackets_held, crate::proofs::ItemLemmas::brackets_faulty))]
+    fn put_items(items: &mut ItemRoom<'_>, text: &[u8]) -> Result<(), Fault> {
+        match describe(items, text) {
+            Ok(()) => Ok(()),
+            Err(InvalidDescription::OutOfMemory) => unreachable!(),
+            Err(InvalidDescription::Invalid { reason, index }) => {
+                Err(Fault::at(index, (bracket_number(reason), 0)))
+            }
+        }
+    }
 }
 
 /// The syntax of strftime.
@@ -59,8 +92,29 @@ impl Syntax for Strftime {
         match describe_strftime(items, text) {
             Ok(()) => Ok(()),
             Err(InvalidStrftime::OutOfMemory) => unreachable!(),
-            Err(InvalidStrftime::Invalid { reason, index }) => Err(strftime_fault(reason, index)),
+            Err(InvalidStrftime::Invalid { reason, index }) => {
+                Err(Fault::at(index, strftime_number(reason)))
+            }
         }
+    }
+}
+
+/// The number of a reason.
+fn bracket_number(reason: Reason) -> u8
+    ensures { (result, 0) ≡ bracket_number reason }
+{
+    match reason {
+        Reason::UnclosedBracket => 1,
+        Reason::InvalidEscape => 2,
+        Reason::MissingName => 3,
+        Reason::UnknownName => 4,
+        Reason::UnknownModifier => 5,
+        Reason::InvalidValue => 6,
+        Reason::MissingModifier => 7,
+        Reason::MissingItems => 8,
+        Reason::UnexpectedByte => 9,
+        Reason::TooDeep => 10,
+        Reason::TooManyItems => 11,
     }
 }
 
@@ -79,18 +133,5 @@ fn strftime_number(reason: StrftimeReason) -> (u8, u8)
         StrftimeReason::PlusFlag => (18, 0),
         StrftimeReason::SecondFlag(byte) => (19, byte),
         StrftimeReason::FlagWithoutNumber(byte) => (20, byte),
-    }
-}
-
-/// A fault at the byte of this index.
-fn strftime_fault(reason: StrftimeReason, index: usize) -> Fault
-    ensures { result ≡ fault_at index (strftime_number reason) }
-{
-    let (reason, byte) = strftime_number(reason);
-    Fault {
-        at: index,
-        items: 0,
-        reason,
-        byte,
     }
 }

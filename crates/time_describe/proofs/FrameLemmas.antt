@@ -1,48 +1,98 @@
--- The lists that are not closed yet, the last of which is the innermost.
-use Rattle.std.proofs.Common.{◌≡◌, ℕ, List, [], ◌∷◌, ◌++◌, length, map, reverse, Result, Err, refl, sym, ap, ◌∙◌}
-use Rattle.std.proofs.lemmas.List.{map_push, reverse-append, length-map, length-reverse}
+-- What is kept of lists that are not closed yet.
+use Rattle.std.proofs.Common.{◌≡◌, ℕ, Bool, true, false, not, eqb, ne_eqb, ◌&&◌, List, [], ◌∷◌, ◌++◌, length, map, reverse, Result, Ok, Err, refl, sym, ap, ◌∙◌, subst, arith}
+use Rattle.std.specs.Prelude.{IfOk}
+use Rattle.std.proofs.lemmas.List.{reverse-append, length-map, length-reverse}
+use Rattle.time_below.specs.Tree.{Tree}
+use Rattle.std.proofs.Common.{Bor}
 use Rattle.time_describe.specs.declared.fault.Fault.{Fault}
 use Rattle.time_describe.specs.declared.fault.Failure.{Failure}
 use Rattle.time_describe.specs.declared.fault.Failure.TheVariants as failure
+use Rattle.time_describe.specs.declared.fault.Reason.TheVariants.{MissingItems}
 use Rattle.time_describe.specs.declared.frame.Frame as code
-use Rattle.std.proofs.Common.{Bor, Bool, true, false, not, eqb, ne_eqb, vec_len, arith, ◌&&◌, subst}
-use Rattle.std.specs.Global.{Vec}
-use Rattle.time_below.specs.Tree.{Tree, trees, all_of, owned_tree, owned_layer}
-use Rattle.time_below.specs.declared.format_description.owned_format_item.OwnedFormatItem as owned
-use Rattle.time_below.specs.declared.format_description.owned_format_item.OwnedFormatItem.TheVariants as owned_item
-use Rattle.time_below.specs.declared.format_description.owned_format_item.OwnedFormatItem.TheOpen as open_owned
+use Rattle.time_describe.specs.declared.pieces.Nest.{Nest}
+use Rattle.time_describe.specs.declared.pieces.Nest.TheVariants as nests
+use Rattle.time_describe.specs.Items.{is_nil}
 use Rattle.time_describe.specs.Pieces.{is_nested}
-use Rattle.time_describe.specs.Reading.{Frame}
-use Rattle.time_describe.specs.Outcome.{frame_view, frames_view, Fails, GoesOn}
+use Rattle.time_describe.specs.Reading.{Frame, fails, nested}
+use Rattle.time_describe.specs.Outcome.{AreKept, AreOpen, Fails, GoesOn, IsEnd, kept, lacks_list}
+use Rattle.time_describe.proofs.EndLemmas.{end_cut, end_more}
 
-pub frames_pushed : (fs : List code.Frame) (f : code.Frame) → frames_view (fs ++ f ∷ []) ≡ frame_view f ∷ frames_view fs
-frames_pushed fs f = ap reverse (map_push frame_view fs f) ∙ reverse-append (map frame_view fs) (frame_view f ∷ [])
+pub kept_length : (frames : List code.Frame) (fs : List Frame) → AreKept frames fs → length fs ≡ length frames
+kept_length frames fs is = sym (length-map fs kept) ∙ ap length is ∙ length-reverse frames
 
-pub length-frames : (fs : List code.Frame) → length (frames_view fs) ≡ length fs
-length-frames fs = length-reverse (map frame_view fs) ∙ length-map fs frame_view
+pub kept_pushed : (frames : List code.Frame) (fs : List Frame) (f : Frame) → AreKept frames fs → AreKept (frames ++ kept f ∷ []) (f ∷ fs)
+kept_pushed frames fs f is = ap (λ (v : List code.Frame). kept f ∷ v) is ∙ sym (reverse-append frames (kept f ∷ []))
 
-pub fails_along : {A B : Type 0} (e : Failure) (x : Result A Fault) (y : Result B Fault) → ((f : Fault) → x ≡ Err f → y ≡ Err f) → Fails e x → Fails e y
-fails_along failure.OutOfMemory x y along h = tt
-fails_along (failure.Invalid f) x y along h = along f h
+-- what is left where the innermost one is taken off
+pub record Popped (frames : List code.Frame) (frame : code.Frame) (fs : List Frame) : Type 0 where
+  pub first : Frame
+  pub others : List Frame
+  pub is : fs ≡ first ∷ others
+  pub same : kept first ≡ frame
+  pub rest : AreKept frames others
 
-pub goes_along : (r : Result (Bor (List ℕ)) Failure) (x y : Result (List Tree) Fault) (fs : List Frame) (items : List Tree) → y ≡ x → GoesOn r x fs items → GoesOn r y fs items
-goes_along r x y fs items e h = subst (λ (v : Result (List Tree) Fault). GoesOn r v fs items) (sym e) h
+pub kept_popped : (frames : List code.Frame) (frame : code.Frame) (fs : List Frame) → AreKept (frames ++ frame ∷ []) fs → Popped frames frame fs
+kept_popped frames frame [] is =
+    let e : [] ≡ frame ∷ reverse frames = is ∙ reverse-append frames (frame ∷ []) in absurd cc
+kept_popped frames frame (f ∷ fs) is =
+    let e : kept f ∷ map kept fs ≡ frame ∷ reverse frames = is ∙ reverse-append frames (frame ∷ []) in
+    let same : kept f ≡ frame = cc in
+    let rest : map kept fs ≡ reverse frames = cc in record { first = f; others = fs; is = refl; same = same; rest = rest }
 
-pub owned_list : (v : Vec owned.OwnedFormatItem) → owned_tree (owned_item.Compound v) ≡ all_of (trees (map owned_tree v.items))
-owned_list v =
-    ap owned_tree (sym (owned_item.rolls-Compound v))
-    ∙ owned.fold-roll-OwnedFormatItem Tree owned_layer (open_owned.Compound v)
+pub kept_none : (fs : List Frame) → AreKept [] fs → fs ≡ []
+kept_none [] is = refl
+kept_none (f ∷ fs) is = absurd cc
 
 nested_is : (gs : List Frame) → is_nested gs ≡ not (eqb (length gs) 0)
 nested_is [] = refl
 nested_is (g ∷ gs) = let e : eqb (length (g ∷ gs)) 0 ≡ false = ne_eqb (length (g ∷ gs)) 0 (λ h. omega arith) in sym (ap not e)
 
 -- a list is open where there are any
-pub nested_frames : (fs : Vec code.Frame) (is_empty : Bool) → is_empty ≡ eqb (vec_len fs) 0 → is_nested (frames_view fs.items) ≡ not is_empty
-nested_frames fs is_empty e =
-    let len : length (frames_view fs.items) ≡ vec_len fs = omega (arith, length-frames fs.items) in
-    nested_is (frames_view fs.items) ∙ ap (λ (n : ℕ). not (eqb n 0)) len ∙ ap not (sym e)
+pub nested_frames : (frames : List code.Frame) (fs : List Frame) (is_empty : Bool) → AreKept frames fs → is_empty ≡ eqb (length frames) 0 → is_nested fs ≡ not is_empty
+nested_frames frames fs is_empty kept e =
+    nested_is fs ∙ ap (λ (n : ℕ). not (eqb n 0)) (kept_length frames fs kept) ∙ ap not (sym e)
 
 pub and_false : (b : Bool) → (b && false) ≡ false
 and_false true = refl
 and_false false = refl
+
+-- ---- brackets with lists
+
+pub nested_there : (nest : Nest) (lists : List Tree) (left : ℕ) → lacks_list nest (is_nil lists) ≡ false → (t : Tree) × (nested nest lists left ≡ Ok t)
+nested_there nests.First lists left some = (_, refl)
+nested_there nests.Optional [] left some = absurd cc
+nested_there nests.Optional (t ∷ ts) left some = (t, refl)
+
+pub nested_lacks : (nest : Nest) (lists : List Tree) (left : ℕ) → lacks_list nest (is_nil lists) ≡ true → nested nest lists left ≡ fails MissingItems left
+nested_lacks nests.First lists left none = absurd cc
+nested_lacks nests.Optional [] left none = refl
+nested_lacks nests.Optional (t ∷ ts) left none = absurd cc
+
+-- ---- what calls return
+
+pub fails_along : {A B : Type 0} (can_refuse : Bool) (e : Failure) (x : Result A Fault) (y : Result B Fault) → ((f : Fault) → x ≡ Err f → y ≡ Err f)
+    → Fails can_refuse e x → Fails can_refuse e y
+fails_along can_refuse failure.OutOfMemory x y along h = h
+fails_along can_refuse (failure.Invalid f) x y along h = along f h
+
+pub goes_along : (can_refuse : Bool) (Holds : List Frame → List Tree → Type 0) (r : Result (Bor (List ℕ)) Failure) (x y : Result (List Tree) Fault) → y ≡ x
+    → GoesOn can_refuse Holds r x → GoesOn can_refuse Holds r y
+goes_along can_refuse Holds r x y e h = subst (λ (v : Result (List Tree) Fault). GoesOn can_refuse Holds r v) (sym e) h
+
+-- the lists stay open
+pub goes_open : (can_refuse : Bool) (Holds : List Frame → List Tree → Type 0) (frames : List code.Frame) (fs : List Frame) (r : Result (Bor (List ℕ)) Failure)
+    (x : Result (List Tree) Fault) → AreKept frames fs → GoesOn can_refuse (λ gs items. (gs ≡ fs) × Holds gs items) r x
+    → GoesOn can_refuse (AreOpen Holds frames) r x
+goes_open can_refuse Holds frames fs (Ok rest) x are h =
+    (h.0, h.1, (subst (λ (gs : List Frame). AreKept frames gs) (sym h.2.0) are, h.2.1), h.3)
+goes_open can_refuse Holds frames fs (Err e) x are h = h
+
+-- what is behind the rest of a text is at the end of the whole
+pub ends_behind : (s : List ℕ) (b : ℕ) (bs : List ℕ) (r : Result (Bor (List ℕ)) Failure) → s ≡ b ∷ bs → IfOk r (λ x. IsEnd bs x.now)
+    → IfOk r (λ x. IsEnd s x.now)
+ends_behind s b bs (Ok x) is h = end_more s bs x.now (end_cut s b bs is) h
+ends_behind s b bs (Err e) is h = tt
+
+pub some_list : (lists : List Tree) (t : Tree) → false ≡ is_nil (lists ++ t ∷ [])
+some_list [] t = refl
+some_list (x ∷ xs) t = refl

@@ -6,6 +6,9 @@ pub mod ValueLemmas
 pub mod PlaceLemmas
 pub mod ReadLemmas
 pub mod FrameLemmas
+pub mod EndLemmas
+pub mod LeafLemmas
+pub mod OwnedLemmas
 pub mod GrammarLemmas
 pub mod StrftimeLemmas
 pub mod StrftimeConversions

@@ -1,5 +1,5 @@
 -- What a text is as a whole.
-use Rattle.std.specs.Prelude.{◌≡◌, ℕ, ◌-◌, ◌<◌, List, Result, Ok, Err}
+use Rattle.std.specs.Prelude.{◌≡◌, ℕ, ◌-◌, ◌<◌, Bool, IsTrue, List, Result, Ok, Err}
 use Rattle.time_below.specs.Tree.{Tree, trees, all_of}
 use Rattle.time_describe.specs.declared.fault.Fault.{Fault}
 use Rattle.time_describe.specs.declared.description.InvalidDescription.{InvalidDescription}
@@ -19,3 +19,8 @@ Says len read (error.Invalid reason index) = (left : ℕ) × (read ≡ Err (reco
 abbrev pub IsWithin : ℕ → InvalidDescription → Type 0
 IsWithin len error.OutOfMemory = Unit {0}
 IsWithin len (error.Invalid reason index) = index < len
+
+-- memory runs out only where a list may refuse an item
+abbrev pub MayRefuse : Bool → InvalidDescription → Type 0
+MayRefuse can_refuse error.OutOfMemory = IsTrue can_refuse
+MayRefuse can_refuse (error.Invalid reason index) = Unit {0}

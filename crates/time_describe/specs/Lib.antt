@@ -8,6 +8,7 @@ pub mod Description
 pub mod Grammar
 pub mod Literal
 pub mod Items
+pub mod Owned
 pub mod Limit
 pub mod Conversions
 pub mod Strftime

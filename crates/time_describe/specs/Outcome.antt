@@ -1,30 +1,51 @@
 -- What calls of this crate leave and return.
-use Rattle.std.specs.Prelude.{◌≡◌, ℕ, List, [], map, reverse, Result, Ok, Err}
+use Rattle.std.specs.Prelude.{◌≡◌, ℕ, Bool, false, IsTrue, List, [], ◌∷◌, ◌++◌, drop, map, reverse, Result, Ok, Err}
 use Rattle.std.proofs.Common.{Bor}
-use Rattle.time_below.specs.Tree.{Tree, owned_tree}
+use Rattle.time_below.specs.Tree.{Tree}
 use Rattle.time_describe.specs.declared.fault.Fault.{Fault}
 use Rattle.time_describe.specs.declared.fault.Failure.{Failure}
 use Rattle.time_describe.specs.declared.fault.Failure.TheVariants as failure
 use Rattle.time_describe.specs.declared.frame.Frame as code
+use Rattle.time_describe.specs.declared.pieces.Nest.{Nest}
+use Rattle.time_describe.specs.declared.pieces.Nest.TheVariants as nests
 use Rattle.time_describe.specs.Reading.{Frame, outside, read}
 
--- a list that is not closed yet, without where it lies in memory; the last one is the innermost
-abbrev pub frame_view : code.Frame → Frame
-frame_view f = record { nest = f.nest; opened = f.opened; opened_list = f.opened_list; items = map owned_tree f.items.items; lists = map owned_tree f.lists.items }
+-- what is kept of a list that is not closed yet
+abbrev pub kept : Frame → code.Frame
+kept f = record { nest = f.nest; opened = f.opened; opened_list = f.opened_list }
 
-abbrev pub frames_view : List code.Frame → List Frame
-frames_view fs = reverse (map frame_view fs)
+-- this is kept of lists, of which the first is the innermost, and the last of what is kept
+abbrev pub AreKept : List code.Frame → List Frame → Type 0
+AreKept frames fs = map kept fs ≡ reverse frames
 
--- a failure is of memory, or it is the fault
-abbrev pub Fails : {A : Type 0} → Failure → Result A Fault → Type 0
-Fails failure.OutOfMemory read = Unit {0}
-Fails (failure.Invalid f) read = read ≡ Err f
+-- items are held in lists that are kept
+abbrev pub AreOpen : (List Frame → List Tree → Type 0) → List code.Frame → List Frame → List Tree → Type 0
+AreOpen Holds frames fs items = AreKept frames fs × Holds fs items
 
-abbrev pub Gives : {X Y : Type 0} → (X → Y) → Result X Failure → Result Y Fault → Type 0
-Gives view (Ok x) read = read ≡ Ok (view x)
-Gives view (Err e) read = Fails e read
+-- bytes at the end of others
+abbrev pub IsEnd : List ℕ → List ℕ → Type 0
+IsEnd bytes end = (n : ℕ) × (end ≡ drop n bytes)
 
--- reading goes on behind what was read
-abbrev pub GoesOn : Result (Bor (List ℕ)) Failure → Result (List Tree) Fault → List Frame → List Tree → Type 0
-GoesOn (Ok rest) reading fs items = reading ≡ read fs outside items [] rest.now
-GoesOn (Err e) reading fs items = Fails e reading
+-- an optional item has a list
+abbrev pub lacks_list : Nest → Bool → Bool
+lacks_list nests.First is_first = false
+lacks_list nests.Optional is_first = is_first
+
+-- a failure is of memory, where a list may refuse an item, or it is the fault
+abbrev pub Fails : {A : Type 0} → Bool → Failure → Result A Fault → Type 0
+Fails can_refuse failure.OutOfMemory read = IsTrue can_refuse
+Fails can_refuse (failure.Invalid f) read = read ≡ Err f
+
+-- a list holds the items that were read
+abbrev pub IsFound : Result (List Tree) Fault → (List Tree → Type 0) → Type 0
+IsFound read Holds = (all : List Tree) × (read ≡ Ok all) × Holds all
+
+-- an item is held behind others
+abbrev pub Ends : Bool → (List Tree → Type 0) → List Tree → Result Unit Failure → Result Tree Fault → Type 0
+Ends can_refuse Holds before (Ok u) item = (t : Tree) × (item ≡ Ok t) × Holds (before ++ t ∷ [])
+Ends can_refuse Holds before (Err e) item = Fails can_refuse e item
+
+-- reading goes on behind what was read, in lists and behind items of which this is so
+abbrev pub GoesOn : Bool → (List Frame → List Tree → Type 0) → Result (Bor (List ℕ)) Failure → Result (List Tree) Fault → Type 0
+GoesOn can_refuse Holds (Ok rest) reading = (fs : List Frame) × (items : List Tree) × Holds fs items × (reading ≡ read fs outside items [] rest.now)
+GoesOn can_refuse Holds (Err e) reading = Fails can_refuse e reading

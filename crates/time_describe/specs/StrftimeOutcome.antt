@@ -2,6 +2,7 @@
 use Rattle.std.specs.Prelude.{◌≡◌, ℕ, ◌+◌, ◌-◌, ◌<◌, Bool, IsTrue, List, [], ◌∷◌, take, drop, Result, Ok, Err}
 use Rattle.time_below.specs.Tree.{Tree, trees, of_component, all_of}
 use Rattle.time_describe.specs.Conversions.{offset, composed}
+use Rattle.time_describe.specs.Items.{are_leaves}
 use Rattle.time_describe.specs.Literal.{literal_of}
 use Rattle.time_describe.specs.Strftime.{Front, read}
 use Rattle.time_describe.specs.declared.strftime.fault.Fault.{Fault}
@@ -50,13 +51,13 @@ abbrev pub Fails : {A : Type 0} → Bool → Failure → Result A Fault → Type
 Fails can_refuse failure.OutOfMemory read = IsTrue can_refuse
 Fails can_refuse (failure.Invalid f) read = read ≡ Err f
 
--- a list holds the items that were read
+-- a list holds the items that were read, which are literals and components alone
 abbrev pub IsFound : Result (List Tree) Fault → (List Tree → Type 0) → Type 0
-IsFound read Holds = (all : List Tree) × (read ≡ Ok all) × Holds all
+IsFound read Holds = (all : List Tree) × (read ≡ Ok all) × IsTrue (are_leaves all) × Holds all
 
 -- a list holds the items so far, and reading goes on at a place of the text
 abbrev pub IsAt : List ℕ → ℕ → (List Tree → Type 0) → Result (List Tree) Fault → Type 0
-IsAt text at Holds reading = (items : List Tree) × Holds items × (reading ≡ read items 0 (drop at text))
+IsAt text at Holds reading = (items : List Tree) × IsTrue (are_leaves items) × Holds items × (reading ≡ read items 0 (drop at text))
 
 -- reading goes on behind what was read
 abbrev pub GoesOn : Bool → List ℕ → (List Tree → Type 0) → Result ℕ Failure → Result (List Tree) Fault → Type 0

@@ -1,96 +1,79 @@
 //! Items, put one after the other into lists.
-ghost use Rattle.std.specs.Prelude.{◌≡◌, ◌+◌, vec_len, List, ◌<◌, ◌≤◌, ◌++◌, ◌∷◌, [], length, map, IfOk, OnOk};
-ghost use Rattle.time_below.specs.Tree.{owned_tree, of_component};
-ghost use Rattle.time_describe.specs.Literal.{literal_of};
-ghost use Rattle.time_describe.specs.Outcome.{Gives, GoesOn, frames_view};
+ghost use Rattle.std.specs.Prelude.{◌≡◌, ◌+◌, ◌<◌, ◌∷◌, [], ℕ, List, None, length, IfOk};
+ghost use Rattle.arrayvec.specs.ArrayVec.{array_vec_len};
+ghost use Rattle.time_below.specs.Tree.{Tree};
+ghost use Rattle.time_describe.specs.Items.{is_nil};
+ghost use Rattle.time_describe.specs.Outcome.{AreOpen, Ends, GoesOn, IsEnd, lacks_list};
+ghost use Rattle.time_describe.specs.Outcome as outcome;
 ghost use Rattle.time_describe.specs.Reading as reading;
-ghost use Rattle.time_describe.specs.Reading.{nested, takes_list, read, outside, between, escape};
+ghost use Rattle.time_describe.specs.Reading.{brackets, escape, nested, outside, read, takes_list};
 
 use crate::fault::{Failure, Fault, Reason};
-use crate::frame::Frame;
-use crate::literal::literal;
+use crate::frame::{Frame, Frames};
+use crate::items::Items;
 use crate::pieces::{
     Bracketed, Nest, after_gap, first_and_rest, in_brackets, is_escapable, literal_len,
 };
-use std::alloc::{AllocError, Global};
-use std::mem;
-use time_below::format_description::{Component, OwnedFormatItem};
 
-/// How many lists may be open, one in the other.
-const DEPTH_LIMIT: usize = 32;
-
-/// Adds the bytes as a literal, a text where they are UTF-8.
-pub fn put_literal(
-    alloc: Global,
-    items: &mut Vec<OwnedFormatItem>,
-    bytes: &[u8],
-) -> Result<(), AllocError>
-    ensures { OnOk result (map owned_tree items.new.items ≡ map owned_tree items.old.items ++ literal_of bytes.now ∷ []) }
+/// Whether brackets with lists lack one.
+fn lacks_list(nest: Nest, is_first: bool) -> bool
+    ensures { result ≡ lacks_list nest is_first }
 {
-    items.push(literal(alloc, bytes)?)?;
-    Ok(())
-}
-
-/// Adds a component.
-pub fn put_component(
-    items: &mut Vec<OwnedFormatItem>,
-    component: Component,
-) -> Result<(), AllocError>
-    ensures { OnOk result (map owned_tree items.new.items ≡ map owned_tree items.old.items ++ of_component component ∷ []) }
-{
-    items.push(OwnedFormatItem::Component(component))?;
-    Ok(())
-}
-
-/// The item that lists in brackets make, which are closed where `left` bytes are left.
-fn nested(
-    alloc: Global,
-    nest: Nest,
-    lists: Vec<OwnedFormatItem>,
-    left: usize,
-) -> Result<OwnedFormatItem, Failure>
-    ensures { Gives owned_tree result (nested nest (map owned_tree lists.items) left) }
-{
-    let mut lists = lists;
     match nest {
-        Nest::First => Ok(OwnedFormatItem::First(lists)),
-        Nest::Optional => {
-            if lists.is_empty() {
-                return Err(Failure::Invalid(Fault {
-                    reason: Reason::MissingItems,
-                    left,
-                }));
-            }
-            let list = lists.remove(0);
-            Ok(OwnedFormatItem::Optional(Box::new(alloc, list)?))
-        }
+        Nest::First => false,
+        Nest::Optional => is_first,
     }
 }
 
-/// Whether one more list may follow these.
-fn takes_list(nest: Nest, lists: &Vec<OwnedFormatItem>) -> bool
-    ensures { result ≡ takes_list nest (map owned_tree lists.now.items) }
+/// Whether one more list may stand in brackets.
+fn takes_list(nest: Nest, is_first: bool) -> bool
+    ensures { (lists : List Tree) → is_first ≡ is_nil lists → result ≡ takes_list nest lists }
 {
     match nest {
         Nest::First => true,
-        Nest::Optional => lists.is_empty(),
+        Nest::Optional => is_first,
     }
 }
 
+/// Ends brackets with lists, which are closed where `left` bytes are left.
+fn end_lists<I: Items>(
+    items: &mut I,
+    nest: Nest,
+    is_first: bool,
+    left: usize,
+) -> Result<(), Failure>
+    ensures ended { (text : List ℕ) (fs : List reading.Frame) (before lists : List Tree)
+        → is_first ≡ is_nil lists → I.HoldsLists text fs nest before items.old lists
+        → Ends I.can_refuse (I.Holds text fs items.new) before result (nested nest lists left) }
+    ensures lender { I.lender items.new ≡ I.lender items.old }
+{
+    if lacks_list(nest, is_first) {
+        return Err(Failure::Invalid(Fault {
+            reason: Reason::MissingItems,
+            left,
+        }));
+    }
+    items.end_lists(nest)?;
+    Ok(())
+}
+
 /// Reads on between lists: up to a list's opening bracket, or behind the closing one.
-fn between<'a>(
-    alloc: Global,
-    frames: &mut Vec<Frame>,
-    items: &mut Vec<OwnedFormatItem>,
+fn between<'a, I: Items>(
+    items: &mut I,
+    frames: &mut Frames,
     nest: Nest,
     opened: usize,
-    lists: Vec<OwnedFormatItem>,
+    is_first: bool,
     bytes: &'a [u8],
 ) -> Result<&'a [u8], Failure>
-    ensures goes_on { GoesOn result
-        (read (frames_view frames.old.items) (between nest opened (map owned_tree lists.items)) (map owned_tree items.old.items) [] bytes.now)
-        (frames_view frames.new.items) (map owned_tree items.new.items) }
+    ensures goes_on { (text : List ℕ) (fs : List reading.Frame) (before lists : List Tree)
+        → is_first ≡ is_nil lists → outcome.AreKept frames.old.items fs
+        → I.HoldsLists text fs nest before items.old lists
+        → GoesOn I.can_refuse (AreOpen (λ gs. I.Holds text gs items.new) frames.new.items) result
+        (read fs (reading.between nest opened lists) before [] bytes.now) }
     ensures shorter { IfOk result (λ rest. length rest.now < length bytes.now) }
+    ensures end { IfOk result (λ rest. IsEnd bytes.now rest.now) }
+    ensures lender { I.lender items.new ≡ I.lender items.old }
 {
     let rest = after_gap(bytes);
     let Some((first, after)) = first_and_rest(rest) else {
@@ -100,47 +83,44 @@ fn between<'a>(
         }));
     };
     if first == b']' {
-        let item = nested(alloc, nest, lists, rest.len())?;
-        items.push(item)?;
+        end_lists(items, nest, is_first, rest.len())?;
         return Ok(after);
     }
-    if first != b'[' || !takes_list(nest, &lists) {
+    if first != b'[' || !takes_list(nest, is_first) {
         return Err(Failure::Invalid(Fault {
             reason: Reason::UnexpectedByte,
             left: rest.len(),
         }));
     }
-    if frames.len() >= DEPTH_LIMIT {
+    if frames.is_full() {
         return Err(Failure::Invalid(Fault {
             reason: Reason::TooDeep,
             left: rest.len(),
         }));
     }
-    let before = mem::replace(items, Vec::new(alloc));
+    items.open_list(frames.len(), is_first);
     frames.push(Frame {
         nest,
         opened,
         opened_list: rest.len(),
-        items: before,
-        lists,
-    })?;
+    });
     Ok(after)
 }
 
 /// Reads what is behind a backslash, from which `left` bytes are left.
-fn escaped<'a>(
-    alloc: Global,
-    items: &mut Vec<OwnedFormatItem>,
-    left: usize,
-    rest: &'a [u8],
-) -> Result<&'a [u8], Failure>
+fn escaped<'a, I: Items>(items: &mut I, left: usize, rest: &'a [u8]) -> Result<&'a [u8], Failure>
     requires { left ≡ length rest.now + 1 }
-    ensures goes_on { (fs : List reading.Frame) → GoesOn result (read fs escape (map owned_tree items.old.items) [] rest.now) fs (map owned_tree items.new.items) }
+    ensures goes_on { (text : List ℕ) (fs : List reading.Frame) (before : List Tree)
+        → I.Holds text fs items.old before
+        → GoesOn I.can_refuse (λ gs now. (gs ≡ fs) × I.Holds text gs items.new now) result
+        (read fs escape before [] rest.now) }
     ensures shorter { IfOk result (λ after. length after.now < length rest.now) }
+    ensures end { IfOk result (λ after. IsEnd rest.now after.now) }
+    ensures lender { I.lender items.new ≡ I.lender items.old }
 {
     match first_and_rest(rest) {
         Some((escaped, after)) if is_escapable(escaped) => {
-            put_literal(alloc, items, &[escaped])?;
+            items.put_byte(escaped)?;
             Ok(after)
         }
         _ => Err(Failure::Invalid(Fault {
@@ -151,76 +131,85 @@ fn escaped<'a>(
 }
 
 /// Closes the innermost list, and reads on behind its closing bracket.
-fn close_list<'a>(
-    alloc: Global,
-    frames: &mut Vec<Frame>,
-    items: &mut Vec<OwnedFormatItem>,
+fn close_list<'a, I: Items>(
+    items: &mut I,
+    frames: &mut Frames,
     rest: &'a [u8],
 ) -> Result<&'a [u8], Failure>
-    requires { 0 < vec_len frames.old }
-    ensures goes_on { GoesOn result
-        (read (frames_view frames.old.items) outside (map owned_tree items.old.items) [] (93 ∷ rest.now))
-        (frames_view frames.new.items) (map owned_tree items.new.items) }
+    requires { 0 < array_vec_len frames.old }
+    ensures goes_on { (text : List ℕ) (fs : List reading.Frame) (before : List Tree)
+        → AreOpen (λ gs. I.Holds text gs items.old) frames.old.items fs before
+        → GoesOn I.can_refuse (AreOpen (λ gs. I.Holds text gs items.new) frames.new.items) result
+        (read fs outside before [] (93 ∷ rest.now)) }
     ensures shorter { IfOk result (λ after. length after.now < length rest.now) }
+    ensures end { IfOk result (λ after. IsEnd rest.now after.now) }
+    ensures lender { I.lender items.new ≡ I.lender items.old }
 {
     let Some(frame) = frames.pop() else {
         unreachable!();
     };
-    let Frame {
-        nest,
-        opened,
-        opened_list: _,
-        items: before,
-        mut lists,
-    } = frame;
-    let list = mem::replace(items, before);
-    lists.push(OwnedFormatItem::Compound(list))?;
-    between(alloc, frames, items, nest, opened, lists, rest)
+    items.close_list(frames.len())?;
+    between(items, frames, frame.nest, frame.opened, false, rest)
 }
 
-/// Reads the first part of the text, and answers what follows it.
-pub fn step<'a>(
-    alloc: Global,
-    frames: &mut Vec<Frame>,
-    items: &mut Vec<OwnedFormatItem>,
-    text: &'a [u8],
+/// Reads what brackets hold, the opening one of which stands where `opened` bytes are left.
+fn bracketed<'a, I: Items>(
+    items: &mut I,
+    frames: &mut Frames,
+    opened: usize,
+    bytes: &'a [u8],
 ) -> Result<&'a [u8], Failure>
-    requires { 0 < length text.now }
-    ensures goes_on { GoesOn result
-        (read (frames_view frames.old.items) outside (map owned_tree items.old.items) [] text.now)
-        (frames_view frames.new.items) (map owned_tree items.new.items) }
-    ensures shorter { IfOk result (λ rest. length rest.now < length text.now) }
+    ensures goes_on { (text : List ℕ) (fs : List reading.Frame) (before : List Tree)
+        → AreOpen (λ gs. I.Holds text gs items.old) frames.old.items fs before
+        → GoesOn I.can_refuse (AreOpen (λ gs. I.Holds text gs items.new) frames.new.items) result
+        (read fs (brackets opened None []) before [] bytes.now) }
+    ensures shorter { IfOk result (λ after. length after.now < length bytes.now + 1) }
+    ensures end { IfOk result (λ after. IsEnd bytes.now after.now) }
+    ensures lender { I.lender items.new ≡ I.lender items.old }
 {
-    let Some((first, rest)) = first_and_rest(text) else {
+    let (inside, after) = in_brackets(opened, bytes)?;
+    match inside {
+        Bracketed::Component(component) => {
+            items.put_component(component)?;
+            Ok(after)
+        }
+        Bracketed::Nest(nest) => {
+            items.begin_lists()?;
+            between(items, frames, nest, opened, true, after)
+        }
+    }
+}
+
+/// Reads the first part of the rest of a text, and returns what follows it.
+pub fn step<'a, I: Items>(
+    items: &mut I,
+    frames: &mut Frames,
+    text: &[u8],
+    rest: &'a [u8],
+) -> Result<&'a [u8], Failure>
+    requires some { 0 < length rest.now }
+    requires end { IsEnd text.now rest.now }
+    ensures goes_on { (fs : List reading.Frame) (before : List Tree)
+        → AreOpen (λ gs. I.Holds text.now gs items.old) frames.old.items fs before
+        → GoesOn I.can_refuse (AreOpen (λ gs. I.Holds text.now gs items.new) frames.new.items) result
+        (read fs outside before [] rest.now) }
+    ensures shorter { IfOk result (λ after. length after.now < length rest.now) }
+    ensures end { IfOk result (λ after. IsEnd rest.now after.now) }
+    ensures lender { I.lender items.new ≡ I.lender items.old }
+{
+    let Some((first, after)) = first_and_rest(rest) else {
         unreachable!();
     };
     if first == b'[' {
-        let (inside, after) = in_brackets(text.len(), rest)?;
-        return match inside {
-            Bracketed::Component(component) => {
-                put_component(items, component)?;
-                Ok(after)
-            }
-            Bracketed::Nest(nest) => {
-                between(
-                    alloc,
-                    frames,
-                    items,
-                    nest,
-                    text.len(),
-                    Vec::new(alloc),
-                    after,
-                )
-            }
-        };
+        return bracketed(items, frames, rest.len(), after);
     }
     if first == b'\\' {
-        return escaped(alloc, items, text.len(), rest);
+        return escaped(items, rest.len(), after);
     }
     if first == b']' && !frames.is_empty() {
-        return close_list(alloc, frames, items, rest);
+        return close_list(items, frames, after);
     }
-    let (bytes, after) = text.split_at(literal_len(!frames.is_empty(), text));
-    put_literal(alloc, items, bytes)?;
-    Ok(after)
+    let len = literal_len(!frames.is_empty(), rest);
+    items.put_literal(text, text.len() - rest.len(), len)?;
+    Ok(&rest[len..])
 }

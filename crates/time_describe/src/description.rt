@@ -1,14 +1,17 @@
 //! Descriptions that own their parts, from a text.
-ghost use Rattle.std.specs.Prelude.{◌≡◌, [], length, Ok, IfOk, IfErr, map};
+ghost use Rattle.std.specs.Prelude.{◌≡◌, [], length, Ok, IfOk, IfErr, OnOk};
 ghost use Rattle.time_below.specs.Tree.{owned_tree};
-ghost use Rattle.time_describe.specs.Description.{tree_of, Says, IsWithin};
-ghost use Rattle.time_describe.specs.Outcome.{Gives};
+ghost use Rattle.time_describe.specs.Description.{tree_of, IsWithin, MayRefuse, Says};
+ghost use Rattle.time_describe.specs.Outcome.{Fails, IsFound};
 ghost use Rattle.time_describe.specs.Reading.{described, read, outside};
 
 use crate::building::step;
 use crate::fault::{Failure, Fault, Reason};
+use crate::frame::Frames;
 use crate::in_text::InText;
+use crate::items::Items;
 use crate::marks::past;
+use crate::owned_list::OwnedList;
 use std::alloc::Global;
 use time_below::format_description::OwnedFormatItem;
 
@@ -42,18 +45,20 @@ impl InvalidDescription {
     }
 }
 
-/// The items of a text that has no more of them than allowed.
-fn items(alloc: Global, text: &[u8]) -> Result<Vec<OwnedFormatItem>, Failure>
-    ensures { Gives (λ v. map owned_tree v.items) result (read [] outside [] [] text.now) }
+/// Adds the items of a text that has no more of them than allowed.
+fn put_all<I: Items>(items: &mut I, text: &[u8]) -> Result<(), Failure>
+    requires { I.Holds text.now [] items.old [] }
+    ensures found { OnOk result (IsFound (read [] outside [] [] text.now) (I.Holds text.now [] items.new)) }
+    ensures fails { IfErr result (λ e. Fails I.can_refuse e (read [] outside [] [] text.now)) }
+    ensures lender { I.lender items.new ≡ I.lender items.old }
 {
-    let mut frames = Vec::new(alloc);
-    let mut items = Vec::new(alloc);
+    let mut frames = Frames::new();
     let mut rest = text;
     'steps: while !rest.is_empty() {
-        rest = step(alloc, &mut frames, &mut items, rest)?;
+        rest = step(items, &mut frames, text, rest)?;
     }
     match frames.pop() {
-        None => Ok(items),
+        None => Ok(()),
         Some(frame) => Err(Failure::Invalid(Fault {
             reason: Reason::UnclosedBracket,
             left: frame.opened_list,
@@ -61,16 +66,39 @@ fn items(alloc: Global, text: &[u8]) -> Result<Vec<OwnedFormatItem>, Failure>
     }
 }
 
-/// The items of a text, unless it may have too many.
-fn items_within_limit(alloc: Global, text: &[u8]) -> Result<Vec<OwnedFormatItem>, Failure>
-    ensures { Gives (λ v. map owned_tree v.items) result (described text.now) }
+/// Adds the items of a text, unless it may have too many.
+fn put_within_limit<I: Items>(items: &mut I, text: &[u8]) -> Result<(), Failure>
+    requires { I.Holds text.now [] items.old [] }
+    ensures found { OnOk result (IsFound (described text.now) (I.Holds text.now [] items.new)) }
+    ensures fails { IfErr result (λ e. Fails I.can_refuse e (described text.now)) }
+    ensures lender { I.lender items.new ≡ I.lender items.old }
 {
     match past(b'[', b'\\', text) {
-        None => items(alloc, text),
+        None => put_all(items, text),
         Some(left) => Err(Failure::Invalid(Fault {
             reason: Reason::TooManyItems,
             left,
         })),
+    }
+}
+
+/// Adds the items that a text describes, in the syntax of `parse_owned`, to a list that has none. After
+/// an error the list may hold the items before the fault.
+pub fn describe<I: Items>(items: &mut I, text: &[u8]) -> Result<(), InvalidDescription>
+    requires { I.Holds text.now [] items.old [] }
+    ensures found { OnOk result (IsFound (described text.now) (I.Holds text.now [] items.new)) }
+    ensures says { IfErr result (Says (length text.now) (described text.now)) }
+    ensures inside { IfErr result (IsWithin (length text.now)) }
+    ensures refusal { IfErr result (MayRefuse I.can_refuse) }
+    ensures lender { I.lender items.new ≡ I.lender items.old }
+{
+    match put_within_limit(items, text) {
+        Ok(()) => Ok(()),
+        Err(Failure::OutOfMemory) => Err(InvalidDescription::OutOfMemory),
+        Err(Failure::Invalid(fault)) => Err(InvalidDescription::Invalid {
+            reason: fault.reason,
+            index: text.len().saturating_sub(fault.left),
+        }),
     }
 }
 
@@ -84,12 +112,9 @@ pub fn parse_owned(alloc: Global, text: &[u8]) -> Result<OwnedFormatItem, Invali
     ensures says { IfErr result (Says (length text.now) (described text.now)) }
     ensures inside { IfErr result (IsWithin (length text.now)) }
 {
-    match items_within_limit(alloc, text) {
-        Ok(items) => Ok(OwnedFormatItem::Compound(items)),
-        Err(Failure::OutOfMemory) => Err(InvalidDescription::OutOfMemory),
-        Err(Failure::Invalid(fault)) => Err(InvalidDescription::Invalid {
-            reason: fault.reason,
-            index: text.len().saturating_sub(fault.left),
-        }),
+    let mut items = OwnedList::new(alloc);
+    match describe(&mut items, text) {
+        Ok(()) => Ok(OwnedFormatItem::Compound(items.into_items())),
+        Err(error) => Err(error),
     }
 }

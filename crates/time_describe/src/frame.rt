@@ -1,10 +1,11 @@
 //! Lists of items that are not closed yet.
 
 use crate::pieces::Nest;
-use time_below::format_description::OwnedFormatItem;
+use arrayvec::ArrayVec;
+use std::default::Default;
 
 /// A list of items that is not closed yet.
-#[derive(Drop)]
+#[derive(Clone, Copy)]
 pub struct Frame {
     /// What the list is for.
     pub nest: Nest,
@@ -12,8 +13,17 @@ pub struct Frame {
     pub opened: usize,
     /// How many are left from its own opening bracket on.
     pub opened_list: usize,
-    /// The items before those brackets.
-    pub items: Vec<OwnedFormatItem>,
-    /// The lists before it in the same brackets.
-    pub lists: Vec<OwnedFormatItem>,
 }
+
+impl Default for Frame {
+    fn default() -> Frame {
+        Frame {
+            nest: Nest::First,
+            opened: 0,
+            opened_list: 0,
+        }
+    }
+}
+
+/// The lists that are not closed yet, of which there may be 32.
+pub type Frames = ArrayVec<Frame, 32>;

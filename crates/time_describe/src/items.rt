@@ -1,18 +1,24 @@
 //! Where the items of a text go.
-ghost use Rattle.std.specs.Prelude.{◌≡◌, ◌+◌, ◌≤◌, ◌∷◌, [], ℕ, List, Bool, true, Option, None, length, map, min, slice_range, vec_len, IsTrue, IfErr, OnOk};
+ghost use Rattle.std.specs.Prelude.{◌≡◌, ◌+◌, ◌≤◌, ◌∷◌, ◌++◌, [], ℕ, List, Bool, Option, length, min, slice_range, IsTrue, IfErr, OnOk};
 ghost use base.Fml.{GName};
-ghost use Rattle.time_below.specs.Tree.{Tree, of_component, owned_tree};
-ghost use Rattle.time_describe.specs.Items.{Adds};
+ghost use Rattle.time_below.specs.Tree.{Tree, trees, of_component, all_of};
+ghost use Rattle.time_describe.specs.Items.{Adds, are_leaves, is_nil};
 ghost use Rattle.time_describe.specs.Literal.{literal_of};
+ghost use Rattle.time_describe.specs.Reading.{Frame};
+ghost use Rattle.time_describe.specs.Reading as reading;
+ghost use Rattle.time_describe.specs.declared.pieces.Nest.{Nest};
 
-use crate::building::{put_component, put_literal};
-use std::alloc::{AllocError, Global};
-use time_below::format_description::{Component, OwnedFormatItem};
+use crate::pieces::Nest;
+use std::alloc::AllocError;
+use time_below::format_description::Component;
 
-/// A list of items that grows at its end.
+/// Items that are added at the end of a list, and lists of them in one another.
 pub trait Items {
-    /// Whether it holds these items of a text.
-    ghost Holds: { List ℕ → Self → List Tree → Type 0 };
+    /// Whether it holds these items of a text, in these open lists, of which the first is the innermost.
+    ghost Holds: { List ℕ → List Frame → Self → List Tree → Type 0 };
+
+    /// Whether it holds these lists of items, in brackets behind these items, in these open lists.
+    ghost HoldsLists: { List ℕ → List Frame → Nest → List Tree → Self → List Tree → Type 0 };
 
     /// Whether it may refuse an item, for lack of memory.
     ghost can_refuse: { Bool };
@@ -22,78 +28,58 @@ pub trait Items {
 
     /// Adds a component.
     fn put_component(&mut self, component: Component) -> Result<(), AllocError>
-        ensures put { OnOk result ((text : List ℕ)
-            → Adds (Holds text) self.old self.new (of_component component ∷ [])) }
+        ensures put { OnOk result ((text : List ℕ) (fs : List Frame)
+            → Adds (Holds text fs) self.old self.new (of_component component ∷ [])) }
         ensures refusal { IfErr result (λ _. IsTrue can_refuse) }
         ensures lender { lender self.new ≡ lender self.old };
 
     /// Adds a literal of one byte.
     fn put_byte(&mut self, byte: u8) -> Result<(), AllocError>
-        ensures put { OnOk result ((text : List ℕ)
-            → Adds (Holds text) self.old self.new (literal_of (byte ∷ []) ∷ [])) }
+        ensures put { OnOk result ((text : List ℕ) (fs : List Frame)
+            → Adds (Holds text fs) self.old self.new (literal_of (byte ∷ []) ∷ [])) }
         ensures refusal { IfErr result (λ _. IsTrue can_refuse) }
         ensures lender { lender self.new ≡ lender self.old };
 
     /// Adds a literal of so many bytes of the text, from a place on.
     fn put_literal(&mut self, text: &[u8], start: usize, len: usize) -> Result<(), AllocError>
         requires within { start + len ≤ length text.now }
-        ensures put { OnOk result (Adds (Holds text.now) self.old self.new
+        ensures put { OnOk result ((fs : List Frame) → Adds (Holds text.now fs) self.old self.new
             (literal_of (slice_range text.now start (start + len)) ∷ [])) }
         ensures refusal { IfErr result (λ _. IsTrue can_refuse) }
         ensures lender { lender self.new ≡ lender self.old };
 
-    /// How many items there are, up to the greatest `usize`.
+    /// How many items there are, up to the greatest `usize`, where they are literals and components alone.
     fn len(&self) -> usize
         ensures { (text : List ℕ) (all : List Tree)
-            → Holds text self.now all → result ≡ min (length all) 0xffff_ffff_ffff_ffff };
-}
+            → IsTrue (are_leaves all) → Holds text [] self.now all → result ≡ min (length all) 0xffff_ffff_ffff_ffff };
 
-/// Items that own their parts.
-#[derive(Drop)]
-pub struct OwnedList {
-    alloc: Global,
-    items: Vec<OwnedFormatItem>,
-}
+    /// Begins brackets with lists.
+    fn begin_lists(&mut self) -> Result<(), AllocError>
+        ensures begun { OnOk result ((text : List ℕ) (fs : List Frame) (nest : Nest) (items : List Tree)
+            → Holds text fs self.old items → HoldsLists text fs nest items self.new []) }
+        ensures refusal { IfErr result (λ _. IsTrue can_refuse) }
+        ensures lender { lender self.new ≡ lender self.old };
 
-impl OwnedList {
-    /// No items.
-    pub fn new(alloc: Global) -> OwnedList
-        ensures { result.items.items ≡ [] }
-    {
-        OwnedList {
-            alloc,
-            items: Vec::new(alloc),
-        }
-    }
+    /// Opens a list in brackets, in so many other lists.
+    fn open_list(&mut self, depth: usize, is_first: bool)
+        ensures opened { (text : List ℕ) (f : Frame) (fs : List Frame)
+            → depth ≡ length fs → is_first ≡ is_nil f.lists
+            → HoldsLists text fs f.nest f.items self.old f.lists → Holds text (f ∷ fs) self.new [] }
+        ensures lender { lender self.new ≡ lender self.old };
 
-    /// The items.
-    pub fn into_items(self) -> Vec<OwnedFormatItem>
-        ensures { result ≡ self.items }
-    {
-        self.items
-    }
-}
+    /// Closes the innermost list, if one is open, which stands in so many others.
+    fn close_list(&mut self, depth: usize) -> Result<(), AllocError>
+        ensures closed { OnOk result ((text : List ℕ) (f : Frame) (fs : List Frame) (items : List Tree)
+            → depth ≡ length fs → Holds text (f ∷ fs) self.old items
+            → HoldsLists text fs f.nest f.items self.new (f.lists ++ all_of (trees items) ∷ [])) }
+        ensures refusal { IfErr result (λ _. IsTrue can_refuse) }
+        ensures lender { lender self.new ≡ lender self.old };
 
-impl Items for OwnedList {
-    ghost Holds = { λ _ list all. map owned_tree list.items.items ≡ all };
-
-    ghost can_refuse = { true };
-
-    ghost lender = { λ _. None };
-
-    fn put_component(&mut self, component: Component) -> Result<(), AllocError> {
-        put_component(&mut self.items, component)
-    }
-
-    fn put_byte(&mut self, byte: u8) -> Result<(), AllocError> {
-        put_literal(self.alloc, &mut self.items, &[byte])
-    }
-
-    fn put_literal(&mut self, text: &[u8], start: usize, len: usize) -> Result<(), AllocError> {
-        put_literal(self.alloc, &mut self.items, &text[start..start + len])
-    }
-
-    fn len(&self) -> usize {
-        self.items.len()
-    }
+    /// Ends brackets with lists, if some were begun, and adds the item that they are.
+    fn end_lists(&mut self, nest: Nest) -> Result<(), AllocError>
+        ensures ended { OnOk result ((text : List ℕ) (fs : List Frame) (items lists : List Tree) (left : ℕ) (item : Tree)
+            → HoldsLists text fs nest items self.old lists → reading.nested nest lists left ≡ Ok item
+            → Holds text fs self.new (items ++ item ∷ [])) }
+        ensures refusal { IfErr result (λ _. IsTrue can_refuse) }
+        ensures lender { lender self.new ≡ lender self.old };
 }

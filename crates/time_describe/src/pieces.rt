@@ -2,6 +2,7 @@
 ghost use Rattle.std.specs.Prelude.{◌≡◌, ◌==◌, ◌∷◌, ◌≤◌, [], length, drop, not, IfOk, MatchOption, position};
 ghost use Rattle.std.specs.Char.{is_ascii_whitespace};
 ghost use Rattle.std.specs.List.{position_or_len, prefix_len, before_first, after_first};
+ghost use Rattle.time_describe.specs.Outcome.{IsEnd};
 ghost use Rattle.time_describe.specs.Pieces.{InBrackets, ends_literal};
 ghost use Rattle.time_describe.specs.Reading.{is_special, is_escapable, ends_word, at_fault, with_word, is_whole, finished, nest_of};
 
@@ -188,6 +189,7 @@ fn nest_of(component: Option<Component>, word: &[u8]) -> Option<Nest>
 pub fn in_brackets(opened: usize, bytes: &[u8]) -> Result<(Bracketed, &[u8]), Fault>
     ensures goes_on { InBrackets opened bytes.now result }
     ensures shorter { IfOk result (λ x. length x.1.now ≤ length bytes.now) }
+    ensures end { IfOk result (λ x. IsEnd bytes.now x.1.now) }
 {
     let unclosed = Fault {
         reason: Reason::UnclosedBracket,

@@ -6,12 +6,13 @@
 ghost use Rattle.std.specs.Prelude.{◌≡◌, ◌+◌, ◌<◌, ◌≤◌, ℕ, List, [], length, drop, slice_range, Ok, IfOk, IfErr, OnOk, IsTrue};
 ghost use Rattle.time_below.specs.Tree.{Tree, owned_tree};
 ghost use Rattle.time_describe.specs.Conversions.{composed, offset};
-ghost use Rattle.time_describe.specs.Items.{Adds};
+ghost use Rattle.time_describe.specs.Items.{Adds, are_leaves};
 ghost use Rattle.time_describe.specs.Strftime.{described, read};
 ghost use Rattle.time_describe.specs.StrftimeOutcome.{items_of_part, tree_of, Fails, GoesOn, IsFound, IsWithin, MayRefuse, Says};
 
-use crate::items::{Items, OwnedList};
+use crate::items::Items;
 use crate::literal::MOST_ITEMS;
+use crate::owned_list::OwnedList;
 use crate::pieces::first_and_rest;
 use std::alloc::{AllocError, Global};
 use thiserror::Error;
@@ -44,7 +45,7 @@ pub enum InvalidStrftime {
 /// Adds the hours of the offset with their sign, perhaps a colon, and the minutes.
 fn put_offset<I: Items>(items: &mut I, with_colon: bool) -> Result<(), AllocError>
     ensures put { OnOk result ((text : List ℕ)
-        → Adds (I.Holds text) items.old items.new (offset with_colon)) }
+        → Adds (I.Holds text []) items.old items.new (offset with_colon)) }
     ensures refusal { IfErr result (λ _. IsTrue I.can_refuse) }
     ensures lender { I.lender items.new ≡ I.lender items.old }
 {
@@ -64,7 +65,7 @@ fn put_offset<I: Items>(items: &mut I, with_colon: bool) -> Result<(), AllocErro
 /// Adds the components of a composition, and the bytes between them.
 fn put_composed<I: Items>(items: &mut I, text: &[u8]) -> Result<(), AllocError>
     ensures put { OnOk result ((of : List ℕ)
-        → Adds (I.Holds of) items.old items.new (composed text.now)) }
+        → Adds (I.Holds of []) items.old items.new (composed text.now)) }
     ensures refusal { IfErr result (λ _. IsTrue I.can_refuse) }
     ensures lender { I.lender items.new ≡ I.lender items.old }
 {
@@ -95,7 +96,7 @@ fn put_part<I: Items>(
     part: Part<'_>,
 ) -> Result<(), AllocError>
     requires within { start + len ≤ length text.now }
-    ensures put { OnOk result (Adds (I.Holds text.now) items.old items.new
+    ensures put { OnOk result (Adds (I.Holds text.now []) items.old items.new
         (items_of_part (slice_range text.now start (start + len)) part.entry)) }
     ensures refusal { IfErr result (λ _. IsTrue I.can_refuse) }
     ensures lender { I.lender items.new ≡ I.lender items.old }
@@ -113,8 +114,8 @@ fn put_part<I: Items>(
 /// Reads the part at a place of the text, and returns the place behind it.
 fn step<I: Items>(items: &mut I, text: &[u8], at: usize) -> Result<usize, Failure>
     requires { at < length text.now }
-    ensures goes_on { (before : List Tree) → I.Holds text.now items.old before
-        → GoesOn I.can_refuse text.now (I.Holds text.now items.new) result
+    ensures goes_on { (before : List Tree) → IsTrue (are_leaves before) → I.Holds text.now [] items.old before
+        → GoesOn I.can_refuse text.now (I.Holds text.now [] items.new) result
         (read before 0 (drop at text.now)) }
     ensures further { IfOk result (λ next. at < next) }
     ensures within { IfOk result (λ next. next ≤ length text.now) }
@@ -133,8 +134,8 @@ fn step<I: Items>(items: &mut I, text: &[u8], at: usize) -> Result<usize, Failur
 
 /// Adds the items of a text.
 fn put_all<I: Items>(items: &mut I, text: &[u8]) -> Result<(), Failure>
-    requires { I.Holds text.now items.old [] }
-    ensures found { OnOk result (IsFound (described text.now) (I.Holds text.now items.new)) }
+    requires { I.Holds text.now [] items.old [] }
+    ensures found { OnOk result (IsFound (described text.now) (I.Holds text.now [] items.new)) }
     ensures fails { IfErr result (λ e. Fails I.can_refuse e (described text.now)) }
     ensures lender { I.lender items.new ≡ I.lender items.old }
 {
@@ -151,8 +152,8 @@ fn put_all<I: Items>(items: &mut I, text: &[u8]) -> Result<(), Failure>
 /// `specs/Conversions.antt` lists for it. There are at most 65,536 items. After an error the list may
 /// hold the items before the fault.
 pub fn describe_strftime<I: Items>(items: &mut I, text: &[u8]) -> Result<(), InvalidStrftime>
-    requires { I.Holds text.now items.old [] }
-    ensures found { OnOk result (IsFound (described text.now) (I.Holds text.now items.new)) }
+    requires { I.Holds text.now [] items.old [] }
+    ensures found { OnOk result (IsFound (described text.now) (I.Holds text.now [] items.new)) }
     ensures says { IfErr result (Says (length text.now) (described text.now)) }
     ensures inside { IfErr result (IsWithin (length text.now)) }
     ensures refusal { IfErr result (MayRefuse I.can_refuse) }

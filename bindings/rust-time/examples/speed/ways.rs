@@ -13,6 +13,7 @@ use std::cell::RefCell;
 use time::format_description::{well_known, FormatItem};
 use time::macros::format_description;
 
+const BRACKETS: &str = "[year]-[month]-[day] [hour]:[minute]:[second]";
 const CONVERSIONS: &str = "%Y-%m-%d %H:%M:%S";
 
 const THREE: Iso8601By = Iso8601By::new().time_precision(TimePrecision::Second, 3);
@@ -315,6 +316,10 @@ fn other_calls() -> Ways {
         (
             "stamp:stamp",
             measured(|moment| stamp(moment).map_or(0, |text| text.len())),
+        ),
+        (
+            "describe:11-items",
+            measured(|_| Description::parse(BRACKETS).map_or(0, |it| it.width())),
         ),
         (
             "describe_strftime:11-items",

@@ -2,6 +2,7 @@ use Rattle.std.proofs.Common.{◌≡◌, ℕ, ◌+◌, [], ◌∷◌, length, Li
 use Rattle.std.proofs.lemmas.Result.{err_from_is_err_and}
 use Rattle.time_describe.specs.Reading.{read, brackets, at_fault, finished}
 use Rattle.time_describe.proofs.ReadLemmas.{Word, no_byte, special_byte, closes, closes_wrongly, white_byte, word_read, word_made, word_refused, keyword_read, plain_word}
+use Rattle.time_describe.proofs.EndLemmas.{end_cut, end_more}
 use Rattle.time_describe.proofs.pieces.in_brackets.Goals as goal
 
 pub returns-in_default-clause-goes_on : goal.returns-in_default-clause-goes_on
@@ -48,6 +49,7 @@ words-preserved-then-is_ascii_whitespace c = record {
       ∙ ap (read fs (brackets c.args.opened c.words.component []) items []) (sym c.in-Some.ensures)
       ∙ c.words.invariant.along fs items;
   shorter = omega (arith, c.words.invariant.shorter, ap length c.in-Some.ensures);
+  end = end_more _ _ _ c.words.invariant.end (end_cut c.words.rest.now c.in-Some.first c.in-Some.after.now c.in-Some.ensures);
 }
 
 pub returns-in_default-first_and_rest-clause-goes_on : goal.returns-in_default-first_and_rest-clause-goes_on
@@ -77,6 +79,7 @@ words-preserved c =
           (omega (arith, c.split_at.ensures.front_len, c.split_at.ensures.back_len, c.word_len.ensures.inside)))
           ∙ c.words.invariant.along fs items;
       shorter = omega (arith, c.words.invariant.shorter, c.split_at.ensures.back_len);
+      end = end_more _ _ _ c.words.invariant.end (c.word_len.result, c.split_at.ensures.back);
     }
 
 pub returns-in-Some-nest_of-clause-goes_on : goal.returns-in-Some-nest_of-clause-goes_on
@@ -86,3 +89,9 @@ returns-in-Some-nest_of-clause-goes_on c = λ fs items.
     ∙ keyword_read fs _ _ _ _ c.args.opened c.words.component items c.in-Some.first c.in-Some.after.now c.in-Some-first_and_rest.end c.in-Some-first_and_rest.field-0-1.now c.in-Some-nest_of.nest w c.in-Some.ensures
     (plain_word c.in-Some.first (sym c.if-is_special.ensures) (ne_eqb _ _ c.if-first-eq93.false) (sym c.if-is_ascii_whitespace.ensures.value))
     c.in-Some-first_and_rest.ensures (sym c.if-is_special-2.ensures) (sym c.in-Some-nest_of.ensures)
+
+pub returns-then-first-eq93-clause-end : goal.returns-then-first-eq93-clause-end
+returns-then-first-eq93-clause-end c = end_more _ _ _ c.words.invariant.end (end_cut c.words.rest.now c.in-Some.first c.in-Some.after.now c.in-Some.ensures)
+
+pub returns-in-Some-nest_of-clause-end : goal.returns-in-Some-nest_of-clause-end
+returns-in-Some-nest_of-clause-end c = end_more _ _ _ c.words.invariant.end (c.word_len.result, c.split_at.ensures.back)

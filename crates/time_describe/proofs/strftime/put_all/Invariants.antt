@@ -1,4 +1,4 @@
-use Rattle.std.proofs.Common.{◌≡◌, ◌≤◌, ◌-◌, length}
+use Rattle.std.proofs.Common.{[], ◌≡◌, ◌≤◌, ◌-◌, length}
 use Rattle.time_describe.specs.Strftime.{described}
 use Rattle.time_describe.specs.StrftimeOutcome.{IsAt}
 use Rattle.time_describe.proofs.strftime.put_all.Given as goal
@@ -6,7 +6,7 @@ use Rattle.time_describe.proofs.strftime.put_all.Given as goal
 abbrev pub invariant-steps : goal.invariant-steps
 invariant-steps g l = record {
   within : l.at ≤ length l.text;
-  held : IsAt l.text l.at (g.I.Items.Holds l.text l.items) (described l.text);
+  held : IsAt l.text l.at (g.I.Items.Holds l.text [] l.items) (described l.text);
   lender : g.I.Items.lender l.items ≡ g.I.Items.lender l.fn.items;
 }
 

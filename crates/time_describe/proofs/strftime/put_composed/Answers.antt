@@ -12,7 +12,7 @@ parts-preserved-in_ok-put_component-in-Some-first_and_rest g c = record {
       let w = c.parts.invariant.along of before held in
       let now = w.0 ++ of_component c.in-Some-component_of.component ∷ [] in (
         now,
-        c.in_ok-put_component-in-Some-first_and_rest.ensures.put of w.0 w.1,
+        c.in_ok-put_component-in-Some-first_and_rest.ensures.put of [] w.0 w.1,
         component_composed w.0 now c.in-Some.first c.in-Some-first_and_rest.letter c.in-Some-first_and_rest.behind.now c.in-Some-component_of.component
             c.if-first-eq37.true (sym c.in-Some-component_of.ensures) refl
             ∙ ap (λ (v : List ℕ). w.0 ++ composed v) (sym (c.in-Some.ensures ∙ ap (λ (v : List ℕ). c.in-Some.first ∷ v) c.in-Some-first_and_rest.ensures))
@@ -41,7 +41,7 @@ parts-preserved g c = record {
       let w = c.parts.invariant.along of before held in
       let now = w.0 ++ literal_of (c.in-Some.first ∷ []) ∷ [] in (
         now,
-        c.in_ok-put_byte-in_default-first_and_rest.ensures.put of w.0 w.1,
+        c.in_ok-put_byte-in_default-first_and_rest.ensures.put of [] w.0 w.1,
         elim c.in_default-first_and_rest.branch [
           | in_default-first_and_rest-via-in-Some-first_and_rest+else-first-eq37 v ↦
               ap (λ (u : List ℕ). now ++ composed u) v.in-Some-first_and_rest.ensures
@@ -63,4 +63,4 @@ pub returns-clause-put : goal.returns-clause-put
 returns-clause-put g c = λ of before held.
     let w = c.parts.invariant.along of before held in
     let all = sym (none_composed w.0) ∙ ap (λ (v : List ℕ). w.0 ++ composed v) (sym c.in_default.ensures) ∙ w.2 in
-    subst (λ (v : List Tree). g.I.Items.Holds of c.parts.items v) all w.1
+    subst (λ (v : List Tree). g.I.Items.Holds of [] c.parts.items v) all w.1

@@ -1,0 +1,190 @@
+-- Lists in one another, one after the other.
+use Rattle.std.proofs.Common.{◌≡◌, ◌<◌, ◌+◌, ◌++◌, ℕ, Bool, true, false, List, [], ◌∷◌, length, Option, Some, None, Ok, refl, sym, ap, ◌∙◌, append_assoc, arith, eq-eqb}
+use Rattle.std.specs.Prelude.{◌&&◌, IsTrue, nat_eq}
+use Rattle.std.proofs.lemmas.Bool.{eqb-true}
+use Rattle.std.proofs.lemmas.List.{append-nil}
+use Rattle.std.specs.Str.{is_utf8}
+use Rattle.movaliren_c.specs.Flat.{all_flat, closed_at, first_shown, flat, flat_items, hidden_at, or_at, shown_in}
+use Rattle.time_below.specs.Facts.{Facts}
+use Rattle.time_below.specs.Tree.{Tree, Trees, trees, byte_literal, text_literal, of_component, all_of, first_of, nothing, end, more}
+use Rattle.time_describe.specs.Items.{are_leaves, is_leaf, is_nil}
+use Rattle.time_describe.specs.Literal.{literal_of}
+use Rattle.time_describe.specs.Reading.{Frame, nested}
+use Rattle.time_describe.specs.declared.pieces.Nest.{Nest}
+use Rattle.time_describe.specs.declared.pieces.Nest.TheVariants as nests
+use Rattle.time_fmt.specs.Description.{tree_outcome, trees_outcome}
+use Rattle.time_fmt.specs.Outcome.{Outcome, Refusal, done, join}
+
+-- ---- outcomes
+
+regrouped : (x : List ℕ) (r : Option Refusal) (y : List ℕ) (s : Option Refusal) (c : Outcome)
+    → join (join (record { bytes = x; refusal = r }) (record { bytes = y; refusal = s })) c
+    ≡ join (record { bytes = x; refusal = r }) (join (record { bytes = y; refusal = s }) c)
+regrouped x (Some r) y s c = refl
+regrouped x None y (Some s) c = refl
+regrouped x None y None c = ap (λ (bs : List ℕ). record { bytes = bs; refusal = c.refusal }) (append_assoc x y c.bytes)
+
+join_assoc : (a b c : Outcome) → join (join a b) c ≡ join a (join b c)
+join_assoc a b c = regrouped a.bytes a.refusal b.bytes b.refusal c
+
+nothing_behind : (x : List ℕ) (r : Option Refusal)
+    → join (record { bytes = x; refusal = r }) (done []) ≡ record { bytes = x; refusal = r }
+nothing_behind x (Some r) = refl
+nothing_behind x None = ap (λ (bs : List ℕ). record { bytes = bs; refusal = None }) (append-nil x)
+
+alone : (a : Outcome) → join a (done []) ≡ a
+alone a = nothing_behind a.bytes a.refusal
+
+joined : (a b : List Tree) (f : Facts) → trees_outcome (trees (a ++ b)) f ≡ join (trees_outcome (trees a) f) (trees_outcome (trees b) f)
+joined [] b f = refl
+joined (t ∷ ts) b f =
+    ap (join (tree_outcome t f)) (joined ts b f)
+    ∙ sym (join_assoc (tree_outcome t f) (trees_outcome (trees ts) f) (trees_outcome (trees b) f))
+
+-- what is flat gives the same
+mutual
+  flat_same : (t : Tree) (f : Facts) → trees_outcome (trees (flat t)) f ≡ tree_outcome t f
+  flat_same (byte_literal bytes) f = alone (done bytes)
+  flat_same (text_literal text) f = alone (done text)
+  flat_same (of_component c) f = alone (tree_outcome (of_component c) f)
+  flat_same (all_of ts) f = all_flat_same ts f
+  flat_same (first_of end) f = refl
+  flat_same (first_of (more t ts)) f = flat_same t f
+  flat_same nothing f = refl
+
+  pub all_flat_same : (ts : Trees) (f : Facts) → trees_outcome (trees (all_flat ts)) f ≡ trees_outcome ts f
+  all_flat_same end f = refl
+  all_flat_same (more t ts) f =
+      joined (flat t) (all_flat ts) f
+      ∙ ap (λ (o : Outcome). join o (trees_outcome (trees (all_flat ts)) f)) (flat_same t f)
+      ∙ ap (join (tree_outcome t f)) (all_flat_same ts f)
+
+-- ---- items
+
+pub flat_more : (a b : List Tree) → flat_items (a ++ b) ≡ flat_items a ++ flat_items b
+flat_more [] b = refl
+flat_more (t ∷ ts) b = ap (λ (v : List Tree). flat t ++ v) (flat_more ts b) ∙ sym (append_assoc (flat t) (flat_items ts) (flat_items b))
+
+literal_by : (b : Bool) (bytes : List ℕ) → is_utf8 bytes ≡ b → flat (literal_of bytes) ≡ literal_of bytes ∷ []
+unfolding literal_of
+literal_by true bytes is = rw is refl
+literal_by false bytes is = rw is refl
+
+pub flat_literal : (bytes : List ℕ) → flat (literal_of bytes) ≡ literal_of bytes ∷ []
+flat_literal bytes = literal_by (is_utf8 bytes) bytes refl
+
+both : (x y : Bool) → x && y ≡ true → (x ≡ true) × (y ≡ true)
+both true y is = (refl, is)
+both false y is = absurd cc
+
+leaf_flat : (t : Tree) → is_leaf t ≡ true → flat t ≡ t ∷ []
+leaf_flat (byte_literal bytes) is = refl
+leaf_flat (text_literal text) is = refl
+leaf_flat (of_component c) is = refl
+leaf_flat (all_of ts) is = absurd cc
+leaf_flat (first_of ts) is = absurd cc
+leaf_flat nothing is = absurd cc
+
+-- without lists they are as they were
+pub leaves_flat : (all : List Tree) → IsTrue (are_leaves all) → flat_items all ≡ all
+leaves_flat [] leaves = refl
+leaves_flat (t ∷ ts) leaves =
+    let w = both (is_leaf t) (are_leaves ts) leaves in
+    ap (λ (v : List Tree). v ++ flat_items ts) (leaf_flat t w.0) ∙ ap (λ (v : List Tree). t ∷ v) (leaves_flat ts w.1)
+
+-- ---- what is shown in open lists
+
+visible_by : (o : Option ℕ) (first : Bool) (here : ℕ) → or_at o first here ≡ None → (o ≡ None) × (first ≡ true)
+visible_by (Some d) first here e = absurd cc
+visible_by None true here e = (refl, refl)
+visible_by None false here e = absurd cc
+
+more_step : (fs : List Frame) (lists items a b : List Tree) → is_nil lists ≡ true
+    → ((x : List Tree) → shown_in fs (x ++ b) ≡ shown_in fs x ++ b)
+    → shown_in fs (flat_items items ++ first_shown lists (a ++ b)) ≡ shown_in fs (flat_items items ++ first_shown lists a) ++ b
+more_step fs [] items a b none later = ap (shown_in fs) (sym (append_assoc (flat_items items) a b)) ∙ later (flat_items items ++ a)
+more_step fs (t ∷ ts) items a b none later = absurd cc
+
+-- where each list is the first in its brackets, more items are shown
+pub shown_more : (fs : List Frame) (a b : List Tree) → hidden_at fs ≡ None → shown_in fs (a ++ b) ≡ shown_in fs a ++ b
+shown_more [] a b is = refl
+shown_more (f ∷ fs) a b is =
+    let w = visible_by (hidden_at fs) (is_nil f.lists) (length fs) is in
+    more_step fs f.lists f.items a b w.1 (λ x. shown_more fs x b w.0)
+
+outer_hidden : (o : Option ℕ) (here d : ℕ) → or_at o true here ≡ Some d → o ≡ Some d
+outer_hidden (Some e) here d is = is
+outer_hidden None here d is = absurd cc
+
+hidden_step : (fs : List Frame) (lists items a b : List Tree) (d : ℕ) → or_at (hidden_at fs) (is_nil lists) (length fs) ≡ Some d
+    → ((x y : List Tree) → hidden_at fs ≡ Some d → shown_in fs x ≡ shown_in fs y)
+    → shown_in fs (flat_items items ++ first_shown lists a) ≡ shown_in fs (flat_items items ++ first_shown lists b)
+hidden_step fs [] items a b d is later = later (flat_items items ++ a) (flat_items items ++ b) (outer_hidden (hidden_at fs) (length fs) d is)
+hidden_step fs (t ∷ ts) items a b d is later = refl
+
+-- where one is not, they are not
+pub shown_hidden : (fs : List Frame) (a b : List Tree) (d : ℕ) → hidden_at fs ≡ Some d → shown_in fs a ≡ shown_in fs b
+shown_hidden [] a b d is = absurd cc
+shown_hidden (f ∷ fs) a b d is = hidden_step fs f.lists f.items a b d is (λ x y h. shown_hidden fs x y d h)
+
+below_by : (o : Option ℕ) (first : Bool) (here d : ℕ) → or_at o first here ≡ Some d → (o ≡ Some d → d < here) → d < here + 1
+below_by (Some e) first here d is later = let h = later is in omega (arith, h)
+below_by None true here d is later = absurd cc
+below_by None false here d is later = let same : here ≡ d = cc in omega (arith, same)
+
+-- the outermost of those is in fewer lists
+hidden_below : (fs : List Frame) (d : ℕ) → hidden_at fs ≡ Some d → d < length fs
+hidden_below [] d is = absurd cc
+hidden_below (f ∷ fs) d is = omega (arith, below_by (hidden_at fs) (is_nil f.lists) (length fs) d is (λ h. hidden_below fs d h))
+
+-- ---- lists that are opened and closed
+
+-- the list that is opened is the outermost one that is not shown, if there was none and it is not the first
+pub opened_hidden : (hidden : Option ℕ) (fs : List Frame) (f : Frame) (is_first : Bool) (depth : ℕ) → hidden ≡ hidden_at fs → depth ≡ length fs → is_first ≡ is_nil f.lists
+    → or_at hidden is_first depth ≡ hidden_at (f ∷ fs)
+opened_hidden hidden fs f is_first depth same deep first =
+    ap (λ (o : Option ℕ). or_at o is_first depth) same
+    ∙ ap (λ (b : Bool). or_at (hidden_at fs) b depth) first
+    ∙ ap (or_at (hidden_at fs) (is_nil f.lists)) deep
+
+closed_place : (same : Bool) (d here : ℕ) → nat_eq d here ≡ same → (Some d ≡ Some here → ⊥) → closed_at (Some d) here ≡ Some d
+closed_place true d here test differ = absurd (differ (ap Some (eqb-true d here test)))
+closed_place false d here test differ = rw test refl
+
+closed_by : (o : Option ℕ) (first : Bool) (here : ℕ) → (o ≡ Some here → ⊥) → closed_at (or_at o first here) here ≡ o
+closed_by (Some d) first here differ = closed_place (nat_eq d here) d here refl differ
+closed_by None true here differ = refl
+closed_by None false here differ = rw (eq-eqb here here refl) refl
+
+pub closed_hidden : (fs : List Frame) (f : Frame) (hidden : Option ℕ) (depth : ℕ) → hidden ≡ hidden_at (f ∷ fs) → depth ≡ length fs
+    → closed_at hidden depth ≡ hidden_at fs
+closed_hidden fs f hidden depth same deep =
+    ap (λ (o : Option ℕ). closed_at o depth) same
+    ∙ ap (closed_at (hidden_at (f ∷ fs))) deep
+    ∙ closed_by (hidden_at fs) (is_nil f.lists) (length fs) (λ h. let lt = hidden_below fs (length fs) h in omega (arith, lt))
+
+list_closed : (fs : List Frame) (lists items inner : List Tree)
+    → shown_in fs (flat_items items ++ first_shown lists (flat_items inner))
+    ≡ shown_in fs (flat_items items ++ first_shown (lists ++ all_of (trees inner) ∷ []) [])
+list_closed fs [] items inner = refl
+list_closed fs (t ∷ ts) items inner = refl
+
+pub closed_shown : (fs : List Frame) (f : Frame) (inner : List Tree)
+    → shown_in (f ∷ fs) (flat_items inner) ≡ shown_in fs (flat_items f.items ++ first_shown (f.lists ++ all_of (trees inner) ∷ []) [])
+closed_shown fs f inner = list_closed fs f.lists f.items inner
+
+-- the item that brackets are
+item_shown : (nest : Nest) (lists : List Tree) (left : ℕ) (item : Tree) → nested nest lists left ≡ Ok item → first_shown lists [] ≡ flat item
+item_shown nests.Optional [] left item is = absurd cc
+item_shown nests.Optional (t ∷ ts) left item is = let same : t ≡ item = cc in ap flat same
+item_shown nests.First [] left item is = let same : first_of end ≡ item = cc in ap flat same
+item_shown nests.First (t ∷ ts) left item is = let same : first_of (more t (trees ts)) ≡ item = cc in ap flat same
+
+pub ended_shown : (fs : List Frame) (nest : Nest) (items lists : List Tree) (left : ℕ) (item : Tree) → nested nest lists left ≡ Ok item
+    → shown_in fs (flat_items items ++ first_shown lists []) ≡ shown_in fs (flat_items (items ++ item ∷ []))
+ended_shown fs nest items lists left item is =
+    ap (λ (v : List Tree). shown_in fs (flat_items items ++ v)) (item_shown nest lists left item is ∙ sym (append-nil (flat item)))
+    ∙ ap (shown_in fs) (sym (flat_more items (item ∷ [])))
+
+pub begun_shown : (fs : List Frame) (items : List Tree) → shown_in fs (flat_items items) ≡ shown_in fs (flat_items items ++ first_shown [] [])
+begun_shown fs items = ap (shown_in fs) (sym (append-nil (flat_items items)))
