@@ -1,5 +1,5 @@
 -- Formats that have a place for each hour of an offset, and what the usual texts of ISO 8601 have a place for.
-use Rattle.std.proofs.Common.{◌≡◌, ℕ, ◌≤◌, Bool, true, false, List, ◌++◌, refl, ap, arith, ℤ, unsigned_abs}
+use Rattle.std.proofs.Common.{◌≡◌, ℕ, ◌+◌, ◌≤◌, Bool, true, false, List, ◌++◌, refl, ap, arith, ℤ, unsigned_abs}
 use Rattle.std.proofs.Common.{nat_lt, Option, Some, None}
 use Rattle.std.proofs.lemmas.Bool.Decides.{nat_tests}
 use Rattle.std.proofs.lemmas.Grind.{common_steps}
@@ -11,7 +11,7 @@ use Rattle.time_known.specs.Accepted.{checked_text, component_name, refused_for}
 use Rattle.time_known.specs.Config.{Choices, separator, DecimalSign}
 use Rattle.time_known.specs.Fields.{fields, hours_of_fields, offset_fields}
 use Rattle.time_known.specs.Iso8601.{iso_of_groups, iso_time_text, text_after_year}
-use Rattle.time_known.specs.UsualText.{usual_choices, usual_of_fields}
+use Rattle.time_known.specs.UsualText.{usual_choices, usual_of_fields, week_choices, week_of_fields}
 use Rattle.time_known.specs.Values.{DateFacts, Offset, TimeOfDay}
 use Rattle.time_known.specs.WellKnown.{refused_if, is_outside}
 use Rattle.time_known.specs.declared.accepted.OutOfRange.{OutOfRange}
@@ -42,6 +42,26 @@ usual_accepted c has_separators digits sign d t o text e accepted =
     let hours = test_is_passed _ _ _ text year.done in
     let seconds = test_is_passed _ _ _ text hours.done in
     usual_passes c has_separators digits sign d t o e year.right seconds.right
+
+-- the text of these choices with a date by week and weekday, where both tests pass
+week_passes : (c : Choices) (has_separators : Bool) (digits : Option ℕ) (sign : DecimalSign) (d : DateFacts)
+    (t : TimeOfDay) (o : Offset) → c ≡ week_choices has_separators digits sign
+    → is_outside 0 9_999 d.iso_year ≡ false → nat_lt 0 (unsigned_abs o.seconds) ≡ false
+    → iso_of_groups c d t o
+    ≡ done (week_of_fields c digits (unsigned_abs d.iso_year) d.iso_week (d.weekday + 1) t (offset_fields o))
+week_passes c has_separators digits sign d t o e year seconds = grind (arith, common_steps)
+
+-- an accepted year of the week calendar and an offset complete it
+pub week_accepted : (c : Choices) (has_separators : Bool) (digits : Option ℕ) (sign : DecimalSign) (d : DateFacts)
+    (t : TimeOfDay) (o : Offset) (text : List ℕ) → c ≡ week_choices has_separators digits sign
+    → checked_text 0 25 d.iso_year (unsigned_abs o.hours) (unsigned_abs o.seconds) text ≡ done text
+    → iso_of_groups c d t o
+    ≡ done (week_of_fields c digits (unsigned_abs d.iso_year) d.iso_week (d.weekday + 1) t (offset_fields o))
+week_accepted c has_separators digits sign d t o text e accepted =
+    let year = test_is_passed _ _ _ text accepted in
+    let hours = test_is_passed _ _ _ text year.done in
+    let seconds = test_is_passed _ _ _ text hours.done in
+    week_passes c has_separators digits sign d t o e year.right seconds.right
 
 -- UTC has no seconds
 no_seconds : (o : Offset) → is_utc o ≡ true → nat_lt 0 (unsigned_abs o.seconds) ≡ false

@@ -2,7 +2,7 @@
 use Rattle.std.specs.Prelude.{ℕ, ℤ, ◌≡◌, ◌+◌, ◌≤◌, ◌++◌, List, length, codes, nat_lt, Option, Some, None, Result, Ok, Err}
 use Rattle.std.specs.Prelude.{Vec, vec_len, vec_capacity}
 use Rattle.std.specs.Global.{Global}
-use Rattle.time_fmt.specs.Outcome.{Outcome, Refusal, done, refused, invalid_component}
+use Rattle.time_fmt.specs.Outcome.{AppendsUpTo, Outcome, Refusal, done, refused, invalid_component}
 use Rattle.time_known.specs.Sink.{Buffer, PutsUpTo}
 use Rattle.time_known.specs.WellKnown.{refused_if, is_outside}
 use Rattle.time_known.specs.declared.accepted.OutOfRange.{OutOfRange}
@@ -38,6 +38,12 @@ pub record AppendsOrRefuses (width : ℕ) (old new : Vec ℕ Global) (answer : R
   pub grown : vec_len new ≡ vec_len old + length o.bytes
   pub capacity : vec_capacity new ≡ vec_capacity old
   pub within : vec_len new ≤ vec_len old + width
+
+-- all bytes of the outcome were appended, and the answer is their number; or no byte was, and the outcome is the refusal
+-- of the component
+abbrev pub AppendsAllOrNone : ℕ → Vec ℕ Global → Vec ℕ Global → Result ℕ OutOfRange → Outcome → Type 0
+AppendsAllOrNone width old new (Ok n) o = AppendsUpTo width old new (Ok n) o
+AppendsAllOrNone width old new (Err component) o = (new ≡ old) × (o ≡ refused_for component)
 
 -- the bytes of the outcome were put into a sink, and the answer is its refusal
 pub record PutsOutcome (width : ℕ) (old new : Buffer) (answer : Result Unit OutOfRange) (o : Outcome) : Type 0 where

@@ -1,9 +1,10 @@
 -- The text of ISO 8601 by the usual configurations, of a value of which nothing is refused.
 use Rattle.std.specs.Prelude.{ℕ, ◌≡◌, ◌++◌, Bool, false, List, codes, Option, Some, None, IfSome}
+use Rattle.time_digits.specs.Digits.{zero_padded}
 use Rattle.time_known.specs.Config.{Choices, separator, DateKind, DecimalSign, FormattedComponents, OffsetPrecision}
 use Rattle.time_known.specs.Config.{TimePrecision}
 use Rattle.time_known.specs.Fields.{Shown, date_of_fields, offset_of_fields}
-use Rattle.time_known.specs.Iso8601.{decimal_part}
+use Rattle.time_known.specs.Iso8601.{decimal_part, rest_text}
 use Rattle.time_known.specs.Values.{TimeOfDay}
 use Rattle.time_known.specs.WellKnown.{clock_text}
 use Rattle.time_known.specs.declared.iso8601.config.DateKind.TheVariants as kind
@@ -11,6 +12,8 @@ use Rattle.time_known.specs.declared.iso8601.config.FormattedComponents.TheVaria
 use Rattle.time_known.specs.declared.iso8601.config.OffsetPrecision.TheVariants as offset_precision
 use Rattle.time_known.specs.declared.iso8601.config.TimePrecision.TheVariants as precision
 use Rattle.time_known.specs.declared.iso8601.config.Usual.{Usual}
+use Rattle.time_known.specs.declared.iso8601.parts.RestOfDate.TheVariants as rest
+use Rattle.time_known.specs.declared.fields.OffsetFields.{OffsetFields}
 
 -- the month and the day after four digits of the year, the time to the second or to decimals of it, and the offset to
 -- the minute
@@ -24,6 +27,11 @@ usual_choices has_separators decimal_digits decimal_sign = record {
   offset_precision = offset_precision.Minute;
   decimal_sign = decimal_sign;
 }
+
+-- the same with a date by week and weekday
+abbrev pub week_choices : Bool → Option ℕ → DecimalSign → Choices
+week_choices has_separators decimal_digits decimal_sign =
+    record (usual_choices has_separators decimal_digits decimal_sign) { date_kind = kind.Week }
 
 -- what is left to choose, where the rest is chosen so
 abbrev pub left_of : FormattedComponents → DateKind → TimePrecision → OffsetPrecision → Bool → Bool → DecimalSign
@@ -52,3 +60,10 @@ usual_of_fields c digits f =
     date_of_fields (separator c (codes "-")) f
     ++ usual_time_text (separator c (codes ":")) c.decimal_sign digits f.time
     ++ offset_of_fields (separator c (codes ":")) f.offset
+
+-- the text with a date by week and weekday, by its year, its week and its weekday, the time and the fields of the offset
+abbrev pub week_of_fields : Choices → Option ℕ → ℕ → ℕ → ℕ → TimeOfDay → OffsetFields → List ℕ
+week_of_fields c digits year week weekday t o =
+    (zero_padded 4 year ++ rest_text (separator c (codes "-")) (rest.WeekAndWeekday week weekday))
+    ++ usual_time_text (separator c (codes ":")) c.decimal_sign digits t
+    ++ offset_of_fields (separator c (codes ":")) o

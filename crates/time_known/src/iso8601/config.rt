@@ -87,6 +87,8 @@ pub struct Usual {
 pub(super) enum Way {
     /// All parts, with what is left to choose.
     Usual(Usual),
+    /// All parts with the date by week and weekday, and with what else is left to choose.
+    UsualWeek(Usual),
     /// The date alone by month and day, after four digits of the year.
     CalendarDate,
     /// The date alone by week and weekday.
@@ -320,10 +322,16 @@ impl Config {
                 DateKind::Calendar => Way::DateTime,
                 _ => Way::Other,
             },
-            FormattedComponents::DateTimeOffset => match self.usual() {
-                Some(usual) => Way::Usual(usual),
-                None => Way::Other,
-            },
+            FormattedComponents::DateTimeOffset => {
+                match (
+                    self.date_kind,
+                    self.set_date_kind(DateKind::Calendar).usual(),
+                ) {
+                    (DateKind::Calendar, Some(usual)) => Way::Usual(usual),
+                    (DateKind::Week, Some(usual)) => Way::UsualWeek(usual),
+                    _ => Way::Other,
+                }
+            }
             _ => Way::Other,
         }
     }

@@ -236,7 +236,12 @@ fn dash(is_wanted: bool) -> &'static str
 // them.
 #[inline(always)]
 #[tactic(auto, using(crate::proofs::LengthLemmas::joined_lengths))]
-fn put_week<S: Sink>(output: &mut S, separator: &str, week: ru8<0, 99>, weekday: ru8<0, 9>)
+pub(super) fn put_week<S: Sink>(
+    output: &mut S,
+    separator: &str,
+    week: ru8<0, 99>,
+    weekday: ru8<0, 9>,
+)
     requires room { Fits (4 + 2 * length separator.now) (S.buffer output.old) }
     ensures puts { PutsUpTo (4 + 2 * length separator.now)
         (S.buffer output.old) (S.buffer output.new)

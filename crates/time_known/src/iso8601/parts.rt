@@ -1,5 +1,5 @@
 //! The parts of a value that a text is made of, one after another.
-ghost use Rattle.std.specs.Prelude.{◌≡◌, ◌≢◌, ◌+◌, IsTrue, MatchOption, Ok, OnOk, OnSome, false};
+ghost use Rattle.std.specs.Prelude.{◌≡◌, ◌≢◌, ◌+◌, IfSome, IsTrue, MatchOption, Ok, OnOk, OnSome, false};
 ghost use Rattle.time_below.specs.Facts.{the_date, the_time};
 ghost use Rattle.time_fmt.specs.Outcome.{AppendsUpTo, join};
 ghost use Rattle.time_fmt.specs.Room.{HasRoom};
@@ -10,7 +10,7 @@ ghost use Rattle.time_known.specs.Iso8601.{iso8601_outcome, iso_date, iso_time};
 ghost use Rattle.time_known.specs.Iso8601Parts.{chosen_parts, date_parts, parts_text, parts_width, shown_date, shown_parts};
 ghost use Rattle.time_known.specs.Iso8601Width.{iso8601_width, iso_date_width, iso_time_width};
 ghost use Rattle.time_known.specs.Sink.{Fits};
-ghost use Rattle.time_known.specs.Accepted.{AppendsOrRefuses, PutsOutcome};
+ghost use Rattle.time_known.specs.Accepted.{AppendsAllOrNone, AppendsOrRefuses, PutsOutcome};
 ghost use Rattle.time_known.specs.Ways.{FitsWay};
 
 use crate::accepted::OutOfRange;
@@ -20,7 +20,7 @@ use crate::iso8601::config::{Config, DateKind, FormattedComponents, Way};
 use crate::iso8601::date::{put_date_part, write_date_by};
 use crate::iso8601::offset::put_offset_part;
 use crate::iso8601::time::{put_time_part, write_time};
-use crate::iso8601::usual_text::write_usual;
+use crate::iso8601::usual_text::{write_usual, write_usual_week};
 use crate::sink::Sink;
 use time_below::Time;
 use time_digits::ru8;
@@ -184,8 +184,10 @@ pub(super) fn write_parts<V: ComponentProvider>(
         → AreReal (V.facts value.now)) }
     ensures agrees { V.agrees state.new value.now }
 {
-    if let Some(count) = write_by_way(config, way, output, value, state) {
-        return Ok(count);
+    match write_by_way(config, way, output, value, state) {
+        Some(Ok(count)) => return Ok(count),
+        Some(Err(component)) => return Err(Format::InvalidComponent(component.name())),
+        None => {}
     }
     if config.formats_nothing() {
         return Err(Format::InsufficientTypeInformation);
@@ -220,11 +222,44 @@ fn write_each<V: ComponentProvider>(
     append_parts(config, output, &parts)
 }
 
-// Appends by the function that the configuration decided, where nothing of the value is refused; else it
-// appends nothing.
+// Appends by the function that the configuration decided, where nothing of the value is refused. It may refuse what
+// the text refuses before any byte; else it appends nothing.
 #[inline(always)]
 #[tactic(auto, using(crate::proofs::iso8601::GroupLemmas::by_choice))]
 fn write_by_way<V: ComponentProvider>(
+    config: &Config,
+    way: &Way,
+    output: &mut Vec<u8>,
+    value: &V,
+    state: &mut V::State,
+) -> Option<Result<usize, OutOfRange>>
+    requires way { FitsWay config.now way.now }
+    requires supplied { IsTrue (are_supplied (groups_of config.now.formatted_components)
+        V.SUPPLIES_DATE V.SUPPLIES_TIME V.SUPPLIES_OFFSET) }
+    requires room { HasRoom output.old (iso8601_width config.now) }
+    requires agrees { V.agrees state.old value.now }
+    ensures appends { MatchOption result (output.new ≡ output.old)
+        (λ answer. AppendsAllOrNone (iso8601_width config.now) output.old output.new answer
+        (iso8601_outcome config.now (V.facts value.now))) }
+    ensures real { IfSome result (λ answer. OnOk answer
+        (config.now.formatted_components ≡ FormattedComponents.DateTimeOffset
+        → AreReal (V.facts value.now))) }
+    ensures agrees { V.agrees state.new value.now }
+{
+    if let Way::Usual(usual) = way {
+        return write_usual(config, usual, output, value, state);
+    }
+    match write_accepted(config, way, output, value, state) {
+        Some(count) => Some(Ok(count)),
+        None => None,
+    }
+}
+
+// Appends by the function that the configuration decided, where it is not the usual one and nothing of the value is
+// refused; else it appends nothing.
+#[inline(always)]
+#[tactic(auto, using(crate::proofs::iso8601::GroupLemmas::by_choice))]
+fn write_accepted<V: ComponentProvider>(
     config: &Config,
     way: &Way,
     output: &mut Vec<u8>,
@@ -245,7 +280,7 @@ fn write_by_way<V: ComponentProvider>(
     ensures agrees { V.agrees state.new value.now }
 {
     match way {
-        Way::Usual(usual) => write_usual(config, usual, output, value, state),
+        Way::UsualWeek(usual) => write_usual_week(config, usual, output, value, state),
         Way::CalendarDate => {
             let has_dash = config.use_separators();
             write_date_by(config, DateKind::Calendar, has_dash, output, value, state)
@@ -263,7 +298,7 @@ fn write_by_way<V: ComponentProvider>(
             Some(write_time(config, has_letter, output, value, state))
         }
         Way::DateTime => write_date_time(config, output, value, state),
-        Way::Other => None,
+        Way::Usual(_) | Way::Other => None,
     }
 }
 

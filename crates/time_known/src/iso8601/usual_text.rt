@@ -1,31 +1,41 @@
 //! The texts of the usual configurations, in pieces that are inlined.
 #![tactic(auto, using(crate::proofs::LengthLemmas::joined_lengths))]
 
-ghost use Rattle.std.specs.Prelude.{◌≡◌, ◌≤◌, ◌+◌, ◌*◌, ◌++◌, length, OnSome, MatchOption, Ok, true};
+ghost use Rattle.std.specs.Prelude.{◌≡◌, ◌≤◌, ◌+◌, ◌*◌, ◌++◌, length, IfSome, OnOk, OnSome, MatchOption, Ok, true};
+ghost use Rattle.time_digits.specs.Digits.{zero_padded};
 ghost use Rattle.time_fmt.specs.Decimals.{decimals};
 ghost use Rattle.time_fmt.specs.Outcome.{AppendsUpTo};
 ghost use Rattle.time_fmt.specs.Room.{HasRoom};
 ghost use Rattle.time_provide.specs.Real.{AreReal};
+ghost use Rattle.time_known.specs.Accepted.{AppendsAllOrNone};
 ghost use Rattle.time_known.specs.Fields.{date_of_fields, offset_of_fields, shown};
 ghost use Rattle.time_known.specs.Groups.{AreAllSupplied, at_groups};
-ghost use Rattle.time_known.specs.Iso8601.{decimal_part, iso_of_groups};
+ghost use Rattle.time_known.specs.Iso8601.{decimal_part, iso_of_groups, rest_text};
 ghost use Rattle.time_known.specs.Iso8601Width.{decimal_part_width, iso8601_width};
 ghost use Rattle.time_known.specs.Sink.{Fits, Puts, PutsUpTo};
 ghost use Rattle.time_known.specs.Stamps.{stamp_length, stamp_of_fields};
-ghost use Rattle.time_known.specs.UsualText.{usual_choices, usual_of_fields, usual_time_text};
+ghost use Rattle.time_known.specs.UsualText.{usual_choices, usual_of_fields, usual_time_text, week_choices, week_of_fields};
 
-use crate::fields::{Fields, accepted_fields};
+use crate::accepted::OutOfRange;
+use crate::fields::{
+    Fields, OffsetFields, accepted_fields, accepted_year_of_week, offset_of, time_of,
+};
 use crate::iso8601::config::{Config, DecimalSign, Usual};
+use crate::iso8601::date::put_week;
+use crate::iso8601::parts::RestOfDate;
 use crate::iso8601::time::{NANOSECONDS_PER_SECOND, put_to_second};
 use crate::pieces::piece;
-use crate::put::{put_date, put_nine_digits, put_offset, put_six_decimals, put_three_decimals};
+use crate::put::{
+    put_date, put_four_digits, put_nine_digits, put_offset, put_six_decimals, put_three_decimals,
+};
 use crate::sink::{Sink, Text, append};
 use time_below::Time;
-use time_digits::{ru8, single_digit};
+use time_digits::{ru8, ru16, single_digit};
 use time_provide::ComponentProvider;
-use time_provide::ranges::Nanoseconds;
+use time_provide::ranges::{IsoWeekNumber, Nanoseconds};
 
-// Appends the text by these choices, where nothing of the value is refused; else it appends nothing.
+// Appends the text by these choices, or refuses the year before any byte. Of an offset with seconds, which the text
+// refuses after its first bytes, it appends nothing.
 #[inline(always)]
 pub(super) fn write_usual<V: ComponentProvider>(
     config: &Config,
@@ -33,9 +43,40 @@ pub(super) fn write_usual<V: ComponentProvider>(
     output: &mut Vec<u8>,
     value: &V,
     state: &mut V::State,
-) -> Option<usize>
+) -> Option<Result<usize, OutOfRange>>
     requires usual { config.now
         ≡ usual_choices usual.now.has_separators usual.now.decimal_digits usual.now.decimal_sign }
+    requires supplied { AreAllSupplied V.SUPPLIES_DATE V.SUPPLIES_TIME V.SUPPLIES_OFFSET }
+    requires room { HasRoom output.old (iso8601_width config.now) }
+    requires agrees { V.agrees state.old value.now }
+    ensures appends { MatchOption result (output.new ≡ output.old)
+        (λ answer. AppendsAllOrNone (iso8601_width config.now) output.old output.new answer
+        (at_groups (iso_of_groups config.now) (V.facts value.now))) }
+    ensures real { IfSome result (λ answer. OnOk answer (AreReal (V.facts value.now))) }
+    ensures agrees { V.agrees state.new value.now }
+{
+    match accepted_fields(0, 25, value, state) {
+        Ok(fields) => {
+            let usual = *usual;
+            Some(Ok(append(output, &UsualText { usual, fields })))
+        }
+        Err(OutOfRange::Year) => Some(Err(OutOfRange::Year)),
+        Err(_) => None,
+    }
+}
+
+// Appends the text by these choices, but with the date by week and weekday, where nothing of the value is refused; else
+// it appends nothing.
+#[inline(never)]
+pub(super) fn write_usual_week<V: ComponentProvider>(
+    config: &Config,
+    usual: &Usual,
+    output: &mut Vec<u8>,
+    value: &V,
+    state: &mut V::State,
+) -> Option<usize>
+    requires usual { config.now
+        ≡ week_choices usual.now.has_separators usual.now.decimal_digits usual.now.decimal_sign }
     requires supplied { AreAllSupplied V.SUPPLIES_DATE V.SUPPLIES_TIME V.SUPPLIES_OFFSET }
     requires room { HasRoom output.old (iso8601_width config.now) }
     requires agrees { V.agrees state.old value.now }
@@ -45,10 +86,18 @@ pub(super) fn write_usual<V: ComponentProvider>(
     ensures real { OnSome result (AreReal (V.facts value.now)) }
     ensures agrees { V.agrees state.new value.now }
 {
-    match accepted_fields(0, 25, value, state) {
-        Ok(fields) => {
-            let usual = *usual;
-            Some(append(output, &UsualText { usual, fields }))
+    let offset = offset_of(value);
+    match accepted_year_of_week(&offset, value, state) {
+        Ok(year) => {
+            let text = WeekText {
+                usual: *usual,
+                year,
+                week: value.iso_week_number(state),
+                weekday: ru8::within(value.weekday(state).number_from_monday()),
+                time: time_of(value, state),
+                offset,
+            };
+            Some(append(output, &text))
         }
         Err(_) => None,
     }
@@ -75,6 +124,35 @@ impl Text for UsualText {
             put_usual(output, &self.usual, &self.fields, "-", ":");
         } else {
             put_usual(output, &self.usual, &self.fields, "", "");
+        }
+    }
+}
+
+// The text by such choices with the date by week and weekday, of fields of which nothing is refused.
+#[derive(Clone, Copy)]
+struct WeekText {
+    usual: Usual,
+    year: ru16<0, 9_999>,
+    week: IsoWeekNumber,
+    weekday: ru8<1, 7>,
+    time: Time,
+    offset: OffsetFields,
+}
+
+impl Text for WeekText {
+    ghost width = { λ t. iso8601_width
+        (week_choices t.usual.has_separators t.usual.decimal_digits t.usual.decimal_sign) };
+
+    ghost text = { λ t. week_of_fields
+        (week_choices t.usual.has_separators t.usual.decimal_digits t.usual.decimal_sign)
+        t.usual.decimal_digits t.year t.week t.weekday t.time t.offset };
+
+    #[inline(always)]
+    fn put_into<S: Sink>(&self, output: &mut S) {
+        if self.usual.has_separators {
+            put_usual_week(output, self, "-", ":");
+        } else {
+            put_usual_week(output, self, "", "");
         }
     }
 }
@@ -149,6 +227,34 @@ fn put_usual<S: Sink>(output: &mut S, usual: &Usual, fields: &Fields, dash: &str
     put_date(output, fields, dash);
     put_usual_time(output, usual, fields.time, colon);
     put_offset(output, &fields.offset, colon);
+}
+
+// Puts the date by week and weekday, the time and the offset with these separators.
+#[inline(always)]
+fn put_usual_week<S: Sink>(output: &mut S, text: &WeekText, dash: &str, colon: &str)
+    requires room { Fits (20 + 2 * length dash.now + 3 * length colon.now
+        + decimal_part_width text.now.usual.decimal_digits) (S.buffer output.old) }
+    ensures puts { PutsUpTo (20 + 2 * length dash.now + 3 * length colon.now
+        + decimal_part_width text.now.usual.decimal_digits) (S.buffer output.old) (S.buffer output.new)
+        ((zero_padded 4 text.now.year ++ rest_text dash.now (RestOfDate.WeekAndWeekday text.now.week text.now.weekday))
+        ++ usual_time_text colon.now text.now.usual.decimal_sign text.now.usual.decimal_digits
+        text.now.time
+        ++ offset_of_fields colon.now text.now.offset) }
+{
+    put_week_date(output, text, dash);
+    put_usual_time(output, &text.usual, text.time, colon);
+    put_offset(output, &text.offset, colon);
+}
+
+// Puts four digits of the year, the week and the weekday.
+#[inline(always)]
+fn put_week_date<S: Sink>(output: &mut S, text: &WeekText, dash: &str)
+    requires room { Fits (8 + 2 * length dash.now) (S.buffer output.old) }
+    ensures puts { PutsUpTo (8 + 2 * length dash.now) (S.buffer output.old) (S.buffer output.new)
+        (zero_padded 4 text.now.year ++ rest_text dash.now (RestOfDate.WeekAndWeekday text.now.week text.now.weekday)) }
+{
+    put_four_digits(output, text.year);
+    put_week(output, dash, text.week.expand(), text.weekday.expand());
 }
 
 // Puts the time, and decimals of its second.

@@ -1,0 +1,25 @@
+use Rattle.std.proofs.Common.{◌≡◌, ◌+◌, [], arith}
+use Rattle.std.proofs.lemmas.Grind.{common_steps}
+use Rattle.time_known.specs.Values.{the_date, the_time, the_offset}
+use Rattle.time_known.proofs.AcceptedLemmas.{week_accepted}
+use Rattle.time_known.proofs.SinkLemmas.{text_appended}
+use Rattle.time_known.proofs.iso8601.usual_text.write_usual_week.Goals as goal
+
+pub returns-in-Ok-clause-appends : goal.returns-in-Ok-clause-appends
+returns-in-Ok-clause-appends g c =
+    let f = g.V.ComponentProvider.facts c.args.value.now in
+    let d = the_date f in
+    let u = c.args.usual.now in
+    let weekday : c.within.result ≡ d.weekday + 1 = grind (arith, common_steps) in
+    rw (
+      week_accepted c.args.config.now u.has_separators u.decimal_digits u.decimal_sign d (the_time f) (the_offset f) []
+          c.requires.usual (c.in-Ok.ensures.accepted []),
+      c.requires.usual,
+    )
+    (text_appended (rw (
+      c.in-Ok.ensures.year,
+      c.iso_week_number.ensures.value,
+      weekday,
+      c.time_of.ensures.time,
+      c.offset_of-offset.ensures.fields,
+    ) at c.append.ensures.writes))
