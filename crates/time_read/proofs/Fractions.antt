@@ -5,7 +5,7 @@ use Rattle.std.specs.Int.{IsInRange}
 use Rattle.std.specs.Str.Parse.{AllDigits, digits_value, digits_value_after}
 use Rattle.std.proofs.lemmas.Str.Parse.{digit_from_value}
 use Rattle.std.proofs.lemmas.Int.Digits.{digits_value-lt}
-use Rattle.std.proofs.lemmas.List.{take-append-drop, length-take-le, length-drop, drop-take, drop_more, take_rest}
+use Rattle.std.proofs.lemmas.List.{take-append-drop, take-take, length-take-le, length-drop, drop-take, drop_more, take_rest}
 use Rattle.std.proofs.Math.Nat.{pow-suc, pow-le-pow_right}
 use Rattle.std.proofs.lemmas.Bool.{cases_lt}
 use Rattle.std.proofs.lemmas.Bool.Decides.{nat_tests}
@@ -14,7 +14,7 @@ use Rattle.time_read.specs.Fault.{BeginsOffset}
 use Rattle.time_below.proofs.MonthLemmas.{same_below}
 use Rattle.time_known.specs.Rfc3339Grammar.{TimeSecfrac}
 use Rattle.time_known.proofs.Rules.Texts.{digits_below}
-use Rattle.time_read.specs.Shapes.{AtFraction, Skipped, next_after}
+use Rattle.time_read.specs.Shapes.{AtFraction, FirstDigits, Skipped, next_after}
 use Rattle.time_read.specs.declared.fault.Expected.TheVariants as expected
 use Rattle.time_read.specs.declared.decimals.TheConstants.{POWERS}
 use Rattle.time_read.specs.declared.fault.Profile.{Profile}
@@ -53,14 +53,23 @@ few_digits ds h k =
     omega arith
 
 -- where the digits of the first nine bytes end, the digits end
-pub ends_in_nine : (text : List ℕ) (k : ℕ) → (k < 9 → (b : ℕ) (after : List ℕ) → drop k (take 9 text) ≡ b ∷ after → ¬ IsInRange 48 57 b)
-    → k < 9 → (b : ℕ) (after : List ℕ) → drop k text ≡ b ∷ after → ¬ IsInRange 48 57 b
-ends_in_nine text k ends lt b after here =
+ends_in_nine : (text : List ℕ) (k : ℕ) → FirstDigits (take 9 text) k → k < 9 → (b : ℕ) (after : List ℕ)
+    → drop k text ≡ b ∷ after → ¬ IsInRange 48 57 b
+ends_in_nine text k first lt b after here =
     let nine : k + (9 - k) ≡ 9 = omega arith in
     let cut : drop k (take 9 text) ≡ take (9 - k) (drop k text) =
     subst (λ n. drop k (take n text) ≡ take (9 - k) (drop k text)) nine (drop-take k (9 - k) text) in
     let more : 9 - k ≡ suc (8 - k) = omega arith in
-    ends lt b (take (8 - k) after) (cut ∙ ap₂ take more here)
+    first.end lt b (take (8 - k) after) (cut ∙ ap₂ take more here)
+
+-- the first digits of the first nine bytes are those of the text
+pub first_in_nine : (text : List ℕ) (k : ℕ) → 9 ≤ length text → FirstDigits (take 9 text) k → FirstDigits text k
+first_in_nine text k long first = record {
+  most = first.most;
+  within = omega (arith, first.most, long);
+  digits = subst (AllDigits 10) (take-take k 9 text first.most) first.digits;
+  end = ends_in_nine text k first;
+}
 
 -- digits, and no more of them
 at_strict : (text ds : List ℕ) (count : ℕ) (rest : List ℕ) (n : ℕ) → AllDigits 10 ds → 1 ≤ count → count ≤ 9 → length ds ≡ count
@@ -120,17 +129,22 @@ at_fraction_of profile.Lenient text ds count rest h some most n long whole is en
       none [] k e less = refl
       none (c ∷ cs) k e less = absurd (end less c (cs ++ rest) e (digit_from_value c k.0))
 
+-- a fraction of the first digits of a text
+pub first_secfrac : (text : List ℕ) (count : ℕ) → FirstDigits text count → 1 ≤ count
+    → TimeSecfrac (digits_value 10 (take count text) * 10 ^ (9 - count)) (46 ∷ take count text)
+first_secfrac text count first some =
+    let long : length (take count text) ≡ count = length-take-le count text first.within in
+    subst (λ k. TimeSecfrac (digits_value 10 (take count text) * 10 ^ (9 - k)) (46 ∷ take count text)) long
+    (secfrac (take count text) first.digits (omega arith, omega arith))
+
 -- where the digits of a fraction end, of which some are cut
-pub at_fraction : (p : Profile) (text : List ℕ) (count : ℕ) (rest : List ℕ) → AllDigits 10 (take count text) → 1 ≤ count → count ≤ 9
-    → count ≤ length text → (count < 9 → (b : ℕ) (after : List ℕ) → drop count text ≡ b ∷ after → ¬ IsInRange 48 57 b)
+pub at_fraction : (p : Profile) (text : List ℕ) (count : ℕ) (rest : List ℕ) → FirstDigits text count → 1 ≤ count
     → Skipped p (drop count text) rest
     → AtFraction p (46 ∷ text) (digits_value 10 (take count text) * 10 ^ (9 - count)) rest (next_after p count)
-at_fraction p text count rest h some most within end skipped =
-    let long : length (take count text) ≡ count = length-take-le count text within in
-    let is = subst (λ k. TimeSecfrac (digits_value 10 (take count text) * 10 ^ (9 - k)) (46 ∷ take count text)) long
-    (secfrac (take count text) h (omega arith, omega arith)) in
-    at_fraction_of p text (take count text) count rest h some most (digits_value 10 (take count text) * 10 ^ (9 - count))
-    long (sym (take-append-drop count text)) is end skipped
+at_fraction p text count rest first some skipped =
+    at_fraction_of p text (take count text) count rest first.digits some first.most
+    (digits_value 10 (take count text) * 10 ^ (9 - count)) (length-take-le count text first.within)
+    (sym (take-append-drop count text)) (first_secfrac text count first some) first.end skipped
 
 -- the digits that were skipped
 pub skipped : (text : List ℕ) (count : ℕ) → AllDigits 10 (take count text)
@@ -150,16 +164,15 @@ skipped text count h none = rw (take_rest text count) (record {
 })
 
 -- the product of the number and the power of ten that fills it
-pub product : (text : List ℕ) (count n : ℕ) → n ≡ digits_value 10 (take count text) → AllDigits 10 (take count text)
-    → count ≤ 9 → count ≤ length text
+pub product : (text : List ℕ) (count n : ℕ) → n ≡ digits_value 10 (take count text) → FirstDigits text count
     → (n * get_or POWERS (9 - count) 0 ≡ digits_value 10 (take count text) * 10 ^ (9 - count))
     × (n * get_or POWERS (9 - count) 0 < 10 ^ 9)
-product text count n e h most within =
-    let power = power_is (9 - count) (omega arith) in
-    let long : length (take count text) ≡ count = length-take-le count text within in
+product text count n e first =
+    let power = power_is (9 - count) (omega (arith, first.most)) in
+    let long : length (take count text) ≡ count = length-take-le count text first.within in
     let same : n * get_or POWERS (9 - count) 0 ≡ digits_value 10 (take count text) * 10 ^ (9 - count) =
     ap₂ (λ x y. x * y) e power in
-    (same, subst (λ k. k < 10 ^ 9) (sym same) (small (take count text) count long h most)) where
+    (same, subst (λ k. k < 10 ^ 9) (sym same) (small (take count text) count long first.digits first.most)) where
       small : (ds : List ℕ) (k : ℕ) → length ds ≡ k → AllDigits 10 ds → k ≤ 9 → digits_value 10 ds * 10 ^ (9 - k) < 10 ^ 9
       small [] k l h m = omega arith
       small (d ∷ ds) k l h m =

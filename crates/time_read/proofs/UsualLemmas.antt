@@ -3,9 +3,9 @@ use Rattle.std.proofs.Common.{◌≡◌, ℕ, ◌+◌, ◌-◌, ◌*◌, ◌^◌
 use Rattle.std.proofs.Common.{refl, sym, ap, subst, ◌∙◌, arith, append_assoc, pos, inl, inr, Bool, true, false}
 use Rattle.std.specs.Int.{IsInRange}
 use Rattle.std.specs.Prelude.{codes, ◌==◌}
-use Rattle.std.specs.Str.Parse.{AllDigits, digits_value}
+use Rattle.std.specs.Str.Parse.{digits_value}
 use Rattle.std.proofs.lemmas.Bool.Decides.{nat_tests}
-use Rattle.std.proofs.lemmas.List.{append-nil, take_all, take-append-drop, length-take-le}
+use Rattle.std.proofs.lemmas.List.{append-nil, take_all, take-append-drop}
 use Rattle.time_below.specs.Calendar.{IsDayOfMonth, date_of}
 use Rattle.time_below.specs.Offset.{signed_offset}
 use Rattle.time_known.specs.Parts.{FourDigitYear}
@@ -15,10 +15,10 @@ use Rattle.time_known.specs.Values.{OffsetDateAndTime, TimeOfDay, Offset}
 use Rattle.time_read.specs.Front.{Front}
 use Rattle.time_read.specs.Lenient.{Rfc3339Means, MeansSecfrac}
 use Rattle.time_read.specs.Profiles.{ReadsAs}
-use Rattle.time_read.specs.Shapes.{Two, DateNumbers, ClockNumbers, sign_byte, TwoAfter, least_minute}
+use Rattle.time_read.specs.Shapes.{FirstDigits, Two, DateNumbers, ClockNumbers, sign_byte, TwoAfter, least_minute}
 use Rattle.time_read.specs.declared.fault.Profile.{Profile}
 use Rattle.time_read.specs.declared.fault.Profile.TheVariants as profile
-use Rattle.time_read.proofs.Fractions.{secfrac}
+use Rattle.time_read.proofs.Fractions.{first_secfrac}
 use Rattle.time_read.proofs.Numbers.{two_of, four_front}
 use Rattle.time_read.proofs.OffsetEnds.{offset_to, itself}
 
@@ -75,18 +75,14 @@ pub clock_numbers : (h m s : ℕ) {text r1 r2 r3 r4 last : List ℕ} → Front (
 clock_numbers h m s p e q f r =
     front_join (two_digits p) (front_join (byte_at 58 e) (front_join (two_digits q) (front_join (byte_at 58 f) (two_digits r))))
 
-pub fraction_at : (text : List ℕ) (count n : ℕ) → AllDigits 10 (take count text) → 1 ≤ count → count ≤ 9 → count ≤ length text
+pub fraction_at : (text : List ℕ) (count n : ℕ) → FirstDigits text count → 1 ≤ count
     → n ≡ digits_value 10 (take count text) * 10 ^ (9 - count) → {whole : List ℕ} → whole ≡ 46 ∷ text
     → Front (OptionalSecfrac n) whole (drop count text)
-fraction_at text count n h some most within value {whole} e =
-    let long : length (take count text) ≡ count = length-take-le count text within in
-    let is = subst (λ k. TimeSecfrac (digits_value 10 (take count text) * 10 ^ (9 - k)) (46 ∷ take count text)) long
-    (secfrac (take count text) h (omega arith, omega arith)) in
-    record {
-      front = 46 ∷ take count text;
-      whole = e ∙ ap (λ t. 46 ∷ t) (sym (take-append-drop count text));
-      is = inr (subst (λ k. TimeSecfrac k (46 ∷ take count text)) (sym value) is);
-    }
+fraction_at text count n first some value {whole} e = record {
+  front = 46 ∷ take count text;
+  whole = e ∙ ap (λ t. 46 ∷ t) (sym (take-append-drop count text));
+  is = inr (subst (λ k. TimeSecfrac k (46 ∷ take count text)) (sym value) (first_secfrac text count first some));
+}
 
 -- a text of no bytes
 pub nothing : (text : List ℕ) → (length text == 0) ≡ true → text ≡ []

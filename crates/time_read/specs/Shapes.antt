@@ -1,5 +1,5 @@
 -- The parts of texts in the order in which they are read.
-use Rattle.std.specs.Prelude.{min, ◌≡◌, ◌↔◌, ◌<◌, length, ℕ, ◌+◌, ◌-◌, ◌*◌, ◌/◌, List, [], ◌∷◌, ◌++◌, codes, pos, Bool, false, ◌&&◌, ◌==◌, if◌then◌else◌}
+use Rattle.std.specs.Prelude.{min, ◌≡◌, ◌↔◌, ◌<◌, ◌≤◌, length, take, drop, ℕ, ◌+◌, ◌-◌, ◌*◌, ◌/◌, List, [], ◌∷◌, ◌++◌, codes, pos, Bool, false, ◌&&◌, ◌==◌, if◌then◌else◌}
 use Rattle.std.specs.Int.{IsInRange}
 use Rattle.std.specs.Str.Parse.{AllDigits}
 use Rattle.time_below.specs.Calendar.{IsDayOfMonth, date_of, days_in_month, is_leap_year}
@@ -106,6 +106,13 @@ HoursAndMinutes some = Seq (Two 0 23) (λ hour. TwoAfter 58 (least_minute some h
 -- the first byte of an offset that is not `Z`
 abbrev pub sign_byte : Bool → ℕ
 sign_byte is_negative = if is_negative then 45 else 43
+
+-- a text begins with this many digits, at most nine, and no other digit follows fewer than nine
+pub record FirstDigits (text : List ℕ) (count : ℕ) : Type 0 where
+  pub most : count ≤ 9
+  pub within : count ≤ length text
+  pub digits : AllDigits 10 (take count text)
+  pub end : count < 9 → (b : ℕ) (after : List ℕ) → drop count text ≡ b ∷ after → ¬ IsInRange 48 57 b
 
 -- A fraction, if any, was read. The next byte of a text is expected, and if it is there it begins an offset.
 pub record AtFraction (p : Profile) (text : List ℕ) (nanosecond : ℕ) (rest : List ℕ) (e : Expected) : Type 0 where

@@ -1,8 +1,7 @@
 //! Digits after a point.
-ghost use Rattle.std.specs.Prelude.{◌≡◌, ◌<◌, ◌≤◌, ◌∷◌, ◌-◌, ◌*◌, ◌^◌, ℕ, List, drop, length, take};
-ghost use Rattle.std.specs.Int.{IsInRange};
-ghost use Rattle.std.specs.Str.Parse.{AllDigits, digits_value};
-ghost use Rattle.time_read.specs.Shapes.{Skipped};
+ghost use Rattle.std.specs.Prelude.{◌≡◌, ◌<◌, ◌-◌, ◌*◌, ◌^◌, take};
+ghost use Rattle.std.specs.Str.Parse.{digits_value};
+ghost use Rattle.time_read.specs.Shapes.{FirstDigits, Skipped};
 ghost use Rattle.time_read.specs.declared.fault.Profile.TheVariants as profile;
 
 // The powers of ten.
@@ -22,12 +21,8 @@ const POWERS: [u32; 10] = [
 // The number of up to nine digits that begin a text, and how many they are.
 #[inline(always)]
 fn digits(text: &[u8]) -> (u32, usize)
-    ensures most { result.1 ≤ 9 }
-    ensures within { result.1 ≤ length text.now }
-    ensures digits { AllDigits 10 (take result.1 text.now) }
+    ensures digits { FirstDigits text.now result.1 }
     ensures value { result.0 ≡ digits_value 10 (take result.1 text.now) }
-    ensures end { result.1 < 9 → (b : ℕ) (after : List ℕ) → drop result.1 text.now ≡ b ∷ after
-        → ¬ IsInRange 48 57 b }
 {
     let mut number: u32 = 0;
     let mut count = 0;
@@ -45,12 +40,8 @@ fn digits(text: &[u8]) -> (u32, usize)
 // The same. The compiler unrolls the loop for nine bytes.
 #[inline(always)]
 fn first_digits(text: &[u8]) -> (u32, usize)
-    ensures most { result.1 ≤ 9 }
-    ensures within { result.1 ≤ length text.now }
-    ensures digits { AllDigits 10 (take result.1 text.now) }
+    ensures digits { FirstDigits text.now result.1 }
     ensures value { result.0 ≡ digits_value 10 (take result.1 text.now) }
-    ensures end { result.1 < 9 → (b : ℕ) (after : List ℕ) → drop result.1 text.now ≡ b ∷ after
-        → ¬ IsInRange 48 57 b }
 {
     if text.len() < 9 {
         return digits(text);
@@ -61,13 +52,9 @@ fn first_digits(text: &[u8]) -> (u32, usize)
 // The nanosecond of the up to nine digits that begin a text, and how many they are.
 #[inline(never)]
 pub(crate) fn nanosecond(text: &[u8]) -> (u32, usize)
-    ensures most { result.1 ≤ 9 }
-    ensures within { result.1 ≤ length text.now }
-    ensures digits { AllDigits 10 (take result.1 text.now) }
+    ensures digits { FirstDigits text.now result.1 }
     ensures value { result.0 ≡ digits_value 10 (take result.1 text.now) * 10 ^ (9 - result.1) }
     ensures range { result.0 < 10 ^ 9 }
-    ensures end { result.1 < 9 → (b : ℕ) (after : List ℕ) → drop result.1 text.now ≡ b ∷ after
-        → ¬ IsInRange 48 57 b }
 {
     let (number, count) = first_digits(text);
     (number * POWERS[9 - count], count)

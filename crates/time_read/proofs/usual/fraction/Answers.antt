@@ -8,5 +8,5 @@ returns c =
     let e = c.nanosecond-nanosecond.ensures in
     record {
       read = rw (take_rest c.in-Some.rest.now c.nanosecond-nanosecond.result.1) (fraction_at c.in-Some.rest.now
-          c.nanosecond-nanosecond.result.1 _ e.digits (omega arith) e.most e.within e.value c.in-Some.ensures.some);
+          c.nanosecond-nanosecond.result.1 _ e.digits (omega arith) e.value c.in-Some.ensures.some);
     }
