@@ -10,6 +10,7 @@ pub mod LongestLemmas
 pub mod NumberLemmas
 pub mod PartLemmas
 pub mod RoomLemmas
+pub mod RunLemmas
 pub mod TextLemmas
 pub mod TrimLemmas
 pub mod WriteLemmas

@@ -11,5 +11,6 @@ pub mod Lossy
 pub mod Outcome
 pub mod Parts
 pub mod Room
+pub mod Runs
 pub mod Sink
 pub mod Text

@@ -10,6 +10,7 @@ mod modifier;
 pub mod parts;
 mod refused;
 mod room_sink;
+mod runs;
 mod sink;
 pub mod writers;
 
@@ -23,6 +24,7 @@ pub use metadata::ComputeMetadata;
 pub use modifier::{Modifier, write_part};
 pub use refused::Refused;
 pub use room_sink::{Before, RoomSink};
+pub use runs::{write_date, write_time};
 pub use sink::Sink;
 pub use time_below::format_description::Metadata;
 pub use time_provide::{ComponentProvider, DateState, TimestampState};

@@ -1,13 +1,11 @@
 //! The loop over the steps of a plan.
-ghost use Rattle.std.specs.Prelude.{◌≡◌, ◌∷◌, ◌++◌, ◌≤◌, MatchOption, length};
-ghost use Rattle.time_below.specs.Month.{month_number};
+ghost use Rattle.std.specs.Prelude.{◌≡◌, MatchOption, length};
 ghost use Rattle.time_below.specs.Tree.{all_of};
 ghost use Rattle.time_below.specs.Width.{tree_width, trees_width};
 ghost use Rattle.time_fmt.specs.Description.{tree_outcome};
 ghost use Rattle.time_fmt.specs.Ends.{Ends};
 ghost use Rattle.time_fmt.specs.Guarantee.{AppendsLeaf, AppendsTree};
 ghost use Rattle.time_fmt.specs.Sink.{Fits, Puts, Ready};
-ghost use Rattle.time_fmt.specs.Text.{padded_text};
 ghost use Rattle.time_plan.specs.Literal.{literal_bytes};
 ghost use Rattle.time_plan.specs.Shown.{run_tree, shown_tree};
 ghost use Rattle.time_plan.specs.Steps.{step_tree, step_trees};
@@ -15,11 +13,8 @@ ghost use Rattle.time_plan.specs.Steps.{step_tree, step_trees};
 use crate::literal::Literal;
 use crate::shown::{Run, Separators, Shown};
 use crate::step::Step;
-use time_below::Month;
-use time_below::format_description::modifier::Padding;
-use time_digits::ru8;
-use time_fmt::writers::{fmt_calendar_year_full_extended_range, format_two_digits, write_bytes};
-use time_fmt::{Refused, Sink, end_component, parts, write_often};
+use time_fmt::writers::write_bytes;
+use time_fmt::{Refused, Sink, end_component, write_date, write_often, write_time};
 use time_provide::ComponentProvider;
 
 /// Writes the steps in order, up to the first that is refused, and returns its refusal. The sink is
@@ -123,15 +118,15 @@ fn write_run<S: Sink, V: ComponentProvider>(
     ensures agrees { V.agrees state.new value.now }
 {
     match run {
-        Run::Time(between) => write_time(*between, output, value, state),
-        Run::Date(between) => write_date(*between, output, value, state),
+        Run::Time(between) => end_time(*between, output, value, state),
+        Run::Date(between) => end_date(*between, output, value, state),
         Run::Empty => Ok(()),
     }
 }
 
 /// Writes a date. A value without one is refused.
 #[inline(always)]
-fn write_date<S: Sink, V: ComponentProvider>(
+fn end_date<S: Sink, V: ComponentProvider>(
     between: Separators,
     output: &mut S,
     value: &V,
@@ -146,26 +141,13 @@ fn write_date<S: Sink, V: ComponentProvider>(
     if !V::SUPPLIES_DATE {
         return Err(Refused::Unsupplied);
     }
-    let year = value.calendar_year(state);
-    let day = value.day(state).expand();
-    let month = number_of(value.month(state));
-    fmt_calendar_year_full_extended_range(output, year, parts::YEAR);
-    write_two_after(output, between, month, day);
+    write_date((between.first, between.second), output, value, state);
     Ok(())
-}
-
-/// The number of a month, 1 to 12.
-#[inline(always)]
-fn number_of(month: Month) -> ru8<0, 99>
-    ensures number { result ≡ month_number month }
-    ensures range { result ≤ 12 }
-{
-    ru8::new(u8::from(month)).unwrap()
 }
 
 /// Writes a time of day. A value without one is refused.
 #[inline(always)]
-fn write_time<S: Sink, V: ComponentProvider>(
+fn end_time<S: Sink, V: ComponentProvider>(
     between: Separators,
     output: &mut S,
     value: &V,
@@ -180,35 +162,8 @@ fn write_time<S: Sink, V: ComponentProvider>(
     if !V::SUPPLIES_TIME {
         return Err(Refused::Unsupplied);
     }
-    let hour = value.hour(state).expand();
-    let minute = value.minute(state).expand();
-    let second = value.second(state).expand();
-    format_two_digits(output, hour, Padding::Zero);
-    write_two_after(output, between, minute, second);
+    write_time((between.first, between.second), output, value, state);
     Ok(())
-}
-
-/// Writes two numbers in two places, each behind its byte, and returns the number of bytes.
-#[inline(always)]
-#[tactic(auto, using(time_fmt::proofs::TextLemmas::signed_parts))]
-fn write_two_after<S: Sink>(
-    output: &mut S,
-    between: Separators,
-    first: ru8<0, 99>,
-    second: ru8<0, 99>,
-) -> usize
-    requires room { Fits (S.buffer output.old) (length
-        (between.first ∷ (padded_text Padding.Zero 2 first
-        ++ (between.second ∷ padded_text Padding.Zero 2 second)))) }
-    ensures writes { Puts (S.buffer output.old) (S.buffer output.new) result
-        (between.first ∷ (padded_text Padding.Zero 2 first
-        ++ (between.second ∷ padded_text Padding.Zero 2 second))) }
-{
-    let _room = output.room();
-    output.put_byte(between.first);
-    let count = format_two_digits(output, first, Padding::Zero);
-    output.put_byte(between.second);
-    2 + count + format_two_digits(output, second, Padding::Zero)
 }
 
 /// Writes any step, or returns the refusal of what it shows.

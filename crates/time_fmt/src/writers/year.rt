@@ -222,6 +222,7 @@ fn write_signed_year<S: Sink>(
     sign + write_year_digits(output, year.abs(), padding)
 }
 
+#[inline(always)]
 fn write_standard_year<S: Sink>(
     output: &mut S,
     year: StandardYear,
@@ -252,6 +253,7 @@ fn write_year_digits<S: Sink>(output: &mut S, year: ru32<0, 999_999>, padding: P
 }
 
 // Appends a year of either calendar, if it has at most four digits.
+#[inline(always)]
 fn write_accepted_year<S: Sink>(
     output: &mut S,
     year: Year,
