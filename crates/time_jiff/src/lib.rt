@@ -85,15 +85,7 @@ pub fn time(time: jiff::civil::Time) -> Time
     ensures { result ≡ same_time time }
 {
     let plain = time.to_plain();
-    match Time::from_hms_nano(
-        plain.hour,
-        plain.minute,
-        plain.second,
-        plain.subsec_nanosecond,
-    ) {
-        Ok(same) => same,
-        Err(_) => unreachable!(),
-    }
+    Time::from_valid_hms_nano(plain.hour, plain.minute, plain.second, plain.subsec_nanosecond)
 }
 
 /// The date.
@@ -101,13 +93,8 @@ pub fn date(date: jiff::civil::Date) -> Date
     ensures { result ≡ same_date date }
 {
     let plain = date.to_plain();
-    let Ok(month) = Month::try_from(plain.month) else {
-        unreachable!()
-    };
-    match Date::from_calendar_date(plain.year as i32, month, plain.day) {
-        Ok(same) => same,
-        Err(_) => unreachable!(),
-    }
+    let month = Month::from_number(plain.month);
+    Date::from_valid_calendar_date(plain.year as i32, month, plain.day)
 }
 
 /// The offset for `jiff`.

@@ -27,20 +27,14 @@ fn no_date() -> Date
 fn no_time() -> Time
     ensures { result ≡ midnight }
 {
-    match Time::from_hms_nano(0, 0, 0, 0) {
-        Ok(time) => time,
-        Err(_) => unreachable!(),
-    }
+    Time::from_valid_hms_nano(0, 0, 0, 0)
 }
 
 // The offset of UTC itself.
 fn no_offset() -> UtcOffset
     ensures { result ≡ utc }
 {
-    match UtcOffset::from_hms(0, 0, 0) {
-        Ok(offset) => offset,
-        Err(_) => unreachable!(),
-    }
+    UtcOffset::from_valid_hms(0, 0, 0)
 }
 
 /// A date keeps its costly components.

@@ -402,20 +402,3 @@ begins_rest p b =
 -- an offset goes on after the letter `Z`
 pub begins_z : (p : Profile) (b : ℕ) → IsLetter p 90 b → Begins (SpellsSome (EndOffset p)) (b ∷ [])
 begins_z p b h = record { more = []; whole = record { value = utc; spelled = z_by p b [] h refl } }
-
--- parts with one sign settle to their offset
-pub settled_is : (b : Bool) (h m : ℕ) → h ≤ 25 → m < 60
-    → settled (signed b h) (signed b m) (pos 0) ≡ signed_offset b h m
-settled_is b h m p q =
-    let k = IsOffset-signed_offset b h m p q in
-    sym (only_settled (signed b h) (signed b m) (pos 0) (signed_offset b h m) (record {
-      hours_size = refl;
-      minutes_size = refl;
-      seconds_size = refl;
-      hours_kept = refl;
-      minutes_kept = λ _. refl;
-      seconds_kept = λ _ _. refl;
-      minutes_like_hours = k.1;
-      seconds_like_hours = k.2;
-      seconds_like_minutes = k.3;
-    }))

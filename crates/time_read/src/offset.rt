@@ -1,6 +1,6 @@
 //! Offsets at the end of a text.
 ghost use Rattle.std.specs.Prelude.{◌≡◌, ◌<◌, ◌≤◌, ◌∷◌, ℕ, [], IfOk, IfErr, OnOk, pos};
-ghost use Rattle.time_below.specs.Offset.{AreOffsetParts, settled, signed_offset};
+ghost use Rattle.time_below.specs.Offset.{signed_offset};
 ghost use Rattle.time_read.specs.Fault.{IsLetter, SpellsSome};
 ghost use Rattle.time_read.specs.Front.{Front, FieldFault, TextFault};
 ghost use Rattle.time_read.specs.Profiles.{EndOffset, RestOfOffset};
@@ -26,30 +26,17 @@ fn end(text: &[u8]) -> Result<(), Fault>
     }
 }
 
-// The offset of hours and minutes.
-#[inline(always)]
-fn offset_of(hours: i8, minutes: i8) -> UtcOffset
-    requires { AreOffsetParts hours minutes (pos 0) }
-    ensures { result ≡ settled hours minutes (pos 0) }
-{
-    let Ok(offset) = UtcOffset::from_hms(hours, minutes, 0) else {
-        unreachable!()
-    };
-    offset
-}
-
 // The offset of hours and minutes with one sign.
 #[inline(always)]
-#[tactic(auto, using(crate::proofs::OffsetEnds::settled_is))]
 pub(crate) fn signed_offset(is_negative: bool, hour: u8, minute: u8) -> UtcOffset
     requires hour { hour < 24 }
     requires minute { minute < 60 }
     ensures { result ≡ signed_offset is_negative hour minute }
 {
     if is_negative {
-        offset_of(-(hour as i8), -(minute as i8))
+        UtcOffset::from_valid_hms(-(hour as i8), -(minute as i8), 0)
     } else {
-        offset_of(hour as i8, minute as i8)
+        UtcOffset::from_valid_hms(hour as i8, minute as i8, 0)
     }
 }
 

@@ -86,9 +86,7 @@ fn date_time(text: &[u8], profile: Profile) -> Result<OffsetDateTime, Fault>
     let rest = letter(rest, b'T', profile)?;
     let (clock, rest) = clock_time(rest)?;
     let (nanosecond, offset) = fraction_and_offset(rest, profile)?;
-    let Ok(time) = Time::from_hms_nano(clock.hour, clock.minute, clock.second, nanosecond) else {
-        unreachable!()
-    };
+    let time = Time::from_valid_hms_nano(clock.hour, clock.minute, clock.second, nanosecond);
     Ok(OffsetDateTime::new_in_offset(date_of(day), time, offset))
 }
 

@@ -2,4 +2,3 @@ pub mod CommandLemmas
 pub mod OutputBufferLemmas
 pub mod FieldsLemmas
 pub mod RunLemmas
-pub mod ValueLemmas

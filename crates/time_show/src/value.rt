@@ -1,7 +1,6 @@
 //! The values that the numbers of a line give, if each is in the range of its part.
 ghost use Rattle.std.specs.Prelude.{◌≡◌, ◌≤◌, ◌<◌, IfOk, unsigned_abs};
-ghost use Rattle.std.specs.Int.{IsInRange};
-ghost use Rattle.time_below.specs.Month.{month_number};
+ghost use Rattle.time_below.specs.Calendar.{IsYear};
 ghost use Rattle.time_show.specs.Value.{part_name, natural_part, signed_part, date_value, time_value, offset_value, date_time_value, utc_date_time_value};
 
 use time_below::{Date, Month, OffsetDateTime, Time, UtcDateTime, UtcOffset};
@@ -93,7 +92,9 @@ pub struct UtcNumbers {
 
 /// The number, if it is one of `least` to `greatest`.
 fn natural_part(part: Part, least: u32, greatest: u32, number: i32) -> Result<u32, Part>
-    ensures { result ≡ natural_part part least greatest number }
+    ensures value { result ≡ natural_part part least greatest number }
+    ensures least { IfOk result (λ n. least ≤ n) }
+    ensures greatest { IfOk result (λ n. n ≤ greatest) }
 {
     match u32::try_from(number) {
         Ok(number) if least <= number && number <= greatest => Ok(number),
@@ -103,7 +104,8 @@ fn natural_part(part: Part, least: u32, greatest: u32, number: i32) -> Result<u3
 
 /// The year, if it is one that a date may have.
 fn year_value(number: i32) -> Result<i32, Part>
-    ensures { result ≡ signed_part Part.Year 999_999 number }
+    ensures value { result ≡ signed_part Part.Year 999_999 number }
+    ensures range { IfOk result (λ n. IsYear n) }
 {
     if number.unsigned_abs() > 999_999 {
         return Err(Part::Year);
@@ -123,25 +125,14 @@ fn offset_part(part: Part, greatest: u32, number: i32) -> Result<i8, Part>
     Ok(number as i8)
 }
 
-/// The month of a number from 1 to 12.
-fn month_of(number: u32) -> Month
-    requires { IsInRange 1 12 number }
-    ensures { month_number result ≡ number }
-{
-    Month::try_from(number as u8).unwrap()
-}
-
 /// The date of these numbers.
 fn date_value(numbers: DateNumbers) -> Result<Date, Part>
     ensures { result ≡ date_value numbers }
 {
     let year = year_value(numbers.year)?;
-    let month = month_of(natural_part(Part::Month, 1, 12, numbers.month)?);
-    let day = natural_part(Part::Day, 1, 31, numbers.day)?;
-    match Date::from_calendar_date(year, month, day as u8) {
-        Ok(date) => Ok(date),
-        Err(_) => Err(Part::Day),
-    }
+    let month = Month::from_number(natural_part(Part::Month, 1, 12, numbers.month)? as u8);
+    let day = natural_part(Part::Day, 1, month.length(year) as u32, numbers.day)?;
+    Ok(Date::from_valid_calendar_date(year, month, day as u8))
 }
 
 /// The time of day of these numbers.
@@ -152,10 +143,7 @@ pub fn time_value(numbers: TimeNumbers) -> Result<Time, Part>
     let minute = natural_part(Part::Minute, 0, 59, numbers.minute)?;
     let second = natural_part(Part::Second, 0, 59, numbers.second)?;
     let nanosecond = natural_part(Part::Nanosecond, 0, 999_999_999, numbers.nanosecond)?;
-    match Time::from_hms_nano(hour as u8, minute as u8, second as u8, nanosecond) {
-        Ok(time) => Ok(time),
-        Err(_) => unreachable!(),
-    }
+    Ok(Time::from_valid_hms_nano(hour as u8, minute as u8, second as u8, nanosecond))
 }
 
 /// The offset of these numbers. Where their signs differ, the largest that is not zero decides.
@@ -165,10 +153,7 @@ fn offset_value(numbers: OffsetNumbers) -> Result<UtcOffset, Part>
     let hours = offset_part(Part::Hours, 25, numbers.hours)?;
     let minutes = offset_part(Part::Minutes, 59, numbers.minutes)?;
     let seconds = offset_part(Part::Seconds, 59, numbers.seconds)?;
-    match UtcOffset::from_hms(hours, minutes, seconds) {
-        Ok(offset) => Ok(offset),
-        Err(_) => unreachable!(),
-    }
+    Ok(UtcOffset::from_ranged_hms(hours, minutes, seconds))
 }
 
 /// The local date and time of these numbers, and its offset. The ranges are tested in the order of

@@ -30,7 +30,7 @@ returns-in_err-nanosecond-clause-fault c =
 
 pub returns-clause-read : goal.returns-clause-read
 returns-clause-read c =
-    let same = c.new_in_offset.ensures ∙ same_value c.date_of.ensures c.in-Ok.ensures.value refl in
+    let same = c.new_in_offset.ensures ∙ same_value c.date_of.ensures c.from_valid_hms_nano-time.ensures refl in
     subst (λ (v : OffsetDateAndTime). ReadsAs c.args.profile v c.args.text.now) (sym same)
     (whole_is c.args.profile _ _ _ _ c.args.text.now _ _ _ c.in_ok-day.ensures.read c.in_ok-rest.ensures.read c.in_ok-clock.ensures.read
     c.in_ok-nanosecond.ensures.read)
