@@ -2,10 +2,11 @@
 use Rattle.std.specs.Prelude.{ℕ, ◌≡◌, ◌++◌, Bool, false, List, codes, Option, Some, None, IfSome}
 use Rattle.time_known.specs.Config.{Choices, separator, DateKind, DecimalSign, FormattedComponents, OffsetPrecision}
 use Rattle.time_known.specs.Config.{TimePrecision}
-use Rattle.time_known.specs.Fields.{Shown, date_of_fields, offset_of_fields}
+use Rattle.time_known.specs.Fields.{date_of_fields, offset_text}
 use Rattle.time_known.specs.Iso8601.{decimal_part}
 use Rattle.time_known.specs.Values.{TimeOfDay}
 use Rattle.time_known.specs.WellKnown.{clock_text}
+use Rattle.time_known.specs.declared.fields.Fields.{Fields}
 use Rattle.time_known.specs.declared.iso8601.config.DateKind.TheVariants as kind
 use Rattle.time_known.specs.declared.iso8601.config.FormattedComponents.TheVariants as components
 use Rattle.time_known.specs.declared.iso8601.config.OffsetPrecision.TheVariants as offset_precision
@@ -47,8 +48,8 @@ usual_time_text separator sign digits t =
     codes "T" ++ (clock_text separator t ++ decimal_part sign digits t.nanosecond 1_000_000_000)
 
 -- the text by the fields of the value
-abbrev pub usual_of_fields : Choices → Option ℕ → Shown → List ℕ
+abbrev pub usual_of_fields : Choices → Option ℕ → Fields → List ℕ
 usual_of_fields c digits f =
     date_of_fields (separator c (codes "-")) f
     ++ usual_time_text (separator c (codes ":")) c.decimal_sign digits f.time
-    ++ offset_of_fields (separator c (codes ":")) f.offset
+    ++ offset_text (separator c (codes ":")) f.offset

@@ -6,7 +6,7 @@ ghost use Rattle.time_fmt.specs.Decimals.{decimals};
 ghost use Rattle.time_fmt.specs.Outcome.{AppendsUpTo};
 ghost use Rattle.time_fmt.specs.Room.{HasRoom};
 ghost use Rattle.time_provide.specs.Real.{AreReal};
-ghost use Rattle.time_known.specs.Fields.{date_of_fields, offset_of_fields, shown};
+ghost use Rattle.time_known.specs.Fields.{date_of_fields, offset_text};
 ghost use Rattle.time_known.specs.Groups.{AreAllSupplied, at_groups};
 ghost use Rattle.time_known.specs.Iso8601.{decimal_part, iso_of_groups};
 ghost use Rattle.time_known.specs.Iso8601Width.{decimal_part_width, iso8601_width};
@@ -67,7 +67,7 @@ impl Text for UsualText {
 
     ghost text = { λ t. usual_of_fields
         (usual_choices t.usual.has_separators t.usual.decimal_digits t.usual.decimal_sign)
-        t.usual.decimal_digits (shown t.fields) };
+        t.usual.decimal_digits t.fields };
 
     #[inline(always)]
     fn put_into<S: Sink>(&self, output: &mut S) {
@@ -94,7 +94,7 @@ impl Text for SeparatedText {
 
     ghost text = { λ t. usual_of_fields
         (usual_choices true t.usual.decimal_digits t.usual.decimal_sign)
-        t.usual.decimal_digits (shown t.fields) };
+        t.usual.decimal_digits t.fields };
 
     #[inline(always)]
     fn put_into<S: Sink>(&self, output: &mut S) {
@@ -112,7 +112,7 @@ pub struct StampText {
 impl Text for StampText {
     ghost width = { λ _. stamp_length };
 
-    ghost text = { λ t. stamp_of_fields (shown t.fields) };
+    ghost text = { λ t. stamp_of_fields t.fields };
 
     #[inline(always)]
     fn put_into<S: Sink>(&self, output: &mut S) {
@@ -141,14 +141,14 @@ fn put_usual<S: Sink>(output: &mut S, usual: &Usual, fields: &Fields, dash: &str
         + decimal_part_width usual.now.decimal_digits) (S.buffer output.old) }
     ensures puts { PutsUpTo (20 + 2 * length dash.now + 3 * length colon.now
         + decimal_part_width usual.now.decimal_digits) (S.buffer output.old) (S.buffer output.new)
-        (date_of_fields dash.now (shown fields.now)
+        (date_of_fields dash.now fields.now
         ++ usual_time_text colon.now usual.now.decimal_sign usual.now.decimal_digits
         fields.now.time
-        ++ offset_of_fields colon.now fields.now.offset) }
+        ++ offset_text colon.now fields.now.offset) }
 {
     put_date(output, fields, dash);
     put_usual_time(output, usual, fields.time, colon);
-    put_offset(output, &fields.offset, colon);
+    put_offset(output, fields.offset, colon);
 }
 
 // Puts the time, and decimals of its second.
