@@ -47,6 +47,8 @@ impl Formattable for Rfc2822 {
 
     ghost reads_as = { λ _. ReadsAs to_whole_second Rfc2822Spells Rfc2822Spells };
 
+    // More than one caller would else call it for each text.
+    #[inline(always)]
     fn write_into<V: ComponentProvider>(
         &self,
         output: &mut Vec<u8>,

@@ -48,6 +48,8 @@ impl Formattable for Rfc3339 {
 
     ghost reads_as = { λ _. ReadsAs (λ v. v) Rfc3339Spells IsCanonicalRfc3339 };
 
+    // More than one caller would else call it for each text.
+    #[inline(always)]
     fn write_into<V: ComponentProvider>(
         &self,
         output: &mut Vec<u8>,
