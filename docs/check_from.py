@@ -10,7 +10,7 @@ import sys
 
 TOP = pathlib.Path(__file__).resolve().parent.parent
 FILES = {
-    "Rattle": ["crates/time_from_tests/src/*.rt"],
+    "Rattle": ["crates/time_upper_tests/src/from_*.rt", "crates/time_upper_tests/src/values.rt"],
     "Rust": ["bindings/rust/tests/from.rs", "bindings/rust-time/src/rfc3339.rs"],
     "C": ["bindings/c/from.c"],
 }

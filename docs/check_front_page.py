@@ -16,7 +16,7 @@ RECIPES = [
     "crates/time_plan_tests/src/recipes.rt",
     "crates/time_log_tests/src/recipes.rt",
     "crates/time_read_tests/src/recipes.rt",
-    "crates/time_jiff_tests/src/recipes.rt",
+    "crates/time_upper_tests/src/recipes.rt",
 ]
 
 

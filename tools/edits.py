@@ -12,7 +12,7 @@ from importlib import machinery, util
 
 ITEM = re.compile(r"\b(?:const|static|struct|enum|trait|type|fn|impl(?: [\w:<>]+ for)?) (?:\w+::)*(\w+)")
 # A function as `rt fmt` lays it out.
-FUNCTION = re.compile(r"^( *)(?:[\w\"]\S* )*fn (\w+)(?:[^\n]*|.*?^\1(?:\S[^\n]*)?)\{(?:\}$|$(.*?)^\1\}$)", re.M | re.S)
+FUNCTION = re.compile(r"^( *)(?:[\w\"]\S* )*fn (\w+)(?:[^\n]*|(?:(?!;$).)*?^\1(?:\S[^\n]*)?)\{(?:\}$|$(.*?)^\1\}$)", re.M | re.S)
 loader = machinery.SourceFileLoader("rt", os.path.realpath(shutil.which("rt")))
 rt = util.module_from_spec(util.spec_from_loader("rt", loader))
 loader.exec_module(rt)

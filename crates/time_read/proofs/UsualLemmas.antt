@@ -2,16 +2,17 @@
 use Rattle.std.proofs.Common.{◌≡◌, ℕ, ◌+◌, ◌-◌, ◌*◌, ◌^◌, ◌<◌, ◌≤◌, List, [], ◌∷◌, ◌++◌, length, get_or, take, drop}
 use Rattle.std.proofs.Common.{refl, sym, ap, subst, ◌∙◌, arith, append_assoc, pos, inl, inr, Bool, true, false}
 use Rattle.std.specs.Int.{IsInRange}
-use Rattle.std.specs.Prelude.{codes, ◌==◌}
+use Rattle.std.specs.Prelude.{codes, ◌==◌, IfSome, Option, Some, None}
 use Rattle.std.specs.Str.Parse.{digits_value}
 use Rattle.std.proofs.lemmas.Bool.Decides.{nat_tests}
-use Rattle.std.proofs.lemmas.List.{append-nil, take_all, take-append-drop}
+use Rattle.std.proofs.lemmas.List.{append-nil, take_all, take_at, take-append-drop}
 use Rattle.time_below.specs.Calendar.{IsDayOfMonth, date_of}
 use Rattle.time_below.specs.Offset.{signed_offset}
 use Rattle.time_known.specs.Parts.{FourDigitYear}
 use Rattle.time_known.specs.Rfc3339Grammar.{FullDate, WholeTime, OptionalSecfrac, TimeSecfrac, TimeOffset, Rfc3339Spells}
 use Rattle.time_known.specs.Rules.{Rule, Digits, Literal, ◌▹◌}
-use Rattle.time_known.specs.Values.{OffsetDateAndTime, TimeOfDay, Offset}
+use Rattle.time_known.specs.Values.{OffsetDateAndTime, OrdinalDate, TimeOfDay, Offset}
+use Rattle.time_known.proofs.Rules.Texts.{length-concatenation}
 use Rattle.time_read.specs.Front.{Front}
 use Rattle.time_read.specs.Lenient.{Rfc3339Means, MeansSecfrac}
 use Rattle.time_read.specs.Profiles.{ReadsAs}
@@ -111,43 +112,77 @@ offset_at b h m {text} {r1} {r2} {r3} p e q f small few some =
 
 -- ---- whole texts
 
--- a date, a time of day and an offset by their numbers
-pub usual_is : (y m d : ℕ) (t : TimeOfDay) (o : Offset) {text r1 r2 r3 r4 : List ℕ} → Front (DateNumbers y m d) text r1
-    → r1 ≡ 84 ∷ r2 → Front (ClockNumbers t.hour t.minute t.second) r2 r3 → Front (OptionalSecfrac t.nanosecond) r3 r4
-    → TimeOffset o r4 → IsInRange 1 12 m → IsDayOfMonth (pos y) m d → t.hour < 24 → t.minute < 60 → t.second < 60
-    → Rfc3339Spells (record { date = date_of (pos y) m d; time = t; offset = o }) text
-usual_is y m d t o {text} {r1} {r2} {r3} {r4} a e b f z month day hour minute second =
-    whole_join date (whole_join (byte_at 84 e) (whole_join clock (whole_join f z))) where
-      year : DateNumbers y m d a.front → (FourDigitYear (pos y) ▹ Literal (codes "-") ▹ Digits 2 m ▹ Literal (codes "-") ▹ Digits 2 d) a.front
-      year s = record {
-        front = s.front;
-        rest = s.rest;
-        whole = s.whole;
-        first = record { size = y; spelled = s.first; is = refl };
-        second = s.second;
-      }
+-- a date by its numbers
+pub date_is : (y m d : ℕ) {text rest : List ℕ} → Front (DateNumbers y m d) text rest → IsInRange 1 12 m
+    → IsDayOfMonth (pos y) m d → Front (FullDate (date_of (pos y) m d)) text rest
+date_is y m d a month day = record {
+  front = a.front;
+  whole = a.whole;
+  is = record {
+    year = pos y;
+    month = m;
+    day = d;
+    spelled = year a.is;
+    month_fits = month;
+    day_fits = day;
+    is = refl;
+  };
+} where
+  year : DateNumbers y m d a.front → (FourDigitYear (pos y) ▹ Literal (codes "-") ▹ Digits 2 m ▹ Literal (codes "-") ▹ Digits 2 d) a.front
+  year s = record {
+    front = s.front;
+    rest = s.rest;
+    whole = s.whole;
+    first = record { size = y; spelled = s.first; is = refl };
+    second = s.second;
+  }
 
-      date : Front (FullDate (date_of (pos y) m d)) text r1
-      date = record {
-        front = a.front;
-        whole = a.whole;
-        is = record {
-          year = pos y;
-          month = m;
-          day = d;
-          spelled = year a.is;
-          month_fits = month;
-          day_fits = day;
-          is = refl;
-        };
-      }
-
+-- a time of day and an offset by their numbers, after a date
+pub value_is : (d : OrdinalDate) (t : TimeOfDay) (o : Offset) {r1 r2 r3 r4 : List ℕ} → r1 ≡ 84 ∷ r2
+    → Front (ClockNumbers t.hour t.minute t.second) r2 r3 → Front (OptionalSecfrac t.nanosecond) r3 r4 → TimeOffset o r4
+    → t.hour < 24 → t.minute < 60 → t.second < 60 → (front : List ℕ) → FullDate d front
+    → Rfc3339Spells (record { date = d; time = t; offset = o }) (front ++ r1)
+value_is d t o {r1} {r2} {r3} {r4} e b f z hour minute second front date =
+    whole_join (record { front = front; whole = refl; is = date }) (whole_join (byte_at 84 e) (whole_join clock (whole_join f z))) where
       clock : Front (WholeTime t) r2 r3
       clock = record {
         front = b.front;
         whole = b.whole;
         is = record { spelled = b.is; hour_fits = hour; minute_fits = minute; second_fits = second };
       }
+
+-- a date has ten bytes
+pub date_length : (d : OrdinalDate) (text : List ℕ) → FullDate d text → length text ≡ 10
+date_length d text h =
+    let s = h.spelled in
+    let t = s.second in
+    let u = t.second in
+    let v = u.second in
+    omega (
+      arith,
+      length-concatenation s,
+      length-concatenation t,
+      length-concatenation u,
+      length-concatenation v,
+      s.first.spelled.count,
+      ap length t.first,
+      u.first.count,
+      ap length v.first,
+      v.second.count,
+    )
+
+-- the date at the front of a text is spelled by the first ten bytes
+pub date_taken : (d : OrdinalDate) (text rest : List ℕ) → Front (FullDate d) text rest → FullDate d (take 10 text)
+date_taken d text rest f =
+    subst (FullDate d) (sym (ap (take 10) f.whole ∙ take_at f.front rest 10 (date_length d f.front f.is))) f.is
+
+-- a value that is read after a date is that of the whole text
+pub text_is_read : (d : OrdinalDate) (front text rest : List ℕ) (r : Option OffsetDateAndTime) → FullDate d front
+    → text ≡ front ++ rest
+    → IfSome r (λ v. (front : List ℕ) → FullDate d front → Rfc3339Spells v (front ++ rest))
+    → IfSome r (λ v. Rfc3339Spells v text)
+text_is_read d front text rest None date e h = h
+text_is_read d front text rest (Some v) date e h = subst (Rfc3339Spells v) (sym e) (h front date)
 
 -- ---- what the grammar has is read by each profile
 

@@ -7,7 +7,9 @@ mod fault;
 pub mod laws;
 mod offset;
 mod parts;
+mod reader;
 pub mod rfc3339;
 mod usual;
 
 pub use fault::{Expected, NotRead, Profile};
+pub use reader::LenientReader;

@@ -1,8 +1,8 @@
 //! Whole texts read at once: the value, or nothing, and no place of a fault.
-ghost use Rattle.std.specs.Prelude.{◌≡◌, ◌∷◌, ◌+◌, ◌*◌, ◌<◌, ◌≤◌, ◌^◌, codes, pos, IfSome};
+ghost use Rattle.std.specs.Prelude.{◌≡◌, ℕ, List, ◌∷◌, ◌++◌, ◌+◌, ◌*◌, ◌<◌, ◌≤◌, ◌^◌, codes, pos, IfSome};
 ghost use Rattle.std.specs.Int.{IsInRange};
 ghost use Rattle.time_below.specs.Calendar.{IsDayOfMonth, date_of};
-ghost use Rattle.time_known.specs.Rfc3339Grammar.{OptionalSecfrac, Rfc3339Spells, TimeOffset};
+ghost use Rattle.time_known.specs.Rfc3339Grammar.{FullDate, OptionalSecfrac, Rfc3339Spells, TimeOffset};
 ghost use Rattle.time_known.specs.Rules.{Digits, Literal, ◌▹◌};
 ghost use Rattle.time_read.specs.Front.{Front};
 ghost use Rattle.time_read.specs.Shapes.{Two, ClockNumbers, DateNumbers, sign_byte};
@@ -14,7 +14,7 @@ use std::convert::TryFrom;
 use time_below::{Date, Month, OffsetDateTime, Time, UtcOffset};
 
 // The bytes of the shortest text.
-const SHORTEST: usize = 20;
+pub(crate) const SHORTEST: usize = 20;
 
 // Reads two digits.
 #[inline(always)]
@@ -123,18 +123,24 @@ fn calendar_date(year: u16, month: u8, day: u8) -> Option<Date>
     Some(date)
 }
 
-// The value of a text of RFC 3339, if it is one.
+// Reads a date that the calendar has.
 #[inline(always)]
-pub(crate) fn usual(text: &[u8]) -> Option<OffsetDateTime>
-    ensures read { IfSome result (λ v. Rfc3339Spells v text.now) }
+pub(crate) fn calendar_date_at(text: &[u8]) -> Option<(Date, &[u8])>
+    ensures read { IfSome result (λ r. Front (FullDate r.0) text.now r.1.now) }
 {
-    if text.len() < SHORTEST {
-        return None;
-    }
     let (year, month, day, rest) = date(text)?;
-    let Some(date) = calendar_date(year, month, day) else {
-        return None;
-    };
+    match calendar_date(year, month, day) {
+        Some(date) => Some((date, rest)),
+        None => None,
+    }
+}
+
+// The value of a date and of the rest of its text, if that is what follows a date.
+#[inline(always)]
+pub(crate) fn value_of(date: Date, rest: &[u8]) -> Option<OffsetDateTime>
+    ensures read { IfSome result (λ v. (front : List ℕ) → FullDate date front
+        → Rfc3339Spells v (front ++ rest.now)) }
+{
     let rest = after(rest, b'T')?;
     let (hour, minute, second, rest) = clock(rest)?;
     let (nanosecond, rest) = fraction(rest)?;
@@ -143,4 +149,18 @@ pub(crate) fn usual(text: &[u8]) -> Option<OffsetDateTime>
         return None;
     };
     Some(OffsetDateTime::new_in_offset(date, time, offset))
+}
+
+// The value of a text of RFC 3339, if it is one.
+#[inline(always)]
+pub(crate) fn usual(text: &[u8]) -> Option<OffsetDateTime>
+    ensures read { IfSome result (λ v. Rfc3339Spells v text.now) }
+{
+    if text.len() < SHORTEST {
+        return None;
+    }
+    match calendar_date_at(text) {
+        Some(read) => value_of(read.0, read.1),
+        None => None,
+    }
 }

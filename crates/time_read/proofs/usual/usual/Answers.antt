@@ -1,16 +1,7 @@
-use Rattle.std.proofs.Common.{refl, subst, sym, ◌∙◌}
-use Rattle.time_known.specs.Rfc3339Grammar.{Rfc3339Spells}
-use Rattle.time_known.specs.Values.{OffsetDateAndTime}
-use Rattle.time_known.proofs.Rules.Parts.{same_value}
-use Rattle.time_read.proofs.UsualLemmas.{usual_is}
+use Rattle.time_read.proofs.UsualLemmas.{text_is_read}
 use Rattle.time_read.proofs.usual.usual.Goals as goal
 
-pub returns : goal.returns
-returns c =
-    let same = c.new_in_offset.ensures ∙ same_value c.in-Some.ensures.value c.in-Ok.ensures.value refl in
-    let fits = c.in-Ok.ensures.accepted.0 refl in
-    record {
-      read = subst (λ (v : OffsetDateAndTime). Rfc3339Spells v c.args.text.now) (sym same)
-          (usual_is _ _ _ _ _ c.in_ok-year.ensures.read c.in_ok-rest.ensures.some c.in_ok-hour.ensures.read
-          c.in_ok-nanosecond.ensures.read c.in_ok-offset.ensures.read c.in-Some.ensures.month c.in-Some.ensures.day fits.0 fits.1 fits.2);
-    }
+pub returns-in-Some : goal.returns-in-Some
+returns-in-Some c =
+    let date = c.in-Some.ensures.read in
+    record { read = text_is_read c.in-Some.read.0 date.front c.args.text.now c.in-Some.read.1.now _ date.is date.whole c.value_of.ensures.read }

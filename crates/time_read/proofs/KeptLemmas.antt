@@ -1,0 +1,43 @@
+-- The bytes of a date that is kept spell it.
+use Rattle.std.proofs.Common.{◌≡◌, ℕ, List, ◌++◌, arith, refl, subst, sym, take, drop, length, ◌-◌, pos, ◌∙◌, Option, Some, None}
+use Rattle.std.proofs.lemmas.List.{take-append-drop, take_rest}
+use Rattle.std.specs.Prelude.{codes, IfSome}
+use Rattle.std.proofs.lemmas.Int.{ints}
+use Rattle.std.specs.Fmt.{digits}
+use Rattle.time_below.specs.Calendar.{IsDate, OrdinalDate, date_of, days_of_months, last_begun}
+use Rattle.time_digits.specs.Digits.{padded}
+use Rattle.time_known.proofs.OutcomeLemmas.{IsYearWithin, not_outside, year_is_within}
+use Rattle.time_known.proofs.Rules.Parts.{owns_four, owns_month_date}
+use Rattle.time_known.proofs.Rules.Texts.{Owns}
+use Rattle.time_known.specs.Rfc3339Grammar.{FullDate, Rfc3339Spells}
+use Rattle.time_known.specs.Values.{OffsetDateAndTime}
+use Rattle.time_read.proofs.UsualLemmas.{date_taken, text_is_read}
+use Rattle.time_read.specs.Front.{Front}
+use Rattle.time_read.specs.Kept.{IsKeptDate, date_text}
+
+owns_date : (d : OrdinalDate) → Owns (IsDate d × IsYearWithin 0 9_999 d.year) (FullDate d) (date_text d)
+owns_date d = owns_month_date (codes "-") d (owns_four d.year) (λ h. omega (arith, h.high))
+
+-- a date is kept by the bytes that spell it
+pub date_kept : (d : OrdinalDate) (text rest : List ℕ) → Front (FullDate d) text rest → IsKeptDate d (take 10 text)
+date_kept d text rest front =
+    let known = (owns_date d).only (take 10 text) (date_taken d text rest front) in
+    record { real = known.0.0; year = not_outside 0 9_999 d.year known.0.1; text = known.1 }
+
+-- a text that begins with the bytes of the date is read after them
+pub read_after_kept : (d : OrdinalDate) (bytes text rest : List ℕ) (r : Option OffsetDateAndTime) → IsKeptDate d bytes
+    → bytes ≡ take 10 text → rest ≡ take (length text - 10) (drop 10 text)
+    → IfSome r (λ v. (front : List ℕ) → FullDate d front → Rfc3339Spells v (front ++ rest))
+    → IfSome r (λ v. Rfc3339Spells v text)
+read_after_kept d bytes text rest r kept begins after h =
+    let spelled : FullDate d bytes =
+    subst (FullDate d) (sym kept.text) ((owns_date d).is (kept.real, year_is_within 0 9_999 d.year kept.year)) in
+    let whole : text ≡ bytes ++ rest =
+    sym (take-append-drop 10 text) ∙ rw (begins, after, take_rest text 10) refl in
+    text_is_read d bytes text rest r spelled whole h
+
+-- the date that is kept at first
+pub first_kept : (d : OrdinalDate) → d ≡ date_of (pos 1970) 1 1 → IsKeptDate d (codes "1970-01-01")
+unfolding last_begun days_of_months digits padded
+first_kept d e =
+    rw e (record { real = (omega (arith, ints), (omega arith, omega arith)); year = refl; text = refl })

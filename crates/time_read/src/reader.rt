@@ -1,0 +1,88 @@
+//! A reader of many texts, which keeps the last date.
+ghost use Rattle.std.specs.Prelude.{◌≡◌, ◌≤◌, ◌↔◌, IfOk, IfErr, IfSome, IsTrue, true, drop, length, take};
+ghost use Rattle.time_below.specs.Moment.{OffsetDateAndTime};
+ghost use Rattle.time_known.specs.Rfc3339Grammar.{Rfc3339Spells};
+ghost use Rattle.time_read.specs.Fault.{IsFirstFault, IsSecond60, SpellsSome};
+ghost use Rattle.time_read.specs.Kept.{IsKeptDate};
+ghost use Rattle.time_read.specs.Lenient.{Rfc3339Means};
+
+use crate::fault::NotRead;
+use crate::rfc3339::read_lenient;
+use crate::usual::{SHORTEST, calendar_date_at, value_of};
+use time_below::{Date, Month, OffsetDateTime};
+
+// The bytes of a date.
+const LENGTH: usize = 10;
+
+/// A reader of texts of RFC 3339, section 5.6, as lenient as [`read_lenient`]. It keeps the last date by its
+/// bytes, since the lines of a log mostly share their day. What is kept changes no result.
+#[derive(Drop)]
+pub struct LenientReader {
+    date: Date,
+    bytes: [u8; LENGTH],
+    ghost kept: { IsKeptDate date bytes },
+}
+
+impl LenientReader {
+    /// A reader, before its first text.
+    pub fn new() -> LenientReader {
+        match Date::from_calendar_date(1970, Month::January, 1) {
+            Ok(date) => LenientReader {
+                date,
+                bytes: *b"1970-01-01",
+            },
+            Err(_) => unreachable!(),
+        }
+    }
+
+    /// The value that the text means, as [`read_lenient`] reads it.
+    pub fn read(&mut self, text: &[u8]) -> Result<OffsetDateTime, NotRead>
+        ensures read { IfOk result (λ v. Rfc3339Means v text.now) }
+        ensures refused { IfErr result (λ _. (v : OffsetDateAndTime) → ¬ Rfc3339Means v text.now) }
+        ensures place { IfErr result (λ e. IsFirstFault (SpellsSome Rfc3339Means)
+            (take e.at text.now) (drop e.at text.now) e.expected) }
+        ensures within { IfErr result (λ e. e.at ≤ length text.now) }
+        ensures second_60 { IfErr result (λ e.
+            IsTrue e.is_second_60 ↔ IsSecond60 e.at text.now) }
+    {
+        if let Some(value) = self.usual(text) {
+            return Ok(value);
+        }
+        read_lenient(text)
+    }
+
+    // Whether a text begins with a date, which then is the one that is kept.
+    #[inline(always)]
+    fn keeps(&mut self, text: &[u8]) -> bool
+        requires { LENGTH ≤ length text.now }
+        ensures { result ≡ true → self.new.bytes ≡ take 10 text.now }
+    {
+        if text[..LENGTH] == self.bytes[..] {
+            return true;
+        }
+        let Some(found) = calendar_date_at(text) else {
+            return false;
+        };
+        let mut bytes = [0u8; LENGTH];
+        bytes.copy_from_slice(&text[..LENGTH]);
+        *self = LenientReader {
+            date: found.0,
+            bytes,
+        };
+        true
+    }
+
+    // The value of a text, if it is one of those that are read at once.
+    #[inline(always)]
+    fn usual(&mut self, text: &[u8]) -> Option<OffsetDateTime>
+        ensures read { IfSome result (λ v. Rfc3339Spells v text.now) }
+    {
+        if text.len() < SHORTEST {
+            return None;
+        }
+        if self.keeps(text) {
+            return value_of(self.date, &text[LENGTH..]);
+        }
+        None
+    }
+}
