@@ -14,7 +14,7 @@ use crate::item::{Item, Part, part_of};
 use crate::moment::{Moment, timestamp_value};
 use crate::reason::{Reason, answer_number, reason_of};
 use crate::room::copy_text;
-use crate::run::{Run, byte_of, is_plain, run_of};
+use crate::run::{Loop, Run, WithRuns, WithoutRuns, begins_with_run, byte_of, is_plain, run_of};
 use crate::source::{ByParts, provided};
 use std::default::Default;
 use std::marker::Brand;
@@ -133,9 +133,9 @@ where
         Err(reason) => return Err(first_reason(items, texts, reason)),
     };
     let mut line = [0u8; SHORT];
-    match write_items::<Brand, V>(items, texts, &value, &mut line) {
+    match write_chosen::<Brand, V>(items, texts, &value, &mut line) {
         Ok(count) if count <= SHORT => copy_text(&line[..count], room),
-        Ok(count) if count <= room.len() => write_items::<Brand, V>(items, texts, &value, room),
+        Ok(count) if count <= room.len() => write_chosen::<Brand, V>(items, texts, &value, room),
         Ok(_) => Err(Reason::NoRoom),
         Err(reason) => Err(reason),
     }
@@ -153,10 +153,31 @@ fn first_reason(items: &[Item], texts: &[u8], reason: Reason) -> Reason
     }
 }
 
+/// Writes the text of the items to the start of a buffer, or as much of it as fits, by the loop that is chosen
+/// for them. Returns the number of bytes of the whole text, up to the greatest `usize`.
+fn write_chosen<B: Before, V: ComponentProvider>(
+    items: &[Item],
+    texts: &[u8],
+    value: &V,
+    room: &mut [u8],
+) -> Result<usize, Reason>
+where
+    V::State: Drop,
+    requires before { room.old ≡ B.before }
+    ensures { IsShown (trees_of texts.now items.now) (V.facts value.now) result room.old room.new }
+{
+    if begins_with_run(items) {
+        write_items::<B, WithRuns, V>(items, texts, value, room)
+    } else {
+        write_items::<B, WithoutRuns, V>(items, texts, value, room)
+    }
+}
+
 /// Writes the text of the items to the start of a buffer, or as much of it as fits. Returns the number of
 /// bytes of the whole text, up to the greatest `usize`.
+#[inline(never)]
 #[tactic(auto, using(time_fmt::proofs::RoomLemmas::room_written, crate::proofs::DescribedLemmas::put_shown))]
-fn write_items<B: Before, V: ComponentProvider>(
+fn write_items<B: Before, L: Loop, V: ComponentProvider>(
     items: &[Item],
     texts: &[u8],
     value: &V,
@@ -168,7 +189,7 @@ where
     ensures { IsShown (trees_of texts.now items.now) (V.facts value.now) result room.old room.new }
 {
     let mut output = RoomSink::<B>::new(room);
-    match put_items(items, texts, &mut output, value) {
+    match put_items::<L, RoomSink<'_, B>, V>(items, texts, &mut output, value) {
         Ok(lost) => Ok(output.len().saturating_add(lost)),
         Err(reason) => Err(reason),
     }
@@ -177,7 +198,7 @@ where
 /// Writes the texts of the items into an empty sink, but for those that do not fit. Returns their number
 /// of bytes, up to the greatest `usize`.
 #[inline(always)]
-fn put_items<S: Sink, V: ComponentProvider>(
+fn put_items<L: Loop, S: Sink, V: ComponentProvider>(
     items: &[Item],
     texts: &[u8],
     output: &mut S,
@@ -195,7 +216,7 @@ where
     let mut lost = 0usize;
     let mut left = items;
     while let [item, behind @ ..] = left {
-        if write_run(left, texts, output, value, &mut state) {
+        if write_run::<L, S, V>(left, texts, output, value, &mut state) {
             left = &left[5..];
             continue;
         }
@@ -220,7 +241,7 @@ where
 /// Writes the date or the time of day at the front of the items, if there is one, the value has it and its text
 /// fits. Returns whether it was written. It becomes part of the loop.
 #[inline(always)]
-fn write_run<S: Sink, V: ComponentProvider>(
+fn write_run<L: Loop, S: Sink, V: ComponentProvider>(
     items: &[Item],
     texts: &[u8],
     output: &mut S,
@@ -233,6 +254,9 @@ fn write_run<S: Sink, V: ComponentProvider>(
     ensures nothing { IsFalse result → S.buffer output.new ≡ S.buffer output.old }
     ensures agrees { V.agrees state.new value.now }
 {
+    if !L::has_runs() {
+        return false;
+    }
     match run_of(items, texts) {
         Some((run, between)) => write_parts(run, between, output, value, state),
         None => false,
@@ -355,6 +379,13 @@ fn write_usual_text<S: Sink>(
         (λ answer. (f : Facts) → EndsItem (item_tree texts.now item.now) f
         (S.buffer output.old) (S.buffer output.new) answer) }
 {
+    if output.room() == 0 {
+        return None;
+    }
+    if let Some(byte) = byte_of(item, texts) {
+        output.put_byte(byte);
+        return Some(Ok(()));
+    }
     match part_of(item, texts) {
         Ok(Part::Text(text)) if text.len() <= output.room() => {
             write_fitting(output, text);

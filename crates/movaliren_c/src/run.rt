@@ -17,6 +17,48 @@ pub enum Run {
     Time,
 }
 
+/// Whether the loop over a description looks for dates and times of day. Where it does, each other item costs
+/// more.
+pub trait Loop {
+    /// Whether it looks for them.
+    fn has_runs() -> bool;
+}
+
+/// The loop that looks for them.
+pub struct WithRuns;
+
+impl Loop for WithRuns {
+    #[inline(always)]
+    fn has_runs() -> bool {
+        true
+    }
+}
+
+/// The loop that does not.
+pub struct WithoutRuns;
+
+impl Loop for WithoutRuns {
+    #[inline(always)]
+    fn has_runs() -> bool {
+        false
+    }
+}
+
+/// Whether one of the first two items begins a date or a time of day, as in most descriptions that have one.
+#[inline(always)]
+pub fn begins_with_run(items: &[Item]) -> bool {
+    match items {
+        [first, second, ..] => is_first_of_run(first) || is_first_of_run(second),
+        _ => false,
+    }
+}
+
+/// Whether an item may begin a date or a time of day.
+#[inline(always)]
+fn is_first_of_run(item: &Item) -> bool {
+    item.kind == 13 || item.kind == 14 || item.kind == 24
+}
+
 /// The date or the time of day that the first five items are, if they are one, and the bytes between its
 /// parts.
 #[inline(always)]
@@ -58,14 +100,15 @@ fn run_between(first: &Item, second: &Item, third: &Item) -> Option<Run>
     }
 }
 
-/// Whether the choices of an item are zeros.
+/// Whether the choices of an item and its byte are zeros. The compiler reads the four as one number.
 #[inline(always)]
 pub fn is_plain(item: &Item) -> bool
     ensures padding { IsTrue result → item.now.padding ≡ 0 }
     ensures flag { IsTrue result → item.now.flag ≡ 0 }
     ensures digits { IsTrue result → item.now.digits ≡ 0 }
 {
-    item.padding == 0 && item.flag == 0 && item.digits == 0
+    let choices = item.padding as u32 + item.flag as u32 * 0x100 + item.digits as u32 * 0x1_0000;
+    choices + item.byte as u32 * 0x100_0000 == 0
 }
 
 /// The byte that an item is, if it is a text of one.
