@@ -217,13 +217,13 @@ one_more {after = after} g items behind d (Ok t) old now new lost more total f a
     rw is_behind (next_there g items 0 d t (omega (arith, some)) there) in
     let left = list_of (map g behind) in
     let outcome : (text : List ℕ)
-        → with_value (list_of (map g items)) (λ ts. Ok (join (done text) (trees_outcome (trees ts) f)))
-        ≡ with_value left (λ ts. Ok (join (done (text ++ a.bytes)) (trees_outcome (trees ts) f)))
-        = λ text. ap (λ left. with_value left (λ ts. Ok (join (done text) (trees_outcome (trees ts) f)))) next
-        ∙ outcome_more text t f left step.0 in
+    → with_value (list_of (map g items)) (λ ts. Ok (join (done text) (trees_outcome (trees ts) f)))
+    ≡ with_value left (λ ts. Ok (join (done (text ++ a.bytes)) (trees_outcome (trees ts) f)))
+    = λ text. ap (λ left. with_value left (λ ts. Ok (join (done text) (trees_outcome (trees ts) f)))) next
+    ∙ outcome_more text t f left step.0 in
     let widths : (sum : ℕ) → with_value (list_of (map g items)) (λ ts. Ok (sum + trees_width (trees ts)))
-        ≡ with_value left (λ ts. Ok (sum + tree_width t + trees_width (trees ts)))
-        = λ sum. ap (λ left. with_value left (λ ts. Ok (sum + trees_width (trees ts)))) next ∙ widths_more sum t left in
+    ≡ with_value left (λ ts. Ok (sum + tree_width t + trees_width (trees ts)))
+    = λ sum. ap (λ left. with_value left (λ ts. Ok (sum + trees_width (trees ts)))) next ∙ widths_more sum t left in
     ⊎_elim (λ (put : (more ≡ 0) × Puts now new (length a.bytes) a.bytes).
     let same : lost ≡ total = omega (arith, sum, put.0, so_far.small) in
     subst (λ (l : ℕ). SoFar after old new l f all left) same

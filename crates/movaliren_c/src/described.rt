@@ -23,8 +23,8 @@ use time_below::format_description::modifier::Padding;
 use time_below::format_description::{component_width, modifier};
 use time_fmt::writers::write_bytes;
 use time_fmt::{
-    Before, Modifier, Refused, RoomSink, Sink, end_component, write_date, write_into_room, write_part,
-    write_time,
+    Before, Modifier, Refused, RoomSink, Sink, end_component, write_date, write_into_room,
+    write_part, write_time,
 };
 use time_provide::ComponentProvider;
 
@@ -118,6 +118,7 @@ fn provided_date(year: i32, month: u8, day: u8) -> Result<Date, Reason>
 /// Writes the text of the value by the description, if there are both. The text is written to an array
 /// first, so that the buffer is as it was where there is no text. A longer text is written again, once
 /// it is known that it is complete and fits.
+#[inline(always)]
 pub fn write_described<V: ComponentProvider + Drop>(
     items: &[Item],
     texts: &[u8],
@@ -135,7 +136,7 @@ where
     let mut line = [0u8; SHORT];
     match write_chosen::<Brand, V>(items, texts, &value, &mut line) {
         Ok(count) if count <= SHORT => copy_text(&line[..count], room),
-        Ok(count) if count <= room.len() => write_chosen::<Brand, V>(items, texts, &value, room),
+        Ok(count) if count <= room.len() => write_long::<Brand, V>(items, texts, &value, room),
         Ok(_) => Err(Reason::NoRoom),
         Err(reason) => Err(reason),
     }
@@ -153,8 +154,27 @@ fn first_reason(items: &[Item], texts: &[u8], reason: Reason) -> Reason
     }
 }
 
+/// Writes the text of the items to the start of a buffer, or as much of it as fits, as `write_items` does, for
+/// a text that is longer than the array.
+#[cold]
+#[inline(never)]
+fn write_long<B: Before, V: ComponentProvider>(
+    items: &[Item],
+    texts: &[u8],
+    value: &V,
+    room: &mut [u8],
+) -> Result<usize, Reason>
+where
+    V::State: Drop,
+    requires before { room.old ≡ B.before }
+    ensures { IsShown (trees_of texts.now items.now) (V.facts value.now) result room.old room.new }
+{
+    write_items::<B, WithoutRuns, V>(items, texts, value, room)
+}
+
 /// Writes the text of the items to the start of a buffer, or as much of it as fits, by the loop that is chosen
 /// for them. Returns the number of bytes of the whole text, up to the greatest `usize`.
+#[inline(always)]
 fn write_chosen<B: Before, V: ComponentProvider>(
     items: &[Item],
     texts: &[u8],

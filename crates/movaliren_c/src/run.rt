@@ -72,7 +72,10 @@ pub fn run_of(items: &[Item], texts: &[u8]) -> Option<(Run, (u8, u8))>
         return None;
     };
     let run = run_between(first, second, third)?;
-    let between = (byte_of(before_second, texts)?, byte_of(before_third, texts)?);
+    let between = (
+        byte_of(before_second, texts)?,
+        byte_of(before_third, texts)?,
+    );
     Some((run, between))
 }
 
