@@ -1,6 +1,6 @@
 -- What a description that crosses as data means: a tree for each item, or the reason why there is
 -- none.
-use Rattle.std.specs.Prelude.{ℕ, ◌≡◌, ◌≢◌, ◌<◌, ◌≤◌, ◌⊎◌, ◌++◌, min, ◌+◌, ◌-◌, Bool, true, ◌==◌, ◌&&◌, nat_le, nat_lt, List, [], ◌∷◌, map, length, drop, None}
+use Rattle.std.specs.Prelude.{ℕ, ◌≡◌, ◌≢◌, ◌<◌, ◌≤◌, ◌⊎◌, ◌++◌, min, ◌+◌, ◌-◌, Bool, true, false, ◌==◌, ◌&&◌, nat_le, nat_lt, List, [], ◌∷◌, map, length, drop, None}
 use Rattle.std.specs.Prelude.{slice_range, Result, Ok, Err, IfOk, IsErr, IsOkAnd, if◌then◌else◌}
 use Rattle.movaliren_c.specs.Answer.{IsRefusedFor, IsText, gives}
 use Rattle.movaliren_c.specs.Value.{flag_at, numbered, with_value}
@@ -9,6 +9,8 @@ use Rattle.movaliren_c.specs.declared.item.Part.{Part}
 use Rattle.movaliren_c.specs.declared.item.Part.TheVariants as part
 use Rattle.movaliren_c.specs.declared.reason.Reason.{Reason}
 use Rattle.movaliren_c.specs.declared.reason.Reason.TheVariants as reason
+use Rattle.movaliren_c.specs.declared.run.Run.{Run}
+use Rattle.movaliren_c.specs.declared.run.Run.TheVariants as run
 use Rattle.time_below.specs.Facts.{Facts}
 use Rattle.time_below.specs.Tree.{Tree, trees, byte_literal, of_component}
 use Rattle.time_below.specs.Width.{tree_width, trees_width}
@@ -146,6 +148,47 @@ pub record IsDescribed {V : Type 0} (texts : List ℕ) (items : List Item) (valu
   pub text : IsText (described (trees_of texts items) value facts) answer before after
   pub within : IfOk value (λ _. IfOk (trees_of texts items) (λ ts. IsWithinWidth (trees_width (trees ts)) (length before)
       answer))
+
+-- ---- dates and times of day
+
+-- the parts of a date and of a time of day
+abbrev pub first_part : Run → Component
+first_part run.Date =
+    component.CalendarYearFullExtendedRange (record { padding = padding.Zero; sign_is_mandatory = false })
+first_part run.StandardDate =
+    component.CalendarYearFullStandardRange (record { padding = padding.Zero; sign_is_mandatory = false })
+first_part run.Time = component.Hour24 (record { padding = padding.Zero })
+
+abbrev pub second_part : Run → Component
+second_part run.Date = component.MonthNumerical (record { padding = padding.Zero })
+second_part run.StandardDate = component.MonthNumerical (record { padding = padding.Zero })
+second_part run.Time = component.Minute (record { padding = padding.Zero })
+
+abbrev pub third_part : Run → Component
+third_part run.Date = component.Day (record { padding = padding.Zero })
+third_part run.StandardDate = component.Day (record { padding = padding.Zero })
+third_part run.Time = component.Second (record { padding = padding.Zero })
+
+-- these parts with a byte between each two, and what is behind them
+abbrev pub run_before : Run → ℕ → ℕ → List Tree → List Tree
+run_before r x y behind =
+    of_component (first_part r) ∷ byte_literal (x ∷ []) ∷ of_component (second_part r) ∷ byte_literal (y ∷ []) ∷
+    of_component (third_part r) ∷ behind
+
+-- these parts ended
+abbrev pub EndsRun : Run → ℕ → ℕ → Facts → Buffer → Buffer → Type 0
+EndsRun r x y f old new =
+    Ends (trees_width (trees (run_before r x y []))) old new (Ok tt) (trees_outcome (trees (run_before r x y [])) f)
+
+-- the date or the time of day that the first five items are ended
+pub record EndsFirst (texts : List ℕ) (items : List Item) (f : Facts) (old new : Buffer) : Type 0 where
+  pub run : Run
+  pub first : ℕ
+  pub second : ℕ
+  pub five : 5 ≤ length items
+  pub begin : trees_of texts items
+      ≡ with_value (trees_of texts (drop 5 items)) (λ behind. Ok (run_before run first second behind))
+  pub ends : EndsRun run first second f old new
 
 -- ---- a text that may not fit
 

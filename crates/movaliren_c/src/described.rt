@@ -1,7 +1,7 @@
 //! Descriptions that cross as data, whose texts allocate nothing.
-ghost use Rattle.std.specs.Prelude.{◌≡◌, IfOk, MatchOption, [], length};
+ghost use Rattle.std.specs.Prelude.{◌≡◌, IfOk, IsFalse, IsTrue, MatchOption, [], length};
 ghost use Rattle.movaliren_c.specs.Answer.{Answers};
-ghost use Rattle.movaliren_c.specs.Items.{EndsItem, EndsOrIsLost, FitsOrIsLost, IsDescribed, IsPut, IsShown, ItemEndsOrIsLost, item_tree, part_tree, reason_before, trees_of, width_answer};
+ghost use Rattle.movaliren_c.specs.Items.{EndsFirst, EndsItem, EndsOrIsLost, EndsRun, FitsOrIsLost, IsDescribed, IsPut, IsShown, ItemEndsOrIsLost, item_tree, part_tree, reason_before, trees_of, width_answer};
 ghost use Rattle.movaliren_c.specs.Value.{date_value, moment_value, timestamp_value};
 ghost use Rattle.time_below.specs.Facts.{Facts, facts_of_date, facts_of_offset_date_time, facts_of_timestamp};
 ghost use Rattle.time_below.specs.Width.{component_width, tree_width};
@@ -14,6 +14,7 @@ use crate::item::{Item, Part, part_of};
 use crate::moment::{Moment, timestamp_value};
 use crate::reason::{Reason, answer_number, reason_of};
 use crate::room::copy_text;
+use crate::run::{Loop, Run, WithRuns, WithoutRuns, begins_with_run, byte_of, is_plain, run_of};
 use crate::source::{ByParts, provided};
 use std::default::Default;
 use std::marker::Brand;
@@ -22,7 +23,8 @@ use time_below::format_description::modifier::Padding;
 use time_below::format_description::{component_width, modifier};
 use time_fmt::writers::write_bytes;
 use time_fmt::{
-    Before, Modifier, Refused, RoomSink, Sink, end_component, write_into_room, write_part,
+    Before, Modifier, Refused, RoomSink, Sink, end_component, write_date, write_into_room,
+    write_part, write_time,
 };
 use time_provide::ComponentProvider;
 
@@ -116,6 +118,7 @@ fn provided_date(year: i32, month: u8, day: u8) -> Result<Date, Reason>
 /// Writes the text of the value by the description, if there are both. The text is written to an array
 /// first, so that the buffer is as it was where there is no text. A longer text is written again, once
 /// it is known that it is complete and fits.
+#[inline(always)]
 pub fn write_described<V: ComponentProvider + Drop>(
     items: &[Item],
     texts: &[u8],
@@ -131,9 +134,9 @@ where
         Err(reason) => return Err(first_reason(items, texts, reason)),
     };
     let mut line = [0u8; SHORT];
-    match write_items::<Brand, V>(items, texts, &value, &mut line) {
+    match write_chosen::<Brand, V>(items, texts, &value, &mut line) {
         Ok(count) if count <= SHORT => copy_text(&line[..count], room),
-        Ok(count) if count <= room.len() => write_items::<Brand, V>(items, texts, &value, room),
+        Ok(count) if count <= room.len() => write_long::<Brand, V>(items, texts, &value, room),
         Ok(_) => Err(Reason::NoRoom),
         Err(reason) => Err(reason),
     }
@@ -151,10 +154,50 @@ fn first_reason(items: &[Item], texts: &[u8], reason: Reason) -> Reason
     }
 }
 
+/// Writes the text of the items to the start of a buffer, or as much of it as fits, as `write_items` does, for
+/// a text that is longer than the array.
+#[cold]
+#[inline(never)]
+fn write_long<B: Before, V: ComponentProvider>(
+    items: &[Item],
+    texts: &[u8],
+    value: &V,
+    room: &mut [u8],
+) -> Result<usize, Reason>
+where
+    V::State: Drop,
+    requires before { room.old ≡ B.before }
+    ensures { IsShown (trees_of texts.now items.now) (V.facts value.now) result room.old room.new }
+{
+    write_items::<B, WithoutRuns, V>(items, texts, value, room)
+}
+
+/// Writes the text of the items to the start of a buffer, or as much of it as fits, by the loop that is chosen
+/// for them. Returns the number of bytes of the whole text, up to the greatest `usize`.
+#[inline(always)]
+fn write_chosen<B: Before, V: ComponentProvider>(
+    items: &[Item],
+    texts: &[u8],
+    value: &V,
+    room: &mut [u8],
+) -> Result<usize, Reason>
+where
+    V::State: Drop,
+    requires before { room.old ≡ B.before }
+    ensures { IsShown (trees_of texts.now items.now) (V.facts value.now) result room.old room.new }
+{
+    if begins_with_run(items) {
+        write_items::<B, WithRuns, V>(items, texts, value, room)
+    } else {
+        write_items::<B, WithoutRuns, V>(items, texts, value, room)
+    }
+}
+
 /// Writes the text of the items to the start of a buffer, or as much of it as fits. Returns the number of
 /// bytes of the whole text, up to the greatest `usize`.
+#[inline(never)]
 #[tactic(auto, using(time_fmt::proofs::RoomLemmas::room_written, crate::proofs::DescribedLemmas::put_shown))]
-fn write_items<B: Before, V: ComponentProvider>(
+fn write_items<B: Before, L: Loop, V: ComponentProvider>(
     items: &[Item],
     texts: &[u8],
     value: &V,
@@ -166,7 +209,7 @@ where
     ensures { IsShown (trees_of texts.now items.now) (V.facts value.now) result room.old room.new }
 {
     let mut output = RoomSink::<B>::new(room);
-    match put_items(items, texts, &mut output, value) {
+    match put_items::<L, RoomSink<'_, B>, V>(items, texts, &mut output, value) {
         Ok(lost) => Ok(output.len().saturating_add(lost)),
         Err(reason) => Err(reason),
     }
@@ -175,7 +218,7 @@ where
 /// Writes the texts of the items into an empty sink, but for those that do not fit. Returns their number
 /// of bytes, up to the greatest `usize`.
 #[inline(always)]
-fn put_items<S: Sink, V: ComponentProvider>(
+fn put_items<L: Loop, S: Sink, V: ComponentProvider>(
     items: &[Item],
     texts: &[u8],
     output: &mut S,
@@ -191,7 +234,12 @@ where
 {
     let mut state = Default::default();
     let mut lost = 0usize;
-    for item in items {
+    let mut left = items;
+    while let [item, behind @ ..] = left {
+        if write_run::<L, S, V>(left, texts, output, value, &mut state) {
+            left = &left[5..];
+            continue;
+        }
         match write_usual(item, texts, output, value, &mut state) {
             Some(Ok(())) => {}
             Some(Err(refused)) => return Err(first_reason(items, texts, reason_of(refused.into()))),
@@ -205,8 +253,72 @@ where
                 }
             }
         }
+        left = behind;
     }
     Ok(lost)
+}
+
+/// Writes the date or the time of day at the front of the items, if there is one, the value has it and its text
+/// fits. Returns whether it was written. It becomes part of the loop.
+#[inline(always)]
+fn write_run<L: Loop, S: Sink, V: ComponentProvider>(
+    items: &[Item],
+    texts: &[u8],
+    output: &mut S,
+    value: &V,
+    state: &mut V::State,
+) -> bool
+    requires agrees { V.agrees state.old value.now }
+    ensures ends { IsTrue result → EndsFirst texts.now items.now (V.facts value.now)
+        (S.buffer output.old) (S.buffer output.new) }
+    ensures nothing { IsFalse result → S.buffer output.new ≡ S.buffer output.old }
+    ensures agrees { V.agrees state.new value.now }
+{
+    if !L::has_runs() {
+        return false;
+    }
+    match run_of(items, texts) {
+        Some((run, between)) => write_parts(run, between, output, value, state),
+        None => false,
+    }
+}
+
+/// Writes a date or a time of day, if the value has it and its text fits. Returns whether it was written.
+#[inline(always)]
+fn write_parts<S: Sink, V: ComponentProvider>(
+    run: Run,
+    between: (u8, u8),
+    output: &mut S,
+    value: &V,
+    state: &mut V::State,
+) -> bool
+    requires agrees { V.agrees state.old value.now }
+    ensures ends { IsTrue result → EndsRun run between.0 between.1 (V.facts value.now)
+        (S.buffer output.old) (S.buffer output.new) }
+    ensures nothing { IsFalse result → S.buffer output.new ≡ S.buffer output.old }
+    ensures agrees { V.agrees state.new value.now }
+{
+    if output.room() < LONGEST {
+        return false;
+    }
+    match run {
+        Run::Date if V::SUPPLIES_DATE => {
+            write_date(between, output, value, state);
+            true
+        }
+        Run::StandardDate if V::SUPPLIES_DATE => {
+            let is_in_range = value.calendar_year(state).get().unsigned_abs() <= 9_999;
+            if is_in_range {
+                write_date(between, output, value, state);
+            }
+            is_in_range
+        }
+        Run::Time if V::SUPPLIES_TIME => {
+            write_time(between, output, value, state);
+            true
+        }
+        _ => false,
+    }
 }
 
 /// Writes an item as most texts have it, if any text of it fits, and returns its refusal, if it is refused.
@@ -230,7 +342,7 @@ fn write_usual<S: Sink, V: ComponentProvider>(
     if item.kind == 255 {
         return write_usual_text(item, texts, output);
     }
-    if item.padding != 0 || item.flag != 0 || item.digits != 0 || output.room() < LONGEST {
+    if !is_plain(item) || output.room() < LONGEST {
         return None;
     }
     let (padding, sign_is_mandatory, case_sensitive) = (Padding::Zero, false, true);
@@ -244,7 +356,7 @@ fn write_usual<S: Sink, V: ComponentProvider>(
         13 =>
             usual!(CalendarYearFullExtendedRange: padding, sign_is_mandatory; output, value, state),
         14 =>
-            by_call!(CalendarYearFullStandardRange: padding, sign_is_mandatory; output, value, state),
+            usual!(CalendarYearFullStandardRange: padding, sign_is_mandatory; output, value, state),
         24 => usual!(Hour24: padding; output, value, state),
         25 => usual!(Minute: padding; output, value, state),
         27 => usual!(Second: padding; output, value, state),
@@ -287,6 +399,13 @@ fn write_usual_text<S: Sink>(
         (λ answer. (f : Facts) → EndsItem (item_tree texts.now item.now) f
         (S.buffer output.old) (S.buffer output.new) answer) }
 {
+    if output.room() == 0 {
+        return None;
+    }
+    if let Some(byte) = byte_of(item, texts) {
+        output.put_byte(byte);
+        return Some(Ok(()));
+    }
     match part_of(item, texts) {
         Ok(Part::Text(text)) if text.len() <= output.room() => {
             write_fitting(output, text);

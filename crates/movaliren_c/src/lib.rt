@@ -28,6 +28,7 @@ mod reason;
 mod rfc2822;
 mod rfc3339;
 mod room;
+mod run;
 mod sinks;
 mod source;
 mod stamp;

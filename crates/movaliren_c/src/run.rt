@@ -1,0 +1,127 @@
+//! Dates and times of day at the front of a list of items.
+ghost use Rattle.std.specs.Prelude.{◌≡◌, ◌≤◌, ◌∷◌, [], ℕ, List, IfSome, IsTrue, Ok, drop, length};
+ghost use Rattle.movaliren_c.specs.Items.{first_part, item_tree, run_before, second_part, third_part, trees_of};
+ghost use Rattle.movaliren_c.specs.Value.{with_value};
+ghost use Rattle.time_below.specs.Tree.{byte_literal, of_component};
+
+use crate::item::Item;
+
+/// Three components that mostly stand together, with zeros before their numbers.
+#[derive(Clone, Copy)]
+pub enum Run {
+    /// The year, the month and the day.
+    Date,
+    /// The same, where a year outside -9,999 to 9,999 is refused.
+    StandardDate,
+    /// The hour, the minute and the second.
+    Time,
+}
+
+/// Whether the loop over a description looks for dates and times of day. Where it does, each other item costs
+/// more.
+pub trait Loop {
+    /// Whether it looks for them.
+    fn has_runs() -> bool;
+}
+
+/// The loop that looks for them.
+pub struct WithRuns;
+
+impl Loop for WithRuns {
+    #[inline(always)]
+    fn has_runs() -> bool {
+        true
+    }
+}
+
+/// The loop that does not.
+pub struct WithoutRuns;
+
+impl Loop for WithoutRuns {
+    #[inline(always)]
+    fn has_runs() -> bool {
+        false
+    }
+}
+
+/// Whether one of the first two items begins a date or a time of day, as in most descriptions that have one.
+#[inline(always)]
+pub fn begins_with_run(items: &[Item]) -> bool {
+    match items {
+        [first, second, ..] => is_first_of_run(first) || is_first_of_run(second),
+        _ => false,
+    }
+}
+
+/// Whether an item may begin a date or a time of day.
+#[inline(always)]
+fn is_first_of_run(item: &Item) -> bool {
+    item.kind == 13 || item.kind == 14 || item.kind == 24
+}
+
+/// The date or the time of day that the first five items are, if they are one, and the bytes between its
+/// parts.
+#[inline(always)]
+pub fn run_of(items: &[Item], texts: &[u8]) -> Option<(Run, (u8, u8))>
+    ensures five { IfSome result (λ _. 5 ≤ length items.now) }
+    ensures begin { IfSome result (λ found. trees_of texts.now items.now
+        ≡ with_value (trees_of texts.now (drop 5 items.now)) (λ behind.
+        Ok (run_before found.0 found.1.0 found.1.1 behind))) }
+{
+    let [first, before_second, second, before_third, third, ..] = items else {
+        return None;
+    };
+    let run = run_between(first, second, third)?;
+    let between = (
+        byte_of(before_second, texts)?,
+        byte_of(before_third, texts)?,
+    );
+    Some((run, between))
+}
+
+/// The date or the time of day that three items are, if they are one.
+#[inline(always)]
+#[tactic(auto, unfolding(crate::specs::Items::component_of, crate::specs::Items::date_component, crate::specs::Items::year_component, crate::specs::Items::time_component))]
+fn run_between(first: &Item, second: &Item, third: &Item) -> Option<Run>
+    ensures first { IfSome result (λ run. (texts : List ℕ)
+        → item_tree texts first.now ≡ Ok (of_component (first_part run))) }
+    ensures second { IfSome result (λ run. (texts : List ℕ)
+        → item_tree texts second.now ≡ Ok (of_component (second_part run))) }
+    ensures third { IfSome result (λ run. (texts : List ℕ)
+        → item_tree texts third.now ≡ Ok (of_component (third_part run))) }
+{
+    let run = match first.kind {
+        13 if second.kind == 4 && third.kind == 1 => Run::Date,
+        14 if second.kind == 4 && third.kind == 1 => Run::StandardDate,
+        24 if second.kind == 25 && third.kind == 27 => Run::Time,
+        _ => return None,
+    };
+    if is_plain(first) && is_plain(second) && is_plain(third) {
+        Some(run)
+    } else {
+        None
+    }
+}
+
+/// Whether the choices of an item and its byte are zeros. The compiler reads the four as one number.
+#[inline(always)]
+pub fn is_plain(item: &Item) -> bool
+    ensures padding { IsTrue result → item.now.padding ≡ 0 }
+    ensures flag { IsTrue result → item.now.flag ≡ 0 }
+    ensures digits { IsTrue result → item.now.digits ≡ 0 }
+{
+    let choices = item.padding as u32 + item.flag as u32 * 0x100 + item.digits as u32 * 0x1_0000;
+    choices + item.byte as u32 * 0x100_0000 == 0
+}
+
+/// The byte that an item is, if it is a text of one.
+#[inline(always)]
+pub fn byte_of(item: &Item, texts: &[u8]) -> Option<u8>
+    ensures { IfSome result (λ byte. item_tree texts.now item.now ≡ Ok (byte_literal (byte ∷ []))) }
+{
+    match item.kind {
+        255 if item.len == 1 && item.start < texts.len() => Some(texts[item.start]),
+        254 => Some(item.byte),
+        _ => None,
+    }
+}
