@@ -30,7 +30,7 @@ void *__wrap_calloc(size_t count, size_t size)
     return __real_calloc(count, size);
 }
 
-enum { ROOM = 300, CALLS = 49 };
+enum { ROOM = 300, CALLS = 53 };
 
 static const struct movaliren_moment moment = { .year = 1997, .month = 11, .day = 12, .hour = 9,
     .minute = 55, .second = 6, .nanosecond = 120000000, .offset_hours = -6 },
@@ -117,6 +117,10 @@ static ptrdiff_t call(int which, uint8_t *room)
     case 47: return movaliren_strftime_local("%H:%M", 5, 0, 0, 60, room, ROOM);
     case 44: return movaliren_fault_words(MOVALIREN_FAULT_UNFINISHED, room, ROOM);
     case 43: return movaliren_log_time(&kept, 3, 0, 1, 60, room, ROOM);
+    case 48: return movaliren_format_length(twenty, 20, " -T:.", 5, &moment);
+    case 49: return movaliren_format_utc_length(twenty, 20, " -T:.", 5, 0, 0);
+    case 50: return movaliren_format_local_length(twenty, 20, " -T:.", 5, 0, 0, 60);
+    case 51: return movaliren_format_date_length(usual, 3, dash, 1, 2026, 1, 1);
     default: return movaliren_format_date(usual, 3, dash, 1, 0, 1, 1, room, ROOM);
     }
 }
