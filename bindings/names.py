@@ -51,8 +51,10 @@ CHOICES = [
     (None, "SubsecondDigits", "digits_at"),
 ]
 OF_C = {of_c: kind for kind, of_c in interface.C_TYPES.items()}
-# What makes no text of a moment.
-NOT_COUNTED = {"version", "error_words", "fault_words"}
+# What makes no text of a moment, and lengths but for one.
+NOT_COUNTED = {
+    "version", "error_words", "fault_words", "format_length", "format_local_length", "format_date_length",
+}
 # What Rust calls by a description that it has read before.
 OF_C_ALONE = {"brackets_utc", "brackets_local", "strftime_utc", "strftime_local"}
 # Crates, a variable of the environment, and the mark of the header.

@@ -352,6 +352,7 @@ static const struct {
     NO_DECIMALS("strftime_utc:11-items", 0, DATE " " CLOCK),
     { "strftime_local:11-items", ONE(movaliren_strftime_local(conversions, sizeof conversions - 1, NOW, EAST, OUT)), 0 },
     NO_DECIMALS("strftime_local:11-items", EAST, DATE " " CLOCK),
+    { "format_utc_length:11-items", ONE(movaliren_format_utc_length(items, 11, texts, 5, NOW)), 0 },
     { "width:11-items", ONE(movaliren_width(items, 11, texts, 5)), 0 },
     { "width:names", ONE(movaliren_width(names, 7, name_texts, 4)), 0 },
     { "read_rfc3339", ONE(movaliren_read_rfc3339(READ_TEXT, &read_moment, &read_place)), 0 },

@@ -261,6 +261,33 @@ static void try_widths(void)
     }
 }
 
+/* A text has as many bytes as its length says, and a description that has no text of the value has no length. */
+static void try_lengths(void)
+{
+    static const struct movaliren_moment may = MOMENT(1997, 5, 12, 9, 55, 6, 0, -6, 0, 0);
+    static const struct movaliren_item name = { .kind = MOVALIREN_MONTH_LONG };
+    static const struct movaliren_item hour = { .kind = MOVALIREN_HOUR };
+    static const struct movaliren_item long_text = TEXT(0, 300);
+    static char texts[300];
+    const ptrdiff_t lengths[] = {
+        movaliren_format_length(&name, 1, texts, 0, &may),
+        movaliren_format_utc_length(&name, 1, texts, 0, 863395200, 0), /* `date -ud @863395200`: 12 May 1997 */
+        movaliren_format_local_length(&name, 1, texts, 0, 863395200, 0, -3600),
+        movaliren_format_date_length(&name, 1, texts, 0, 1997, 5, 12),
+        movaliren_format_date_length(&long_text, 1, texts, 300, 1997, 5, 12),
+        movaliren_format_date_length(&name, 0, texts, 0, 1997, 5, 12),
+        movaliren_format_date_length(&hour, 1, texts, 0, 1997, 5, 12),
+        movaliren_format_date_length(&long_text, 1, texts, 299, 1997, 5, 12),
+        movaliren_format_date_length(&name, 1, texts, 0, 1997, 13, 12),
+    };
+    static const ptrdiff_t expected[] = { 3, 3, 3, 3, 300, 0, MOVALIREN_ERROR_INSUFFICIENT,
+        MOVALIREN_ERROR_BAD_ITEM, MOVALIREN_ERROR_MONTH };
+    if (memcmp(lengths, expected, sizeof expected)) {
+        failures++;
+        puts("a length is wrong");
+    }
+}
+
 /* A description that is built over this many items and bytes of texts: of a day, a text of two bytes and a
  * month. */
 static ptrdiff_t built(size_t items_room, size_t texts_room)
@@ -497,6 +524,7 @@ int main(void)
     try_a_width();
     try_the_empty_description();
     try_widths();
+    try_lengths();
     try_building();
     try_too_many();
     try_invalid_items();

@@ -30,7 +30,7 @@ void *__wrap_calloc(size_t count, size_t size)
     return __real_calloc(count, size);
 }
 
-enum { ROOM = 300, CALLS = 52 };
+enum { ROOM = 300, CALLS = 56 };
 
 static const struct movaliren_moment moment = { .year = 1997, .month = 11, .day = 12, .hour = 9,
     .minute = 55, .second = 6, .nanosecond = 120000000, .offset_hours = -6 },
@@ -120,6 +120,10 @@ static ptrdiff_t call(int which, uint8_t *room)
     case 49: return movaliren_brackets_utc("[day]", 5, 0, 0, room, ROOM);
     case 50: return movaliren_brackets_local("[day]", 5, 0, 0, 60, room, ROOM);
     case 43: return movaliren_log_time(&kept, 3, 0, 1, 60, room, ROOM);
+    case 51: return movaliren_format_length(twenty, 20, " -T:.", 5, &moment);
+    case 52: return movaliren_format_utc_length(twenty, 20, " -T:.", 5, 0, 0);
+    case 53: return movaliren_format_local_length(twenty, 20, " -T:.", 5, 0, 0, 60);
+    case 54: return movaliren_format_date_length(usual, 3, dash, 1, 2026, 1, 1);
     default: return movaliren_format_date(usual, 3, dash, 1, 0, 1, 1, room, ROOM);
     }
 }

@@ -538,6 +538,17 @@ ptrdiff_t movaliren_format_date(const struct movaliren_item *items, size_t items
 ptrdiff_t movaliren_width(const struct movaliren_item *items, size_t items_len, const void *texts,
     size_t texts_len);
 
+/* The number of bytes of one text, up to PTRDIFF_MAX, or its error, which is never MOVALIREN_ERROR_NO_ROOM. A caller
+ * who has that error makes a buffer of this many. It costs about as much as the text. */
+ptrdiff_t movaliren_format_length(const struct movaliren_item *items, size_t items_len,
+    const void *texts, size_t texts_len, const struct movaliren_moment *moment);
+ptrdiff_t movaliren_format_utc_length(const struct movaliren_item *items, size_t items_len,
+    const void *texts, size_t texts_len, int64_t seconds, uint32_t nanosecond);
+ptrdiff_t movaliren_format_local_length(const struct movaliren_item *items, size_t items_len,
+    const void *texts, size_t texts_len, int64_t seconds, uint32_t nanosecond, int64_t offset);
+ptrdiff_t movaliren_format_date_length(const struct movaliren_item *items, size_t items_len,
+    const void *texts, size_t texts_len, int32_t year, uint8_t month, uint8_t day);
+
 /* ---- descriptions from a text */
 
 /* What is wrong in a text that is no description, and at which byte. */
@@ -712,6 +723,45 @@ MOVALIREN_INLINE ptrdiff_t movaliren_by_date(const struct movaliren_description 
         ? description->reason
         : movaliren_format_date(description->items, description->items_len, description->texts,
             description->texts_len, year, month, day, room, room_len);
+}
+
+/* The number of bytes of one text by the description: of a moment with its parts, in UTC, at an offset, and of a
+ * date. */
+MOVALIREN_INLINE ptrdiff_t movaliren_length_by(
+    const struct movaliren_description *description, const struct movaliren_moment *moment)
+{
+    return description->reason
+        ? description->reason
+        : movaliren_format_length(description->items, description->items_len, description->texts,
+            description->texts_len, moment);
+}
+
+MOVALIREN_INLINE ptrdiff_t movaliren_length_by_utc(
+    const struct movaliren_description *description, int64_t seconds, uint32_t nanosecond)
+{
+    return description->reason
+        ? description->reason
+        : movaliren_format_utc_length(description->items, description->items_len,
+            description->texts, description->texts_len, seconds, nanosecond);
+}
+
+MOVALIREN_INLINE ptrdiff_t movaliren_length_by_local(
+    const struct movaliren_description *description, int64_t seconds, uint32_t nanosecond,
+    int64_t offset)
+{
+    return description->reason
+        ? description->reason
+        : movaliren_format_local_length(description->items, description->items_len,
+            description->texts, description->texts_len, seconds, nanosecond, offset);
+}
+
+MOVALIREN_INLINE ptrdiff_t movaliren_length_by_date(
+    const struct movaliren_description *description, int32_t year, uint8_t month, uint8_t day)
+{
+    return description->reason
+        ? description->reason
+        : movaliren_format_date_length(description->items, description->items_len,
+            description->texts, description->texts_len, year, month, day);
 }
 
 /* The most bytes that a text of the description has. */

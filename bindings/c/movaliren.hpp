@@ -405,6 +405,29 @@ public:
         });
     }
 
+    // The number of bytes of the text of a moment in UTC. Throws std::system_error.
+    template <class Duration> std::size_t length(sys_time<Duration> point) const
+    {
+        const auto moment = moment_of(point);
+        return checked(movaliren_format_utc_length(
+            items(), items_.size(), texts_.data(), texts_.size(), moment.seconds, moment.nanosecond));
+    }
+
+    // That of a moment by its local date and time, which is `offset` ahead of UTC. Throws std::system_error.
+    template <class Duration> std::size_t length(sys_time<Duration> point, std::chrono::seconds offset) const
+    {
+        const auto moment = moment_of(point);
+        return checked(movaliren_format_local_length(items(), items_.size(), texts_.data(), texts_.size(),
+            moment.seconds, moment.nanosecond, offset.count()));
+    }
+
+    // That of a local date and time with its offset. Throws std::system_error.
+    std::size_t length(const movaliren_moment &moment) const
+    {
+        return checked(
+            movaliren_format_length(items(), items_.size(), texts_.data(), texts_.size(), &moment));
+    }
+
 private:
     template <class Describe> static description read(std::string_view text, Describe describe)
     {

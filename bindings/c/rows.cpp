@@ -104,6 +104,9 @@ static void descriptions()
     expect("of a moment", day.format(moment), "1 of January");
     expect("at an offset", day.format(at(seconds(880127706)), hours(9)), "22 of November");
     expect("its width", std::to_string(day.width()), "15");
+    expect("a length", std::to_string(day.length(at(seconds(880127706)))), "14");
+    expect("of a moment", std::to_string(day.length(moment)), "12");
+    expect("at an offset", std::to_string(day.length(at(seconds(880127706)), hours(9))), "14");
     expect("nothing", movaliren::description().format(moment), "");
     try {
         movaliren::description().add(static_cast<movaliren_kind>(99)).format(moment);

@@ -102,6 +102,23 @@ static const struct {
     { movaliren_parse, "", "", "", "" },
 };
 
+static void expect_length(ptrdiff_t length, const char *text, const char *format, const char *name)
+{
+    expect_true(length == (text ? (ptrdiff_t)strlen(text) : MOVALIREN_ERROR_INSUFFICIENT), format, name);
+}
+
+static void try_lengths(const struct movaliren_description *line, size_t i)
+{
+    const char *format = rows[i].format;
+    expect_length(movaliren_length_by(line, &mail), rows[i].text, format, "its length");
+    expect_length(movaliren_length_by_local(line, mail_utc.seconds, mail_utc.nanosecond, -21600), rows[i].text, format,
+        "its length at an offset");
+    expect_length(
+        movaliren_length_by_utc(line, mail_utc.seconds, mail_utc.nanosecond), rows[i].utc, format, "its length in UTC");
+    expect_length(
+        movaliren_length_by_date(line, mail.year, mail.month, mail.day), rows[i].date, format, "its length of a date");
+}
+
 static void try_texts(void)
 {
     struct movaliren_item items[32];
@@ -119,6 +136,7 @@ static void try_texts(void)
         expect_text(is_strftime ? strftime_utc : brackets_utc, rows[i].format, &mail_utc, rows[i].utc);
         expect_text(is_strftime ? strftime_local : brackets_local, rows[i].format, &mail_utc, rows[i].text);
         expect_true(movaliren_width_by(&line) >= (ptrdiff_t)strlen(rows[i].text), rows[i].format, "its width");
+        try_lengths(&line, i);
     }
 }
 

@@ -1,7 +1,7 @@
 //! Descriptions: texts and components in order.
 use crate::format::Format;
 use crate::raw;
-use crate::{Component, Item, LocalMoment, Moment, UtcMoment};
+use crate::{Component, Error, Item, LocalMoment, Moment, UtcMoment};
 use alloc::borrow::Cow;
 
 /// What is written before a number with fewer digits than its width.
@@ -225,6 +225,28 @@ impl Description {
     #[must_use]
     pub const fn width(&self) -> usize {
         self.width
+    }
+
+    /// Returns the number of bytes of the text of a value, up to `isize::MAX`. It costs about as much as the text.
+    ///
+    /// # Errors
+    ///
+    /// Those of [`Format::write`], but for [`Error::NoRoom`](crate::Error::NoRoom).
+    ///
+    /// ```
+    /// use movaliren::{Date, Description, Error, Format, Kind};
+    ///
+    /// let (name, may) = (Description::new().component(Kind::MonthLong), Date { year: 2026, month: 5, day: 1 });
+    /// assert_eq!((name.width(), name.length(&may)?), (9, 3));
+    /// assert_eq!(name.write(&mut [0; 2], &may), Err(Error::NoRoom));
+    /// # Ok::<(), Error>(())
+    /// ```
+    #[inline]
+    pub fn length<V>(&self, value: &V) -> Result<usize, Error>
+    where
+        Description: raw::Measure<V>,
+    {
+        raw::Measure::measure(self, value, raw::Inside)
     }
 
     #[inline]

@@ -542,6 +542,37 @@ unsafe impl Call<Date> for Description {
     }
 }
 
+/// A description, by the function of the library that counts the bytes of a text.
+pub trait Measure<V> {
+    #[doc(hidden)]
+    fn measure(&self, value: &V, _: Inside) -> Result<usize, Error>;
+}
+
+macro_rules! measured {
+    ($($kind:ty: $function:ident($value:ident => $($argument:expr),+);)*) => { $(
+        impl Measure<$kind> for Description {
+            #[inline]
+            fn measure(&self, $value: &$kind, _: Inside) -> Result<usize, Error> {
+                let (items, texts) = self.parts();
+                // SAFETY: each struct has the header's layout, and each pointer comes with the length of its
+                // slice.
+                count_of(unsafe {
+                    library::$function(
+                        items.as_ptr(), items.len(), texts.as_ptr(), texts.len(), $($argument),+
+                    )
+                })
+            }
+        }
+    )* };
+}
+
+measured! {
+    Moment: movaliren_format_length(value => value);
+    UtcMoment: movaliren_format_utc_length(value => value.seconds, value.nanosecond);
+    LocalMoment: movaliren_format_local_length(value => value.seconds, value.nanosecond, value.offset);
+    Date: movaliren_format_date_length(value => value.year, value.month, value.day);
+}
+
 /// The number of a fault's reason, for its words.
 pub(crate) struct FaultWords;
 

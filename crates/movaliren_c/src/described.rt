@@ -106,7 +106,7 @@ pub extern "C" fn movaliren_width(items: &[Item], texts: &[u8]) -> isize
 }
 
 /// The date of these parts, or the first part that is outside its range.
-fn provided_date(year: i32, month: u8, day: u8) -> Result<Date, Reason>
+pub fn provided_date(year: i32, month: u8, day: u8) -> Result<Date, Reason>
     ensures { result ≡ date_value year month day }
 {
     match CalendarDate::new(year, month, day) {
@@ -145,7 +145,7 @@ where
 /// The reason of the first invalid item, or else this one.
 #[cold]
 #[inline(never)]
-fn first_reason(items: &[Item], texts: &[u8], reason: Reason) -> Reason
+pub fn first_reason(items: &[Item], texts: &[u8], reason: Reason) -> Reason
     ensures { result ≡ reason_before (trees_of texts.now items.now) reason }
 {
     match width(items, texts) {
@@ -158,7 +158,7 @@ fn first_reason(items: &[Item], texts: &[u8], reason: Reason) -> Reason
 /// a text that is longer than the array.
 #[cold]
 #[inline(never)]
-fn write_long<B: Before, V: ComponentProvider>(
+pub fn write_long<B: Before, V: ComponentProvider>(
     items: &[Item],
     texts: &[u8],
     value: &V,

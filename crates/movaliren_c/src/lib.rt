@@ -3,8 +3,8 @@
 //!
 //! An export of one text returns the number of bytes at the start of the buffer, which are the whole
 //! text, or a negative number that names the error; the buffer is then unchanged. A batch returns how
-//! many texts are there, and why it stopped. `movaliren_width` returns a width. No export has a
-//! condition, and none allocates.
+//! many texts are there, and why it stopped. `movaliren_width` returns a width, and the exports that end
+//! in `_length` return the length of a text. No export has a condition, and none allocates.
 #![tactic(auto)]
 
 mod batch;
@@ -17,6 +17,7 @@ mod item;
 mod item_room;
 mod kept_offset;
 pub mod laws;
+mod length;
 mod library;
 mod local;
 mod log;

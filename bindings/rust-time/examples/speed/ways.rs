@@ -275,7 +275,7 @@ fn readings() -> Ways {
 
 /// The other calls of the Rust crate, each of which ends in one function of the library.
 fn other_calls() -> Ways {
-    let built = eleven();
+    let (built, counted) = (eleven(), eleven());
     let line = RefCell::new(String::new());
     let in_string = move |moment: &UtcMoment| {
         let mut line = line.borrow_mut();
@@ -324,6 +324,10 @@ fn other_calls() -> Ways {
         (
             "describe_strftime:11-items",
             measured(|_| Description::parse_strftime(CONVERSIONS).map_or(0, |it| it.width())),
+        ),
+        (
+            "format_utc_length:11-items",
+            measured(move |moment| counted.length(moment).unwrap_or(0)),
         ),
         ("width:11-items", measured(move |_| built.width())),
     ]
