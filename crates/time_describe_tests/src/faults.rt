@@ -1,8 +1,5 @@
 //! What is wrong with texts in brackets, and where, and what the items of others are.
-use crate::texts::in_brackets;
-use std::alloc::Global;
-use std::process::Abort;
-use std::test::Fail;
+use crate::texts::{assert_displays, in_brackets};
 use time_below::format_description::{Component, OwnedFormatItem};
 use time_describe::{InvalidDescription, Reason, parse_owned};
 
@@ -112,20 +109,6 @@ const FAULTS: &[(&str, Reason, usize, &str)] = &[
     ),
 ];
 
-/// Displays as `error` displays beside its text.
-fn assert_displays(
-    rt: &impl Abort,
-    alloc: Global,
-    error: InvalidDescription,
-    text: &str,
-    words: &str,
-) {
-    match format!(in alloc; "{}", error.in_text(text.as_bytes())) {
-        Ok(displayed) => assert_eq!(rt; displayed.as_str(), words),
-        Err(_) => panic!(rt; "no memory"),
-    }
-}
-
 #[test]
 fn says_what_is_wrong_and_where(rt: HostRuntime) {
     for &(text, reason, index, words) in FAULTS {
@@ -133,26 +116,28 @@ fn says_what_is_wrong_and_where(rt: HostRuntime) {
             Ok(_) => panic!(rt; "{text}"),
             Err(error) => {
                 assert_eq!(rt; error, InvalidDescription::Invalid { reason, index });
-                assert_displays(&rt, rt.alloc(), error, text, words);
+                assert_displays(&rt, rt.alloc(), &error.in_text(text.as_bytes()), words);
             }
         }
     }
 }
 
 #[test]
-fn displays_no_word_that_is_long_or_no_text(rt: HostRuntime) -> Result<(), Fail> {
+fn displays_no_word_that_is_long_or_no_text(rt: HostRuntime) {
     let error = InvalidDescription::Invalid {
         reason: Reason::UnknownName,
         index: 1,
     };
     let text = [b'a'; 66];
     for text in [b"[\xff]".as_slice(), b"", &text] {
-        let displayed = format!(in rt.alloc(); "{}", error.in_text(text))?;
-        assert_eq!(rt; displayed.as_str(), "unknown component at byte 1");
+        assert_displays(
+            &rt,
+            rt.alloc(),
+            &error.in_text(text),
+            "unknown component at byte 1",
+        );
     }
-    let displayed = format!(in rt.alloc(); "{error}")?;
-    assert_eq!(rt; displayed.as_str(), "unknown component at byte 1");
-    Ok(())
+    assert_displays(&rt, rt.alloc(), &error, "unknown component at byte 1");
 }
 
 #[test]

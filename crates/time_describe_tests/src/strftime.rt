@@ -1,6 +1,6 @@
 //! Descriptions in the syntax of strftime, and the texts that standards and GNU `date` 9.1 give for them.
-use crate::texts::{Numbers, assert_formats, in_percents, moment, repeated};
-use std::alloc::AllocError;
+use crate::texts::{Numbers, assert_displays, assert_formats, in_percents, repeated};
+use std::alloc::{AllocError, Global};
 use time_describe::{InvalidStrftime, StrftimeReason, parse_strftime_owned};
 
 /// Examples of RFC 3339 (5.8), RFC 2822 (A.1.1), RFC 9110 (5.6.7), ISO 8601 (week date, ordinal date) and the
@@ -132,16 +132,16 @@ const REFUSED: &[(&str, &str)] = &[
 fn formats_the_examples_of_standards(rt: HostRuntime) {
     for &(text, numbers, wanted) in OF_STANDARDS {
         let item = in_percents(&rt, rt.alloc(), text);
-        assert_formats(&rt, rt.alloc(), &item, &moment(&rt, numbers), wanted);
+        assert_formats(&rt, rt.alloc(), &item, numbers, wanted);
     }
 }
 
 #[test]
 fn formats_as_gnu_date(rt: HostRuntime) {
-    let value = moment(&rt, ((2005, 1, 2), (3, 4, 5, 6_007_008), (9, 30, 0)));
+    let numbers = ((2005, 1, 2), (3, 4, 5, 6_007_008), (9, 30, 0));
     for &(text, wanted) in OF_DATE {
         let item = in_percents(&rt, rt.alloc(), text);
-        assert_formats(&rt, rt.alloc(), &item, &value, wanted);
+        assert_formats(&rt, rt.alloc(), &item, numbers, wanted);
     }
 }
 
@@ -149,19 +149,26 @@ fn formats_as_gnu_date(rt: HostRuntime) {
 fn formats_what_others_write_otherwise(rt: HostRuntime) {
     for &(text, numbers, wanted) in DECIDED {
         let item = in_percents(&rt, rt.alloc(), text);
-        assert_formats(&rt, rt.alloc(), &item, &moment(&rt, numbers), wanted);
+        assert_formats(&rt, rt.alloc(), &item, numbers, wanted);
     }
 }
 
 #[test]
-fn says_what_is_wrong_and_where(rt: HostRuntime) -> Result<(), AllocError> {
+fn says_what_is_wrong_and_where(rt: HostRuntime) {
     for &(text, wanted) in REFUSED {
         match parse_strftime_owned(rt.alloc(), text.as_bytes()) {
             Ok(_) => panic!(rt; "{text}"),
-            Err(error) => assert_eq!(rt; format!(in rt.alloc(); "{error}")?.as_str(), wanted),
+            Err(error) => assert_displays(&rt, rt.alloc(), &error, wanted),
         }
     }
-    Ok(())
+}
+
+/// The error of a text, if it is no description.
+fn error_of(alloc: Global, text: &[u8]) -> Option<InvalidStrftime> {
+    match parse_strftime_owned(alloc, text) {
+        Ok(_) => None,
+        Err(error) => Some(error),
+    }
 }
 
 #[test]
@@ -176,13 +183,13 @@ fn answers_a_megabyte(rt: HostRuntime) -> Result<(), AllocError> {
     ] {
         let text = repeated(rt.alloc(), bytes, 1_000_000 / bytes.len())?;
         assert_eq!(rt;
-            parse_strftime_owned(rt.alloc(), &text).err(),
+            error_of(rt.alloc(), &text),
             Some(InvalidStrftime::Invalid { reason, index })
         );
     }
     for bytes in [b"x".as_slice(), b"\xff", b"\n"] {
         let text = repeated(rt.alloc(), bytes, 1_000_000)?;
-        assert!(rt; parse_strftime_owned(rt.alloc(), &text).is_ok());
+        assert_eq!(rt; error_of(rt.alloc(), &text), None);
     }
     Ok(())
 }

@@ -3,79 +3,92 @@
 use std::alloc::{AllocError, Global};
 use std::convert::TryFrom;
 use std::default::Default;
+use std::fmt::Display;
 use std::process::Abort;
 use time_below::format_description::OwnedFormatItem;
 use time_below::{Date, Month, OffsetDateTime, Time, UtcOffset};
 use time_describe::{parse_owned, parse_strftime_owned};
-use time_fmt::{ComponentProvider, Formattable};
+use time_fmt::{DateState, Formattable};
 
 /// The local date of a year, a month and a day, the time of an hour, a minute, a second and a nanosecond, and the
 /// offset of hours, minutes and seconds.
 pub(crate) type Numbers = ((i32, u8, u8), (u8, u8, u8, u32), (i8, i8, i8));
 
-/// A moment by its numbers.
-pub(crate) fn moment(
-    rt: &impl Abort,
+/// 1997-11-12 9:55:06.12 -6:00, a Wednesday.
+pub(crate) const WEDNESDAY: Numbers = ((1997, 11, 12), (9, 55, 6, 120_000_000), (-6, 0, 0));
+
+/// The moment of the numbers, if there is one.
+fn moment_of(
     ((year, month, day), (hour, minute, second, nanosecond), (hours, minutes, seconds)): Numbers,
-) -> OffsetDateTime {
+) -> Option<OffsetDateTime> {
     let Ok(month) = Month::try_from(month) else {
-        panic!(rt; "no month");
+        return None;
     };
     let Ok(date) = Date::from_calendar_date(year, month, day) else {
-        panic!(rt; "no day");
+        return None;
     };
     let Ok(time) = Time::from_hms_nano(hour, minute, second, nanosecond) else {
-        panic!(rt; "no time");
+        return None;
     };
     let Ok(offset) = UtcOffset::from_hms(hours, minutes, seconds) else {
-        panic!(rt; "no offset");
+        return None;
     };
-    OffsetDateTime::new_in_offset(date, time, offset)
+    Some(OffsetDateTime::new_in_offset(date, time, offset))
 }
 
-/// 1997-11-12 9:55:06.12 -6:00, a Wednesday.
-pub(crate) fn wednesday(rt: &impl Abort) -> OffsetDateTime {
-    moment(rt, ((1997, 11, 12), (9, 55, 6, 120_000_000), (-6, 0, 0)))
-}
-
-/// The description in brackets that a text is.
-pub(crate) fn in_brackets(rt: &impl Abort, alloc: Global, text: &str) -> OwnedFormatItem {
-    match parse_owned(alloc, text.as_bytes()) {
-        Ok(item) => item,
-        Err(error) => panic!(rt; "{text}: {}", error.in_text(text.as_bytes())),
+/// A moment by its numbers.
+pub(crate) fn moment(rt: &impl Abort, numbers: Numbers) -> OffsetDateTime {
+    match moment_of(numbers) {
+        Some(moment) => moment,
+        None => panic!(rt; "no moment"),
     }
 }
 
-/// The description in the syntax of strftime that a text is.
-pub(crate) fn in_percents(rt: &impl Abort, alloc: Global, text: &str) -> OwnedFormatItem {
-    match parse_strftime_owned(alloc, text.as_bytes()) {
+/// The description that was read, of a text that is one.
+fn taken<E: Display>(
+    rt: &impl Abort,
+    read: Result<OwnedFormatItem, E>,
+    text: &str,
+) -> OwnedFormatItem {
+    match read {
         Ok(item) => item,
         Err(error) => panic!(rt; "{text}: {error}"),
     }
 }
 
-/// So many times the same bytes.
-pub(crate) fn repeated(alloc: Global, bytes: &[u8], times: usize) -> Result<Vec<u8>, AllocError> {
-    let mut text = Vec::new(alloc);
-    for _ in 0..times {
-        text.extend_from_slice(bytes)?;
-    }
-    Ok(text)
+/// The description in brackets that a text is.
+pub(crate) fn in_brackets(rt: &impl Abort, alloc: Global, text: &str) -> OwnedFormatItem {
+    taken(rt, parse_owned(alloc, text.as_bytes()), text)
 }
 
-/// Compares what a description formats with a text.
-pub(crate) fn assert_formats<V: ComponentProvider>(
+/// The description in the syntax of strftime that a text is.
+pub(crate) fn in_percents(rt: &impl Abort, alloc: Global, text: &str) -> OwnedFormatItem {
+    taken(rt, parse_strftime_owned(alloc, text.as_bytes()), text)
+}
+
+/// So many times the same bytes.
+pub(crate) fn repeated(alloc: Global, bytes: &[u8], times: usize) -> Result<Vec<u8>, AllocError> {
+    bytes.repeat(alloc, times)
+}
+
+/// Compares what a description formats of a moment with a text.
+pub(crate) fn assert_formats(
     rt: &impl Abort,
     alloc: Global,
     item: &OwnedFormatItem,
-    value: &V,
+    numbers: Numbers,
     wanted: &str,
-)
-where
-    V::State: Drop,
-{
-    match item.format(alloc, value, &mut V::State::default()) {
+) {
+    match item.format(alloc, &moment(rt, numbers), &mut DateState::default()) {
         Ok(text) => assert_eq!(rt; text.as_str(), wanted),
         Err(refusal) => panic!(rt; "{wanted}: {refusal}"),
+    }
+}
+
+/// Compares what is displayed with a text.
+pub(crate) fn assert_displays<D: Display>(rt: &impl Abort, alloc: Global, shown: &D, wanted: &str) {
+    match format!(in alloc; "{shown}") {
+        Ok(text) => assert_eq!(rt; text.as_str(), wanted),
+        Err(_) => panic!(rt; "{wanted}: no memory"),
     }
 }

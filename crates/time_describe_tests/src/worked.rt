@@ -1,5 +1,5 @@
 //! Descriptions in brackets, and the texts that standards and the documentation of `time` give for them.
-use crate::texts::{Numbers, assert_formats, in_brackets, moment, wednesday};
+use crate::texts::{Numbers, WEDNESDAY, assert_formats, in_brackets};
 
 /// Examples of RFC 3339 (5.8), RFC 2822 (A.1.1), RFC 9110 (5.6.7) and ISO 8601 (week date, ordinal date).
 const OF_STANDARDS: &[(&str, Numbers, &str)] = &[
@@ -82,24 +82,23 @@ const OF_SYNTAX: &[(&str, &str)] = &[
 fn formats_the_examples_of_standards(rt: HostRuntime) {
     for &(text, numbers, wanted) in OF_STANDARDS {
         let item = in_brackets(&rt, rt.alloc(), text);
-        assert_formats(&rt, rt.alloc(), &item, &moment(&rt, numbers), wanted);
+        assert_formats(&rt, rt.alloc(), &item, numbers, wanted);
     }
 }
 
 #[test]
 fn formats_the_examples_of_time(rt: HostRuntime) {
-    let value = moment(&rt, ((2020, 1, 2), (3, 4, 5, 0), (6, 7, 8)));
+    let numbers = ((2020, 1, 2), (3, 4, 5, 0), (6, 7, 8));
     for &(text, wanted) in OF_TIME {
         let item = in_brackets(&rt, rt.alloc(), text);
-        assert_formats(&rt, rt.alloc(), &item, &value, wanted);
+        assert_formats(&rt, rt.alloc(), &item, numbers, wanted);
     }
 }
 
 #[test]
 fn formats_literals_and_lists(rt: HostRuntime) {
-    let value = wednesday(&rt);
     for &(text, wanted) in OF_SYNTAX {
         let item = in_brackets(&rt, rt.alloc(), text);
-        assert_formats(&rt, rt.alloc(), &item, &value, wanted);
+        assert_formats(&rt, rt.alloc(), &item, WEDNESDAY, wanted);
     }
 }
