@@ -103,11 +103,11 @@ extern "C" {
     pub(crate) fn movaliren_format_local(items: *const Item, items_len: usize, texts: *const u8, texts_len: usize, seconds: i64, nanosecond: u32, offset: i64, room: *mut u8, room_len: usize) -> isize;
     pub(crate) fn movaliren_format_date(items: *const Item, items_len: usize, texts: *const u8, texts_len: usize, year: i32, month: u8, day: u8, room: *mut u8, room_len: usize) -> isize;
     pub(crate) fn movaliren_width(items: *const Item, items_len: usize, texts: *const u8, texts_len: usize) -> isize;
-    pub(crate) fn movaliren_describe(text: *const u8, text_len: usize, items: *mut Item, items_len: usize, fault: *mut Fault) -> isize;
     pub(crate) fn movaliren_format_length(items: *const Item, items_len: usize, texts: *const u8, texts_len: usize, moment: *const Moment) -> isize;
     pub(crate) fn movaliren_format_utc_length(items: *const Item, items_len: usize, texts: *const u8, texts_len: usize, seconds: i64, nanosecond: u32) -> isize;
     pub(crate) fn movaliren_format_local_length(items: *const Item, items_len: usize, texts: *const u8, texts_len: usize, seconds: i64, nanosecond: u32, offset: i64) -> isize;
     pub(crate) fn movaliren_format_date_length(items: *const Item, items_len: usize, texts: *const u8, texts_len: usize, year: i32, month: u8, day: u8) -> isize;
+    pub(crate) fn movaliren_describe(text: *const u8, text_len: usize, items: *mut Item, items_len: usize, fault: *mut Fault) -> isize;
     pub(crate) fn movaliren_describe_strftime(text: *const u8, text_len: usize, items: *mut Item, items_len: usize, fault: *mut Fault) -> isize;
     pub(crate) fn movaliren_brackets_utc(text: *const u8, text_len: usize, seconds: i64, nanosecond: u32, room: *mut u8, room_len: usize) -> isize;
     pub(crate) fn movaliren_brackets_local(text: *const u8, text_len: usize, seconds: i64, nanosecond: u32, offset: i64, room: *mut u8, room_len: usize) -> isize;
