@@ -3,8 +3,8 @@
 
     tools/compare_strftime.py [--patterns N] [--seed N] [--program FILE]
 
-The program is crates/strftime_lines, which `rt run` there proves and builds. These are compared, each over random
-patterns and random moments with a nanosecond and an offset:
+The program is `strftime_lines.rt.in` beside this file, which is proved and built in a copy of the repository unless it is
+given. These are compared, each over random patterns and random moments with a nanosecond and an offset:
 
 - glibc's strftime in the C locale, N patterns over the years 1000 to 9999. It has no %N and no %:z, and its %s reads
   the local zone, so the script replaces these by sums of its own.
@@ -21,13 +21,19 @@ import argparse
 import ctypes
 import datetime
 import os
+import pathlib
 import random
 import re
+import shutil
 import subprocess
 import sys
 import tempfile
 
-TOP = os.path.dirname(os.path.dirname(os.path.abspath(__file__)))
+TOP = pathlib.Path(__file__).resolve().parent.parent
+sys.path.insert(0, str(TOP / "bench"))
+import run
+
+LIBRARIES = "time_below time_digits time_provide time_fmt time_describe jiff_core jiff_strtime"
 NUMBERS = "CdegGHIjklmMsSuUVwWyY"
 COMPOSED = {"c": "%a %b %e %H:%M:%S %Y", "D": "%m/%d/%y", "F": "%Y-%m-%d", "r": "%I:%M:%S %p", "R": "%H:%M",
             "T": "%H:%M:%S", "x": "%m/%d/%y", "X": "%H:%M:%S"}
@@ -287,17 +293,34 @@ def without(*left_out):
     return [it for it in PLAIN + FLAGGED if it not in left_out]
 
 
+def program(folder):
+    """The program that formats lines, over a copy of the repository in the folder."""
+    run.copied(folder)
+    sources = folder / "crates/strftime_lines/src"
+    sources.mkdir(parents=True)
+    shutil.copy(TOP / "tools/strftime_lines.rt.in", sources / "main.rt")
+    with open(folder / "crates.txt", "a", encoding="utf-8") as crates:
+        crates.write(f"strftime_lines: {LIBRARIES}\n")
+    return run.built(folder, "strftime_lines")
+
+
 def main():
     parser = argparse.ArgumentParser()
     parser.add_argument("--patterns", type=int, default=200_000)
     parser.add_argument("--seed", type=int, default=1)
-    parser.add_argument("--program", default=f"{TOP}/crates/strftime_lines/out/strftime_lines")
+    parser.add_argument("--program")
     arguments = parser.parse_args()
+    with tempfile.TemporaryDirectory() as folder:
+        return compare(arguments, arguments.program or program(pathlib.Path(folder)))
+
+
+def compare(arguments, formatter):
+    """The exit status."""
     rng = random.Random(arguments.seed)
     good = []
 
     cases = [(random_tokens(rng, PLAIN + FLAGGED), Moment(rng, 1000, 9999)) for _ in range(arguments.patterns)]
-    told = answers(arguments.program, cases)
+    told = answers(formatter, cases)
     tally = Tally("glibc's strftime, years 1000 to 9999")
     for case, (ours, _) in zip(cases, told):
         tally.take(case, ours, by_glibc(*case))
@@ -313,14 +336,14 @@ def main():
 
     wrong = [(changed(rng, tokens), m) for tokens, m in cases[:arguments.patterns // 10]]
     tally = Tally("a second reader, patterns with changed bytes")
-    for case, (ours, _) in zip(wrong, answers(arguments.program, wrong)):
+    for case, (ours, _) in zip(wrong, answers(formatter, wrong)):
         why = refusal(case[0][0].encode())
         tally.take(case, ours if isinstance(ours, str) else "ok", f"no {why}" if why else "ok")
     good.append(tally.end("whether, why and where each is refused"))
 
     early = [(random_tokens(rng, without("%c")), Moment(rng, 0, 999)) for _ in range(1000)]
     tally = Tally("GNU date, years 0 to 999")
-    for case, (ours, _) in zip(early, answers(arguments.program, early)):
+    for case, (ours, _) in zip(early, answers(formatter, early)):
         tally.take(case, ours, by_date(*case))
     good.append(tally.end("without %c"))
 
