@@ -21,5 +21,5 @@ returns-in-Ok-clause-appends g c =
       c.iso_week_number.ensures.value,
       weekday,
       c.time_of.ensures.time,
-      c.offset_of-offset.ensures.fields,
+      c.offset_of-offset.ensures.offset,
     ) at c.append.ensures.writes))
