@@ -1,4 +1,4 @@
-use Rattle.std.proofs.Common.{map, length}
+use Rattle.std.proofs.Common.{length}
 use Rattle.movaliren_c.specs.Items.{trees_of}
 use Rattle.movaliren_c.proofs.DescribedLemmas.{SoFar}
 use Rattle.movaliren_c.proofs.described.put_items.Given as goal
