@@ -24,7 +24,8 @@ pub trait Source: Copy {
         ensures { result ≡ given self item.now };
 }
 
-/// The value of an item for a description.
+/// The value of an item for a description. More than one caller would else call it.
+#[inline(always)]
 pub fn provided<S: Source>(source: S, item: &S::Item) -> Result<OffsetDateTime, Reason>
     ensures { result ≡ S.given source item.now }
 {
