@@ -4,7 +4,8 @@
 The prover holds a body to the contracts of what it calls, so edits whose functions are apart (edits.py) are made in one
 copy of the crate, and the check's line of each function tells its own reason from a call of a refused one. Each edit of a
 joined check that does not tell is tried alone. A check of the unedited crate adds what a copy of
-crates/NAME/out/incremental lacks, and all others start from copies of that. The last line is `N passed, M failed`.
+crates/NAME/out/incremental lacks, and all others start from copies of that. After a proof that left all of it there, that
+check proves nothing anew, and `--proved` leaves it out. The last line is `N passed, M failed`.
 """
 import argparse
 import concurrent.futures
@@ -65,9 +66,12 @@ def tried_all(crate, given):
     told += [(False, f"{it.label}: BAD EDIT: {it.why}") for it in edits if it.why]
     edits = [it for it in edits if not it.why]
     with tempfile.TemporaryDirectory(prefix="kept-") as kept, concurrent.futures.ThreadPoolExecutor() as pool:
-        if os.path.isdir(f"{crate.folder}/out/incremental"):
+        is_kept = os.path.isdir(f"{crate.folder}/out/incremental")
+        if is_kept:
             shutil.copytree(f"{crate.folder}/out/incremental", kept, dirs_exist_ok=True)
-        found, why = refused(crate, set().union(*(it.functions for it in edits)), {}, kept, given) if edits else ((), "")
+        found, why = (), ""
+        if edits and not (given.proved and is_kept):
+            found, why = refused(crate, set().union(*(it.functions for it in edits)), {}, kept, given)
         if found or why:
             return told + [(False, f"{it.label}: the unedited crate is not proved: {why or sorted(found)}") for it in edits]
         return sum(pool.map(lambda it: tried(crate, it, kept, given), groups_of(crate, edits)), told)
@@ -77,6 +81,7 @@ def main():
     words = argparse.ArgumentParser(description="At the top of a repository whose libraries stand in crates/*/out:")
     words.add_argument("--edits", default=".", help="the top of the repository that has must-fail/, where it is another")
     words.add_argument("--lanes", type=lambda it: threading.BoundedSemaphore(int(it)), default="1", help="how many checks run side by side")
+    words.add_argument("--proved", action="store_true", help="the crates that have out/incremental were proved since they were changed")
     words.add_argument("crates", nargs="*")
     given = words.parse_args()
     rt.rtlib.RATTLE = os.environ.get("RATTLE", rt.rtlib.RATTLE)
