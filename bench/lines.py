@@ -30,18 +30,18 @@ PLAIN = "no number is here, {1}, so this passes\n"
 # What is asked for, what a line is, the most instructions that it should cost, and the limit: what it cost when the
 # limit was set, and a twentieth more.
 ROWS = [
-    ("`unix`, RFC 3339", ["unix"], LINE, 300, 370),
-    ("`unix --offset +05:30`", ["unix", "--offset", "+05:30"], LINE, None, 426),
-    ("`unix --zone Europe/Berlin`", ["unix", "--zone", "Europe/Berlin"], LINE, None, 450),
+    ("`unix`, RFC 3339", ["unix"], LINE, 300, 303),
+    ("`unix --offset +05:30`", ["unix", "--offset", "+05:30"], LINE, None, 353),
+    ("`unix --zone Europe/Berlin`", ["unix", "--zone", "Europe/Berlin"], LINE, None, 369),
     ("`unix rfc2822`", ["unix", "rfc2822"], LINE, None, 393),
     ("`unix iso8601`", ["unix", "iso8601"], LINE, None, 562),
     ("`unix '%Y-%m-%d %H:%M:%S'`", ["unix", "%Y-%m-%d %H:%M:%S"], LINE, 520, 435),
     ("`unix '[year]-[month]-[day] [hour]:[minute]:[second]'`",
      ["unix", "[year]-[month]-[day] [hour]:[minute]:[second]"], LINE, 520, 435),
-    ("`unix`, the number inside", ["unix"], AUDIT, 500, 547),
-    ("`unix`, no number", ["unix", "-q"], PLAIN, None, 202),
-    ("`read '%H:%M:%S'`", ["read", "%H:%M:%S"], DOCKER, 600, 744),
-    ("`read --zone Europe/Berlin`", ["read", "--zone", "Europe/Berlin"], DOCKER, 600, 916),
+    ("`unix`, the number inside", ["unix"], AUDIT, 500, 481),
+    ("`unix`, no number", ["unix", "-q"], PLAIN, None, 200),
+    ("`read '%H:%M:%S'`", ["read", "%H:%M:%S"], DOCKER, 600, 693),
+    ("`read --zone Europe/Berlin`", ["read", "--zone", "Europe/Berlin"], DOCKER, 600, 736),
     ("`now`", ["now"], PLAIN, 120, 120),
 ]
 

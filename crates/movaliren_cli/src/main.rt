@@ -10,6 +10,7 @@ mod description;
 mod offset;
 mod place;
 mod say;
+mod texts;
 mod zone;
 
 use arguments::{Asked, Clock, Job};
@@ -21,10 +22,11 @@ use say::{fail, refuse, say_passed};
 use std::default::Default;
 use std::env;
 use std::process::ExitCode;
-use time_fmt::Formattable;
+use texts::{ByDescription, Rfc3339ByDay, Texts};
 use time_fmt::parts::UNIX_TIMESTAMP;
-use time_known::{Iso8601, Rfc2822, Rfc3339};
-use time_lines::{AtOffset, InPlace, InUtc, NowJob, ReadJob, Shown, UnixJob};
+use time_known::{Iso8601, Rfc2822};
+use time_lines::{AtOffset, InUtc, NowJob, ReadJob, Shown, UnixJob};
+use time_read::LenientReader;
 
 /// Does the job for each line of standard input.
 fn run_job<J: LineJob>(rt: &HostRuntime, job: &mut J) -> Result<(), FilterError> {
@@ -66,61 +68,47 @@ fn run<S: Shown + Drop>(rt: &HostRuntime, asked: &Asked, shown: S) -> ExitCode {
             end(rt, asked, outcome, job.passed)
         }
         Job::Read => {
-            let mut job = ReadJob { shown, passed: 0 };
+            let mut job = ReadJob {
+                shown,
+                reader: LenientReader::new(),
+                passed: 0,
+            };
             let outcome = run_job(rt, &mut job);
             end(rt, asked, outcome, job.passed)
         }
     }
 }
 
-/// Runs by a description, at the clock of a place.
-fn run_by<F: Formattable + Drop>(rt: &HostRuntime, asked: &Asked, description: F) -> ExitCode {
+/// Runs by these texts, at the clock that is asked for.
+fn run_by<T: Texts + Drop>(rt: &HostRuntime, asked: &Asked, texts: T) -> ExitCode {
     match asked.clock {
-        Clock::Utc => run(rt, asked, InUtc { description }),
+        Clock::Utc => texts.run_in_utc(rt, asked),
         Clock::Offset(text) => match offset::read(text) {
-            Some(offset) => run(
-                rt,
-                asked,
-                InPlace {
-                    description,
-                    place: AtOffset { offset },
-                },
-            ),
+            Some(offset) => texts.run_in(rt, asked, AtOffset { offset }),
             None => refuse(
                 rt,
                 "'--offset' takes an offset such as +05:30, -0800 or Z, at most 25:59:59",
             ),
         },
         Clock::Zone(name) => match zone::read_named(rt, name) {
-            Ok(table) => run_in(rt, asked, description, TimeZone::Tzif(&table)),
+            Ok(table) => texts.run_in(rt, asked, ZoneClock::new(TimeZone::Tzif(&table))),
             Err(fault) => say::refuse_zone(rt, name, fault),
         },
-        Clock::Local => run_local(rt, asked, description),
+        Clock::Local => run_local(rt, asked, texts),
     }
 }
 
-/// Runs by a description in a zone.
-fn run_in<F: Formattable + Drop>(
-    rt: &HostRuntime,
-    asked: &Asked,
-    description: F,
-    zone: TimeZone<'_>,
-) -> ExitCode {
-    let place = ZoneClock::new(zone);
-    run(rt, asked, InPlace { description, place })
-}
-
-/// Runs by a description in the zone of the system.
-fn run_local<F: Formattable + Drop>(rt: &HostRuntime, asked: &Asked, description: F) -> ExitCode {
+/// Runs by these texts in the zone of the system.
+fn run_local<T: Texts + Drop>(rt: &HostRuntime, asked: &Asked, texts: T) -> ExitCode {
     let system = match SystemTimeZone::read(rt) {
         Ok(system) => system,
         Err(fault) => return say::refuse_local(rt, fault),
     };
     let none = TimeZoneDatabase::new(rt.alloc());
     match system.time_zone(&none) {
-        Ok(found) => run_in(rt, asked, description, found),
+        Ok(found) => texts.run_in(rt, asked, ZoneClock::new(found)),
         Err(ZoneError::TimeZoneNotFound) => match zone::read_system(rt, &system) {
-            Ok(table) => run_in(rt, asked, description, TimeZone::Tzif(&table)),
+            Ok(table) => texts.run_in(rt, asked, ZoneClock::new(TimeZone::Tzif(&table))),
             Err(fault) => say::refuse_local(rt, fault),
         },
         Err(fault) => say::refuse_local(rt, fault),
@@ -130,9 +118,9 @@ fn run_local<F: Formattable + Drop>(rt: &HostRuntime, asked: &Asked, description
 /// Finds the description that is asked for, and runs by it.
 fn run_described(rt: &HostRuntime, asked: &Asked) -> ExitCode {
     match asked.description {
-        "rfc3339" => run_by(rt, asked, Rfc3339),
-        "rfc2822" => run_by(rt, asked, Rfc2822),
-        "iso8601" => run_by(rt, asked, Iso8601::default()),
+        "rfc3339" => run_by(rt, asked, Rfc3339ByDay),
+        "rfc2822" => run_by(rt, asked, ByDescription(Rfc2822)),
+        "iso8601" => run_by(rt, asked, ByDescription(Iso8601::default())),
         "stamp" => run(
             rt,
             asked,
@@ -148,7 +136,7 @@ fn run_described(rt: &HostRuntime, asked: &Asked) -> ExitCode {
             },
         ),
         text => match description::plan_of(rt.alloc(), text) {
-            Ok(plan) => run_by(rt, asked, plan),
+            Ok(plan) => run_by(rt, asked, ByDescription(plan)),
             Err(refusal) => say::refuse_description(rt, text, refusal),
         },
     }

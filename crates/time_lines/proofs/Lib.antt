@@ -1,3 +1,4 @@
+pub mod DayLemmas
 pub mod DigitLemmas
 pub mod NumberLemmas
 pub mod ReadLemmas

@@ -5,8 +5,7 @@ use Rattle.std.proofs.lemmas.List.{drop-drop, get_or-drop, take-append-drop}
 use Rattle.line_streams.specs.Filter.{Adds}
 use Rattle.line_streams.proofs.LinesLemmas.{slice-end}
 use Rattle.time_lines.specs.Shown.{Replaces, bytes_of}
-use Rattle.std.proofs.lemmas.List.Folds.{length-prefix_len}
-use Rattle.std.proofs.lemmas.List.Sums.{prefix_len-drop_yes, prefix_len_passes}
+use Rattle.std.proofs.lemmas.List.Sums.{prefix_len_passes}
 use Rattle.std.specs.Char.{is_ascii_digit}
 use Rattle.std.specs.Str.Parse.{digits_value}
 use Rattle.time_below.specs.Moment.{Moment, IsMoment}

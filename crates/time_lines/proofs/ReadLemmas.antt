@@ -1,5 +1,5 @@
 -- Where a text of RFC 3339 ends.
-use Rattle.std.proofs.Common.{ℕ, ◌≡◌, ◌≢◌, ◌+◌, ◌-◌, ◌<◌, ◌≤◌, ◌⊎◌, ◌==◌, Bool, true, false, List, [], ◌∷◌, ◌++◌, length, take, drop, get_or, inl, inr, refl, sym, ap, subst, ◌∙◌, append_assoc, append-nil, length-append, arith}
+use Rattle.std.proofs.Common.{ℕ, ◌≡◌, ◌+◌, ◌<◌, ◌≤◌, ◌⊎◌, ◌==◌, Bool, true, false, List, [], ◌∷◌, ◌++◌, length, take, drop, get_or, inl, inr, refl, sym, ap, subst, ◌∙◌, append_assoc, length-append, arith}
 use Rattle.std.proofs.Math.Seq.{drop-append_seam}
 use Rattle.std.proofs.lemmas.List.{drop_at, get_or-take, length-take, take-append-drop}
 use Rattle.std.proofs.lemmas.Bool.{cases_lt}
@@ -8,42 +8,22 @@ use Rattle.std.proofs.lemmas.List.Sums.{prefix_len_is}
 use Rattle.std.proofs.lemmas.Str.Parse.{digit_at}
 use Rattle.std.specs.Char.{is_ascii_digit}
 use Rattle.std.specs.Int.{IsInRange}
-use Rattle.std.specs.List.{prefix_len}
-use Rattle.std.specs.Prelude.{codes, if◌then◌else◌}
+use Rattle.std.specs.Prelude.{codes}
 use Rattle.std.specs.Str.Parse.{AllDigits}
-use Rattle.time_known.specs.Parts.{ClockTime, MonthDate, SignedOffset}
-use Rattle.time_known.specs.Rfc3339Grammar.{ColonMinute, FullDate, TimeOffset, WholeTime}
-use Rattle.time_known.specs.Rules.{Rule, Digits, Literal, ◌▹◌}
-use Rattle.time_known.specs.Values.{OffsetDateAndTime, Offset, OrdinalDate, TimeOfDay}
+use Rattle.time_known.specs.Parts.{SignedOffset}
+use Rattle.time_known.specs.Rfc3339Grammar.{ColonMinute, TimeOffset, WholeTime}
+use Rattle.time_known.specs.Values.{OffsetDateAndTime, Offset, TimeOfDay}
 use Rattle.time_known.proofs.Rules.Texts.{length-concatenation}
 use Rattle.time_read.specs.Lenient.{EitherT, IsOffsetFor, MeansOffset, MeansSecfrac, Rfc3339Means}
 use Rattle.time_read.specs.Shapes.{sign_byte}
 use Rattle.time_read.specs.declared.fault.Profile.TheVariants as profile
 use Rattle.time_read.proofs.OffsetEnds.{numbers_are}
 use Rattle.time_read.proofs.Tails.{AreDecimals, decimals_of}
+use Rattle.time_read.proofs.UsualLemmas.{date_length}
 use Rattle.time_lines.specs.Number.{digit_count}
 use Rattle.time_lines.specs.Read.{NoText, NoTextBefore, offset_length, tail_length, text_length}
 
 -- ---- the parts of a text have these lengths
-
-date_length : (d : OrdinalDate) (text : List ℕ) → FullDate d text → length text ≡ 10
-date_length d text h =
-    let s = h.spelled in
-    let t = s.second in
-    let u = t.second in
-    let v = u.second in
-    omega (
-      arith,
-      length-concatenation s,
-      length-concatenation t,
-      length-concatenation u,
-      length-concatenation v,
-      s.first.spelled.count,
-      ap length t.first,
-      u.first.count,
-      ap length v.first,
-      v.second.count,
-    )
 
 clock_length : (c : TimeOfDay) (text : List ℕ) → WholeTime c text → length text ≡ 8
 clock_length c text h =

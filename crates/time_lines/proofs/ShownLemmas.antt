@@ -5,7 +5,7 @@ use Rattle.time_below.specs.Moment.{Moment}
 use Rattle.time_below.specs.Offset.{Offset}
 use Rattle.time_fmt.specs.Outcome.{Outcome}
 use Rattle.time_lines.specs.Now.{NowBecomes}
-use Rattle.time_lines.specs.Number.{Number, number_at, number_start}
+use Rattle.time_lines.specs.Number.{number_start}
 use Rattle.time_lines.specs.Read.{ReadBecomes}
 use Rattle.time_lines.specs.Shown.{Replaces, SameShown, ShowsAt}
 use Rattle.time_lines.specs.Unix.{StartBecomes, UnixBecomes}

@@ -1,3 +1,4 @@
+pub mod Day
 pub mod Now
 pub mod Number
 pub mod Read

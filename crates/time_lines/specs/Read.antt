@@ -1,5 +1,5 @@
 -- What a line becomes whose first text of RFC 3339 is read.
-use Rattle.std.specs.Prelude.{ℕ, ◌≡◌, ◌+◌, ◌<◌, ◌≤◌, ◌⊎◌, List, [], ◌∷◌, Option, Bool, ◌||◌, ◌==◌, length, take, drop, if◌then◌else◌}
+use Rattle.std.specs.Prelude.{ℕ, ◌≡◌, ◌+◌, ◌<◌, ◌≤◌, ◌⊎◌, List, [], ◌∷◌, Option, ◌||◌, ◌==◌, length, take, drop, if◌then◌else◌}
 use Rattle.time_below.specs.Moment.{Moment, OffsetDateAndTime, IsMoment, local_unix_seconds}
 use Rattle.time_lines.specs.Number.{digit_count}
 use Rattle.time_lines.specs.Shown.{Replaces}

@@ -1,6 +1,7 @@
 //! Lines in which moments are written as text: what a line becomes, as jobs of `line_streams`.
 #![tactic(auto)]
 
+mod day;
 mod now;
 mod number;
 mod read;
@@ -8,8 +9,9 @@ mod runs;
 mod shown;
 mod unix;
 
+pub use day::Rfc3339InPlace;
 pub use now::NowJob;
 pub use number::Unit;
 pub use read::ReadJob;
-pub use shown::{AtOffset, InPlace, InUtc, Place, Shown};
+pub use shown::{AtOffset, InPlace, InUtc, Place, Shown, Utc};
 pub use unix::UnixJob;

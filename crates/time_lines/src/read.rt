@@ -12,13 +12,14 @@ use crate::unix::{append_bytes, count_passed};
 use line_streams::{FilterError, LineJob};
 use std::alloc::AllocError;
 use time_below::{OffsetDateTime, Timestamp};
-use time_read::rfc3339::read_lenient;
+use time_read::LenientReader;
 
 /// Replaces the first text of RFC 3339 of each line by what is shown of its moment. A line without one
 /// passes as it is, and is counted; so does one of whose moment nothing is shown.
 #[derive(Drop)]
 pub struct ReadJob<S: Shown + Drop> {
     pub shown: S,
+    pub reader: LenientReader,
     /// How many lines passed as they were.
     pub passed: u64,
 }
@@ -51,7 +52,7 @@ fn tail_length(text: &[u8]) -> usize
 }
 
 /// The text of RFC 3339 that this text begins with, if it does: how many bytes it has, and its value.
-fn text_here(text: &[u8]) -> Option<(usize, OffsetDateTime)>
+fn text_here(reader: &mut LenientReader, text: &[u8]) -> Option<(usize, OffsetDateTime)>
     ensures inside { IfSome result (λ r. r.0 ≤ length text.now) }
     ensures means { IfSome result (λ r. Rfc3339Means r.1 (take r.0 text.now)) }
     ensures none { IfNone result (NoText text.now) }
@@ -66,7 +67,7 @@ fn text_here(text: &[u8]) -> Option<(usize, OffsetDateTime)>
     if count > text.len() {
         return None;
     }
-    match read_lenient(&text[..count]) {
+    match reader.read(&text[..count]) {
         Ok(value) => Some((count, value)),
         Err(_) => None,
     }
@@ -81,13 +82,13 @@ struct FoundText {
 }
 
 /// The first text of RFC 3339 of the line, if it has one.
-fn first_text(line: &[u8]) -> Option<FoundText>
+fn first_text(reader: &mut LenientReader, line: &[u8]) -> Option<FoundText>
     ensures some { IfSome result (λ r. IsFirstText line.now r.at r.count r.value) }
     ensures inside { IfSome result (λ r. r.at ≤ length line.now) }
     ensures none { IfNone result (NoTextBefore line.now (length line.now)) }
 {
     for at in 0..line.len() {
-        if let Some((count, value)) = text_here(&line[at..]) {
+        if let Some((count, value)) = text_here(reader, &line[at..]) {
             return Some(FoundText { at, count, value });
         }
     }
@@ -146,7 +147,7 @@ impl<S: Shown + Drop> LineJob for ReadJob<S> {
     }
 
     fn append(&mut self, output: &mut Vec<u8>, line: &[u8]) -> Result<(), AllocError> {
-        let Some(found) = first_text(line) else {
+        let Some(found) = first_text(&mut self.reader, line) else {
             count_passed(&mut self.passed);
             output.extend_from_slice(line)?;
             return Ok(());

@@ -2,7 +2,7 @@
 ghost use Rattle.std.specs.Prelude.{◌≡◌, ◌↔◌, ℕ, List, Option, IfOk};
 ghost use Rattle.time_below.specs.Facts.{facts_of_timestamp};
 ghost use Rattle.time_below.specs.Moment.{Moment};
-ghost use Rattle.time_below.specs.Offset.{Offset};
+ghost use Rattle.time_below.specs.Offset.{Offset, utc};
 ghost use Rattle.time_lines.specs.Shown.{AppendsShown, SameShown, ShowsAt, text_of};
 
 use std::alloc::AllocError;
@@ -34,6 +34,22 @@ pub trait Place {
         ensures offset { has_offset self.old moment.now result };
 }
 
+/// The place whose clock is that of UTC.
+#[derive(Clone, Copy)]
+pub struct Utc;
+
+impl Place for Utc {
+    ghost has_offset = { λ _ _ o. o ≡ utc };
+
+    #[inline(always)]
+    fn offset_at(&mut self, _moment: &Timestamp) -> UtcOffset {
+        match UtcOffset::from_hms(0, 0, 0) {
+            Ok(utc) => utc,
+            Err(_) => unreachable!(),
+        }
+    }
+}
+
 /// A place with one offset.
 #[derive(Clone, Copy)]
 pub struct AtOffset {
@@ -50,7 +66,7 @@ impl Place for AtOffset {
 
 /// Appends the text of a value, or nothing where the description refuses it, and says whether it has one.
 #[inline(always)]
-fn append_text<F: Formattable, V: ComponentProvider>(
+pub(crate) fn append_text<F: Formattable, V: ComponentProvider>(
     description: &F,
     output: &mut Vec<u8>,
     value: &V,

@@ -8,7 +8,10 @@ use std::time::{Clock, Duration};
 use time_below::UtcOffset;
 use time_fmt::parts::UNIX_TIMESTAMP;
 use time_known::{Rfc2822, Rfc3339};
-use time_lines::{AtOffset, InPlace, InUtc, NowJob, ReadJob, Unit, UnixJob};
+use time_lines::{
+    AtOffset, InPlace, InUtc, NowJob, ReadJob, Rfc3339InPlace, Shown, Unit, UnixJob, Utc,
+};
+use time_read::LenientReader;
 
 /// What a line becomes.
 fn assert_becomes<J: LineJob>(
@@ -180,6 +183,85 @@ fn the_clock_of_a_place_is_shown(rt: HostRuntime) -> Result<(), Fail> {
     Ok(())
 }
 
+/// Lines of days that follow each other and come again, so that a day is kept, and what they become in UTC
+/// and 14 hours west of it. Those of the year 10000 pass.
+const DAYS: &[(&[u8], &[u8], &[u8])] = &[
+    (
+        b"1700006399\n",
+        b"2023-11-14T23:59:59Z\n",
+        b"2023-11-14T09:59:59-14:00\n",
+    ),
+    (
+        b"1700006400.5\n",
+        b"2023-11-15T00:00:00.5Z\n",
+        b"2023-11-14T10:00:00.5-14:00\n",
+    ),
+    (
+        b"1700006399.999999999\n",
+        b"2023-11-14T23:59:59.999999999Z\n",
+        b"2023-11-14T09:59:59.999999999-14:00\n",
+    ),
+    (
+        b"-100000000\n",
+        b"1966-10-31T14:13:20Z\n",
+        b"1966-10-31T00:13:20-14:00\n",
+    ),
+    (
+        b"-100000801\n",
+        b"1966-10-31T13:59:59Z\n",
+        b"1966-10-30T23:59:59-14:00\n",
+    ),
+    (
+        b"253402300799\n",
+        b"9999-12-31T23:59:59Z\n",
+        b"9999-12-31T09:59:59-14:00\n",
+    ),
+    (
+        b"253402300800\n",
+        b"253402300800\n",
+        b"9999-12-31T10:00:00-14:00\n",
+    ),
+    (
+        b"1700006401\n",
+        b"2023-11-15T00:00:01Z\n",
+        b"2023-11-14T10:00:01-14:00\n",
+    ),
+];
+
+fn unix_job<S: Shown + Drop>(shown: S) -> UnixJob<S> {
+    UnixJob {
+        shown,
+        unit: Unit::Seconds,
+        least: 9,
+        passed: 0,
+    }
+}
+
+#[test]
+fn a_day_that_is_kept_changes_no_text(rt: HostRuntime) -> Result<(), Fail> {
+    let Ok(west) = UtcOffset::from_hms(-14, 0, 0) else {
+        return Ok(());
+    };
+    let mut in_utc = unix_job(Rfc3339InPlace::new(Utc));
+    let mut in_west = unix_job(Rfc3339InPlace::new(AtOffset { offset: west }));
+    for (line, utc, local) in DAYS {
+        assert_becomes(&rt, rt.alloc(), &mut in_utc, line, utc)?;
+        assert_becomes(&rt, rt.alloc(), &mut in_west, line, local)?;
+    }
+    Ok(())
+}
+
+#[test]
+fn an_offset_with_seconds_has_no_text(rt: HostRuntime) -> Result<(), Fail> {
+    let Ok(offset) = UtcOffset::from_hms(0, 0, 30) else {
+        return Ok(());
+    };
+    let mut job = unix_job(Rfc3339InPlace::new(AtOffset { offset }));
+    assert_becomes(&rt, rt.alloc(), &mut job, b"1700000000\n", b"1700000000\n")?;
+    assert!(rt; job.passed == 1);
+    Ok(())
+}
+
 /// Lines with a text of RFC 3339, and what they become by the seconds since 1970.
 const TEXTS: &[(&[u8], &[u8])] = &[
     (b"2023-11-14T22:13:20.123456789Z up\n", b"1700000000 up\n"),
@@ -188,6 +270,8 @@ const TEXTS: &[(&[u8], &[u8])] = &[
         b"at 1700000000: up\n",
     ),
     (b"2023-11-14T22:13:20z", b"1700000000"),
+    (b"2023-11-15T00:00:00Z\n", b"1700006400\n"),
+    (b"2023-11-14T23:59:59Z\n", b"1700006399\n"),
     (b"92023-11-14T22:13:20Z\n", b"91700000000\n"),
     (
         b"2023-11-31T22:13:20Z 2023-11-14T22:13:20Z\n",
@@ -205,6 +289,7 @@ fn the_first_text_is_replaced(rt: HostRuntime) -> Result<(), Fail> {
         shown: InUtc {
             description: UNIX_TIMESTAMP,
         },
+        reader: LenientReader::new(),
         passed: 0,
     };
     for (line, wanted) in TEXTS {

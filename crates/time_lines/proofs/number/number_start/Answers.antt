@@ -1,4 +1,4 @@
-use Rattle.std.proofs.Common.{◌≡◌, ◌-◌, ◌∙◌, ap, sym, length, false, arith}
+use Rattle.std.proofs.Common.{◌≡◌, ◌-◌, ◌∙◌, ap, sym, length, arith}
 use Rattle.time_lines.specs.Number.{begins, first_place}
 use Rattle.time_lines.proofs.NumberLemmas.{first_place-past_run}
 use Rattle.time_lines.proofs.number.number_start.Goals as goal

@@ -1,8 +1,7 @@
-use Rattle.std.proofs.Common.{ℕ, ◌+◌, ◌≤◌, ◌<◌, ◌≡◌, false, inl, inr, arith}
+use Rattle.std.proofs.Common.{inl, inr, arith}
 use Rattle.std.proofs.lemmas.Bool.{cases_lt}
 use Rattle.std.proofs.lemmas.Simd.{run_in_chunk_fails}
 use Rattle.std.specs.Char.{is_ascii_digit}
-use Rattle.time_lines.specs.Number.{is_digit_at}
 use Rattle.time_lines.proofs.number.past_blocks.Goals as goal
 
 pub returns-then-run-lt-LANES-clause-none : goal.returns-then-run-lt-LANES-clause-none

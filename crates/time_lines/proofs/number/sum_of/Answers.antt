@@ -1,5 +1,5 @@
 use Rattle.std.proofs.Common.{arith}
-use Rattle.time_lines.proofs.DigitLemmas.{DigitMore, one_more_digit}
+use Rattle.time_lines.proofs.DigitLemmas.{one_more_digit}
 use Rattle.time_lines.proofs.number.sum_of.Goals as goal
 
 pub overflow_mul-value : goal.overflow_mul-value

@@ -1,4 +1,4 @@
-use Rattle.std.proofs.Common.{◌≡◌, ◌+◌, ◌<◌, ◌∙◌, ap, sym, get_or, length, false, arith}
+use Rattle.std.proofs.Common.{◌≡◌, ◌+◌, ◌<◌, ◌∙◌, ap, get_or, length, false, arith}
 use Rattle.std.specs.Char.{is_ascii_digit}
 use Rattle.line_streams.proofs.LinesLemmas.{slice-end}
 use Rattle.time_lines.specs.Read.{tail_length, text_length}

@@ -1,6 +1,4 @@
-use Rattle.std.proofs.Common.{◌≤◌, arith, length}
-use Rattle.std.proofs.lemmas.List.Sums.{prefix_len-le-length}
-use Rattle.std.specs.Char.{is_ascii_digit}
+use Rattle.std.proofs.Common.{arith}
 use Rattle.time_lines.proofs.RunLemmas.{run_in_first, run_of_first}
 use Rattle.time_lines.proofs.runs.digit_count.Goals as goal
 

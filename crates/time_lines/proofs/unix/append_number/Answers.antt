@@ -1,5 +1,5 @@
 use Rattle.std.proofs.Common.{drop, inr, refl, sym, ◌≡◌, ◌∙◌}
-use Rattle.time_lines.specs.Number.{HasMoment, after_decimals, moment_of, number_at}
+use Rattle.time_lines.specs.Number.{HasMoment, moment_of, number_at}
 use Rattle.time_lines.proofs.DigitLemmas.{digits_of-all}
 use Rattle.time_lines.proofs.NumberLemmas.{digits_of_number, line_is_left, moment_is, number_has, number_has_none, rest_of_number, text_is_put}
 use Rattle.time_lines.proofs.unix.append_number.Goals as goal

@@ -1,0 +1,43 @@
+use Rattle.std.proofs.Common.{◌≡◌, ◌-◌, refl, ap, sym, subst, take, drop, length, to_z, of_z, w64, ◌∙◌}
+use Rattle.std.proofs.lemmas.Int.{to_z-of_z}
+use Rattle.time_below.specs.Moment.{IsTimestampSecond, OffsetDateAndTime, moved, utc_date}
+use Rattle.time_known.specs.Rfc3339.{rfc3339_of}
+use Rattle.time_lines.specs.Shown.{text_of}
+use Rattle.time_lines.proofs.DayLemmas.{BeginsWithDay, day_of_moment}
+use Rattle.time_lines.proofs.day.DayText.append_anew.Goals as goal
+use Rattle.time_lines.proofs.day.DayText.append_anew.Goals.{After-of-arg-1}
+
+-- the second by the clock at the offset
+second_is : (c : After-of-arg-1) → (moved c.args.moment.now c.args.offset).seconds ≡ to_z w64 (of_z w64 c.local_second.result)
+second_is c =
+    sym (to_z-of_z w64 c.local_second.result (record { sfits = c.local_second.type_inv }) ∙ c.local_second.ensures.second)
+
+-- what was written begins with the text of its day
+begins : (c : After-of-arg-1) → BeginsWithDay (utc_date (to_z w64 (of_z w64 c.local_second.result)))
+    (take (length c.deref.result.now - length c.as_slice-length.result.now) (drop (length c.as_slice-length.result.now) c.deref.result.now))
+begins c =
+    subst (λ z. BeginsWithDay (utc_date z) (take (length c.deref.result.now - length c.as_slice-length.result.now)
+    (drop (length c.as_slice-length.result.now) c.deref.result.now))) (second_is c)
+    (day_of_moment c.args.moment.now c.args.offset c.in-Some.local c.args.output.now.items c.append_text.new.output.items c.deref.result.now
+    (length c.as_slice-length.result.now) c.in_ok-has_text.has_text c.local_second.ensures.moment (c.in-Some.ensures.accepted.0 refl)
+    c.in-Some.ensures.value c.if-has_text.true c.in_ok-has_text.ensures c.deref.ensures.value (ap length c.as_slice-length.ensures.value))
+
+pub of-requires-clause-range : goal.of-requires-clause-range
+of-requires-clause-range c =
+    let range : IsTimestampSecond (moved c.args.moment.now c.args.offset).seconds = c.in-Some.ensures.accepted.0 refl in
+    subst IsTimestampSecond (second_is c) range
+
+pub of-requires-clause-year : goal.of-requires-clause-year
+of-requires-clause-year c = (begins c).year
+
+pub of-requires-clause-long : goal.of-requires-clause-long
+of-requires-clause-long c = (begins c).long
+
+pub of-requires-clause-text : goal.of-requires-clause-text
+of-requires-clause-text c = (begins c).front
+
+pub returns-then-has_text : goal.returns-then-has_text
+returns-then-has_text c =
+    let h = c.in_ok-has_text.ensures in
+    let is = subst (λ (v : OffsetDateAndTime). h.0 ≡ text_of (rfc3339_of v)) c.in-Some.ensures.value h.1 in
+    (h.0, (λ _. is, λ none. absurd (none (c.in-Some.ensures.accepted.0 refl, c.local_second.ensures.moment.1))), h.2, h.3)
