@@ -86,6 +86,10 @@ pub(crate) fn accepted_year_of_week<V: ComponentProvider>(
         (unsigned_abs (the_offset (V.facts value.now)).hours)
         (unsigned_abs (the_offset (V.facts value.now)).seconds) text ≡ done text) }
     ensures year { IfOk result (λ y. y ≡ unsigned_abs (the_date (V.facts value.now)).iso_year) }
+    ensures refused { IfErr result (λ out. (text : List ℕ)
+        → checked_text 0 25 (the_date (V.facts value.now)).iso_year
+        (unsigned_abs (the_offset (V.facts value.now)).hours)
+        (unsigned_abs (the_offset (V.facts value.now)).seconds) text ≡ refused_for out) }
     ensures agrees { AgreesOnDate (V.agrees state.new value.now) (V.facts value.now) }
 {
     let year = value.iso_year(state).get();
