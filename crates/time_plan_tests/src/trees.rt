@@ -3,7 +3,6 @@ use crate::texts::{DAY, MONTH, YEAR, assert_text};
 use std::test::Fail;
 use time_below::format_description::{
     BorrowedFormatItem as Borrowed, FormatDescriptionV3, FormatDescriptionV3Inner as Inner,
-    OwnedFormatItem as Owned,
 };
 use time_plan::Plan;
 
@@ -29,22 +28,9 @@ fn a_borrowed_tree_has_its_text(rt: HostRuntime) -> Result<(), Fail> {
 
 #[test]
 fn an_owned_tree_has_its_text(rt: HostRuntime) -> Result<(), Fail> {
-    let alloc = rt.alloc();
-    let date = vec![in alloc;
-        Owned::Component(YEAR),
-        Owned::StringLiteral(String::from_str(alloc, "/")?),
-        Owned::Component(MONTH),
-    ]?;
-    let items = vec![in alloc;
-        Owned::Compound(date),
-        Owned::Literal(b"/".to_vec(alloc)?),
-        Owned::Optional(Box::new(alloc, Owned::Component(DAY))?),
-    ]?;
-    let plan = Plan::of(
-        alloc,
-        &Owned::First(vec![in alloc; Owned::Compound(items)]?),
-    )?;
-    assert_text(&rt, alloc, &plan, b"1997/11/12")
+    let text = b"[first [[year]\xff[month]/[optional [[day]]]] [[day]]]";
+    let plan = Plan::parse(rt.alloc(), text)?;
+    assert_text(&rt, rt.alloc(), &plan, b"1997\xff11/12")
 }
 
 #[test]

@@ -1,11 +1,10 @@
 -- Offsets at the end of a text, and where a text ends.
-use Rattle.std.proofs.Common.{◌≡◌, ◌≢◌, ℕ, zero, suc, ◌<◌, ◌≤◌, List, [], ◌∷◌, ◌++◌, length, length-append, get_or, drop}
-use Rattle.std.proofs.Common.{refl, sym, ap, ap₂, subst, ◌∙◌, arith, inl, inr, Bool, true, false, pos}
+use Rattle.std.proofs.Common.{◌≡◌, ◌≢◌, ℕ, zero, suc, ◌≤◌, List, [], ◌∷◌, ◌++◌, length, length-append, get_or, drop}
+use Rattle.std.proofs.Common.{refl, sym, ap, ap₂, subst, ◌∙◌, arith, inl, inr, Bool, true, false}
 use Rattle.std.specs.Prelude.{codes, if◌then◌else◌, ◌==◌}
 use Rattle.std.proofs.lemmas.Bool.Decides.{nat_tests}
 use Rattle.std.proofs.lemmas.List.{append-nil}
-use Rattle.time_below.specs.Offset.{signed, settled, signed_offset}
-use Rattle.time_below.proofs.OffsetLemmas.{IsOffset-signed_offset, only_settled}
+use Rattle.time_below.specs.Offset.{signed, signed_offset}
 use Rattle.time_digits.specs.Digits.{fixed}
 use Rattle.time_known.specs.Laws.{OneValue}
 use Rattle.time_known.specs.Parts.{SignedOffset}
