@@ -1,5 +1,6 @@
 pub mod AnswerLemmas
 pub mod BatchLemmas
+pub mod DateLemmas
 pub mod DescribedLemmas
 pub mod FlatLemmas
 pub mod ItemLemmas
