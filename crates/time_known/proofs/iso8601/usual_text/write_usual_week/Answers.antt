@@ -21,5 +21,5 @@ returns-in-Ok-clause-appends g c =
       c.iso_week_number.ensures.value,
       weekday,
       c.time_of.ensures.time,
-      c.offset_of-offset.ensures.offset,
+      c.offset_of-offset.ensures.fields,
     ) at c.append.ensures.writes))
