@@ -2,9 +2,12 @@
 use Rattle.std.specs.Prelude.{ℕ, ◌+◌, ◌*◌, length, List, [], codes, Option, Some, None, if◌then◌else◌}
 use Rattle.time_fmt.specs.Outcome.{Outcome, done, join}
 use Rattle.time_known.specs.Config.{Choices, has_date, has_time, has_offset, separator, DateKind, FormattedComponents}
-use Rattle.time_known.specs.Iso8601.{iso_time_text, iso_year, year_of_kind, rest_of_kind, rest_text, iso_offset}
+use Rattle.time_known.specs.Days.{month_and_day}
+use Rattle.time_known.specs.Fields.{offset_fields}
+use Rattle.time_known.specs.Iso8601.{iso_time_text, iso_year, year_of_kind, rest_of_kind, rest_text, iso_offset_of_fields}
 use Rattle.time_known.specs.Iso8601Width.{iso_offset_width, iso_time_width, year_width}
 use Rattle.time_known.specs.Values.{Facts, DateFacts, TimeOfDay, the_date, the_time, the_offset}
+use Rattle.time_known.specs.declared.days.CalendarDay.TheVariants as day
 use Rattle.time_known.specs.declared.iso8601.parts.DateParts.{DateParts}
 use Rattle.time_known.specs.declared.iso8601.parts.Parts.{Parts}
 use Rattle.time_known.specs.declared.iso8601.parts.RestOfDate.{RestOfDate}
@@ -20,11 +23,27 @@ abbrev pub parts_by : FormattedComponents → DateKind → Facts → Parts
 parts_by components kind f = record {
   date = if has_date components then Some (date_parts kind (the_date f)) else None;
   time = if has_time components then Some (the_time f) else None;
-  offset = if has_offset components then Some (the_offset f) else None;
+  offset = if has_offset components then Some (offset_fields (the_offset f)) else None;
 }
 
 abbrev pub chosen_parts : Choices → Facts → Parts
 chosen_parts c f = parts_by c.formatted_components c.date_kind f
+
+-- what follows the year, with the numbers of the month and the day in place of a day of a leap year
+abbrev pub shown_rest : RestOfDate → RestOfDate
+shown_rest (rest.MonthAndDay d) = rest.MonthAndDay (day.OfMonth (month_and_day d).month (month_and_day d).day)
+shown_rest (rest.WeekAndWeekday week weekday) = rest.WeekAndWeekday week weekday
+shown_rest (rest.DayOfYear number) = rest.DayOfYear number
+
+abbrev pub shown_date : DateParts → DateParts
+shown_date d = record { year = d.year; rest = shown_rest d.rest }
+
+abbrev pub shown_part : Option DateParts → Option DateParts
+shown_part None = None
+shown_part (Some d) = Some (shown_date d)
+
+abbrev pub shown_parts : Parts → Parts
+shown_parts p = record { date = shown_part p.date; time = p.time; offset = p.offset }
 
 -- ---- their texts
 
@@ -45,7 +64,7 @@ time_part_text c (Some t) = iso_time_text c t
 abbrev pub parts_text : Choices → Parts → Outcome
 parts_text c p =
     join (part_text (date_of_parts c) p.date)
-    (join (done (time_part_text c p.time)) (part_text (iso_offset c) p.offset))
+    (join (done (time_part_text c p.time)) (part_text (iso_offset_of_fields c) p.offset))
 
 -- ---- their widths
 

@@ -4,13 +4,11 @@ ghost use Rattle.std.specs.Int.{IsInRange};
 ghost use Rattle.time_below.specs.Calendar.{days_in_year, is_leap_year};
 ghost use Rattle.time_digits.specs.Digits.{zero_padded};
 ghost use Rattle.time_fmt.specs.DateText.{month_name, short_name};
-ghost use Rattle.time_known.specs.Days.{dash, day_of_leap_year, month_and_day_in};
+ghost use Rattle.time_known.specs.Days.{dash, day_of_leap_year, month_and_day, month_and_day_in};
 
 use crate::pieces::piece;
-use std::marker::Model;
-use time_below::is_leap_year;
-use time_digits::ru16;
-use time_provide::ranges::{Ordinal, Year};
+use time_digits::{ru8, ru16, two_digits_zero_padded};
+use time_provide::ranges::{Day, Ordinal, Year};
 
 // Two digits of the month and two of the day, a space and the month's name, of each day of a leap year:
 // eight bytes a day. A common year has all of these but 29 February.
@@ -86,71 +84,68 @@ const ORDINALS: &str = "\
 -341-342-343-344-345-346-347-348-349-350-351-352-353-354-355-356-357-358-359-360\
 -361-362-363-364-365-366";
 
-/// The month and the day of a date, by the day of a leap year that has both.
+/// The month and the day of a date, by what is at hand.
 #[derive(Clone, Copy)]
-pub struct CalendarDay {
-    in_leap_year: Ordinal,
-}
-
-impl Model for CalendarDay {
-    ghost use Rattle.std.proofs.Common.{ap, refl};
-    ghost use Rattle.std.proofs.Math.Nat.{le_of_sub-eq-zero};
-    ghost use Rattle.std.specs.Prelude.{true, pos, ◌+◌, ◌-◌};
-    ghost use Rattle.std.specs.Int.{IsInRange};
-    ghost use Rattle.time_below.specs.Calendar.{OrdinalDate, days_of_months};
-    ghost use Rattle.time_below.proofs.MonthLemmas.{date_of-month_and_day};
-    ghost use Rattle.time_known.specs.Days.{MonthAndDay, month_and_day_in};
-
-    ghost Value = { MonthAndDay };
-
-    ghost view = { λ d. month_and_day_in true d.in_leap_year };
-
-    ghost invariant = { λ d. IsInRange 1 366 d.in_leap_year };
-
-    ghost inverse = { λ m. record { in_leap_year = days_of_months true (m.month - 1) + m.day } };
-
-    // The year 0 is a leap year.
-    ghost inverse_ok = { λ d h. ap (λ (o : OrdinalDate). record { in_leap_year = o.ordinal })
-        (date_of-month_and_day (record { year = pos 0; ordinal = d.in_leap_year })
-        (le_of_sub-eq-zero refl, h)) };
+pub enum CalendarDay {
+    /// Those of this day of a leap year.
+    OfLeapYear(Ordinal),
+    /// These.
+    OfMonth {
+        /// The month, 1 to 12.
+        month: ru8<1, 12>,
+        /// The day of the month.
+        day: Day,
+    },
 }
 
 impl CalendarDay {
-    /// The month and the day of a day of this year. Neither is computed: the table has both.
+    /// The month and the day of a day of this year. None of them is computed: the table has both.
     #[inline(always)]
     #[tactic(auto, using(crate::proofs::DayLemmas::days_of_years))]
     pub fn in_year(year: Year, ordinal: Ordinal) -> CalendarDay
         requires { IsInRange 1 (days_in_year year) ordinal }
-        ensures { result ≡ month_and_day_in (is_leap_year year) ordinal }
+        ensures { month_and_day result ≡ month_and_day_in (is_leap_year year) ordinal }
     {
-        CalendarDay {
-            in_leap_year: day_of_leap_year(is_leap_year(year.get()), ordinal),
-        }
+        CalendarDay::OfLeapYear(day_of_leap_year(is_leap_year(year.get()), ordinal))
     }
 
     // Two digits of the month, and two of the day.
     #[inline]
     #[tactic(auto, using(crate::proofs::DayLemmas::digits_of_days))]
     pub(crate) fn digits(self) -> (&'static str, &'static str)
-        ensures month { result.0.now ≡ zero_padded 2 self.month }
-        ensures day { result.1.now ≡ zero_padded 2 self.day }
+        ensures month { result.0.now ≡ zero_padded 2 (month_and_day self).month }
+        ensures day { result.1.now ≡ zero_padded 2 (month_and_day self).day }
         ensures month_length { length result.0.now ≡ 2 }
         ensures day_length { length result.1.now ≡ 2 }
     {
-        let row = 8 * (self.in_leap_year.get() as usize - 1);
-        (piece(DAYS, row, 2), piece(DAYS, row + 2, 2))
+        match self {
+            CalendarDay::OfLeapYear(day) => {
+                let row = 8 * (day.get() as usize - 1);
+                (piece(DAYS, row, 2), piece(DAYS, row + 2, 2))
+            }
+            CalendarDay::OfMonth { month, day } => (
+                two_digits_zero_padded(month.expand()),
+                two_digits_zero_padded(day.expand()),
+            ),
+        }
     }
 
     // The first letter of the month's English name, and the next two.
     #[inline]
     #[tactic(auto, using(crate::proofs::DayLemmas::names_of_days))]
     pub(crate) fn month_letters(self) -> (&'static str, &'static str)
-        ensures text { result.0.now ++ result.1.now ≡ short_name (month_name self.month) }
+        ensures text { result.0.now ++ result.1.now
+            ≡ short_name (month_name (month_and_day self).month) }
         ensures first { length result.0.now ≡ 1 }
         ensures rest { length result.1.now ≡ 2 }
     {
-        let row = 8 * (self.in_leap_year.get() as usize - 1);
-        (piece(DAYS, row + 5, 1), piece(DAYS, row + 6, 2))
+        match self {
+            CalendarDay::OfLeapYear(day) => {
+                let row = 8 * (day.get() as usize - 1);
+                (piece(DAYS, row + 5, 1), piece(DAYS, row + 6, 2))
+            }
+            CalendarDay::OfMonth { month, day: _ } => month_letters(month),
+        }
     }
 }
 
@@ -170,6 +165,18 @@ pub(crate) fn ordinal_digits(day: Ordinal, has_dash: bool) -> (&'static str, &'s
     }
 }
 
+// Whether a year is a leap year.
+#[inline(always)]
+fn is_leap_year(year: i32) -> bool
+    ensures { result ≡ is_leap_year year }
+{
+    if year % 25 == 0 {
+        year % 16 == 0
+    } else {
+        year % 4 == 0
+    }
+}
+
 // The day of a leap year with the same month and day.
 #[inline(always)]
 fn day_of_leap_year(is_leap: bool, ordinal: Ordinal) -> Ordinal
@@ -181,5 +188,28 @@ fn day_of_leap_year(is_leap: bool, ordinal: Ordinal) -> Ordinal
         ordinal
     } else {
         ru16::within(number + 1)
+    }
+}
+
+// The first letter of the month's English name, and the next two.
+#[inline]
+fn month_letters(month: ru8<1, 12>) -> (&'static str, &'static str)
+    ensures text { result.0.now ++ result.1.now ≡ short_name (month_name month) }
+    ensures first { length result.0.now ≡ 1 }
+    ensures rest { length result.1.now ≡ 2 }
+{
+    match month.get() {
+        1 => ("J", "an"),
+        2 => ("F", "eb"),
+        3 => ("M", "ar"),
+        4 => ("A", "pr"),
+        5 => ("M", "ay"),
+        6 => ("J", "un"),
+        7 => ("J", "ul"),
+        8 => ("A", "ug"),
+        9 => ("S", "ep"),
+        10 => ("O", "ct"),
+        11 => ("N", "ov"),
+        _ => ("D", "ec"),
     }
 }

@@ -1,6 +1,7 @@
 //! RFC 2822.
 ghost use Rattle.std.specs.Prelude.{true};
 ghost use Rattle.time_below.specs.Weekday.{days_from_monday};
+ghost use Rattle.time_known.specs.Fields.{shown};
 ghost use Rattle.time_known.specs.Longest.{FillsRfc2822Width};
 ghost use Rattle.time_known.specs.ReadBack.{ReadsAs};
 ghost use Rattle.time_known.specs.Rfc2822.{rfc2822_of_fields, rfc2822_outcome, named_date_of_fields, day_of_fields};
@@ -80,7 +81,7 @@ pub struct Rfc2822Text {
 impl Text for Rfc2822Text {
     ghost width = { λ _. rfc2822_width };
 
-    ghost text = { λ t. rfc2822_of_fields (days_from_monday t.weekday) t.fields };
+    ghost text = { λ t. rfc2822_of_fields (days_from_monday t.weekday) (shown t.fields) };
 
     #[inline(always)]
     fn put_into<S: Sink>(&self, output: &mut S) {
@@ -88,7 +89,7 @@ impl Text for Rfc2822Text {
         output.put(" ");
         put_clock(output, self.fields.time, ":");
         output.put(" ");
-        put_signed_offset(output, self.fields.offset, "");
+        put_signed_offset(output, &self.fields.offset, "");
     }
 }
 
@@ -98,7 +99,7 @@ impl Text for Rfc2822Text {
 fn put_named_date<S: Sink>(output: &mut S, weekday: Weekday, fields: &Fields)
     requires room { Fits named_date_width (S.buffer output.old) }
     ensures puts { PutsUpTo named_date_width (S.buffer output.old) (S.buffer output.new)
-        (named_date_of_fields (days_from_monday weekday) fields.now) }
+        (named_date_of_fields (days_from_monday weekday) (shown fields.now)) }
 {
     put_weekday_name(output, weekday);
     output.put(", ");
@@ -111,7 +112,7 @@ fn put_named_date<S: Sink>(output: &mut S, weekday: Weekday, fields: &Fields)
 fn put_day<S: Sink>(output: &mut S, fields: &Fields)
     requires room { Fits date_width (S.buffer output.old) }
     ensures puts { PutsUpTo date_width (S.buffer output.old) (S.buffer output.new)
-        (day_of_fields fields.now) }
+        (day_of_fields (shown fields.now)) }
 {
     let (_, day) = fields.date.digits();
     output.put(day);

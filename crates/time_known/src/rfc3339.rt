@@ -1,5 +1,6 @@
 //! RFC 3339.
 ghost use Rattle.std.specs.Prelude.{true};
+ghost use Rattle.time_known.specs.Fields.{shown};
 ghost use Rattle.time_known.specs.Longest.{FillsRfc3339Width};
 ghost use Rattle.time_known.specs.ReadBack.{ReadsAs};
 ghost use Rattle.time_known.specs.Rfc3339.{rfc3339_of_fields, rfc3339_outcome, rfc3339_width};
@@ -76,7 +77,7 @@ pub struct Rfc3339Text {
 impl Text for Rfc3339Text {
     ghost width = { λ _. rfc3339_width };
 
-    ghost text = { λ t. rfc3339_of_fields t.fields };
+    ghost text = { λ t. rfc3339_of_fields (shown t.fields) };
 
     #[inline(always)]
     fn put_into<S: Sink>(&self, output: &mut S) {
@@ -84,7 +85,7 @@ impl Text for Rfc3339Text {
         output.put("T");
         put_clock(output, self.fields.time, ":");
         put_time_secfrac(output, self.fields.time);
-        put_offset(output, self.fields.offset, ":");
+        put_offset(output, &self.fields.offset, ":");
     }
 }
 

@@ -9,7 +9,7 @@ use Rattle.time_known.specs.Iso8601.{iso8601_outcome, iso8601_outcome_of, iso_da
 use Rattle.time_known.specs.Iso8601.{iso_time_text}
 use Rattle.time_known.specs.Iso8601Parts.{chosen_parts, date_parts, date_parts_width}
 use Rattle.time_known.specs.Iso8601Parts.{parts_by, parts_text, parts_width}
-use Rattle.time_known.specs.Iso8601Parts.{rest_width}
+use Rattle.time_known.specs.Iso8601Parts.{rest_width, shown_parts}
 use Rattle.time_known.specs.Iso8601Width.{iso8601_width, iso8601_width_of, iso_date_width}
 use Rattle.time_known.specs.Iso8601Width.{width_after_year, year_width}
 use Rattle.time_known.specs.Values.{Facts, DateFacts, the_date, the_time}
@@ -73,16 +73,31 @@ pub chosen_width : (c : Choices) (f : Facts) → c.formatted_components ≢ comp
     → parts_width c (chosen_parts c f) ≡ iso8601_width c
 chosen_width c f some = width_by c.formatted_components c f some
 
+-- the numbers of the month and the day give the same text and width
+abbrev AreSame : Choices → Parts → Type 0
+AreSame c p = (parts_text c (shown_parts p) ≡ parts_text c p) × (parts_width c (shown_parts p) ≡ parts_width c p)
+
+same_rest : (c : Choices) (p : Parts) (year : ℤ) (r : RestOfDate)
+    → AreSame c (record p { date = Some (record { year = year; rest = r }) })
+same_rest c p year (rest.MonthAndDay d) = (refl, refl)
+same_rest c p year _ = (refl, refl)
+
+same_parts : (c : Choices) (p : Parts) → AreSame c p
+same_parts c p = at p.date where
+  at : (d : Option DateParts) → AreSame c (record p { date = d })
+  at None = (refl, refl)
+  at (Some d) = same_rest c p d.year d.rest
+
 -- the width of the parts is that of the choices
 pub by_parts_width : (c : Choices) (f : Facts) (p : Parts) → c.formatted_components ≢ components.None
-    → p ≡ chosen_parts c f → parts_width c p ≡ iso8601_width c
-by_parts_width c f p some e = ap (parts_width c) e ∙ chosen_width c f some
+    → shown_parts p ≡ chosen_parts c f → parts_width c p ≡ iso8601_width c
+by_parts_width c f p some e = sym (same_parts c p).1 ∙ ap (parts_width c) e ∙ chosen_width c f some
 
 -- what holds of the width and the text of the parts holds of those of the choices
 pub by_parts : (c : Choices) (f : Facts) (p : Parts) (Holds : ℕ → Outcome → Type 0)
     → has_groups (groups_of c.formatted_components) f ≡ true → c.formatted_components ≢ components.None
-    → p ≡ chosen_parts c f → Holds (parts_width c p) (parts_text c p)
+    → shown_parts p ≡ chosen_parts c f → Holds (parts_width c p) (parts_text c p)
     → Holds (iso8601_width c) (iso8601_outcome c f)
 by_parts c f p Holds there some e h =
-    let text = ap (parts_text c) e ∙ sym (chosen_text c f there some) in
+    let text = sym (same_parts c p).0 ∙ ap (parts_text c) e ∙ sym (chosen_text c f there some) in
     subst (Holds (iso8601_width c)) text (subst (λ (n : ℕ). Holds n (parts_text c p)) (by_parts_width c f p some e) h)

@@ -7,7 +7,7 @@ ghost use Rattle.time_provide.specs.Real.{AgreesOnDate, AreReal};
 ghost use Rattle.time_known.specs.Config.{groups_of};
 ghost use Rattle.time_known.specs.Groups.{are_supplied};
 ghost use Rattle.time_known.specs.Iso8601.{iso8601_outcome, iso_date, iso_time};
-ghost use Rattle.time_known.specs.Iso8601Parts.{chosen_parts, date_parts, parts_text, parts_width};
+ghost use Rattle.time_known.specs.Iso8601Parts.{chosen_parts, date_parts, parts_text, parts_width, shown_date, shown_parts};
 ghost use Rattle.time_known.specs.Iso8601Width.{iso8601_width, iso_date_width, iso_time_width};
 ghost use Rattle.time_known.specs.Sink.{Fits};
 ghost use Rattle.time_known.specs.Accepted.{AppendsAllOrNone, AppendsOrRefuses, PutsOutcome};
@@ -15,14 +15,14 @@ ghost use Rattle.time_known.specs.Ways.{FitsWay};
 
 use crate::accepted::OutOfRange;
 use crate::days::CalendarDay;
-use crate::fields::{offset_of, time_of};
+use crate::fields::{OffsetFields, offset_of, time_of};
 use crate::iso8601::config::{Config, DateKind, FormattedComponents, Way};
 use crate::iso8601::date::{put_date_part, write_date_by};
 use crate::iso8601::offset::put_offset_part;
 use crate::iso8601::time::{put_time_part, write_time};
 use crate::iso8601::usual_text::{write_usual, write_usual_week};
 use crate::sink::Sink;
-use time_below::{Time, UtcOffset};
+use time_below::Time;
 use time_digits::ru8;
 use time_fmt::Format;
 use time_fmt::writers::{put_back, take_out};
@@ -62,7 +62,7 @@ pub struct Parts {
     /// The time of day.
     pub time: Option<Time>,
     /// The offset.
-    pub offset: Option<UtcOffset>,
+    pub offset: Option<OffsetFields>,
 }
 
 /// Puts the parts, one after another, up to what has no place.
@@ -101,7 +101,7 @@ pub(super) fn date_of<V: ComponentProvider>(
 ) -> DateParts
     requires supplied { IsTrue V.SUPPLIES_DATE }
     requires agrees { V.agrees state.old value.now }
-    ensures parts { result ≡ date_parts kind (the_date (V.facts value.now)) }
+    ensures parts { shown_date result ≡ date_parts kind (the_date (V.facts value.now)) }
     ensures agrees { AgreesOnDate (V.agrees state.new value.now) (V.facts value.now) }
 {
     match kind {
@@ -133,13 +133,13 @@ pub(super) fn date_of<V: ComponentProvider>(
     }
 }
 
-/// The parts of the value that the configuration formats.
+// The fields of the parts that are formatted.
 #[inline(always)]
-pub fn parts_of<V: ComponentProvider>(config: &Config, value: &V, state: &mut V::State) -> Parts
+fn parts_of<V: ComponentProvider>(config: &Config, value: &V, state: &mut V::State) -> Parts
     requires supplied { IsTrue (are_supplied (groups_of config.now.formatted_components)
         V.SUPPLIES_DATE V.SUPPLIES_TIME V.SUPPLIES_OFFSET) }
     requires agrees { V.agrees state.old value.now }
-    ensures parts { result ≡ chosen_parts config.now (V.facts value.now) }
+    ensures parts { shown_parts result ≡ chosen_parts config.now (V.facts value.now) }
     ensures real { config.now.formatted_components ≡ FormattedComponents.DateTimeOffset
         → AreReal (V.facts value.now) }
     ensures agrees { V.agrees state.new value.now }

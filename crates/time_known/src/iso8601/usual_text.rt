@@ -8,7 +8,7 @@ ghost use Rattle.time_fmt.specs.Outcome.{AppendsUpTo};
 ghost use Rattle.time_fmt.specs.Room.{HasRoom};
 ghost use Rattle.time_provide.specs.Real.{AreReal};
 ghost use Rattle.time_known.specs.Accepted.{AppendsAllOrNone};
-ghost use Rattle.time_known.specs.Fields.{date_of_fields, offset_text};
+ghost use Rattle.time_known.specs.Fields.{date_of_fields, offset_of_fields, shown};
 ghost use Rattle.time_known.specs.Groups.{AreAllSupplied, at_groups};
 ghost use Rattle.time_known.specs.Iso8601.{decimal_part, iso_of_groups, rest_text};
 ghost use Rattle.time_known.specs.Iso8601Width.{decimal_part_width, iso8601_width};
@@ -18,7 +18,7 @@ ghost use Rattle.time_known.specs.UsualText.{usual_choices, usual_of_fields, usu
 
 use crate::accepted::OutOfRange;
 use crate::fields::{
-    Fields, accepted_fields, accepted_year_of_week, offset_of, time_of,
+    Fields, OffsetFields, accepted_fields, accepted_year_of_week, offset_of, time_of,
 };
 use crate::iso8601::config::{Config, DecimalSign, Usual};
 use crate::iso8601::date::put_week;
@@ -29,7 +29,7 @@ use crate::put::{
     put_date, put_four_digits, put_nine_digits, put_offset, put_six_decimals, put_three_decimals,
 };
 use crate::sink::{Sink, Text, append};
-use time_below::{Time, UtcOffset};
+use time_below::Time;
 use time_digits::{ru8, ru16, single_digit};
 use time_provide::ComponentProvider;
 use time_provide::ranges::{IsoWeekNumber, Nanoseconds};
@@ -87,7 +87,7 @@ pub(super) fn write_usual_week<V: ComponentProvider>(
     ensures agrees { V.agrees state.new value.now }
 {
     let offset = offset_of(value);
-    match accepted_year_of_week(offset, value, state) {
+    match accepted_year_of_week(&offset, value, state) {
         Ok(year) => {
             let text = WeekText {
                 usual: *usual,
@@ -116,7 +116,7 @@ impl Text for UsualText {
 
     ghost text = { λ t. usual_of_fields
         (usual_choices t.usual.has_separators t.usual.decimal_digits t.usual.decimal_sign)
-        t.usual.decimal_digits t.fields };
+        t.usual.decimal_digits (shown t.fields) };
 
     #[inline(always)]
     fn put_into<S: Sink>(&self, output: &mut S) {
@@ -136,7 +136,7 @@ struct WeekText {
     week: IsoWeekNumber,
     weekday: ru8<1, 7>,
     time: Time,
-    offset: UtcOffset,
+    offset: OffsetFields,
 }
 
 impl Text for WeekText {
@@ -172,7 +172,7 @@ impl Text for SeparatedText {
 
     ghost text = { λ t. usual_of_fields
         (usual_choices true t.usual.decimal_digits t.usual.decimal_sign)
-        t.usual.decimal_digits t.fields };
+        t.usual.decimal_digits (shown t.fields) };
 
     #[inline(always)]
     fn put_into<S: Sink>(&self, output: &mut S) {
@@ -190,7 +190,7 @@ pub struct StampText {
 impl Text for StampText {
     ghost width = { λ _. stamp_length };
 
-    ghost text = { λ t. stamp_of_fields t.fields };
+    ghost text = { λ t. stamp_of_fields (shown t.fields) };
 
     #[inline(always)]
     fn put_into<S: Sink>(&self, output: &mut S) {
@@ -219,14 +219,14 @@ fn put_usual<S: Sink>(output: &mut S, usual: &Usual, fields: &Fields, dash: &str
         + decimal_part_width usual.now.decimal_digits) (S.buffer output.old) }
     ensures puts { PutsUpTo (20 + 2 * length dash.now + 3 * length colon.now
         + decimal_part_width usual.now.decimal_digits) (S.buffer output.old) (S.buffer output.new)
-        (date_of_fields dash.now fields.now
+        (date_of_fields dash.now (shown fields.now)
         ++ usual_time_text colon.now usual.now.decimal_sign usual.now.decimal_digits
         fields.now.time
-        ++ offset_text colon.now fields.now.offset) }
+        ++ offset_of_fields colon.now fields.now.offset) }
 {
     put_date(output, fields, dash);
     put_usual_time(output, usual, fields.time, colon);
-    put_offset(output, fields.offset, colon);
+    put_offset(output, &fields.offset, colon);
 }
 
 // Puts the date by week and weekday, the time and the offset with these separators.
@@ -239,11 +239,11 @@ fn put_usual_week<S: Sink>(output: &mut S, text: &WeekText, dash: &str, colon: &
         ((zero_padded 4 text.now.year ++ rest_text dash.now (RestOfDate.WeekAndWeekday text.now.week text.now.weekday))
         ++ usual_time_text colon.now text.now.usual.decimal_sign text.now.usual.decimal_digits
         text.now.time
-        ++ offset_text colon.now text.now.offset) }
+        ++ offset_of_fields colon.now text.now.offset) }
 {
     put_week_date(output, text, dash);
     put_usual_time(output, &text.usual, text.time, colon);
-    put_offset(output, text.offset, colon);
+    put_offset(output, &text.offset, colon);
 }
 
 // Puts four digits of the year, the week and the weekday.

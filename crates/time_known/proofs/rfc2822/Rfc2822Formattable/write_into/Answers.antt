@@ -1,7 +1,7 @@
 use Rattle.std.proofs.Common.{ap, sym, ◌∙◌, arith, rules, ℕ, unsigned_abs}
 use Rattle.time_fmt.specs.Outcome.{Outcome}
 use Rattle.time_fmt.proofs.WriteLemmas.{appends_nothing, appends_up_to}
-use Rattle.time_known.specs.Fields.{fields}
+use Rattle.time_known.specs.Fields.{fields, shown}
 use Rattle.time_known.specs.Groups.{at_groups}
 use Rattle.time_known.specs.Rfc2822.{rfc2822_of_fields, rfc2822_of_groups}
 use Rattle.time_known.specs.Values.{the_date, the_offset}
@@ -28,7 +28,7 @@ returns-in-Ok g c =
     let completed = outcome_of_all f all rfc2822_of_groups ∙ sym hours ∙ c.in-Ok.ensures.accepted text in
     record {
       appends = rw completed (appends_up_to (written_as (rfc2822_of_fields (the_date f).weekday) c.in-Ok.ensures.fields
-          (written_as (λ (weekday : ℕ). rfc2822_of_fields weekday c.in-Ok.fields)
+          (written_as (λ (weekday : ℕ). rfc2822_of_fields weekday (shown c.in-Ok.fields))
           c.weekday-weekday.ensures.value c.append.ensures.writes)));
       spelled = reads_as rfc2822_of_groups (completed_are_canonical rfc2822_is_written) f all c.in-Ok.ensures.real
           (ap (λ (o : Outcome). o.refusal) completed);
