@@ -2,7 +2,6 @@
 ghost use Rattle.std.specs.Prelude.{◌≡◌, ◌↔◌, IsTrue};
 ghost use Rattle.std.specs.Int.{IsInRange};
 ghost use Rattle.time_below.specs.Calendar.{IsYear, IsDayOfMonth, month_of, day_of};
-ghost use Rattle.time_below.specs.Month.{month_number};
 ghost use Rattle.movaliren_c.specs.Value.{date_value};
 
 use crate::reason::Reason;
@@ -39,27 +38,6 @@ impl Model for CalendarDate {
     } };
 }
 
-/// The month of a number from 1 to 12.
-fn month_of(number: u8) -> Month
-    requires { IsInRange 1 12 number }
-    ensures { month_number result ≡ number }
-{
-    match number {
-        1 => Month::January,
-        2 => Month::February,
-        3 => Month::March,
-        4 => Month::April,
-        5 => Month::May,
-        6 => Month::June,
-        7 => Month::July,
-        8 => Month::August,
-        9 => Month::September,
-        10 => Month::October,
-        11 => Month::November,
-        _ => Month::December,
-    }
-}
-
 /// Whether the month of that year has the day. Each month has 28 days.
 #[inline(always)]
 fn has_day(year: i32, month: u8, day: u8) -> bool
@@ -70,7 +48,7 @@ fn has_day(year: i32, month: u8, day: u8) -> bool
     if day <= 28 {
         return day != 0;
     }
-    Date::from_calendar_date(year, month_of(month), day).is_ok()
+    day <= Month::from_number(month).length(year)
 }
 
 impl CalendarDate {
@@ -134,9 +112,6 @@ impl CalendarDate {
     pub fn date(self) -> Date
         ensures { result ≡ self }
     {
-        match Date::from_calendar_date(self.year, month_of(self.month), self.day) {
-            Ok(date) => date,
-            Err(_) => unreachable!(),
-        }
+        Date::from_valid_calendar_date(self.year, Month::from_number(self.month), self.day)
     }
 }

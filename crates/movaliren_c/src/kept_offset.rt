@@ -129,7 +129,7 @@ impl KeptOffset {
     pub fn offset(&self) -> UtcOffset
         ensures { result ≡ self.now }
     {
-        offset_of(self.hours, self.minutes, self.seconds)
+        UtcOffset::from_valid_hms(self.hours, self.minutes, self.seconds)
     }
 }
 
@@ -151,15 +151,4 @@ fn is_alike(first: i8, second: i8) -> bool
     ensures sign { IsTrue result → HasNoOtherSign first second }
 {
     second == 0 || first == 0 || (first < 0) == (second < 0)
-}
-
-/// The offset of parts of one sign.
-fn offset_of(hours: i8, minutes: i8, seconds: i8) -> UtcOffset
-    requires { IsOffset (record { hours = hours; minutes = minutes; seconds = seconds }) }
-    ensures { result ≡ record { hours = hours; minutes = minutes; seconds = seconds } }
-{
-    match UtcOffset::from_hms(hours, minutes, seconds) {
-        Ok(offset) => offset,
-        Err(_) => unreachable!(),
-    }
 }

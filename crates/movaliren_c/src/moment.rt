@@ -78,13 +78,10 @@ impl LocalMoment {
     pub fn at_midnight(date: CalendarDate) -> LocalMoment
         ensures { result.date ≡ date }
     {
-        match Time::from_hms_nano(0, 0, 0, 0) {
-            Ok(time) => LocalMoment {
-                date,
-                time,
-                offset: KeptOffset::utc(),
-            },
-            Err(_) => unreachable!(),
+        LocalMoment {
+            date,
+            time: Time::from_valid_hms_nano(0, 0, 0, 0),
+            offset: KeptOffset::utc(),
         }
     }
 
@@ -101,6 +98,7 @@ impl LocalMoment {
     }
 
     /// Returns the value for the formatter.
+    #[inline(always)]
     pub fn provided(&self) -> OffsetDateTime
         ensures { result ≡ self.now }
     {
@@ -145,10 +143,12 @@ fn time_value(moment: &Moment) -> Result<Time, Reason>
     if moment.nanosecond > 999_999_999 {
         return Err(Reason::Nanosecond);
     }
-    match Time::from_hms_nano(moment.hour, moment.minute, moment.second, moment.nanosecond) {
-        Ok(time) => Ok(time),
-        Err(_) => unreachable!(),
-    }
+    Ok(Time::from_valid_hms_nano(
+        moment.hour,
+        moment.minute,
+        moment.second,
+        moment.nanosecond,
+    ))
 }
 
 /// The value of the parts, or the first part that is outside its range, in the order date, time,
