@@ -143,12 +143,7 @@ fn time_value(moment: &Moment) -> Result<Time, Reason>
     if moment.nanosecond > 999_999_999 {
         return Err(Reason::Nanosecond);
     }
-    Ok(Time::from_valid_hms_nano(
-        moment.hour,
-        moment.minute,
-        moment.second,
-        moment.nanosecond,
-    ))
+    Ok(Time::from_valid_hms_nano(moment.hour, moment.minute, moment.second, moment.nanosecond))
 }
 
 /// The value of the parts, or the first part that is outside its range, in the order date, time,

@@ -1,8 +1,8 @@
 -- What the syntax of strftime describes is literals and components alone.
-use Rattle.std.proofs.Common.{◌≡◌, ℕ, Bool, true, false, List, [], ◌∷◌, ◌++◌, Option, Some, None, refl, ◌∙◌, ap}
+use Rattle.std.proofs.Common.{◌≡◌, ℕ, Bool, true, false, List, [], ◌∷◌, ◌++◌, Option, Some, None, refl}
 use Rattle.std.specs.Prelude.{IsTrue, ◌&&◌, ◌==◌, codes}
 use Rattle.std.specs.Str.{is_utf8}
-use Rattle.time_below.specs.Tree.{Tree, of_component}
+use Rattle.time_below.specs.Tree.{Tree}
 use Rattle.time_below.specs.declared.format_description.component.Component.{Component}
 use Rattle.time_describe.specs.Conversions.{component_of, composed, listed, offset, offset_minute}
 use Rattle.time_describe.specs.Items.{are_leaves, is_leaf}

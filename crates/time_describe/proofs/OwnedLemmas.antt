@@ -1,5 +1,5 @@
 -- Items that own their parts, in lists that are not closed yet.
-use Rattle.std.proofs.Common.{◌≡◌, List, [], ◌∷◌, ◌++◌, map, reverse, refl, sym, ap, ◌∙◌}
+use Rattle.std.proofs.Common.{◌≡◌, List, [], ◌∷◌, ◌++◌, map, reverse, sym, ap, ◌∙◌}
 use Rattle.std.proofs.lemmas.List.{map_push, reverse-append}
 use Rattle.std.specs.Global.{Vec}
 use Rattle.time_below.specs.Tree.{Tree, trees, all_of, owned_tree, owned_layer}

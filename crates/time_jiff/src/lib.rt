@@ -85,7 +85,12 @@ pub fn time(time: jiff::civil::Time) -> Time
     ensures { result ≡ same_time time }
 {
     let plain = time.to_plain();
-    Time::from_valid_hms_nano(plain.hour, plain.minute, plain.second, plain.subsec_nanosecond)
+    Time::from_valid_hms_nano(
+        plain.hour,
+        plain.minute,
+        plain.second,
+        plain.subsec_nanosecond,
+    )
 }
 
 /// The date.

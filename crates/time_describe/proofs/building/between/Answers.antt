@@ -6,7 +6,6 @@ use Rattle.std.specs.Char.{is_ascii_whitespace}
 use Rattle.time_below.specs.Tree.{Tree}
 use Rattle.time_describe.specs.declared.fault.Reason.TheVariants.{UnexpectedByte, TooDeep}
 use Rattle.time_describe.specs.declared.pieces.Nest.{Nest}
-use Rattle.time_describe.specs.Outcome.{AreKept}
 use Rattle.time_describe.specs.Reading.{Frame, read, between, outside, nested, takes_list, fails}
 use Rattle.time_describe.proofs.EndLemmas.{end_cut, end_more}
 use Rattle.time_describe.proofs.FrameLemmas.{fails_along, kept_length, kept_pushed}
@@ -44,7 +43,7 @@ returns-then-first-eq93-clause-goes_on g c = λ text fs before lists first are h
       before ++ w.0 ∷ [],
       (are, w.2),
       behind fs c.args.nest c.args.opened lists before c.args.bytes.now c.after_gap-rest.result.now (c.in-Some.first ∷ c.in-Some.after.now) c.after_gap-rest.ensures c.in-Some.ensures
-      ∙ lists_closed fs c.args.nest c.args.opened lists before c.in-Some.first c.in-Some.after.now w.0 white (eq-eqb _ _ c.if-first-eq93.true) (ap (nested c.args.nest lists) len ∙ w.1),
+          ∙ lists_closed fs c.args.nest c.args.opened lists before c.in-Some.first c.in-Some.after.now w.0 white (eq-eqb _ _ c.if-first-eq93.true) (ap (nested c.args.nest lists) len ∙ w.1),
     )
 
 pub returns-then-first-ne91-clause-goes_on : goal.returns-then-first-ne91-clause-goes_on
@@ -86,8 +85,8 @@ returns-clause-goes_on g c = λ text fs before lists first are held.
         c.open_list.ensures.opened text f fs (c.len.ensures.value ∙ sym (kept_length c.args.frames.now.items fs are)) first held,
       ),
       behind fs c.args.nest c.args.opened lists before c.args.bytes.now c.after_gap-rest.result.now (c.in-Some.first ∷ c.in-Some.after.now) c.after_gap-rest.ensures c.in-Some.ensures
-      ∙ list_opened fs c.args.nest c.args.opened lists before c.in-Some.first c.in-Some.after.now white (ne_eqb _ _ c.if-first-eq93.false) taken shallow
-      ∙ ap (λ (n : ℕ). read (record { nest = c.args.nest; opened = c.args.opened; opened_list = n; items = before; lists = lists } ∷ fs) outside [] [] c.in-Some.after.now) len,
+          ∙ list_opened fs c.args.nest c.args.opened lists before c.in-Some.first c.in-Some.after.now white (ne_eqb _ _ c.if-first-eq93.false) taken shallow
+          ∙ ap (λ (n : ℕ). read (record { nest = c.args.nest; opened = c.args.opened; opened_list = n; items = before; lists = lists } ∷ fs) outside [] [] c.in-Some.after.now) len,
     )
 
 pub returns-then-first-eq93-clause-end : goal.returns-then-first-eq93-clause-end

@@ -1,9 +1,8 @@
-use Rattle.std.proofs.Common.{◌≡◌, List, [], ◌∷◌, ◌++◌, length, Ok, refl, subst}
+use Rattle.std.proofs.Common.{[], ◌∷◌, ◌++◌, Ok, refl, subst}
 use Rattle.std.proofs.lemmas.Result.{err_from_is_err_and}
 use Rattle.time_below.specs.Tree.{of_component}
 use Rattle.time_describe.specs.declared.pieces.Bracketed.{Bracketed}
 use Rattle.time_describe.specs.Pieces.{InBrackets}
-use Rattle.time_describe.proofs.EndLemmas.{end_more}
 use Rattle.time_describe.proofs.FrameLemmas.{goes_along}
 use Rattle.time_describe.proofs.building.bracketed.Goals as goal
 

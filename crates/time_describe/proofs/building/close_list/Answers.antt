@@ -1,5 +1,5 @@
-use Rattle.std.proofs.Common.{◌≡◌, ℕ, List, [], ◌∷◌, ◌++◌, length, reverse, refl, sym, ap, ◌∙◌, subst}
-use Rattle.time_below.specs.Tree.{Tree, trees, all_of}
+use Rattle.std.proofs.Common.{List, [], ◌∷◌, ◌++◌, refl, sym, ap, ◌∙◌, subst}
+use Rattle.time_below.specs.Tree.{trees, all_of}
 use Rattle.time_describe.specs.declared.frame.Frame as code
 use Rattle.time_describe.specs.Outcome.{AreKept}
 use Rattle.time_describe.specs.Reading.{Frame, read, outside, between}

@@ -1,4 +1,4 @@
-use Rattle.std.proofs.Common.{◌≡◌, true, false, sym, ap, ◌∙◌}
+use Rattle.std.proofs.Common.{sym, ap, ◌∙◌}
 use Rattle.time_describe.specs.Outcome.{lacks_list}
 use Rattle.time_describe.proofs.FrameLemmas.{nested_lacks, nested_there}
 use Rattle.time_describe.proofs.building.end_lists.Goals as goal

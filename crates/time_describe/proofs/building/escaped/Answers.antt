@@ -1,5 +1,4 @@
-use Rattle.std.proofs.Common.{◌≡◌, ℕ, ◌+◌, List, [], ◌∷◌, ◌++◌, length, refl, sym, ap, ◌∙◌, arith}
-use Rattle.time_below.specs.Tree.{Tree}
+use Rattle.std.proofs.Common.{◌≡◌, ℕ, ◌+◌, [], ◌∷◌, ◌++◌, length, refl, sym, ap, ◌∙◌, arith}
 use Rattle.time_describe.specs.declared.fault.Reason.TheVariants.{InvalidEscape}
 use Rattle.time_describe.specs.Literal.{literal_of}
 use Rattle.time_describe.specs.Reading.{read, escape, fails}

@@ -1,12 +1,11 @@
-use Rattle.std.proofs.Common.{◌≡◌, ℕ, ◌+◌, ◌-◌, ◌≤◌, List, [], ◌∷◌, ◌++◌, ◌&&◌, Bool, true, false, not, eqb, length, drop, None, sym, ap, subst, ◌∙◌, arith, eq-eqb, ne_eqb}
+use Rattle.std.proofs.Common.{◌≡◌, ℕ, ◌+◌, ◌-◌, List, [], ◌∷◌, ◌++◌, ◌&&◌, Bool, true, false, not, eqb, length, None, sym, ap, ◌∙◌, arith, eq-eqb, ne_eqb}
 use Rattle.std.specs.Prelude.{slice_range}
 use Rattle.std.specs.List.{position_or_len}
 use Rattle.time_below.specs.Tree.{Tree}
 use Rattle.time_describe.specs.Literal.{literal_of}
-use Rattle.time_describe.specs.Outcome.{AreKept, AreOpen}
 use Rattle.time_describe.specs.Pieces.{ends_literal, is_nested}
 use Rattle.time_describe.specs.Reading.{Frame, read, outside, brackets}
-use Rattle.time_describe.proofs.EndLemmas.{end_bytes, end_cut, end_fits, end_more, end_slice}
+use Rattle.time_describe.proofs.EndLemmas.{end_bytes, end_slice}
 use Rattle.time_describe.proofs.FrameLemmas.{ends_behind, goes_along, goes_open, nested_frames, and_false}
 use Rattle.time_describe.proofs.ReadLemmas.{opens, to_escape, literal_read}
 use Rattle.time_describe.proofs.building.step.Goals as goal
@@ -68,8 +67,8 @@ returns-clause-goes_on g c = λ fs before are.
       before ++ literal_of word ∷ [],
       (are.0, c.in_ok-put_literal.ensures.put fs before are.1),
       literal_read fs rest word _ len c.in-Some.first c.in-Some.after.now before
-      place (end_bytes text rest len c.requires.end) (end_slice rest len) c.in-Some.ensures
-      (plain (is_nested fs) c.in-Some.first (ne_eqb _ _ c.if-first-eq91.false) (ne_eqb _ _ c.if-first-eq92.false) no_closing),
+          place (end_bytes text rest len c.requires.end) (end_slice rest len) c.in-Some.ensures
+          (plain (is_nested fs) c.in-Some.first (ne_eqb _ _ c.if-first-eq91.false) (ne_eqb _ _ c.if-first-eq92.false) no_closing),
     )
 
 pub returns-clause-end : goal.returns-clause-end

@@ -1,12 +1,10 @@
-use Rattle.std.proofs.Common.{◌≡◌, ℕ, zero, suc, ◌<◌, false, true, refl, [], ◌∷◌, ◌++◌, List, length, sym, ap, ◌∙◌, subst, arith, Ok}
+use Rattle.std.proofs.Common.{◌≡◌, ℕ, zero, suc, ◌<◌, false, true, refl, [], List, length, ap, ◌∙◌, subst, arith}
 use Rattle.std.proofs.lemmas.Bool.Decides.{nat_tests}
 use Rattle.std.proofs.lemmas.List.{nil_from_length}
-use Rattle.time_below.specs.Tree.{Tree}
 use Rattle.time_describe.specs.declared.frame.Frame as code
 use Rattle.time_describe.specs.Outcome.{AreKept}
 use Rattle.time_describe.specs.Reading.{Frame, read, outside, fails}
 use Rattle.time_describe.specs.declared.fault.Reason.TheVariants.{UnclosedBracket}
-use Rattle.time_describe.proofs.EndLemmas.{end_more}
 use Rattle.time_describe.proofs.FrameLemmas.{kept_none, kept_popped}
 use Rattle.time_describe.proofs.ReadLemmas.{at_end, at_end_of_list}
 use Rattle.time_describe.proofs.description.put_all.Goals as goal

@@ -1,8 +1,7 @@
-use Rattle.std.proofs.Common.{◌≡◌, ◌+◌, ◌-◌, ◌<◌, ◌≤◌, ◌++◌, ℕ, List, length, take, drop, sym, ap, ◌∙◌, arith}
+use Rattle.std.proofs.Common.{◌≡◌, ◌+◌, ◌<◌, ◌≤◌, ◌++◌, ℕ, List, length, drop, sym, ap, ◌∙◌, arith}
 use Rattle.std.specs.Prelude.{slice_range}
 use Rattle.std.proofs.lemmas.Result.{err_from_is_err_and}
 use Rattle.std.proofs.lemmas.List.{drop-drop, length-drop}
-use Rattle.time_below.specs.Tree.{Tree}
 use Rattle.time_describe.specs.Limit.{most_items}
 use Rattle.time_describe.specs.Strftime.{fails, first_part, read}
 use Rattle.time_describe.specs.StrftimeOutcome.{items_of_part}
