@@ -20,7 +20,7 @@ use Rattle.time_fmt.specs.Decimals.{decimals}
 use Rattle.time_fmt.specs.Outcome.{Outcome, done}
 use Rattle.time_known.proofs.AcceptedLemmas.{usual_accepted}
 use Rattle.time_known.specs.Accepted.{checked_text}
-use Rattle.time_known.specs.Fields.{date_of_fields, fields, offset_text}
+use Rattle.time_known.specs.Fields.{date_of_fields, fields, offset_of_fields}
 use Rattle.time_known.specs.declared.fields.Fields.{Fields}
 use Rattle.time_known.specs.Iso8601.{iso8601_of}
 use Rattle.time_known.specs.WellKnown.{clock_text}
@@ -72,13 +72,13 @@ pub remembered : (s east : ℤ) (v : OffsetDateAndTime) (f : Fields) (before aft
     → checked_text 0 25 v.date.year (unsigned_abs v.offset.hours) (unsigned_abs v.offset.seconds) [] ≡ done []
     → f ≡ fields (date_facts v.date) v.time v.offset
     → before ≡ date_of_fields (codes "-") f ++ codes "T" ++ clock_text (codes ":") f.time ++ codes "."
-    → after ≡ offset_text (codes ":") f.offset → Remembers s east before after
+    → after ≡ offset_of_fields (codes ":") f.offset → Remembers s east before after
 remembered s east v f before after value accepted shown head zone = λ n d small.
     let w = at n v in
     let F = fields (date_facts w.date) w.time w.offset in
     let date = date_of_fields (codes "-") F in
     let clock = clock_text (codes ":") F.time in
-    let offset = offset_text (codes ":") F.offset in
+    let offset = offset_of_fields (codes ":") F.offset in
     let text : iso8601_of (log_choices d) w ≡ done (date ++ (codes "T" ++ (clock ++ (codes "." ++ decimals n 1_000_000_000 d))) ++ offset) =
     usual_accepted (log_choices d) true (Some d) sign.Point (date_facts w.date) w.time w.offset [] refl accepted in
     let kept : before ≡ date ++ codes "T" ++ clock ++ codes "." = rw (head, shown) refl in

@@ -6,7 +6,7 @@ ghost use Rattle.movaliren_c.specs.Log.{IsKept, Remembers, log_config};
 ghost use Rattle.movaliren_c.specs.Utc.{local_value};
 ghost use Rattle.time_fmt.specs.Decimals.{decimals as decimals_of};
 ghost use Rattle.time_fmt.specs.Outcome.{done};
-ghost use Rattle.time_known.specs.Fields.{date_of_fields, offset_text};
+ghost use Rattle.time_known.specs.Fields.{date_of_fields, offset_of_fields};
 ghost use Rattle.time_known.specs.WellKnown.{clock_text};
 
 use crate::iso8601::IsoConfig;
@@ -16,9 +16,8 @@ use crate::reason::{Reason, answer_number};
 use crate::sinks::{ArraySink, write_over};
 use crate::source::{AtOffset, Source};
 use std::default::Default;
-use time_below::UtcOffset;
 use time_digits::ru32;
-use time_known::fields::{Fields, accepted_fields};
+use time_known::fields::{Fields, OffsetFields, accepted_fields};
 use time_known::put::{
     put_clock, put_date, put_nine_digits, put_offset, put_six_decimals, put_three_decimals,
 };
@@ -192,7 +191,7 @@ fn keep_second(kept: &mut Log, seconds: i64, offset: i64)
     let Ok(fields) = accepted_fields(0, 25, &value, &mut DateState::default()) else {
         return;
     };
-    let (head, zone) = (head_of(&fields), zone_of(fields.offset));
+    let (head, zone) = (head_of(&fields), zone_of(&fields.offset));
     keep(kept, seconds, offset, head.as_bytes(), zone.as_bytes());
 }
 
@@ -210,8 +209,8 @@ fn head_of(fields: &Fields) -> ArraySink<20>
 }
 
 /// The offset.
-fn zone_of(offset: UtcOffset) -> ArraySink<6>
-    ensures { result.text.bytes ≡ offset_text (codes ":") offset }
+fn zone_of(offset: &OffsetFields) -> ArraySink<6>
+    ensures { result.text.bytes ≡ offset_of_fields (codes ":") offset.now }
 {
     let mut zone = ArraySink::new();
     put_offset(&mut zone, offset, ":");

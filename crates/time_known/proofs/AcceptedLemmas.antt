@@ -9,7 +9,7 @@ use Rattle.time_digits.specs.Digits.{zero_padded}
 use Rattle.time_fmt.specs.Outcome.{Outcome, done, refused, join, invalid_component}
 use Rattle.time_known.specs.Accepted.{checked_text, component_name, refused_for}
 use Rattle.time_known.specs.Config.{Choices, separator, DecimalSign}
-use Rattle.time_known.specs.Fields.{fields, offset_hours_text}
+use Rattle.time_known.specs.Fields.{fields, hours_of_fields, offset_fields}
 use Rattle.time_known.specs.Iso8601.{iso_of_groups, iso_time_text, text_after_year}
 use Rattle.time_known.specs.UsualText.{usual_choices, usual_of_fields}
 use Rattle.time_known.specs.Values.{DateFacts, Offset, TimeOfDay}
@@ -75,5 +75,5 @@ usual_refused digits sign d t o text component hour e =
     let c = usual_choices true digits sign in
     refusal_is (is_outside 0 9_999 d.year) (is_utc o) (nat_lt 0 (unsigned_abs o.seconds))
     (zero_padded 4 (unsigned_abs d.year)) (text_after_year kind.Calendar c d) (iso_time_text c t) (codes "Z")
-    (offset_hours_text o) (separator c (codes ":") ++ zero_padded 2 (unsigned_abs o.minutes)) text (component_name component)
+    (hours_of_fields (offset_fields o)) (separator c (codes ":") ++ zero_padded 2 (unsigned_abs o.minutes)) text (component_name component)
     (no_seconds o) (rw (any_hour 0 d.year (unsigned_abs o.hours) (unsigned_abs o.seconds) text hour) at e)

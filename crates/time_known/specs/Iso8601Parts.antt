@@ -2,7 +2,8 @@
 use Rattle.std.specs.Prelude.{ℕ, ◌+◌, ◌*◌, length, List, [], codes, Option, Some, None, if◌then◌else◌}
 use Rattle.time_fmt.specs.Outcome.{Outcome, done, join}
 use Rattle.time_known.specs.Config.{Choices, has_date, has_time, has_offset, separator, DateKind, FormattedComponents}
-use Rattle.time_known.specs.Iso8601.{iso_time_text, iso_year, year_of_kind, rest_of_kind, rest_text, iso_offset}
+use Rattle.time_known.specs.Fields.{offset_fields}
+use Rattle.time_known.specs.Iso8601.{iso_time_text, iso_year, year_of_kind, rest_of_kind, rest_text, iso_offset_of_fields}
 use Rattle.time_known.specs.Iso8601Width.{iso_offset_width, iso_time_width, year_width}
 use Rattle.time_known.specs.Values.{Facts, DateFacts, TimeOfDay, the_date, the_time, the_offset}
 use Rattle.time_known.specs.declared.iso8601.parts.DateParts.{DateParts}
@@ -20,7 +21,7 @@ abbrev pub parts_by : FormattedComponents → DateKind → Facts → Parts
 parts_by components kind f = record {
   date = if has_date components then Some (date_parts kind (the_date f)) else None;
   time = if has_time components then Some (the_time f) else None;
-  offset = if has_offset components then Some (the_offset f) else None;
+  offset = if has_offset components then Some (offset_fields (the_offset f)) else None;
 }
 
 abbrev pub chosen_parts : Choices → Facts → Parts
@@ -45,7 +46,7 @@ time_part_text c (Some t) = iso_time_text c t
 abbrev pub parts_text : Choices → Parts → Outcome
 parts_text c p =
     join (part_text (date_of_parts c) p.date)
-    (join (done (time_part_text c p.time)) (part_text (iso_offset c) p.offset))
+    (join (done (time_part_text c p.time)) (part_text (iso_offset_of_fields c) p.offset))
 
 -- ---- their widths
 

@@ -2,7 +2,7 @@
 use Rattle.std.specs.Prelude.{ℕ, ◌≡◌, ◌++◌, Bool, false, List, codes, Option, Some, None, IfSome}
 use Rattle.time_known.specs.Config.{Choices, separator, DateKind, DecimalSign, FormattedComponents, OffsetPrecision}
 use Rattle.time_known.specs.Config.{TimePrecision}
-use Rattle.time_known.specs.Fields.{date_of_fields, offset_text}
+use Rattle.time_known.specs.Fields.{date_of_fields, offset_of_fields}
 use Rattle.time_known.specs.Iso8601.{decimal_part}
 use Rattle.time_known.specs.Values.{TimeOfDay}
 use Rattle.time_known.specs.WellKnown.{clock_text}
@@ -52,4 +52,4 @@ abbrev pub usual_of_fields : Choices → Option ℕ → Fields → List ℕ
 usual_of_fields c digits f =
     date_of_fields (separator c (codes "-")) f
     ++ usual_time_text (separator c (codes ":")) c.decimal_sign digits f.time
-    ++ offset_text (separator c (codes ":")) f.offset
+    ++ offset_of_fields (separator c (codes ":")) f.offset

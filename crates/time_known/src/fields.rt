@@ -1,18 +1,33 @@
-//! The fields of a value, from which the texts of moments are written.
+//! The fields of a date and an offset, from which the texts of moments are written.
 ghost use Rattle.std.specs.Prelude.{◌≡◌, ℕ, List, IfOk, IfErr, OnOk, IsTrue, unsigned_abs};
 ghost use Rattle.time_below.specs.Facts.{the_date, the_time, the_offset};
 ghost use Rattle.time_below.specs.Offset.{IsOffset};
 ghost use Rattle.time_fmt.specs.Outcome.{done};
 ghost use Rattle.time_provide.specs.Real.{AgreesOnTime, AreReal};
 ghost use Rattle.time_known.specs.Accepted.{checked_text, refused_for};
-ghost use Rattle.time_known.specs.Fields.{fields};
+ghost use Rattle.time_known.specs.Fields.{fields, offset_fields};
 ghost use Rattle.time_known.specs.Groups.{AreAllSupplied, at_groups};
 
 use crate::accepted::{OutOfRange, accepted_year};
 use crate::days::CalendarDay;
-use time_below::{Time, UtcOffset};
+use time_below::Time;
 use time_digits::{ri32, ru8, ru16};
 use time_provide::ComponentProvider;
+
+/// The fields of an offset: one sign, and the sizes of its parts.
+#[derive(Clone, Copy)]
+pub struct OffsetFields {
+    /// Whether all parts are zero.
+    pub is_utc: bool,
+    /// Whether some part is below zero.
+    pub is_negative: bool,
+    /// The size of the hours.
+    pub hours: ru8<0, 25>,
+    /// The size of the minutes.
+    pub minutes: ru8<0, 59>,
+    /// The size of the seconds.
+    pub seconds: ru8<0, 59>,
+}
 
 /// The fields of a date of the years 0 to 9,999, of a time of day and of an offset.
 #[derive(Clone, Copy)]
@@ -24,7 +39,7 @@ pub struct Fields {
     /// The time of day.
     pub time: Time,
     /// The offset.
-    pub offset: UtcOffset,
+    pub offset: OffsetFields,
 }
 
 /// Returns the fields of a value whose year is from the first to 9,999, and whose offset has at most this
@@ -53,8 +68,13 @@ pub fn accepted_fields<V: ComponentProvider>(
 {
     let year = value.calendar_year(state).get();
     let offset = offset_of(value);
-    let (hours, _, seconds) = sizes_of(offset);
-    match accepted_year(first, greatest_hour, year, hours.get(), seconds.get()) {
+    match accepted_year(
+        first,
+        greatest_hour,
+        year,
+        offset.hours.get(),
+        offset.seconds.get(),
+    ) {
         Ok(year) => {
             let number = ri32::within(i32::from(year.get()));
             let date = CalendarDay::in_year(number, value.ordinal(state));
@@ -81,27 +101,21 @@ pub(crate) fn time_of<V: ComponentProvider>(value: &V, state: &mut V::State) -> 
     value.supplied_time(state)
 }
 
-// The sizes of the hours, the minutes and the seconds of an offset.
+// The fields of the value's offset. No test is a branch, so that the compiler computes the sign only where it is
+// written.
 #[inline(always)]
-pub(crate) fn sizes_of(offset: UtcOffset) -> (ru8<0, 25>, ru8<0, 59>, ru8<0, 59>)
-    ensures hours { result.0 ≡ unsigned_abs offset.hours }
-    ensures minutes { result.1 ≡ unsigned_abs offset.minutes }
-    ensures seconds { result.2 ≡ unsigned_abs offset.seconds }
-{
-    let (hours, minutes, seconds) = offset.as_hms();
-    (
-        ru8::within(hours.unsigned_abs()),
-        ru8::within(minutes.unsigned_abs()),
-        ru8::within(seconds.unsigned_abs()),
-    )
-}
-
-// The value's offset.
-#[inline(always)]
-pub(crate) fn offset_of<V: ComponentProvider>(value: &V) -> UtcOffset
+pub(crate) fn offset_of<V: ComponentProvider>(value: &V) -> OffsetFields
     requires supplied { IsTrue V.SUPPLIES_OFFSET }
-    ensures offset { result ≡ the_offset (V.facts value.now) }
+    ensures fields { result ≡ offset_fields (the_offset (V.facts value.now)) }
     ensures real { IsOffset (the_offset (V.facts value.now)) }
 {
-    value.supplied_offset()
+    let offset = value.supplied_offset();
+    let (hours, minutes, seconds) = offset.as_hms();
+    OffsetFields {
+        is_utc: (hours == 0) & (minutes == 0) & (seconds == 0),
+        is_negative: (hours < 0) | (minutes < 0) | (seconds < 0),
+        hours: ru8::within(hours.unsigned_abs()),
+        minutes: ru8::within(minutes.unsigned_abs()),
+        seconds: ru8::within(seconds.unsigned_abs()),
+    }
 }

@@ -6,14 +6,14 @@ ghost use Rattle.time_below.specs.Weekday.{days_from_monday};
 ghost use Rattle.time_digits.specs.Digits.{fixed, zero_padded};
 ghost use Rattle.time_digits.specs.Fraction.{trimmed_fraction};
 ghost use Rattle.time_fmt.specs.DateText.{month_name, weekday_name, short_name};
-ghost use Rattle.time_known.specs.Fields.{date_of_fields, offset_hours_text, offset_text, signed_offset_text};
+ghost use Rattle.time_known.specs.Fields.{date_of_fields, hours_of_fields, offset_of_fields, signed_offset_of_fields};
 ghost use Rattle.time_known.specs.Sink.{Fits, Puts, PutsJust, PutsUpTo};
 ghost use Rattle.time_known.specs.WellKnown.{clock_text};
 
 use crate::days::CalendarDay;
-use crate::fields::{Fields, sizes_of};
+use crate::fields::{Fields, OffsetFields};
 use crate::sink::Sink;
-use time_below::{Time, UtcOffset, Weekday};
+use time_below::{Time, Weekday};
 use time_digits::num_fmt::{three_digits_zero_padded, truncated_subsecond_from_nanos};
 use time_digits::{
     four_digits_zero_padded, ru8, ru16, subsecond_from_nanos, two_digits_zero_padded,
@@ -209,39 +209,37 @@ pub fn put_clock<S: Sink>(output: &mut S, time: Time, separator: &str)
 
 /// Puts the sign of the whole offset, and its hours.
 #[inline(always)]
-pub fn put_offset_hours<S: Sink>(output: &mut S, offset: UtcOffset)
+pub fn put_offset_hours<S: Sink>(output: &mut S, offset: &OffsetFields)
     requires room { Fits 3 (S.buffer output.old) }
     ensures puts { PutsJust 3 (S.buffer output.old) (S.buffer output.new)
-        (offset_hours_text offset) }
+        (hours_of_fields offset.now) }
 {
-    let (hours, _, _) = sizes_of(offset);
-    output.put(if offset.is_negative() { "-" } else { "+" });
-    put_pair(output, hours.expand());
+    output.put(if offset.is_negative { "-" } else { "+" });
+    put_pair(output, offset.hours.expand());
 }
 
 /// Puts the sign of the whole offset, and its hours and its minutes, and the separator between them.
 #[inline(always)]
-pub fn put_signed_offset<S: Sink>(output: &mut S, offset: UtcOffset, separator: &str)
+pub fn put_signed_offset<S: Sink>(output: &mut S, offset: &OffsetFields, separator: &str)
     requires room { Fits (5 + length separator.now) (S.buffer output.old) }
-    ensures puts { PutsJust (5 + length separator.now)
+    ensures puts { PutsUpTo (5 + length separator.now)
         (S.buffer output.old) (S.buffer output.new)
-        (signed_offset_text separator.now offset) }
+        (signed_offset_of_fields separator.now offset.now) }
 {
-    let (_, minutes, _) = sizes_of(offset);
     put_offset_hours(output, offset);
     output.put(separator);
-    put_pair(output, minutes.expand());
+    put_pair(output, offset.minutes.expand());
 }
 
 /// Puts the offset, or `Z` for UTC.
 #[inline(always)]
-pub fn put_offset<S: Sink>(output: &mut S, offset: UtcOffset, separator: &str)
+pub fn put_offset<S: Sink>(output: &mut S, offset: &OffsetFields, separator: &str)
     requires room { Fits (5 + length separator.now) (S.buffer output.old) }
     ensures puts { PutsUpTo (5 + length separator.now)
         (S.buffer output.old) (S.buffer output.new)
-        (offset_text separator.now offset) }
+        (offset_of_fields separator.now offset.now) }
 {
-    if offset.is_utc() {
+    if offset.is_utc {
         output.put("Z");
     } else {
         put_signed_offset(output, offset, separator);

@@ -86,7 +86,7 @@ impl Text for Rfc2822Text {
         output.put(" ");
         put_clock(output, self.fields.time, ":");
         output.put(" ");
-        put_signed_offset(output, self.fields.offset, "");
+        put_signed_offset(output, &self.fields.offset, "");
     }
 }
 

@@ -82,7 +82,7 @@ impl Text for Rfc3339Text {
         output.put("T");
         put_clock(output, self.fields.time, ":");
         put_time_secfrac(output, self.fields.time);
-        put_offset(output, self.fields.offset, ":");
+        put_offset(output, &self.fields.offset, ":");
     }
 }
 

@@ -9,10 +9,10 @@ use std::alloc::Global;
 use std::default::Default;
 use std::process::Abort;
 use std::test::Fail;
-use time_below::UtcOffset;
 use time_digits::ru8;
 use time_fmt::{ComponentProvider, ComputeMetadata, Format};
 use time_known::Iso8601;
+use time_known::fields::OffsetFields;
 use time_known::iso8601::DateKind::{Calendar, Ordinal, Week};
 use time_known::iso8601::{
     self, Config, DateKind, DecimalSign, FormattedComponents as Parts, OffsetPrecision,
@@ -485,6 +485,12 @@ fn parts_have_the_width_of_those_that_are_there(rt: HostRuntime) {
         offset: None,
     };
     assert_same(&rt, parts.width(&config), 0);
-    parts.offset = Some(UtcOffset::from_valid_hms(-6, 0, 0));
+    parts.offset = Some(OffsetFields {
+        is_utc: false,
+        is_negative: true,
+        hours: ru8::within(6),
+        minutes: ru8::within(0),
+        seconds: ru8::within(0),
+    });
     assert_same(&rt, parts.width(&config), 6);
 }

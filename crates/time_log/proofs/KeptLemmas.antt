@@ -3,7 +3,7 @@ use Rattle.std.proofs.Common.{◌≡◌, ◌∙◌, ℕ, List, ◌++◌, ℤ, ap
 use Rattle.std.specs.Prelude.{codes}
 use Rattle.time_below.specs.Moment.{Moment, local_at}
 use Rattle.time_fmt.specs.Decimals.{decimals}
-use Rattle.time_known.specs.Fields.{offset_text}
+use Rattle.time_known.specs.Fields.{offset_fields, offset_of_fields}
 use Rattle.time_log.specs.declared.log_time.LogTime.TheInside.{Inside}
 use Rattle.time_log.specs.Kept.{IsKept, settings_of}
 use Rattle.time_log.specs.LogText.{IsFourDigits, LogSettings, digits_of, log_text, text_to_point}
@@ -11,6 +11,7 @@ use Rattle.time_log.specs.LogText.{IsFourDigits, LogSettings, digits_of, log_tex
 -- what is kept is that of the second of this moment
 pub record IsFor (s : LogSettings) (m : Moment) (t : Inside) : Type 0 where
   pub settings : settings_of t ≡ s
+  pub fields : t.offset_fields ≡ offset_fields s.offset
   pub year : IsFourDigits (local_at m s.offset).date.year
   pub head : t.head ≡ text_to_point (local_at m s.offset)
 
@@ -18,22 +19,26 @@ pub record IsFor (s : LogSettings) (m : Moment) (t : Inside) : Type 0 where
 pub for_same : (s : LogSettings) (m : Moment) (t u : Inside) → IsKept t → settings_of t ≡ s → m.seconds ≡ t.second
     → u ≡ t → IsFor s m u
 for_same s m t u kept settings second same =
-    rw (same, ← settings) (record { settings = refl; year = rw second kept.year; head = rw second kept.head })
+    rw (same, ← settings) (record {
+      settings = refl;
+      fields = kept.fields;
+      year = rw second kept.year;
+      head = rw second kept.head;
+    })
 
 -- what is made for a moment is for it
 pub for_new : (s : LogSettings) (m : Moment) (t u : Inside) (second : ℤ) (head : List ℕ) → IsKept t → settings_of t ≡ s
     → head ≡ text_to_point (local_at m t.offset) → IsFourDigits (local_at m t.offset).date.year
     → u ≡ record t { second = second; head = head } → IsFor s m u
 for_new s m t u second head kept settings text year same =
-    rw (same, ← settings) (record { settings = refl; year = year; head = text })
+    rw (same, ← settings) (record { settings = refl; fields = kept.fields; year = year; head = text })
 
 -- the text by what is kept
 pub text_for : (s : LogSettings) (m : Moment) (t : Inside) (old new : List ℕ) (nanosecond : ℕ) → IsFor s m t
     → nanosecond ≡ m.nanosecond
     → new ≡ old ++ (t.head ++ decimals nanosecond 1_000_000_000 (digits_of t.decimals)
-    ++ offset_text (codes ":") t.offset)
+    ++ offset_of_fields (codes ":") t.offset_fields)
     → new ≡ old ++ log_text s m
 text_for s m t old new nanosecond h n e =
     let settings : t.decimals ≡ s.decimals = ap (λ (x : LogSettings). x.decimals) h.settings in
-    let offset : t.offset ≡ s.offset = ap (λ (x : LogSettings). x.offset) h.settings in
-    e ∙ rw (h.head, offset, n, settings) refl
+    e ∙ rw (h.head, h.fields, n, settings) refl

@@ -2,3 +2,4 @@ mod BeginLemmas
 mod HeadLemmas
 mod KeptLemmas
 mod SpelledLemmas
+mod ZoneLemmas

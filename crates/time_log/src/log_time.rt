@@ -8,13 +8,14 @@ ghost use Rattle.time_log.specs.LogText.{HasLogText, IsLogOffset, log_length, lo
 use crate::decimals::Decimals;
 use crate::head::{LENGTH, head_at};
 use crate::text::append_text;
-use crate::zone::zone_len;
+use crate::zone::{fields_of, zone_len};
 use std::fmt::{self, Debug};
 use std::marker::Model;
 use time_below::{Timestamp, UtcOffset};
 use time_digits::ru32;
 use time_fmt::{Format, make_room};
 use time_known::accepted::OutOfRange;
+use time_known::fields::OffsetFields;
 
 /// The times of the lines of one log, at one offset and with as many decimals in each: texts of
 /// RFC 3339, section 5.6, as `1985-04-12T23:20:50.520Z`.
@@ -25,6 +26,7 @@ use time_known::accepted::OutOfRange;
 pub struct LogTime {
     offset: UtcOffset,
     decimals: Decimals,
+    offset_fields: OffsetFields,
     // The bytes of each text.
     length: usize,
     // The second that is kept, and its text up to the decimals.
@@ -82,6 +84,7 @@ impl LogTime {
         LogTime {
             offset,
             decimals,
+            offset_fields: fields_of(offset),
             length: LENGTH + decimals.digits() + zone_len(offset),
             second: midnight_of_1970(offset),
             head: *b"1970-01-01T00:00:00.",
@@ -154,7 +157,13 @@ impl LogTime {
             return Err(Format::OutOfMemory);
         }
         let nanosecond = ru32::within(nanosecond);
-        append_text(output, &self.head, nanosecond, self.decimals, self.offset);
+        append_text(
+            output,
+            &self.head,
+            nanosecond,
+            self.decimals,
+            &self.offset_fields,
+        );
         Ok(self.length)
     }
 }

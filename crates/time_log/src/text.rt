@@ -1,16 +1,15 @@
 //! The text of a moment, from what is kept.
 ghost use Rattle.std.specs.Prelude.{◌≡◌, ◌+◌, ◌++◌, codes, length};
-ghost use Rattle.time_below.specs.Offset.{is_utc};
 ghost use Rattle.time_fmt.specs.Decimals.{decimals as decimals_of};
 ghost use Rattle.time_fmt.specs.Room.{HasRoom, Writes};
-ghost use Rattle.time_known.specs.Fields.{offset_text};
+ghost use Rattle.time_known.specs.Fields.{offset_of_fields};
 ghost use Rattle.time_log.specs.LogText.{digits_of, zone_length};
 
 use crate::decimals::{Decimals, put_decimals};
 use crate::head::LENGTH;
 use crate::zone::put_zone;
-use time_below::UtcOffset;
 use time_fmt::writers::{put_back, take_out};
+use time_known::fields::OffsetFields;
 use time_provide::ranges::Nanoseconds;
 
 /// Appends the text up to the decimals, these and the offset.
@@ -20,14 +19,14 @@ pub(crate) fn append_text(
     head: &[u8; LENGTH],
     nanosecond: Nanoseconds,
     decimals: Decimals,
-    offset: UtcOffset,
+    offset: &OffsetFields,
 )
     requires head { length head.now ≡ LENGTH }
-    requires room { HasRoom output.old (LENGTH + digits_of decimals + zone_length (is_utc offset)) }
+    requires room { HasRoom output.old (LENGTH + digits_of decimals + zone_length offset.now.is_utc) }
     ensures writes { Writes output.old output.new
-        (LENGTH + digits_of decimals + zone_length (is_utc offset))
+        (LENGTH + digits_of decimals + length (offset_of_fields (codes ":") offset.now))
         (head.now ++ decimals_of nanosecond 1_000_000_000 (digits_of decimals)
-        ++ offset_text (codes ":") offset) }
+        ++ offset_of_fields (codes ":") offset.now) }
 {
     let mut taken = take_out(output);
     push_each(&mut taken, *head);

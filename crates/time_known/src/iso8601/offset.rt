@@ -5,18 +5,16 @@ ghost use Rattle.time_fmt.specs.Outcome.{AppendsUpTo};
 ghost use Rattle.time_fmt.specs.Room.{HasRoom};
 ghost use Rattle.time_provide.specs.Real.{AgreesOnOffset};
 ghost use Rattle.time_known.specs.Accepted.{PutsOutcome};
-ghost use Rattle.time_known.specs.Iso8601.{iso_offset, iso_minutes};
+ghost use Rattle.time_known.specs.Iso8601.{iso_offset, iso_offset_of_fields, iso_minutes};
 ghost use Rattle.time_known.specs.Iso8601Parts.{part_text, part_width};
 ghost use Rattle.time_known.specs.Iso8601Width.{minutes_width, iso_offset_width};
 ghost use Rattle.time_known.specs.Sink.{Fits};
 
 use crate::accepted::OutOfRange;
-use crate::fields::{offset_of, sizes_of};
+use crate::fields::{OffsetFields, offset_of};
 use crate::iso8601::config::{Config, OffsetPrecision};
 use crate::put::{put_offset_hours, put_pair};
 use crate::sink::Sink;
-use time_below::UtcOffset;
-use time_digits::ru8;
 use time_fmt::Format;
 use time_fmt::writers::{put_back, take_out};
 use time_provide::ComponentProvider;
@@ -43,7 +41,7 @@ pub fn format_offset<V: ComponentProvider>(
     let offset = offset_of(value);
     let mut taken = take_out(output);
     let begin = taken.len();
-    let answer = put_offset_by(&mut taken, config, offset);
+    let answer = put_offset_by(&mut taken, config, &offset);
     let count = taken.len() - begin;
     put_back(output, taken);
     match answer {
@@ -57,16 +55,16 @@ pub fn format_offset<V: ComponentProvider>(
 pub(super) fn put_offset_part<S: Sink>(
     output: &mut S,
     config: &Config,
-    offset: &Option<UtcOffset>,
+    offset: &Option<OffsetFields>,
 ) -> Result<(), OutOfRange>
     requires room { Fits (part_width (λ _. iso_offset_width config.now) offset.now)
         (S.buffer output.old) }
     ensures puts { PutsOutcome (part_width (λ _. iso_offset_width config.now) offset.now)
         (S.buffer output.old) (S.buffer output.new) result
-        (part_text (iso_offset config.now) offset.now) }
+        (part_text (iso_offset_of_fields config.now) offset.now) }
 {
     match offset {
-        Some(offset) => put_offset_by(output, config, *offset),
+        Some(offset) => put_offset_by(output, config, offset),
         None => Ok(()),
     }
 }
@@ -76,22 +74,21 @@ pub(super) fn put_offset_part<S: Sink>(
 fn put_offset_by<S: Sink>(
     output: &mut S,
     config: &Config,
-    offset: UtcOffset,
+    offset: &OffsetFields,
 ) -> Result<(), OutOfRange>
     requires room { Fits (iso_offset_width config.now) (S.buffer output.old) }
     ensures puts { PutsOutcome (iso_offset_width config.now) (S.buffer output.old)
-        (S.buffer output.new) result (iso_offset config.now offset) }
+        (S.buffer output.new) result (iso_offset_of_fields config.now offset.now) }
 {
-    if config.has_time() && offset.is_utc() {
+    if config.has_time() && offset.is_utc {
         output.put("Z");
         return Ok(());
     }
-    let (_, minutes, seconds) = sizes_of(offset);
-    if seconds.get() != 0 {
+    if offset.seconds.get() != 0 {
         return Err(OutOfRange::OffsetSecond);
     }
     put_offset_hours(output, offset);
-    put_minutes(output, config, minutes)
+    put_minutes(output, config, offset)
 }
 
 // Puts the minutes, where the configuration has them; else they are refused unless zero.
@@ -100,24 +97,24 @@ fn put_offset_by<S: Sink>(
 fn put_minutes<S: Sink>(
     output: &mut S,
     config: &Config,
-    minutes: ru8<0, 59>,
+    offset: &OffsetFields,
 ) -> Result<(), OutOfRange>
     requires room { Fits (minutes_width config.now.offset_precision config.now)
         (S.buffer output.old) }
     ensures puts { PutsOutcome (minutes_width config.now.offset_precision config.now)
         (S.buffer output.old) (S.buffer output.new) result
-        (iso_minutes config.now.offset_precision config.now minutes) }
+        (iso_minutes config.now.offset_precision config.now offset.now.minutes) }
 {
     match config.offset_precision() {
         OffsetPrecision::Minute => {
             if config.use_separators() {
                 output.put(":");
             }
-            put_pair(output, minutes.expand());
+            put_pair(output, offset.minutes.expand());
             Ok(())
         }
         OffsetPrecision::Hour => {
-            if minutes.get() != 0 {
+            if offset.minutes.get() != 0 {
                 return Err(OutOfRange::OffsetMinute);
             }
             Ok(())

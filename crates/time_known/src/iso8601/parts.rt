@@ -15,14 +15,14 @@ ghost use Rattle.time_known.specs.Ways.{FitsWay};
 
 use crate::accepted::OutOfRange;
 use crate::days::CalendarDay;
-use crate::fields::{offset_of, time_of};
+use crate::fields::{OffsetFields, offset_of, time_of};
 use crate::iso8601::config::{Config, DateKind, FormattedComponents, Way};
 use crate::iso8601::date::{put_date_part, write_date_by};
 use crate::iso8601::offset::put_offset_part;
 use crate::iso8601::time::{put_time_part, write_time};
 use crate::iso8601::usual_text::write_usual;
 use crate::sink::Sink;
-use time_below::{Time, UtcOffset};
+use time_below::Time;
 use time_digits::ru8;
 use time_fmt::Format;
 use time_fmt::writers::{put_back, take_out};
@@ -62,7 +62,7 @@ pub struct Parts {
     /// The time of day.
     pub time: Option<Time>,
     /// The offset.
-    pub offset: Option<UtcOffset>,
+    pub offset: Option<OffsetFields>,
 }
 
 /// Puts the parts, one after another, up to what has no place.

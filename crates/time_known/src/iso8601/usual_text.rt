@@ -6,7 +6,7 @@ ghost use Rattle.time_fmt.specs.Decimals.{decimals};
 ghost use Rattle.time_fmt.specs.Outcome.{AppendsUpTo};
 ghost use Rattle.time_fmt.specs.Room.{HasRoom};
 ghost use Rattle.time_provide.specs.Real.{AreReal};
-ghost use Rattle.time_known.specs.Fields.{date_of_fields, offset_text};
+ghost use Rattle.time_known.specs.Fields.{date_of_fields, offset_of_fields};
 ghost use Rattle.time_known.specs.Groups.{AreAllSupplied, at_groups};
 ghost use Rattle.time_known.specs.Iso8601.{decimal_part, iso_of_groups};
 ghost use Rattle.time_known.specs.Iso8601Width.{decimal_part_width, iso8601_width};
@@ -144,11 +144,11 @@ fn put_usual<S: Sink>(output: &mut S, usual: &Usual, fields: &Fields, dash: &str
         (date_of_fields dash.now fields.now
         ++ usual_time_text colon.now usual.now.decimal_sign usual.now.decimal_digits
         fields.now.time
-        ++ offset_text colon.now fields.now.offset) }
+        ++ offset_of_fields colon.now fields.now.offset) }
 {
     put_date(output, fields, dash);
     put_usual_time(output, usual, fields.time, colon);
-    put_offset(output, fields.offset, colon);
+    put_offset(output, &fields.offset, colon);
 }
 
 // Puts the time, and decimals of its second.

@@ -4,6 +4,7 @@ ghost use Rattle.time_known.specs.Config.{Choices};
 ghost use Rattle.time_known.specs.Days.{MonthAndDay};
 ghost use Rattle.time_known.specs.declared.accepted.OutOfRange.{OutOfRange};
 ghost use Rattle.time_known.specs.declared.fields.Fields.{Fields};
+ghost use Rattle.time_known.specs.declared.fields.OffsetFields.{OffsetFields};
 ghost use Rattle.time_known.specs.declared.iso8601.config.DateKind.{DateKind};
 ghost use Rattle.time_known.specs.declared.iso8601.config.DecimalSign.{DecimalSign};
 ghost use Rattle.time_known.specs.declared.iso8601.config.FormattedComponents.{FormattedComponents};
@@ -37,6 +38,7 @@ pub fn clones_of_configurations()
 pub fn clones_of_fields()
     ensures out_of_range { (a b : OutOfRange) → ⟦<accepted::OutOfRange as Clone>⟧.is_clone a b → b ≡ a }
     ensures calendar_day { (a b : MonthAndDay) → ⟦<days::CalendarDay as Clone>⟧.is_clone a b → b ≡ a }
+    ensures offset_fields { (a b : OffsetFields) → ⟦<fields::OffsetFields as Clone>⟧.is_clone a b → b ≡ a }
     ensures fields { (a b : Fields) → ⟦<fields::Fields as Clone>⟧.is_clone a b → b ≡ a }
     ensures date_parts { (a b : DateParts) → ⟦<iso8601::DateParts as Clone>⟧.is_clone a b → b ≡ a }
     ensures rest_of_date { (a b : RestOfDate) → ⟦<iso8601::RestOfDate as Clone>⟧.is_clone a b → b ≡ a }

@@ -10,6 +10,8 @@ invariant_of-result c =
     let midnight : second +ℤ offset_seconds c.args.offset ≡ pos 0 = omega (arith, ints, c.midnight_of_1970.ensures) in
     record {
       offset = c.requires;
+      fields = c.fields_of.ensures.fields;
+      zone = c.fields_of.ensures.length;
       length = omega (arith, c.digits.ensures, c.zone_len.ensures);
       year = begin_year second c.args.offset midnight;
       head = begin_text second c.args.offset midnight;
