@@ -11,7 +11,7 @@ use Rattle.time_known.proofs.Rules.Parts.{owns_four, owns_month_date}
 use Rattle.time_known.proofs.Rules.Texts.{Owns}
 use Rattle.time_known.specs.Rfc3339Grammar.{FullDate, Rfc3339Spells}
 use Rattle.time_known.specs.Values.{OffsetDateAndTime}
-use Rattle.time_read.proofs.UsualLemmas.{date_taken, text_is_read}
+use Rattle.time_read.proofs.UsualLemmas.{date_length, date_taken, text_is_read}
 use Rattle.time_read.specs.Front.{Front}
 use Rattle.time_read.specs.Kept.{IsKeptDate, date_text}
 
@@ -24,17 +24,23 @@ date_kept d text rest front =
     let known = (owns_date d).only (take 10 text) (date_taken d text rest front) in
     record { real = known.0.0; year = not_outside 0 9_999 d.year known.0.1; text = known.1 }
 
+-- the bytes spell the date, and are ten
+spelled : (d : OrdinalDate) (bytes : List ℕ) → IsKeptDate d bytes → FullDate d bytes
+spelled d bytes kept =
+    subst (FullDate d) (sym kept.text) ((owns_date d).is (kept.real, year_is_within 0 9_999 d.year kept.year))
+
+pub length-kept : (d : OrdinalDate) (bytes : List ℕ) → IsKeptDate d bytes → length bytes ≡ 10
+length-kept d bytes kept = date_length d bytes (spelled d bytes kept)
+
 -- a text that begins with the bytes of the date is read after them
 pub read_after_kept : (d : OrdinalDate) (bytes text rest : List ℕ) (r : Option OffsetDateAndTime) → IsKeptDate d bytes
     → bytes ≡ take 10 text → rest ≡ take (length text - 10) (drop 10 text)
     → IfSome r (λ v. (front : List ℕ) → FullDate d front → Rfc3339Spells v (front ++ rest))
     → IfSome r (λ v. Rfc3339Spells v text)
 read_after_kept d bytes text rest r kept begins after h =
-    let spelled : FullDate d bytes =
-    subst (FullDate d) (sym kept.text) ((owns_date d).is (kept.real, year_is_within 0 9_999 d.year kept.year)) in
     let whole : text ≡ bytes ++ rest =
     sym (take-append-drop 10 text) ∙ rw (begins, after, take_rest text 10) refl in
-    text_is_read d bytes text rest r spelled whole h
+    text_is_read d bytes text rest r (spelled d bytes kept) whole h
 
 -- the date that is kept at first
 pub first_kept : (d : OrdinalDate) → d ≡ date_of (pos 1970) 1 1 → IsKeptDate d (codes "1970-01-01")

@@ -36,6 +36,7 @@ impl LenientReader {
     }
 
     /// The value that the text means, as [`read_lenient`] reads it.
+    #[inline(always)]
     pub fn read(&mut self, text: &[u8]) -> Result<OffsetDateTime, NotRead>
         ensures read { IfOk result (λ v. Rfc3339Means v text.now) }
         ensures refused { IfErr result (λ _. (v : OffsetDateAndTime) → ¬ Rfc3339Means v text.now) }
@@ -57,7 +58,7 @@ impl LenientReader {
         requires { LENGTH ≤ length text.now }
         ensures { result ≡ true → self.new.bytes ≡ take 10 text.now }
     {
-        if text[..LENGTH] == self.bytes[..] {
+        if begins_with(text, &self.bytes) {
             return true;
         }
         let Some(found) = calendar_date_at(text) else {
@@ -85,4 +86,20 @@ impl LenientReader {
         }
         None
     }
+}
+
+// Whether a text begins with these bytes. Their number is known, so that the loop is unrolled: a comparison of
+// slices is a call.
+#[inline(always)]
+fn begins_with(text: &[u8], bytes: &[u8; LENGTH]) -> bool
+    requires text { LENGTH ≤ length text.now }
+    requires bytes { length bytes.now ≡ LENGTH }
+    ensures { result ≡ true → bytes.now ≡ take 10 text.now }
+{
+    for at in 0..LENGTH {
+        if text[at] != bytes[at] {
+            return false;
+        }
+    }
+    true
 }
