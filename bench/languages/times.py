@@ -12,13 +12,13 @@ LIBRARY, ROOM = movaliren._library, movaliren._ROOM
 alone = LIBRARY.movaliren_rfc3339_utc
 alone.argtypes = [ctypes.c_int64, ctypes.c_uint32, ctypes.c_char_p, ctypes.c_size_t]
 alone.restype = ctypes.c_ssize_t
-room = ctypes.create_string_buffer(TEXTS * (ROOM + 1))
+one, room = ctypes.create_string_buffer(ROOM), ctypes.create_string_buffer(TEXTS * (ROOM + 1))
 array = (movaliren._Moment * TEXTS)(*MOMENTS)
 
 
 def each_alone():
     for second, nanosecond in MOMENTS:
-        room.raw[: alone(second, nanosecond, room, ROOM)]
+        one.raw[: alone(second, nanosecond, one, ROOM)]
 
 
 def one_call():
