@@ -4,8 +4,9 @@
 Each name in code that docs/PROVED.md, docs/DEFINITIONS.md, docs/DECISIONS.md and docs/TRUST.md have is one of the sources: a clause, a
 function, a type, a field, a module, a definition of `specs/` or a file. A name in brackets of docs/PROVED.md is one of the section's crate, or of a crate that it stands on.
 docs/ARCHITECTURE.md names each file of a crate's `src/` by its module, and no module that is not there. Each file, folder, definition and
-lemma that a step or a row of CONTRIBUTING.md names stands in a crate that the step names, or in bindings/, docs/ or tools/. Links between
-pages lead to a page, and to a heading of it.
+lemma that a step or a row of CONTRIBUTING.md names stands in a crate that the step names, or in bindings/, docs/ or tools/. A crate's
+README.md says of what it stands on what crates.txt does, and that of movaliren_c names the structs of the interface. Links between pages
+lead to a page, and to a heading of it.
 """
 
 import functools
@@ -138,6 +139,17 @@ def unknown_in_contributing(page, below):
     return wrong, count
 
 
+def wrong_in_readmes(below):
+    """The crates whose README.md says that they stand on others than crates.txt does, and the structs that no README.md names."""
+    pages = {name: (TOP / "crates" / name / "README.md").read_text() for name in below}
+    said = {name: re.search(r"^.*It stands on ([^.]*)\.", page, re.M) for name, page in pages.items()}
+    wrong = [f"{name}: README.md says that it stands on {it[1]}, and crates.txt has {' '.join(below[name]) or 'nothing'}"
+             for name, it in said.items() if it and set(CODE.findall(it[1])) != set(below[name])]
+    sources = "".join(path.read_text() for path in (TOP / "crates/movaliren_c/src").rglob("*.rt"))
+    shared = [re.sub(r"(?<=[a-z])(?=[A-Z])", "_", it).lower() for it in re.findall(r"repr\(C\)\][^{;]*?pub struct (\w+)", sources)]
+    return wrong + [f"movaliren_c: README.md does not name movaliren_{it}" for it in shared if f"`movaliren_{it}`" not in pages["movaliren_c"]]
+
+
 def anchors(page):
     heads = re.findall(r"^#+ (.*)$", page, re.M)
     return {re.sub(r"[^\w\- ]", "", head.lower()).replace(" ", "-") for head in heads}
@@ -166,7 +178,7 @@ def main():
     wrong += [f"docs/DEFINITIONS.md names what no source has: {it}" for it in sorted(defined_in(definitions) - every)]
     wrong += [f"docs/{name}.md names what no source has: {it}"
               for name, page in (("DECISIONS", decisions), ("TRUST", trust)) for it in sorted(defined_in(page) - every - OF_OTHERS)]
-    wrong += unknown_in_architecture(architecture) + unfound + links
+    wrong += unknown_in_architecture(architecture) + unfound + wrong_in_readmes(below) + links
     for it in wrong:
         print(it)
     names = len(words_of(proved + definitions)) + len(defined_in(decisions) | defined_in(trust))
