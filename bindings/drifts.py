@@ -5,7 +5,10 @@ import re
 import interface
 
 # `interface.py --check` tells a change in these.
-WRITTEN = "|".join([interface.PROTOTYPE, interface.ERRORS, interface.CASES, interface.KINDS, interface.KINDS_OF_RUST])
+WRITTEN = "|".join([
+    interface.PROTOTYPE, interface.ERRORS, interface.CASES, interface.KINDS, interface.KINDS_OF_RUST, interface.FAULTS_OF_C,
+    interface.FAULTS_OF_RUST,
+])
 TYPE = r"\b(?:[iu]\d+|[iu]size)\b"
 STRUCT = r"#\[repr\(C\)\].*?\n\}"
 ENUM = r"^pub enum .*?\n\}"

@@ -3,9 +3,9 @@
 
 The exports of movaliren_c give the header's prototypes, each in its place, and the functions and structs of
 `library.rs`; `reason.rt` the reasons, and `library.rt` their words; `item.rt` the kinds of items and their choices, which
-`component.rt` of time_below documents.
+`component.rt` of time_below documents; `syntax.rt` the faults of descriptions, which time_describe documents.
 
-    bindings/interface.py           writes the header, `description.rs` and `library.rs`
+    bindings/interface.py           writes the header, `description.rs`, `parse.rs` and `library.rs`
     bindings/interface.py --check   ends with status 1 where one is not what would be written
 """
 
@@ -18,6 +18,7 @@ HERE = pathlib.Path(__file__).resolve().parent
 CRATES = HERE.parent / "crates"
 SOURCES = CRATES / "movaliren_c/src"
 COMPONENT = CRATES / "time_below/src/format_description/component.rt"
+FAULTS = [CRATES / "time_describe/src" / name for name in ("fault.rt", "strftime/fault.rt")]
 HEADER = HERE / "c/movaliren.h"
 RUST = HERE / "rust/src"
 # The Rust crate documents these, and they have private fields.
@@ -33,8 +34,12 @@ ERRORS = r"enum movaliren_error \{.*?\n\};"
 CASES = r"(?<=switch \(reason\) \{\n)(?:    case MOVALIREN_ERROR_\w+:\n        return [^\n]*\n)+"
 KINDS = r"enum movaliren_kind \{.*?\n\};"
 KINDS_OF_RUST = r"pub enum Kind \{.*?\n\}"
-USES = "use crate::{Error, Kind, Moment, UtcMoment};"
+FAULTS_OF_C = r"enum movaliren_fault_reason \{.*?\n\};"
+FAULTS_OF_RUST = r"pub enum FaultReason \{.*?\n\}"
+USES = "use crate::{Error, FaultReason, Kind, Moment, UtcMoment};"
 NEVER_RETURNED = ["OutOfMemory", "Other"]
+# The byte of a fault whose documentation does not name it.
+BYTES = {"Unfinished": "its `%`", "UnknownConversion": "that letter, or a colon before it", "ZoneName": "the `Z`"}
 # Words of a component's name, and those of the kind in their place.
 SHORTER = [
     ("CalendarYearCentury", "Century"), ("IsoYearCentury", "IsoCentury"), ("CalendarYear", "Year"), ("YearFull", "Year"),
@@ -183,6 +188,43 @@ def kinds_of_rust():
     return "pub enum Kind {\n" + "".join(rows) + "}"
 
 
+# ---- faults
+
+
+def said_of_faults():
+    """What is said of each fault. Where both syntaxes have it, what the second one says comes after the first."""
+    said = {}
+    for path in FAULTS:
+        for doc, name in re.findall(r"((?:    ///[^\n]*\n)+)    #\[error[^\n]*\n    (\w+)", path.read_text()):
+            words = re.sub(r"\s*///\s*", " ", doc).strip()
+            if name in BYTES:
+                words += f" The byte is {BYTES[name]}."
+            said[name] = f"{said[name]} In the syntax of strftime, {words[0].lower()}{words[1:]}" if name in said else words
+    return said
+
+
+def faults():
+    """Each fault with its number and what is said of it, by the number."""
+    found = re.findall(r"Reason::(\w+)(?:\(\w+\))? => \(?(\d+)", source("syntax"))
+    said = said_of_faults()
+    return sorted({(int(number), name, said[name]) for name, number in found})
+
+
+def faults_of_header():
+    lines = []
+    for number, name, said in faults():
+        lines += [comment(said), f"    MOVALIREN_FAULT_{upper(name)} = {number},"]
+    return "enum movaliren_fault_reason {\n" + "\n".join(lines).removesuffix(",") + "\n};"
+
+
+def faults_of_rust():
+    lines = []
+    for number, name, said in faults():
+        lines += [textwrap.fill(said, 100, initial_indent="    /// ", subsequent_indent="    /// ")]
+        lines += [f"    {name} = {number},"]
+    return "pub enum FaultReason {\n" + "\n".join(lines) + "\n}"
+
+
 # ---- files
 
 
@@ -207,7 +249,9 @@ def library(declared):
     lines += ["pub(crate) fn words_of(error: Error) -> Result<&'static str, isize> {", "    Ok(match error {"]
     lines += [f"        Error::{name} => {said}," for _, name, said in reasons()]
     lines += ["        Error::Unknown(number) => return Err(number),", "    })", "}"]
-    lines += ["", "impl Kind {"]
+    lines += ["", "pub(crate) fn fault_reason_of(number: u8) -> Option<FaultReason> {", "    Some(match number {"]
+    lines += [f"        {number} => FaultReason::{name}," for number, name, _ in faults()]
+    lines += ["        _ => return None,", "    })", "}", "", "impl Kind {"]
     for choice in ("padding", "sign_is_mandatory"):
         having = " | ".join(f"Kind::{short(name)}" for _, name, choices in kinds() if choice in choices)
         lines += [f"    pub(crate) const fn has_{choice.partition('_')[0]}(self) -> bool {{", f"        matches!(self, {having})", "    }"]
@@ -229,8 +273,13 @@ def written():
     header = replaced(header, ERRORS, error_enum())
     header = replaced(header, CASES, error_cases())
     header = replaced(header, KINDS, kinds_of_header())
+    header = replaced(header, FAULTS_OF_C, faults_of_header())
     description = replaced((RUST / "description.rs").read_text(), KINDS_OF_RUST, kinds_of_rust())
-    return {HEADER: header, RUST / "description.rs": description, RUST / "library.rs": library(declared)}
+    parse = replaced((RUST / "parse.rs").read_text(), FAULTS_OF_RUST, faults_of_rust())
+    return {
+        HEADER: header, RUST / "description.rs": description, RUST / "parse.rs": parse,
+        RUST / "library.rs": library(declared),
+    }
 
 
 def main():

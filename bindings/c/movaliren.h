@@ -553,26 +553,50 @@ ptrdiff_t movaliren_format_date_length(const struct movaliren_item *items, size_
 
 /* What is wrong in a text that is no description, and at which byte. */
 enum movaliren_fault_reason {
-    MOVALIREN_FAULT_UNCLOSED_BRACKET = 1,  /* the opening bracket */
-    MOVALIREN_FAULT_INVALID_ESCAPE = 2,    /* the backslash */
-    MOVALIREN_FAULT_MISSING_NAME = 3,      /* the closing bracket */
-    MOVALIREN_FAULT_UNKNOWN_NAME = 4,      /* the first byte of the name */
-    MOVALIREN_FAULT_UNKNOWN_MODIFIER = 5,  /* the first byte of the modifier */
-    MOVALIREN_FAULT_INVALID_VALUE = 6,     /* the first byte of the modifier */
-    MOVALIREN_FAULT_MISSING_MODIFIER = 7,  /* the closing bracket */
-    MOVALIREN_FAULT_MISSING_ITEMS = 8,     /* the closing bracket */
-    MOVALIREN_FAULT_UNEXPECTED_BYTE = 9,   /* that byte */
-    MOVALIREN_FAULT_TOO_DEEP = 10,         /* the opening bracket of the 33rd list */
-    MOVALIREN_FAULT_TOO_MANY_ITEMS = 11,   /* more than 65,536 */
-    MOVALIREN_FAULT_UNFINISHED = 12,       /* the `%` */
-    MOVALIREN_FAULT_UNKNOWN_CONVERSION = 13, /* the letter, or the colon */
-    MOVALIREN_FAULT_ZONE_NAME = 14,        /* the Z of `%Z` */
-    MOVALIREN_FAULT_LOCALE_MODIFIER = 15,  /* E or O */
-    MOVALIREN_FAULT_FIELD_WIDTH = 16,      /* the first digit */
-    MOVALIREN_FAULT_CASE_FLAG = 17,        /* ^ or # */
-    MOVALIREN_FAULT_PLUS_FLAG = 18,        /* + */
-    MOVALIREN_FAULT_SECOND_FLAG = 19,      /* the second flag */
-    MOVALIREN_FAULT_FLAG_WITHOUT_NUMBER = 20 /* the letter */
+    /* A bracket is not closed, or another one or a backslash stands in it: the opening bracket. */
+    MOVALIREN_FAULT_UNCLOSED_BRACKET = 1,
+    /* What follows a backslash is no backslash and no bracket: the backslash. */
+    MOVALIREN_FAULT_INVALID_ESCAPE = 2,
+    /* Brackets have no name in them: the closing bracket. */
+    MOVALIREN_FAULT_MISSING_NAME = 3,
+    /* No component has this name: the first byte of the name. */
+    MOVALIREN_FAULT_UNKNOWN_NAME = 4,
+    /* The component has no modifier with this key: the first byte of the key. */
+    MOVALIREN_FAULT_UNKNOWN_MODIFIER = 5,
+    /* The modifier has no such value: the first byte of the key. */
+    MOVALIREN_FAULT_INVALID_VALUE = 6,
+    /* An `ignore` has no `count`: the closing bracket. */
+    MOVALIREN_FAULT_MISSING_MODIFIER = 7,
+    /* An `optional` has no list of items: the closing bracket. */
+    MOVALIREN_FAULT_MISSING_ITEMS = 8,
+    /* A byte other than whitespace and a bracket stands between lists of items, or an `optional`
+     * has another list: that byte, or the bracket of the list. */
+    MOVALIREN_FAULT_UNEXPECTED_BYTE = 9,
+    /* A list of items is the 33rd in one another: its opening bracket. */
+    MOVALIREN_FAULT_TOO_DEEP = 10,
+    /* More than 65,536 opening brackets and backslashes, with one of which each item but a literal
+     * begins: the first one past them. In the syntax of strftime, the part that begins here has the
+     * 65,537th item. */
+    MOVALIREN_FAULT_TOO_MANY_ITEMS = 11,
+    /* The text ends within a conversion. The byte is its `%`. */
+    MOVALIREN_FAULT_UNFINISHED = 12,
+    /* No conversion has this letter. The byte is that letter, or a colon before it. */
+    MOVALIREN_FAULT_UNKNOWN_CONVERSION = 13,
+    /* `%Z`, the name of a time zone: values have an offset and no name of it. The byte is the
+     * `Z`. */
+    MOVALIREN_FAULT_ZONE_NAME = 14,
+    /* `E` or `O`, which ask for a locale's own eras and digits. */
+    MOVALIREN_FAULT_LOCALE_MODIFIER = 15,
+    /* A field width, other than the three of `%3N`, `%6N` and `%9N`: its first digit. */
+    MOVALIREN_FAULT_FIELD_WIDTH = 16,
+    /* `^` or `#`, which change the case of letters. */
+    MOVALIREN_FAULT_CASE_FLAG = 17,
+    /* `+`, a flag of POSIX.1-2008 and a conversion of other systems. */
+    MOVALIREN_FAULT_PLUS_FLAG = 18,
+    /* A flag after another one. */
+    MOVALIREN_FAULT_SECOND_FLAG = 19,
+    /* A flag before this letter, whose conversion takes none. */
+    MOVALIREN_FAULT_FLAG_WITHOUT_NUMBER = 20
 };
 
 /* Why a text gave no items. */
