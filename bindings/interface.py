@@ -37,7 +37,11 @@ KINDS_OF_RUST = r"pub enum Kind \{.*?\n\}"
 FAULTS_OF_C = r"enum movaliren_fault_reason \{.*?\n\};"
 FAULTS_OF_RUST = r"pub enum FaultReason \{.*?\n\}"
 USES = "use crate::{Error, FaultReason, Kind, Moment, UtcMoment};"
-NEVER_RETURNED = ["OutOfMemory", "Other"]
+# What is said of a reason beside its words.
+REMARKS = {
+    "NoRoom": "a format says by its MOVALIREN_.._ROOM how much is enough, and a description by movaliren_format_length",
+    "OutOfMemory": "never returned", "Other": "never returned",
+}
 # The byte of a fault whose documentation does not name it.
 BYTES = {"Unfinished": "its `%`", "UnknownConversion": "that letter, or a colon before it", "ZoneName": "the `Z`"}
 # Words of a component's name, and those of the kind in their place.
@@ -132,9 +136,11 @@ def upper(name):
 
 
 def error_enum():
-    rows = [(f"    MOVALIREN_ERROR_{upper(name)} = -{number}", name) for number, name, _ in reasons()]
-    lines = [f"{row},{' /* never returned */' if name in NEVER_RETURNED else ''}" for row, name in rows]
-    return "enum movaliren_error {\n" + re.sub(r",$", "", "\n".join(lines)) + "\n};"
+    lines = []
+    for number, name, _ in reasons():
+        lines += [comment(REMARKS[name])] if name in REMARKS else []
+        lines += [f"    MOVALIREN_ERROR_{upper(name)} = -{number},"]
+    return "enum movaliren_error {\n" + "\n".join(lines).removesuffix(",") + "\n};"
 
 
 def error_cases():

@@ -14,12 +14,17 @@
  * in range. A call reads its arguments, keeps nothing and prints nothing. Threads may call at the same
  * time without a lock.
  *
+ * A text that does not fit the buffer is MOVALIREN_ERROR_NO_ROOM. A buffer of MOVALIREN_RFC3339_ROOM bytes
+ * holds each text of RFC 3339, and the other formats have such numbers. Of a description movaliren_width is
+ * the most bytes that a text has, and movaliren_format_length and its like count the bytes of one text.
+ *
  * No call allocates, so each may be made from a signal handler, and in the forked child of a process with
  * threads.
  *
- * Pointers must not be null, also where a length is 0: pass "". Each length must be that of its array,
- * and below PTRDIFF_MAX. The buffer must not overlap anything else that the call is given. All fields must
- * be set.
+ * Pointers must not be null, also where a length is 0: pass "". The proof is about arrays, and each array
+ * has a place in memory, also one of no bytes. So no call tests for null. Each length must be that of its
+ * array, and below PTRDIFF_MAX. The buffer must not overlap anything else that the call is given. All
+ * fields must be set.
  *
  * The header is C99 and C++, and C89 where the compiler has <stdint.h> and an inline of its own. The soname
  * libmovaliren.so.0 stands for the layout of each struct and the meaning of each call: a field more, or another
@@ -72,9 +77,13 @@ enum movaliren_error {
     MOVALIREN_ERROR_OUT_OF_RANGE = -17,
     MOVALIREN_ERROR_BAD_CONFIG = -18,
     MOVALIREN_ERROR_BAD_ITEM = -19,
+    /* a format says by its MOVALIREN_.._ROOM how much is enough, and a description by
+     * movaliren_format_length */
     MOVALIREN_ERROR_NO_ROOM = -20,
-    MOVALIREN_ERROR_OUT_OF_MEMORY = -21, /* never returned */
-    MOVALIREN_ERROR_OTHER = -22, /* never returned */
+    /* never returned */
+    MOVALIREN_ERROR_OUT_OF_MEMORY = -21,
+    /* never returned */
+    MOVALIREN_ERROR_OTHER = -22,
     MOVALIREN_ERROR_NOT_READ = -23,
     MOVALIREN_ERROR_BAD_DESCRIPTION = -24,
     MOVALIREN_ERROR_MANY_ITEMS = -25
@@ -84,7 +93,8 @@ enum movaliren_error {
 uint32_t movaliren_version(void);
 
 /* Writes the reason in words, which are those of movaliren_error_text, for programs that cannot call what stands
- * in a header alone. Of a number that is no movaliren_error these are "no error" or "unknown error". */
+ * in a header alone. Of a number that is no movaliren_error these are "no error" or "unknown error". A buffer of
+ * 200 bytes holds any of them. */
 ptrdiff_t movaliren_error_words(ptrdiff_t reason, void *room, size_t room_len);
 
 /* The reason in words. */
@@ -155,7 +165,8 @@ MOVALIREN_INLINE ptrdiff_t movaliren_ended(char *line, ptrdiff_t count)
 
 /* Calls the function with these arguments and an array of char, less one byte, as its buffer, and ends the text
  * by a zero. */
-#if defined(__cplusplus) || (defined(__STDC_VERSION__) && __STDC_VERSION__ >= 199901L)
+#if (defined(__cplusplus) && __cplusplus >= 201103L)                                   \
+    || (defined(__STDC_VERSION__) && __STDC_VERSION__ >= 199901L)
 #define MOVALIREN_STRING(line, function, ...)                                          \
     movaliren_ended(line, function(__VA_ARGS__, line, sizeof(line) - 1))
 #endif
@@ -538,8 +549,9 @@ ptrdiff_t movaliren_format_date(const struct movaliren_item *items, size_t items
 ptrdiff_t movaliren_width(const struct movaliren_item *items, size_t items_len, const void *texts,
     size_t texts_len);
 
-/* The number of bytes of one text, up to PTRDIFF_MAX, or its error, which is never MOVALIREN_ERROR_NO_ROOM. A caller
- * who has that error makes a buffer of this many. It costs about as much as the text. */
+/* The number of bytes of one text, up to PTRDIFF_MAX, or its error, which is never MOVALIREN_ERROR_NO_ROOM. After
+ * that error of movaliren_format make a buffer of this many bytes, and call it again. It costs about as much as the
+ * text. */
 ptrdiff_t movaliren_format_length(const struct movaliren_item *items, size_t items_len,
     const void *texts, size_t texts_len, const struct movaliren_moment *moment);
 ptrdiff_t movaliren_format_utc_length(const struct movaliren_item *items, size_t items_len,
@@ -624,23 +636,29 @@ ptrdiff_t movaliren_describe(const void *text, size_t text_len, struct movaliren
 ptrdiff_t movaliren_describe_strftime(const void *text, size_t text_len,
     struct movaliren_item *items, size_t items_len, struct movaliren_fault *fault);
 
-/* The text of a moment by a description of at most 64 items, which is read for this one text: in brackets, or in the
- * syntax of strftime. The errors are those of movaliren_describe, and then those of movaliren_format_utc.
+/* The text of a moment by a description in brackets of at most 64 items, which is read for this one text. The errors
+ * are those of movaliren_describe, and then those of movaliren_format_utc. After MOVALIREN_ERROR_NO_ROOM read the
+ * description by movaliren_parse, and movaliren_length_by_utc counts the bytes of the text.
  *
  *     static const char day[] = "[day] [month repr:long]";
- *     n = movaliren_brackets_utc(day, sizeof day - 1, now.tv_sec, 0, line, sizeof line);
- */
+ *     n = movaliren_brackets_utc(day, sizeof day - 1, now.tv_sec, 0, line, sizeof line); */
 ptrdiff_t movaliren_brackets_utc(const void *text, size_t text_len, int64_t seconds,
     uint32_t nanosecond, void *room, size_t room_len);
 ptrdiff_t movaliren_brackets_local(const void *text, size_t text_len, int64_t seconds,
     uint32_t nanosecond, int64_t offset, void *room, size_t room_len);
+
+/* The same by a description in the syntax of strftime, with the errors of movaliren_describe_strftime. It is read again
+ * by movaliren_parse_strftime.
+ *
+ *     static const char day[] = "%d %B";
+ *     n = movaliren_strftime_utc(day, sizeof day - 1, now.tv_sec, 0, line, sizeof line); */
 ptrdiff_t movaliren_strftime_utc(const void *text, size_t text_len, int64_t seconds,
     uint32_t nanosecond, void *room, size_t room_len);
 ptrdiff_t movaliren_strftime_local(const void *text, size_t text_len, int64_t seconds,
     uint32_t nanosecond, int64_t offset, void *room, size_t room_len);
 
 /* Writes the reason of a fault in words, without the byte. Of a number that is no movaliren_fault_reason these are
- * "unknown reason". */
+ * "unknown reason". A buffer of MOVALIREN_FAULT_ROOM bytes holds any of them. */
 ptrdiff_t movaliren_fault_words(uint8_t reason, void *room, size_t room_len);
 
 /* ---- descriptions, each one argument */
@@ -667,14 +685,14 @@ struct movaliren_description {
     struct movaliren_fault fault;
 };
 
-/* The description over an array of items, as an initialiser, before a text is read. */
+/* The description over an array of items, as an initialiser, before a text is read. In C89 the array is static. */
 #define MOVALIREN_ITEMS(items)                                                         \
     {                                                                                  \
         items, 0, sizeof(items) / sizeof *(items), "", 0, NULL, 0,                     \
             MOVALIREN_ERROR_BAD_DESCRIPTION, { 0, 0, 0, 0 }                            \
     }
 
-/* The empty description over two arrays, as an initialiser, to which items are added. */
+/* The empty description over two arrays, as an initialiser, to which items are added. In C89 both are static. */
 #define MOVALIREN_DESCRIPTION(items, texts)                                            \
     {                                                                                  \
         items, 0, sizeof(items) / sizeof *(items), texts, 0, texts, sizeof(texts), 0,  \
