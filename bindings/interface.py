@@ -2,10 +2,10 @@
 """Writes what the header and the Rust crate have from the code.
 
 The exports of movaliren_c give the header's prototypes, each in its place, and the functions and structs of
-`library.rs`; `reason.rt` the reasons, and `library.rt` their words; `item.rt` the kinds of items and their choices, which
+`library.rs`; `reason.rt` the reasons, also of C++, and `library.rt` their words; `item.rt` the kinds of items and their choices, which
 `component.rt` of time_below documents; `syntax.rt` the faults of descriptions, which time_describe documents.
 
-    bindings/interface.py           writes the header, `description.rs`, `parse.rs` and `library.rs`
+    bindings/interface.py           writes both headers, `description.rs`, `parse.rs` and `library.rs`
     bindings/interface.py --check   ends with status 1 where one is not what would be written
 """
 
@@ -20,6 +20,7 @@ SOURCES = CRATES / "movaliren_c/src"
 COMPONENT = CRATES / "time_below/src/format_description/component.rt"
 FAULTS = [CRATES / "time_describe/src" / name for name in ("fault.rt", "strftime/fault.rt")]
 HEADER = HERE / "c/movaliren.h"
+HEADER_OF_CPP = HERE / "c/movaliren.hpp"
 RUST = HERE / "rust/src"
 # The Rust crate documents these, and they have private fields.
 OF_RUST = ["Moment", "UtcMoment"]
@@ -31,6 +32,7 @@ FIELD = r"(\w+): (\w+|\[\w+; \d+\]),"
 # What is written in a file that has more by hand.
 PROTOTYPE = r"^(?:struct )?\w+ (movaliren_\w+)\([^)]*\);"
 ERRORS = r"enum movaliren_error \{.*?\n\};"
+ERRORS_OF_CPP = r"enum class errc : int \{.*?\n\};"
 CASES = r"(?<=switch \(reason\) \{\n)(?:    case MOVALIREN_ERROR_\w+:\n        return [^\n]*\n)+"
 KINDS = r"enum movaliren_kind \{.*?\n\};"
 KINDS_OF_RUST = r"pub enum Kind \{.*?\n\}"
@@ -141,6 +143,11 @@ def error_enum():
         lines += [comment(REMARKS[name])] if name in REMARKS else []
         lines += [f"    MOVALIREN_ERROR_{upper(name)} = -{number},"]
     return "enum movaliren_error {\n" + "\n".join(lines).removesuffix(",") + "\n};"
+
+
+def errors_of_cpp():
+    lines = [f"    {snake(name).lower()} = MOVALIREN_ERROR_{upper(name)}," for _, name, _ in reasons()]
+    return "enum class errc : int {\n" + "\n".join(lines).removesuffix(",") + "\n};"
 
 
 def error_cases():
@@ -280,10 +287,11 @@ def written():
     header = replaced(header, CASES, error_cases())
     header = replaced(header, KINDS, kinds_of_header())
     header = replaced(header, FAULTS_OF_C, faults_of_header())
+    of_cpp = replaced(HEADER_OF_CPP.read_text(), ERRORS_OF_CPP, errors_of_cpp())
     description = replaced((RUST / "description.rs").read_text(), KINDS_OF_RUST, kinds_of_rust())
     parse = replaced((RUST / "parse.rs").read_text(), FAULTS_OF_RUST, faults_of_rust())
     return {
-        HEADER: header, RUST / "description.rs": description, RUST / "parse.rs": parse,
+        HEADER: header, HEADER_OF_CPP: of_cpp, RUST / "description.rs": description, RUST / "parse.rs": parse,
         RUST / "library.rs": library(declared),
     }
 

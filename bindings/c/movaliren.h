@@ -899,6 +899,20 @@ MOVALIREN_INLINE void movaliren_add_text(struct movaliren_description *descripti
 /* A buffer of this many bytes holds the words of any fault. */
 #define MOVALIREN_FAULT_ROOM 100
 
+/* Writes a byte as itself, as \t or its like, or as \x7f, and returns the number of characters. */
+MOVALIREN_INLINE int movaliren_escaped(uint8_t byte, char *room)
+{
+    static const char pairs[] = "\tt\rr\nn''\"\"\\\\";
+    const char *pair = pairs;
+    while (*pair != 0 && *pair != (char)byte)
+        pair += 2;
+    if (*pair != 0)
+        return sprintf(room, "\\%c", pair[1]);
+    if (byte >= 0x20 && byte < 0x7f)
+        return sprintf(room, "%c", byte);
+    return sprintf(room, "\\x%02x", byte);
+}
+
 /* The fault in words, as "unknown conversion `%Q` at byte 1", and a zero after them. Returns the buffer, which has
  * MOVALIREN_FAULT_ROOM bytes. */
 MOVALIREN_INLINE const char *movaliren_fault_text(const struct movaliren_fault *fault, char *room)
@@ -911,10 +925,11 @@ MOVALIREN_INLINE const char *movaliren_fault_text(const struct movaliren_fault *
         sprintf(room, "the description has %lu items", (unsigned long)fault->items);
         return room;
     }
-    if (fault->byte > 0x20 && fault->byte < 0x7f)
-        rest += sprintf(rest, " `%s%c`", percent, fault->byte);
-    else if (fault->byte != 0)
-        rest += sprintf(rest, " `%s\\x%02x`", percent, fault->byte);
+    if (fault->byte != 0) {
+        rest += sprintf(rest, " `%s", percent);
+        rest += movaliren_escaped(fault->byte, rest);
+        *rest++ = '`';
+    }
     sprintf(rest, " at byte %lu", (unsigned long)fault->at);
     return room;
 }

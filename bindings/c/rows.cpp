@@ -108,6 +108,14 @@ static void descriptions()
     expect("of a moment", std::to_string(day.length(moment)), "12");
     expect("at an offset", std::to_string(day.length(at(seconds(880127706)), hours(9))), "14");
     expect("nothing", movaliren::description().format(moment), "");
+    const auto usual = movaliren::description().add(MOVALIREN_PERIOD).add(MOVALIREN_WEEKDAY_FROM_SUNDAY);
+    expect("usual choices", usual.format(moment), "PM6");
+    const auto chosen = movaliren::description().add(MOVALIREN_PERIOD, MOVALIREN_ZERO, false)
+        .add(MOVALIREN_HOUR_12, MOVALIREN_SPACE).add(MOVALIREN_SUBSECOND, MOVALIREN_ZERO, false, 3);
+    expect("other choices", chosen.format(at(milliseconds(-1))), "pm11999");
+    const auto hour = movaliren::description().add(MOVALIREN_HOUR, MOVALIREN_NO_PADDING);
+    expect("a length in UTC", std::to_string(hour.length(at(hours(9)))), "1");
+    expect("a length at an offset", std::to_string(hour.length(at(hours(9)), hours(1))), "2");
     try {
         movaliren::description().add(static_cast<movaliren_kind>(99)).format(moment);
         failed++;
@@ -148,6 +156,9 @@ static void readings()
     expect("its nanosecond", std::to_string(moment.value().nanosecond), "870000000");
     const auto local = movaliren::read_rfc3339_local("1996-12-19t16:39:57-08:00", movaliren::profile::lenient);
     expect("read locally", std::to_string(local.value().offset_hours), "-8");
+    expect("read locally and strictly", movaliren::read_rfc3339_local("1996-12-19t16:39:57-08:00").message(),
+        "byte 10: expected `T`");
+    expect("read leniently", movaliren::read_rfc3339("1970-01-01t00:00:00z", movaliren::profile::lenient).message(), "");
     const auto none = movaliren::read_rfc3339("1996-12-19t16:39:57-08:00");
     expect_error("not read", none.error(), errc::not_read);
     expect("its place", none.message(), "byte 10: expected `T`");

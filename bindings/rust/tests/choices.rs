@@ -302,6 +302,18 @@ fn a_text_that_is_no_description_has_its_reason_and_byte() {
             "unknown conversion `%\\xc3` at byte 3",
         ),
         (
+            "% d",
+            FaultReason::UnknownConversion,
+            Some(b' '),
+            "unknown conversion `% ` at byte 1",
+        ),
+        (
+            "%\"",
+            FaultReason::UnknownConversion,
+            Some(b'"'),
+            "unknown conversion `%\\\"` at byte 1",
+        ),
+        (
             "%-F",
             FaultReason::FlagWithoutNumber,
             Some(b'F'),
