@@ -35,6 +35,10 @@ template <class Duration> static movaliren::sys_time<Duration> at(Duration since
     return movaliren::sys_time<Duration>(since);
 }
 
+// The bytes of a text last as long as it, so the value of one that ends with the expression is a copy.
+static_assert(std::is_same_v<decltype(movaliren::rfc3339(at(seconds(0))).value()), std::string>);
+static_assert(std::is_same_v<decltype(std::declval<movaliren::text<1> &>().value()), std::string_view>);
+
 static void texts()
 {
     // RFC 3339, section 5.8, and RFC 2822, appendix A.1.1.
@@ -100,6 +104,8 @@ static void descriptions()
 {
     const auto day = movaliren::description().add(MOVALIREN_DAY, MOVALIREN_NO_PADDING).add(" of ").add(MOVALIREN_MONTH_LONG);
     expect("a description", day.format(at(seconds(880127706))), "21 of November");
+    const auto texts = movaliren::description().add("day ").add(MOVALIREN_DAY).add(" of the month");
+    expect("two texts", texts.format(at(seconds(880127706))), "day 21 of the month");
     const movaliren_moment moment = { 1937, 0, 1, 1, 12, 0, 27, 0, 20, 0 };
     expect("of a moment", day.format(moment), "1 of January");
     expect("at an offset", day.format(at(seconds(880127706)), hours(9)), "22 of November");
@@ -138,6 +144,7 @@ static void descriptions_from_texts()
     for (int i = 0; i < 1000; i++)
         many += "%d-", wanted += "21-";
     expect("2,000 items", movaliren::description::parse_strftime(many).format(at(seconds(880127706))), wanted);
+    expect("a zero within", movaliren::description::parse_strftime({ "%d\0%m", 5 }).format(at(seconds(0))), { "01\0" "01", 5 });
     expect("a text that ends within", movaliren::description::parse_strftime(std::string_view("%d%Q", 2)).format(at(seconds(0))), "01");
     try {
         movaliren::description::parse_strftime("%d %Q");

@@ -242,6 +242,18 @@ static void try_rooms(void)
     }
 }
 
+/* A component is added to a description that was read, and no text, since its texts are those of the caller. */
+static void try_adding(void)
+{
+    struct movaliren_item items[5];
+    struct movaliren_description line = MOVALIREN_ITEMS(items);
+    movaliren_parse_strftime(&line, "at %H");
+    movaliren_add_usual(&line, MOVALIREN_PERIOD);
+    expect_text(by, &line, &mail, "at 09AM");
+    movaliren_add_text(&line, "x");
+    expect_refused(&line, MOVALIREN_ERROR_NO_ROOM, "a text is added");
+}
+
 static ptrdiff_t fault_words(const void *format, const void *value, uint8_t *room, size_t room_len)
 {
     (void)format;
@@ -321,6 +333,7 @@ int main(void)
     try_texts();
     try_faults();
     try_rooms();
+    try_adding();
     try_words();
     for (size_t i = 0; i < sizeof rows / sizeof *rows; i++)
         try_prefixes(rows[i].format, rows[i].parse == movaliren_parse_strftime);
