@@ -72,6 +72,8 @@ static void durations()
         "1970-01-01T00:00:00.999999999Z");
     using gregorian_years = duration<std::int64_t, std::ratio<31556952>>;
     expect_error("years", movaliren::rfc3339(at(gregorian_years(INT64_MAX))).error(), errc::moment_seconds);
+    expect_error("years before", movaliren::rfc3339(at(gregorian_years(INT64_MIN))).error(), errc::moment_seconds);
+    expect_error("minus infinity", movaliren::rfc3339(at(duration<double>(-INFINITY))).error(), errc::moment_seconds);
     expect_error("no number", movaliren::rfc3339(at(duration<double>(std::nan("")))).error(), errc::moment_seconds);
     expect_error("infinity", movaliren::rfc3339(at(duration<double>(INFINITY))).error(), errc::moment_seconds);
 }
