@@ -70,6 +70,7 @@ static void durations()
     expect("a double", movaliren::rfc3339(at(duration<double>(-0.25))).value(), "1969-12-31T23:59:59.75Z");
     expect("nearly a second", movaliren::rfc3339(at(duration<long double>(std::nextafter(1.0L, 0.0L)))).value(),
         "1970-01-01T00:00:00.999999999Z");
+    expect("barely below 1970", movaliren::rfc3339(at(duration<double>(-1e-30))).value(), "1969-12-31T23:59:59.999999999Z");
     using gregorian_years = duration<std::int64_t, std::ratio<31556952>>;
     expect_error("years", movaliren::rfc3339(at(gregorian_years(INT64_MAX))).error(), errc::moment_seconds);
     expect_error("years before", movaliren::rfc3339(at(gregorian_years(INT64_MIN))).error(), errc::moment_seconds);
@@ -120,7 +121,7 @@ static void descriptions()
     expect("usual choices", usual.format(moment), "PM6");
     const auto chosen = movaliren::description().add(MOVALIREN_PERIOD, MOVALIREN_ZERO, false)
         .add(MOVALIREN_HOUR_12, MOVALIREN_SPACE).add(MOVALIREN_SUBSECOND, MOVALIREN_ZERO, false, 3);
-    expect("other choices", chosen.format(at(milliseconds(-1))), "pm11999");
+    expect("other choices", chosen.format(at(milliseconds(-10))), "pm11990");
     const auto hour = movaliren::description().add(MOVALIREN_HOUR, MOVALIREN_NO_PADDING);
     expect("a length in UTC", std::to_string(hour.length(at(hours(9)))), "1");
     expect("a length at an offset", std::to_string(hour.length(at(hours(9)), hours(1))), "2");

@@ -417,6 +417,9 @@ fn the_texts_in_place_show_compare_and_convert() {
     assert_eq!(String::from(text), *text);
     assert!(text < Rfc3339.text(&Moment::new(1998, 1, 1)).unwrap());
     assert_eq!(text, Rfc3339.text(&EXAMPLE).unwrap());
+    let [a, zero] =
+        ["a", "a\0"].map(|text| Description::new().literal(text).text(&EXAMPLE).unwrap());
+    assert!(a < zero && a != zero && zero == "a\0");
     assert!("1997-11-12T09:55:06.12-06:00" == text && text == *"1997-11-12T09:55:06.12-06:00");
 }
 
