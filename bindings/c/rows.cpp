@@ -44,6 +44,8 @@ static void texts()
     // RFC 3339, section 5.8, and RFC 2822, appendix A.1.1.
     expect("centiseconds", movaliren::rfc3339(at(milliseconds(482196050520))).value(), "1985-04-12T23:20:50.52Z");
     expect("an offset", movaliren::rfc3339(at(seconds(851042397)), hours(-8)).value(), "1996-12-19T16:39:57-08:00");
+    expect("decimals at an offset", movaliren::rfc3339(at(milliseconds(851042397500)), hours(-8)).value(),
+        "1996-12-19T16:39:57.5-08:00");
     expect("RFC 2822", movaliren::rfc2822(at(seconds(880127706)), hours(-6)).value(),
         "Fri, 21 Nov 1997 09:55:06 -0600");
     expect("RFC 2822 in UTC", movaliren::rfc2822(at(minutes(14668795))).value(), "Fri, 21 Nov 1997 15:55:00 +0000");
