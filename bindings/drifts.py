@@ -16,7 +16,7 @@ ENUM = r"^pub enum .*?\n\}"
 SHARED = r"^struct movaliren_moment .*^struct movaliren_description "
 # The places of changes: a file, the parts of it, and what is changed there.
 PLACES = [
-    ("movaliren.h", r".*", r"\b(?!MOVALIREN_(?:H|INLINE)\b)(?:MOVALIREN|movaliren)_\w+"),
+    ("movaliren.h", r".*", r"\b(?!MOVALIREN_(?:H|INLINE|CAST)\b)(?:MOVALIREN|movaliren)_\w+"),
     ("movaliren.h", r".*", r'(?<=return )"[^"]+"|(?<=\? )"[^"]+"|(?<=VERSION )"[^"]+"'),
     ("movaliren.h", r".*", r"\bMOVALIREN_\w+ = -?\d+"),
     ("movaliren.h", SHARED, r"(?<=_t )\w+(?=[;,)])|(?<=\*)\w+(?=[;,)])|\b\w+_t(?= \w+[;,)(])|\bconst "),

@@ -53,6 +53,13 @@
 #endif
 #endif
 
+/* A value as one of another type. */
+#ifdef __cplusplus
+#define MOVALIREN_CAST(type, value) static_cast<type>(value)
+#else
+#define MOVALIREN_CAST(type, value) ((type)(value))
+#endif
+
 #ifdef __cplusplus
 extern "C" {
 #endif
@@ -706,7 +713,7 @@ MOVALIREN_INLINE ptrdiff_t movaliren_parsed(
     description->texts = text;
     description->texts_len = text_len;
     description->texts_room = text_len;
-    description->items_len = count < 0 ? 0 : (size_t)count;
+    description->items_len = count < 0 ? 0 : MOVALIREN_CAST(size_t, count);
     description->reason = count < 0 ? count : 0;
     return description->reason;
 }
@@ -857,7 +864,10 @@ MOVALIREN_INLINE void movaliren_add(struct movaliren_description *description, u
 {
     struct movaliren_item item = { 0, 0, 0, 0, 0, 0, 0 };
     const int is_component = MOVALIREN_DAY <= kind && kind <= MOVALIREN_UNIX_MILLISECOND;
-    item.kind = kind, item.padding = padding, item.flag = flag, item.digits = digits;
+    item.kind = kind;
+    item.padding = padding;
+    item.flag = flag;
+    item.digits = digits;
     if (is_component && padding <= MOVALIREN_NO_PADDING && flag <= 1 && digits <= 9)
         movaliren_add_item(description, item);
     else
@@ -878,7 +888,8 @@ MOVALIREN_INLINE void movaliren_add_bytes(
     struct movaliren_description *description, const void *bytes, size_t len)
 {
     struct movaliren_item item = { MOVALIREN_TEXT, 0, 0, 0, 0, 0, 0 };
-    item.start = description->texts_len, item.len = len;
+    item.start = description->texts_len;
+    item.len = len;
     if (len > description->texts_room - description->texts_len)
         movaliren_refuse(description, MOVALIREN_ERROR_NO_ROOM);
     movaliren_add_item(description, item);
@@ -904,7 +915,7 @@ MOVALIREN_INLINE int movaliren_escaped(uint8_t byte, char *room)
 {
     static const char pairs[] = "\tt\rr\nn''\"\"\\\\";
     const char *pair = pairs;
-    while (*pair != 0 && *pair != (char)byte)
+    while (*pair != 0 && *pair != MOVALIREN_CAST(char, byte))
         pair += 2;
     if (*pair != 0)
         return sprintf(room, "\\%c", pair[1]);
@@ -922,7 +933,7 @@ MOVALIREN_INLINE const char *movaliren_fault_text(const struct movaliren_fault *
     const ptrdiff_t count = movaliren_fault_words(fault->reason, room, MOVALIREN_FAULT_ROOM - 40);
     char *rest = room + (count < 0 ? 0 : count);
     if (fault->items > 0) {
-        sprintf(room, "the description has %lu items", (unsigned long)fault->items);
+        sprintf(room, "the description has %lu items", MOVALIREN_CAST(unsigned long, fault->items));
         return room;
     }
     if (fault->byte != 0) {
@@ -930,7 +941,7 @@ MOVALIREN_INLINE const char *movaliren_fault_text(const struct movaliren_fault *
         rest += movaliren_escaped(fault->byte, rest);
         *rest++ = '`';
     }
-    sprintf(rest, " at byte %lu", (unsigned long)fault->at);
+    sprintf(rest, " at byte %lu", MOVALIREN_CAST(unsigned long, fault->at));
     return room;
 }
 
@@ -943,7 +954,7 @@ MOVALIREN_INLINE const char *movaliren_place_text(const struct movaliren_place *
 {
     static const char *const before[] = { "", "", "", "", "", "`.`, ", "a digit, " };
     const char *letters = "`Z`", *small = "";
-    char *rest = room + sprintf(room, "byte %lu: expected ", (unsigned long)place->at);
+    char *rest = room + sprintf(room, "byte %lu: expected ", MOVALIREN_CAST(unsigned long, place->at));
     if (place->first == 'T')
         letters = "`T`";
     if (place->is_lenient)

@@ -471,8 +471,8 @@ private:
         return text;
     }
 
-    std::vector<movaliren_item> items_;
-    std::string texts_;
+    std::vector<movaliren_item> items_ = {};
+    std::string texts_ = {};
 };
 
 } // namespace movaliren
