@@ -692,7 +692,8 @@ struct movaliren_description {
     struct movaliren_fault fault;
 };
 
-/* The description over an array of items, as an initialiser, before a text is read. In C89 the array is static. */
+/* The description over an array of items, as an initialiser, before a text is read. In C89 the array is static. To
+ * read a text into items that were allocated set `items` and `items_room`. */
 #define MOVALIREN_ITEMS(items)                                                         \
     {                                                                                  \
         items, 0, sizeof(items) / sizeof *(items), "", 0, NULL, 0,                     \
