@@ -654,8 +654,10 @@ ptrdiff_t movaliren_brackets_utc(const void *text, size_t text_len, int64_t seco
 ptrdiff_t movaliren_brackets_local(const void *text, size_t text_len, int64_t seconds,
     uint32_t nanosecond, int64_t offset, void *room, size_t room_len);
 
-/* The same by a description in the syntax of strftime, with the errors of movaliren_describe_strftime. It is read again
- * by movaliren_parse_strftime.
+/* The text of a moment by a description in the syntax of strftime of at most 64 items, which is read for this one text.
+ * The errors are those of movaliren_describe_strftime, and then those of movaliren_format_utc. After
+ * MOVALIREN_ERROR_NO_ROOM read the description by movaliren_parse_strftime, and movaliren_length_by_utc counts the bytes
+ * of the text.
  *
  *     static const char day[] = "%d %B";
  *     n = movaliren_strftime_utc(day, sizeof day - 1, now.tv_sec, 0, line, sizeof line); */
