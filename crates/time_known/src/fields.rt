@@ -42,10 +42,10 @@ pub struct Fields {
     pub offset: OffsetFields,
 }
 
-// The fields of a value whose year is from the first to 9,999, and whose offset has at most this many hours and no
-// seconds. Else the first of them that is refused.
+/// Returns the fields of a value whose year is from the first to 9,999, and whose offset has at most this
+/// many hours and no seconds. Else returns the first of these that has no place.
 #[inline(always)]
-pub(crate) fn accepted_fields<V: ComponentProvider>(
+pub fn accepted_fields<V: ComponentProvider>(
     first: u16,
     greatest_hour: u8,
     value: &V,

@@ -133,9 +133,9 @@ pub(super) fn date_of<V: ComponentProvider>(
     }
 }
 
-// The fields of the parts that are formatted.
+/// The parts of the value that the configuration formats.
 #[inline(always)]
-fn parts_of<V: ComponentProvider>(config: &Config, value: &V, state: &mut V::State) -> Parts
+pub fn parts_of<V: ComponentProvider>(config: &Config, value: &V, state: &mut V::State) -> Parts
     requires supplied { IsTrue (are_supplied (groups_of config.now.formatted_components)
         V.SUPPLIES_DATE V.SUPPLIES_TIME V.SUPPLIES_OFFSET) }
     requires agrees { V.agrees state.old value.now }
