@@ -2,7 +2,7 @@
 //!
 //! What the buffer held before is a ghost member of a type parameter. So the sink's own invariants say that
 //! what follows the text is as it was, and no writer has to.
-ghost use Rattle.std.specs.Prelude.{◌≡◌, ◌+◌, ◌<◌, ◌≤◌, ◌++◌, ◌∷◌, ℕ, List, [], Some, length, take, drop};
+ghost use Rattle.std.specs.Prelude.{◌≡◌, ◌<◌, ◌≤◌, ℕ, List, [], Some, length, take, drop};
 ghost use Rattle.time_fmt.specs.Sink.{Buffer};
 
 use crate::sink::Sink;
@@ -52,63 +52,6 @@ impl<'a, B: Before> RoomSink<'a, B> {
     {
         self.len
     }
-
-    // Appends a byte.
-    #[inline(always)]
-    fn push(&mut self, byte: u8)
-        requires room { self.old.len < length self.old.room.now }
-        ensures bytes { take self.new.len self.new.room.now ≡ take self.old.len self.old.room.now ++ byte ∷ [] }
-        ensures len { self.new.len ≡ self.old.len + 1 }
-        ensures capacity { length self.new.room.now ≡ length self.old.room.now }
-        ensures same_reference { self.new.room.ghost_name ≡ self.old.room.ghost_name }
-    {
-        let at = self.len;
-        self.len = at + 1;
-        self.room[at] = byte;
-    }
-
-    // Appends four bytes.
-    #[inline(always)]
-    fn push_four(&mut self, bytes: [u8; 4])
-        requires room { self.old.len + 4 ≤ length self.old.room.now }
-        ensures bytes { take self.new.len self.new.room.now ≡ take self.old.len self.old.room.now ++ bytes }
-        ensures len { self.new.len ≡ self.old.len + 4 }
-        ensures capacity { length self.new.room.now ≡ length self.old.room.now }
-        ensures same_reference { self.new.room.ghost_name ≡ self.old.room.ghost_name }
-    {
-        let [a, b, c, d] = bytes;
-        self.push(a);
-        self.push(b);
-        self.push(c);
-        self.push(d);
-    }
-
-    // Appends at most three bytes.
-    #[inline(always)]
-    fn push_few(&mut self, bytes: &[u8])
-        requires few { length bytes.now < 4 }
-        requires room { self.old.len + length bytes.now ≤ length self.old.room.now }
-        ensures bytes { take self.new.len self.new.room.now ≡ take self.old.len self.old.room.now ++ bytes.now }
-        ensures len { self.new.len ≡ self.old.len + length bytes.now }
-        ensures capacity { length self.new.room.now ≡ length self.old.room.now }
-        ensures same_reference { self.new.room.ghost_name ≡ self.old.room.ghost_name }
-    {
-        match bytes {
-            [a] => self.push(*a),
-            [a, b] => {
-                let (a, b) = (*a, *b);
-                self.push(a);
-                self.push(b);
-            }
-            [a, b, c] => {
-                let (a, b, c) = (*a, *b, *c);
-                self.push(a);
-                self.push(b);
-                self.push(c);
-            }
-            _ => {}
-        }
-    }
 }
 
 impl<B: Before> Sink for RoomSink<'_, B> {
@@ -121,28 +64,9 @@ impl<B: Before> Sink for RoomSink<'_, B> {
 
     #[inline(always)]
     fn put_byte(&mut self, byte: u8) {
-        self.push(byte);
-    }
-
-    // A loop over them would be a call that copies, since their number is not known.
-    #[inline(always)]
-    fn put_first(&mut self, bytes: [u8; 9], count: usize) {
-        let [a, b, c, d, e, f, g, h, i] = bytes;
-        if count < 4 {
-            return self.push_few(&bytes[..count]);
-        }
-        self.push_four([a, b, c, d]);
-        match count {
-            4 => {}
-            5 => self.push(e),
-            6 => self.push_few(&[e, f]),
-            7 => self.push_few(&[e, f, g]),
-            8 => self.push_four([e, f, g, h]),
-            _ => {
-                self.push_four([e, f, g, h]);
-                self.push(i);
-            }
-        }
+        let at = self.len;
+        self.len = at + 1;
+        self.room[at] = byte;
     }
 
     #[inline(always)]

@@ -27,7 +27,13 @@ pub trait Sink: Sized {
         ensures bytes { (buffer self.new).bytes ≡ (buffer self.old).bytes ++ take count bytes }
         ensures len { (buffer self.new).len ≡ (buffer self.old).len + count }
         ensures capacity { (buffer self.new).capacity ≡ (buffer self.old).capacity }
-        ensures lender { (buffer self.new).lender ≡ (buffer self.old).lender };
+        ensures lender { (buffer self.new).lender ≡ (buffer self.old).lender }
+    {
+        let first = &bytes[..count];
+        for byte in first {
+            self.put_byte(*byte);
+        }
+    }
 
     /// How many more bytes it can hold. A writer that adds counts asks for it, since nothing else bounds
     /// their sum.
