@@ -94,11 +94,7 @@ fn run_between(first: &Item, second: &Item, third: &Item) -> Option<Run>
         24 if is_plain_of(second, 25) && is_plain_of(third, 27) => Run::Time,
         _ => return None,
     };
-    if is_plain(first) {
-        Some(run)
-    } else {
-        None
-    }
+    if is_plain(first) { Some(run) } else { None }
 }
 
 /// Whether the choices of an item and its byte are zeros. The compiler reads the four as one number.

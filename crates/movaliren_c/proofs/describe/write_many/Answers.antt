@@ -1,4 +1,4 @@
-use Rattle.std.proofs.Common.{◌≡◌, ℕ, List, take, length, refl, sym, ap, subst, ◌∙◌, arith, Result, Err}
+use Rattle.std.proofs.Common.{◌≡◌, ℕ, List, length, refl, sym, ap, subst, ◌∙◌, arith, Result, Err}
 use Rattle.std.proofs.lemmas.Grind.{common_steps}
 use Rattle.movaliren_c.specs.Answer.{IsText}
 use Rattle.movaliren_c.specs.Described.{few_in}

@@ -1,4 +1,4 @@
-use Rattle.std.proofs.Common.{◌≡◌, ℕ, List, take, length, refl, sym, subst, arith, Result, Err}
+use Rattle.std.proofs.Common.{◌≡◌, List, length, refl, sym, subst, arith, Result, Err}
 use Rattle.std.proofs.lemmas.Grind.{common_steps}
 use Rattle.movaliren_c.specs.Answer.{IsText}
 use Rattle.movaliren_c.specs.Items.{described}
