@@ -67,12 +67,7 @@ fn time_value(moment: &Moment) -> Result<Time, Reason>
     if moment.nanosecond > 999_999_999 {
         return Err(Reason::Nanosecond);
     }
-    Ok(Time::from_valid_hms_nano(
-        moment.hour,
-        moment.minute,
-        moment.second,
-        moment.nanosecond,
-    ))
+    Ok(Time::from_valid_hms_nano(moment.hour, moment.minute, moment.second, moment.nanosecond))
 }
 
 /// The offset of the parts, or the first of them that is outside its range or has the opposite sign of
