@@ -1,4 +1,4 @@
-use Rattle.std.proofs.Common.{◌≡◌, true, pos, Bool, ℤ, Ok, Err, Result, refl, rules, sym, ap, ◌∙◌}
+use Rattle.std.proofs.Common.{◌≡◌, true, pos, Bool, ℤ, Ok, Result, refl, rules, sym, ap, ◌∙◌}
 use Rattle.time_below.specs.Offset.{Offset}
 use Rattle.movaliren_c.specs.Value.{checked, is_offset_part, offset_value}
 use Rattle.movaliren_c.specs.declared.moment.Moment.{Moment}

@@ -1,6 +1,5 @@
 use Rattle.std.proofs.Common.{◌≡◌, sym, ap₂, ◌∙◌, rules, unsigned_abs}
 use Rattle.time_below.specs.Calendar.{weekday_of}
-use Rattle.time_below.specs.Facts.{date_facts}
 use Rattle.time_below.specs.Weekday.{days_from_monday}
 use Rattle.time_fmt.specs.Outcome.{done}
 use Rattle.time_known.specs.Fields.{value_fields}
