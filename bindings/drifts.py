@@ -5,7 +5,10 @@ import re
 import interface
 
 # `interface.py --check` tells a change in these.
-WRITTEN = "|".join([interface.PROTOTYPE, interface.ERRORS, interface.CASES, interface.KINDS, interface.KINDS_OF_RUST])
+WRITTEN = "|".join([
+    interface.PROTOTYPE, interface.ERRORS, interface.CASES, interface.KINDS, interface.KINDS_OF_RUST, interface.FAULTS_OF_C,
+    interface.FAULTS_OF_RUST,
+])
 TYPE = r"\b(?:[iu]\d+|[iu]size)\b"
 STRUCT = r"#\[repr\(C\)\].*?\n\}"
 ENUM = r"^pub enum .*?\n\}"
@@ -13,7 +16,7 @@ ENUM = r"^pub enum .*?\n\}"
 SHARED = r"^struct movaliren_moment .*^struct movaliren_description "
 # The places of changes: a file, the parts of it, and what is changed there.
 PLACES = [
-    ("movaliren.h", r".*", r"\b(?!MOVALIREN_(?:H|INLINE)\b)(?:MOVALIREN|movaliren)_\w+"),
+    ("movaliren.h", r".*", r"\b(?!MOVALIREN_(?:H|INLINE|CAST)\b)(?:MOVALIREN|movaliren)_\w+"),
     ("movaliren.h", r".*", r'(?<=return )"[^"]+"|(?<=\? )"[^"]+"|(?<=VERSION )"[^"]+"'),
     ("movaliren.h", r".*", r"\bMOVALIREN_\w+ = -?\d+"),
     ("movaliren.h", SHARED, r"(?<=_t )\w+(?=[;,)])|(?<=\*)\w+(?=[;,)])|\b\w+_t(?= \w+[;,)(])|\bconst "),

@@ -2,10 +2,10 @@
 """Writes what the header and the Rust crate have from the code.
 
 The exports of movaliren_c give the header's prototypes, each in its place, and the functions and structs of
-`library.rs`; `reason.rt` the reasons, and `library.rt` their words; `item.rt` the kinds of items and their choices, which
-`component.rt` of time_below documents.
+`library.rs`; `reason.rt` the reasons, also of C++, and `library.rt` their words; `item.rt` the kinds of items and their choices, which
+`component.rt` of time_below documents; `syntax.rt` the faults of descriptions, which time_describe documents.
 
-    bindings/interface.py           writes the header, `description.rs` and `library.rs`
+    bindings/interface.py           writes both headers, `description.rs`, `parse.rs` and `library.rs`
     bindings/interface.py --check   ends with status 1 where one is not what would be written
 """
 
@@ -18,7 +18,9 @@ HERE = pathlib.Path(__file__).resolve().parent
 CRATES = HERE.parent / "crates"
 SOURCES = CRATES / "movaliren_c/src"
 COMPONENT = CRATES / "time_below/src/format_description/component.rt"
+FAULTS = [CRATES / "time_describe/src" / name for name in ("fault.rt", "strftime/fault.rt")]
 HEADER = HERE / "c/movaliren.h"
+HEADER_OF_CPP = HERE / "c/movaliren.hpp"
 RUST = HERE / "rust/src"
 # The Rust crate documents these, and they have private fields.
 OF_RUST = ["Moment", "UtcMoment"]
@@ -30,11 +32,20 @@ FIELD = r"(\w+): (\w+|\[\w+; \d+\]),"
 # What is written in a file that has more by hand.
 PROTOTYPE = r"^(?:struct )?\w+ (movaliren_\w+)\([^)]*\);"
 ERRORS = r"enum movaliren_error \{.*?\n\};"
+ERRORS_OF_CPP = r"enum class errc : int \{.*?\n\};"
 CASES = r"(?<=switch \(reason\) \{\n)(?:    case MOVALIREN_ERROR_\w+:\n        return [^\n]*\n)+"
 KINDS = r"enum movaliren_kind \{.*?\n\};"
 KINDS_OF_RUST = r"pub enum Kind \{.*?\n\}"
-USES = "use crate::{Error, Kind, Moment, UtcMoment};"
-NEVER_RETURNED = ["OutOfMemory", "Other"]
+FAULTS_OF_C = r"enum movaliren_fault_reason \{.*?\n\};"
+FAULTS_OF_RUST = r"pub enum FaultReason \{.*?\n\}"
+USES = "use crate::{Error, FaultReason, Kind, Moment, UtcMoment};"
+# What is said of a reason beside its words.
+REMARKS = {
+    "NoRoom": "a format says by its MOVALIREN_.._ROOM how much is enough, and a description by movaliren_format_length",
+    "OutOfMemory": "never returned", "Other": "never returned",
+}
+# The byte of a fault whose documentation does not name it.
+BYTES = {"Unfinished": "its `%`", "UnknownConversion": "that letter, or a colon before it", "ZoneName": "the `Z`"}
 # Words of a component's name, and those of the kind in their place.
 SHORTER = [
     ("CalendarYearCentury", "Century"), ("IsoYearCentury", "IsoCentury"), ("CalendarYear", "Year"), ("YearFull", "Year"),
@@ -127,9 +138,16 @@ def upper(name):
 
 
 def error_enum():
-    rows = [(f"    MOVALIREN_ERROR_{upper(name)} = -{number}", name) for number, name, _ in reasons()]
-    lines = [f"{row},{' /* never returned */' if name in NEVER_RETURNED else ''}" for row, name in rows]
-    return "enum movaliren_error {\n" + re.sub(r",$", "", "\n".join(lines)) + "\n};"
+    lines = []
+    for number, name, _ in reasons():
+        lines += [comment(REMARKS[name])] if name in REMARKS else []
+        lines += [f"    MOVALIREN_ERROR_{upper(name)} = -{number},"]
+    return "enum movaliren_error {\n" + "\n".join(lines).removesuffix(",") + "\n};"
+
+
+def errors_of_cpp():
+    lines = [f"    {snake(name).lower()} = MOVALIREN_ERROR_{upper(name)}," for _, name, _ in reasons()]
+    return "enum class errc : int {\n" + "\n".join(lines).removesuffix(",") + "\n};"
 
 
 def error_cases():
@@ -183,6 +201,43 @@ def kinds_of_rust():
     return "pub enum Kind {\n" + "".join(rows) + "}"
 
 
+# ---- faults
+
+
+def said_of_faults():
+    """What is said of each fault. Where both syntaxes have it, what the second one says comes after the first."""
+    said = {}
+    for path in FAULTS:
+        for doc, name in re.findall(r"((?:    ///[^\n]*\n)+)    #\[error[^\n]*\n    (\w+)", path.read_text()):
+            words = re.sub(r"\s*///\s*", " ", doc).strip()
+            if name in BYTES:
+                words += f" The byte is {BYTES[name]}."
+            said[name] = f"{said[name]} In the syntax of strftime, {words[0].lower()}{words[1:]}" if name in said else words
+    return said
+
+
+def faults():
+    """Each fault with its number and what is said of it, by the number."""
+    found = re.findall(r"Reason::(\w+)(?:\(\w+\))? => \(?(\d+)", source("syntax"))
+    said = said_of_faults()
+    return sorted({(int(number), name, said[name]) for name, number in found})
+
+
+def faults_of_header():
+    lines = []
+    for number, name, said in faults():
+        lines += [comment(said), f"    MOVALIREN_FAULT_{upper(name)} = {number},"]
+    return "enum movaliren_fault_reason {\n" + "\n".join(lines).removesuffix(",") + "\n};"
+
+
+def faults_of_rust():
+    lines = []
+    for number, name, said in faults():
+        lines += [textwrap.fill(said, 100, initial_indent="    /// ", subsequent_indent="    /// ")]
+        lines += [f"    {name} = {number},"]
+    return "pub enum FaultReason {\n" + "\n".join(lines) + "\n}"
+
+
 # ---- files
 
 
@@ -207,7 +262,9 @@ def library(declared):
     lines += ["pub(crate) fn words_of(error: Error) -> Result<&'static str, isize> {", "    Ok(match error {"]
     lines += [f"        Error::{name} => {said}," for _, name, said in reasons()]
     lines += ["        Error::Unknown(number) => return Err(number),", "    })", "}"]
-    lines += ["", "impl Kind {"]
+    lines += ["", "pub(crate) fn fault_reason_of(number: u8) -> Option<FaultReason> {", "    Some(match number {"]
+    lines += [f"        {number} => FaultReason::{name}," for number, name, _ in faults()]
+    lines += ["        _ => return None,", "    })", "}", "", "impl Kind {"]
     for choice in ("padding", "sign_is_mandatory"):
         having = " | ".join(f"Kind::{short(name)}" for _, name, choices in kinds() if choice in choices)
         lines += [f"    pub(crate) const fn has_{choice.partition('_')[0]}(self) -> bool {{", f"        matches!(self, {having})", "    }"]
@@ -229,8 +286,14 @@ def written():
     header = replaced(header, ERRORS, error_enum())
     header = replaced(header, CASES, error_cases())
     header = replaced(header, KINDS, kinds_of_header())
+    header = replaced(header, FAULTS_OF_C, faults_of_header())
+    of_cpp = replaced(HEADER_OF_CPP.read_text(), ERRORS_OF_CPP, errors_of_cpp())
     description = replaced((RUST / "description.rs").read_text(), KINDS_OF_RUST, kinds_of_rust())
-    return {HEADER: header, RUST / "description.rs": description, RUST / "library.rs": library(declared)}
+    parse = replaced((RUST / "parse.rs").read_text(), FAULTS_OF_RUST, faults_of_rust())
+    return {
+        HEADER: header, HEADER_OF_CPP: of_cpp, RUST / "description.rs": description, RUST / "parse.rs": parse,
+        RUST / "library.rs": library(declared),
+    }
 
 
 def main():

@@ -3,6 +3,7 @@
 
     local_moments.py            prints 10,000 moments from 1938 to 2100, each by its seconds since 1970 and its nanosecond
     local_moments.py --lines    prints what a program logs of each where TZ is the time zone, with milliseconds
+    local_moments.py --days     prints the local day of each, as Thursday, 19 December 1996
     local_moments.py --utc      prints each as a text of RFC 3339 in UTC
 """
 
@@ -16,15 +17,17 @@ MOMENTS, FIRST, LAST = 10_000, -1_000_000_000, 4_102_444_799
 
 
 def main():
-    is_of_lines = sys.argv[1:] == ["--lines"]
-    zone = zoneinfo.ZoneInfo(os.environ["TZ"]) if is_of_lines else None
+    what = sys.argv[1] if len(sys.argv) > 1 else ""
+    zone = zoneinfo.ZoneInfo(os.environ["TZ"]) if what in ("--lines", "--days") else None
     numbers = random.Random(20261126)
     for _ in range(MOMENTS):
         second, nanosecond = numbers.randint(FIRST, LAST), numbers.randrange(1_000_000_000)
-        if is_of_lines:
-            local = datetime.datetime.fromtimestamp(second, zone).replace(microsecond=nanosecond // 1000)
+        local = datetime.datetime.fromtimestamp(second, zone).replace(microsecond=nanosecond // 1000)
+        if what == "--lines":
             print(local.isoformat(timespec="milliseconds"), "opened")
-        elif sys.argv[1:] == ["--utc"]:
+        elif what == "--days":
+            print(f"{local:%A}, {local.day} {local:%B %Y}")
+        elif what == "--utc":
             whole = datetime.datetime(1970, 1, 1) + datetime.timedelta(seconds=second)
             print(f"{whole.isoformat()}.{nanosecond:09}".rstrip("0").rstrip(".") + "Z")
         else:

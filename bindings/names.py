@@ -244,14 +244,6 @@ class Interfaces:
         rattle = {words(name): int(number) for name, number in findall(r"Expected::(\w+)(?:\([\w, ]+\))? => \((\d+)", *self.rattle)}
         self.same("what could have come", header, rust, rattle)
 
-    def faults(self):
-        header = numbers(r"MOVALIREN_FAULT_(\w+) = (\d+)", self.c)
-        rust = numbers(r"(\w+) = (\d+)", braces("enum FaultReason", *self.rust))
-        listed = findall(r"FaultReason::(\w+),", *self.rust)
-        rattle = findall(r"Reason::(\w+)(?:\(\w+\))? => \(?(\d+)", *self.rattle)
-        self.same("the reason of a fault", header, rust, {words(name): int(number) for name, number in rattle})
-        self.same("the reasons that Rust finds", sorted(header), sorted(map(words, listed)))
-
     def tests(self):
         functions = sorted(functions_of(self.c))
         self.same("what the test of memory calls", functions, sorted(set(findall(r"(movaliren_\w+)\(", self.memory))))
@@ -296,7 +288,7 @@ class Interfaces:
         """All differences, or those of the first check that has one."""
         checks = (
             self.uses, self.structs, self.usual_flags, self.choices, self.words, self.lengths, self.version,
-            self.places, self.faults, self.tests, self.counts,
+            self.places, self.tests, self.counts,
         )
         for check in checks:
             try:

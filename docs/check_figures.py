@@ -1,5 +1,6 @@
 #!/usr/bin/env python3
-"""Compares the figures of README.md's first table, and the commit of its chart, with docs/PERFORMANCE.md.
+"""Compares the figures of README.md's first table, and the commit of its chart, with docs/PERFORMANCE.md, and what
+PERFORMANCE.md says of its tables with these.
 
 With `--write` the table is changed to the figures that PERFORMANCE.md has.
 """
@@ -39,9 +40,53 @@ def figure(head, name, column):
     return None
 
 
+def table(head):
+    """The rows of the first table of PERFORMANCE.md whose head begins with these columns, each by its columns. The first
+    column of a name counts. What is no number is left out."""
+    for text in re.findall(r"(?:^\|.*\n)+", PERFORMANCE, re.M):
+        first, _, *rows = [line.strip("|").split("|") for line in text.splitlines()]
+        if first[:len(head)] == head:
+            return {row[0]: {name: int(cell.replace(",", "")) for name, cell in reversed(list(zip(first[1:], row[1:])))
+                             if re.fullmatch(r"[\d,]+", cell)} for row in rows}
+    return {}
+
+
+def ratios(rows, ours, theirs):
+    """What our column is of theirs, in each row that has both."""
+    return {name: row[ours] / row[theirs] for name, row in rows.items() if ours in row and theirs in row}
+
+
+def said_of_tables():
+    """What PERFORMANCE.md says of its tables: the words, and whether they are true."""
+    texts, plans, iso, calls = table(["Text", "Known"]), table(["By a plan"]), table(["ISO 8601", "Behind"]), table(["Call", "C"])
+    usual = {name: row for name, row in texts.items() if re.match(r"RFC|ISO|11 parts|a log line of|like .* parts", name)}
+    lists = {name: row for name, row in texts.items() if name not in usual and name != "a copy of 35 bytes"}
+    counts = [row[way] for row in usual.values() for way in ("Known", "Behind")]
+    peers = [it for rows in (usual, table(["ISO 8601", "Behind"])) for way in ("0.3.55", "`strftime`", "{fmt}")
+             for it in ratios(rows, "Behind", way).values()]
+    of_crate, of_fmt = ratios(lists, "Behind", "0.3.55").values(), ratios(lists, "Behind", "{fmt}")
+    of_list = [row["Behind"] / lists[name]["Behind"] for name, row in plans.items() if name in lists]
+    utc = calls["rfc3339_utc"]
+    near = [name for name, it in ratios(iso, "Behind", "0.3.55").items() if it > .8]
+    behind = [name for name, row in calls.items() if any(row.get(way, row["C"]) < row["C"] for way in ("strftime", "fmt") if "C" in row)]
+    numbers = dict(enumerate(["No", "One", "Two", "Three", "Four", "Five", "Six", "Seven", "Eight", "Nine"]))
+    return [
+        (f"takes {min(counts)} to {max(counts)} instructions in the first table", True),
+        ("take at most what `time` 0.3.55 takes", max(peers) <= 1),
+        ("a third to three quarters of what", .32 < min(of_crate) and max(of_crate) < .76),
+        ("about as much as {fmt} or less", max(of_fmt.values()) < 1.07),
+        ("takes a quarter to a half of what the list takes", .24 < min(of_list) and max(of_list) < .51),
+        ("less than a tenth of what `strftime` takes, and about a seventh of what `time` 0.3.9 takes",
+         max(utc["C"], utc["Rust"]) < utc["strftime"] / 10 and all(.125 < utc[it] / utc["time"] < .165 for it in ("C", "Rust"))),
+        (f"{numbers.get(len(near))} rows take more than four fifths of what 0.3.55 takes", True),
+        (f"{numbers.get(len(behind))} rows are behind {{fmt}} or `strftime`", True),
+    ]
+
+
 def main():
     page = README.read_text()
-    wrong = []
+    wrong = [f"docs/PERFORMANCE.md does not say, or its tables do not have: {words}" for words, is_true in said_of_tables()
+             if not is_true or words not in PERFORMANCE]
 
     def right(row):
         places = FIGURES.get(row["name"])
@@ -63,6 +108,8 @@ def main():
         made = re.sub(r"counted at commit \w+", f"counted at commit {first}", made)
     if "--write" in sys.argv:
         README.write_text(made)
+        for it in (it for it in wrong if it.startswith("docs/PERFORMANCE.md")):
+            print(it)
         print(f"{len(names)} rows of README.md are those of docs/PERFORMANCE.md")
         return 0
     for it in wrong:

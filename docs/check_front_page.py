@@ -1,7 +1,7 @@
 #!/usr/bin/env python3
 """Compares what README.md, docs/RECIPES.md and docs/GETTING.md show with the code, and prints what differs.
 
-Each piece of Rattle, C, C++ or Rust stands word for word in a file that the gate compiles and runs, and each recipe
+Each piece of Rattle, C, C++, Rust, Python or Go stands word for word in a file that the gate compiles and runs, and each recipe
 is shown. Each command of these pages is one that this script knows; its answer is what the gate sees printed.
 """
 
@@ -38,6 +38,8 @@ def sources():
         "rust": [*rattle, *texts, *map(without_marks, texts)],
         "c": [path.read_text() for path in (TOP / "bindings/c").glob("*.c")],
         "cpp": [path.read_text() for path in (TOP / "bindings/c").glob("*.cpp")],
+        "python": [path.read_text() for path in (TOP / "bindings/python").glob("*.py")],
+        "go": [path.read_text() for path in (TOP / "bindings/go").glob("*.go")],
     }
 
 

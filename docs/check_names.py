@@ -3,10 +3,13 @@
 
 Each name in code that docs/PROVED.md, docs/DEFINITIONS.md, docs/DECISIONS.md and docs/TRUST.md have is one of the sources: a clause, a
 function, a type, a field, a module, a definition of `specs/` or a file. A name in brackets of docs/PROVED.md is one of the section's crate, or of a crate that it stands on.
-docs/ARCHITECTURE.md names each file of a crate's `src/` by its module, and no module that is not there. Links between pages lead to a
-page, and to a heading of it.
+docs/ARCHITECTURE.md names each file of a crate's `src/` by its module, and no module that is not there. Each file, folder, definition and
+lemma that a step or a row of CONTRIBUTING.md names stands in a crate that the step names, or in bindings/, docs/ or tools/. A crate's
+README.md says of what it stands on what crates.txt does, and that of movaliren_c names the structs of the interface. Links between pages
+lead to a page, and to a heading of it.
 """
 
+import functools
 import pathlib
 import re
 import sys
@@ -32,6 +35,10 @@ OF_OTHERS = {
     "final", "unsafe", "memcmp", "memcpy", "memmove", "memset", "arrayvec", "bstr", "clap", "jiff_strtime", "thiserror",
     "chrono", "serde", "serialize_with", "datetime", "bench", "movaliren", "display",
 }
+# A file, a folder, or a definition or lemma with its folder; and a lemma or a definition by its name alone.
+FILE = re.compile(r"(?:[\w-]+/)*[\w-]+\.(?:rt|antt|rs|c|cpp|h|hpp|py|md)|(?:[\w-]+/)+[\w-]*|[A-Z][a-z]+(?:[A-Z]\w+)*")
+# The format that the steps make, which is not there, words of Rust and of the field, and the folder of a crate's mutants in any crate.
+MADE = {"specs/ImfFixdate", "src/imf_fixdate.rt", "must-fail/", "Err", "None"}
 # Modules that docs/ARCHITECTURE.md need not name: roots of crates, tests, and laws, which it names once for all.
 UNNAMED = {"lib", "main", "tests", "laws"}
 
@@ -53,6 +60,7 @@ def below_of(name, below):
     return [it for it in found if it in below]
 
 
+@functools.lru_cache(None)
 def names_of(crate):
     """What the sources and definitions of a crate define, and its files."""
     names = set()
@@ -105,6 +113,43 @@ def unknown_in_architecture(page):
     return wrong
 
 
+def is_there(name, tops, defined):
+    """Whether a file, a folder or a name of these stands below one of these folders, or is among the defined names."""
+    if not re.search(r"[/.]", name):
+        return name in defined or any(list(top.glob(f"proofs/**/{name}.antt")) for top in tops)
+    end = name if name.endswith("/") or "." in name else name + "*"
+    return any(True for top in [TOP, TOP / "crates", *tops] for _ in top.glob(end.rstrip("/"))) or any(
+        True for top in tops for _ in top.glob(f"*/**/{end.rstrip('/')}"))
+
+
+def unknown_in_contributing(page, below):
+    """What a step or a row of CONTRIBUTING.md names, and no crate that it names has; and how many names were looked for."""
+    walks = page.split("## What you add, which files")[1].split("## Goals not met")[0]
+    kinds = {it for path in (TOP / "bindings/rust/src").glob("*.rs") for pattern in DEFINED for it in pattern.findall(path.read_text())}
+    wrong, count = [], 0
+    for step in re.findall(r"^(?:\d+\. |\| (?!You add|---)).*$", walks, re.M):
+        codes = CODE.findall(step)
+        crates = [it for word in codes for it in [word.split("/")[0]] if it in below] or list(below)
+        tops = [TOP / "crates" / it for it in crates] + [TOP / it for it in ("bindings/c", "bindings/rust", "bindings/rust-time")]
+        defined = kinds | {it for crate in crates for name in below_of(crate, below) for it in names_of(name)}
+        for name in codes:
+            if FILE.fullmatch(name) and name not in MADE:
+                count += 1
+                wrong += [] if is_there(name, tops, defined) else [f"CONTRIBUTING.md names {name}, and none of {', '.join(crates)} has it"]
+    return wrong, count
+
+
+def wrong_in_readmes(below):
+    """The crates whose README.md says that they stand on others than crates.txt does, and the structs that no README.md names."""
+    pages = {name: (TOP / "crates" / name / "README.md").read_text() for name in below}
+    said = {name: re.search(r"^.*It stands on ([^.]*)\.", page, re.M) for name, page in pages.items()}
+    wrong = [f"{name}: README.md says that it stands on {it[1]}, and crates.txt has {' '.join(below[name]) or 'nothing'}"
+             for name, it in said.items() if it and set(CODE.findall(it[1])) != set(below[name])]
+    sources = "".join(path.read_text() for path in (TOP / "crates/movaliren_c/src").rglob("*.rt"))
+    shared = [re.sub(r"(?<=[a-z])(?=[A-Z])", "_", it).lower() for it in re.findall(r"repr\(C\)\][^{;]*?pub struct (\w+)", sources)]
+    return wrong + [f"movaliren_c: README.md does not name movaliren_{it}" for it in shared if f"`movaliren_{it}`" not in pages["movaliren_c"]]
+
+
 def anchors(page):
     heads = re.findall(r"^#+ (.*)$", page, re.M)
     return {re.sub(r"[^\w\- ]", "", head.lower()).replace(" ", "-") for head in heads}
@@ -127,16 +172,17 @@ def main():
         (TOP / f"docs/{name}.md").read_text() for name in ("PROVED", "ARCHITECTURE", "DEFINITIONS", "DECISIONS", "TRUST"))
     below = crates()
     links, count = broken_links()
+    unfound, steps = unknown_in_contributing((TOP / "CONTRIBUTING.md").read_text(), below)
     wrong = [f"docs/PROVED.md names what no source has: {it}" for it in sorted(set(unknown_in_proved(proved, below)))]
     every = {it for crate in below for it in names_of(crate)} | set(below) | OF_RATTLE
     wrong += [f"docs/DEFINITIONS.md names what no source has: {it}" for it in sorted(defined_in(definitions) - every)]
     wrong += [f"docs/{name}.md names what no source has: {it}"
               for name, page in (("DECISIONS", decisions), ("TRUST", trust)) for it in sorted(defined_in(page) - every - OF_OTHERS)]
-    wrong += unknown_in_architecture(architecture) + links
+    wrong += unknown_in_architecture(architecture) + unfound + wrong_in_readmes(below) + links
     for it in wrong:
         print(it)
     names = len(words_of(proved + definitions)) + len(defined_in(decisions) | defined_in(trust))
-    print(f"{names} names of PROVED, DEFINITIONS, DECISIONS and TRUST, {count} links: {'they differ' if wrong else 'each is there'}")
+    print(f"{names} names of PROVED, DEFINITIONS, DECISIONS and TRUST, {steps} of CONTRIBUTING, {count} links: {'they differ' if wrong else 'each is there'}")
     return 1 if wrong else 0
 
 

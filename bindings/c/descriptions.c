@@ -361,12 +361,16 @@ static void try_invalid_items(void)
         { 0, 0, 0, 0 }, { 34, 0, 0, 0 }, { 99, 0, 0, 0 }, { MOVALIREN_TEXT, 0, 0, 0 },
         { MOVALIREN_DAY, 3, 0, 0 }, { MOVALIREN_PERIOD, 0, 2, 0 }, { MOVALIREN_SUBSECOND, 0, 0, 10 },
     };
-    for (size_t i = 0; i < sizeof rows / sizeof *rows; i++) {
+    for (size_t i = 0; i < 3 * sizeof rows / sizeof *rows; i++) {
         struct movaliren_item items[4];
         char texts[4], text[64];
         struct movaliren_description line = MOVALIREN_DESCRIPTION(items, texts);
-        movaliren_add_text(&line, "on ");
-        movaliren_add(&line, rows[i].kind, rows[i].padding, rows[i].flag, rows[i].digits);
+        const size_t row = i / 3, before = i % 3;
+        if (before > 0)
+            movaliren_add_text(&line, "on ");
+        if (before > 1)
+            movaliren_add(&line, MOVALIREN_DAY, MOVALIREN_ZERO, 0, 0);
+        movaliren_add(&line, rows[row].kind, rows[row].padding, rows[row].flag, rows[row].digits);
         movaliren_add(&line, MOVALIREN_DAY, MOVALIREN_ZERO, 0, 0);
         movaliren_add_text(&line, "too long");
         const ptrdiff_t n = movaliren_format_date(
@@ -374,9 +378,9 @@ static void try_invalid_items(void)
         const ptrdiff_t width
             = movaliren_width(line.items, line.items_len, line.texts, line.texts_len);
         if (line.reason != MOVALIREN_ERROR_BAD_ITEM || n != MOVALIREN_ERROR_BAD_ITEM || width != n
-            || line.items_len != 1 || line.texts_len != 3) {
+            || line.items_len != 1 || line.texts_len != (before > 0 ? 3 : 0)) {
             failures++;
-            printf("kind %u: reason %td, answer %td\n", (unsigned)rows[i].kind, line.reason, n);
+            printf("kind %u: reason %td, answer %td\n", (unsigned)rows[row].kind, line.reason, n);
         }
     }
 }

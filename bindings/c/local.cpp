@@ -6,7 +6,7 @@
 #include <iostream>
 #include <movaliren.hpp>
 
-static void log(std::chrono::system_clock::time_point now)
+static void log(movaliren::sys_time<std::chrono::nanoseconds> now)
 {
     const std::time_t second = std::chrono::floor<std::chrono::seconds>(now).time_since_epoch().count();
     std::tm local;
@@ -18,6 +18,6 @@ int main()
 {
     log(std::chrono::system_clock::now());
     for (long seconds, nanosecond; std::cin >> seconds >> nanosecond;)
-        log(std::chrono::system_clock::time_point(
+        log(movaliren::sys_time<std::chrono::nanoseconds>(
             std::chrono::seconds(seconds) + std::chrono::nanoseconds(nanosecond)));
 }

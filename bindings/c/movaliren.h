@@ -14,12 +14,17 @@
  * in range. A call reads its arguments, keeps nothing and prints nothing. Threads may call at the same
  * time without a lock.
  *
+ * A text that does not fit the buffer is MOVALIREN_ERROR_NO_ROOM. A buffer of MOVALIREN_RFC3339_ROOM bytes
+ * holds each text of RFC 3339, and the other formats have such numbers. Of a description movaliren_width is
+ * the most bytes that a text has, and movaliren_format_length and its like count the bytes of one text.
+ *
  * No call allocates, so each may be made from a signal handler, and in the forked child of a process with
  * threads.
  *
- * Pointers must not be null, also where a length is 0: pass "". Each length must be that of its array,
- * and below PTRDIFF_MAX. The buffer must not overlap anything else that the call is given. All fields must
- * be set.
+ * Pointers must not be null, also where a length is 0: pass "". The proof is about arrays, and each array
+ * has a place in memory, also one of no bytes. So no call tests for null. Each length must be that of its
+ * array, and below PTRDIFF_MAX. The buffer must not overlap anything else that the call is given. All
+ * fields must be set.
  *
  * The header is C99 and C++, and C89 where the compiler has <stdint.h> and an inline of its own. The soname
  * libmovaliren.so.0 stands for the layout of each struct and the meaning of each call: a field more, or another
@@ -48,6 +53,13 @@
 #endif
 #endif
 
+/* A value as one of another type. */
+#ifdef __cplusplus
+#define MOVALIREN_CAST(type, value) static_cast<type>(value)
+#else
+#define MOVALIREN_CAST(type, value) ((type)(value))
+#endif
+
 #ifdef __cplusplus
 extern "C" {
 #endif
@@ -72,9 +84,13 @@ enum movaliren_error {
     MOVALIREN_ERROR_OUT_OF_RANGE = -17,
     MOVALIREN_ERROR_BAD_CONFIG = -18,
     MOVALIREN_ERROR_BAD_ITEM = -19,
+    /* a format says by its MOVALIREN_.._ROOM how much is enough, and a description by
+     * movaliren_format_length */
     MOVALIREN_ERROR_NO_ROOM = -20,
-    MOVALIREN_ERROR_OUT_OF_MEMORY = -21, /* never returned */
-    MOVALIREN_ERROR_OTHER = -22, /* never returned */
+    /* never returned */
+    MOVALIREN_ERROR_OUT_OF_MEMORY = -21,
+    /* never returned */
+    MOVALIREN_ERROR_OTHER = -22,
     MOVALIREN_ERROR_NOT_READ = -23,
     MOVALIREN_ERROR_BAD_DESCRIPTION = -24,
     MOVALIREN_ERROR_MANY_ITEMS = -25
@@ -84,7 +100,8 @@ enum movaliren_error {
 uint32_t movaliren_version(void);
 
 /* Writes the reason in words, which are those of movaliren_error_text, for programs that cannot call what stands
- * in a header alone. Of a number that is no movaliren_error these are "no error" or "unknown error". */
+ * in a header alone. Of a number that is no movaliren_error these are "no error" or "unknown error". A buffer of
+ * 200 bytes holds any of them. */
 ptrdiff_t movaliren_error_words(ptrdiff_t reason, void *room, size_t room_len);
 
 /* The reason in words. */
@@ -155,7 +172,8 @@ MOVALIREN_INLINE ptrdiff_t movaliren_ended(char *line, ptrdiff_t count)
 
 /* Calls the function with these arguments and an array of char, less one byte, as its buffer, and ends the text
  * by a zero. */
-#if defined(__cplusplus) || (defined(__STDC_VERSION__) && __STDC_VERSION__ >= 199901L)
+#if (defined(__cplusplus) && __cplusplus >= 201103L)                                   \
+    || (defined(__STDC_VERSION__) && __STDC_VERSION__ >= 199901L)
 #define MOVALIREN_STRING(line, function, ...)                                          \
     movaliren_ended(line, function(__VA_ARGS__, line, sizeof(line) - 1))
 #endif
@@ -538,8 +556,9 @@ ptrdiff_t movaliren_format_date(const struct movaliren_item *items, size_t items
 ptrdiff_t movaliren_width(const struct movaliren_item *items, size_t items_len, const void *texts,
     size_t texts_len);
 
-/* The number of bytes of one text, up to PTRDIFF_MAX, or its error, which is never MOVALIREN_ERROR_NO_ROOM. A caller
- * who has that error makes a buffer of this many. It costs about as much as the text. */
+/* The number of bytes of one text, up to PTRDIFF_MAX, or its error, which is never MOVALIREN_ERROR_NO_ROOM. After
+ * that error of movaliren_format make a buffer of this many bytes, and call it again. It costs about as much as the
+ * text. */
 ptrdiff_t movaliren_format_length(const struct movaliren_item *items, size_t items_len,
     const void *texts, size_t texts_len, const struct movaliren_moment *moment);
 ptrdiff_t movaliren_format_utc_length(const struct movaliren_item *items, size_t items_len,
@@ -553,26 +572,50 @@ ptrdiff_t movaliren_format_date_length(const struct movaliren_item *items, size_
 
 /* What is wrong in a text that is no description, and at which byte. */
 enum movaliren_fault_reason {
-    MOVALIREN_FAULT_UNCLOSED_BRACKET = 1,  /* the opening bracket */
-    MOVALIREN_FAULT_INVALID_ESCAPE = 2,    /* the backslash */
-    MOVALIREN_FAULT_MISSING_NAME = 3,      /* the closing bracket */
-    MOVALIREN_FAULT_UNKNOWN_NAME = 4,      /* the first byte of the name */
-    MOVALIREN_FAULT_UNKNOWN_MODIFIER = 5,  /* the first byte of the modifier */
-    MOVALIREN_FAULT_INVALID_VALUE = 6,     /* the first byte of the modifier */
-    MOVALIREN_FAULT_MISSING_MODIFIER = 7,  /* the closing bracket */
-    MOVALIREN_FAULT_MISSING_ITEMS = 8,     /* the closing bracket */
-    MOVALIREN_FAULT_UNEXPECTED_BYTE = 9,   /* that byte */
-    MOVALIREN_FAULT_TOO_DEEP = 10,         /* the opening bracket of the 33rd list */
-    MOVALIREN_FAULT_TOO_MANY_ITEMS = 11,   /* more than 65,536 */
-    MOVALIREN_FAULT_UNFINISHED = 12,       /* the `%` */
-    MOVALIREN_FAULT_UNKNOWN_CONVERSION = 13, /* the letter, or the colon */
-    MOVALIREN_FAULT_ZONE_NAME = 14,        /* the Z of `%Z` */
-    MOVALIREN_FAULT_LOCALE_MODIFIER = 15,  /* E or O */
-    MOVALIREN_FAULT_FIELD_WIDTH = 16,      /* the first digit */
-    MOVALIREN_FAULT_CASE_FLAG = 17,        /* ^ or # */
-    MOVALIREN_FAULT_PLUS_FLAG = 18,        /* + */
-    MOVALIREN_FAULT_SECOND_FLAG = 19,      /* the second flag */
-    MOVALIREN_FAULT_FLAG_WITHOUT_NUMBER = 20 /* the letter */
+    /* A bracket is not closed, or another one or a backslash stands in it: the opening bracket. */
+    MOVALIREN_FAULT_UNCLOSED_BRACKET = 1,
+    /* What follows a backslash is no backslash and no bracket: the backslash. */
+    MOVALIREN_FAULT_INVALID_ESCAPE = 2,
+    /* Brackets have no name in them: the closing bracket. */
+    MOVALIREN_FAULT_MISSING_NAME = 3,
+    /* No component has this name: the first byte of the name. */
+    MOVALIREN_FAULT_UNKNOWN_NAME = 4,
+    /* The component has no modifier with this key: the first byte of the key. */
+    MOVALIREN_FAULT_UNKNOWN_MODIFIER = 5,
+    /* The modifier has no such value: the first byte of the key. */
+    MOVALIREN_FAULT_INVALID_VALUE = 6,
+    /* An `ignore` has no `count`: the closing bracket. */
+    MOVALIREN_FAULT_MISSING_MODIFIER = 7,
+    /* An `optional` has no list of items: the closing bracket. */
+    MOVALIREN_FAULT_MISSING_ITEMS = 8,
+    /* A byte other than whitespace and a bracket stands between lists of items, or an `optional`
+     * has another list: that byte, or the bracket of the list. */
+    MOVALIREN_FAULT_UNEXPECTED_BYTE = 9,
+    /* A list of items is the 33rd in one another: its opening bracket. */
+    MOVALIREN_FAULT_TOO_DEEP = 10,
+    /* More than 65,536 opening brackets and backslashes, with one of which each item but a literal
+     * begins: the first one past them. In the syntax of strftime, the part that begins here has the
+     * 65,537th item. */
+    MOVALIREN_FAULT_TOO_MANY_ITEMS = 11,
+    /* The text ends within a conversion. The byte is its `%`. */
+    MOVALIREN_FAULT_UNFINISHED = 12,
+    /* No conversion has this letter. The byte is that letter, or a colon before it. */
+    MOVALIREN_FAULT_UNKNOWN_CONVERSION = 13,
+    /* `%Z`, the name of a time zone: values have an offset and no name of it. The byte is the
+     * `Z`. */
+    MOVALIREN_FAULT_ZONE_NAME = 14,
+    /* `E` or `O`, which ask for a locale's own eras and digits. */
+    MOVALIREN_FAULT_LOCALE_MODIFIER = 15,
+    /* A field width, other than the three of `%3N`, `%6N` and `%9N`: its first digit. */
+    MOVALIREN_FAULT_FIELD_WIDTH = 16,
+    /* `^` or `#`, which change the case of letters. */
+    MOVALIREN_FAULT_CASE_FLAG = 17,
+    /* `+`, a flag of POSIX.1-2008 and a conversion of other systems. */
+    MOVALIREN_FAULT_PLUS_FLAG = 18,
+    /* A flag after another one. */
+    MOVALIREN_FAULT_SECOND_FLAG = 19,
+    /* A flag before this letter, whose conversion takes none. */
+    MOVALIREN_FAULT_FLAG_WITHOUT_NUMBER = 20
 };
 
 /* Why a text gave no items. */
@@ -600,23 +643,31 @@ ptrdiff_t movaliren_describe(const void *text, size_t text_len, struct movaliren
 ptrdiff_t movaliren_describe_strftime(const void *text, size_t text_len,
     struct movaliren_item *items, size_t items_len, struct movaliren_fault *fault);
 
-/* The text of a moment by a description of at most 64 items, which is read for this one text: in brackets, or in the
- * syntax of strftime. The errors are those of movaliren_describe, and then those of movaliren_format_utc.
+/* The text of a moment by a description in brackets of at most 64 items, which is read for this one text. The errors
+ * are those of movaliren_describe, and then those of movaliren_format_utc. After MOVALIREN_ERROR_NO_ROOM read the
+ * description by movaliren_parse, and movaliren_length_by_utc counts the bytes of the text.
  *
  *     static const char day[] = "[day] [month repr:long]";
- *     n = movaliren_brackets_utc(day, sizeof day - 1, now.tv_sec, 0, line, sizeof line);
- */
+ *     n = movaliren_brackets_utc(day, sizeof day - 1, now.tv_sec, 0, line, sizeof line); */
 ptrdiff_t movaliren_brackets_utc(const void *text, size_t text_len, int64_t seconds,
     uint32_t nanosecond, void *room, size_t room_len);
 ptrdiff_t movaliren_brackets_local(const void *text, size_t text_len, int64_t seconds,
     uint32_t nanosecond, int64_t offset, void *room, size_t room_len);
+
+/* The text of a moment by a description in the syntax of strftime of at most 64 items, which is read for this one text.
+ * The errors are those of movaliren_describe_strftime, and then those of movaliren_format_utc. After
+ * MOVALIREN_ERROR_NO_ROOM read the description by movaliren_parse_strftime, and movaliren_length_by_utc counts the bytes
+ * of the text.
+ *
+ *     static const char day[] = "%d %B";
+ *     n = movaliren_strftime_utc(day, sizeof day - 1, now.tv_sec, 0, line, sizeof line); */
 ptrdiff_t movaliren_strftime_utc(const void *text, size_t text_len, int64_t seconds,
     uint32_t nanosecond, void *room, size_t room_len);
 ptrdiff_t movaliren_strftime_local(const void *text, size_t text_len, int64_t seconds,
     uint32_t nanosecond, int64_t offset, void *room, size_t room_len);
 
 /* Writes the reason of a fault in words, without the byte. Of a number that is no movaliren_fault_reason these are
- * "unknown reason". */
+ * "unknown reason". A buffer of MOVALIREN_FAULT_ROOM bytes holds any of them. */
 ptrdiff_t movaliren_fault_words(uint8_t reason, void *room, size_t room_len);
 
 /* ---- descriptions, each one argument */
@@ -643,14 +694,15 @@ struct movaliren_description {
     struct movaliren_fault fault;
 };
 
-/* The description over an array of items, as an initialiser, before a text is read. */
+/* The description over an array of items, as an initialiser, before a text is read. In C89 the array is static. To
+ * read a text into items that were allocated set `items` and `items_room`. */
 #define MOVALIREN_ITEMS(items)                                                         \
     {                                                                                  \
         items, 0, sizeof(items) / sizeof *(items), "", 0, NULL, 0,                     \
             MOVALIREN_ERROR_BAD_DESCRIPTION, { 0, 0, 0, 0 }                            \
     }
 
-/* The empty description over two arrays, as an initialiser, to which items are added. */
+/* The empty description over two arrays, as an initialiser, to which items are added. In C89 both are static. */
 #define MOVALIREN_DESCRIPTION(items, texts)                                            \
     {                                                                                  \
         items, 0, sizeof(items) / sizeof *(items), texts, 0, texts, sizeof(texts), 0,  \
@@ -664,7 +716,7 @@ MOVALIREN_INLINE ptrdiff_t movaliren_parsed(
     description->texts = text;
     description->texts_len = text_len;
     description->texts_room = text_len;
-    description->items_len = count < 0 ? 0 : (size_t)count;
+    description->items_len = count < 0 ? 0 : MOVALIREN_CAST(size_t, count);
     description->reason = count < 0 ? count : 0;
     return description->reason;
 }
@@ -815,7 +867,10 @@ MOVALIREN_INLINE void movaliren_add(struct movaliren_description *description, u
 {
     struct movaliren_item item = { 0, 0, 0, 0, 0, 0, 0 };
     const int is_component = MOVALIREN_DAY <= kind && kind <= MOVALIREN_UNIX_MILLISECOND;
-    item.kind = kind, item.padding = padding, item.flag = flag, item.digits = digits;
+    item.kind = kind;
+    item.padding = padding;
+    item.flag = flag;
+    item.digits = digits;
     if (is_component && padding <= MOVALIREN_NO_PADDING && flag <= 1 && digits <= 9)
         movaliren_add_item(description, item);
     else
@@ -836,7 +891,8 @@ MOVALIREN_INLINE void movaliren_add_bytes(
     struct movaliren_description *description, const void *bytes, size_t len)
 {
     struct movaliren_item item = { MOVALIREN_TEXT, 0, 0, 0, 0, 0, 0 };
-    item.start = description->texts_len, item.len = len;
+    item.start = description->texts_len;
+    item.len = len;
     if (len > description->texts_room - description->texts_len)
         movaliren_refuse(description, MOVALIREN_ERROR_NO_ROOM);
     movaliren_add_item(description, item);
@@ -857,6 +913,20 @@ MOVALIREN_INLINE void movaliren_add_text(struct movaliren_description *descripti
 /* A buffer of this many bytes holds the words of any fault. */
 #define MOVALIREN_FAULT_ROOM 100
 
+/* Writes a byte as itself, as \t or its like, or as \x7f, and returns the number of characters. */
+MOVALIREN_INLINE int movaliren_escaped(uint8_t byte, char *room)
+{
+    static const char pairs[] = "\tt\rr\nn''\"\"\\\\";
+    const char *pair = pairs;
+    while (*pair != 0 && *pair != MOVALIREN_CAST(char, byte))
+        pair += 2;
+    if (*pair != 0)
+        return sprintf(room, "\\%c", pair[1]);
+    if (byte >= 0x20 && byte < 0x7f)
+        return sprintf(room, "%c", byte);
+    return sprintf(room, "\\x%02x", byte);
+}
+
 /* The fault in words, as "unknown conversion `%Q` at byte 1", and a zero after them. Returns the buffer, which has
  * MOVALIREN_FAULT_ROOM bytes. */
 MOVALIREN_INLINE const char *movaliren_fault_text(const struct movaliren_fault *fault, char *room)
@@ -866,14 +936,15 @@ MOVALIREN_INLINE const char *movaliren_fault_text(const struct movaliren_fault *
     const ptrdiff_t count = movaliren_fault_words(fault->reason, room, MOVALIREN_FAULT_ROOM - 40);
     char *rest = room + (count < 0 ? 0 : count);
     if (fault->items > 0) {
-        sprintf(room, "the description has %lu items", (unsigned long)fault->items);
+        sprintf(room, "the description has %lu items", MOVALIREN_CAST(unsigned long, fault->items));
         return room;
     }
-    if (fault->byte > 0x20 && fault->byte < 0x7f)
-        rest += sprintf(rest, " `%s%c`", percent, fault->byte);
-    else if (fault->byte != 0)
-        rest += sprintf(rest, " `%s\\x%02x`", percent, fault->byte);
-    sprintf(rest, " at byte %lu", (unsigned long)fault->at);
+    if (fault->byte != 0) {
+        rest += sprintf(rest, " `%s", percent);
+        rest += movaliren_escaped(fault->byte, rest);
+        *rest++ = '`';
+    }
+    sprintf(rest, " at byte %lu", MOVALIREN_CAST(unsigned long, fault->at));
     return room;
 }
 
@@ -886,7 +957,7 @@ MOVALIREN_INLINE const char *movaliren_place_text(const struct movaliren_place *
 {
     static const char *const before[] = { "", "", "", "", "", "`.`, ", "a digit, " };
     const char *letters = "`Z`", *small = "";
-    char *rest = room + sprintf(room, "byte %lu: expected ", (unsigned long)place->at);
+    char *rest = room + sprintf(room, "byte %lu: expected ", MOVALIREN_CAST(unsigned long, place->at));
     if (place->first == 'T')
         letters = "`T`";
     if (place->is_lenient)

@@ -50,6 +50,7 @@ enum class errc : int {
     bad_item = MOVALIREN_ERROR_BAD_ITEM,
     no_room = MOVALIREN_ERROR_NO_ROOM,
     out_of_memory = MOVALIREN_ERROR_OUT_OF_MEMORY,
+    other = MOVALIREN_ERROR_OTHER,
     not_read = MOVALIREN_ERROR_NOT_READ,
     bad_description = MOVALIREN_ERROR_BAD_DESCRIPTION,
     many_items = MOVALIREN_ERROR_MANY_ITEMS
@@ -350,9 +351,12 @@ public:
     // Adds a component by its usual choices, as movaliren_add_usual does.
     description &add(movaliren_kind kind)
     {
-        const bool is_counted = kind == MOVALIREN_WEEKDAY_FROM_SUNDAY
-            || kind == MOVALIREN_WEEKDAY_FROM_MONDAY || kind == MOVALIREN_PERIOD;
-        return add(kind, MOVALIREN_ZERO, is_counted);
+        movaliren_item items[1] = {};
+        movaliren_description one = MOVALIREN_ITEMS(items);
+        one.reason = 0;
+        movaliren_add_usual(&one, static_cast<std::uint32_t>(kind));
+        items_.push_back(items[0]);
+        return *this;
     }
 
     // Adds a component by its choices: the padding of its number, the flag of its kind, and the digits of a second.
@@ -467,8 +471,8 @@ private:
         return text;
     }
 
-    std::vector<movaliren_item> items_;
-    std::string texts_;
+    std::vector<movaliren_item> items_ = {};
+    std::string texts_ = {};
 };
 
 } // namespace movaliren

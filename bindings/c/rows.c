@@ -555,9 +555,11 @@ static ptrdiff_t error_words(
 /* The words of the library are those of the header. */
 static void try_words(void)
 {
-    const ptrdiff_t others[] = { PTRDIFF_MIN, -24, 0, 1, PTRDIFF_MAX };
-    for (ptrdiff_t reason = MOVALIREN_ERROR_NOT_READ; reason < 0; reason++)
+    const ptrdiff_t others[] = { PTRDIFF_MIN, MOVALIREN_ERROR_MANY_ITEMS - 1, 0, 1, PTRDIFF_MAX };
+    for (ptrdiff_t reason = MOVALIREN_ERROR_MANY_ITEMS; reason < 0; reason++) {
         expect_text(error_words, 0, &reason, movaliren_error_text(reason));
+        expect_true(strlen(movaliren_error_text(reason)) <= 200, movaliren_error_text(reason), "longer than is said");
+    }
     for (size_t i = 0; i < sizeof others / sizeof *others; i++)
         expect_text(error_words, 0, &others[i], movaliren_error_text(others[i]));
 }
@@ -574,6 +576,10 @@ static void try_version(void)
     expect_true(MOVALIREN_STRING(line, movaliren_rfc3339_utc, 0, 1000000000) == MOVALIREN_ERROR_NANOSECOND, line,
         "the error");
     expect_true(!*line, line, "a string after an error");
+    char twenty[20], more[21];
+    expect_true(MOVALIREN_STRING(twenty, movaliren_rfc3339_utc, 0, 0) == MOVALIREN_ERROR_NO_ROOM && !*twenty, "20 bytes",
+        "a string without its zero");
+    expect_true(MOVALIREN_STRING(more, movaliren_rfc3339_utc, 0, 0) == 20 && !more[20], more, "a string that fills its array");
 }
 
 /* ---- batches */

@@ -35,11 +35,17 @@ template <class Duration> static movaliren::sys_time<Duration> at(Duration since
     return movaliren::sys_time<Duration>(since);
 }
 
+// The bytes of a text last as long as it, so the value of one that ends with the expression is a copy.
+static_assert(std::is_same_v<decltype(movaliren::rfc3339(at(seconds(0))).value()), std::string>);
+static_assert(std::is_same_v<decltype(std::declval<movaliren::text<1> &>().value()), std::string_view>);
+
 static void texts()
 {
     // RFC 3339, section 5.8, and RFC 2822, appendix A.1.1.
     expect("centiseconds", movaliren::rfc3339(at(milliseconds(482196050520))).value(), "1985-04-12T23:20:50.52Z");
     expect("an offset", movaliren::rfc3339(at(seconds(851042397)), hours(-8)).value(), "1996-12-19T16:39:57-08:00");
+    expect("decimals at an offset", movaliren::rfc3339(at(milliseconds(851042397500)), hours(-8)).value(),
+        "1996-12-19T16:39:57.5-08:00");
     expect("RFC 2822", movaliren::rfc2822(at(seconds(880127706)), hours(-6)).value(),
         "Fri, 21 Nov 1997 09:55:06 -0600");
     expect("RFC 2822 in UTC", movaliren::rfc2822(at(minutes(14668795))).value(), "Fri, 21 Nov 1997 15:55:00 +0000");
@@ -66,8 +72,11 @@ static void durations()
     expect("a double", movaliren::rfc3339(at(duration<double>(-0.25))).value(), "1969-12-31T23:59:59.75Z");
     expect("nearly a second", movaliren::rfc3339(at(duration<long double>(std::nextafter(1.0L, 0.0L)))).value(),
         "1970-01-01T00:00:00.999999999Z");
+    expect("barely below 1970", movaliren::rfc3339(at(duration<double>(-1e-30))).value(), "1969-12-31T23:59:59.999999999Z");
     using gregorian_years = duration<std::int64_t, std::ratio<31556952>>;
     expect_error("years", movaliren::rfc3339(at(gregorian_years(INT64_MAX))).error(), errc::moment_seconds);
+    expect_error("years before", movaliren::rfc3339(at(gregorian_years(INT64_MIN))).error(), errc::moment_seconds);
+    expect_error("minus infinity", movaliren::rfc3339(at(duration<double>(-INFINITY))).error(), errc::moment_seconds);
     expect_error("no number", movaliren::rfc3339(at(duration<double>(std::nan("")))).error(), errc::moment_seconds);
     expect_error("infinity", movaliren::rfc3339(at(duration<double>(INFINITY))).error(), errc::moment_seconds);
 }
@@ -100,6 +109,8 @@ static void descriptions()
 {
     const auto day = movaliren::description().add(MOVALIREN_DAY, MOVALIREN_NO_PADDING).add(" of ").add(MOVALIREN_MONTH_LONG);
     expect("a description", day.format(at(seconds(880127706))), "21 of November");
+    const auto texts = movaliren::description().add("day ").add(MOVALIREN_DAY).add(" of the month");
+    expect("two texts", texts.format(at(seconds(880127706))), "day 21 of the month");
     const movaliren_moment moment = { 1937, 0, 1, 1, 12, 0, 27, 0, 20, 0 };
     expect("of a moment", day.format(moment), "1 of January");
     expect("at an offset", day.format(at(seconds(880127706)), hours(9)), "22 of November");
@@ -108,6 +119,14 @@ static void descriptions()
     expect("of a moment", std::to_string(day.length(moment)), "12");
     expect("at an offset", std::to_string(day.length(at(seconds(880127706)), hours(9))), "14");
     expect("nothing", movaliren::description().format(moment), "");
+    const auto usual = movaliren::description().add(MOVALIREN_PERIOD).add(MOVALIREN_WEEKDAY_FROM_SUNDAY);
+    expect("usual choices", usual.format(moment), "PM6");
+    const auto chosen = movaliren::description().add(MOVALIREN_PERIOD, MOVALIREN_ZERO, false)
+        .add(MOVALIREN_HOUR_12, MOVALIREN_SPACE).add(MOVALIREN_SUBSECOND, MOVALIREN_ZERO, false, 3);
+    expect("other choices", chosen.format(at(milliseconds(-10))), "pm11990");
+    const auto hour = movaliren::description().add(MOVALIREN_HOUR, MOVALIREN_NO_PADDING);
+    expect("a length in UTC", std::to_string(hour.length(at(hours(9)))), "1");
+    expect("a length at an offset", std::to_string(hour.length(at(hours(9)), hours(1))), "2");
     try {
         movaliren::description().add(static_cast<movaliren_kind>(99)).format(moment);
         failed++;
@@ -130,6 +149,7 @@ static void descriptions_from_texts()
     for (int i = 0; i < 1000; i++)
         many += "%d-", wanted += "21-";
     expect("2,000 items", movaliren::description::parse_strftime(many).format(at(seconds(880127706))), wanted);
+    expect("a zero within", movaliren::description::parse_strftime({ "%d\0%m", 5 }).format(at(seconds(0))), { "01\0" "01", 5 });
     expect("a text that ends within", movaliren::description::parse_strftime(std::string_view("%d%Q", 2)).format(at(seconds(0))), "01");
     try {
         movaliren::description::parse_strftime("%d %Q");
@@ -148,6 +168,9 @@ static void readings()
     expect("its nanosecond", std::to_string(moment.value().nanosecond), "870000000");
     const auto local = movaliren::read_rfc3339_local("1996-12-19t16:39:57-08:00", movaliren::profile::lenient);
     expect("read locally", std::to_string(local.value().offset_hours), "-8");
+    expect("read locally and strictly", movaliren::read_rfc3339_local("1996-12-19t16:39:57-08:00").message(),
+        "byte 10: expected `T`");
+    expect("read leniently", movaliren::read_rfc3339("1970-01-01t00:00:00z", movaliren::profile::lenient).message(), "");
     const auto none = movaliren::read_rfc3339("1996-12-19t16:39:57-08:00");
     expect_error("not read", none.error(), errc::not_read);
     expect("its place", none.message(), "byte 10: expected `T`");

@@ -99,6 +99,9 @@ static const struct {
     { movaliren_parse, "[first [[month]/[first [[day]] [x]]] [[hour]]][optional [ in [year]]][first]", "11/21 in 1997",
         "11/21 in 1997", "11/21 in 1997" },
     { movaliren_parse, "[day][first [[optional [a[end]]]b] [[optional [c]][hour]]]d[ignore count:2]", "21abd", "21abd", "21abd" },
+    /* texts whose length depends on the offset, and on the nanosecond */
+    { movaliren_parse, "[hour padding:none]", "9", "15", 0 },
+    { movaliren_parse, "[second].[subsecond]", "06.12", "06.12", 0 },
     { movaliren_parse, "", "", "", "" },
 };
 
@@ -161,6 +164,16 @@ static const struct {
     { movaliren_parse_strftime, "%H:%", 3, MOVALIREN_FAULT_UNFINISHED, 0, "unfinished conversion `%` at byte 3" },
     { movaliren_parse_strftime, "at %Q", 4, MOVALIREN_FAULT_UNKNOWN_CONVERSION, 'Q', "unknown conversion `%Q` at byte 4" },
     { movaliren_parse_strftime, "%\xc3\xa9", 1, MOVALIREN_FAULT_UNKNOWN_CONVERSION, 0xc3, "unknown conversion `%\\xc3` at byte 1" },
+    { movaliren_parse_strftime, "% d", 1, MOVALIREN_FAULT_UNKNOWN_CONVERSION, ' ', "unknown conversion `% ` at byte 1" },
+    { movaliren_parse_strftime, "%\t", 1, MOVALIREN_FAULT_UNKNOWN_CONVERSION, '\t', "unknown conversion `%\\t` at byte 1" },
+    { movaliren_parse_strftime, "%\r", 1, MOVALIREN_FAULT_UNKNOWN_CONVERSION, '\r', "unknown conversion `%\\r` at byte 1" },
+    { movaliren_parse_strftime, "%\n", 1, MOVALIREN_FAULT_UNKNOWN_CONVERSION, '\n', "unknown conversion `%\\n` at byte 1" },
+    { movaliren_parse_strftime, "%'", 1, MOVALIREN_FAULT_UNKNOWN_CONVERSION, '\'', "unknown conversion `%\\'` at byte 1" },
+    { movaliren_parse_strftime, "%\"", 1, MOVALIREN_FAULT_UNKNOWN_CONVERSION, '"', "unknown conversion `%\\\"` at byte 1" },
+    { movaliren_parse_strftime, "%\\", 1, MOVALIREN_FAULT_UNKNOWN_CONVERSION, '\\', "unknown conversion `%\\\\` at byte 1" },
+    { movaliren_parse_strftime, "%~", 1, MOVALIREN_FAULT_UNKNOWN_CONVERSION, '~', "unknown conversion `%~` at byte 1" },
+    { movaliren_parse_strftime, "%\x7f", 1, MOVALIREN_FAULT_UNKNOWN_CONVERSION, 0x7f, "unknown conversion `%\\x7f` at byte 1" },
+    { movaliren_parse_strftime, "%\x1f", 1, MOVALIREN_FAULT_UNKNOWN_CONVERSION, 0x1f, "unknown conversion `%\\x1f` at byte 1" },
     { movaliren_parse_strftime, "%T %Z", 4, MOVALIREN_FAULT_ZONE_NAME, 0, "unsupported conversion `%Z` at byte 4" },
     { movaliren_parse_strftime, "%Ey", 1, MOVALIREN_FAULT_LOCALE_MODIFIER, 'E', "unsupported modifier `%E` at byte 1" },
     { movaliren_parse_strftime, "%5Y", 1, MOVALIREN_FAULT_FIELD_WIDTH, '5', "unsupported field width `%5` at byte 1" },
@@ -227,6 +240,18 @@ static void try_rooms(void)
             expect_refused(&line, MOVALIREN_ERROR_NO_ROOM, "a sixth item");
         }
     }
+}
+
+/* A component is added to a description that was read, and no text, since its texts are those of the caller. */
+static void try_adding(void)
+{
+    struct movaliren_item items[5];
+    struct movaliren_description line = MOVALIREN_ITEMS(items);
+    movaliren_parse_strftime(&line, "at %H");
+    movaliren_add_usual(&line, MOVALIREN_PERIOD);
+    expect_text(by, &line, &mail, "at 09AM");
+    movaliren_add_text(&line, "x");
+    expect_refused(&line, MOVALIREN_ERROR_NO_ROOM, "a text is added");
 }
 
 static ptrdiff_t fault_words(const void *format, const void *value, uint8_t *room, size_t room_len)
@@ -308,6 +333,7 @@ int main(void)
     try_texts();
     try_faults();
     try_rooms();
+    try_adding();
     try_words();
     for (size_t i = 0; i < sizeof rows / sizeof *rows; i++)
         try_prefixes(rows[i].format, rows[i].parse == movaliren_parse_strftime);

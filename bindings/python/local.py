@@ -19,5 +19,6 @@ handler.setFormatter(Formatter("%(asctime)s %(message)s", "%FT%T.%3N%:z"))
 handler.handle(logging.makeLogRecord({"msg": "opened"}))
 for line in sys.stdin:
     second, nanosecond = map(int, line.split())
-    made = {"msg": "opened", "created": second, "msecs": nanosecond // 1_000_000}
+    milliseconds = nanosecond // 1_000_000
+    made = {"msg": "opened", "created": second + milliseconds / 1000, "msecs": milliseconds}
     handler.handle(logging.makeLogRecord(made))

@@ -18,7 +18,8 @@ const NOT_FOUND: &str = "\
 the library of Movaliren was not found, so nothing links. Do one of these:
   - build it in the repository:  (cd crates/movaliren_c && rt lib)
   - install it, where pkg-config finds it:  make -C bindings/c install PREFIX=..
-  - set MOVALIREN_LIB to the folder of libmovaliren.a, libmovaliren.so or libmovaliren_c.a";
+  - set MOVALIREN_LIB to the folder of libmovaliren.a, libmovaliren.so or libmovaliren_c.a, by its absolute path: of an
+    unpacked archive it is lib";
 
 /// A library's file, its kind for rustc, and its name.
 const FILES: [(&str, &str, &str); 3] = [

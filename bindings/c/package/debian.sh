@@ -73,6 +73,7 @@ echo 'libmovaliren 0 libmovaliren0' >"$room/libmovaliren0/DEBIAN/shlibs"
 echo 'activate-noawait ldconfig' >"$room/libmovaliren0/DEBIAN/triggers"
 {
     echo 'libmovaliren.so.0 libmovaliren0 #MINVER#'
+    echo '* Build-Depends-Package: libmovaliren-dev'
     nm -D --defined-only "$stage/$lib/libmovaliren.so.0" | sed 's/.* //; s/^/ /; s/$/@Base 0.1.0/' | LC_ALL=C sort
 } >"$room/libmovaliren0/DEBIAN/symbols"
 build libmovaliren0

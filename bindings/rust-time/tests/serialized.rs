@@ -63,5 +63,6 @@ fn a_text_that_is_none_is_refused_at_its_first_fault() {
             .to_string()
     };
     assert!(read(r#""2026-02-29T00:00:00Z""#).starts_with("byte 9: expected a digit from 0 to 8"));
+    assert!(read(r#""2026-02-28t00:00:00Z""#).starts_with("byte 10: expected `T`"));
     assert!(read("7").starts_with("invalid type: integer `7`, expected a text of RFC 3339"));
 }

@@ -1,5 +1,6 @@
 //! The lines that `tracing-subscriber` writes with a timer.
-use movaliren::{description, Description, Format, Kind, Rfc3339Local, Text, UtcMoment};
+use chrono::{DateTime, Duration, Utc};
+use movaliren::{description, Description, Format, Kind, Rfc3339, Rfc3339Local, Text, UtcMoment};
 use movaliren_time::{LocalTimer, LogTimer, Timer};
 use std::io;
 use std::sync::{Arc, Mutex};
@@ -64,6 +65,28 @@ fn a_time_of_a_log_has_its_decimals_and_its_offset() {
     ends_with_zone(LogTimer::microseconds(|_| 3_600), 32, "+01:00");
     ends_with_zone(LogTimer::nanoseconds(|_| -12_600), 35, "-03:30");
     ends_with_zone(LogTimer::milliseconds(|_| 0), 24, "Z");
+}
+
+/// The time before the level is that of the clock of `chrono`, cut to its decimals.
+fn is_that_of_the_clock(timer: impl FormatTime + Send + Sync + 'static, decimals: u32) {
+    let unit = Duration::nanoseconds(10_i64.pow(9 - decimals));
+    let before = Utc::now();
+    let line = logged_by(timer);
+    let after = Utc::now();
+    let (time, _) = line.split_once("  INFO").unwrap();
+    let time = DateTime::parse_from_rfc3339(time).unwrap();
+    assert!(before - unit < time && time <= after, "{time}");
+}
+
+#[test]
+fn a_time_is_that_of_the_clock() {
+    for _ in 0..100 {
+        is_that_of_the_clock(Timer::new(Rfc3339), 9);
+        is_that_of_the_clock(LocalTimer::new(Rfc3339, |_| -12_600), 9);
+        is_that_of_the_clock(LogTimer::milliseconds(|_| 3_600), 3);
+        is_that_of_the_clock(LogTimer::microseconds(|_| 0), 6);
+        is_that_of_the_clock(LogTimer::nanoseconds(|_| -12_600), 9);
+    }
 }
 
 #[test]

@@ -325,6 +325,15 @@ mod tests {
     const LIST: Description = description!["", Kind::Day, "a", Kind::MonthLong, "\u{2236}",];
 
     #[test]
+    fn the_width_is_at_most_that_of_memory() {
+        let mut description = LIST;
+        description.push(raw::Item::NONE, usize::MAX);
+        assert_eq!(description.width(), isize::MAX as usize);
+        description.push(raw::Item::NONE, 1);
+        assert_eq!(description.width(), isize::MAX as usize);
+    }
+
+    #[test]
     fn the_width_is_that_of_the_whole_list() {
         let mut description = LIST;
         for text in ["", "a", "hours and minutes"] {

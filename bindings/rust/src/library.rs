@@ -1,5 +1,5 @@
 //! What `bindings/interface.py` writes from the code of the library.
-use crate::{Error, Kind, Moment, UtcMoment};
+use crate::{Error, FaultReason, Kind, Moment, UtcMoment};
 
 #[repr(C)]
 #[derive(Clone, Copy, Debug, PartialEq, Eq, Hash)]
@@ -176,6 +176,32 @@ pub(crate) fn words_of(error: Error) -> Result<&'static str, isize> {
         Error::BadDescription => "the text is not a description",
         Error::ManyItems => "the description has more items than there is room for",
         Error::Unknown(number) => return Err(number),
+    })
+}
+
+pub(crate) fn fault_reason_of(number: u8) -> Option<FaultReason> {
+    Some(match number {
+        1 => FaultReason::UnclosedBracket,
+        2 => FaultReason::InvalidEscape,
+        3 => FaultReason::MissingName,
+        4 => FaultReason::UnknownName,
+        5 => FaultReason::UnknownModifier,
+        6 => FaultReason::InvalidValue,
+        7 => FaultReason::MissingModifier,
+        8 => FaultReason::MissingItems,
+        9 => FaultReason::UnexpectedByte,
+        10 => FaultReason::TooDeep,
+        11 => FaultReason::TooManyItems,
+        12 => FaultReason::Unfinished,
+        13 => FaultReason::UnknownConversion,
+        14 => FaultReason::ZoneName,
+        15 => FaultReason::LocaleModifier,
+        16 => FaultReason::FieldWidth,
+        17 => FaultReason::CaseFlag,
+        18 => FaultReason::PlusFlag,
+        19 => FaultReason::SecondFlag,
+        20 => FaultReason::FlagWithoutNumber,
+        _ => return None,
     })
 }
 

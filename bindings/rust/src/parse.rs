@@ -1,6 +1,6 @@
 //! Descriptions from a text.
 use crate::description::Description;
-use crate::library::{Fault, Item};
+use crate::library::{fault_reason_of, Fault, Item};
 use crate::raw::{self, Syntax};
 use alloc::vec;
 use core::fmt;
@@ -16,39 +16,42 @@ pub enum FaultReason {
     InvalidEscape = 2,
     /// Brackets have no name in them: the closing bracket.
     MissingName = 3,
-    /// No component has this name: its first byte.
+    /// No component has this name: the first byte of the name.
     UnknownName = 4,
-    /// The component has no such modifier: its first byte.
+    /// The component has no modifier with this key: the first byte of the key.
     UnknownModifier = 5,
-    /// The modifier has no such value: the first byte of the modifier.
+    /// The modifier has no such value: the first byte of the key.
     InvalidValue = 6,
     /// An `ignore` has no `count`: the closing bracket.
     MissingModifier = 7,
     /// An `optional` has no list of items: the closing bracket.
     MissingItems = 8,
-    /// Text stands between lists of items, or an `optional` has a second one: its first byte.
+    /// A byte other than whitespace and a bracket stands between lists of items, or an `optional`
+    /// has another list: that byte, or the bracket of the list.
     UnexpectedByte = 9,
-    /// More than 32 lists of items stand in one another: the opening bracket of the 33rd.
+    /// A list of items is the 33rd in one another: its opening bracket.
     TooDeep = 10,
-    /// There are more than 65,536 items.
+    /// More than 65,536 opening brackets and backslashes, with one of which each item but a literal
+    /// begins: the first one past them. In the syntax of strftime, the part that begins here has
+    /// the 65,537th item.
     TooManyItems = 11,
-    /// A conversion has no letter: its `%`.
+    /// The text ends within a conversion. The byte is its `%`.
     Unfinished = 12,
-    /// A conversion has a letter that is none.
+    /// No conversion has this letter. The byte is that letter, or a colon before it.
     UnknownConversion = 13,
-    /// `%Z`: no value has the name of a time zone.
+    /// `%Z`, the name of a time zone: values have an offset and no name of it. The byte is the `Z`.
     ZoneName = 14,
-    /// `%E` or `%O`: no text depends on a locale.
+    /// `E` or `O`, which ask for a locale's own eras and digits.
     LocaleModifier = 15,
-    /// The width of a field: its first digit.
+    /// A field width, other than the three of `%3N`, `%6N` and `%9N`: its first digit.
     FieldWidth = 16,
-    /// The flag `^` or `#`.
+    /// `^` or `#`, which change the case of letters.
     CaseFlag = 17,
-    /// The flag `+`.
+    /// `+`, a flag of POSIX.1-2008 and a conversion of other systems.
     PlusFlag = 18,
-    /// A second flag.
+    /// A flag after another one.
     SecondFlag = 19,
-    /// A flag before a conversion that has no number: its letter.
+    /// A flag before this letter, whose conversion takes none.
     FlagWithoutNumber = 20,
 }
 
@@ -69,38 +72,12 @@ impl InvalidDescription {
     fn of_fault(fault: &Fault) -> Self {
         InvalidDescription {
             at: fault.at,
-            reason: REASONS
-                .iter()
-                .copied()
-                .find(|reason| *reason as u8 == fault.reason),
+            reason: fault_reason_of(fault.reason),
             byte: Some(fault.byte).filter(|byte| *byte != 0),
             number: fault.reason,
         }
     }
 }
-
-const REASONS: [FaultReason; 20] = [
-    FaultReason::UnclosedBracket,
-    FaultReason::InvalidEscape,
-    FaultReason::MissingName,
-    FaultReason::UnknownName,
-    FaultReason::UnknownModifier,
-    FaultReason::InvalidValue,
-    FaultReason::MissingModifier,
-    FaultReason::MissingItems,
-    FaultReason::UnexpectedByte,
-    FaultReason::TooDeep,
-    FaultReason::TooManyItems,
-    FaultReason::Unfinished,
-    FaultReason::UnknownConversion,
-    FaultReason::ZoneName,
-    FaultReason::LocaleModifier,
-    FaultReason::FieldWidth,
-    FaultReason::CaseFlag,
-    FaultReason::PlusFlag,
-    FaultReason::SecondFlag,
-    FaultReason::FlagWithoutNumber,
-];
 
 impl fmt::Display for InvalidDescription {
     fn fmt(&self, f: &mut fmt::Formatter<'_>) -> fmt::Result {

@@ -255,6 +255,26 @@ fn a_value_without_a_text_is_shown_as_the_reason() {
     assert_eq!(text, "<the value lacks a component of the format>");
 }
 
+/// The hour of a moment has one digit or two, by its kind.
+#[test]
+fn a_length_is_that_of_the_text() {
+    let line = description![Kind::Hour.padding(Padding::NoPadding), ".", Kind::Subsecond];
+    let moment = UtcMoment::new(879_350_106, 120_000_000);
+    assert_eq!(line.format(&moment).as_deref(), Ok("15.12"));
+    assert_eq!(line.length(&moment), Ok(5));
+    let local = moment.local(-21_600);
+    assert_eq!(line.format(&local).as_deref(), Ok("9.12"));
+    assert_eq!(line.length(&local), Ok(4));
+    assert_eq!(line.length(&EXAMPLE), Ok(4));
+    let date = Date {
+        year: 1997,
+        month: 5,
+        day: 12,
+    };
+    assert_eq!(description![Kind::MonthLong].length(&date), Ok(3));
+    assert_eq!(line.length(&date), Err(Error::Insufficient));
+}
+
 #[test]
 fn a_description_from_a_text_is_the_one_of_its_items() {
     let items = description![
@@ -300,6 +320,30 @@ fn a_text_that_is_no_description_has_its_reason_and_byte() {
             FaultReason::UnknownConversion,
             Some(0xc3),
             "unknown conversion `%\\xc3` at byte 3",
+        ),
+        (
+            "% d",
+            FaultReason::UnknownConversion,
+            Some(b' '),
+            "unknown conversion `% ` at byte 1",
+        ),
+        (
+            "%\"",
+            FaultReason::UnknownConversion,
+            Some(b'"'),
+            "unknown conversion `%\\\"` at byte 1",
+        ),
+        (
+            "%\u{1}",
+            FaultReason::UnknownConversion,
+            Some(1),
+            "unknown conversion `%\\x01` at byte 1",
+        ),
+        (
+            "%-0d",
+            FaultReason::SecondFlag,
+            Some(b'0'),
+            "second flag `0` at byte 2",
         ),
         (
             "%-F",

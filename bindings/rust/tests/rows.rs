@@ -365,6 +365,12 @@ fn a_batch_stops_at_the_first_moment_that_has_no_text() {
         b"# 1997-11-12T09:55:06.12-06:00\n2026-11-22T00:00:00Z\n"
     );
     assert_eq!(progress.bytes + 2, lines.len());
+    let mut room = [0; 29];
+    let first = Rfc3339.batch_to(&mut room, &moments[..1], b';');
+    assert_eq!((first.bytes, room[28]), (29, b';'));
+    let after = lines.len();
+    let zero = Rfc3339.batch_into(&mut lines, &moments[..1], 0xff);
+    assert_eq!((zero.bytes, lines[after + 28]), (29, 0xff));
     let none = Rfc2822.batch_into(&mut lines, &[] as &[Moment], 0);
     assert_eq!((none.moments, none.bytes, none.stopped), (0, 0, None));
 }
@@ -417,6 +423,9 @@ fn the_texts_in_place_show_compare_and_convert() {
     assert_eq!(String::from(text), *text);
     assert!(text < Rfc3339.text(&Moment::new(1998, 1, 1)).unwrap());
     assert_eq!(text, Rfc3339.text(&EXAMPLE).unwrap());
+    let [a, zero] =
+        ["a", "a\0"].map(|text| Description::new().literal(text).text(&EXAMPLE).unwrap());
+    assert!(a < zero && a != zero && zero == "a\0");
     assert!("1997-11-12T09:55:06.12-06:00" == text && text == *"1997-11-12T09:55:06.12-06:00");
 }
 

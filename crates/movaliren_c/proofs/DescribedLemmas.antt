@@ -5,7 +5,7 @@ use Rattle.std.proofs.Common.{true, false}
 use Rattle.std.specs.Prelude.{ℤ, pos, int_lt, is_some, unsigned_abs}
 use Rattle.std.proofs.Math.Seq.{take-append_seam}
 use Rattle.std.proofs.lemmas.Grind.{common_steps}
-use Rattle.std.proofs.lemmas.List.{append-nil, at_drop_more, at_drop_all}
+use Rattle.std.proofs.lemmas.List.{append-nil, at_drop_more, at_drop_all, length-drop}
 use Rattle.movaliren_c.specs.Answer.{IsReasonFor, IsRefusedFor, IsText, Refuses}
 use Rattle.movaliren_c.specs.Items.{EndsItem, EndsRun, ItemEndsOrIsLost, IsPut, IsShown, IsWithinWidth, described, list_of, reason_before}
 use Rattle.movaliren_c.specs.Items.{first_part, run_before, second_part, third_part}
@@ -475,6 +475,18 @@ pub all_put : {agrees : Type 0} {I : Type 0} (g : I → Result Tree Reason) (ite
 all_put g items old now lost f all none so_far =
     let left : list_of (map g items) ≡ Ok [] = at_drop_all (λ rest. list_of (map g rest)) items 0 (omega (arith, none)) in
     whole_of all (list_of (map g items)) old now lost f left so_far
+
+-- a date or a time of day that ended is all that the items are
+pub run_alone : {agrees : Type 0} {I : Type 0} (g : I → Result Tree Reason) (items : List I) (r : Run) (x y : ℕ)
+    (old new : Buffer) (f : Facts) → agrees → length items ≡ 5
+    → list_of (map g items) ≡ with_value (list_of (map g (drop 5 items))) (λ others. Ok (run_before r x y others))
+    → EndsRun r x y f old new → old.bytes ≡ [] → old.len ≡ 0 → IsPut (list_of (map g items)) f (Ok 0) old new
+run_alone {agrees = agrees} g items r x y old new f state five begin ends empty len =
+    let all = list_of (map g items) in
+    let none : length (drop 5 items) < 1 = omega (arith, five, length-drop 5 items) in
+    all_put {agrees = agrees} g (drop 5 items) old new 0 f all none
+    (run_more {before = agrees} {after = agrees} g items (drop 5 items) r x y old old new 0 f all refl state begin ends
+    (nothing_so_far {agrees = agrees} old f all state empty len))
 
 written_whole : (lost most len : ℕ) (text bytes before after : List ℕ)
     → (lost ≡ 0 → (bytes ≡ text) × (len ≡ length text)) → (0 < lost → most < length text)

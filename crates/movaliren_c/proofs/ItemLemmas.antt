@@ -1,6 +1,6 @@
 -- Items of a text, in an array and in what they show.
 use Rattle.std.proofs.Common.{◌≡◌, ◌<◌, ◌≤◌, ◌+◌, ◌++◌, ℕ, min, ◌-◌, Bool, true, false, List, [], ◌∷◌, length, take, set, Option, Some, None, is_some, Result, Ok, Err, refl, sym, ap, ◌∙◌, subst, arith, ne_eqb}
-use Rattle.std.specs.Prelude.{IsTrue, nat_le, slice_range, ◌==◌}
+use Rattle.std.specs.Prelude.{IsTrue, nat_le, slice_range, ◌==◌, ◌≢◌}
 use Rattle.std.specs.Str.{is_utf8}
 use Rattle.std.proofs.lemmas.Bool.{le-leb, leb-true, leb-false}
 use Rattle.std.proofs.lemmas.List.{append-nil, length-append, take_more_set}
@@ -282,36 +282,50 @@ same_by : {A : Type 0} (description all : List Tree) (value : Result A Reason) (
 same_by description all (Ok v) facts same = ap Ok (sym (same (facts v)))
 same_by description all (Err r) facts same = refl
 
-given_by : {A : Type 0} (fits : Bool) (text : List ℕ) (all : List Tree) (count room : ℕ) (items : List Item) (old new : Fault) (value : Result A Reason)
-    (facts : A → Facts) → nat_le (length all) room ≡ fits → LeavesItems fits text all (Ok count) items old new
-    → described (few_in room (Ok all)) value facts ≡ described (trees_of text (take count items)) value facts
-given_by true text all count room items old new value facts test h =
+given_by : {A : Type 0} (fits : Bool) (text : List ℕ) (all : List Tree) (count room most : ℕ) (items : List Item) (old new : Fault) (value : Result A Reason)
+    (facts : A → Facts) → room ≤ most → nat_le (length all) room ≡ fits → LeavesItems fits text all (Ok count) items old new
+    → described (few_in most (Ok all)) value facts ≡ described (trees_of text (take count items)) value facts
+given_by true text all count room most items old new value facts small test h =
     let same : count ≡ length all = let e = h.0 in cc in
-    let few : few_in room (Ok all) ≡ Ok all = rw test refl in
+    let inside : length all ≤ room = leb-true (length all) room test in
+    let test : nat_le (length all) most ≡ true = le-leb (length all) most (omega (arith, inside, small)) in
+    let few : few_in most (Ok all) ≡ Ok all = rw test refl in
     ap (λ (d : Result (List Tree) Reason). described d value facts) few
     ∙ same_by h.1.description all value facts h.1.same
     ∙ ap (λ (d : Result (List Tree) Reason). described d value facts) (sym h.1.there)
     ∙ ap (λ (n : ℕ). described (trees_of text (take n items)) value facts) (sym same)
-given_by false text all count room items old new value facts test h = absurd (let e = h.0 in cc)
+given_by false text all count room most items old new value facts small test h = absurd (let e = h.0 in cc)
 
--- the items give what the text does
-pub text_given : {A : Type 0} (text : List ℕ) (d : Result (List Tree) Fault) (count : ℕ) (items : List Item) (old new : Fault) (value : Result A Reason)
-    (facts : A → Facts) → Leaves text d (Ok count) items old new
-    → described (few_in (length items) d) value facts ≡ described (trees_of text (take count items)) value facts
-text_given text (Ok all) count items old new value facts h =
-    given_by (nat_le (length all) (length items)) text all count (length items) items old new value facts refl h
-text_given text (Err f) count items old new value facts h = absurd (let e = h.0 in cc)
+-- the items give what the text does, of which there may be more than the array has room for
+pub text_given : {A : Type 0} (text : List ℕ) (d : Result (List Tree) Fault) (count most : ℕ) (items : List Item) (old new : Fault) (value : Result A Reason)
+    (facts : A → Facts) → length items ≤ most → Leaves text d (Ok count) items old new
+    → described (few_in most d) value facts ≡ described (trees_of text (take count items)) value facts
+text_given text (Ok all) count most items old new value facts small h =
+    given_by (nat_le (length all) (length items)) text all count (length items) most items old new value facts small refl h
+text_given text (Err f) count most items old new value facts small h = absurd (let e = h.0 in cc)
+
+many_only : (fits : Bool) (text : List ℕ) (all : List Tree) (r : Reason) (items : List Item) (old new : Fault)
+    → LeavesItems fits text all (Err r) items old new → r ≡ reason.ManyItems
+many_only true text all r items old new h = absurd (let e = h.0 in cc)
+many_only false text all r items old new h = let e = h.0 in cc
 
 refused_by : (fits : Bool) (text : List ℕ) (all : List Tree) (r : Reason) (room : ℕ) (items : List Item) (old new : Fault) → nat_le (length all) room ≡ fits
     → LeavesItems fits text all (Err r) items old new → few_in room (Ok all) ≡ Err r
 refused_by true text all r room items old new test h = absurd (let e = h.0 in cc)
 refused_by false text all r room items old new test h =
     let many : few_in room (Ok all) ≡ Err reason.ManyItems = rw test refl in
-    let same : r ≡ reason.ManyItems = let e = h.0 in cc in many ∙ ap Err (sym same)
+    many ∙ ap Err (sym (many_only false text all r items old new h))
 
 -- or there is the same reason for none
 pub text_refused : (text : List ℕ) (d : Result (List Tree) Fault) (r : Reason) (items : List Item) (old new : Fault) → Leaves text d (Err r) items old new
     → few_in (length items) d ≡ Err r
 text_refused text (Ok all) r items old new h = refused_by (nat_le (length all) (length items)) text all r (length items) items old new refl h
 text_refused text (Err f) r items old new h =
+    let same : r ≡ reason.BadDescription = let e = h.0 in cc in ap Err (sym same)
+
+-- a fault is the same, however many items there may be
+pub text_faulty : (text : List ℕ) (d : Result (List Tree) Fault) (r : Reason) (most : ℕ) (items : List Item) (old new : Fault)
+    → r ≢ reason.ManyItems → Leaves text d (Err r) items old new → few_in most d ≡ Err r
+text_faulty text (Ok all) r most items old new other h = absurd (other (many_only (nat_le (length all) (length items)) text all r items old new h))
+text_faulty text (Err f) r most items old new other h =
     let same : r ≡ reason.BadDescription = let e = h.0 in cc in ap Err (sym same)

@@ -1,6 +1,6 @@
 -- What a description that crosses as data means: a tree for each item, or the reason why there is
 -- none.
-use Rattle.std.specs.Prelude.{ℕ, ◌≡◌, ◌≢◌, ◌<◌, ◌≤◌, ◌⊎◌, ◌++◌, min, ◌+◌, ◌-◌, Bool, true, false, ◌==◌, ◌&&◌, nat_le, nat_lt, List, [], ◌∷◌, map, length, drop, None}
+use Rattle.std.specs.Prelude.{ℕ, ◌≡◌, ◌≢◌, ◌<◌, ◌≤◌, ◌⊎◌, ◌++◌, min, ◌+◌, ◌-◌, Bool, true, false, ◌==◌, ◌&&◌, ◌||◌, nat_le, nat_lt, List, [], ◌∷◌, map, length, drop, None}
 use Rattle.std.specs.Prelude.{slice_range, Result, Ok, Err, IfOk, IsErr, IsOkAnd, if◌then◌else◌}
 use Rattle.movaliren_c.specs.Answer.{IsRefusedFor, IsText, gives}
 use Rattle.movaliren_c.specs.Value.{flag_at, numbered, with_value}
@@ -150,6 +150,16 @@ pub record IsDescribed {V : Type 0} (texts : List ℕ) (items : List Item) (valu
       answer))
 
 -- ---- dates and times of day
+
+-- an item of a year or an hour, which may begin one
+abbrev pub is_first_of_run : Item → Bool
+is_first_of_run i = i.kind == 13 || i.kind == 14 || i.kind == 24
+
+-- one of the first two items may
+abbrev pub begins_with_run : List Item → Bool
+begins_with_run [] = false
+begins_with_run (i ∷ []) = false
+begins_with_run (i ∷ j ∷ behind) = is_first_of_run i || is_first_of_run j
 
 -- the parts of a date and of a time of day
 abbrev pub first_part : Run → Component

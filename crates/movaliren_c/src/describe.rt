@@ -20,6 +20,9 @@ use time_provide::ComponentProvider;
 /// The most items of a text that is formatted in one call.
 const FEW: usize = 64;
 
+/// The items that there is room for at first: an array of all 64 costs 60 instructions more.
+const USUAL: usize = 24;
+
 /// Reads the items of a text in brackets into an array.
 #[unsafe(no_mangle)]
 pub extern "C" fn movaliren_describe(text: &[u8], items: &mut [Item], fault: &mut Fault) -> isize
@@ -146,10 +149,31 @@ where
     V::State: Drop,
     ensures { IsText (described (few (S.described text.now)) value V.facts) result room.old room.new }
 {
-    let mut items = [NO_ITEM; FEW];
+    let mut items = [NO_ITEM; USUAL];
     let mut fault = Fault::many(0);
     match describe::<S>(text, &mut items, &mut fault) {
         Ok(count) => write_described(&items[..count], text, value, room),
+        Err(Reason::BadDescription) => Err(Reason::BadDescription),
+        Err(_) => write_many::<S, V>(text, value, room),
+    }
+}
+
+/// Writes the text of the value by a description of more items than most have.
+#[cold]
+#[inline(never)]
+fn write_many<S: Syntax, V: ComponentProvider + Drop>(
+    text: &[u8],
+    value: Result<V, Reason>,
+    room: &mut [u8],
+) -> Result<usize, Reason>
+where
+    V::State: Drop,
+    ensures { IsText (described (few (S.described text.now)) value V.facts) result room.old room.new }
+{
+    let mut all = [NO_ITEM; FEW];
+    let mut fault = Fault::many(0);
+    match describe::<S>(text, &mut all, &mut fault) {
+        Ok(count) => write_described(&all[..count], text, value, room),
         Err(reason) => Err(reason),
     }
 }

@@ -1,5 +1,5 @@
 //! Descriptions that cross as data, whose texts allocate nothing.
-ghost use Rattle.std.specs.Prelude.{◌≡◌, IfOk, IsFalse, IsTrue, MatchOption, [], length};
+ghost use Rattle.std.specs.Prelude.{◌≡◌, ◌≤◌, IfNone, IfOk, IfSome, IsFalse, IsTrue, MatchOption, Ok, [], length};
 ghost use Rattle.movaliren_c.specs.Answer.{Answers};
 ghost use Rattle.movaliren_c.specs.Items.{EndsFirst, EndsItem, EndsOrIsLost, EndsRun, FitsOrIsLost, IsDescribed, IsPut, IsShown, ItemEndsOrIsLost, item_tree, part_tree, reason_before, trees_of, width_answer};
 ghost use Rattle.movaliren_c.specs.Value.{date_value, moment_value, timestamp_value};
@@ -25,11 +25,11 @@ use time_fmt::{
 };
 use time_provide::ComponentProvider;
 
-// The greatest width that is returned. No buffer is so long.
-const GREATEST_WIDTH: usize = 0x7fff_ffff_ffff_ffff;
+/// The greatest width or length that is returned. No buffer is so long.
+pub const GREATEST_WIDTH: usize = 0x7fff_ffff_ffff_ffff;
 
-// The most bytes of a text that is written once, to an array, and copied.
-const SHORT: usize = 128;
+/// The bytes of the array that a text is written to at first, from which a short one is copied.
+pub const SHORT: usize = 128;
 
 // The most bytes of a component.
 const LONGEST: usize = 18;
@@ -120,6 +120,9 @@ where
         Ok(value) => value,
         Err(reason) => return Err(first_reason(items, texts, reason)),
     };
+    if let Some(count) = write_if_alone::<Brand, V>(items, texts, &value, room) {
+        return Ok(count);
+    }
     let mut line = [0u8; SHORT];
     match write_chosen::<Brand, V>(items, texts, &value, &mut line) {
         Ok(count) if count <= SHORT => copy_text(&line[..count], room),
@@ -139,6 +142,80 @@ pub fn first_reason(items: &[Item], texts: &[u8], reason: Reason) -> Reason
         Ok(_) => reason,
         Err(invalid) => invalid,
     }
+}
+
+/// Writes a date or a time of day to the start of a buffer, if the items are one, as `write_alone` does. Other items
+/// cost two instructions more.
+#[inline(always)]
+fn write_if_alone<B: Before, V: ComponentProvider>(
+    items: &[Item],
+    texts: &[u8],
+    value: &V,
+    room: &mut [u8],
+) -> Option<usize>
+where
+    V::State: Drop,
+    requires before { room.old ≡ B.before }
+    ensures shown { IfSome result (λ count. IsShown (trees_of texts.now items.now) (V.facts value.now) (Ok count)
+        room.old room.new) }
+    ensures fits { IfSome result (λ count. count ≤ length room.old) }
+    ensures nothing { IfNone result (room.new ≡ room.old) }
+{
+    if items.len() == 5 {
+        write_alone::<B, V>(items, texts, value, room)
+    } else {
+        None
+    }
+}
+
+/// Writes a date or a time of day to the start of a buffer, if five items are one, the value has it and the longest
+/// fits. Returns the number of bytes, if it was written. Nothing of it is refused, so that it needs no array.
+#[inline(never)]
+#[tactic(auto, using(time_fmt::proofs::RoomLemmas::room_written, crate::proofs::DescribedLemmas::put_shown))]
+fn write_alone<B: Before, V: ComponentProvider>(
+    items: &[Item],
+    texts: &[u8],
+    value: &V,
+    room: &mut [u8],
+) -> Option<usize>
+where
+    V::State: Drop,
+    requires before { room.old ≡ B.before }
+    requires five { length items.now ≡ 5 }
+    ensures shown { IfSome result (λ count. IsShown (trees_of texts.now items.now) (V.facts value.now) (Ok count)
+        room.old room.new) }
+    ensures fits { IfSome result (λ count. count ≤ length room.old) }
+    ensures nothing { IfNone result (room.new ≡ room.old) }
+{
+    let mut output = RoomSink::<B>::new(room);
+    if put_alone::<RoomSink<'_, B>, V>(items, texts, &mut output, value) {
+        Some(output.len())
+    } else {
+        None
+    }
+}
+
+/// Writes a date or a time of day into an empty sink, if the items are one, the value has it and the longest fits.
+/// Returns whether it was written.
+#[inline(always)]
+fn put_alone<S: Sink, V: ComponentProvider>(
+    items: &[Item],
+    texts: &[u8],
+    output: &mut S,
+    value: &V,
+) -> bool
+where
+    V::State: Drop,
+    requires five { length items.now ≡ 5 }
+    requires empty { (S.buffer output.old).bytes ≡ [] }
+    requires len { (S.buffer output.old).len ≡ 0 }
+    ensures puts { IsTrue result → IsPut (trees_of texts.now items.now) (V.facts value.now) (Ok 0)
+        (S.buffer output.old) (S.buffer output.new) }
+    ensures lender { (S.buffer output.new).lender ≡ (S.buffer output.old).lender }
+    ensures nothing { IsFalse result → S.buffer output.new ≡ S.buffer output.old }
+{
+    let mut state = Default::default();
+    write_run::<WithRuns, S, V>(items, texts, output, value, &mut state)
 }
 
 /// Writes the text of the items to the start of a buffer, or as much of it as fits, as `write_items` does, for
@@ -261,7 +338,7 @@ fn write_run<L: Loop, S: Sink, V: ComponentProvider>(
     ensures nothing { IsFalse result → S.buffer output.new ≡ S.buffer output.old }
     ensures agrees { V.agrees state.new value.now }
 {
-    if !L::has_runs() {
+    if !L::HAS_RUNS {
         return false;
     }
     match run_of(items, texts) {

@@ -62,6 +62,7 @@ impl<'a> ItemRoom<'a> {
     }
 
     /// Adds an item behind all others.
+    #[inline(always)]
     #[tactic(auto, using(crate::proofs::ItemLemmas::item_put))]
     fn push(&mut self, item: Item)
         ensures put { (text : List ℕ) (tree : Tree) → IsItem text item tree
@@ -74,6 +75,7 @@ impl<'a> ItemRoom<'a> {
     }
 
     /// Adds an item, unless it is left out.
+    #[inline(always)]
     fn put(&mut self, item: Item)
         ensures put { (text : List ℕ) (fs : List Frame) (tree : Tree) → IsItem text item tree → flat tree ≡ tree ∷ []
             → Adds (λ room all. HoldsIn text fs room.array.now room.count room.hidden_at all) self.old self.new (tree ∷ []) }
@@ -108,6 +110,7 @@ fn closed_at(hidden_at: Option<usize>, depth: usize) -> Option<usize>
 }
 
 /// Stores an item at a place of the array, if it has that place.
+#[inline(always)]
 fn store(array: &mut [Item], at: usize, item: Item)
     ensures stored { at < length array.old → array.new ≡ slice_set array.old at item }
     ensures len { length array.new ≡ length array.old }
@@ -129,16 +132,19 @@ impl Items for ItemRoom<'_> {
 
     ghost lender = { λ room. Some room.array.ghost_name };
 
+    #[inline(always)]
     fn put_component(&mut self, component: Component) -> Result<(), AllocError> {
         self.put(item_of(component));
         Ok(())
     }
 
+    #[inline(always)]
     fn put_byte(&mut self, byte: u8) -> Result<(), AllocError> {
         self.put(byte_item(byte));
         Ok(())
     }
 
+    #[inline(always)]
     fn put_literal(&mut self, text: &[u8], start: usize, len: usize) -> Result<(), AllocError> {
         self.put(text_item(text, start, len));
         Ok(())

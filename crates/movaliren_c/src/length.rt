@@ -7,19 +7,13 @@ ghost use Rattle.movaliren_c.specs.Utc.{local_value};
 ghost use Rattle.movaliren_c.specs.Value.{date_value, moment_value, timestamp_value};
 ghost use Rattle.time_below.specs.Facts.{facts_of_date, facts_of_offset_date_time, facts_of_timestamp};
 
-use crate::described::{first_reason, write_long};
+use crate::described::{GREATEST_WIDTH, SHORT, first_reason, write_long};
 use crate::item::Item;
 use crate::moment::{Moment, UtcMoment, date_value, moment_value, timestamp_value};
 use crate::reason::{Reason, answer_number};
 use crate::source::{AtOffset, Source};
 use std::marker::Brand;
 use time_provide::ComponentProvider;
-
-// The greatest length that is returned. No buffer is so long.
-const GREATEST_LENGTH: usize = 0x7fff_ffff_ffff_ffff;
-
-// The bytes of the array that a text is written to. What does not fit is counted alone.
-const WRITTEN: usize = 128;
 
 /// The number of bytes of the text of a local date and time with its offset.
 #[unsafe(no_mangle)]
@@ -94,9 +88,9 @@ where
         Ok(value) => value,
         Err(reason) => return Err(first_reason(items, texts, reason)),
     };
-    let mut start = [0u8; WRITTEN];
+    let mut start = [0u8; SHORT];
     match write_long::<Brand, V>(items, texts, &value, &mut start) {
-        Ok(count) => Ok(count.min(GREATEST_LENGTH)),
+        Ok(count) => Ok(count.min(GREATEST_WIDTH)),
         Err(reason) => Err(reason),
     }
 }

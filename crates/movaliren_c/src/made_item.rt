@@ -28,6 +28,7 @@ pub const NO_ITEM: Item = Item {
     len: 0,
 };
 
+#[inline(always)]
 fn padding_number(padding: Padding) -> u8
     ensures { padding_at result ≡ Ok padding }
 {
@@ -38,6 +39,7 @@ fn padding_number(padding: Padding) -> u8
     }
 }
 
+#[inline(always)]
 fn flag_number(flag: bool) -> u8
     ensures { flag_at result BadItem ≡ Ok flag }
 {
@@ -47,6 +49,7 @@ fn flag_number(flag: bool) -> u8
     }
 }
 
+#[inline(always)]
 fn digits_number(digits: SubsecondDigits) -> u8
     ensures { digits_at result ≡ Ok digits }
 {
@@ -65,6 +68,7 @@ fn digits_number(digits: SubsecondDigits) -> u8
 }
 
 /// The item of this kind with these choices.
+#[inline(always)]
 #[tactic(auto, unfolding(crate::specs::Items::component_of))]
 fn item(kind: u32, padding: Padding, flag: bool, digits: SubsecondDigits) -> Item
     ensures kind { result.kind ≡ kind }
@@ -80,6 +84,7 @@ fn item(kind: u32, padding: Padding, flag: bool, digits: SubsecondDigits) -> Ite
 }
 
 /// The item of a component that is written, unless it is deprecated.
+#[inline(always)]
 #[tactic(auto, unfolding(crate::specs::Items::date_component, crate::specs::Items::year_component, crate::specs::Items::time_component))]
 fn item_shown(component: Component) -> Option<Item>
     ensures { MatchOption result (is_shown component ≡ false) (IsItemOf component) }
@@ -147,6 +152,7 @@ fn item_shown(component: Component) -> Option<Item>
 }
 
 /// The item of a component. One that writes nothing has a text of no bytes.
+#[inline(always)]
 #[tactic(auto, using(crate::proofs::ItemLemmas::item_is_of, crate::proofs::ItemLemmas::no_text_is))]
 pub fn item_of(component: Component) -> Item
     ensures { (text : List ℕ) → IsItem text result (of_component component) }
@@ -158,6 +164,7 @@ pub fn item_of(component: Component) -> Item
 }
 
 /// The item of a byte.
+#[inline(always)]
 #[tactic(auto, using(crate::proofs::ItemLemmas::byte_is))]
 pub fn byte_item(byte: u8) -> Item
     ensures { (text : List ℕ) → IsItem text result (literal_of (byte ∷ [])) }
@@ -170,6 +177,7 @@ pub fn byte_item(byte: u8) -> Item
 }
 
 /// The item of so many bytes of the text, from a place on.
+#[inline(always)]
 #[tactic(auto, using(crate::proofs::ItemLemmas::text_is))]
 pub fn text_item(_text: &[u8], start: usize, len: usize) -> Item
     requires { start + len ≤ length _text.now }

@@ -1,6 +1,6 @@
 //! Dates and times of day at the front of a list of items.
 ghost use Rattle.std.specs.Prelude.{◌≡◌, ◌≤◌, ◌∷◌, [], ℕ, List, IfSome, IsTrue, Ok, drop, length};
-ghost use Rattle.movaliren_c.specs.Items.{first_part, item_tree, run_before, second_part, third_part, trees_of};
+ghost use Rattle.movaliren_c.specs.Items.{begins_with_run, first_part, is_first_of_run, item_tree, run_before, second_part, third_part, trees_of};
 ghost use Rattle.movaliren_c.specs.Value.{with_value};
 ghost use Rattle.time_below.specs.Tree.{byte_literal, of_component};
 
@@ -21,32 +21,28 @@ pub enum Run {
 /// more.
 pub trait Loop {
     /// Whether it looks for them.
-    fn has_runs() -> bool;
+    const HAS_RUNS: bool;
 }
 
 /// The loop that looks for them.
 pub struct WithRuns;
 
 impl Loop for WithRuns {
-    #[inline(always)]
-    fn has_runs() -> bool {
-        true
-    }
+    const HAS_RUNS: bool = true;
 }
 
 /// The loop that does not.
 pub struct WithoutRuns;
 
 impl Loop for WithoutRuns {
-    #[inline(always)]
-    fn has_runs() -> bool {
-        false
-    }
+    const HAS_RUNS: bool = false;
 }
 
 /// Whether one of the first two items begins a date or a time of day, as in most descriptions that have one.
 #[inline(always)]
-pub fn begins_with_run(items: &[Item]) -> bool {
+pub fn begins_with_run(items: &[Item]) -> bool
+    ensures { result ≡ begins_with_run items.now }
+{
     match items {
         [first, second, ..] => is_first_of_run(first) || is_first_of_run(second),
         _ => false,
@@ -55,7 +51,9 @@ pub fn begins_with_run(items: &[Item]) -> bool {
 
 /// Whether an item may begin a date or a time of day.
 #[inline(always)]
-fn is_first_of_run(item: &Item) -> bool {
+fn is_first_of_run(item: &Item) -> bool
+    ensures { result ≡ is_first_of_run item.now }
+{
     item.kind == 13 || item.kind == 14 || item.kind == 24
 }
 
@@ -91,12 +89,12 @@ fn run_between(first: &Item, second: &Item, third: &Item) -> Option<Run>
         → item_tree texts third.now ≡ Ok (of_component (third_part run))) }
 {
     let run = match first.kind {
-        13 if second.kind == 4 && third.kind == 1 => Run::Date,
-        14 if second.kind == 4 && third.kind == 1 => Run::StandardDate,
-        24 if second.kind == 25 && third.kind == 27 => Run::Time,
+        13 if is_plain_of(second, 4) && is_plain_of(third, 1) => Run::Date,
+        14 if is_plain_of(second, 4) && is_plain_of(third, 1) => Run::StandardDate,
+        24 if is_plain_of(second, 25) && is_plain_of(third, 27) => Run::Time,
         _ => return None,
     };
-    if is_plain(first) && is_plain(second) && is_plain(third) {
+    if is_plain(first) {
         Some(run)
     } else {
         None
@@ -112,6 +110,20 @@ pub fn is_plain(item: &Item) -> bool
 {
     let choices = item.padding as u32 + item.flag as u32 * 0x100 + item.digits as u32 * 0x1_0000;
     choices + item.byte as u32 * 0x100_0000 == 0
+}
+
+/// Whether an item has this kind, and its choices and its byte are zeros. The compiler reads the five as one
+/// number.
+#[inline(always)]
+fn is_plain_of(item: &Item, kind: u32) -> bool
+    ensures kind { IsTrue result → item.now.kind ≡ kind }
+    ensures padding { IsTrue result → item.now.padding ≡ 0 }
+    ensures flag { IsTrue result → item.now.flag ≡ 0 }
+    ensures digits { IsTrue result → item.now.digits ≡ 0 }
+{
+    let choices = item.padding as u64 + item.flag as u64 * 0x100 + item.digits as u64 * 0x1_0000;
+    let whole = choices + item.byte as u64 * 0x100_0000;
+    item.kind as u64 + whole * 0x1_0000_0000 == kind as u64
 }
 
 /// The byte that an item is, if it is a text of one.

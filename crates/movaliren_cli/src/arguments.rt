@@ -27,14 +27,20 @@ pub enum Job {
     Read,
 }
 
+/// What is done with the lines of a run.
+#[derive(Clone, Copy)]
+pub struct Task {
+    pub job: Job,
+    /// Nothing is said of lines that passed as they were.
+    pub is_quiet: bool,
+}
+
 /// What is asked for.
 #[derive(Clone, Copy)]
 pub struct Asked<'a> {
-    pub job: Job,
+    pub task: Task,
     pub description: &'a str,
     pub clock: Clock<'a>,
-    /// Nothing is said of lines that passed as they were.
-    pub is_quiet: bool,
 }
 
 /// The digits that a number has at least, where nothing else is asked for: those of 1973 and later.
@@ -213,21 +219,35 @@ fn least_of(matches: &ArgMatches<'_>) -> usize {
     }
 }
 
-/// What a job of this name and its words ask for.
-fn asked_of<'a>(name: &str, words: &ArgMatches<'a>) -> Asked<'a> {
-    let job = match name {
+/// The job of this name, by its words.
+fn job_of(name: &str, words: &ArgMatches<'_>) -> Job {
+    match name {
         "now" => Job::Now,
         "read" => Job::Read,
         _ => Job::Unix {
             unit: unit_of(words),
             least: least_of(words),
         },
-    };
+    }
+}
+
+/// What a job of this name and its words ask for.
+fn asked_of<'a>(name: &str, words: &ArgMatches<'a>) -> Asked<'a> {
     Asked {
-        job,
+        task: Task {
+            job: job_of(name, words),
+            is_quiet: words.get_flag("quiet"),
+        },
         description: words.get_str("DESCRIPTION").unwrap_or("rfc3339"),
         clock: clock_of(words),
-        is_quiet: words.get_flag("quiet"),
+    }
+}
+
+/// What a job and its words ask for, if there is a job.
+fn asked_in<'a>(matches: &ArgMatches<'a>) -> Option<Asked<'a>> {
+    match matches.subcommand() {
+        Some((name, below)) => Some(asked_of(name, below)),
+        None => None,
     }
 }
 
@@ -236,11 +256,16 @@ fn no_job(alloc: Global) -> Result<Error, Error> {
     Ok(command(alloc)?.error(ErrorKind::MissingSubcommand, "no job")?)
 }
 
+/// The words of the command line, told apart.
+fn matches_of<'a>(alloc: Global, words: &'a [String]) -> Result<ArgMatches<'a>, Error> {
+    Ok(command(alloc)?.try_get_matches_from(words)?)
+}
+
 /// Reads the words of the command line.
 pub fn read<'a>(alloc: Global, words: &'a [String]) -> Result<Asked<'a>, Error> {
-    let matches = command(alloc)?.try_get_matches_from(words)?;
-    match matches.subcommand() {
-        Some((name, below)) => Ok(asked_of(name, below)),
+    let matches = matches_of(alloc, words)?;
+    match asked_in(&matches) {
+        Some(asked) => Ok(asked),
         None => Err(no_job(alloc)?),
     }
 }

@@ -4,6 +4,32 @@ use time_below::format_description::OwnedFormatItem;
 use time_describe::{InvalidDescription, InvalidStrftime, parse_owned, parse_strftime_owned};
 use time_plan::Plan;
 
+/// A format that has a name.
+#[derive(Clone, Copy)]
+pub enum Format {
+    Rfc3339,
+    Rfc2822,
+    Iso8601,
+    /// That of ISO 8601, always in UTC.
+    Stamp,
+    /// The seconds since 1970.
+    Unix,
+}
+
+impl Format {
+    /// The format of this name, if there is one.
+    pub fn of_name(name: &str) -> Option<Format> {
+        match name {
+            "rfc3339" => Some(Format::Rfc3339),
+            "rfc2822" => Some(Format::Rfc2822),
+            "iso8601" => Some(Format::Iso8601),
+            "stamp" => Some(Format::Stamp),
+            "unix" => Some(Format::Unix),
+            _ => None,
+        }
+    }
+}
+
 /// Why a text is no description.
 #[derive(Drop)]
 pub enum Refusal {

@@ -6,6 +6,7 @@
 #![tactic(auto)]
 
 mod arguments;
+mod clock;
 mod description;
 mod offset;
 mod place;
@@ -13,9 +14,9 @@ mod say;
 mod texts;
 mod zone;
 
-use arguments::{Asked, Clock, Job};
-use jiff_core::Error as ZoneError;
-use jiff_tz::{SystemTimeZone, TimeZone, TimeZoneDatabase};
+use arguments::{Asked, Job, Task};
+use clock::FoundClock;
+use description::Format;
 use line_streams::{FilterError, LineJob, StandardStreams};
 use place::ZoneClock;
 use say::{fail, refuse, say_passed};
@@ -38,107 +39,113 @@ fn run_job<J: LineJob>(rt: &HostRuntime, job: &mut J) -> Result<(), FilterError>
 }
 
 /// Says how many lines passed as they were, after a run that came to the end of its input.
-fn end(rt: &HostRuntime, asked: &Asked, outcome: Result<(), FilterError>, passed: u64) -> ExitCode {
-    if outcome.is_ok() && !asked.is_quiet {
+fn end(
+    rt: &HostRuntime,
+    is_quiet: bool,
+    outcome: Result<(), FilterError>,
+    passed: u64,
+) -> ExitCode {
+    if outcome.is_ok() && !is_quiet {
         say_passed(rt, passed);
     }
     fail(rt, outcome)
 }
 
+/// Puts before each line what is shown of the moment at which it was read.
+fn run_now<S: Shown + Drop>(rt: &HostRuntime, shown: S) -> ExitCode {
+    let mut job = NowJob {
+        clock: rt,
+        shown,
+        stamp: Vec::new(rt.alloc()),
+    };
+    let outcome = run_job(rt, &mut job);
+    fail(rt, outcome)
+}
+
+/// Replaces the first number of each line.
+fn run_unix<S: Shown + Drop>(rt: &HostRuntime, is_quiet: bool, mut job: UnixJob<S>) -> ExitCode {
+    let outcome = run_job(rt, &mut job);
+    end(rt, is_quiet, outcome, job.passed)
+}
+
+/// Replaces the first text of RFC 3339 of each line.
+fn run_read<S: Shown + Drop>(rt: &HostRuntime, is_quiet: bool, mut job: ReadJob<S>) -> ExitCode {
+    let outcome = run_job(rt, &mut job);
+    end(rt, is_quiet, outcome, job.passed)
+}
+
 /// Does what is asked for, with what is shown of moments.
-fn run<S: Shown + Drop>(rt: &HostRuntime, asked: &Asked, shown: S) -> ExitCode {
-    match asked.job {
-        Job::Now => {
-            let mut job = NowJob {
-                clock: rt,
-                shown,
-                stamp: Vec::new(rt.alloc()),
-            };
-            let outcome = run_job(rt, &mut job);
-            fail(rt, outcome)
-        }
+fn run<S: Shown + Drop>(rt: &HostRuntime, task: Task, shown: S) -> ExitCode {
+    match task.job {
+        Job::Now => run_now(rt, shown),
         Job::Unix { unit, least } => {
-            let mut job = UnixJob {
+            let job = UnixJob {
                 shown,
                 unit,
                 least,
                 passed: 0,
             };
-            let outcome = run_job(rt, &mut job);
-            end(rt, asked, outcome, job.passed)
+            run_unix(rt, task.is_quiet, job)
         }
         Job::Read => {
-            let mut job = ReadJob {
+            let job = ReadJob {
                 shown,
                 reader: LenientReader::new(),
                 passed: 0,
             };
-            let outcome = run_job(rt, &mut job);
-            end(rt, asked, outcome, job.passed)
+            run_read(rt, task.is_quiet, job)
         }
+    }
+}
+
+/// Runs by these texts at a clock.
+fn run_at<T: Texts + Drop>(rt: &HostRuntime, task: Task, clock: &FoundClock, texts: T) -> ExitCode {
+    match clock {
+        FoundClock::Utc => texts.run_in_utc(rt, task),
+        FoundClock::Offset(offset) => texts.run_in(rt, task, AtOffset { offset: *offset }),
+        FoundClock::Zone(zone) => texts.run_in(rt, task, ZoneClock::new(zone.as_time_zone())),
     }
 }
 
 /// Runs by these texts, at the clock that is asked for.
 fn run_by<T: Texts + Drop>(rt: &HostRuntime, asked: &Asked, texts: T) -> ExitCode {
-    match asked.clock {
-        Clock::Utc => texts.run_in_utc(rt, asked),
-        Clock::Offset(text) => match offset::read(text) {
-            Some(offset) => texts.run_in(rt, asked, AtOffset { offset }),
-            None => refuse(
-                rt,
-                "'--offset' takes an offset such as +05:30, -0800 or Z, at most 25:59:59",
-            ),
-        },
-        Clock::Zone(name) => match zone::read_named(rt, name) {
-            Ok(table) => texts.run_in(rt, asked, ZoneClock::new(TimeZone::Tzif(&table))),
-            Err(fault) => say::refuse_zone(rt, name, fault),
-        },
-        Clock::Local => run_local(rt, asked, texts),
+    match clock::find(rt, asked.clock) {
+        Ok(clock) => run_at(rt, asked.task, &clock, texts),
+        Err(status) => status,
     }
 }
 
-/// Runs by these texts in the zone of the system.
-fn run_local<T: Texts + Drop>(rt: &HostRuntime, asked: &Asked, texts: T) -> ExitCode {
-    let system = match SystemTimeZone::read(rt) {
-        Ok(system) => system,
-        Err(fault) => return say::refuse_local(rt, fault),
-    };
-    let none = TimeZoneDatabase::new(rt.alloc());
-    match system.time_zone(&none) {
-        Ok(found) => texts.run_in(rt, asked, ZoneClock::new(found)),
-        Err(ZoneError::TimeZoneNotFound) => match zone::read_system(rt, &system) {
-            Ok(table) => texts.run_in(rt, asked, ZoneClock::new(TimeZone::Tzif(&table))),
-            Err(fault) => say::refuse_local(rt, fault),
-        },
-        Err(fault) => say::refuse_local(rt, fault),
+/// Runs by the description that a text is.
+fn run_text(rt: &HostRuntime, asked: &Asked) -> ExitCode {
+    match description::plan_of(rt.alloc(), asked.description) {
+        Ok(plan) => run_by(rt, asked, ByDescription(plan)),
+        Err(refusal) => say::refuse_description(rt, asked.description, refusal),
     }
 }
 
-/// Finds the description that is asked for, and runs by it.
+/// Runs by the description that is asked for.
 fn run_described(rt: &HostRuntime, asked: &Asked) -> ExitCode {
-    match asked.description {
-        "rfc3339" => run_by(rt, asked, Rfc3339ByDay),
-        "rfc2822" => run_by(rt, asked, ByDescription(Rfc2822)),
-        "iso8601" => run_by(rt, asked, ByDescription(Iso8601::default())),
-        "stamp" => run(
-            rt,
-            asked,
-            InUtc {
-                description: Iso8601::default(),
-            },
-        ),
-        "unix" => run(
-            rt,
-            asked,
-            InUtc {
-                description: UNIX_TIMESTAMP,
-            },
-        ),
-        text => match description::plan_of(rt.alloc(), text) {
-            Ok(plan) => run_by(rt, asked, ByDescription(plan)),
-            Err(refusal) => say::refuse_description(rt, text, refusal),
-        },
+    match Format::of_name(asked.description) {
+        Some(Format::Rfc3339) => run_by(rt, asked, Rfc3339ByDay),
+        Some(Format::Rfc2822) => run_by(rt, asked, ByDescription(Rfc2822)),
+        Some(Format::Iso8601) => run_by(rt, asked, ByDescription(Iso8601::default())),
+        Some(Format::Stamp) => {
+            let description = Iso8601::default();
+            run(rt, asked.task, InUtc { description })
+        }
+        Some(Format::Unix) => {
+            let description = UNIX_TIMESTAMP;
+            run(rt, asked.task, InUtc { description })
+        }
+        None => run_text(rt, asked),
+    }
+}
+
+/// Reads the words of the command line, and does what they ask for.
+fn run_words(rt: &HostRuntime, words: &[String]) -> ExitCode {
+    match arguments::read(rt.alloc(), words) {
+        Ok(asked) => run_described(rt, &asked),
+        Err(error) => say::print_usage(rt, error),
     }
 }
 
@@ -152,8 +159,5 @@ fn main(rt: HostRuntime) -> ExitCode {
         Ok(words) => words,
         Err(_) => return fail(&rt, Err(FilterError::Memory)),
     };
-    match arguments::read(alloc, words.as_slice()) {
-        Ok(asked) => run_described(&rt, &asked),
-        Err(error) => say::print_usage(&rt, error),
-    }
+    run_words(&rt, words.as_slice())
 }

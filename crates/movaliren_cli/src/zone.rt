@@ -1,6 +1,7 @@
 //! The zone of one file, with no look at the others.
 use jiff_core::Error;
-use jiff_tz::{SystemTimeZone, Tzif};
+use jiff_tz::posix::TimeZone as PosixTimeZone;
+use jiff_tz::{SystemTimeZone, TimeZone, Tzif};
 use std::env::VarError;
 use std::io::{ErrorKind, Read};
 use std::rt::{Env, Files};
@@ -54,7 +55,7 @@ fn is_absent(fault: &Error) -> bool {
 
 /// Reads the zone of this name from the directory that `TZDIR` names, or else from the usual ones. A file
 /// that is there and cannot be read is a fault.
-pub fn read_named<R: Files + Env + AllocGlobal>(rt: &R, name: &str) -> Result<Tzif, Error> {
+fn read_named<R: Files + Env + AllocGlobal>(rt: &R, name: &str) -> Result<Tzif, Error> {
     if !is_name(name) {
         return Err(Error::TimeZoneNotFound);
     }
@@ -80,13 +81,61 @@ fn read_usual<R: Files + AllocGlobal>(rt: &R, name: &str) -> Result<Tzif, Error>
     Err(Error::TimeZoneNotFound)
 }
 
-/// Reads the zone that the system names.
-pub fn read_system<R: Files + Env + AllocGlobal>(
+/// A zone that was read.
+#[derive(Drop)]
+pub enum Zone {
+    Utc,
+    /// By the table of a file.
+    Table(Tzif),
+    /// By a rule such as `CET-1CEST,M3.5.0,M10.5.0/3`.
+    Rule(PosixTimeZone),
+}
+
+impl Zone {
+    /// The zone, as moments ask it for their offsets.
+    pub fn as_time_zone(&self) -> TimeZone<'_> {
+        match self {
+            Zone::Utc => TimeZone::UTC,
+            Zone::Table(table) => TimeZone::Tzif(table),
+            Zone::Rule(rule) => TimeZone::Posix(*rule),
+        }
+    }
+}
+
+/// Reads the zone of this name.
+pub fn read_zone<R: Files + Env + AllocGlobal>(rt: &R, name: &str) -> Result<Zone, Error> {
+    match read_named(rt, name) {
+        Ok(table) => Ok(Zone::Table(table)),
+        Err(fault) => Err(fault),
+    }
+}
+
+/// The zone of a file, if there is one, and else that of a name.
+fn read_file_or_name<R: Files + Env + AllocGlobal>(
     rt: &R,
-    system: &SystemTimeZone,
-) -> Result<Tzif, Error> {
+    file: Option<Tzif>,
+    name: &str,
+) -> Result<Zone, Error> {
+    match file {
+        Some(table) => Ok(Zone::Table(table)),
+        None => read_zone(rt, name),
+    }
+}
+
+/// Reads the zone that the system means: by a file of its own, if it has one, and else by its name.
+fn read_meant<R: Files + Env + AllocGlobal>(rt: &R, system: SystemTimeZone) -> Result<Zone, Error> {
     match system {
-        SystemTimeZone::Name { name, .. } => read_named(rt, name.as_str()),
-        _ => Err(Error::TimeZoneNotFound),
+        SystemTimeZone::Utc => Ok(Zone::Utc),
+        SystemTimeZone::Name { name, file, .. } => read_file_or_name(rt, file, name.as_str()),
+        SystemTimeZone::Posix(rule) => Ok(Zone::Rule(rule)),
+        SystemTimeZone::Tzif(table) => Ok(Zone::Table(table)),
+    }
+}
+
+/// Reads the zone of the system.
+pub fn read_system<R: Files + Env + AllocGlobal>(rt: &R) -> Result<Zone, Error> {
+    match SystemTimeZone::read(rt) {
+        Ok(system) => read_meant(rt, system),
+        Err(fault) => Err(fault),
     }
 }

@@ -43,6 +43,7 @@ pub enum InvalidStrftime {
 }
 
 /// Adds the hours of the offset with their sign, perhaps a colon, and the minutes.
+#[inline(never)]
 fn put_offset<I: Items>(items: &mut I, with_colon: bool) -> Result<(), AllocError>
     ensures put { OnOk result ((text : List ℕ)
         → Adds (I.Holds text []) items.old items.new (offset with_colon)) }
@@ -63,6 +64,7 @@ fn put_offset<I: Items>(items: &mut I, with_colon: bool) -> Result<(), AllocErro
 }
 
 /// Adds the components of a composition, and the bytes between them.
+#[inline(never)]
 fn put_composed<I: Items>(items: &mut I, text: &[u8]) -> Result<(), AllocError>
     ensures put { OnOk result ((of : List ℕ)
         → Adds (I.Holds of []) items.old items.new (composed text.now)) }
@@ -88,6 +90,7 @@ fn put_composed<I: Items>(items: &mut I, text: &[u8]) -> Result<(), AllocError>
 }
 
 /// Adds the items of a part, to which so many bytes of the text belong, from a place on.
+#[inline(always)]
 fn put_part<I: Items>(
     items: &mut I,
     text: &[u8],
@@ -112,6 +115,7 @@ fn put_part<I: Items>(
 }
 
 /// Reads the part at a place of the text, and returns the place behind it.
+#[inline(always)]
 fn step<I: Items>(items: &mut I, text: &[u8], at: usize) -> Result<usize, Failure>
     requires { at < length text.now }
     ensures goes_on { (before : List Tree) → IsTrue (are_leaves before) → I.Holds text.now [] items.old before

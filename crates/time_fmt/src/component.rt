@@ -121,6 +121,7 @@ pub(crate) fn write_current<S: Sink, V: ComponentProvider>(
 }
 
 // Writes a component that is seldom met, by a call.
+#[cold]
 #[inline(never)]
 fn write_rare<M: Modifier, S: Sink, V: ComponentProvider>(
     part: M,

@@ -200,10 +200,7 @@ fn time_of(passed: i64, nanosecond: u32) -> Time
 {
     let passed = passed as u32;
     let (hour, minute, second) = (passed / 3_600, passed % 3_600 / 60, passed % 60);
-    match Time::from_hms_nano(hour as u8, minute as u8, second as u8, nanosecond) {
-        Ok(time) => time,
-        Err(_) => unreachable!(),
-    }
+    Time::from_valid_hms_nano(hour as u8, minute as u8, second as u8, nanosecond)
 }
 
 /// Appends the bytes, whose number the compiler knows.

@@ -52,6 +52,7 @@ fn tail_length(text: &[u8]) -> usize
 }
 
 /// The text of RFC 3339 that this text begins with, if it does: how many bytes it has, and its value.
+#[inline(always)]
 fn text_here(reader: &mut LenientReader, text: &[u8]) -> Option<(usize, OffsetDateTime)>
     ensures inside { IfSome result (λ r. r.0 ≤ length text.now) }
     ensures means { IfSome result (λ r. Rfc3339Means r.1 (take r.0 text.now)) }
@@ -82,6 +83,7 @@ struct FoundText {
 }
 
 /// The first text of RFC 3339 of the line, if it has one.
+#[inline(always)]
 fn first_text(reader: &mut LenientReader, line: &[u8]) -> Option<FoundText>
     ensures some { IfSome result (λ r. IsFirstText line.now r.at r.count r.value) }
     ensures inside { IfSome result (λ r. r.at ≤ length line.now) }

@@ -11,7 +11,7 @@ use Rattle.time_fmt.specs.Description.{tree_outcome, trees_outcome}
 use Rattle.time_fmt.specs.Outcome.{done, join}
 use Rattle.time_plan.specs.Literal.{literal_bytes, literal_tree}
 use Rattle.time_plan.specs.Shown.{shown_tree}
-use Rattle.time_plan.specs.Steps.{step_tree, step_trees, Extends, Begins, Flattened}
+use Rattle.time_plan.specs.Steps.{step_tree, step_trees, Extends, Begins}
 use Rattle.time_plan.specs.declared.shown.Run.TheVariants as run
 use Rattle.time_plan.specs.declared.shown.Shown.TheVariants as shown
 use Rattle.time_plan.specs.declared.step.Step.{Step}
@@ -140,35 +140,28 @@ extends_nothing ts t none no_width is_text = record {
 
 -- ---- a list of nodes
 
--- the tree at the front is flattened
-pub flattened_first : {old new all left : Trees} {t : Tree} → Begins all t left → Extends old new t → Flattened old new all left
-flattened_first {old} {new} {all} {left} {t} begins step = record {
+-- what the steps mean, and then what is left, is what they meant first and then all
+pub record Flattened (old now all left : Trees) (all_size left_size : ℕ) : Type 0 where
+  pub size : left_size ≤ all_size
+  pub outcome : (f : Facts) → join (trees_outcome now f) (trees_outcome left f)
+      ≡ join (trees_outcome old f) (trees_outcome all f)
+  pub width : trees_width now + trees_width left ≡ trees_width old + trees_width all
+  pub text : (are_guaranteed_text now && are_guaranteed_text left) ≡ (are_guaranteed_text old && are_guaranteed_text all)
+
+flattened_more : {all_size left_size rest_size : ℕ} (old now new all left others : Trees) (t : Tree)
+    → Flattened old now all left all_size left_size → Begins left t others → rest_size ≤ left_size
+    → Extends now new t → Flattened old new all others all_size rest_size
+flattened_more old now new all left others t so_far begins smaller step = record {
+  size = omega (arith, so_far.size, smaller);
   outcome = λ f.
-      ap (λ o. join o (trees_outcome left f)) (step.outcome f)
-      ∙ join_assoc (trees_outcome old f) (tree_outcome t f) (trees_outcome left f)
-      ∙ ap (join (trees_outcome old f)) (sym (begins.outcome f));
-  width = omega (arith, step.width, begins.width);
-  text = ap (λ b. b && are_guaranteed_text left) step.text
-      ∙ and_assoc (are_guaranteed_text old) (is_guaranteed_text t) (are_guaranteed_text left)
-      ∙ ap (λ b. are_guaranteed_text old && b) (sym begins.text);
-}
-
--- some are flattened, and then more
-pub flattened_on : {old now new all left others : Trees} → Flattened old now all left → Flattened now new left others
-    → Flattened old new all others
-flattened_on so_far step = record {
-  outcome = λ f. step.outcome f ∙ so_far.outcome f;
-  width = omega (arith, so_far.width, step.width);
-  text = step.text ∙ so_far.text;
-}
-
--- all are flattened
-pub flattened_all : {old now all left : Trees} → Flattened old now all left → left ≡ end → Extends old now (all_of all)
-flattened_all {old} {now} {all} {left} so_far none = record {
-  outcome = λ f. sym (ap (λ ts. join (trees_outcome now f) (trees_outcome ts f)) none ∙ join_nothing (trees_outcome now f))
+      ap (λ o. join o (trees_outcome others f)) (step.outcome f)
+      ∙ join_assoc (trees_outcome now f) (tree_outcome t f) (trees_outcome others f)
+      ∙ ap (join (trees_outcome now f)) (sym (begins.outcome f))
       ∙ so_far.outcome f;
-  width = omega (arith, so_far.width, ap trees_width none);
-  text = sym (ap (λ ts. are_guaranteed_text now && are_guaranteed_text ts) none ∙ and_true (are_guaranteed_text now))
+  width = omega (arith, so_far.width, step.width, begins.width);
+  text = ap (λ b. b && are_guaranteed_text others) step.text
+      ∙ and_assoc (are_guaranteed_text now) (is_guaranteed_text t) (are_guaranteed_text others)
+      ∙ ap (λ b. are_guaranteed_text now && b) (sym begins.text)
       ∙ so_far.text;
 }
 
@@ -180,11 +173,32 @@ one_begins tree nodes others x some is are =
     rw are (record { outcome = λ f. ap (λ ts. trees_outcome ts f) first; width = ap trees_width first; text = ap are_guaranteed_text first })
 
 -- fewer nodes are not larger
-pub smaller_drop : {A : Type 0} (size : A → ℕ) (n : ℕ) (nodes : List A)
+smaller_drop : {A : Type 0} (size : A → ℕ) (n : ℕ) (nodes : List A)
     → sizes (map size (drop n nodes)) ≤ sizes (map size nodes)
 smaller_drop size zero nodes = omega arith
 smaller_drop size (suc n) [] = omega arith
 smaller_drop size (suc n) (x ∷ xs) = omega (arith, smaller_drop size n xs)
+
+-- some nodes more
+pub flattened_nodes : {A : Type 0} (tree : A → Tree) (size : A → ℕ) (n all_size : ℕ) (old now new all : Trees)
+    (nodes others : List A) (t : Tree)
+    → Flattened old now all (trees (map tree nodes)) all_size (sizes (map size nodes)) → others ≡ drop n nodes
+    → Begins (trees (map tree nodes)) t (trees (map tree others)) → Extends now new t
+    → Flattened old new all (trees (map tree others)) all_size (sizes (map size others))
+flattened_nodes tree size n all_size old now new all nodes others t so_far are begins step =
+    let smaller : sizes (map size others) ≤ sizes (map size nodes) =
+    omega (arith, ap (λ xs. sizes (map size xs)) are, smaller_drop size n nodes) in
+    flattened_more old now new all (trees (map tree nodes)) (trees (map tree others)) t so_far begins smaller step
+
+pub flattened_all : {all_size left_size : ℕ} (old now all left : Trees)
+    → Flattened old now all left all_size left_size → left ≡ end → Extends old now (all_of all)
+flattened_all old now all left so_far none = record {
+  outcome = λ f. sym (ap (λ ts. join (trees_outcome now f) (trees_outcome ts f)) none ∙ join_nothing (trees_outcome now f))
+      ∙ so_far.outcome f;
+  width = omega (arith, so_far.width, ap trees_width none);
+  text = sym (ap (λ ts. are_guaranteed_text now && are_guaranteed_text ts) none ∙ and_true (are_guaranteed_text now))
+      ∙ so_far.text;
+}
 
 -- ---- the first of a list
 

@@ -33,9 +33,3 @@ pub record Begins (all : Trees) (first : Tree) (left : Trees) : Type 0 where
   pub outcome : (f : Facts) → trees_outcome all f ≡ join (tree_outcome first f) (trees_outcome left f)
   pub width : trees_width all ≡ tree_width first + trees_width left
   pub text : are_guaranteed_text all ≡ (is_guaranteed_text first && are_guaranteed_text left)
-
--- what the new steps and then what is left mean is what the old steps and then all trees mean
-pub record Flattened (old new all left : Trees) : Type 0 where
-  pub outcome : (f : Facts) → join (trees_outcome new f) (trees_outcome left f) ≡ join (trees_outcome old f) (trees_outcome all f)
-  pub width : trees_width new + trees_width left ≡ trees_width old + trees_width all
-  pub text : (are_guaranteed_text new && are_guaranteed_text left) ≡ (are_guaranteed_text old && are_guaranteed_text all)

@@ -1,10 +1,9 @@
 //! The steps of a tree.
-ghost use Rattle.std.specs.Prelude.{◌≡◌, ◌<◌, ◌≤◌, true, OnOk, IfOk, IfSome, MatchOption, IsUtf8, map, length};
-ghost use Rattle.time_below.specs.Size.{sizes};
+ghost use Rattle.std.specs.Prelude.{◌≡◌, true, OnOk, MatchOption, IsUtf8, map};
 ghost use Rattle.time_below.specs.Tree.{of_component, all_of, trees};
 ghost use Rattle.time_plan.specs.Literal.{literal_bytes, literal_tree};
 ghost use Rattle.time_plan.specs.Shown.{shown_tree};
-ghost use Rattle.time_plan.specs.Steps.{step_trees, Extends, Flattened};
+ghost use Rattle.time_plan.specs.Steps.{step_trees, Extends};
 
 use crate::literal::Literal;
 use crate::runs::{kept_of, run_of};
@@ -25,49 +24,22 @@ pub(crate) fn add_nodes<T: Node>(
 {
     let mut left = nodes;
     'nodes: while let [node, ..] = left {
-        match add_front(alloc, steps, left) {
-            Some(behind) => left = behind?,
-            None => {
-                add_node(alloc, steps, node)?;
-                left = &left[1..];
-            }
+        if let Some((run, behind)) = run_of(left) {
+            add_shown(alloc, steps, Shown::Run(run))?;
+            left = behind;
+            continue;
         }
+        match add_leaf(alloc, steps, node) {
+            Some(added) => added?,
+            None => add_node(alloc, steps, node)?,
+        }
+        left = &left[1..];
     }
     Ok(())
 }
 
-/// Adds the date, the time of day, the text or the component at the front of the nodes, and returns the nodes
-/// behind it. It adds nothing of any other node. It becomes part of the loop over a list, so that no item of
-/// these needs a call there.
-#[inline(always)]
-fn add_front<'a, T: Node>(
-    alloc: Global,
-    steps: &mut Vec<Step>,
-    nodes: &'a [T],
-) -> Option<Result<&'a [T], AllocError>>
-    ensures flattened { MatchOption result (steps.new ≡ steps.old) (λ added. IfOk added (λ behind. Flattened
-        (step_trees steps.old.items) (step_trees steps.new.items) (trees (map T.tree nodes.now)) (trees (map T.tree behind.now)))) }
-    ensures shorter { IfSome result (λ added. IfOk added (λ behind. length behind.now < length nodes.now)) }
-    ensures smaller { IfSome result (λ added. IfOk added (λ behind.
-        sizes (map T.size behind.now) ≤ sizes (map T.size nodes.now))) }
-{
-    let [node, ..] = nodes else {
-        return None;
-    };
-    if let Some((run, behind)) = run_of(nodes) {
-        return match add_shown(alloc, steps, Shown::Run(run)) {
-            Ok(()) => Some(Ok(behind)),
-            Err(error) => Some(Err(error)),
-        };
-    }
-    match add_leaf(alloc, steps, node) {
-        Some(Ok(())) => Some(Ok(&nodes[1..])),
-        Some(Err(error)) => Some(Err(error)),
-        None => None,
-    }
-}
-
-/// Adds a text or a component, and nothing of any other node.
+/// Adds a text or a component, and nothing of any other node. It becomes part of the loop over a list, so
+/// that no item of these needs a call there.
 #[inline(always)]
 fn add_leaf<T: Node>(
     alloc: Global,

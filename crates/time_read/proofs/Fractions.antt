@@ -3,8 +3,9 @@ use Rattle.std.proofs.Common.{◌≡◌, ℕ, zero, suc, ◌+◌, ◌-◌, ◌*�
 use Rattle.std.proofs.Common.{refl, sym, ap, ap₂, subst, ◌∙◌, arith, ◌⊎◌, inl, inr, ⊎_elim, true, false, append_assoc, length-append}
 use Rattle.std.specs.Int.{IsInRange}
 use Rattle.std.specs.Str.Parse.{AllDigits, digits_value, digits_value_after}
-use Rattle.std.proofs.lemmas.Str.Parse.{digit_from_value}
-use Rattle.std.proofs.lemmas.Int.Digits.{digits_value-lt}
+use Rattle.std.proofs.lemmas.Str.Parse.{digit_at, digit_from_value}
+use Rattle.std.proofs.lemmas.Int.Digits.{digits_value-lt, digits_value_more}
+use Rattle.std.proofs.lemmas.Str.{digit_value_digit}
 use Rattle.std.proofs.lemmas.List.{take-append-drop, take-take, length-take-le, length-drop, drop-take, drop_more, take_rest}
 use Rattle.std.proofs.Math.Nat.{pow-suc, pow-le-pow_right}
 use Rattle.std.proofs.lemmas.Bool.{cases_lt}
@@ -51,6 +52,29 @@ few_digits ds h k =
     let small = digits_value-lt 10 ds h in
     let power : 10 ^ length ds ≤ 10 ^ 8 = pow-le-pow_right {n = 10} (omega arith) {i = length ds} {j = 8} (omega arith) in
     omega arith
+
+-- some first of all digits are digits
+digits-take : (k : ℕ) (ds : List ℕ) → AllDigits 10 ds → AllDigits 10 (take k ds)
+digits-take zero ds h = tt
+digits-take (suc k) [] h = tt
+digits-take (suc k) (d ∷ ds) h = (h.0, digits-take k ds h.1)
+
+-- one more of some digits, and the value of those before it if there are fewer than nine
+pub record DigitNext (ds : List ℕ) (i : ℕ) : Type 0 where
+  pub digit : IsInRange 48 57 (get_or ds i 0)
+  pub value : digits_value 10 (take (i + 1) ds) ≡ digits_value 10 (take i ds) * 10 + (get_or ds i 0 - 48)
+  pub small : i < 9 → digits_value 10 (take i ds) < 100_000_000
+
+pub digit_next : (ds : List ℕ) (i : ℕ) → AllDigits 10 ds → i < length ds → DigitNext ds i
+digit_next ds i all lt =
+    let range = digit_at ds i all lt in
+    let is = digit_value_digit (get_or ds i 0) range in
+    let more = digits_value_more 10 ds i lt in
+    record {
+      digit = range;
+      value = omega arith;
+      small = λ few. few_digits (take i ds) (digits-take i ds all) (omega (arith, few, length-take-le i ds (omega (arith, lt))));
+    }
 
 -- where the digits of the first nine bytes end, the digits end
 ends_in_nine : (text : List ℕ) (k : ℕ) → FirstDigits (take 9 text) k → k < 9 → (b : ℕ) (after : List ℕ)

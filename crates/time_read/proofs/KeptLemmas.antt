@@ -1,6 +1,7 @@
 -- The bytes of a date that is kept spell it.
-use Rattle.std.proofs.Common.{◌≡◌, ℕ, List, ◌++◌, arith, refl, subst, sym, take, drop, length, ◌-◌, pos, ◌∙◌, Option, Some, None}
-use Rattle.std.proofs.lemmas.List.{take-append-drop, take_rest}
+use Rattle.std.proofs.Common.{◌≡◌, ℕ, List, ◌++◌, arith, ap, ap₂, refl, subst, sym, take, drop, length, ◌-◌, pos, ◌∙◌, Option}
+use Rattle.std.proofs.lemmas.List.{take-append-drop, take-take, take_all, take_rest}
+use Rattle.std.proofs.Math.Seq.{take-add}
 use Rattle.std.specs.Prelude.{codes, IfSome}
 use Rattle.std.proofs.lemmas.Int.{ints}
 use Rattle.std.specs.Fmt.{digits}
@@ -11,7 +12,7 @@ use Rattle.time_known.proofs.Rules.Parts.{owns_four, owns_month_date}
 use Rattle.time_known.proofs.Rules.Texts.{Owns}
 use Rattle.time_known.specs.Rfc3339Grammar.{FullDate, Rfc3339Spells}
 use Rattle.time_known.specs.Values.{OffsetDateAndTime}
-use Rattle.time_read.proofs.UsualLemmas.{date_taken, text_is_read}
+use Rattle.time_read.proofs.UsualLemmas.{date_length, date_taken, text_is_read}
 use Rattle.time_read.specs.Front.{Front}
 use Rattle.time_read.specs.Kept.{IsKeptDate, date_text}
 
@@ -24,17 +25,31 @@ date_kept d text rest front =
     let known = (owns_date d).only (take 10 text) (date_taken d text rest front) in
     record { real = known.0.0; year = not_outside 0 9_999 d.year known.0.1; text = known.1 }
 
+-- the bytes spell the date, and are ten
+spelled : (d : OrdinalDate) (bytes : List ℕ) → IsKeptDate d bytes → FullDate d bytes
+spelled d bytes kept =
+    subst (FullDate d) (sym kept.text) ((owns_date d).is (kept.real, year_is_within 0 9_999 d.year kept.year))
+
+pub length-kept : (d : OrdinalDate) (bytes : List ℕ) → IsKeptDate d bytes → length bytes ≡ 10
+length-kept d bytes kept = date_length d bytes (spelled d bytes kept)
+
+-- a text with the same first eight bytes, and the same eight behind the first two, begins with all ten
+pub same_ten : (bytes text : List ℕ) → length bytes ≡ 10 → take 8 bytes ≡ take 8 text
+    → take 8 (drop 2 bytes) ≡ take 8 (drop 2 text) → bytes ≡ take 10 text
+same_ten bytes text long first last =
+    let two : take 2 bytes ≡ take 2 text =
+    sym (take-take 2 8 bytes (omega arith)) ∙ ap (take 2) first ∙ take-take 2 8 text (omega arith) in
+    sym (take_all 10 bytes (omega (arith, long))) ∙ take-add 2 8 bytes ∙ ap₂ (λ xs ys. xs ++ ys) two last ∙ sym (take-add 2 8 text)
+
 -- a text that begins with the bytes of the date is read after them
 pub read_after_kept : (d : OrdinalDate) (bytes text rest : List ℕ) (r : Option OffsetDateAndTime) → IsKeptDate d bytes
     → bytes ≡ take 10 text → rest ≡ take (length text - 10) (drop 10 text)
     → IfSome r (λ v. (front : List ℕ) → FullDate d front → Rfc3339Spells v (front ++ rest))
     → IfSome r (λ v. Rfc3339Spells v text)
 read_after_kept d bytes text rest r kept begins after h =
-    let spelled : FullDate d bytes =
-    subst (FullDate d) (sym kept.text) ((owns_date d).is (kept.real, year_is_within 0 9_999 d.year kept.year)) in
     let whole : text ≡ bytes ++ rest =
     sym (take-append-drop 10 text) ∙ rw (begins, after, take_rest text 10) refl in
-    text_is_read d bytes text rest r spelled whole h
+    text_is_read d bytes text rest r (spelled d bytes kept) whole h
 
 -- the date that is kept at first
 pub first_kept : (d : OrdinalDate) → d ≡ date_of (pos 1970) 1 1 → IsKeptDate d (codes "1970-01-01")

@@ -4,7 +4,7 @@ use Rattle.std.proofs.Common.{refl, sym, ap, ap₂, subst, ◌∙◌, arith, inl
 use Rattle.std.specs.Prelude.{codes, if◌then◌else◌, ◌==◌}
 use Rattle.std.proofs.lemmas.Bool.Decides.{nat_tests}
 use Rattle.std.proofs.lemmas.List.{append-nil}
-use Rattle.time_below.specs.Offset.{signed, signed_offset}
+use Rattle.time_below.specs.Offset.{signed_offset}
 use Rattle.time_digits.specs.Digits.{fixed}
 use Rattle.time_known.specs.Laws.{OneValue}
 use Rattle.time_known.specs.Parts.{SignedOffset}

@@ -1,8 +1,10 @@
 //! Digits after a point.
-ghost use Rattle.std.specs.Prelude.{◌≡◌, ◌<◌, ◌-◌, ◌*◌, ◌^◌, take};
-ghost use Rattle.std.specs.Str.Parse.{digits_value};
+ghost use Rattle.std.specs.Prelude.{◌≡◌, ◌<◌, ◌≤◌, ◌-◌, ◌*◌, ◌^◌, true, length, take};
+ghost use Rattle.std.specs.Str.Parse.{AllDigits, digits_value};
 ghost use Rattle.time_read.specs.Shapes.{FirstDigits, Skipped};
 ghost use Rattle.time_read.specs.declared.fault.Profile.TheVariants as profile;
+
+use std::simd::prelude::*;
 
 // The powers of ten.
 const POWERS: [u32; 10] = [
@@ -37,7 +39,48 @@ fn digits(text: &[u8]) -> (u32, usize)
     (number, count)
 }
 
-// The same. The compiler unrolls the loop for nine bytes.
+// Whether no bit is set.
+#[inline(always)]
+fn is_clear(mask: u64) -> bool
+    ensures { result ≡ true → mask ≡ 0 }
+{
+    mask == 0
+}
+
+// Whether a text begins with eight digits, which are looked at together.
+#[inline(always)]
+fn are_eight(text: &[u8]) -> bool
+    requires { 8 ≤ length text.now }
+    ensures { result ≡ true → AllDigits 10 (take 8 text.now) }
+{
+    let values = u8x8::from_slice(text) - u8x8::splat(b'0');
+    is_clear(values.simd_ge(u8x8::splat(10)).to_bitmask())
+}
+
+// Whether a text begins with nine digits.
+#[inline(always)]
+fn are_nine(text: &[u8]) -> bool
+    requires { 9 ≤ length text.now }
+    ensures { result ≡ true → AllDigits 10 (take 9 text.now) }
+{
+    are_eight(text) && text[8].is_ascii_digit()
+}
+
+// The number of some digits. The compiler unrolls the loop for nine.
+#[inline(always)]
+fn number_of(digits: &[u8]) -> u32
+    requires few { length digits.now ≤ 9 }
+    requires digits { AllDigits 10 digits.now }
+    ensures { result ≡ digits_value 10 digits.now }
+{
+    let mut number: u32 = 0;
+    for digit in digits {
+        number = 10 * number + (*digit as u32 - 48);
+    }
+    number
+}
+
+// The same as of `digits`, which is soon told where there are nine.
 #[inline(always)]
 fn first_digits(text: &[u8]) -> (u32, usize)
     ensures digits { FirstDigits text.now result.1 }
@@ -45,6 +88,9 @@ fn first_digits(text: &[u8]) -> (u32, usize)
 {
     if text.len() < 9 {
         return digits(text);
+    }
+    if are_nine(text) {
+        return (number_of(&text[..9]), 9);
     }
     digits(&text[..9])
 }

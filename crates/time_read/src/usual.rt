@@ -2,6 +2,7 @@
 ghost use Rattle.std.specs.Prelude.{◌≡◌, ℕ, List, ◌∷◌, ◌++◌, ◌+◌, ◌*◌, ◌<◌, ◌≤◌, ◌^◌, codes, pos, IfSome};
 ghost use Rattle.std.specs.Int.{IsInRange};
 ghost use Rattle.time_below.specs.Calendar.{IsDayOfMonth, date_of};
+ghost use Rattle.time_below.specs.TimeOfDay.{IsTimeOfDay};
 ghost use Rattle.time_known.specs.Rfc3339Grammar.{FullDate, OptionalSecfrac, Rfc3339Spells, TimeOffset};
 ghost use Rattle.time_known.specs.Rules.{Digits, Literal, ◌▹◌};
 ghost use Rattle.time_read.specs.Front.{Front};
@@ -63,6 +64,7 @@ fn clock(text: &[u8]) -> Option<(u8, u8, u8, &[u8])>
 #[inline(always)]
 fn fraction(text: &[u8]) -> Option<(u32, &[u8])>
     ensures read { IfSome result (λ r. Front (OptionalSecfrac r.0) text.now r.1.now) }
+    ensures range { IfSome result (λ r. r.0 < 10 ^ 9) }
 {
     let Some(rest) = after(text, b'.') else {
         return Some((0, text));
@@ -135,6 +137,21 @@ pub(crate) fn calendar_date_at(text: &[u8]) -> Option<(Date, &[u8])>
     }
 }
 
+// The time of an hour, a minute, a second and a nanosecond, if there is one.
+#[inline(always)]
+fn time_of(hour: u8, minute: u8, second: u8, nanosecond: u32) -> Option<Time>
+    requires { nanosecond < 10 ^ 9 }
+    ensures value { IfSome result (λ t. t
+        ≡ record { hour = hour; minute = minute; second = second; nanosecond = nanosecond }) }
+    ensures fits { IfSome result (λ _. IsTimeOfDay
+        (record { hour = hour; minute = minute; second = second; nanosecond = nanosecond })) }
+{
+    if hour > 23 || minute > 59 || second > 59 {
+        return None;
+    }
+    Some(Time::from_valid_hms_nano(hour, minute, second, nanosecond))
+}
+
 // The value of a date and of the rest of its text, if that is what follows a date.
 #[inline(always)]
 pub(crate) fn value_of(date: Date, rest: &[u8]) -> Option<OffsetDateTime>
@@ -145,9 +162,7 @@ pub(crate) fn value_of(date: Date, rest: &[u8]) -> Option<OffsetDateTime>
     let (hour, minute, second, rest) = clock(rest)?;
     let (nanosecond, rest) = fraction(rest)?;
     let offset = offset(rest)?;
-    let Ok(time) = Time::from_hms_nano(hour, minute, second, nanosecond) else {
-        return None;
-    };
+    let time = time_of(hour, minute, second, nanosecond)?;
     Some(OffsetDateTime::new_in_offset(date, time, offset))
 }
 

@@ -7,6 +7,7 @@ use time_below::format_description::modifier::{Padding, SubsecondDigits};
 use time_below::format_description::{Component, modifier};
 
 /// The padding that a flag asks for.
+#[inline(always)]
 #[tactic(auto, unfolding(crate::specs::Conversions::flag_named))]
 pub fn flag_named(byte: u8) -> Option<Padding>
     ensures { result ≡ flag_named byte }
@@ -20,6 +21,7 @@ pub fn flag_named(byte: u8) -> Option<Padding>
 }
 
 /// The number that a letter stands for, padded as the flag says.
+#[inline(always)]
 #[tactic(auto, unfolding(crate::specs::Conversions::number))]
 pub fn number(letter: u8, flag: Option<Padding>) -> Option<Component>
     ensures { result ≡ number letter flag }
@@ -96,6 +98,7 @@ pub fn number(letter: u8, flag: Option<Padding>) -> Option<Component>
 }
 
 /// The name or the fraction that a letter stands for.
+#[inline(always)]
 #[tactic(auto, unfolding(crate::specs::Conversions::word))]
 pub fn word(letter: u8) -> Option<Component>
     ensures { result ≡ word letter }
@@ -132,6 +135,7 @@ pub fn word(letter: u8) -> Option<Component>
 }
 
 /// The other conversions that a letter stands for.
+#[inline(always)]
 #[tactic(auto, unfolding(crate::specs::Conversions::composition))]
 pub fn composition(letter: u8) -> Option<&'static [u8]>
     ensures { option_map (λ text. text.now) result ≡ composition letter }
@@ -150,6 +154,7 @@ pub fn composition(letter: u8) -> Option<&'static [u8]>
 }
 
 /// The byte that a letter stands for.
+#[inline(always)]
 #[tactic(auto, unfolding(crate::specs::Conversions::sign))]
 pub fn sign(letter: u8) -> Option<u8>
     ensures { option_map (λ byte. byte ∷ []) result ≡ sign letter }
@@ -163,6 +168,7 @@ pub fn sign(letter: u8) -> Option<u8>
 }
 
 /// How many digits of a fraction a digit asks for.
+#[inline(always)]
 #[tactic(auto, unfolding(crate::specs::Conversions::width))]
 pub fn width(digit: u8) -> Option<SubsecondDigits>
     ensures { result ≡ width digit }
@@ -176,6 +182,7 @@ pub fn width(digit: u8) -> Option<SubsecondDigits>
 }
 
 /// Why a letter is refused that stands for nothing here.
+#[inline(never)]
 #[tactic(auto, unfolding(crate::specs::Conversions::refusal))]
 pub fn refusal(letter: u8) -> StrftimeReason
     ensures { result ≡ refusal letter }

@@ -27,6 +27,7 @@ pub enum Part<'a> {
 }
 
 /// The component that a letter stands for, where it stands for one alone.
+#[inline(always)]
 pub fn component_of(letter: u8) -> Option<Component>
     ensures { result ≡ component_of letter }
 {
@@ -37,6 +38,7 @@ pub fn component_of(letter: u8) -> Option<Component>
 }
 
 /// Whether a letter stands for something that is no number.
+#[inline(never)]
 fn is_offered(letter: u8) -> bool
     ensures { result ≡ is_offered letter }
 {
@@ -58,6 +60,7 @@ fn refusal_behind_flag(letter: u8) -> StrftimeReason
 }
 
 /// What a letter stands for that has no flag.
+#[inline(always)]
 fn part_of(letter: u8) -> Option<Part<'static>>
     ensures { (own : List ℕ) → option_map (items_of_part own) result ≡ items_of letter }
 {
@@ -74,6 +77,7 @@ fn part_of(letter: u8) -> Option<Part<'static>>
 }
 
 /// What is behind a flag, and that it takes two bytes behind the `%`.
+#[inline(never)]
 #[tactic(auto, unfolding(crate::specs::Strftime::flagged))]
 fn flagged<'a>(flag: Padding, bytes: &'a [u8]) -> Result<(Part<'a>, usize), Fault>
     ensures part { (text : List ℕ) → front_of text result ≡ flagged (Some flag) bytes.now }
@@ -97,6 +101,7 @@ fn flagged<'a>(flag: Padding, bytes: &'a [u8]) -> Result<(Part<'a>, usize), Faul
 }
 
 /// What is behind a colon, which stands `left` bytes before the end.
+#[inline(never)]
 #[tactic(auto, unfolding(crate::specs::Strftime::with_colon))]
 fn with_colon<'a>(left: usize, bytes: &'a [u8]) -> Result<(Part<'a>, usize), Fault>
     requires { left ≡ length bytes.now + 1 }
@@ -115,6 +120,7 @@ fn with_colon<'a>(left: usize, bytes: &'a [u8]) -> Result<(Part<'a>, usize), Fau
 }
 
 /// What is behind a width, whose digit stands `left` bytes before the end.
+#[inline(never)]
 #[tactic(auto, unfolding(crate::specs::Strftime::with_width))]
 fn with_width<'a>(
     digit: u8,
@@ -143,6 +149,7 @@ fn with_width<'a>(
 }
 
 /// What is behind a `%`, and how many bytes belong to it.
+#[inline(always)]
 #[tactic(auto, unfolding(crate::specs::Strftime::conversion))]
 fn conversion<'a>(bytes: &'a [u8]) -> Result<(Part<'a>, usize), Fault>
     ensures part { (text : List ℕ) → front_of text result ≡ conversion bytes.now }
@@ -175,6 +182,7 @@ fn conversion<'a>(bytes: &'a [u8]) -> Result<(Part<'a>, usize), Fault>
 }
 
 /// The place of the first `%`.
+#[inline(always)]
 fn place_of_percent(bytes: &[u8]) -> Option<usize>
     ensures { result ≡ position is_percent bytes.now }
 {
@@ -182,6 +190,7 @@ fn place_of_percent(bytes: &[u8]) -> Option<usize>
 }
 
 /// How many bytes come before the first `%`.
+#[inline(always)]
 fn literal_len(bytes: &[u8]) -> usize
     ensures place { result ≡ position_or_len is_percent bytes.now }
     ensures inside { result ≤ length bytes.now }
@@ -193,6 +202,7 @@ fn literal_len(bytes: &[u8]) -> usize
 }
 
 /// The first part of a text, and how many bytes belong to it behind the first one.
+#[inline(always)]
 #[tactic(auto, unfolding(crate::specs::Strftime::first_part))]
 pub fn first_part<'a>(text: &'a [u8]) -> Result<(Part<'a>, usize), Fault>
     requires { 0 < length text.now }

@@ -104,8 +104,10 @@ fn write_seldom<T: Node, S: Sink, V: ComponentProvider>(
     }
 }
 
-/// Appends the text of the node, up to the first component that is refused, and returns its refusal.
+/// Appends the text of the node, up to the first component that is refused, and returns its refusal. It is
+/// cold, so that the loop over a list asks last whether an item has items of its own.
 #[cycle(engine)]
+#[cold]
 #[inline(never)]
 pub(super) fn write_node<T: Node, S: Sink, V: ComponentProvider>(
     node: &T,

@@ -46,6 +46,7 @@ impl Formattable for BorrowedItems<'_> {
         Ok(output.len() - begin)
     }
 
+    #[inline(always)]
     fn fits_plainly(&self, room: usize) -> bool {
         nodes_fit(self.0, room)
     }
@@ -82,6 +83,7 @@ impl Formattable for OwnedItems<'_> {
         Ok(output.len() - begin)
     }
 
+    #[inline(always)]
     fn fits_plainly(&self, room: usize) -> bool {
         nodes_fit(self.0, room)
     }

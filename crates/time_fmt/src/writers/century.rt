@@ -3,10 +3,9 @@
 //! The calendar year and the year of the week calendar have the same texts.
 #![tactic(auto, using(crate::proofs::TextLemmas::signed_lengths))]
 
-ghost use Rattle.std.specs.Prelude.{◌≡◌, ◌%◌, int_lt, length, pos, unsigned_abs};
+ghost use Rattle.std.specs.Prelude.{◌≡◌, ◌<◌, ◌%◌, MatchOption, int_lt, length, pos, unsigned_abs};
 ghost use Rattle.time_below.specs.declared.format_description.component.Component.TheVariants as component;
-ghost use Rattle.time_fmt.specs.Ends.{Ends};
-ghost use Rattle.time_fmt.specs.Kind.{kind_text, kind_outcome, extended_century, standard_century, century_of};
+ghost use Rattle.time_fmt.specs.Kind.{kind_text, extended_century, standard_century, century_of};
 ghost use Rattle.time_fmt.specs.Sink.{Fits, Puts};
 ghost use Rattle.time_fmt.specs.Text.{padded_text};
 
@@ -18,7 +17,7 @@ use crate::writers::plain::write_many;
 use time_below::format_description::modifier::Padding;
 use time_below::format_description::{Group, modifier};
 use time_digits::num_fmt::one_to_four_digits_no_padding;
-use time_digits::{ru8, ru16};
+use time_digits::{ri8, ri16, ru8, ru16};
 use time_provide::ComponentProvider;
 use time_provide::ranges::{ExtendedCentury, LastTwo, StandardCentury, Year};
 
@@ -56,8 +55,8 @@ impl Modifier for modifier::CalendarYearCenturyExtendedRange {
         value: &V,
         state: &mut V::State,
     ) -> Result<(), Refused> {
-        let year = value.calendar_year(state);
-        write_any_century(output, year, self.padding, self.sign_is_mandatory);
+        let (century, is_negative) = century_of(value.calendar_year(state));
+        fmt_calendar_year_century_extended_range(output, century, is_negative, self);
         Ok(())
     }
 }
@@ -96,8 +95,11 @@ impl Modifier for modifier::CalendarYearCenturyStandardRange {
         value: &V,
         state: &mut V::State,
     ) -> Result<(), Refused> {
-        let year = value.calendar_year(state);
-        write_accepted_century(output, year, self.padding, self.sign_is_mandatory)
+        let Some((century, is_negative)) = standard_century_of(value.calendar_year(state)) else {
+            return Err(Refused::YearOutOfRange);
+        };
+        fmt_calendar_year_century_standard_range(output, century, is_negative, self);
+        Ok(())
     }
 }
 
@@ -136,8 +138,8 @@ impl Modifier for modifier::IsoYearCenturyExtendedRange {
         value: &V,
         state: &mut V::State,
     ) -> Result<(), Refused> {
-        let year = value.iso_year(state);
-        write_any_century(output, year, self.padding, self.sign_is_mandatory);
+        let (century, is_negative) = century_of(value.iso_year(state));
+        fmt_iso_year_century_extended_range(output, century, is_negative, self);
         Ok(())
     }
 }
@@ -177,8 +179,11 @@ impl Modifier for modifier::IsoYearCenturyStandardRange {
         value: &V,
         state: &mut V::State,
     ) -> Result<(), Refused> {
-        let year = value.iso_year(state);
-        write_accepted_century(output, year, self.padding, self.sign_is_mandatory)
+        let Some((century, is_negative)) = standard_century_of(value.iso_year(state)) else {
+            return Err(Refused::YearOutOfRange);
+        };
+        fmt_iso_year_century_standard_range(output, century, is_negative, self);
+        Ok(())
     }
 }
 
@@ -296,38 +301,29 @@ fn write_century_digits<S: Sink>(output: &mut S, century: ru16<0, 9_999>, paddin
     }
 }
 
-// Appends the century of a year of either calendar.
-fn write_any_century<S: Sink>(output: &mut S, year: Year, padding: Padding, sign_is_mandatory: bool)
-    requires room { Fits (S.buffer output.old) 5 }
-    ensures ends { Ends 5 (S.buffer output.old) (S.buffer output.new) (Ok result)
-        (kind_outcome (extended_century padding sign_is_mandatory
-        (int_lt year (pos 0)) (century_of year))) }
+// The year without its last two digits and without its sign, and whether the year is negative.
+#[inline(always)]
+fn century_of(year: Year) -> (ExtendedCentury, bool)
+    ensures century { unsigned_abs result.0 ≡ century_of year }
+    ensures sign { result.1 ≡ int_lt year (pos 0) }
 {
     let number = year.get();
-    let century = ru16::new((number.unsigned_abs() / 100) as u16).unwrap();
-    write_extended_century(output, century, number < 0, padding, sign_is_mandatory);
+    let century = ri16::within((number.unsigned_abs() / 100) as i16);
+    (century, number < 0)
 }
 
-// Appends the century of a year of either calendar, if it has at most two digits.
-fn write_accepted_century<S: Sink>(
-    output: &mut S,
-    year: Year,
-    padding: Padding,
-    sign_is_mandatory: bool,
-) -> Result<(), Refused>
-    requires room { Fits (S.buffer output.old) 3 }
-    ensures ends { Ends 3 (S.buffer output.old) (S.buffer output.new) result
-        (kind_outcome (standard_century padding sign_is_mandatory
-        (int_lt year (pos 0)) (century_of year))) }
+// The same of a year of at most four digits.
+#[inline(always)]
+fn standard_century_of(year: Year) -> Option<(StandardCentury, bool)>
+    ensures { MatchOption result (99 < century_of year)
+        (λ both. (unsigned_abs both.0 ≡ century_of year) × (both.1 ≡ int_lt year (pos 0))) }
 {
     let number = year.get();
     let century = number.unsigned_abs() / 100;
     if century > 99 {
-        return Err(Refused::YearOutOfRange);
+        return None;
     }
-    let century = ru8::new(century as u8).unwrap();
-    write_standard_century(output, century, number < 0, padding, sign_is_mandatory);
-    Ok(())
+    Some((ri8::within(century as i8), number < 0))
 }
 
 // The last two digits of the year.

@@ -3,10 +3,9 @@
 //! The calendar year and the year of the week calendar have the same texts.
 #![tactic(auto, using(crate::proofs::TextLemmas::signed_lengths))]
 
-ghost use Rattle.std.specs.Prelude.{length};
+ghost use Rattle.std.specs.Prelude.{◌≡◌, ◌<◌, MatchOption, length, unsigned_abs};
 ghost use Rattle.time_below.specs.declared.format_description.component.Component.TheVariants as component;
-ghost use Rattle.time_fmt.specs.Ends.{Ends};
-ghost use Rattle.time_fmt.specs.Kind.{kind_text, kind_outcome, extended_year, standard_year};
+ghost use Rattle.time_fmt.specs.Kind.{kind_text, extended_year, standard_year};
 ghost use Rattle.time_fmt.specs.Sink.{Fits, Puts};
 ghost use Rattle.time_fmt.specs.Text.{padded_text};
 
@@ -88,8 +87,11 @@ impl Modifier for modifier::CalendarYearFullStandardRange {
         value: &V,
         state: &mut V::State,
     ) -> Result<(), Refused> {
-        let year = value.calendar_year(state);
-        write_accepted_year(output, year, self.padding, self.sign_is_mandatory)
+        let Some(year) = in_standard_range(value.calendar_year(state)) else {
+            return Err(Refused::YearOutOfRange);
+        };
+        fmt_calendar_year_full_standard_range(output, year, self);
+        Ok(())
     }
 }
 
@@ -159,8 +161,11 @@ impl Modifier for modifier::IsoYearFullStandardRange {
         value: &V,
         state: &mut V::State,
     ) -> Result<(), Refused> {
-        let year = value.iso_year(state);
-        write_accepted_year(output, year, self.padding, self.sign_is_mandatory)
+        let Some(year) = in_standard_range(value.iso_year(state)) else {
+            return Err(Refused::YearOutOfRange);
+        };
+        fmt_iso_year_full_standard_range(output, year, self);
+        Ok(())
     }
 }
 
@@ -252,23 +257,14 @@ fn write_year_digits<S: Sink>(output: &mut S, year: ru32<0, 999_999>, padding: P
     }
 }
 
-// Appends a year of either calendar, if it has at most four digits.
+// The year, if it has at most four digits.
 #[inline(always)]
-fn write_accepted_year<S: Sink>(
-    output: &mut S,
-    year: Year,
-    padding: Padding,
-    sign_is_mandatory: bool,
-) -> Result<(), Refused>
-    requires room { Fits (S.buffer output.old) 5 }
-    ensures ends { Ends 5 (S.buffer output.old) (S.buffer output.new) result
-        (kind_outcome (standard_year padding sign_is_mandatory year)) }
+fn in_standard_range(year: Year) -> Option<StandardYear>
+    ensures { MatchOption result (9_999 < unsigned_abs year) (λ standard. standard ≡ year) }
 {
     let number = year.get();
     if number.unsigned_abs() > 9_999 {
-        return Err(Refused::YearOutOfRange);
+        return None;
     }
-    let year = ri16::new(number as i16).unwrap();
-    write_standard_year(output, year, padding, sign_is_mandatory);
-    Ok(())
+    Some(ri16::within(number as i16))
 }

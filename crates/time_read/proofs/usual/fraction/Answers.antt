@@ -9,4 +9,5 @@ returns c =
     record {
       read = rw (take_rest c.in-Some.rest.now c.nanosecond-nanosecond.result.1) (fraction_at c.in-Some.rest.now
           c.nanosecond-nanosecond.result.1 _ e.digits (omega arith) e.value c.in-Some.ensures.some);
+      range = e.range;
     }

@@ -7,8 +7,8 @@ use Rattle.time_read.proofs.usual.value_of.Goals as goal
 
 pub returns : goal.returns
 returns c =
-    let same = c.new_in_offset.ensures ∙ same_value refl c.in-Ok.ensures.value refl in
-    let fits = c.in-Ok.ensures.accepted.0 refl in
+    let same = c.new_in_offset.ensures ∙ same_value refl c.in_ok-time.ensures.value refl in
+    let fits = c.in_ok-time.ensures.fits in
     record {
       read = λ front date. subst (λ (v : OffsetDateAndTime). Rfc3339Spells v (front ++ c.args.rest.now)) (sym same)
           (value_is _ _ _ c.in_ok-rest.ensures.some c.in_ok-hour.ensures.read c.in_ok-nanosecond.ensures.read

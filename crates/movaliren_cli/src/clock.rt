@@ -1,0 +1,51 @@
+//! The clock that is asked for.
+use crate::arguments::Clock;
+use crate::zone::{Zone, read_system, read_zone};
+use crate::{offset, say};
+use std::process::ExitCode;
+use time_below::UtcOffset;
+
+/// The clock that is asked for, whose zone was read.
+#[derive(Drop)]
+pub enum FoundClock {
+    Utc,
+    Offset(UtcOffset),
+    Zone(Zone),
+}
+
+/// The clock at the offset that the text is.
+fn at_offset(rt: &HostRuntime, text: &str) -> Result<FoundClock, ExitCode> {
+    match offset::read(text) {
+        Some(offset) => Ok(FoundClock::Offset(offset)),
+        None => Err(say::refuse(
+            rt,
+            "'--offset' takes an offset such as +05:30, -0800 or Z, at most 25:59:59",
+        )),
+    }
+}
+
+/// The clock of the zone of this name.
+fn in_zone(rt: &HostRuntime, name: &str) -> Result<FoundClock, ExitCode> {
+    match read_zone(rt, name) {
+        Ok(zone) => Ok(FoundClock::Zone(zone)),
+        Err(fault) => Err(say::refuse_zone(rt, name, fault)),
+    }
+}
+
+/// The clock of the system.
+fn local(rt: &HostRuntime) -> Result<FoundClock, ExitCode> {
+    match read_system(rt) {
+        Ok(zone) => Ok(FoundClock::Zone(zone)),
+        Err(fault) => Err(say::refuse_local(rt, fault)),
+    }
+}
+
+/// Finds the clock that is asked for. Where there is none, this is said, and the status is returned.
+pub fn find(rt: &HostRuntime, clock: Clock<'_>) -> Result<FoundClock, ExitCode> {
+    match clock {
+        Clock::Utc => Ok(FoundClock::Utc),
+        Clock::Offset(text) => at_offset(rt, text),
+        Clock::Zone(name) => in_zone(rt, name),
+        Clock::Local => local(rt),
+    }
+}
