@@ -1,6 +1,5 @@
 pub mod AnswerLemmas
 pub mod BatchLemmas
-pub mod DateLemmas
 pub mod DescribedLemmas
 pub mod FlatLemmas
 pub mod ItemLemmas

@@ -14,10 +14,10 @@ use Rattle.movaliren_c.specs.Value.{checked, is_in_years, with_value}
 use Rattle.movaliren_c.specs.declared.reason.Reason.{Reason}
 use Rattle.movaliren_c.specs.declared.reason.Reason.TheVariants as reason
 use Rattle.time_below.specs.Facts.{date_facts}
-use Rattle.time_below.specs.Moment.{Moment, OffsetDateAndTime, local_at}
+use Rattle.time_below.specs.Moment.{OffsetDateAndTime, local_at}
 use Rattle.time_below.specs.Offset.{Offset, offset_seconds}
 use Rattle.time_fmt.specs.Decimals.{decimals}
-use Rattle.time_fmt.specs.Outcome.{Outcome, done}
+use Rattle.time_fmt.specs.Outcome.{done}
 use Rattle.time_known.proofs.AcceptedLemmas.{usual_accepted}
 use Rattle.time_known.specs.Accepted.{checked_text}
 use Rattle.time_known.specs.Fields.{Shown, date_of_fields, fields, offset_of_fields}

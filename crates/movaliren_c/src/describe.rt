@@ -13,7 +13,7 @@ use crate::item_room::ItemRoom;
 use crate::made_item::NO_ITEM;
 use crate::moment::{UtcMoment, timestamp_value};
 use crate::reason::{Reason, answer_number};
-use crate::source::{AtOffset, provided};
+use crate::source::{AtOffset, Source};
 use crate::syntax::{Brackets, Fault, Strftime, Syntax};
 use time_provide::ComponentProvider;
 
@@ -63,7 +63,7 @@ pub extern "C" fn movaliren_brackets_local(
         seconds,
         nanosecond,
     };
-    let value = provided(AtOffset { east: offset }, &moment);
+    let value = AtOffset { east: offset }.value(&moment);
     answer_number(write_text::<Brackets, _>(text, value, room))
 }
 
@@ -112,7 +112,7 @@ pub extern "C" fn movaliren_strftime_local(
         seconds,
         nanosecond,
     };
-    let value = provided(AtOffset { east: offset }, &moment);
+    let value = AtOffset { east: offset }.value(&moment);
     answer_number(write_text::<Strftime, _>(text, value, room))
 }
 

@@ -9,16 +9,13 @@ ghost use Rattle.time_fmt.specs.Description.{component_outcome, tree_outcome};
 ghost use Rattle.time_fmt.specs.Ends.{Ends};
 ghost use Rattle.time_fmt.specs.Sink.{Fits, Puts, Ready};
 
-use crate::calendar_date::CalendarDate;
 use crate::item::{Item, Part, part_of};
-use crate::moment::{Moment, timestamp_value};
+use crate::moment::{Moment, date_value, moment_value, timestamp_value};
 use crate::reason::{Reason, answer_number, reason_of};
 use crate::room::copy_text;
 use crate::run::{Loop, Run, WithRuns, WithoutRuns, begins_with_run, byte_of, is_plain, run_of};
-use crate::source::{ByParts, provided};
 use std::default::Default;
 use std::marker::Brand;
-use time_below::Date;
 use time_below::format_description::modifier::Padding;
 use time_below::format_description::{component_width, modifier};
 use time_fmt::writers::write_bytes;
@@ -62,7 +59,7 @@ pub extern "C" fn movaliren_format(
     ensures { Answers result (λ answer. IsDescribed texts.now items.now
         (moment_value moment.now) facts_of_offset_date_time answer room.old room.new) }
 {
-    answer_number(write_described(items, texts, provided(ByParts, moment), room))
+    answer_number(write_described(items, texts, moment_value(moment), room))
 }
 
 /// The text of a moment in UTC.
@@ -94,7 +91,7 @@ pub extern "C" fn movaliren_format_date(
     ensures { Answers result (λ answer. IsDescribed texts.now items.now
         (date_value year month day) facts_of_date answer room.old room.new) }
 {
-    answer_number(write_described(items, texts, provided_date(year, month, day), room))
+    answer_number(write_described(items, texts, date_value(year, month, day), room))
 }
 
 /// The most bytes that a text of the description has, up to the greatest `isize`.
@@ -103,16 +100,6 @@ pub extern "C" fn movaliren_width(items: &[Item], texts: &[u8]) -> isize
     ensures { Answers result (λ answer. answer ≡ width_answer (trees_of texts.now items.now)) }
 {
     answer_number(width(items, texts))
-}
-
-/// The date of these parts, or the first part that is outside its range.
-pub fn provided_date(year: i32, month: u8, day: u8) -> Result<Date, Reason>
-    ensures { result ≡ date_value year month day }
-{
-    match CalendarDate::new(year, month, day) {
-        Ok(value) => Ok(value.date()),
-        Err(reason) => Err(reason),
-    }
 }
 
 /// Writes the text of the value by the description, if there are both. The text is written to an array

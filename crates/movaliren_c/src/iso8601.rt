@@ -5,16 +5,17 @@ ghost use Rattle.movaliren_c.specs.Batch.{IsBatch};
 ghost use Rattle.movaliren_c.specs.Chosen.{choices_at, iso8601_by, separated};
 ghost use Rattle.movaliren_c.specs.Utc.{utc_value};
 ghost use Rattle.movaliren_c.specs.Value.{moment_value};
+ghost use Rattle.time_below.specs.Facts.{facts_of_offset_date_time};
 ghost use Rattle.time_fmt.specs.Outcome.{done};
 ghost use Rattle.time_known.specs.Config.{default_choices};
 ghost use Rattle.time_known.specs.Iso8601.{iso8601_of};
+ghost use Rattle.time_known.specs.Iso8601Parts.{chosen_parts, shown_parts};
 ghost use Rattle.time_known.specs.Iso8601Width.{iso8601_width};
 
 mod config;
 
 use crate::batch::{Progress, write_lines};
-use crate::fields::{accepted_year_of, fields_of, parts_of};
-use crate::moment::{LocalMoment, Moment, UtcMoment};
+use crate::moment::{Moment, UtcMoment};
 use crate::moment_text::{Format, answer_at, put_at_start, texts_of};
 use crate::reason::{Reason, answer_number, reason_for};
 use crate::room::copy_text;
@@ -23,9 +24,13 @@ use crate::source::{ByParts, InUtc, Source};
 use crate::writer::Writer;
 use config::separated_config_at;
 pub use config::{IsoConfig, config_at};
+use std::default::Default;
+use time_below::OffsetDateTime;
 use time_digits::ru8;
-use time_known::iso8601::{Config, DecimalSign, SeparatedText, Usual, put_parts};
+use time_known::fields::accepted_fields;
+use time_known::iso8601::{self, Config, DecimalSign, Parts, SeparatedText, Usual, put_parts};
 use time_known::sink::Text;
+use time_provide::DateState;
 
 /// The format of ISO 8601 by its default configuration.
 #[derive(Clone, Copy)]
@@ -41,7 +46,7 @@ impl Format for Iso8601 {
     ghost outcome = { λ _. iso8601_of default_choices };
 
     #[inline(always)]
-    fn text(self, value: &LocalMoment) -> Result<SeparatedText, Reason> {
+    fn text(self, value: &OffsetDateTime) -> Result<SeparatedText, Reason> {
         let usual = Usual {
             has_separators: true,
             decimal_digits: ru8::new(9),
@@ -53,16 +58,15 @@ impl Format for Iso8601 {
 
 /// The text of the value by such choices with separators, or the reason why it has none.
 #[inline(always)]
-fn separated_text(usual: &Usual, value: &LocalMoment) -> Result<SeparatedText, Reason>
+fn separated_text(usual: &Usual, value: &OffsetDateTime) -> Result<SeparatedText, Reason>
     ensures chosen { IfOk result (λ t. t.usual ≡ usual.now) }
     ensures text { IfOk result (λ t. iso8601_of (separated usual.now) value.now
         ≡ done (⟦<SeparatedText as Text>⟧.text t)) }
     ensures refused { IfErr result (λ r. IsRefusedFor r
         (iso8601_of (separated usual.now) value.now)) }
 {
-    match accepted_year_of(0, 25, value) {
-        Ok(year) => {
-            let fields = fields_of(year, value);
+    match accepted_fields(0, 25, value, &mut DateState::default()) {
+        Ok(fields) => {
             let usual = *usual;
             Ok(SeparatedText { usual, fields })
         }
@@ -214,7 +218,7 @@ impl<S: Source> Iso8601By<S> {
     fn put_usual(
         &self,
         usual: &Usual,
-        value: &LocalMoment,
+        value: &OffsetDateTime,
         room: &mut [u8],
     ) -> Result<usize, Reason>
         requires room { iso8601_width (separated usual.now) ≤ length room.old }
@@ -244,11 +248,18 @@ impl<S: Source> Iso8601By<S> {
     }
 }
 
+/// The parts of the value that the configuration writes.
+fn parts_of(config: &Config, value: &OffsetDateTime) -> Parts
+    ensures { shown_parts result ≡ chosen_parts config.now (facts_of_offset_date_time value.now) }
+{
+    iso8601::parts_of(config, value, &mut DateState::default())
+}
+
 /// Writes the text to an array first, since a part may be refused after others. No text has more bytes: 13
 /// of the date, 265 of the time and 6 of the offset.
 #[inline(never)]
-#[tactic(auto, using(time_known::proofs::iso8601::PartsLemmas::chosen_text, time_known::proofs::iso8601::PartsLemmas::chosen_width, crate::proofs::AnswerLemmas::copied_whole))]
-fn copy_by(config: &Config, value: &LocalMoment, room: &mut [u8]) -> Result<usize, Reason>
+#[tactic(auto, using(crate::proofs::AnswerLemmas::copied_whole))]
+fn copy_by(config: &Config, value: &OffsetDateTime, room: &mut [u8]) -> Result<usize, Reason>
     ensures { IsWritten result (iso8601_of config.now value.now) room.old room.new }
 {
     if config.formats_nothing() {

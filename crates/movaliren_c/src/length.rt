@@ -7,11 +7,11 @@ ghost use Rattle.movaliren_c.specs.Utc.{local_value};
 ghost use Rattle.movaliren_c.specs.Value.{date_value, moment_value, timestamp_value};
 ghost use Rattle.time_below.specs.Facts.{facts_of_date, facts_of_offset_date_time, facts_of_timestamp};
 
-use crate::described::{GREATEST_WIDTH, SHORT, first_reason, provided_date, write_long};
+use crate::described::{GREATEST_WIDTH, SHORT, first_reason, write_long};
 use crate::item::Item;
-use crate::moment::{Moment, UtcMoment, timestamp_value};
+use crate::moment::{Moment, UtcMoment, date_value, moment_value, timestamp_value};
 use crate::reason::{Reason, answer_number};
-use crate::source::{AtOffset, ByParts, provided};
+use crate::source::{AtOffset, Source};
 use std::marker::Brand;
 use time_provide::ComponentProvider;
 
@@ -21,7 +21,7 @@ pub extern "C" fn movaliren_format_length(items: &[Item], texts: &[u8], moment: 
     ensures { Answers result (λ answer. IsLength (described (trees_of texts.now items.now)
         (moment_value moment.now) facts_of_offset_date_time) answer) }
 {
-    answer_number(text_length(items, texts, provided(ByParts, moment)))
+    answer_number(text_length(items, texts, moment_value(moment)))
 }
 
 /// The number of bytes of the text of a moment in UTC.
@@ -54,7 +54,7 @@ pub extern "C" fn movaliren_format_local_length(
         seconds,
         nanosecond,
     };
-    let value = provided(AtOffset { east: offset }, &moment);
+    let value = AtOffset { east: offset }.value(&moment);
     answer_number(text_length(items, texts, value))
 }
 
@@ -70,7 +70,7 @@ pub extern "C" fn movaliren_format_date_length(
     ensures { Answers result (λ answer. IsLength (described (trees_of texts.now items.now)
         (date_value year month day) facts_of_date) answer) }
 {
-    answer_number(text_length(items, texts, provided_date(year, month, day)))
+    answer_number(text_length(items, texts, date_value(year, month, day)))
 }
 
 /// The number of bytes of the text of the value by the description, up to the greatest `isize`, if there are both.

@@ -8,14 +8,11 @@
 #![tactic(auto)]
 
 mod batch;
-mod calendar_date;
 mod describe;
 mod described;
-mod fields;
 mod iso8601;
 mod item;
 mod item_room;
-mod kept_offset;
 pub mod laws;
 mod length;
 mod library;

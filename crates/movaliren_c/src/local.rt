@@ -13,7 +13,7 @@ use crate::item::Item;
 use crate::moment::UtcMoment;
 use crate::moment_text::{answer_at, texts_of};
 use crate::reason::answer_number;
-use crate::source::{AtOffset, provided};
+use crate::source::{AtOffset, Source};
 
 /// The text of ISO 8601 of a moment by the default configuration, at an offset of this many seconds east
 /// of UTC.
@@ -68,6 +68,6 @@ pub extern "C" fn movaliren_format_local(
         seconds,
         nanosecond,
     };
-    let value = provided(AtOffset { east: offset }, &moment);
+    let value = AtOffset { east: offset }.value(&moment);
     answer_number(write_described(items, texts, value, room))
 }

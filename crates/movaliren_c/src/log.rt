@@ -9,19 +9,20 @@ ghost use Rattle.time_fmt.specs.Outcome.{done};
 ghost use Rattle.time_known.specs.Fields.{date_of_fields, offset_of_fields, shown};
 ghost use Rattle.time_known.specs.WellKnown.{clock_text};
 
-use crate::fields::{accepted_year_of, fields_of};
 use crate::iso8601::IsoConfig;
 use crate::local::movaliren_iso8601_by_local;
 use crate::moment::UtcMoment;
 use crate::reason::{Reason, answer_number};
 use crate::sinks::{ArraySink, write_over};
 use crate::source::{AtOffset, Source};
+use std::default::Default;
 use time_digits::ru32;
-use time_known::fields::{Fields, OffsetFields};
+use time_known::fields::{Fields, OffsetFields, accepted_fields};
 use time_known::put::{
     put_clock, put_date, put_nine_digits, put_offset, put_six_decimals, put_three_decimals,
 };
 use time_known::sink::Sink;
+use time_provide::DateState;
 use time_provide::ranges::Nanoseconds;
 
 /// What the times of one second have in common.
@@ -187,10 +188,9 @@ fn keep_second(kept: &mut Log, seconds: i64, offset: i64)
     let Ok(value) = (AtOffset { east: offset }).value(&moment) else {
         return;
     };
-    let Ok(year) = accepted_year_of(0, 25, &value) else {
+    let Ok(fields) = accepted_fields(0, 25, &value, &mut DateState::default()) else {
         return;
     };
-    let fields = fields_of(year, &value);
     let (head, zone) = (head_of(&fields), zone_of(&fields.offset));
     keep(kept, seconds, offset, head.as_bytes(), zone.as_bytes());
 }

@@ -1,14 +1,12 @@
 //! Moments in the interface, and the values that they give.
-ghost use Rattle.std.specs.Prelude.{◌≡◌};
-ghost use Rattle.movaliren_c.specs.Utc.{value_at, with_offset};
-ghost use Rattle.movaliren_c.specs.Value.{time_value, moment_value, timestamp_value};
+ghost use Rattle.std.specs.Prelude.{◌≡◌, ◌≤◌, IsTrue, pos, true, unsigned_abs};
+ghost use Rattle.movaliren_c.specs.Utc.{utc_value};
+ghost use Rattle.movaliren_c.specs.Value.{date_value, is_alike, is_offset_part, moment_value, offset_value, time_value, timestamp_value};
 ghost use Rattle.time_below.specs.Moment.{utc_date_and_time};
+ghost use Rattle.time_below.specs.Offset.{AreOffsetParts, HasNoOtherSign};
 
-use crate::calendar_date::CalendarDate;
-use crate::kept_offset::KeptOffset;
 use crate::reason::Reason;
-use std::marker::Model;
-use time_below::{OffsetDateTime, Time, Timestamp, UtcDateTime};
+use time_below::{Date, Month, OffsetDateTime, Time, Timestamp, UtcDateTime, UtcOffset};
 
 /// A local date and time, and its offset from UTC.
 #[repr(C)]
@@ -34,97 +32,23 @@ pub struct UtcMoment {
     pub nanosecond: u32,
 }
 
-/// The value of a moment: a local date with its month and day, a time, and an offset by its parts.
-#[derive(Drop)]
-pub struct LocalMoment {
-    date: CalendarDate,
-    time: Time,
-    offset: KeptOffset,
-}
-
-impl Model for LocalMoment {
-    ghost use Rattle.time_below.specs.Moment.{OffsetDateAndTime};
-
-    ghost Value = { OffsetDateAndTime };
-
-    ghost view = { λ t. record { date = t.date; time = t.time; offset = t.offset } };
-}
-
-impl LocalMoment {
-    /// Returns the date and time with this offset.
-    pub fn with_offset(value: UtcDateTime, offset: KeptOffset) -> LocalMoment
-        ensures { result ≡ with_offset offset value }
-    {
-        LocalMoment {
-            date: CalendarDate::of_date(value.date()),
-            time: value.time(),
-            offset,
-        }
+/// The date of a year, a month and a day, or the first of them that is outside its range.
+#[inline(always)]
+pub fn date_value(year: i32, month: u8, day: u8) -> Result<Date, Reason>
+    ensures { result ≡ date_value year month day }
+{
+    if year.unsigned_abs() > 999_999 {
+        return Err(Reason::Year);
     }
-
-    /// Returns the local date and time with their offset.
-    #[inline(always)]
-    pub fn of_local(value: OffsetDateTime) -> LocalMoment
-        ensures { result ≡ value }
-    {
-        LocalMoment {
-            date: CalendarDate::of_date(value.date()),
-            time: value.time(),
-            offset: KeptOffset::of_offset(value.offset()),
-        }
+    if month == 0 || month > 12 {
+        return Err(Reason::Month);
     }
-
-    /// The midnight in UTC at which the date begins.
-    pub fn at_midnight(date: CalendarDate) -> LocalMoment
-        ensures { result.date ≡ date }
-    {
-        LocalMoment {
-            date,
-            time: Time::from_valid_hms_nano(0, 0, 0, 0),
-            offset: KeptOffset::utc(),
-        }
+    let month = Month::from_number(month);
+    // Each month has 28 days.
+    if day == 0 || (day > 28 && day > month.length(year)) {
+        return Err(Reason::Day);
     }
-
-    /// Returns the same value.
-    #[inline(always)]
-    pub fn copy(&self) -> LocalMoment
-        ensures { result ≡ self.now }
-    {
-        LocalMoment {
-            date: self.date,
-            time: self.time,
-            offset: self.offset.copy(),
-        }
-    }
-
-    /// Returns the value for the formatter.
-    #[inline(always)]
-    pub fn provided(&self) -> OffsetDateTime
-        ensures { result ≡ self.now }
-    {
-        OffsetDateTime::new_in_offset(self.date.date(), self.time, self.offset.offset())
-    }
-
-    /// The local date.
-    pub fn date(&self) -> CalendarDate
-        ensures { result ≡ self.now.date }
-    {
-        self.date
-    }
-
-    /// The local time of day.
-    pub fn time(&self) -> Time
-        ensures { result ≡ self.now.time }
-    {
-        self.time
-    }
-
-    /// The offset from UTC.
-    pub fn offset(&self) -> &KeptOffset
-        ensures { result.now ≡ self.now.offset }
-    {
-        &self.offset
-    }
+    Ok(Date::from_valid_calendar_date(year, month, day))
 }
 
 #[inline(always)]
@@ -146,16 +70,92 @@ fn time_value(moment: &Moment) -> Result<Time, Reason>
     Ok(Time::from_valid_hms_nano(moment.hour, moment.minute, moment.second, moment.nanosecond))
 }
 
+/// The offset of the parts, or the first of them that is outside its range or has the opposite sign of
+/// one before it.
+#[inline(always)]
+fn offset_value(moment: &Moment) -> Result<UtcOffset, Reason>
+    ensures { result ≡ offset_value moment.now }
+{
+    let hours = moment.offset_hours;
+    let minutes = moment.offset_minutes;
+    let seconds = moment.offset_seconds;
+    if are_offset_parts(hours, minutes, seconds) {
+        return Ok(UtcOffset::from_valid_hms(hours, minutes, seconds));
+    }
+    tested_offset(moment)
+}
+
+/// Whether three parts are in their ranges and have one sign at most. Two tests for all three cost less than one for
+/// each two.
+#[inline(always)]
+fn are_offset_parts(hours: i8, minutes: i8, seconds: i8) -> bool
+    ensures hours { IsTrue result → is_offset_part 25 (pos 0) (pos 0) hours ≡ true }
+    ensures minutes { IsTrue result → is_offset_part 59 hours (pos 0) minutes ≡ true }
+    ensures seconds { IsTrue result → is_offset_part 59 hours minutes seconds ≡ true }
+    ensures range { IsTrue result → AreOffsetParts hours minutes seconds }
+    ensures minutes_like_hours { IsTrue result → HasNoOtherSign hours minutes }
+    ensures seconds_like_hours { IsTrue result → HasNoOtherSign hours seconds }
+    ensures seconds_like_minutes { IsTrue result → HasNoOtherSign minutes seconds }
+{
+    let is_negative = (hours < 0) | (minutes < 0) | (seconds < 0);
+    let is_positive = (hours > 0) | (minutes > 0) | (seconds > 0);
+    if is_negative && is_positive {
+        return false;
+    }
+    hours.unsigned_abs() <= 25 && minutes.unsigned_abs() <= 59 && seconds.unsigned_abs() <= 59
+}
+
+/// The same, where each part is tested after the other.
+#[cold]
+#[inline(never)]
+fn tested_offset(moment: &Moment) -> Result<UtcOffset, Reason>
+    ensures { result ≡ offset_value moment.now }
+{
+    let hours = moment.offset_hours;
+    if !is_offset_part(25, 0, 0, hours) {
+        return Err(Reason::OffsetHours);
+    }
+    let minutes = moment.offset_minutes;
+    if !is_offset_part(59, hours, 0, minutes) {
+        return Err(Reason::OffsetMinutes);
+    }
+    let seconds = moment.offset_seconds;
+    if !is_offset_part(59, hours, minutes, seconds) {
+        return Err(Reason::OffsetSeconds);
+    }
+    Ok(UtcOffset::from_valid_hms(hours, minutes, seconds))
+}
+
+/// Whether a part is at most so far from zero, and has not the opposite sign of one of two parts before it.
+#[inline(always)]
+fn is_offset_part(greatest: u8, first: i8, second: i8, part: i8) -> bool
+    ensures value { result ≡ is_offset_part greatest first second part }
+    ensures range { IsTrue result → unsigned_abs part ≤ greatest }
+    ensures first { IsTrue result → HasNoOtherSign first part }
+    ensures second { IsTrue result → HasNoOtherSign second part }
+{
+    part.unsigned_abs() <= greatest && is_alike(first, part) && is_alike(second, part)
+}
+
+/// Whether neither of two parts is above zero where the other one is below.
+#[inline(always)]
+fn is_alike(first: i8, second: i8) -> bool
+    ensures value { result ≡ is_alike first second }
+    ensures sign { IsTrue result → HasNoOtherSign first second }
+{
+    second == 0 || first == 0 || (first < 0) == (second < 0)
+}
+
 /// The value of the parts, or the first part that is outside its range, in the order date, time,
 /// offset.
 #[inline(always)]
-pub fn moment_value(moment: &Moment) -> Result<LocalMoment, Reason>
+pub fn moment_value(moment: &Moment) -> Result<OffsetDateTime, Reason>
     ensures { result ≡ moment_value moment.now }
 {
-    let date = CalendarDate::new(moment.year, moment.month, moment.day)?;
+    let date = date_value(moment.year, moment.month, moment.day)?;
     let time = time_value(moment)?;
-    let offset = KeptOffset::of_moment(moment)?;
-    Ok(LocalMoment { date, time, offset })
+    let offset = offset_value(moment)?;
+    Ok(OffsetDateTime::new_in_offset(date, time, offset))
 }
 
 /// The moment of this many seconds since 1970-01-01T00:00:00 UTC, and a nanosecond.
@@ -181,14 +181,18 @@ pub fn in_utc(moment: Timestamp) -> UtcDateTime
     UtcDateTime::new(moment.date(), moment.time())
 }
 
-/// The date and time this long after 1970, with this offset.
+/// The date and time in UTC this long after 1970.
 #[inline(always)]
 #[tactic(auto, unfolding(crate::specs::Utc::value_at))]
-pub fn value_at(seconds: i64, nanosecond: u32, offset: KeptOffset) -> Result<LocalMoment, Reason>
-    ensures { result ≡ value_at seconds nanosecond offset }
+pub fn value_in_utc(seconds: i64, nanosecond: u32) -> Result<OffsetDateTime, Reason>
+    ensures { result ≡ utc_value seconds nanosecond }
 {
     match timestamp_value(seconds, nanosecond) {
-        Ok(moment) => Ok(LocalMoment::with_offset(in_utc(moment), offset)),
+        Ok(moment) => {
+            let value = in_utc(moment);
+            let offset = UtcOffset::from_valid_hms(0, 0, 0);
+            Ok(OffsetDateTime::new_in_offset(value.date(), value.time(), offset))
+        }
         Err(reason) => Err(reason),
     }
 }

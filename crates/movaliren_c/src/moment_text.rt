@@ -4,12 +4,13 @@ ghost use Rattle.movaliren_c.specs.Answer.{IsAnswer, IsRefusedFor, IsText, IsWri
 ghost use Rattle.time_below.specs.Moment.{OffsetDateAndTime};
 ghost use Rattle.time_fmt.specs.Outcome.{Outcome, done};
 
-use crate::moment::{LocalMoment, UtcMoment};
+use crate::moment::UtcMoment;
 use crate::reason::{Reason, answer_number};
 use crate::room::copy_text;
 use crate::sinks::RoomSink;
 use crate::source::Source;
 use crate::writer::Writer;
+use time_below::OffsetDateTime;
 use time_known::sink::Text;
 
 /// A format of moments, whose texts have at most 35 bytes.
@@ -26,7 +27,7 @@ pub trait Format: Copy {
     ghost outcome: { Self → OffsetDateAndTime → Outcome };
 
     /// The text of the value, or the reason why it has none.
-    fn text(self, value: &LocalMoment) -> Result<Self::Text, Reason>
+    fn text(self, value: &OffsetDateTime) -> Result<Self::Text, Reason>
         ensures text { IfOk result (λ t. outcome self value.now ≡ done (Self.Text.text t)) }
         ensures width { IfOk result (λ t. Self.Text.width t ≤ WIDTH) }
         ensures short { WIDTH ≤ 35 }
@@ -67,7 +68,7 @@ impl<F: Format, S: Source> Texts<F, S> {
     /// Puts the text of the value at the start of a buffer that holds every text. Each format and source
     /// has one call of a function of its own, so that the compiler can inline it.
     #[inline]
-    fn put(&self, value: &LocalMoment, room: &mut [u8]) -> Result<usize, Reason>
+    fn put(&self, value: &OffsetDateTime, room: &mut [u8]) -> Result<usize, Reason>
         requires room { F.WIDTH ≤ length room.old }
         ensures { IsWritten result (F.outcome self.now.format value.now) room.old room.new }
     {

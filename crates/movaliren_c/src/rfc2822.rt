@@ -6,13 +6,16 @@ ghost use Rattle.movaliren_c.specs.Value.{moment_value};
 ghost use Rattle.time_known.specs.Rfc2822.{rfc2822_of};
 
 use crate::batch::{Progress, write_lines};
-use crate::fields::{accepted_year_of, fields_of};
-use crate::moment::{LocalMoment, Moment, UtcMoment};
+use crate::moment::{Moment, UtcMoment};
 use crate::moment_text::{Format, answer_at, texts_of};
 use crate::reason::{Reason, answer_number, reason_for};
 use crate::source::{AtOffset, ByParts, InUtc};
 use crate::writer::Writer;
+use std::default::Default;
+use time_below::OffsetDateTime;
+use time_known::fields::accepted_fields;
 use time_known::rfc2822::Rfc2822Text;
+use time_provide::DateState;
 
 /// The format of RFC 2822.
 #[derive(Clone, Copy)]
@@ -29,11 +32,10 @@ impl Format for Rfc2822 {
 
     #[inline(always)]
     #[tactic(auto, using(time_known::proofs::AcceptedLemmas::any_hour))]
-    fn text(self, value: &LocalMoment) -> Result<Rfc2822Text, Reason> {
-        match accepted_year_of(1900, 25, value) {
-            Ok(year) => {
-                let weekday = value.date().date().weekday();
-                let fields = fields_of(year, value);
+    fn text(self, value: &OffsetDateTime) -> Result<Rfc2822Text, Reason> {
+        match accepted_fields(1900, 25, value, &mut DateState::default()) {
+            Ok(fields) => {
+                let weekday = value.date().weekday();
                 Ok(Rfc2822Text { weekday, fields })
             }
             Err(component) => Err(reason_for(component)),

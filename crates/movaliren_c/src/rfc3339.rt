@@ -6,13 +6,16 @@ ghost use Rattle.movaliren_c.specs.Value.{moment_value};
 ghost use Rattle.time_known.specs.Rfc3339.{rfc3339_of};
 
 use crate::batch::{Progress, write_lines};
-use crate::fields::{accepted_year_of, fields_of};
-use crate::moment::{LocalMoment, Moment, UtcMoment};
+use crate::moment::{Moment, UtcMoment};
 use crate::moment_text::{Format, answer_at, texts_of};
 use crate::reason::{Reason, answer_number, reason_for};
 use crate::source::{AtOffset, ByParts, InUtc};
 use crate::writer::Writer;
+use std::default::Default;
+use time_below::OffsetDateTime;
+use time_known::fields::accepted_fields;
 use time_known::rfc3339::Rfc3339Text;
+use time_provide::DateState;
 
 /// The format of RFC 3339.
 #[derive(Clone, Copy)]
@@ -28,12 +31,9 @@ impl Format for Rfc3339 {
     ghost outcome = { λ _. rfc3339_of };
 
     #[inline(always)]
-    fn text(self, value: &LocalMoment) -> Result<Rfc3339Text, Reason> {
-        match accepted_year_of(0, 23, value) {
-            Ok(year) => {
-                let fields = fields_of(year, value);
-                Ok(Rfc3339Text { fields })
-            }
+    fn text(self, value: &OffsetDateTime) -> Result<Rfc3339Text, Reason> {
+        match accepted_fields(0, 23, value, &mut DateState::default()) {
+            Ok(fields) => Ok(Rfc3339Text { fields }),
             Err(component) => Err(reason_for(component)),
         }
     }

@@ -5,8 +5,7 @@ ghost use Rattle.movaliren_c.specs.Value.{moment_value};
 ghost use Rattle.movaliren_c.specs.declared.reason.Reason.{Reason};
 ghost use Rattle.time_below.specs.Moment.{OffsetDateAndTime};
 
-use crate::kept_offset::KeptOffset;
-use crate::moment::{LocalMoment, Moment, UtcMoment, moment_value, timestamp_value, value_at};
+use crate::moment::{Moment, UtcMoment, moment_value, timestamp_value, value_in_utc};
 use crate::reason::Reason;
 use std::convert::TryFrom;
 use time_below::{OffsetDateTime, Timestamp, UtcOffset};
@@ -20,19 +19,8 @@ pub trait Source: Copy {
     ghost given: { Self → Self.Item → Result OffsetDateAndTime Reason };
 
     /// The value of the item.
-    fn value(self, item: &Self::Item) -> Result<LocalMoment, Reason>
+    fn value(self, item: &Self::Item) -> Result<OffsetDateTime, Reason>
         ensures { result ≡ given self item.now };
-}
-
-/// The value of an item for a description. More than one caller would else call it.
-#[inline(always)]
-pub fn provided<S: Source>(source: S, item: &S::Item) -> Result<OffsetDateTime, Reason>
-    ensures { result ≡ S.given source item.now }
-{
-    match source.value(item) {
-        Ok(value) => Ok(value.provided()),
-        Err(reason) => Err(reason),
-    }
 }
 
 /// Moments by the parts of the date, the time and the offset.
@@ -45,7 +33,7 @@ impl Source for ByParts {
     ghost given = { λ _ moment. moment_value moment };
 
     #[inline(always)]
-    fn value(self, moment: &Moment) -> Result<LocalMoment, Reason> {
+    fn value(self, moment: &Moment) -> Result<OffsetDateTime, Reason> {
         moment_value(moment)
     }
 }
@@ -60,8 +48,8 @@ impl Source for InUtc {
     ghost given = { λ _ moment. utc_value moment.seconds moment.nanosecond };
 
     #[inline(always)]
-    fn value(self, moment: &UtcMoment) -> Result<LocalMoment, Reason> {
-        value_at(moment.seconds, moment.nanosecond, KeptOffset::utc())
+    fn value(self, moment: &UtcMoment) -> Result<OffsetDateTime, Reason> {
+        value_in_utc(moment.seconds, moment.nanosecond)
     }
 }
 
@@ -78,7 +66,7 @@ impl Source for AtOffset {
     ghost given = { λ at moment. local_value moment.seconds moment.nanosecond at.east };
 
     #[inline(always)]
-    fn value(self, moment: &UtcMoment) -> Result<LocalMoment, Reason> {
+    fn value(self, moment: &UtcMoment) -> Result<OffsetDateTime, Reason> {
         let moment = timestamp_value(moment.seconds, moment.nanosecond)?;
         let offset = offset_east(self.east)?;
         local_there(moment, offset)
@@ -101,11 +89,11 @@ fn offset_east(east: i64) -> Result<UtcOffset, Reason>
 
 /// The moment at this offset, or the reason why it has no local date there.
 #[inline(always)]
-fn local_there(moment: Timestamp, offset: UtcOffset) -> Result<LocalMoment, Reason>
+fn local_there(moment: Timestamp, offset: UtcOffset) -> Result<OffsetDateTime, Reason>
     ensures { result ≡ local_there moment offset }
 {
     match moment.checked_to_offset(offset) {
-        Some(local) => Ok(LocalMoment::of_local(local)),
+        Some(local) => Ok(local),
         None => Err(Reason::NoPlaceForYear),
     }
 }

@@ -5,14 +5,16 @@ ghost use Rattle.movaliren_c.specs.Value.{stamp_value};
 ghost use Rattle.time_known.specs.Stamps.{stamp_length, stamp_of};
 
 use crate::batch::{Progress, write_lines};
-use crate::fields::fields_of;
-use crate::moment::{LocalMoment, UtcMoment};
+use crate::moment::UtcMoment;
 use crate::moment_text::{Format, answer_at, texts_of};
 use crate::reason::{Reason, reason_for};
 use crate::source::InUtc;
 use crate::writer::Writer;
-use time_known::accepted::accepted_year;
+use std::default::Default;
+use time_below::{OffsetDateTime, UtcDateTime};
+use time_known::fields::accepted_fields;
 use time_known::iso8601::StampText;
+use time_provide::DateState;
 
 /// Stamps of moments in UTC.
 #[derive(Clone, Copy)]
@@ -28,12 +30,10 @@ impl Format for Stamp {
     ghost outcome = { λ _ v. stamp_of (record { date = v.date; time = v.time }) };
 
     #[inline(always)]
-    fn text(self, value: &LocalMoment) -> Result<StampText, Reason> {
-        match accepted_year(0, 25, value.date().year(), 0, 0) {
-            Ok(year) => {
-                let fields = fields_of(year, value);
-                Ok(StampText { fields })
-            }
+    fn text(self, value: &OffsetDateTime) -> Result<StampText, Reason> {
+        let value = UtcDateTime::new(value.date(), value.time());
+        match accepted_fields(0, 25, &value, &mut DateState::default()) {
+            Ok(fields) => Ok(StampText { fields }),
             Err(component) => Err(reason_for(component)),
         }
     }

@@ -72,10 +72,7 @@ impl LogTime {
     pub fn utc(decimals: Decimals) -> LogTime
         ensures { result ≡ record { offset = utc; decimals = decimals } }
     {
-        match UtcOffset::from_hms(0, 0, 0) {
-            Ok(utc) => LogTime::at(utc, decimals),
-            Err(_) => unreachable!(),
-        }
+        LogTime::at(UtcOffset::from_valid_hms(0, 0, 0), decimals)
     }
 
     // Times at an offset that is not refused. What is kept is the second at which the clock there

@@ -12,11 +12,11 @@ returns-in-Ok-clause-text c =
     let choices = usual_choices true u.decimal_digits u.decimal_sign in
     usual_accepted choices true u.decimal_digits u.decimal_sign (date_facts v.date) v.time v.offset [] refl
     (c.in-Ok.ensures.accepted [])
-    ∙ ap (λ f. done (usual_of_fields choices u.decimal_digits f)) (sym c.fields_of-fields.ensures)
+    ∙ ap (λ f. done (usual_of_fields choices u.decimal_digits f)) (sym c.in-Ok.ensures.fields)
 
 pub returns-in-Err-clause-refused : goal.returns-in-Err-clause-refused
 returns-in-Err-clause-refused c =
     let v = c.args.value.now in
     let u = c.args.usual.now in
     rw (usual_refused u.decimal_digits u.decimal_sign (date_facts v.date) v.time v.offset [] c.in-Err.component
-    c.accepted_year_of.ensures.hours (c.in-Err.ensures.refused [])) c.reason_for.ensures
+    c.accepted_fields.ensures.offset.0.0 (c.in-Err.ensures.refused [])) c.reason_for.ensures

@@ -5,5 +5,5 @@ use Rattle.movaliren_c.proofs.log.keep_second.Goals as goal
 pub keep-requires : goal.keep-requires
 keep-requires c =
     remembered (to_z w64 (of_z w64 c.args.seconds)) (to_z w64 (of_z w64 c.args.offset)) c.in-Ok.value _ _ _
-    (sym c.in-Ok.ensures) (c.in-Ok-accepted_year_of.ensures.accepted _) c.fields_of-fields.ensures
+    (sym c.in-Ok.ensures) (c.in-Ok-accepted_fields.ensures.accepted _) c.in-Ok-accepted_fields.ensures.fields
     (c.as_bytes.ensures ∙ c.head_of-head.ensures) (c.as_bytes-2.ensures ∙ c.zone_of-zone.ensures)

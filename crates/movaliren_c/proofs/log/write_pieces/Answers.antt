@@ -1,4 +1,4 @@
-use Rattle.std.proofs.Common.{refl, arith, length-append, ◌≡◌}
+use Rattle.std.proofs.Common.{refl, arith, length-append}
 use Rattle.movaliren_c.proofs.LogLemmas.{three_pieces}
 use Rattle.movaliren_c.proofs.log.write_pieces.Goals as goal
 

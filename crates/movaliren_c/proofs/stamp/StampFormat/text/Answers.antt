@@ -4,6 +4,7 @@ use Rattle.time_below.specs.Offset.{utc}
 use Rattle.time_fmt.specs.Outcome.{done}
 use Rattle.time_known.specs.Accepted.{checked_text, refused_for}
 use Rattle.time_known.specs.Config.{default_choices}
+use Rattle.time_known.specs.Fields.{fields, shown}
 use Rattle.time_known.specs.Stamps.{stamp_of_fields}
 use Rattle.time_known.specs.declared.iso8601.config.DecimalSign.TheVariants as sign
 use Rattle.time_known.proofs.AcceptedLemmas.{usual_accepted, usual_refused}
@@ -13,8 +14,9 @@ pub returns-in-Ok-clause-text : goal.returns-in-Ok-clause-text
 returns-in-Ok-clause-text c =
     let v = c.args.value.now in
     let accepted : checked_text 0 25 v.date.year 0 0 [] ≡ done [] = search (rules, c.in-Ok.ensures.accepted []) in
+    let same : shown c.in-Ok.fields ≡ fields (date_facts v.date) v.time utc = search (rules, c.in-Ok.ensures.fields) in
     usual_accepted default_choices true (Some 9) sign.Point (date_facts v.date) v.time utc [] refl accepted
-    ∙ ap (λ f. done (stamp_of_fields f)) (sym c.fields_of-fields.ensures)
+    ∙ ap (λ f. done (stamp_of_fields f)) (sym same)
 
 pub returns-in-Err-clause-refused : goal.returns-in-Err-clause-refused
 returns-in-Err-clause-refused c =

@@ -1,8 +1,8 @@
 use Rattle.std.proofs.Common.{refl}
-use Rattle.movaliren_c.proofs.kept_offset.KeptOffset.of_moment.Goals as goal
+use Rattle.movaliren_c.proofs.moment.tested_offset.Goals as goal
 
-pub invariant_of-result : goal.invariant_of-result
-invariant_of-result c =
+pub from_valid_hms-requires : goal.from_valid_hms-requires
+from_valid_hms-requires c =
     let hours = c.if-not-is_offset_part.ensures in
     let minutes = c.if-not-is_offset_part-2.ensures in
     let seconds = c.if-not-is_offset_part-3.ensures in
