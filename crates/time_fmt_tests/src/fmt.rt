@@ -28,6 +28,7 @@ macro_rules! signed {
     };
 }
 
+mod component_writers;
 mod components_table;
 mod date_rows;
 mod errors;

@@ -11,14 +11,14 @@ use time_digits::{ru8, ru16, ru32};
 use time_fmt::writers::*;
 
 /// Returns an empty vector with capacity for each text of these tests.
-fn empty(rt: &HostRuntime) -> Result<Vec<u8>, AllocError>
+pub(super) fn empty(rt: &HostRuntime) -> Result<Vec<u8>, AllocError>
     ensures { IfOk result (λ output. HasRoom output 20) }
 {
     Vec::with_capacity(rt.alloc(), 20)
 }
 
 /// Compares what was appended to an empty vector, and the answer.
-fn assert_written(rt: &impl Abort, output: &Vec<u8>, count: usize, text: &str) {
+pub(super) fn assert_written(rt: &impl Abort, output: &Vec<u8>, count: usize, text: &str) {
     assert_same(rt, output.as_slice(), text.as_bytes());
     assert_same(rt, count, text.len());
 }
