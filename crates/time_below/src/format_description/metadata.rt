@@ -132,35 +132,29 @@ pub fn metadata_of_node<T: Node>(node: &T) -> Metadata
 }
 
 /// Whether so many bytes are plainly enough for the text of the items, by bounds that are quick to tell.
-/// Of items other than literals and components nothing is told.
+/// Of items other than texts and components nothing is told.
 #[inline]
 pub fn nodes_fit<T: Node>(nodes: &[T], room: usize) -> bool
     ensures { IsTrue result → trees_width (trees (map T.tree nodes.now)) ≤ room }
 {
     let mut left = room;
     for node in nodes {
-        let Some(bound) = bound_of_text(node) else {
-            return false;
-        };
-        let Some(rest) = left.checked_sub(bound) else {
-            return false;
-        };
-        left = rest;
+        match bound_of_text(node) {
+            Some(bound) if bound <= left => left -= bound,
+            _ => return false,
+        }
     }
     true
 }
 
-// A bound of the bytes of a literal or a component, and nothing of any other description. With both kinds of
-// literals the compiler tells the three cases by comparisons, and without bytes by a jump through a table.
+// A bound of the bytes of a text or a component, and nothing of any other description.
 #[inline(always)]
 fn bound_of_text<T: Node>(node: &T) -> Option<usize>
     ensures bound { IfSome result (λ bound. tree_width (T.tree node.now) ≤ bound) }
 {
-    let literal = match node.layer() {
-        Layer::Bytes(bytes) => bytes,
-        Layer::Text(text) => text.as_bytes(),
-        Layer::Component(component) => return Some(component_bound(&component)),
-        _ => return None,
-    };
-    Some(literal.len())
+    match node.layer() {
+        Layer::Component(component) => Some(component_bound(&component)),
+        Layer::Text(literal) => Some(literal.len()),
+        _ => None,
+    }
 }
