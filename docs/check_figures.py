@@ -62,8 +62,8 @@ def said_of_tables():
     usual = {name: row for name, row in texts.items() if re.match(r"RFC|ISO|11 parts|a log line of|like .* parts", name)}
     lists = {name: row for name, row in texts.items() if name not in usual and name != "a copy of 35 bytes"}
     counts = [row[way] for row in usual.values() for way in ("Known", "Behind")]
-    peers = [it for rows in (usual, table(["ISO 8601", "Behind"])) for way in ("0.3.55", "`strftime`", "{fmt}")
-             for it in ratios(rows, "Behind", way).values()]
+    dearer = [row["Behind"] - row[way] for rows in (usual, iso) for row in rows.values()
+              for way in ("0.3.55", "`strftime`", "{fmt}") if "Behind" in row and way in row]
     of_crate, of_fmt = ratios(lists, "Behind", "0.3.55").values(), ratios(lists, "Behind", "{fmt}")
     of_list = [row["Behind"] / lists[name]["Behind"] for name, row in plans.items() if name in lists]
     utc = calls["rfc3339_utc"]
@@ -72,7 +72,7 @@ def said_of_tables():
     numbers = dict(enumerate(["No", "One", "Two", "Three", "Four", "Five", "Six", "Seven", "Eight", "Nine"]))
     return [
         (f"takes {min(counts)} to {max(counts)} instructions in the first table", True),
-        ("take at most what `time` 0.3.55 takes", max(peers) <= 1),
+        ("take at most one instruction more than `time` 0.3.55 takes", max(dearer) == 1),
         ("a third to three quarters of what", .32 < min(of_crate) and max(of_crate) < .76),
         ("about as much as {fmt} or less", max(of_fmt.values()) < 1.07),
         ("takes a quarter to a half of what the list takes", .24 < min(of_list) and max(of_list) < .51),
