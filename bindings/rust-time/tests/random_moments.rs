@@ -1,11 +1,11 @@
-//! 10,000 random moments in a time zone with half an hour and summer time, logged by `tracing` in local time. The clock
+//! Random moments in a time zone with half an hour and summer time, logged by `tracing` in local time. The clock
 //! of this program is set by the test.
+mod lines;
+
 use chrono::{Local, Offset, TimeZone};
 use movaliren::{Iso8601By, TimePrecision, UtcMoment};
 use movaliren_time::{LocalTimer, LogTimer};
-use std::io;
 use std::sync::atomic::{AtomicI64, Ordering};
-use std::sync::{Arc, Mutex};
 use tracing_subscriber::fmt::time::FormatTime;
 
 static SECONDS: AtomicI64 = AtomicI64::new(0);
@@ -25,35 +25,16 @@ pub unsafe extern "C" fn clock_gettime(_clock: i32, time: *mut [i64; 2]) -> i32 
     0
 }
 
-#[derive(Clone, Default)]
-struct Lines(Arc<Mutex<Vec<u8>>>);
-
-impl io::Write for Lines {
-    fn write(&mut self, bytes: &[u8]) -> io::Result<usize> {
-        self.0.lock().unwrap().extend_from_slice(bytes);
-        Ok(bytes.len())
-    }
-
-    fn flush(&mut self) -> io::Result<()> {
-        Ok(())
-    }
-}
-
 fn offset(moment: UtcMoment) -> i64 {
     let local = Local.timestamp_opt(moment.seconds, 0).single();
     local.map_or(0, |local| local.offset().fix().local_minus_utc().into())
 }
 
-/// What is logged at each moment of the years 1970 to 2099, and what `chrono` writes of it.
+/// What is logged at 10,000 random moments of the years 1970 to 2099, and what `chrono` writes of them.
 fn logged_and_wanted(timer: impl FormatTime + Send + Sync + 'static) -> (String, String) {
     std::env::set_var("TZ", "America/St_Johns");
-    let (lines, mut wanted, mut random) = (Lines::default(), String::new(), 20_261_127_u64);
-    let writer = lines.clone();
-    let subscriber = tracing_subscriber::fmt()
-        .with_timer(timer)
-        .with_writer(move || writer.clone())
-        .finish();
-    tracing::subscriber::with_default(subscriber, || {
+    let (mut wanted, mut random) = (String::new(), 20_261_127_u64);
+    let logged = lines::logged_by(timer, || {
         for _ in 0..10_000 {
             random = random
                 .wrapping_mul(6_364_136_223_846_793_005)
@@ -68,8 +49,7 @@ fn logged_and_wanted(timer: impl FormatTime + Send + Sync + 'static) -> (String,
             wanted += "  INFO random_moments: opened\n";
         }
     });
-    let bytes = lines.0.lock().unwrap().clone();
-    (String::from_utf8(bytes).unwrap(), wanted)
+    (logged, wanted)
 }
 
 #[test]

@@ -1,24 +1,11 @@
 //! The lines that `tracing-subscriber` writes with a timer.
+mod lines;
+
 use chrono::{DateTime, Duration, Utc};
 use movaliren::{description, Description, Format, Kind, Rfc3339, Rfc3339Local, Text, UtcMoment};
 use movaliren_time::{LocalTimer, LogTimer, Timer};
-use std::io;
-use std::sync::{Arc, Mutex};
+use std::sync::Arc;
 use tracing_subscriber::fmt::time::FormatTime;
-
-#[derive(Clone, Default)]
-struct Lines(Arc<Mutex<Vec<u8>>>);
-
-impl io::Write for Lines {
-    fn write(&mut self, bytes: &[u8]) -> io::Result<usize> {
-        self.0.lock().unwrap().extend_from_slice(bytes);
-        Ok(bytes.len())
-    }
-
-    fn flush(&mut self) -> io::Result<()> {
-        Ok(())
-    }
-}
 
 /// What an event is written as, by this format of its time.
 fn logged(format: impl Format<UtcMoment> + Send + Sync + 'static) -> String {
@@ -26,15 +13,7 @@ fn logged(format: impl Format<UtcMoment> + Send + Sync + 'static) -> String {
 }
 
 fn logged_by(timer: impl FormatTime + Send + Sync + 'static) -> String {
-    let lines = Lines::default();
-    let writer = lines.clone();
-    let subscriber = tracing_subscriber::fmt()
-        .with_timer(timer)
-        .with_writer(move || writer.clone())
-        .finish();
-    tracing::subscriber::with_default(subscriber, || tracing::info!("opened"));
-    let bytes = lines.0.lock().unwrap().clone();
-    String::from_utf8(bytes).unwrap()
+    lines::logged_by(timer, || tracing::info!("opened"))
 }
 
 #[test]
