@@ -1,5 +1,5 @@
 //! Whole texts read at once: the value, or nothing, and no place of a fault.
-ghost use Rattle.std.specs.Prelude.{◌≡◌, ℕ, List, ◌∷◌, ◌++◌, ◌+◌, ◌*◌, ◌<◌, ◌≤◌, ◌^◌, codes, pos, IfSome};
+ghost use Rattle.std.specs.Prelude.{◌≡◌, ℕ, List, ◌∷◌, ◌++◌, ◌+◌, ◌*◌, ◌<◌, ◌≤◌, ◌^◌, codes, pos, IfNone, IfSome};
 ghost use Rattle.std.specs.Int.{IsInRange};
 ghost use Rattle.time_below.specs.Calendar.{IsDayOfMonth, date_of};
 ghost use Rattle.time_below.specs.TimeOfDay.{IsTimeOfDay};
@@ -144,6 +144,8 @@ fn time_of(hour: u8, minute: u8, second: u8, nanosecond: u32) -> Option<Time>
     ensures value { IfSome result (λ t. t
         ≡ record { hour = hour; minute = minute; second = second; nanosecond = nanosecond }) }
     ensures fits { IfSome result (λ _. IsTimeOfDay
+        (record { hour = hour; minute = minute; second = second; nanosecond = nanosecond })) }
+    ensures none { IfNone result (¬ IsTimeOfDay
         (record { hour = hour; minute = minute; second = second; nanosecond = nanosecond })) }
 {
     if hour > 23 || minute > 59 || second > 59 {
