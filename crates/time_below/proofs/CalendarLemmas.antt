@@ -43,6 +43,13 @@ weekday_from_start (negsuc a) n e =
     let h : n + suc a ≡ days_before = omega (arith, ints) in
     omega arith
 
+-- the same where each year counts as one day, since 365 days are 52 weeks and a day
+pub weekday_by_years : (d : OrdinalDate) (n : ℕ) → d.year +ℤ pos greatest_year ≡ pos n
+    → 1 ≤ d.ordinal → weekday_of d ≡ (n + n / 4 - n / 100 + n / 400 + d.ordinal - 1) % 7
+weekday_by_years d n e one =
+    let there = day_number_from_start d n e one in
+    weekday_from_start (day_number d) (days_of_years n + d.ordinal - 1) (sym there) ∙ omega (arith, one)
+
 -- whole cycles of 400 years and the days after them, counted from 10,000 cycles earlier
 cycle-parts : (q : ℤ) (n : ℕ) → q +ℤ pos 1_460_970_000 ≡ pos n
     → (int_div_euclid q (pos 146_097) +ℤ pos 10_000 ≡ pos (n / 146_097))

@@ -1,5 +1,5 @@
 -- The month of a day of the year by one product, by computing each day.
-use Rattle.std.proofs.Common.{◌≡◌, ℕ, ◌+◌, ◌-◌, ◌*◌, ◌/◌, ◌<◌, ◌≤◌, Bool, true, false, if◌then◌else◌, refl, arith}
+use Rattle.std.proofs.Common.{◌≡◌, ℕ, ◌+◌, ◌-◌, ◌*◌, ◌/◌, ◌%◌, ◌<◌, ◌≤◌, Bool, true, false, if◌then◌else◌, refl, arith}
 use Rattle.time_below.specs.Calendar.{days_of_months, last_begun}
 use Rattle.time_below.proofs.MonthLemmas.{same_below, day_in_month, month_length}
 
@@ -63,3 +63,9 @@ late_passed is_leap month first last =
     rw (e, f) at (late_days is_leap (month - 1) (omega arith))
 
 pub ruleset month_facts = (late_begun, early_month, late_passed, early_days, day_in_month, month_length)
+
+-- the first three bits of the product are the rest by seven
+pub rest_facts : (n : ℕ) → n < 100_000_000 → n * 613_566_757 % 4_294_967_296 / 536_870_912 ≡ n % 7
+rest_facts n h =
+    let split : n ≡ 7 * (n / 7) + n % 7 = omega arith in
+    omega arith

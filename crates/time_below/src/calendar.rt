@@ -1,5 +1,5 @@
 //! The lengths of years and months.
-ghost use Rattle.std.specs.Prelude.{◌≡◌, ◌+◌, ◌-◌, ◌*◌, ◌/◌, ◌≤◌, if◌then◌else◌};
+ghost use Rattle.std.specs.Prelude.{◌≡◌, ◌+◌, ◌-◌, ◌*◌, ◌/◌, ◌%◌, ◌<◌, ◌≤◌, if◌then◌else◌};
 ghost use Rattle.std.specs.Int.{IsInRange};
 ghost use Rattle.time_below.specs.Calendar.{is_leap_year, days_in_year, days_in_month, days_of_months, last_begun};
 
@@ -77,4 +77,25 @@ pub fn month_and_day(is_leap: bool, ordinal: u16) -> (u8, u8)
     }
     let (month, day) = month_and_day_on(ordinal - february_end);
     (month + 2, day)
+}
+
+// The rest by seven, which the first three bits of a product are: the factor is a seventh of 2^32, rounded up.
+#[inline]
+#[tactic(auto, using(crate::proofs::ProductLemmas::rest_facts))]
+pub fn rest_by_seven(number: u32) -> u8
+    requires { number < 100_000_000 }
+    ensures value { result ≡ number % 7 }
+    ensures range { result < 7 }
+{
+    (number.wrapping_mul(613_566_757) >> 29) as u8
+}
+
+// The whole weeks in fewer than so many days, by a product.
+#[inline]
+pub fn weeks_in(days: u32) -> u8
+    requires { days < 378 }
+    ensures value { result ≡ days / 7 }
+    ensures range { result ≤ 53 }
+{
+    (days * 9363 / 65_536) as u8
 }

@@ -1,5 +1,5 @@
 //! The dates of the calendar.
-ghost use Rattle.std.specs.Prelude.{◌≡◌, ◌↔◌, ◌+◌, ◌<◌, ◌≤◌, ◌^◌, nat_le, IsTrue, IsOk, IfOk, IfErr, codes, if◌then◌else◌, pos, ◌+ℤ◌, ◌-ℤ◌, ◌*ℤ◌, unsigned_abs};
+ghost use Rattle.std.specs.Prelude.{◌≡◌, ◌↔◌, ◌+◌, ◌<◌, ◌≤◌, ◌%◌, ◌^◌, nat_le, IsTrue, IsOk, IfOk, IfErr, codes, if◌then◌else◌, pos, ◌+ℤ◌, ◌-ℤ◌, ◌*ℤ◌, unsigned_abs};
 ghost use Rattle.std.specs.Int.{IsInRange};
 ghost use Rattle.time_below.specs.Calendar.{greatest_year, IsYear, IsDate, IsDayOfMonth, month_of, day_of, date_of, day_number, date_at, weekday_of, thursday_of, iso_year_of, iso_week_of, monday_based_week_of, sunday_based_week_of};
 ghost use Rattle.time_below.specs.ComponentRange.{range_refusal, conditional_range, unconditional_range};
@@ -177,12 +177,21 @@ impl Date {
         (self.year, Month::from_number(month), day)
     }
 
+    // A number whose rest by seven is the weekday: a year of 365 days is 52 weeks and a day.
+    #[tactic(auto, using(crate::proofs::CalendarLemmas::weekday_by_years))]
+    fn place_in_weeks(self) -> u32
+        ensures value { result % 7 ≡ weekday_of self }
+        ensures range { result < 3_000_000 }
+    {
+        let years = (self.year + GREATEST_YEAR) as u32;
+        years + years / 4 - years / 100 + years / 400 + self.ordinal as u32 - 1
+    }
+
     /// The weekday.
-    #[tactic(auto, using(crate::proofs::CalendarLemmas::weekday_from_start))]
     pub fn weekday(self) -> Weekday
         ensures { days_from_monday result ≡ weekday_of self }
     {
-        Weekday::from_monday((self.days_from_start() % 7) as u8)
+        Weekday::from_monday(calendar::rest_by_seven(self.place_in_weeks()))
     }
 
     // The Thursday of the date's week, which is counted from Monday.
@@ -212,7 +221,8 @@ impl Date {
         ensures value { result ≡ monday_based_week_of self }
         ensures range { result ≤ 53 }
     {
-        ((self.ordinal + 6 - self.weekday().number_days_from_monday() as u16) / 7) as u8
+        let from_monday = calendar::rest_by_seven(self.place_in_weeks());
+        calendar::weeks_in(self.ordinal as u32 + 6 - from_monday as u32)
     }
 
     /// The week of the year, 0 to 53, where week 1 begins on the first Sunday.
@@ -220,6 +230,7 @@ impl Date {
         ensures value { result ≡ sunday_based_week_of self }
         ensures range { result ≤ 53 }
     {
-        ((self.ordinal + 6 - self.weekday().number_days_from_sunday() as u16) / 7) as u8
+        let from_sunday = calendar::rest_by_seven(self.place_in_weeks() + 1);
+        calendar::weeks_in(self.ordinal as u32 + 6 - from_sunday as u32)
     }
 }

@@ -35,7 +35,8 @@ impl Weekday {
             3 => Weekday::Thursday,
             4 => Weekday::Friday,
             5 => Weekday::Saturday,
-            _ => Weekday::Sunday,
+            6 => Weekday::Sunday,
+            _ => unreachable!(),
         }
     }
 
