@@ -6,17 +6,16 @@ ghost use Rattle.time_below.specs.Calendar.{is_leap_year, days_in_year, days_in_
 // The days before each month of a common year.
 const CUMULATIVE_DAYS: [u16; 12] = [0, 31, 59, 90, 120, 151, 181, 212, 243, 273, 304, 334];
 
-/// Whether 4 divides the year, and 100 does not or 400 does. A year that 25 divides is one of 100 where 4
-/// divides it, and one of 400 where 16 does.
+/// Whether 4 divides the year, and 100 does not or 400 does. Three years of four are told by the first test.
+/// A year of the others is one of 100 where 25 divides it, and one of 400 where 16 does too.
 #[inline]
 pub fn is_leap_year(year: i32) -> bool
     ensures { result ≡ is_leap_year year }
 {
-    if year % 25 == 0 {
-        year % 16 == 0
-    } else {
-        year % 4 == 0
+    if year % 4 != 0 {
+        return false;
     }
+    year % 25 != 0 || year % 16 == 0
 }
 
 pub fn days_in_year(year: i32) -> u16

@@ -53,7 +53,10 @@ impl Weekday {
         ensures value { result ≡ days_from_sunday self }
         ensures range { result < 7 }
     {
-        (self as u8 + 1) % 7
+        match self {
+            Weekday::Sunday => 0,
+            other => other as u8 + 1,
+        }
     }
 
     /// The place in the week, 1 for Monday to 7 for Sunday.

@@ -2,7 +2,7 @@
 ghost use Rattle.time_below.specs.Size.{borrowed_size};
 ghost use Rattle.time_below.specs.Tree.{borrowed_tree};
 
-use crate::format_description::{Component, Layer, Node};
+use crate::format_description::{Component, Layer, Node, component_bound};
 
 /// A description whose parts are borrowed.
 ///
@@ -38,6 +38,15 @@ impl Node for BorrowedFormatItem<'_> {
             BorrowedFormatItem::Compound(items) => Layer::All(items),
             BorrowedFormatItem::Optional(item) => Layer::Optional(item),
             BorrowedFormatItem::First(items) => Layer::First(items),
+        }
+    }
+
+    #[inline(always)]
+    fn quick_bound(&self) -> Option<usize> {
+        match self {
+            BorrowedFormatItem::Component(component) => Some(component_bound(component)),
+            BorrowedFormatItem::StringLiteral(text) => Some(text.len()),
+            _ => None,
         }
     }
 }

@@ -1,7 +1,8 @@
 //! One layer of a description of any type.
-ghost use Rattle.std.specs.Prelude.{ℕ, ◌≡◌, ◌<◌, ⊤};
+ghost use Rattle.std.specs.Prelude.{ℕ, ◌≡◌, ◌<◌, ◌≤◌, ⊤, IfSome};
 ghost use Rattle.time_below.specs.Size.{size_below};
 ghost use Rattle.time_below.specs.Tree.{Tree, layer_tree};
+ghost use Rattle.time_below.specs.Width.{tree_width};
 
 use crate::format_description::Component;
 use std::alloc::AllocError;
@@ -48,4 +49,12 @@ pub trait Node: Sized {
     fn layer(&self) -> Layer<'_, Self>
         ensures tree { layer_tree tree result ≡ tree self.now }
         ensures smaller { size_below size result < size self.now };
+
+    /// A bound of the bytes of a text or a component, where it is quick to tell. It is asked of each item
+    /// before a list is written.
+    fn quick_bound(&self) -> Option<usize>
+        ensures { IfSome result (λ bound. tree_width (tree self.now) ≤ bound) }
+    {
+        None
+    }
 }

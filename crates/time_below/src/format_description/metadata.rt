@@ -4,7 +4,7 @@ ghost use Rattle.time_below.specs.Metadata.{tree_metadata, trees_metadata};
 ghost use Rattle.time_below.specs.Tree.{trees};
 ghost use Rattle.time_below.specs.Width.{tree_width, trees_width, is_guaranteed_text};
 
-use crate::format_description::{Layer, Node, component_bound, component_width};
+use crate::format_description::{Layer, Node, component_width};
 use std::default::Default;
 use std::iter::Sum;
 use std::ops::Add;
@@ -132,29 +132,17 @@ pub fn metadata_of_node<T: Node>(node: &T) -> Metadata
 }
 
 /// Whether so many bytes are plainly enough for the text of the items, by bounds that are quick to tell.
-/// Of items other than texts and components nothing is told.
+/// Of items that tell no bound nothing is told.
 #[inline]
 pub fn nodes_fit<T: Node>(nodes: &[T], room: usize) -> bool
     ensures { IsTrue result → trees_width (trees (map T.tree nodes.now)) ≤ room }
 {
     let mut left = room;
     for node in nodes {
-        match bound_of_text(node) {
+        match node.quick_bound() {
             Some(bound) if bound <= left => left -= bound,
             _ => return false,
         }
     }
     true
-}
-
-// A bound of the bytes of a text or a component, and nothing of any other description.
-#[inline(always)]
-fn bound_of_text<T: Node>(node: &T) -> Option<usize>
-    ensures bound { IfSome result (λ bound. tree_width (T.tree node.now) ≤ bound) }
-{
-    match node.layer() {
-        Layer::Component(component) => Some(component_bound(&component)),
-        Layer::Text(literal) => Some(literal.len()),
-        _ => None,
-    }
 }

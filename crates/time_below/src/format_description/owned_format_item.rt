@@ -2,7 +2,7 @@
 ghost use Rattle.time_below.specs.Size.{owned_size};
 ghost use Rattle.time_below.specs.Tree.{owned_tree};
 
-use crate::format_description::{Component, Layer, Node};
+use crate::format_description::{Component, Layer, Node, component_bound};
 
 /// A description that owns its parts.
 ///
@@ -38,6 +38,15 @@ impl Node for OwnedFormatItem {
             OwnedFormatItem::Compound(items) => Layer::All(items),
             OwnedFormatItem::Optional(item) => Layer::Optional(item),
             OwnedFormatItem::First(items) => Layer::First(items),
+        }
+    }
+
+    #[inline(always)]
+    fn quick_bound(&self) -> Option<usize> {
+        match self {
+            OwnedFormatItem::Component(component) => Some(component_bound(component)),
+            OwnedFormatItem::StringLiteral(text) => Some(text.len()),
+            _ => None,
         }
     }
 }
