@@ -9,7 +9,7 @@ use Rattle.time_fmt.specs.declared.refused.Refused.{Refused}
 use Rattle.time_fmt.specs.declared.refused.Refused.TheVariants as reason
 use Rattle.time_fmt.specs.Ends.{Ends, refusal_of}
 use Rattle.time_fmt.specs.Kind.{in_standard_range}
-use Rattle.time_fmt.specs.Outcome.{Outcome, Refusal, Names, Appends, AppendsUpTo, done, refused}
+use Rattle.time_fmt.specs.Outcome.{Outcome, Refusal, Names, Appends, done, refused}
 use Rattle.time_fmt.specs.Sink.{Buffer, Puts, vec_buffer}
 
 -- what ends within a width ends within a greater one
@@ -24,19 +24,7 @@ ends_within ends fits = record {
   within = omega (arith, ends.within, fits);
 }
 
--- what is appended without a refusal ends complete
-pub ends_complete : {width count : ℕ} {o : Outcome} {old new : Vec ℕ Global} → AppendsUpTo width old new (Ok count) o
-    → Ends width (vec_buffer old) (vec_buffer new) (Ok tt) o
-ends_complete up_to = record {
-  appended = up_to.appends.appended;
-  refusal = sym up_to.appends.counted.0;
-  grown = up_to.appends.grown;
-  capacity = up_to.appends.capacity;
-  lender = refl;
-  within = up_to.within;
-}
-
--- so does a text that was written
+-- a text that was written ends complete
 pub whole_text : {width n : ℕ} {text : List ℕ} {old new : Buffer} → Puts old new n text → length text ≤ width
     → Ends width old new (Ok tt) (done text)
 whole_text w h = record {

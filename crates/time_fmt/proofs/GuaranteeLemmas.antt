@@ -1,8 +1,6 @@
 -- Texts of components are ASCII, and texts one after another are UTF-8 where each of them is.
-use Rattle.std.proofs.Common.{◌≡◌, ℕ, ◌+◌, ◌-◌, ◌<◌, ◌≤◌, Bool, true, false, ◌&&◌, nat_lt, List, [], ◌∷◌, length}
+use Rattle.std.proofs.Common.{◌≡◌, ℕ, ◌+◌, ◌-◌, ◌<◌, Bool, true, false, ◌&&◌, nat_lt, List, [], ◌∷◌}
 use Rattle.std.proofs.Common.{IsAscii, IsUtf8, IsTrue, MatchOption, Option, Some, None, if◌then◌else◌, refl, arith, Result}
-use Rattle.std.proofs.Common.{Vec, vec_len}
-use Rattle.std.specs.Global.{Global}
 use Rattle.std.specs.Prelude.{codes, nat_le}
 use Rattle.std.specs.List.{list_all}
 use Rattle.std.proofs.lemmas.Bool.{and_parts, ltb-true}
@@ -34,13 +32,11 @@ use Rattle.time_fmt.specs.Ends.{Ends}
 use Rattle.time_fmt.specs.Guarantee.{IsTextIf, AppendsLeaf}
 use Rattle.time_fmt.specs.Kind as kind
 use Rattle.time_fmt.specs.Kind.{Kind, kind_text, kind_outcome}
-use Rattle.time_fmt.specs.Outcome.{Outcome, Adds, done, refused, join, insufficient, out_of_range}
+use Rattle.time_fmt.specs.Outcome.{Outcome, done, refused, join, insufficient, out_of_range}
 use Rattle.time_fmt.specs.Sink.{Buffer}
 use Rattle.time_fmt.specs.Text.{padded_text, sign_text, period_text, subsecond_text}
-use Rattle.time_fmt.specs.declared.error.Format.{Format}
 use Rattle.time_fmt.specs.declared.refused.Refused.{Refused}
 use Rattle.time_fmt.proofs.TextLemmas.{passes_at}
-use Rattle.time_fmt.proofs.WriteLemmas.{added_alone}
 
 -- ---- texts
 
@@ -155,14 +151,3 @@ text_stops t ts f first stops h = rw stops (first (and_parts (is_guaranteed_text
 -- one outcome after another is a text where both are
 pub text_both : (p q : Bool) (a b : Outcome) → IsTextIf p a → IsTextIf q b → IsTextIf (p && q) (join a b)
 text_both p q a b first second h = let both = and_parts p q h in joined_utf8 a b (first both.0) (second both.1)
-
--- no bytes are a text
-no_bytes : (bytes : List ℕ) → length bytes ≤ 0 → IsUtf8 bytes
-no_bytes [] h = empty_utf8
-no_bytes (b ∷ bs) h = let never : ⊥ = omega (arith, h) in absurd never
-
--- an output from nothing within no width is a text
-pub text_of_nothing : {answer : Result ℕ Format} {o : Outcome} {width : ℕ} (old new : Vec ℕ Global) → width ≡ 0
-    → old.items ≡ [] → Adds old new answer o → vec_len new ≤ vec_len old + width → IsUtf8 new.items
-text_of_nothing {o = o} old new none empty adds within =
-    rw (added_alone old new empty adds) (no_bytes o.bytes (omega (arith, none, adds.grown, within)))

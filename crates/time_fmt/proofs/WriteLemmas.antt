@@ -1,6 +1,6 @@
 -- Texts that were written one after another are one text, and one text is what an outcome appends; so are
 -- outcomes.
-use Rattle.std.proofs.Common.{◌≡◌, ℕ, ◌+◌, ◌-◌, ◌++◌, List, [], length, length-append, append_assoc}
+use Rattle.std.proofs.Common.{◌≡◌, ℕ, ◌+◌, ◌-◌, ◌++◌, List, length, length-append, append_assoc}
 use Rattle.std.proofs.Common.{refl, sym, ap, ◌∙◌, arith, Option, Some, None, IsSomeAnd, Result, Ok, Err, Vec, vec_len}
 use Rattle.std.proofs.lemmas.List.{append-nil}
 use Rattle.std.specs.Global.{Global}
@@ -13,11 +13,6 @@ pub appends_up_to : {width : ℕ} {old new : Vec ℕ Global} {n : ℕ} {text : L
     → Appends old new (Ok n) (done text)
 appends_up_to w =
     record { appended = w.appended; counted = (refl, w.counted); named = tt; grown = w.grown; capacity = w.capacity }
-
--- what is added to nothing is all there is
-pub added_alone : {answer : Result ℕ Format} {o : Outcome} (old new : Vec ℕ Global) → old.items ≡ []
-    → Adds old new answer o → new.items ≡ o.bytes
-added_alone {o = o} old new empty adds = adds.appended ∙ ap (λ (items : List ℕ). items ++ o.bytes) empty
 
 -- an outcome is added if it is appended after a reservation
 pub adds_after_room : {answer : Result ℕ Format} {o : Outcome} (old mid new : Vec ℕ Global) → mid.items ≡ old.items

@@ -21,11 +21,3 @@ pub record WritesUpTo (width : ℕ) (old new : Vec ℕ Global) (count : ℕ) (te
   pub grown : vec_len new ≡ vec_len old + length text
   pub capacity : vec_capacity new ≡ vec_capacity old
   pub within : length text ≤ width
-
--- a text of exactly this many bytes was appended
-pub record WritesJust (width : ℕ) (old new : Vec ℕ Global) (count : ℕ) (text : List ℕ) : Type 0 where
-  pub appended : new.items ≡ old.items ++ text
-  pub counted : count ≡ width
-  pub grown : vec_len new ≡ vec_len old + width
-  pub capacity : vec_capacity new ≡ vec_capacity old
-  pub long : length text ≡ width

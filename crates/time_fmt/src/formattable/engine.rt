@@ -109,7 +109,7 @@ fn write_seldom<T: Node, S: Sink, V: ComponentProvider>(
 #[cycle(engine)]
 #[cold]
 #[inline(never)]
-pub(super) fn write_node<T: Node, S: Sink, V: ComponentProvider>(
+fn write_node<T: Node, S: Sink, V: ComponentProvider>(
     node: &T,
     output: &mut S,
     value: &V,
@@ -137,5 +137,24 @@ pub(super) fn write_node<T: Node, S: Sink, V: ComponentProvider>(
         },
         Layer::Optional(node) => write_node(node, output, value, state),
         Layer::Nothing => Ok(()),
+    }
+}
+
+/// Appends the text of the node as `write_node` does, of a list by the loop at once.
+#[inline(always)]
+pub(super) fn write_tree<T: Node, S: Sink, V: ComponentProvider>(
+    node: &T,
+    output: &mut S,
+    value: &V,
+    state: &mut V::State,
+) -> Result<(), Refused>
+    requires room { Fits (S.buffer output.old) (tree_width (T.tree node.now)) }
+    requires agrees { V.agrees state.old value.now }
+    ensures appends { AppendsTree (T.tree node.now) (V.facts value.now) (S.buffer output.old) (S.buffer output.new) result }
+    ensures agrees { V.agrees state.new value.now }
+{
+    match node.layer() {
+        Layer::All(nodes) => write_nodes(nodes, output, value, state),
+        _ => write_node(node, output, value, state),
     }
 }
