@@ -1,4 +1,0 @@
-use Rattle.time_fmt.proofs.formattable.lists.OwnedItemsFormattable.format_into.Goals as goal
-
-pub returns : goal.returns
-returns g c = c.format_into.ensures
