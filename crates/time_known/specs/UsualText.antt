@@ -1,8 +1,7 @@
 -- The text of ISO 8601 by the usual configurations, of a value of which nothing is refused.
-use Rattle.std.specs.Prelude.{ℕ, ◌≡◌, ◌++◌, Bool, false, List, codes, Option, Some, None, IfSome}
+use Rattle.std.specs.Prelude.{ℕ, ◌++◌, Bool, false, List, codes, Option}
 use Rattle.time_digits.specs.Digits.{zero_padded}
-use Rattle.time_known.specs.Config.{Choices, separator, DateKind, DecimalSign, FormattedComponents, OffsetPrecision}
-use Rattle.time_known.specs.Config.{TimePrecision}
+use Rattle.time_known.specs.Config.{Choices, separator, DecimalSign}
 use Rattle.time_known.specs.Fields.{Shown, date_of_fields, offset_of_fields}
 use Rattle.time_known.specs.Iso8601.{decimal_part, rest_text}
 use Rattle.time_known.specs.Values.{TimeOfDay}
@@ -11,7 +10,6 @@ use Rattle.time_known.specs.declared.iso8601.config.DateKind.TheVariants as kind
 use Rattle.time_known.specs.declared.iso8601.config.FormattedComponents.TheVariants as components
 use Rattle.time_known.specs.declared.iso8601.config.OffsetPrecision.TheVariants as offset_precision
 use Rattle.time_known.specs.declared.iso8601.config.TimePrecision.TheVariants as precision
-use Rattle.time_known.specs.declared.iso8601.config.Usual.{Usual}
 use Rattle.time_known.specs.declared.iso8601.parts.RestOfDate.TheVariants as rest
 use Rattle.time_known.specs.declared.fields.OffsetFields.{OffsetFields}
 
@@ -32,22 +30,6 @@ usual_choices has_separators decimal_digits decimal_sign = record {
 abbrev pub week_choices : Bool → Option ℕ → DecimalSign → Choices
 week_choices has_separators decimal_digits decimal_sign =
     record (usual_choices has_separators decimal_digits decimal_sign) { date_kind = kind.Week }
-
--- what is left to choose, where the rest is chosen so
-abbrev pub left_of : FormattedComponents → DateKind → TimePrecision → OffsetPrecision → Bool → Bool → DecimalSign
-    → Option Usual
-left_of components.DateTimeOffset kind.Calendar (precision.Second digits) offset_precision.Minute false separators sign =
-    Some (record { has_separators = separators; decimal_digits = digits; decimal_sign = sign })
-left_of _ _ _ _ _ _ _ = None
-
-abbrev pub usual_of : Choices → Option Usual
-usual_of c =
-    left_of c.formatted_components c.date_kind c.time_precision c.offset_precision c.year_is_six_digits c.use_separators
-    c.decimal_sign
-
--- what is left to choose, if anything is, decides all choices
-abbrev pub IsUsual : Choices → Option Usual → Type 0
-IsUsual c usual = IfSome usual (λ u. c ≡ usual_choices u.has_separators u.decimal_digits u.decimal_sign)
 
 -- the time of such a text
 abbrev pub usual_time_text : List ℕ → DecimalSign → Option ℕ → TimeOfDay → List ℕ

@@ -3,7 +3,7 @@ ghost use Rattle.std.specs.Prelude.{◌≡◌, ℕ, List, IfOk, IfErr, unsigned_
 ghost use Rattle.time_fmt.specs.Outcome.{done};
 ghost use Rattle.time_known.specs.Accepted.{checked_text, component_name, refused_for};
 
-use time_digits::ru16;
+use time_digits::{ru8, ru16};
 
 /// A component of a value that a format refuses.
 #[derive(Debug, Clone, Copy)]
@@ -33,13 +33,14 @@ impl OutOfRange {
 }
 
 /// The year as a number of four digits, if it is from the first to 9,999, and the offset has at most
-/// this many hours and no seconds. Else the first of them that is refused.
+/// this many hours and no seconds. Else the first of them that is refused. No offset has more than 25
+/// hours, so that where these are the most they are not tested.
 #[inline(always)]
 pub fn accepted_year(
     first: u16,
     greatest_hour: u8,
     year: i32,
-    offset_hour: u8,
+    offset_hour: ru8<0, 25>,
     offset_second: u8,
 ) -> Result<ru16<0, 9_999>, OutOfRange>
     ensures accepted { IfOk result (λ _. (text : List ℕ)
@@ -52,7 +53,7 @@ pub fn accepted_year(
     if year < first as i32 || year > 9_999 {
         return Err(OutOfRange::Year);
     }
-    if offset_hour > greatest_hour {
+    if greatest_hour < 25 && offset_hour.get() > greatest_hour {
         return Err(OutOfRange::OffsetHour);
     }
     if offset_second != 0 {

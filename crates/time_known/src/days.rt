@@ -7,6 +7,7 @@ ghost use Rattle.time_fmt.specs.DateText.{month_name, short_name};
 ghost use Rattle.time_known.specs.Days.{dash, day_of_leap_year, month_and_day, month_and_day_in};
 
 use crate::pieces::piece;
+use time_below::is_leap_year;
 use time_digits::{ru8, ru16, two_digits_zero_padded};
 use time_provide::ranges::{Day, Ordinal, Year};
 
@@ -162,18 +163,6 @@ pub(crate) fn ordinal_digits(day: Ordinal, has_dash: bool) -> (&'static str, &'s
         (piece(ORDINALS, row, 2), piece(ORDINALS, row + 2, 2))
     } else {
         (piece(ORDINALS, row + 1, 1), piece(ORDINALS, row + 2, 2))
-    }
-}
-
-// Whether a year is a leap year.
-#[inline(always)]
-fn is_leap_year(year: i32) -> bool
-    ensures { result ≡ is_leap_year year }
-{
-    if year % 25 == 0 {
-        year % 16 == 0
-    } else {
-        year % 4 == 0
     }
 }
 

@@ -72,7 +72,7 @@ pub fn accepted_fields<V: ComponentProvider>(
         first,
         greatest_hour,
         year,
-        offset.hours.get(),
+        offset.hours,
         offset.seconds.get(),
     ) {
         Ok(year) => {
@@ -113,7 +113,7 @@ pub(crate) fn accepted_year_of_week<V: ComponentProvider>(
     ensures agrees { AgreesOnDate (V.agrees state.new value.now) (V.facts value.now) }
 {
     let year = value.iso_year(state).get();
-    accepted_year(0, 25, year, offset.hours.get(), offset.seconds.get())
+    accepted_year(0, 25, year, offset.hours, offset.seconds.get())
 }
 
 // The value's time of day.

@@ -1,8 +1,7 @@
 //! The choices of ISO 8601-1:2019 that a text is written by.
-ghost use Rattle.std.specs.Prelude.{◌≡◌, ◌↔◌, IfSome, IsTrue, true};
+ghost use Rattle.std.specs.Prelude.{◌≡◌, ◌↔◌, IsTrue};
 ghost use Rattle.time_known.specs.Config.{default_choices, separator, decimal_sign_text, has_time_letter, has_date, has_time, has_offset, groups_of};
-ghost use Rattle.time_known.specs.UsualText.{IsUsual, usual_choices, usual_of};
-ghost use Rattle.time_known.specs.Ways.{FitsWay, way_of};
+ghost use Rattle.time_known.specs.Ways.{FitsWay, usual_of, way_of};
 
 use crate::groups::Groups;
 use std::default::Default;
@@ -81,14 +80,21 @@ pub struct Usual {
     pub decimal_sign: DecimalSign,
 }
 
-/// The function by which a text is written, so far as a configuration decides it. Each of them but the last
-/// writes where nothing of the value is refused.
+/// The function by which a text is written, so far as a configuration decides it.
 #[derive(Clone, Copy)]
 pub(super) enum Way {
     /// All parts, with what is left to choose.
     Usual(Usual),
+    /// Any other text. Which one is asked only then, so that a usual text needs no jump through a table.
+    Unusual(Unusual),
+}
+
+/// The function by which an unusual text is written. Each of them but the last writes where nothing of the
+/// value is refused.
+#[derive(Clone, Copy)]
+pub(super) enum Unusual {
     /// All parts with the date by week and weekday, and with what else is left to choose.
-    UsualWeek(Usual),
+    Week(Usual),
     /// The date alone by month and day, after four digits of the year.
     CalendarDate,
     /// The date alone by week and weekday.
@@ -283,75 +289,47 @@ impl Config {
         !self.use_separators || self.has_date()
     }
 
-    /// What is left to choose, where the rest is chosen as by most callers.
-    #[inline(always)]
-    pub fn usual(&self) -> Option<Usual>
-        ensures left { result ≡ usual_of self.now }
-        ensures usual { IsUsual self.now result }
-    {
-        let parts = (self.formatted_components, self.date_kind);
-        match (parts, self.time_precision, self.offset_precision) {
-            (
-                (FormattedComponents::DateTimeOffset, DateKind::Calendar),
-                TimePrecision::Second { decimal_digits },
-                OffsetPrecision::Minute,
-            ) if !self.year_is_six_digits => Some(Usual {
-                has_separators: self.use_separators,
-                decimal_digits,
-                decimal_sign: self.decimal_sign,
-            }),
-            _ => None,
-        }
-    }
-
     // The function by which a text is written.
     #[inline(always)]
     pub(super) fn way(&self) -> Way
         ensures way { result ≡ way_of self.now }
         ensures fits { FitsWay self.now result }
     {
-        match self.formatted_components {
-            FormattedComponents::Date if !self.year_is_six_digits => match self.date_kind {
-                DateKind::Calendar => Way::CalendarDate,
-                DateKind::Week => Way::WeekDate,
-                DateKind::Ordinal if self.use_separators => Way::OrdinalDate,
-                DateKind::Ordinal => Way::CompactOrdinalDate,
-            },
-            FormattedComponents::Time => Way::Time,
-            FormattedComponents::DateTime if !self.year_is_six_digits => match self.date_kind {
-                DateKind::Calendar => Way::DateTime,
-                _ => Way::Other,
-            },
-            FormattedComponents::DateTimeOffset => {
-                match (
-                    self.date_kind,
-                    self.set_date_kind(DateKind::Calendar).usual(),
-                ) {
-                    (DateKind::Calendar, Some(usual)) => Way::Usual(usual),
-                    (DateKind::Week, Some(usual)) => Way::UsualWeek(usual),
-                    _ => Way::Other,
-                }
+        let parts = (self.formatted_components, self.date_kind);
+        let unusual = match (parts, self.time_precision, self.offset_precision) {
+            ((FormattedComponents::Time, _), _, _) => Unusual::Time,
+            _ if self.year_is_six_digits => Unusual::Other,
+            (
+                (FormattedComponents::DateTimeOffset, DateKind::Calendar),
+                TimePrecision::Second { decimal_digits },
+                OffsetPrecision::Minute,
+            ) => return Way::Usual(self.usual(decimal_digits)),
+            (
+                (FormattedComponents::DateTimeOffset, DateKind::Week),
+                TimePrecision::Second { decimal_digits },
+                OffsetPrecision::Minute,
+            ) => Unusual::Week(self.usual(decimal_digits)),
+            ((FormattedComponents::Date, DateKind::Calendar), _, _) => Unusual::CalendarDate,
+            ((FormattedComponents::Date, DateKind::Week), _, _) => Unusual::WeekDate,
+            ((FormattedComponents::Date, DateKind::Ordinal), _, _) if self.use_separators => {
+                Unusual::OrdinalDate
             }
-            _ => Way::Other,
-        }
+            ((FormattedComponents::Date, DateKind::Ordinal), _, _) => Unusual::CompactOrdinalDate,
+            ((FormattedComponents::DateTime, DateKind::Calendar), _, _) => Unusual::DateTime,
+            _ => Unusual::Other,
+        };
+        Way::Unusual(unusual)
     }
 
-    /// What is left to choose, where it is usual and has separators.
+    // What is left to choose with these decimals of the second.
     #[inline(always)]
-    pub fn separated(&self) -> Option<Usual>
-        ensures choices { IfSome result (λ u. self.now
-            ≡ usual_choices true u.decimal_digits u.decimal_sign) }
-        ensures separators { IfSome result (λ u. IsTrue u.has_separators) }
+    fn usual(&self, decimal_digits: Option<ru8<1, 255>>) -> Usual
+        ensures { result ≡ usual_of self.now decimal_digits }
     {
-        match self.usual() {
-            Some(usual) => {
-                if usual.has_separators {
-                    Some(usual)
-                } else {
-                    None
-                }
-            }
-            None => None,
+        Usual {
+            has_separators: self.use_separators,
+            decimal_digits,
+            decimal_sign: self.decimal_sign,
         }
     }
 

@@ -11,12 +11,12 @@ ghost use Rattle.time_known.specs.Iso8601Parts.{chosen_parts, date_parts, parts_
 ghost use Rattle.time_known.specs.Iso8601Width.{iso8601_width, iso_date_width, iso_time_width};
 ghost use Rattle.time_known.specs.Sink.{Fits};
 ghost use Rattle.time_known.specs.Accepted.{AppendsAllOrNone, AppendsOrRefuses, PutsOutcome};
-ghost use Rattle.time_known.specs.Ways.{FitsWay};
+ghost use Rattle.time_known.specs.Ways.{FitsUnusual, FitsWay};
 
 use crate::accepted::OutOfRange;
 use crate::days::CalendarDay;
 use crate::fields::{OffsetFields, offset_of, time_of};
-use crate::iso8601::config::{Config, DateKind, FormattedComponents, Way};
+use crate::iso8601::config::{Config, DateKind, FormattedComponents, Unusual, Way};
 use crate::iso8601::date::{put_date_part, write_date_by};
 use crate::iso8601::offset::put_offset_part;
 use crate::iso8601::time::{put_time_part, write_time};
@@ -246,27 +246,27 @@ fn write_by_way<V: ComponentProvider>(
         → AreReal (V.facts value.now))) }
     ensures agrees { V.agrees state.new value.now }
 {
-    if let Way::Usual(usual) = way {
-        return write_usual(config, usual, output, value, state);
-    }
-    match write_accepted(config, way, output, value, state) {
-        Some(count) => Some(Ok(count)),
-        None => None,
+    match way {
+        Way::Usual(usual) => write_usual(config, usual, output, value, state),
+        Way::Unusual(unusual) => match write_unusual(config, unusual, output, value, state) {
+            Some(count) => Some(Ok(count)),
+            None => None,
+        },
     }
 }
 
-// Appends by the function that the configuration decided, where it is not the usual one and nothing of the value is
-// refused; else it appends nothing.
+// Appends an unusual text by the function that the configuration decided, where nothing of the value is refused; else it
+// appends nothing.
 #[inline(always)]
 #[tactic(auto, using(crate::proofs::iso8601::GroupLemmas::by_choice))]
-fn write_accepted<V: ComponentProvider>(
+fn write_unusual<V: ComponentProvider>(
     config: &Config,
-    way: &Way,
+    unusual: &Unusual,
     output: &mut Vec<u8>,
     value: &V,
     state: &mut V::State,
 ) -> Option<usize>
-    requires way { FitsWay config.now way.now }
+    requires fits { FitsUnusual config.now unusual.now }
     requires supplied { IsTrue (are_supplied (groups_of config.now.formatted_components)
         V.SUPPLIES_DATE V.SUPPLIES_TIME V.SUPPLIES_OFFSET) }
     requires room { HasRoom output.old (iso8601_width config.now) }
@@ -279,26 +279,28 @@ fn write_accepted<V: ComponentProvider>(
         → AreReal (V.facts value.now)) }
     ensures agrees { V.agrees state.new value.now }
 {
-    match way {
-        Way::UsualWeek(usual) => write_usual_week(config, usual, output, value, state),
-        Way::CalendarDate => {
+    match unusual {
+        Unusual::Week(usual) => write_usual_week(config, usual, output, value, state),
+        Unusual::CalendarDate => {
             let has_dash = config.use_separators();
             write_date_by(config, DateKind::Calendar, has_dash, output, value, state)
         }
-        Way::WeekDate => {
+        Unusual::WeekDate => {
             let has_dash = config.use_separators();
             write_date_by(config, DateKind::Week, has_dash, output, value, state)
         }
-        Way::OrdinalDate => { write_date_by(config, DateKind::Ordinal, true, output, value, state) }
-        Way::CompactOrdinalDate => {
+        Unusual::OrdinalDate => {
+            write_date_by(config, DateKind::Ordinal, true, output, value, state)
+        }
+        Unusual::CompactOrdinalDate => {
             write_date_by(config, DateKind::Ordinal, false, output, value, state)
         }
-        Way::Time => {
+        Unusual::Time => {
             let has_letter = !config.use_separators();
             Some(write_time(config, has_letter, output, value, state))
         }
-        Way::DateTime => write_date_time(config, output, value, state),
-        Way::Usual(_) | Way::Other => None,
+        Unusual::DateTime => write_date_time(config, output, value, state),
+        Unusual::Other => None,
     }
 }
 

@@ -3,32 +3,25 @@ ghost use Rattle.std.specs.Prelude.{◌≡◌, ◌+◌, ◌≤◌};
 ghost use Rattle.time_known.specs.Iso8601Parts.{date_parts_width, parts_width};
 ghost use Rattle.time_known.specs.Iso8601Width.{iso8601_width, iso_date_width, iso_time_width, iso_offset_width, year_width, width_after_year, units_width, decimal_part_width};
 ghost use Rattle.time_known.specs.UsualText.{usual_choices};
+ghost use Rattle.time_known.specs.Ways.{FitsWay};
 
 use crate::iso8601::config::{
-    Config, DateKind, FormattedComponents, OffsetPrecision, TimePrecision, Usual,
+    Config, DateKind, FormattedComponents, OffsetPrecision, TimePrecision, Usual, Way,
 };
 use crate::iso8601::parts::{DateParts, Parts, RestOfDate};
 use time_digits::ru8;
 
-// Returns the width of the parts that are formatted. The usual configurations are tested first.
-pub(super) fn width(config: &Config) -> usize
-    ensures width { result ≡ iso8601_width config.now }
-    ensures most { result ≤ 284 }
-{
-    if let Some(usual) = config.usual() {
-        return usual.width();
-    }
-    let date = config.date_width();
-    let time = config.time_width();
-    let offset = config.offset_width();
-    match config.formatted_components() {
-        FormattedComponents::None => 0,
-        FormattedComponents::Date => date,
-        FormattedComponents::Time => time,
-        FormattedComponents::Offset => offset,
-        FormattedComponents::DateTime => date + time,
-        FormattedComponents::DateTimeOffset => date + time + offset,
-        FormattedComponents::TimeOffset => time + offset,
+impl Way {
+    // Returns the most bytes of a text by the configuration that has this way.
+    pub(super) fn width(&self, config: &Config) -> usize
+        requires { FitsWay config.now self.now }
+        ensures width { result ≡ iso8601_width config.now }
+        ensures most { result ≤ 284 }
+    {
+        match self {
+            Way::Usual(usual) => usual.width(),
+            Way::Unusual(_) => config.width(),
+        }
     }
 }
 
@@ -91,7 +84,18 @@ impl Config {
         ensures width { result ≡ iso8601_width self.now }
         ensures most { result ≤ 284 }
     {
-        width(self)
+        let date = self.date_width();
+        let time = self.time_width();
+        let offset = self.offset_width();
+        match self.formatted_components() {
+            FormattedComponents::None => 0,
+            FormattedComponents::Date => date,
+            FormattedComponents::Time => time,
+            FormattedComponents::Offset => offset,
+            FormattedComponents::DateTime => date + time,
+            FormattedComponents::DateTimeOffset => date + time + offset,
+            FormattedComponents::TimeOffset => time + offset,
+        }
     }
 
     /// Returns the most bytes of the date by this configuration, 7 to 13: the spare capacity that
