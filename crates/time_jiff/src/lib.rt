@@ -2,9 +2,10 @@
 //! times.
 #![tactic(auto)]
 
-ghost use Rattle.std.specs.Prelude.{◌≡◌, ◌↔◌, ◌<◌, pos, neg_ℤ, ◌+ℤ◌, ◌*ℤ◌, IsOk, IfOk};
+ghost use Rattle.std.specs.Prelude.{◌≡◌, ◌↔◌, ◌<◌, pos, neg_ℤ, ◌+ℤ◌, ◌*ℤ◌, IsOk, IfErr, IfOk};
 ghost use Rattle.jiff.specs.ZonedView.{plain_zoned, zoned_date, zoned_nanos, zoned_time};
 ghost use Rattle.jiff_core.specs.Calendar.{IsBetween, IsYear};
+ghost use Rattle.jiff_core.specs.Error.{IsRange};
 ghost use Rattle.time_below.specs.Calendar.{month_of, day_of, IsDate};
 ghost use Rattle.jiff_core.specs.Timestamp.{IsTimestampNanos, IsOffsetSeconds};
 ghost use Rattle.time_below.specs.Moment.{nanoseconds as nanoseconds_of, IsMoment};
@@ -43,6 +44,7 @@ pub fn timestamp(moment: jiff::Timestamp) -> time_below::Timestamp
 pub fn jiff_timestamp(moment: time_below::Timestamp) -> Result<jiff::Timestamp, jiff::Error>
     ensures succeeds { IsOk result ↔ IsTimestampNanos (nanoseconds_of moment) }
     ensures value { IfOk result (λ t. t.nanosecond ≡ nanoseconds_of moment) }
+    ensures error { IfErr result IsRange }
 {
     jiff::Timestamp::from_nanosecond(nanoseconds(moment))
 }
@@ -128,6 +130,7 @@ pub fn jiff_time(time: Time) -> jiff::civil::Time
 pub fn jiff_date(date: Date) -> Result<jiff::civil::Date, jiff::Error>
     ensures succeeds { IsOk result ↔ IsYear date.year }
     ensures value { IfOk result (λ d. (d.year ≡ date.year) × (d.month ≡ month_of date) × (d.day ≡ day_of date)) }
+    ensures error { IfErr result IsRange }
 {
     let (year, month, day) = date.to_calendar_date();
     match i16::try_from(year) {
@@ -143,6 +146,7 @@ pub fn jiff_date_time(shown: PlainDateTime) -> Result<jiff::civil::DateTime, jif
     ensures date { IfOk result (λ t. (t.date.year ≡ shown.date.year)
         × (t.date.month ≡ month_of shown.date)
         × (t.date.day ≡ day_of shown.date)) }
+    ensures error { IfErr result IsRange }
 {
     match jiff_date(shown.date()) {
         Ok(date) => Ok(jiff::civil::DateTime::from_parts(date, jiff_time(shown.time()))),
@@ -192,6 +196,7 @@ pub fn jiff_zoned(moment: OffsetDateTime) -> Result<jiff::Zoned<'static>, jiff::
     ensures date { IfOk result (λ z. same_date (zoned_date z) ≡ moment.date) }
     ensures time { IfOk result (λ z. same_time (zoned_time z) ≡ moment.time) }
     ensures zone { IfOk result (λ z. IsInFixedZone z (offset_seconds moment.offset)) }
+    ensures error { IfErr result IsRange }
 {
     match jiff::Timestamp::from_nanosecond(nanoseconds_at(moment)) {
         Ok(instant) => Ok(in_fixed_zone(instant, moment)),
