@@ -1,7 +1,6 @@
-//! What is wrong with texts in brackets, and where, and what the items of others are.
-use crate::texts::{assert_displays, in_brackets};
-use time_below::format_description::{Component, OwnedFormatItem};
-use time_describe::{InvalidDescription, Reason, parse_owned};
+//! What is wrong with texts in brackets, and where.
+use crate::texts::{assert_displays, fault_in_brackets};
+use time_describe::{InvalidDescription, Reason};
 
 /// Rows of a text, its first fault with the index of the byte, and the words that display it beside the text.
 const FAULTS: &[(&str, Reason, usize, &str)] = &[
@@ -109,16 +108,16 @@ const FAULTS: &[(&str, Reason, usize, &str)] = &[
     ),
 ];
 
+/// Texts of which no word is displayed: it is no text, there is none, or it is long.
+const WORDLESS: &[&[u8]] = &[b"[\xff]", b"", &[b'a'; 66]];
+
 #[test]
 fn says_what_is_wrong_and_where(rt: HostRuntime) {
     for &(text, reason, index, words) in FAULTS {
-        match parse_owned(rt.alloc(), text.as_bytes()) {
-            Ok(_) => panic!(rt; "{text}"),
-            Err(error) => {
-                assert_eq!(rt; error, InvalidDescription::Invalid { reason, index });
-                assert_displays(&rt, rt.alloc(), &error.in_text(text.as_bytes()), words);
-            }
-        }
+        let fault = fault_in_brackets(rt.alloc(), text.as_bytes());
+        assert!(rt; fault == Some((reason, index)), "{text}");
+        let error = InvalidDescription::Invalid { reason, index };
+        assert_displays(&rt, rt.alloc(), &error.in_text(text.as_bytes()), words);
     }
 }
 
@@ -128,49 +127,9 @@ fn displays_no_word_that_is_long_or_no_text(rt: HostRuntime) {
         reason: Reason::UnknownName,
         index: 1,
     };
-    let text = [b'a'; 66];
-    for text in [b"[\xff]".as_slice(), b"", &text] {
-        assert_displays(
-            &rt,
-            rt.alloc(),
-            &error.in_text(text),
-            "unknown component at byte 1",
-        );
+    let words = "unknown component at byte 1";
+    for text in WORDLESS {
+        assert_displays(&rt, rt.alloc(), &error.in_text(text), words);
     }
-    assert_displays(&rt, rt.alloc(), &error, "unknown component at byte 1");
-}
-
-#[test]
-fn has_the_items_of_the_text(rt: HostRuntime) {
-    let OwnedFormatItem::Compound(items) = in_brackets(
-        &rt,
-        rt.alloc(),
-        r"[year]-[ Month  repr:short ]\[",
-    ) else {
-        panic!(rt; "no list");
-    };
-    assert!(rt;
-        matches!(
-            items.as_slice(),
-            [
-                OwnedFormatItem::Component(Component::CalendarYearFullExtendedRange(_)),
-                OwnedFormatItem::StringLiteral(_),
-                OwnedFormatItem::Component(Component::MonthShort(_)),
-                OwnedFormatItem::StringLiteral(_)
-            ]
-        )
-    );
-}
-
-#[test]
-fn has_the_lists_of_the_text(rt: HostRuntime) {
-    let OwnedFormatItem::Compound(items) = in_brackets(
-        &rt,
-        rt.alloc(),
-        "[first [a[optional [:[second]]]] [b] ]]",
-    ) else {
-        panic!(rt; "no list");
-    };
-    assert_eq!(rt; items.len(), 2);
-    assert!(rt; matches!(&items[0], OwnedFormatItem::First(lists) if lists.len() == 2));
+    assert_displays(&rt, rt.alloc(), &error, words);
 }

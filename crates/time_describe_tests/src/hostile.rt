@@ -1,11 +1,9 @@
 //! Texts that are no descriptions, by chance or by will: each has an answer, and the index of its fault is that of
 //! one of its bytes.
-use crate::texts::repeated;
+use crate::texts::{fault_in_brackets, fault_in_percents, repeated};
 use std::alloc::{AllocError, Global};
 use std::process::Abort;
-use time_describe::{
-    InvalidDescription, InvalidStrftime, Reason, parse_owned, parse_strftime_owned,
-};
+use time_describe::Reason;
 
 /// Texts of both syntaxes that are changed and cut.
 const TEXTS: &[&[u8]] = &[
@@ -18,21 +16,54 @@ const TEXTS: &[&[u8]] = &[
 /// Bytes that mean something in one of the syntaxes, and some that mean nothing in either.
 const BYTES: &[u8] = b"[]\\: %N0\n\0\xc3\xff";
 
+/// Long texts in brackets: what they begin with, what they repeat how often, what they end with, and the first
+/// fault or none.
+const LONG: &[(&[u8], &[u8], usize, &[u8], Option<(Reason, usize)>)] = &[
+    (
+        b"",
+        b"[",
+        1_000_000,
+        b"",
+        Some((Reason::TooManyItems, 65_536)),
+    ),
+    (
+        b"",
+        b"\\[",
+        40_000,
+        b"",
+        Some((Reason::TooManyItems, 65_536)),
+    ),
+    (
+        b"",
+        b"[day]",
+        65_537,
+        b"",
+        Some((Reason::TooManyItems, 327_680)),
+    ),
+    (
+        b"",
+        b"[optional [",
+        32_768,
+        b"",
+        Some((Reason::TooDeep, 362)),
+    ),
+    (b"", b"[first [", 33, b"", Some((Reason::TooDeep, 263))),
+    (b"", b"[aaaaaa", 1, b"", Some((Reason::UnclosedBracket, 0))),
+    (b"", b"]", 100_000, b"", None),
+    (b"", b"x", 100_000, b"", None),
+    (b"", b"\xff", 100_000, b"", None),
+    (b"", b" ", 100_000, b"", None),
+    (b"[", b"a", 100_000, b"]", Some((Reason::UnknownName, 1))),
+    (b"", b"[day]", 16_384, b"", None),
+];
+
 /// Reads a text in both syntaxes, and asserts that each fault has a byte of it.
 fn assert_answered(rt: &impl Abort, alloc: Global, text: &[u8]) {
-    if let Err(InvalidDescription::Invalid { index, .. }) = parse_owned(alloc, text) {
+    if let Some((_, index)) = fault_in_brackets(alloc, text) {
         assert!(rt; index < text.len());
     }
-    if let Err(InvalidStrftime::Invalid { index, .. }) = parse_strftime_owned(alloc, text) {
+    if let Some((_, index)) = fault_in_percents(alloc, text) {
         assert!(rt; index < text.len());
-    }
-}
-
-/// The fault of a text in brackets.
-fn fault(alloc: Global, text: &[u8]) -> Option<(Reason, usize)> {
-    match parse_owned(alloc, text) {
-        Err(InvalidDescription::Invalid { reason, index }) => Some((reason, index)),
-        _ => None,
     }
 }
 
@@ -69,33 +100,27 @@ fn answers_each_byte(rt: HostRuntime) {
     }
 }
 
-#[test]
-fn refuses_too_many_items_and_too_deep_lists(rt: HostRuntime) -> Result<(), AllocError> {
-    for (bytes, times, reason, index) in [
-        (b"[".as_slice(), 1_000_000, Reason::TooManyItems, 65_536),
-        (b"\\[", 40_000, Reason::TooManyItems, 65_536),
-        (b"[day]", 65_537, Reason::TooManyItems, 327_680),
-        (b"[optional [", 32_768, Reason::TooDeep, 362),
-        (b"[first [", 33, Reason::TooDeep, 263),
-        (b"[aaaaaa", 1, Reason::UnclosedBracket, 0),
-    ] {
-        let text = repeated(rt.alloc(), bytes, times)?;
-        assert_eq!(rt; fault(rt.alloc(), &text), Some((reason, index)));
-    }
-    Ok(())
+/// A text that begins with some bytes, repeats others and ends with some.
+fn long_text(
+    alloc: Global,
+    begin: &[u8],
+    bytes: &[u8],
+    times: usize,
+    end: &[u8],
+) -> Result<Vec<u8>, AllocError> {
+    let mut text = Vec::from_slice(alloc, begin)?;
+    text.extend_from_slice(&repeated(alloc, bytes, times)?)?;
+    text.extend_from_slice(end)?;
+    Ok(text)
 }
 
 #[test]
-fn reads_long_texts(rt: HostRuntime) -> Result<(), AllocError> {
-    for bytes in [b"]".as_slice(), b"x", b"\xff", b" "] {
-        let text = repeated(rt.alloc(), bytes, 100_000)?;
-        assert_eq!(rt; fault(rt.alloc(), &text), None);
+fn reads_long_texts_and_refuses_too_many_items_and_too_deep_lists(
+    rt: HostRuntime,
+) -> Result<(), AllocError> {
+    for &(begin, bytes, times, end, wanted) in LONG {
+        let text = long_text(rt.alloc(), begin, bytes, times, end)?;
+        assert!(rt; fault_in_brackets(rt.alloc(), &text) == wanted);
     }
-    let mut text = Vec::from_slice(rt.alloc(), b"[")?;
-    text.extend_from_slice(&repeated(rt.alloc(), b"a", 100_000)?)?;
-    text.push(b']')?;
-    assert_eq!(rt; fault(rt.alloc(), &text), Some((Reason::UnknownName, 1)));
-    let text = repeated(rt.alloc(), b"[day]", 16_384)?;
-    assert_eq!(rt; fault(rt.alloc(), &text), None);
     Ok(())
 }

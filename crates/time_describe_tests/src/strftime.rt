@@ -1,11 +1,11 @@
 //! Descriptions in the syntax of strftime, and the texts that standards and GNU `date` 9.1 give for them.
-use crate::texts::{Numbers, assert_displays, assert_formats, in_percents, repeated};
-use std::alloc::{AllocError, Global};
-use time_describe::{InvalidStrftime, StrftimeReason, parse_strftime_owned};
+use crate::texts::{Numbers, Row, assert_displays, assert_percents, fault_in_percents, repeated};
+use std::alloc::AllocError;
+use time_describe::{InvalidStrftime, StrftimeReason};
 
 /// Examples of RFC 3339 (5.8), RFC 2822 (A.1.1), RFC 9110 (5.6.7), ISO 8601 (week date, ordinal date) and the
 /// documentation of Apache's log files.
-const OF_STANDARDS: &[(&str, Numbers, &str)] = &[
+const OF_STANDARDS: &[Row] = &[
     (
         "%FT%T%:z",
         ((1996, 12, 19), (16, 39, 57, 0), (-8, 0, 0)),
@@ -48,38 +48,47 @@ const OF_STANDARDS: &[(&str, Numbers, &str)] = &[
     ),
 ];
 
-/// What GNU `date` writes at 2005-01-02 3:04:05.006007008 +9:30.
-const OF_DATE: &[(&str, &str)] = &[
+/// 2005-01-02 3:04:05.006007008 +9:30.
+const OF_GNU: Numbers = ((2005, 1, 2), (3, 4, 5, 6_007_008), (9, 30, 0));
+
+/// What GNU `date` writes.
+const OF_DATE: &[Row] = &[
     (
         "%Y %C %y %m %d %e %j %H %k %I %l %M %S %G %g %V %u %w %U %W",
+        OF_GNU,
         "2005 20 05 01 02  2 002 03  3 03  3 04 05 2004 04 53 7 0 01 00",
     ),
     (
         "%-Y %-C %-y %-m %-d %-e %-j %-H %-k %-I %-l %-M %-S %-G %-g %-V %-u %-w %-U %-W",
+        OF_GNU,
         "2005 20 5 1 2 2 2 3 3 3 3 4 5 2004 4 53 7 0 1 0",
     ),
     (
         "%_Y %_C %_y %_m %_d %_e %_j %_H %_k %_I %_l %_M %_S %_G %_g %_V %_u %_w %_U %_W",
+        OF_GNU,
         "2005 20  5  1  2  2   2  3  3  3  3  4  5 2004  4 53 7 0  1  0",
     ),
     (
         "%0Y %0C %0y %0m %0d %0e %0j %0H %0k %0I %0l %0M %0S %0G %0g %0V %0u %0w %0U %0W",
+        OF_GNU,
         "2005 20 05 01 02 02 002 03 03 03 03 04 05 2004 04 53 7 0 01 00",
     ),
     (
         "%a %A %b %h %B %p %P %N %3N %6N %9N %z %:z %s %-s",
+        OF_GNU,
         "Sun Sunday Jan Jan January AM am 006007008 006 006007 006007008 +0930 +09:30 1104600845 1104600845",
     ),
     (
         "%c|%D|%F|%r|%R|%T|%x|%X|%%|%n|%t|",
+        OF_GNU,
         "Sun Jan  2 03:04:05 2005|01/02/05|2005-01-02|03:04:05 AM|03:04|03:04:05|01/02/05|03:04:05|%|\n|\t|",
     ),
-    ("", ""),
-    ("%d. Jänner", "02. Jänner"),
+    ("", OF_GNU, ""),
+    ("%d. Jänner", OF_GNU, "02. Jänner"),
 ];
 
 /// Years outside 1000 to 9999 and an offset with seconds, as `docs/DIFFERENCES.md` says.
-const DECIDED: &[(&str, Numbers, &str)] = &[
+const DECIDED: &[Row] = &[
     (
         "%c",
         ((838, 1, 2), (3, 4, 5, 0), (0, 0, 0)),
@@ -128,68 +137,53 @@ const REFUSED: &[(&str, &str)] = &[
     ("%_Q", "unknown conversion `%Q` at byte 2"),
 ];
 
+/// Texts of a megabyte, by what they repeat, with the first fault or none.
+const MEGABYTES: &[(&[u8], Option<(StrftimeReason, usize)>)] = &[
+    (b"%c", Some((StrftimeReason::TooManyItems, 10_082))),
+    (b"%%", Some((StrftimeReason::TooManyItems, 131_072))),
+    (b"%d.", Some((StrftimeReason::TooManyItems, 98_304))),
+    (b"%-", Some((StrftimeReason::FlagWithoutNumber(b'%'), 2))),
+    (b"%--", Some((StrftimeReason::SecondFlag(b'-'), 2))),
+    (
+        b"%\xff",
+        Some((StrftimeReason::UnknownConversion(b'\xff'), 1)),
+    ),
+    (b"x", None),
+    (b"\xff", None),
+    (b"\n", None),
+];
+
 #[test]
 fn formats_the_examples_of_standards(rt: HostRuntime) {
-    for &(text, numbers, wanted) in OF_STANDARDS {
-        let item = in_percents(&rt, rt.alloc(), text);
-        assert_formats(&rt, rt.alloc(), &item, numbers, wanted);
-    }
+    assert_percents(&rt, rt.alloc(), OF_STANDARDS);
 }
 
 #[test]
 fn formats_as_gnu_date(rt: HostRuntime) {
-    let numbers = ((2005, 1, 2), (3, 4, 5, 6_007_008), (9, 30, 0));
-    for &(text, wanted) in OF_DATE {
-        let item = in_percents(&rt, rt.alloc(), text);
-        assert_formats(&rt, rt.alloc(), &item, numbers, wanted);
-    }
+    assert_percents(&rt, rt.alloc(), OF_DATE);
 }
 
 #[test]
 fn formats_what_others_write_otherwise(rt: HostRuntime) {
-    for &(text, numbers, wanted) in DECIDED {
-        let item = in_percents(&rt, rt.alloc(), text);
-        assert_formats(&rt, rt.alloc(), &item, numbers, wanted);
-    }
+    assert_percents(&rt, rt.alloc(), DECIDED);
 }
 
 #[test]
 fn says_what_is_wrong_and_where(rt: HostRuntime) {
     for &(text, wanted) in REFUSED {
-        match parse_strftime_owned(rt.alloc(), text.as_bytes()) {
-            Ok(_) => panic!(rt; "{text}"),
-            Err(error) => assert_displays(&rt, rt.alloc(), &error, wanted),
-        }
-    }
-}
-
-/// The error of a text, if it is no description.
-fn error_of(alloc: Global, text: &[u8]) -> Option<InvalidStrftime> {
-    match parse_strftime_owned(alloc, text) {
-        Ok(_) => None,
-        Err(error) => Some(error),
+        let Some((reason, index)) = fault_in_percents(rt.alloc(), text.as_bytes()) else {
+            panic!(rt; "{text}");
+        };
+        let error = InvalidStrftime::Invalid { reason, index };
+        assert_displays(&rt, rt.alloc(), &error, wanted);
     }
 }
 
 #[test]
 fn answers_a_megabyte(rt: HostRuntime) -> Result<(), AllocError> {
-    for (bytes, reason, index) in [
-        (b"%c".as_slice(), StrftimeReason::TooManyItems, 10_082),
-        (b"%%", StrftimeReason::TooManyItems, 131_072),
-        (b"%d.", StrftimeReason::TooManyItems, 98_304),
-        (b"%-", StrftimeReason::FlagWithoutNumber(b'%'), 2),
-        (b"%--", StrftimeReason::SecondFlag(b'-'), 2),
-        (b"%\xff", StrftimeReason::UnknownConversion(b'\xff'), 1),
-    ] {
-        let text = repeated(rt.alloc(), bytes, 1_000_000 / bytes.len())?;
-        assert_eq!(rt;
-            error_of(rt.alloc(), &text),
-            Some(InvalidStrftime::Invalid { reason, index })
-        );
-    }
-    for bytes in [b"x".as_slice(), b"\xff", b"\n"] {
-        let text = repeated(rt.alloc(), bytes, 1_000_000)?;
-        assert_eq!(rt; error_of(rt.alloc(), &text), None);
+    for &(bytes, wanted) in MEGABYTES {
+        let text = repeated(rt.alloc(), bytes, 1_000_000 / bytes.len().max(1))?;
+        assert!(rt; fault_in_percents(rt.alloc(), &text) == wanted);
     }
     Ok(())
 }

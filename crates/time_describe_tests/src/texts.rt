@@ -7,12 +7,17 @@ use std::fmt::Display;
 use std::process::Abort;
 use time_below::format_description::OwnedFormatItem;
 use time_below::{Date, Month, OffsetDateTime, Time, UtcOffset};
-use time_describe::{parse_owned, parse_strftime_owned};
+use time_describe::{
+    InvalidDescription, InvalidStrftime, Reason, StrftimeReason, parse_owned, parse_strftime_owned,
+};
 use time_fmt::{DateState, Formattable};
 
 /// The local date of a year, a month and a day, the time of an hour, a minute, a second and a nanosecond, and the
 /// offset of hours, minutes and seconds.
 pub(crate) type Numbers = ((i32, u8, u8), (u8, u8, u8, u32), (i8, i8, i8));
+
+/// A text, the numbers of a moment, and what the description that the text is formats of the moment.
+pub(crate) type Row = (&'static str, Numbers, &'static str);
 
 /// 1997-11-12 9:55:06.12 -6:00, a Wednesday.
 pub(crate) const WEDNESDAY: Numbers = ((1997, 11, 12), (9, 55, 6, 120_000_000), (-6, 0, 0));
@@ -44,26 +49,36 @@ pub(crate) fn moment(rt: &impl Abort, numbers: Numbers) -> OffsetDateTime {
     }
 }
 
-/// The description that was read, of a text that is one.
-fn taken<E: Display>(
-    rt: &impl Abort,
-    read: Result<OwnedFormatItem, E>,
-    text: &str,
-) -> OwnedFormatItem {
-    match read {
-        Ok(item) => item,
-        Err(error) => panic!(rt; "{text}: {error}"),
-    }
-}
-
 /// The description in brackets that a text is.
 pub(crate) fn in_brackets(rt: &impl Abort, alloc: Global, text: &str) -> OwnedFormatItem {
-    taken(rt, parse_owned(alloc, text.as_bytes()), text)
+    match parse_owned(alloc, text.as_bytes()) {
+        Ok(item) => item,
+        Err(_) => panic!(rt; "{text}"),
+    }
 }
 
 /// The description in the syntax of strftime that a text is.
 pub(crate) fn in_percents(rt: &impl Abort, alloc: Global, text: &str) -> OwnedFormatItem {
-    taken(rt, parse_strftime_owned(alloc, text.as_bytes()), text)
+    match parse_strftime_owned(alloc, text.as_bytes()) {
+        Ok(item) => item,
+        Err(_) => panic!(rt; "{text}"),
+    }
+}
+
+/// What is wrong with a text in brackets, and the index of its byte.
+pub(crate) fn fault_in_brackets(alloc: Global, text: &[u8]) -> Option<(Reason, usize)> {
+    match parse_owned(alloc, text) {
+        Err(InvalidDescription::Invalid { reason, index }) => Some((reason, index)),
+        _ => None,
+    }
+}
+
+/// What is wrong with a text in the syntax of strftime, and the index of its byte.
+pub(crate) fn fault_in_percents(alloc: Global, text: &[u8]) -> Option<(StrftimeReason, usize)> {
+    match parse_strftime_owned(alloc, text) {
+        Err(InvalidStrftime::Invalid { reason, index }) => Some((reason, index)),
+        _ => None,
+    }
 }
 
 /// So many times the same bytes.
@@ -82,6 +97,20 @@ pub(crate) fn assert_formats(
     match item.format(alloc, &moment(rt, numbers), &mut DateState::default()) {
         Ok(text) => assert_eq!(rt; text.as_str(), wanted),
         Err(refusal) => panic!(rt; "{wanted}: {refusal}"),
+    }
+}
+
+/// Compares what each description in brackets formats with the text of its row.
+pub(crate) fn assert_brackets(rt: &impl Abort, alloc: Global, rows: &[Row]) {
+    for &(text, numbers, wanted) in rows {
+        assert_formats(rt, alloc, &in_brackets(rt, alloc, text), numbers, wanted);
+    }
+}
+
+/// Compares what each description in the syntax of strftime formats with the text of its row.
+pub(crate) fn assert_percents(rt: &impl Abort, alloc: Global, rows: &[Row]) {
+    for &(text, numbers, wanted) in rows {
+        assert_formats(rt, alloc, &in_percents(rt, alloc, text), numbers, wanted);
     }
 }
 

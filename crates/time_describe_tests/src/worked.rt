@@ -1,8 +1,8 @@
 //! Descriptions in brackets, and the texts that standards and the documentation of `time` give for them.
-use crate::texts::{Numbers, WEDNESDAY, assert_formats, in_brackets};
+use crate::texts::{Numbers, Row, WEDNESDAY, assert_brackets};
 
 /// Examples of RFC 3339 (5.8), RFC 2822 (A.1.1), RFC 9110 (5.6.7) and ISO 8601 (week date, ordinal date).
-const OF_STANDARDS: &[(&str, Numbers, &str)] = &[
+const OF_STANDARDS: &[Row] = &[
     (
         "[year]-[month]-[day]T[hour]:[minute]:[second][offset_hour sign:mandatory]:[offset_minute]",
         ((1996, 12, 19), (16, 39, 57, 0), (-8, 0, 0)),
@@ -45,60 +45,66 @@ const OF_STANDARDS: &[(&str, Numbers, &str)] = &[
     ),
 ];
 
+/// 2020-01-02 3:04:05 +6:07:08.
+const OF_DOCUMENTATION: Numbers = ((2020, 1, 2), (3, 4, 5, 0), (6, 7, 8));
+
 /// Examples of the documentation of `time`, at the `format` of each type.
-const OF_TIME: &[(&str, &str)] = &[
-    ("[year]-[month]-[day]", "2020-01-02"),
-    ("[hour]:[minute]:[second]", "03:04:05"),
-    ("[offset_hour sign:mandatory]:[offset_minute]", "+06:07"),
+const OF_TIME: &[Row] = &[
+    ("[year]-[month]-[day]", OF_DOCUMENTATION, "2020-01-02"),
+    ("[hour]:[minute]:[second]", OF_DOCUMENTATION, "03:04:05"),
+    (
+        "[offset_hour sign:mandatory]:[offset_minute]",
+        OF_DOCUMENTATION,
+        "+06:07",
+    ),
     (
         "[year]-[month]-[day] [hour]:[minute]:[second]",
+        OF_DOCUMENTATION,
         "2020-01-02 03:04:05",
     ),
     (
         "[year]-[month]-[day] [hour]:[minute]:[second] [offset_hour sign:mandatory]:[offset_minute]:[offset_second]",
+        OF_DOCUMENTATION,
         "2020-01-02 03:04:05 +06:07:08",
     ),
 ];
 
-/// What the syntax has beside components, at 1997-11-12 9:55:06.12 -6:00.
-const OF_SYNTAX: &[(&str, &str)] = &[
-    ("", ""),
-    ("no component", "no component"),
-    ("a]b", "a]b"),
-    (r"\[[day]\] c\\d", r"[12] c\d"),
-    ("[ Day\t padding:none\n PADDING:Zero ]", "12"),
-    ("[optional [[day]/]][month]", "12/11"),
-    ("[first [[month repr:short]] [[month]]]", "Nov"),
-    ("[first]x", "x"),
-    ("[first [a[optional [b]]] [c]]", "ab"),
+/// What the syntax has beside components.
+const OF_SYNTAX: &[Row] = &[
+    ("", WEDNESDAY, ""),
+    ("no component", WEDNESDAY, "no component"),
+    ("a]b", WEDNESDAY, "a]b"),
+    (r"\[[day]\] c\\d", WEDNESDAY, r"[12] c\d"),
+    ("[ Day\t padding:none\n PADDING:Zero ]", WEDNESDAY, "12"),
+    ("[optional [[day]/]][month]", WEDNESDAY, "12/11"),
+    ("[first [[month repr:short]] [[month]]]", WEDNESDAY, "Nov"),
+    ("[first]x", WEDNESDAY, "x"),
+    ("[first [a[optional [b]]] [c]]", WEDNESDAY, "ab"),
     (
         "[day][ignore count:65535][end trailing_input:discard]",
+        WEDNESDAY,
         "12",
     ),
-    ("Üm [day]", "Üm 12"),
+    ("Üm [day]", WEDNESDAY, "Üm 12"),
+    (r"[year]-[ Month  repr:short ]\[", WEDNESDAY, "1997-Nov["),
+    (
+        "[first [a[optional [:[second]]]] [b] ]]",
+        WEDNESDAY,
+        "a:06]",
+    ),
 ];
 
 #[test]
 fn formats_the_examples_of_standards(rt: HostRuntime) {
-    for &(text, numbers, wanted) in OF_STANDARDS {
-        let item = in_brackets(&rt, rt.alloc(), text);
-        assert_formats(&rt, rt.alloc(), &item, numbers, wanted);
-    }
+    assert_brackets(&rt, rt.alloc(), OF_STANDARDS);
 }
 
 #[test]
 fn formats_the_examples_of_time(rt: HostRuntime) {
-    let numbers = ((2020, 1, 2), (3, 4, 5, 0), (6, 7, 8));
-    for &(text, wanted) in OF_TIME {
-        let item = in_brackets(&rt, rt.alloc(), text);
-        assert_formats(&rt, rt.alloc(), &item, numbers, wanted);
-    }
+    assert_brackets(&rt, rt.alloc(), OF_TIME);
 }
 
 #[test]
 fn formats_literals_and_lists(rt: HostRuntime) {
-    for &(text, wanted) in OF_SYNTAX {
-        let item = in_brackets(&rt, rt.alloc(), text);
-        assert_formats(&rt, rt.alloc(), &item, WEDNESDAY, wanted);
-    }
+    assert_brackets(&rt, rt.alloc(), OF_SYNTAX);
 }

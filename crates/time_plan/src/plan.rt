@@ -1,6 +1,4 @@
 //! Plans: descriptions that were flattened, with what is known of their texts.
-#![tactic(auto, using(time_fmt::proofs::EndLemmas::answered))]
-
 ghost use Rattle.std.specs.Prelude.{◌≡◌};
 ghost use Rattle.time_below.specs.Metadata.{trees_metadata};
 ghost use Rattle.time_below.specs.Width.{trees_width, are_guaranteed_text};
@@ -122,6 +120,7 @@ impl Formattable for Plan {
     ghost outcome_of = { λ plan. trees_outcome (step_trees plan.steps.items) };
 
     #[inline]
+    #[tactic(auto, using(time_fmt::proofs::EndLemmas::answered))]
     fn write_into<V: ComponentProvider>(
         &self,
         output: &mut Vec<u8>,

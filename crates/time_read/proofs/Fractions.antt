@@ -54,7 +54,7 @@ few_digits ds h k =
     omega arith
 
 -- some first of all digits are digits
-digits-take : (k : ℕ) (ds : List ℕ) → AllDigits 10 ds → AllDigits 10 (take k ds)
+pub digits-take : (k : ℕ) (ds : List ℕ) → AllDigits 10 ds → AllDigits 10 (take k ds)
 digits-take zero ds h = tt
 digits-take (suc k) [] h = tt
 digits-take (suc k) (d ∷ ds) h = (h.0, digits-take k ds h.1)

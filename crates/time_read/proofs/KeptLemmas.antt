@@ -1,6 +1,6 @@
 -- The bytes of a date that is kept spell it.
 use Rattle.std.proofs.Common.{◌≡◌, ℕ, List, ◌++◌, arith, ap, ap₂, refl, subst, sym, take, drop, length, ◌-◌, pos, ◌∙◌, Option}
-use Rattle.std.proofs.lemmas.List.{take-append-drop, take-take, take_all, take_rest}
+use Rattle.std.proofs.lemmas.List.{drop-take, take-append-drop, take-take, take_all, take_rest}
 use Rattle.std.proofs.Math.Seq.{take-add}
 use Rattle.std.specs.Prelude.{codes, IfSome}
 use Rattle.std.proofs.lemmas.Int.{ints}
@@ -40,6 +40,14 @@ same_ten bytes text long first last =
     let two : take 2 bytes ≡ take 2 text =
     sym (take-take 2 8 bytes (omega arith)) ∙ ap (take 2) first ∙ take-take 2 8 text (omega arith) in
     sym (take_all 10 bytes (omega (arith, long))) ∙ take-add 2 8 bytes ∙ ap₂ (λ xs ys. xs ++ ys) two last ∙ sym (take-add 2 8 text)
+
+-- and those that are all ten have the same first eight, and the same eight behind the first two
+pub first_eight : (bytes text : List ℕ) → bytes ≡ take 10 text → take 8 bytes ≡ take 8 text
+first_eight bytes text same = ap (take 8) same ∙ take-take 8 10 text (omega arith)
+
+pub last_eight : (bytes text : List ℕ) → bytes ≡ take 10 text → take 8 (drop 2 bytes) ≡ take 8 (drop 2 text)
+last_eight bytes text same =
+    ap (λ xs. take 8 (drop 2 xs)) same ∙ ap (take 8) (drop-take 2 8 text) ∙ take-take 8 8 (drop 2 text) (omega arith)
 
 -- a text that begins with the bytes of the date is read after them
 pub read_after_kept : (d : OrdinalDate) (bytes text rest : List ℕ) (r : Option OffsetDateAndTime) → IsKeptDate d bytes

@@ -1,5 +1,5 @@
 //! Digits after a point.
-ghost use Rattle.std.specs.Prelude.{◌≡◌, ◌<◌, ◌≤◌, ◌-◌, ◌*◌, ◌^◌, true, length, take};
+ghost use Rattle.std.specs.Prelude.{◌≡◌, ◌↔◌, ◌==◌, ◌<◌, ◌≤◌, ◌-◌, ◌*◌, ◌^◌, IsTrue, length, take};
 ghost use Rattle.std.specs.Str.Parse.{AllDigits, digits_value};
 ghost use Rattle.time_read.specs.Shapes.{FirstDigits, Skipped};
 ghost use Rattle.time_read.specs.declared.fault.Profile.TheVariants as profile;
@@ -42,7 +42,7 @@ fn digits(text: &[u8]) -> (u32, usize)
 // Whether no bit is set.
 #[inline(always)]
 fn is_clear(mask: u64) -> bool
-    ensures { result ≡ true → mask ≡ 0 }
+    ensures { result ≡ (mask == 0) }
 {
     mask == 0
 }
@@ -51,7 +51,7 @@ fn is_clear(mask: u64) -> bool
 #[inline(always)]
 fn are_eight(text: &[u8]) -> bool
     requires { 8 ≤ length text.now }
-    ensures { result ≡ true → AllDigits 10 (take 8 text.now) }
+    ensures { IsTrue result ↔ AllDigits 10 (take 8 text.now) }
 {
     let values = u8x8::from_slice(text) - u8x8::splat(b'0');
     is_clear(values.simd_ge(u8x8::splat(10)).to_bitmask())
@@ -61,7 +61,7 @@ fn are_eight(text: &[u8]) -> bool
 #[inline(always)]
 fn are_nine(text: &[u8]) -> bool
     requires { 9 ≤ length text.now }
-    ensures { result ≡ true → AllDigits 10 (take 9 text.now) }
+    ensures { IsTrue result ↔ AllDigits 10 (take 9 text.now) }
 {
     are_eight(text) && text[8].is_ascii_digit()
 }

@@ -1,6 +1,6 @@
 //! A reader of many texts, which keeps the last date.
 ghost use Rattle.std.specs.Prelude.{◌≡◌, ◌≤◌, ◌↔◌, IfOk, IfErr, IfSome, IsTrue, true, drop, length, take};
-ghost use Rattle.std.specs.Int.{to_le_bytes, w64};
+ghost use Rattle.std.specs.Int.{from_le_bytes, to_le_bytes, w64};
 ghost use Rattle.time_below.specs.Moment.{OffsetDateAndTime};
 ghost use Rattle.time_known.specs.Rfc3339Grammar.{Rfc3339Spells};
 ghost use Rattle.time_read.specs.Fault.{IsFirstFault, IsSecond60, SpellsSome};
@@ -93,7 +93,8 @@ impl LenientReader {
 #[inline(always)]
 fn word(bytes: &[u8]) -> u64
     requires { length bytes.now ≡ 8 }
-    ensures { to_le_bytes w64 result ≡ bytes.now }
+    ensures value { result ≡ from_le_bytes w64 bytes.now }
+    ensures bytes { to_le_bytes w64 result ≡ bytes.now }
 {
     let mut eight = [0u8; 8];
     eight.copy_from_slice(bytes);
@@ -105,7 +106,7 @@ fn word(bytes: &[u8]) -> u64
 fn begins_with(text: &[u8], bytes: &[u8; LENGTH]) -> bool
     requires text { LENGTH ≤ length text.now }
     requires bytes { length bytes.now ≡ LENGTH }
-    ensures { result ≡ true → bytes.now ≡ take 10 text.now }
+    ensures { IsTrue result ↔ bytes.now ≡ take 10 text.now }
 {
     word(&text[..8]) == word(&bytes[..8]) && word(&text[2..LENGTH]) == word(&bytes[2..LENGTH])
 }

@@ -17,7 +17,7 @@ fn appends_a_date_by_the_text_of_a_configuration(rt: HostRuntime) {
     };
     let written = append_described(&mut line, &description, &sunday(&rt).date());
     assert!(rt; matches!(written, Ok(11)));
-    assert_eq!(rt; line.as_slice(), b"22 November".as_slice());
+    assert!(rt; line.as_slice() == b"22 November".as_slice());
 }
 
 #[test]
@@ -25,7 +25,7 @@ fn says_which_word_of_a_configuration_is_wrong(rt: HostRuntime) {
     let Err(message) = description_of(rt.alloc(), "[dai]") else {
         panic!(rt; "a description");
     };
-    assert_eq!(rt; message.as_str(), "unknown component `dai` at byte 1");
+    assert!(rt; message.as_str() == "unknown component `dai` at byte 1");
 }
 
 #[test]
@@ -33,5 +33,5 @@ fn appends_the_moment_of_a_log(rt: HostRuntime) {
     let mut line = Vec::new(rt.alloc());
     let written = append_by_pattern(&mut line, rt.alloc(), &sunday(&rt));
     assert!(rt; matches!(written, Some(Ok(26))));
-    assert_eq!(rt; line.as_slice(), b"22/Nov/2026:09:55:06 +0000".as_slice());
+    assert!(rt; line.as_slice() == b"22/Nov/2026:09:55:06 +0000".as_slice());
 }
