@@ -41,12 +41,15 @@ impl Node for BorrowedFormatItem<'_> {
         }
     }
 
+    // Two tests, since a `match` becomes a jump through a table.
     #[inline(always)]
     fn quick_bound(&self) -> Option<usize> {
-        match self {
-            BorrowedFormatItem::Component(component) => Some(component_bound(component)),
-            BorrowedFormatItem::StringLiteral(text) => Some(text.len()),
-            _ => None,
+        if let BorrowedFormatItem::Component(component) = self {
+            return Some(component_bound(component));
         }
+        if let BorrowedFormatItem::StringLiteral(text) = self {
+            return Some(text.len());
+        }
+        None
     }
 }

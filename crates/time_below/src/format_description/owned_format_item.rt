@@ -41,12 +41,15 @@ impl Node for OwnedFormatItem {
         }
     }
 
+    // Two tests, since a `match` becomes a jump through a table.
     #[inline(always)]
     fn quick_bound(&self) -> Option<usize> {
-        match self {
-            OwnedFormatItem::Component(component) => Some(component_bound(component)),
-            OwnedFormatItem::StringLiteral(text) => Some(text.len()),
-            _ => None,
+        if let OwnedFormatItem::Component(component) = self {
+            return Some(component_bound(component));
         }
+        if let OwnedFormatItem::StringLiteral(text) = self {
+            return Some(text.len());
+        }
+        None
     }
 }

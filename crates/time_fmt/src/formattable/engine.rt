@@ -47,7 +47,7 @@ pub(super) fn write_nodes<T: Node, S: Sink, V: ComponentProvider>(
                     }
                     None => {
                         output.put_back(apart);
-                        write_node(node, output, value, state)?;
+                        write_inner(node, output, value, state)?;
                         taken = output.take_out();
                     }
                 }
@@ -104,12 +104,28 @@ fn write_seldom<T: Node, S: Sink, V: ComponentProvider>(
     }
 }
 
-/// Appends the text of the node, up to the first component that is refused, and returns its refusal. It is
-/// cold, so that the loop over a list asks last whether an item has items of its own.
+/// Writes an item of a list by a cold call, so that the loop asks last whether an item has items of its own.
 #[cycle(engine)]
 #[cold]
 #[inline(never)]
-fn write_node<T: Node, S: Sink, V: ComponentProvider>(
+fn write_inner<T: Node, S: Sink, V: ComponentProvider>(
+    node: &T,
+    output: &mut S,
+    value: &V,
+    state: &mut V::State,
+) -> Result<(), Refused>
+    requires room { Fits (S.buffer output.old) (tree_width (T.tree node.now)) }
+    requires agrees { V.agrees state.old value.now }
+    ensures appends { AppendsTree (T.tree node.now) (V.facts value.now) (S.buffer output.old) (S.buffer output.new) result }
+    ensures agrees { V.agrees state.new value.now }
+{
+    write_node(node, output, value, state)
+}
+
+/// Appends the text of the node, up to the first component that is refused, and returns its refusal.
+#[cycle(engine)]
+#[inline(never)]
+pub(super) fn write_node<T: Node, S: Sink, V: ComponentProvider>(
     node: &T,
     output: &mut S,
     value: &V,
@@ -137,24 +153,5 @@ fn write_node<T: Node, S: Sink, V: ComponentProvider>(
         },
         Layer::Optional(node) => write_node(node, output, value, state),
         Layer::Nothing => Ok(()),
-    }
-}
-
-/// Appends the text of the node as `write_node` does, of a list by the loop at once.
-#[inline(always)]
-pub(super) fn write_tree<T: Node, S: Sink, V: ComponentProvider>(
-    node: &T,
-    output: &mut S,
-    value: &V,
-    state: &mut V::State,
-) -> Result<(), Refused>
-    requires room { Fits (S.buffer output.old) (tree_width (T.tree node.now)) }
-    requires agrees { V.agrees state.old value.now }
-    ensures appends { AppendsTree (T.tree node.now) (V.facts value.now) (S.buffer output.old) (S.buffer output.new) result }
-    ensures agrees { V.agrees state.new value.now }
-{
-    match node.layer() {
-        Layer::All(nodes) => write_nodes(nodes, output, value, state),
-        _ => write_node(node, output, value, state),
     }
 }

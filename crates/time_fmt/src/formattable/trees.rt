@@ -11,7 +11,7 @@ ghost use Rattle.time_fmt.specs.Room.{HasRoom};
 
 use crate::error::Format;
 use crate::formattable::Formattable;
-use crate::formattable::engine::write_tree;
+use crate::formattable::engine::write_node;
 use crate::metadata::ComputeMetadata;
 use time_below::format_description::{
     BorrowedFormatItem, FormatDescriptionV3, FormatDescriptionV3Inner, Metadata, OwnedFormatItem,
@@ -39,7 +39,7 @@ impl Formattable for BorrowedFormatItem<'_> {
         state: &mut V::State,
     ) -> Result<usize, Format> {
         let begin = output.len();
-        write_tree(self, output, value, state)?;
+        write_node(self, output, value, state)?;
         Ok(output.len() - begin)
     }
 }
@@ -64,7 +64,7 @@ impl Formattable for OwnedFormatItem {
         state: &mut V::State,
     ) -> Result<usize, Format> {
         let begin = output.len();
-        write_tree(self, output, value, state)?;
+        write_node(self, output, value, state)?;
         Ok(output.len() - begin)
     }
 }
@@ -113,6 +113,6 @@ pub fn v3_write_into<V: ComponentProvider>(
     ensures agrees { V.agrees state.new value.now }
 {
     let begin = output.len();
-    write_tree(item, output, value, state)?;
+    write_node(item, output, value, state)?;
     Ok(output.len() - begin)
 }

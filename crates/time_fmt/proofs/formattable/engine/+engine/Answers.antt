@@ -5,7 +5,7 @@ use Rattle.time_fmt.proofs.GuaranteeLemmas.{text_of_component}
 use Rattle.time_fmt.proofs.Engine.{along_from_the_start, room_for_next, all_along, list_refused, written_along, first_appends, no_first, appends_bytes, nothing_appends}
 use Rattle.time_fmt.proofs.formattable.engine.+engine.Goals as goal
 use Rattle.time_fmt.proofs.formattable.engine.+engine.Goals.{write_nodes-in-Some-Ok, write_nodes-in-None+in-Some-Ok-write_seldom}
-use Rattle.time_fmt.proofs.formattable.engine.+engine.Goals.{write_nodes-in-None+in-None-write_seldom+in_ok-write_node-in-None-write_seldom}
+use Rattle.time_fmt.proofs.formattable.engine.+engine.Goals.{write_nodes-in-None+in-None-write_seldom+in_ok-write_inner-in-None-write_seldom}
 
 pub write_nodes-loop-node-init : goal.write_nodes-loop-node-init
 write_nodes-loop-node-init g t c =
@@ -44,25 +44,25 @@ write_nodes-loop-node-preserved g t c =
           (written_along {agrees_after = g.V.ComponentProvider.agrees w.write_seldom.new.state c.args.value.now}
           (g.S.Sink.buffer c.args.output.now) (g.S.Sink.buffer c.loop-node.taken) (g.S.Sink.buffer w.write_seldom.new.output) _ _ _ _ _ c.loop-node.invariant next smaller
           (rw (w.in-None.ensures.appends, w.in-Some-Ok-write_seldom.field-0-is) at step.appends) step.agrees)
-      | write_nodes-in-None+in-None-write_seldom+in_ok-write_node-in-None-write_seldom w ↦
-          let step = w.in_ok-write_node-in-None-write_seldom.ensures in
+      | write_nodes-in-None+in-None-write_seldom+in_ok-write_inner-in-None-write_seldom w ↦
+          let step = w.in_ok-write_inner-in-None-write_seldom.ensures in
           let same = w.put_back-in-None-write_seldom.ensures.put ∙ w.in-None-write_seldom.ensures.appends ∙ w.in-None.ensures.appends in
           rw (w.taken-is, w.state-is, w.take_out-taken-in-None-write_seldom.ensures.taken)
-          (written_along {agrees_after = g.V.ComponentProvider.agrees w.write_node.new.state c.args.value.now}
-          (g.S.Sink.buffer c.args.output.now) (g.S.Sink.buffer c.loop-node.taken) (g.S.Sink.buffer w.write_node.new.output) _ _ _ _ _ c.loop-node.invariant next smaller
+          (written_along {agrees_after = g.V.ComponentProvider.agrees w.write_inner.new.state c.args.value.now}
+          (g.S.Sink.buffer c.args.output.now) (g.S.Sink.buffer c.loop-node.taken) (g.S.Sink.buffer w.write_inner.new.output) _ _ _ _ _ c.loop-node.invariant next smaller
           (rw same at step.appends) step.agrees)
     ]
 
 -- a node that is refused ends the list
-pub write_nodes-returns-in_err-write_node-in-None-write_seldom-clause-appends :
-    goal.write_nodes-returns-in_err-write_node-in-None-write_seldom-clause-appends
-write_nodes-returns-in_err-write_node-in-None-write_seldom-clause-appends g t c =
+pub write_nodes-returns-in_err-write_inner-in-None-write_seldom-clause-appends :
+    goal.write_nodes-returns-in_err-write_inner-in-None-write_seldom-clause-appends
+write_nodes-returns-in_err-write_inner-in-None-write_seldom-clause-appends g t c =
     let next = next_of g.T.Node.tree c.args.nodes.now c.loop-node.node-index c.node-item.result c.loop-node-test.true
     c.node-item.is in
     let same = err_from_is_err_and c.from_residual.result c.from_residual.ensures.1 in
     rw (same.1, same.2)
-    (list_refused (g.S.Sink.buffer c.args.output.now) (g.S.Sink.buffer c.loop-node.taken) (g.S.Sink.buffer c.write_node.new.output) _ _ _ _ _ c.loop-node.invariant next
-    (rw (c.put_back-in-None-write_seldom.ensures.put, c.in-None-write_seldom.ensures.appends, c.in-None.ensures.appends) at c.in_err-write_node-in-None-write_seldom.ensures.appends))
+    (list_refused (g.S.Sink.buffer c.args.output.now) (g.S.Sink.buffer c.loop-node.taken) (g.S.Sink.buffer c.write_inner.new.output) _ _ _ _ _ c.loop-node.invariant next
+    (rw (c.put_back-in-None-write_seldom.ensures.put, c.in-None-write_seldom.ensures.appends, c.in-None.ensures.appends) at c.in_err-write_inner-in-None-write_seldom.ensures.appends))
 
 pub write_nodes-returns-in-Some-Err-clause-appends : goal.write_nodes-returns-in-Some-Err-clause-appends
 write_nodes-returns-in-Some-Err-clause-appends g t c =
