@@ -163,8 +163,7 @@ pub fn parts_of<V: ComponentProvider>(config: &Config, value: &V, state: &mut V:
 }
 
 // Appends the parts that are formatted, of a value that supplies their groups. A configuration that
-// formats nothing is refused.
-#[inline(always)]
+// formats nothing is refused. The compiler keeps each return apart where this function is not inlined.
 pub(super) fn write_parts<V: ComponentProvider>(
     config: &Config,
     way: &Way,
