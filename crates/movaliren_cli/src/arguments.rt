@@ -1,7 +1,6 @@
 //! What the words of the command line ask for.
-use clap::error::ErrorKind;
-use clap::{Arg, ArgAction, ArgGroup, ArgMatches, Command, Error, value_parser};
-use std::alloc::Global;
+use clap::{Arg, ArgAction, ArgMatches, Command, Error, value_parser};
+use std::alloc::{AllocError, Global};
 use time_lines::Unit;
 
 /// Where the clock stands whose times are shown.
@@ -46,6 +45,9 @@ pub struct Asked<'a> {
 /// The digits that a number has at least, where nothing else is asked for: those of 1973 and later.
 const LEAST_DIGITS: usize = 9;
 
+/// The description, where nothing else is asked for.
+const USUAL: &str = "rfc3339";
+
 const DESCRIPTIONS: &str = "\
 Descriptions:
   rfc3339        2023-11-14T22:13:20.123Z
@@ -56,135 +58,191 @@ Descriptions:
   a text with %  as of strftime: '%Y-%m-%d %H:%M:%S'
   other texts    '[year]-[month]-[day] [hour]:[minute]'";
 
-/// An option without a value.
-fn flag<'a>(alloc: Global, name: &'a str, help: &'a str) -> Arg<'a> {
-    Arg::new(alloc, name)
-        .long(name)
-        .action(ArgAction::SetTrue)
-        .help(help)
+/// What follows the name of an option.
+#[derive(Clone, Copy)]
+enum Takes {
+    /// Nothing: it is given or not.
+    Nothing,
+    /// A text, which has this name in the help, and may begin with a hyphen where it may have a sign.
+    Text { name: &'static str, is_signed: bool },
+    /// The number of digits of a number.
+    Digits,
 }
 
-/// An option with a value.
-fn option<'a>(alloc: Global, name: &'a str, value: &'a str, help: &'a str) -> Arg<'a> {
-    Arg::new(alloc, name)
-        .long(name)
-        .value_name(value)
-        .help(help)
+/// An option of the command line.
+struct OptionRow {
+    name: &'static str,
+    letter: Option<char>,
+    /// The name of the options of which at most one is given, if it is one of those.
+    choice: Option<&'static str>,
+    takes: Takes,
+    help: &'static str,
+    /// The names of the jobs that have it.
+    jobs: &'static [&'static str],
 }
 
-/// The command with one option more.
-fn with<'a>(command: Command<'a>, option: Arg<'a>) -> Result<Command<'a>, Error> {
-    Ok(command.arg(option)?)
+/// The names of all jobs.
+const ALL: &[&str] = &["now", "unix", "read"];
+
+/// The job whose lines have numbers.
+const WITH_NUMBERS: &[&str] = &["unix"];
+
+/// The jobs in which a line may pass as it is.
+const WITH_PASSED: &[&str] = &["unix", "read"];
+
+const OPTIONS: &[OptionRow] = &[
+    OptionRow {
+        name: "utc",
+        letter: Some('u'),
+        choice: Some("clock"),
+        takes: Takes::Nothing,
+        help: "Shows UTC, which is the default",
+        jobs: ALL,
+    },
+    OptionRow {
+        name: "offset",
+        letter: None,
+        choice: Some("clock"),
+        takes: Takes::Text {
+            name: "OFFSET",
+            is_signed: true,
+        },
+        help: "Shows the time at an offset such as +05:30",
+        jobs: ALL,
+    },
+    OptionRow {
+        name: "zone",
+        letter: Some('z'),
+        choice: Some("clock"),
+        takes: Takes::Text {
+            name: "NAME",
+            is_signed: false,
+        },
+        help: "Shows the time in a zone such as Europe/Berlin",
+        jobs: ALL,
+    },
+    OptionRow {
+        name: "local",
+        letter: Some('l'),
+        choice: Some("clock"),
+        takes: Takes::Nothing,
+        help: "Shows the time in the zone of the system, or of the variable TZ",
+        jobs: ALL,
+    },
+    OptionRow {
+        name: "digits",
+        letter: Some('d'),
+        choice: None,
+        takes: Takes::Digits,
+        help: "How many digits a number has at least [default: 9]",
+        jobs: WITH_NUMBERS,
+    },
+    OptionRow {
+        name: "milliseconds",
+        letter: None,
+        choice: Some("unit"),
+        takes: Takes::Nothing,
+        help: "Numbers are milliseconds, and not seconds",
+        jobs: WITH_NUMBERS,
+    },
+    OptionRow {
+        name: "microseconds",
+        letter: None,
+        choice: Some("unit"),
+        takes: Takes::Nothing,
+        help: "Numbers are microseconds",
+        jobs: WITH_NUMBERS,
+    },
+    OptionRow {
+        name: "nanoseconds",
+        letter: None,
+        choice: Some("unit"),
+        takes: Takes::Nothing,
+        help: "Numbers are nanoseconds",
+        jobs: WITH_NUMBERS,
+    },
+    OptionRow {
+        name: "quiet",
+        letter: Some('q'),
+        choice: None,
+        takes: Takes::Nothing,
+        help: "Does not count the lines that pass as they are",
+        jobs: WITH_PASSED,
+    },
+];
+
+/// The jobs and what they do.
+const JOBS: &[(&str, &str)] = &[
+    ("now", "Puts the time at which it was read before each line"),
+    (
+        "unix",
+        "Replaces the first number of each line, Unix seconds, by its text",
+    ),
+    (
+        "read",
+        "Replaces the first text of RFC 3339 of each line, such as 2023-11-14T22:13:20Z",
+    ),
+];
+
+/// The option, and what follows its name.
+fn with_value<'a>(option: Arg<'a>, takes: Takes) -> Arg<'a> {
+    match takes {
+        Takes::Nothing => option.action(ArgAction::SetTrue),
+        Takes::Text { name, is_signed } => option.value_name(name).allow_hyphen_values(is_signed),
+        Takes::Digits => option
+            .value_name("N")
+            .value_parser(value_parser!(u8).range(1..20)),
+    }
 }
 
-/// The command with options of which at most one is given.
-fn with_choice<'a>(
-    alloc: Global,
-    command: Command<'a>,
-    name: &'a str,
-    options: &[&'a str],
-) -> Result<Command<'a>, Error> {
-    let group = ArgGroup::new(alloc, name).args(options)?;
-    Ok(command.group(group)?)
+/// The option of a row.
+fn option<'a>(alloc: Global, row: &OptionRow) -> Result<Arg<'a>, AllocError> {
+    let option = with_value(Arg::new(alloc, row.name).help(row.help), row.takes).long(row.name);
+    let option = match row.letter {
+        Some(letter) => option.short(letter),
+        None => option,
+    };
+    match row.choice {
+        Some(choice) => option.group(choice),
+        None => Ok(option),
+    }
 }
 
-/// The command with the description and the options of all jobs.
-fn with_options<'a>(alloc: Global, command: Command<'a>) -> Result<Command<'a>, Error> {
-    let description = Arg::new(alloc, "DESCRIPTION")
+/// The description, which needs no name.
+fn description<'a>(alloc: Global) -> Arg<'a> {
+    Arg::new(alloc, "DESCRIPTION")
         .help("What the text of a moment looks like")
-        .default_value("rfc3339");
-    let command = with(command.after_help(DESCRIPTIONS), description)?;
-    let command = with_clock(alloc, command)?;
-    with_choice(alloc, command, "clock", &["utc", "offset", "zone", "local"])
+        .default_value(USUAL)
 }
 
-/// The command with the options for a clock.
-fn with_clock<'a>(alloc: Global, command: Command<'a>) -> Result<Command<'a>, Error> {
-    let utc = flag(alloc, "utc", "Shows UTC, which is the default").short('u');
-    let command = with(command, utc)?;
-    let help = "Shows the time at an offset such as +05:30";
-    let offset = option(alloc, "offset", "OFFSET", help).allow_hyphen_values(true);
-    let command = with(command, offset)?;
-    let help = "Shows the time in a zone such as Europe/Berlin";
-    let command = with(command, option(alloc, "zone", "NAME", help).short('z'))?;
-    let help = "Shows the time in the zone of the system, or of the variable TZ";
-    with(command, flag(alloc, "local", help).short('l'))
+/// The command of a job, with its options.
+fn subcommand<'a>(
+    alloc: Global,
+    name: &'static str,
+    about: &'static str,
+) -> Result<Command<'a>, AllocError> {
+    let mut command = Command::new(alloc, name)
+        .about(about)
+        .after_help(DESCRIPTIONS)
+        .arg(description(alloc))?;
+    for row in OPTIONS {
+        if row.jobs.contains(&name) {
+            command = command.arg(option(alloc, row)?)?;
+        }
+    }
+    Ok(command)
 }
 
-/// The command with the options for numbers.
-fn with_numbers<'a>(alloc: Global, command: Command<'a>) -> Result<Command<'a>, Error> {
-    let help = "How many digits a number has at least [default: 9]";
-    let digits = option(alloc, "digits", "N", help)
-        .short('d')
-        .value_parser(value_parser!(u8).range(1..20));
-    let command = with_units(alloc, with(command, digits)?)?;
-    with_choice(
-        alloc,
-        command,
-        "unit",
-        &["milliseconds", "microseconds", "nanoseconds"],
-    )
-}
-
-/// The command with the options for the unit of a number.
-fn with_units<'a>(alloc: Global, command: Command<'a>) -> Result<Command<'a>, Error> {
-    let help = "Numbers are milliseconds, and not seconds";
-    let command = with(command, flag(alloc, "milliseconds", help))?;
-    let command = with(
-        command,
-        flag(alloc, "microseconds", "Numbers are microseconds"),
-    )?;
-    with(
-        command,
-        flag(alloc, "nanoseconds", "Numbers are nanoseconds"),
-    )
-}
-
-/// The command with the option for lines without a moment.
-fn with_quiet<'a>(alloc: Global, command: Command<'a>) -> Result<Command<'a>, Error> {
-    let help = "Does not count the lines that pass as they are";
-    with(command, flag(alloc, "quiet", help).short('q'))
-}
-
-/// The job `now`.
-fn now<'a>(alloc: Global) -> Result<Command<'a>, Error> {
-    let about = "Puts the time at which it was read before each line";
-    with_options(alloc, Command::new(alloc, "now").about(about))
-}
-
-/// The job `unix`.
-fn unix<'a>(alloc: Global) -> Result<Command<'a>, Error> {
-    let about = "Replaces the first number of each line, Unix seconds, by its text";
-    let command = with_options(alloc, Command::new(alloc, "unix").about(about))?;
-    with_quiet(alloc, with_numbers(alloc, command)?)
-}
-
-/// The job `read`.
-fn read_back<'a>(alloc: Global) -> Result<Command<'a>, Error> {
-    let about = "Replaces the first text of RFC 3339 of each line, such as 2023-11-14T22:13:20Z";
-    with_quiet(
-        alloc,
-        with_options(alloc, Command::new(alloc, "read").about(about))?,
-    )
-}
-
-/// The command with one job more, if that could be made.
-fn with_job<'a>(
-    command: Command<'a>,
-    job: Result<Command<'a>, Error>,
-) -> Result<Command<'a>, Error> {
-    Ok(command.subcommand(job?)?)
-}
-
-fn command<'a>(alloc: Global) -> Result<Command<'a>, Error> {
-    let command = Command::new(alloc, "movaliren")
+fn command<'a>(alloc: Global) -> Result<Command<'a>, AllocError> {
+    let mut command = Command::new(alloc, "movaliren")
         .version("0.1.0")
         .about("Formats the moments of the lines of standard input")
         .subcommand_required(true)
         .arg_required_else_help(true);
-    let command = with_job(command, now(alloc))?;
-    let command = with_job(command, unix(alloc))?;
-    with_job(command, read_back(alloc))
+    for (name, about) in JOBS {
+        command = command.subcommand(subcommand(alloc, name, about)?)?;
+    }
+    Ok(command)
 }
 
 fn clock_of<'a>(matches: &ArgMatches<'a>) -> Clock<'a> {
@@ -238,34 +296,17 @@ fn asked_of<'a>(name: &str, words: &ArgMatches<'a>) -> Asked<'a> {
             job: job_of(name, words),
             is_quiet: words.get_flag("quiet"),
         },
-        description: words.get_str("DESCRIPTION").unwrap_or("rfc3339"),
+        description: words.get_str("DESCRIPTION").unwrap_or(USUAL),
         clock: clock_of(words),
     }
 }
 
-/// What a job and its words ask for, if there is a job.
-fn asked_in<'a>(matches: &ArgMatches<'a>) -> Option<Asked<'a>> {
+/// Reads the words of the command line. There is nothing that they ask for where they name no job, which
+/// the command refuses by itself.
+pub fn read<'a>(alloc: Global, words: &'a [String]) -> Result<Option<Asked<'a>>, Error> {
+    let matches = command(alloc)?.try_get_matches_from(words)?;
     match matches.subcommand() {
-        Some((name, below)) => Some(asked_of(name, below)),
-        None => None,
-    }
-}
-
-/// The refusal of words without a job.
-fn no_job(alloc: Global) -> Result<Error, Error> {
-    Ok(command(alloc)?.error(ErrorKind::MissingSubcommand, "no job")?)
-}
-
-/// The words of the command line, told apart.
-fn matches_of<'a>(alloc: Global, words: &'a [String]) -> Result<ArgMatches<'a>, Error> {
-    Ok(command(alloc)?.try_get_matches_from(words)?)
-}
-
-/// Reads the words of the command line.
-pub fn read<'a>(alloc: Global, words: &'a [String]) -> Result<Asked<'a>, Error> {
-    let matches = matches_of(alloc, words)?;
-    match asked_in(&matches) {
-        Some(asked) => Ok(asked),
-        None => Err(no_job(alloc)?),
+        Some((name, below)) => Ok(Some(asked_of(name, below))),
+        None => Ok(None),
     }
 }

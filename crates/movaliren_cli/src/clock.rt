@@ -2,6 +2,7 @@
 use crate::arguments::Clock;
 use crate::zone::{Zone, read_system, read_zone};
 use crate::{offset, say};
+use jiff_core::Error;
 use std::process::ExitCode;
 use time_below::UtcOffset;
 
@@ -24,19 +25,15 @@ fn at_offset(rt: &HostRuntime, text: &str) -> Result<FoundClock, ExitCode> {
     }
 }
 
-/// The clock of the zone of this name.
-fn in_zone(rt: &HostRuntime, name: &str) -> Result<FoundClock, ExitCode> {
-    match read_zone(rt, name) {
+/// The clock of the zone that was read, which has a name unless it is that of the system.
+fn in_zone(
+    rt: &HostRuntime,
+    name: Option<&str>,
+    read: Result<Zone, Error>,
+) -> Result<FoundClock, ExitCode> {
+    match read {
         Ok(zone) => Ok(FoundClock::Zone(zone)),
         Err(fault) => Err(say::refuse_zone(rt, name, fault)),
-    }
-}
-
-/// The clock of the system.
-fn local(rt: &HostRuntime) -> Result<FoundClock, ExitCode> {
-    match read_system(rt) {
-        Ok(zone) => Ok(FoundClock::Zone(zone)),
-        Err(fault) => Err(say::refuse_local(rt, fault)),
     }
 }
 
@@ -45,7 +42,7 @@ pub fn find(rt: &HostRuntime, clock: Clock<'_>) -> Result<FoundClock, ExitCode> 
     match clock {
         Clock::Utc => Ok(FoundClock::Utc),
         Clock::Offset(text) => at_offset(rt, text),
-        Clock::Zone(name) => in_zone(rt, name),
-        Clock::Local => local(rt),
+        Clock::Zone(name) => in_zone(rt, Some(name), read_zone(rt, name)),
+        Clock::Local => in_zone(rt, None, read_system(rt)),
     }
 }

@@ -144,7 +144,8 @@ fn run_described(rt: &HostRuntime, asked: &Asked) -> ExitCode {
 /// Reads the words of the command line, and does what they ask for.
 fn run_words(rt: &HostRuntime, words: &[String]) -> ExitCode {
     match arguments::read(rt.alloc(), words) {
-        Ok(asked) => run_described(rt, &asked),
+        Ok(Some(asked)) => run_described(rt, &asked),
+        Ok(None) => refuse(rt, "no job is given"),
         Err(error) => say::print_usage(rt, error),
     }
 }

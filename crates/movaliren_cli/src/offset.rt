@@ -1,12 +1,14 @@
 //! Offsets of the command line.
-ghost use Rattle.std.specs.Prelude.{◌<◌, IfSome};
+ghost use Rattle.std.specs.Prelude.{◌<◌, ◌≤◌, IfSome};
 
 use time_below::UtcOffset;
 
-/// The number of two digits.
-fn pair(tens: u8, ones: u8) -> Option<u8>
+/// The number of the two digits that stand at this place.
+fn pair(text: &[u8], at: usize) -> Option<u8>
+    requires { at ≤ 6 }
     ensures { IfSome result (λ n. n < 100) }
 {
+    let (tens, ones) = (*text.get(at)?, *text.get(at + 1)?);
     if tens.is_ascii_digit() && ones.is_ascii_digit() {
         Some((tens - b'0') * 10 + (ones - b'0'))
     } else {
@@ -21,11 +23,12 @@ fn parts(text: &[u8]) -> Option<(u8, u8, u8)>
     ensures minutes { IfSome result (λ p. p.1 < 100) }
     ensures seconds { IfSome result (λ p. p.2 < 100) }
 {
-    match text {
-        [a, b] => Some((pair(*a, *b)?, 0, 0)),
-        [a, b, c, d] => Some((pair(*a, *b)?, pair(*c, *d)?, 0)),
-        [a, b, b':', c, d] => Some((pair(*a, *b)?, pair(*c, *d)?, 0)),
-        [a, b, b':', c, d, b':', e, f] => Some((pair(*a, *b)?, pair(*c, *d)?, pair(*e, *f)?)),
+    let hours = pair(text, 0)?;
+    match text.len() {
+        2 => Some((hours, 0, 0)),
+        4 => Some((hours, pair(text, 2)?, 0)),
+        5 if text[2] == b':' => Some((hours, pair(text, 3)?, 0)),
+        8 if text[2] == b':' && text[5] == b':' => { Some((hours, pair(text, 3)?, pair(text, 6)?)) }
         _ => None,
     }
 }

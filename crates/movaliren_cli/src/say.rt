@@ -4,9 +4,9 @@ use clap::Error as UsageError;
 use clap::error::ErrorKind;
 use jiff_core::Error as ZoneError;
 use line_streams::FilterError;
-use std::alloc::AllocError;
-use std::io;
+use std::fmt::{Display, Formatter, Write};
 use std::process::ExitCode;
+use std::{fmt, io};
 use time_describe::{InvalidDescription, InvalidStrftime};
 
 /// The status of a failure.
@@ -75,92 +75,65 @@ pub fn print_usage(rt: &HostRuntime, error: UsageError) -> ExitCode {
     ExitCode::from(if is_error { USAGE } else { 0 })
 }
 
-/// Says why a zone is not shown.
-pub fn refuse_zone(rt: &HostRuntime, name: &str, fault: ZoneError) -> ExitCode {
-    match fault {
-        ZoneError::OutOfMemory => return fail(rt, Err(FilterError::Memory)),
-        ZoneError::TimeZoneNotFound => {
-            let _ = eprintln!(rt; "movaliren: no time zone has the name '{name}'");
+/// Says why a zone is not shown: that of a name, or that of the system, which has none.
+pub fn refuse_zone(rt: &HostRuntime, name: Option<&str>, fault: ZoneError) -> ExitCode {
+    let _ = match (fault, name) {
+        (ZoneError::OutOfMemory, _) => return fail(rt, Err(FilterError::Memory)),
+        (ZoneError::TimeZoneNotFound, Some(name)) => {
+            eprintln!(rt; "movaliren: no time zone has the name '{name}'")
         }
-        other => {
-            let _ = eprintln!(rt; "movaliren: the time zone '{name}' cannot be read: {other}");
+        (ZoneError::TimeZoneNotFound, None) => {
+            eprintln!(rt; "movaliren: the variable TZ or /etc/localtime names no time zone")
         }
-    }
+        (other, Some(name)) => {
+            eprintln!(rt; "movaliren: the time zone '{name}' cannot be read: {other}")
+        }
+        (other, None) => {
+            eprintln!(rt; "movaliren: the time zone of the system cannot be read: {other}")
+        }
+    };
     ExitCode::from(USAGE)
 }
 
-/// Says why the zone of the system is not shown.
-pub fn refuse_local(rt: &HostRuntime, fault: ZoneError) -> ExitCode {
-    match fault {
-        ZoneError::OutOfMemory => return fail(rt, Err(FilterError::Memory)),
-        ZoneError::TimeZoneNotFound => {
-            say(rt, "the variable TZ or /etc/localtime names no time zone");
+/// A text whose control characters are shown as spaces.
+#[derive(Drop)]
+struct OneLine<'a>(&'a str);
+
+impl Display for OneLine<'_> {
+    fn fmt<W: Write>(&self, f: &mut Formatter<W>) -> fmt::Result {
+        for letter in self.0.chars() {
+            f.write_char(if letter.is_control() { ' ' } else { letter })?;
         }
-        other => {
-            let _ = eprintln!(rt; "movaliren: the time zone of the system cannot be read: {other}");
-        }
+        Ok(())
     }
+}
+
+/// Says why a description is wrong, and shows it with its place marked.
+fn show_mark(rt: &HostRuntime, text: &str, reason: impl Display + Drop, index: usize) -> ExitCode {
+    let place = text
+        .char_indices()
+        .take_while(|(at, _)| *at < index)
+        .count();
+    let shown = OneLine(text);
+    let _ = eprintln!(rt; "movaliren: {reason}:\n  {shown}\n  {:>place$}^", "");
     ExitCode::from(USAGE)
-}
-
-/// Appends the text with its control characters as spaces.
-fn push_line(shown: &mut String, text: &str) -> Result<(), AllocError> {
-    for letter in text.chars() {
-        shown.push(if letter.is_control() { ' ' } else { letter })?;
-    }
-    Ok(())
-}
-
-/// Appends a mark that stands below this byte of the text.
-fn push_mark(shown: &mut String, text: &str, index: usize) -> Result<(), AllocError> {
-    for (at, _) in text.char_indices() {
-        if at >= index {
-            break;
-        }
-        shown.push(' ')?;
-    }
-    shown.push('^')
-}
-
-/// The text, and below it a mark at this byte.
-fn marked(rt: &HostRuntime, text: &str, index: usize) -> Result<String, AllocError> {
-    let mut shown = String::from_str(rt.alloc(), "  ")?;
-    push_line(&mut shown, text)?;
-    shown.push_str("\n  ")?;
-    push_mark(&mut shown, text, index)?;
-    Ok(shown)
-}
-
-/// Prints a description that is wrong, with its place marked.
-fn show_mark(rt: &HostRuntime, text: &str, index: usize) -> ExitCode {
-    match marked(rt, text, index) {
-        Ok(shown) => {
-            let _ = eprintln!(rt; "{shown}");
-            ExitCode::from(USAGE)
-        }
-        Err(_) => fail(rt, Err(FilterError::Memory)),
-    }
 }
 
 /// Says why a text is no description, and marks the place.
 pub fn refuse_description(rt: &HostRuntime, text: &str, refusal: Refusal) -> ExitCode {
     match refusal {
-        Refusal::Memory => fail(rt, Err(FilterError::Memory)),
         Refusal::Name => {
             let _ = eprintln!(rt;
                 "movaliren: no format has the name '{text}': there are rfc3339, rfc2822, iso8601, stamp and unix, and texts with % or ["
             );
             ExitCode::from(USAGE)
         }
-        Refusal::Brackets(InvalidDescription::OutOfMemory) => fail(rt, Err(FilterError::Memory)),
         Refusal::Brackets(InvalidDescription::Invalid { reason, index }) => {
-            let _ = eprintln!(rt; "movaliren: {reason}:");
-            show_mark(rt, text, index)
+            show_mark(rt, text, reason, index)
         }
-        Refusal::Strftime(InvalidStrftime::OutOfMemory) => fail(rt, Err(FilterError::Memory)),
         Refusal::Strftime(InvalidStrftime::Invalid { reason, index }) => {
-            let _ = eprintln!(rt; "movaliren: {reason}:");
-            show_mark(rt, text, index)
+            show_mark(rt, text, reason, index)
         }
+        _ => fail(rt, Err(FilterError::Memory)),
     }
 }

@@ -28,21 +28,25 @@ fn is_name(name: &str) -> bool {
             || *b == b'/')
 }
 
-fn read_file<R: Files + AllocGlobal>(rt: &R, directory: &str, name: &str) -> Result<Tzif, Error> {
-    let alloc = rt.alloc();
-    let mut path = String::from_str(alloc, directory)?;
-    path.push('/')?;
-    path.push_str(name)?;
-    if !fs::metadata(rt, path.as_str())?.is_file() {
+/// The bytes of a file, if they are no more than those of a zone.
+fn read_bytes<R: Files + AllocGlobal>(rt: &R, path: &str) -> Result<Vec<u8>, Error> {
+    if !fs::metadata(rt, path)?.is_file() {
         return Err(Error::Io(ErrorKind::InvalidInput));
     }
-    let mut bytes = Vec::new(alloc);
-    let mut file = fs::open(rt, path.as_str())?.take(MAX_FILE_BYTES + 1);
+    let mut file = fs::open(rt, path)?.take(MAX_FILE_BYTES + 1);
+    let mut bytes = Vec::new(rt.alloc());
     file.read_to_end(&mut bytes)?;
     if bytes.len() as u64 > MAX_FILE_BYTES {
         return Err(Error::Io(ErrorKind::FileTooLarge));
     }
-    Tzif::parse(alloc, Some(name), bytes.as_slice())
+    Ok(bytes)
+}
+
+/// Reads the zone of this name from a directory.
+fn read_file<R: Files + AllocGlobal>(rt: &R, directory: &str, name: &str) -> Result<Tzif, Error> {
+    let path = format!(in rt.alloc(); "{directory}/{name}")?;
+    let bytes = read_bytes(rt, path.as_str())?;
+    Tzif::parse(rt.alloc(), Some(name), bytes.as_slice())
 }
 
 /// Whether no file is there, so that the next place is looked at.
