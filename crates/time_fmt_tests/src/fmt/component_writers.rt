@@ -3,7 +3,6 @@
 //! What the writers take comes from calls without a clause. So the proof knows of it what its type says, and finds
 //! room for any text of that type.
 use super::writers::{assert_written, empty};
-use std::test::Fail;
 use time_below::format_description::modifier;
 use time_below::format_description::modifier::{Padding, SubsecondDigits};
 use time_below::{Month, Period, Weekday};
@@ -17,9 +16,9 @@ use time_provide::ranges::{
 /// Writes each component to a vector of its own, and compares its text and the count.
 macro_rules! written {
     ($rt:ident; $($writer:ident($($argument:expr),+) $text:literal,)+) => {$({
-        let mut output = empty(&$rt)?;
+        let mut output = empty(&$rt, $rt.alloc());
         let count = $writer(&mut output, $($argument),+);
-        assert_written(&$rt, &output, count, $text);
+        assert_written(&$rt, output, count, $text);
     })+};
 }
 
@@ -93,7 +92,7 @@ fn offset_minute() -> OffsetMinutes {
 
 #[test]
 #[tactic(auto, using(time_fmt::proofs::TextLemmas::text_lengths))]
-fn days_and_months_are_written(rt: HostRuntime) -> Result<(), Fail> {
+fn days_and_months_are_written(rt: HostRuntime) {
     let (padding, case_sensitive) = (zeros(), no());
     written!(rt;
         fmt_day(day(), modifier::Day { padding }) "12",
@@ -102,12 +101,11 @@ fn days_and_months_are_written(rt: HostRuntime) -> Result<(), Fail> {
         fmt_month_numerical(month(), modifier::MonthNumerical { padding }) "11",
         fmt_ordinal(ordinal(), modifier::Ordinal { padding }) "316",
     );
-    Ok(())
 }
 
 #[test]
 #[tactic(auto, using(time_fmt::proofs::TextLemmas::text_lengths))]
-fn weekdays_are_written(rt: HostRuntime) -> Result<(), Fail> {
+fn weekdays_are_written(rt: HostRuntime) {
     let (day, case_sensitive, one_indexed) = (weekday(), no(), no());
     written!(rt;
         fmt_weekday_short(day, modifier::WeekdayShort { case_sensitive }) "Wed",
@@ -115,12 +113,11 @@ fn weekdays_are_written(rt: HostRuntime) -> Result<(), Fail> {
         fmt_weekday_sunday(day, modifier::WeekdaySunday { one_indexed }) "3",
         fmt_weekday_monday(day, modifier::WeekdayMonday { one_indexed }) "2",
     );
-    Ok(())
 }
 
 #[test]
 #[tactic(auto, using(time_fmt::proofs::TextLemmas::text_lengths))]
-fn weeks_are_written(rt: HostRuntime) -> Result<(), Fail> {
+fn weeks_are_written(rt: HostRuntime) {
     let padding = zeros();
     written!(rt;
         fmt_week_number_iso(ru8::within(46), modifier::WeekNumberIso { padding }) "46",
@@ -129,12 +126,11 @@ fn weeks_are_written(rt: HostRuntime) -> Result<(), Fail> {
         fmt_calendar_year_last_two(last_two(), modifier::CalendarYearLastTwo { padding }) "97",
         fmt_iso_year_last_two(last_two(), modifier::IsoYearLastTwo { padding }) "97",
     );
-    Ok(())
 }
 
 #[test]
 #[tactic(auto, using(time_fmt::proofs::TextLemmas::signed_lengths))]
-fn years_are_written(rt: HostRuntime) -> Result<(), Fail> {
+fn years_are_written(rt: HostRuntime) {
     let (padding, sign_is_mandatory) = (zeros(), no());
     written!(rt;
         fmt_calendar_year_full_extended_range(
@@ -150,12 +146,11 @@ fn years_are_written(rt: HostRuntime) -> Result<(), Fail> {
             standard_year(), modifier::IsoYearFullStandardRange { padding, sign_is_mandatory }
         ) "1997",
     );
-    Ok(())
 }
 
 #[test]
 #[tactic(auto, using(time_fmt::proofs::TextLemmas::signed_lengths))]
-fn centuries_are_written(rt: HostRuntime) -> Result<(), Fail> {
+fn centuries_are_written(rt: HostRuntime) {
     let (padding, sign_is_mandatory, is_negative) = (zeros(), no(), no());
     written!(rt;
         fmt_calendar_year_century_extended_range(
@@ -175,12 +170,11 @@ fn centuries_are_written(rt: HostRuntime) -> Result<(), Fail> {
             modifier::IsoYearCenturyStandardRange { padding, sign_is_mandatory }
         ) "19",
     );
-    Ok(())
 }
 
 #[test]
 #[tactic(auto, using(time_fmt::proofs::TextLemmas::text_lengths))]
-fn times_of_day_are_written(rt: HostRuntime) -> Result<(), Fail> {
+fn times_of_day_are_written(rt: HostRuntime) {
     let (padding, is_uppercase, case_sensitive) = (zeros(), no(), no());
     written!(rt;
         fmt_hour_12(ru8::within(9), modifier::Hour12 { padding }) "09",
@@ -189,31 +183,28 @@ fn times_of_day_are_written(rt: HostRuntime) -> Result<(), Fail> {
         fmt_period(half(), modifier::Period { is_uppercase, case_sensitive }) "am",
         fmt_second(ru8::within(6), modifier::Second { padding }) "06",
     );
-    Ok(())
 }
 
 #[test]
 #[tactic(auto, using(time_fmt::proofs::TrimLemmas::subsecond_lengths))]
-fn decimals_are_written(rt: HostRuntime) -> Result<(), Fail> {
+fn decimals_are_written(rt: HostRuntime) {
     let digits = decimals();
     written!(rt; fmt_subsecond(nanosecond(), modifier::Subsecond { digits }) "123456789",);
-    Ok(())
 }
 
 #[test]
 #[tactic(auto, using(time_fmt::proofs::TextLemmas::text_lengths))]
-fn the_end_of_an_offset_is_written(rt: HostRuntime) -> Result<(), Fail> {
+fn the_end_of_an_offset_is_written(rt: HostRuntime) {
     let padding = zeros();
     written!(rt;
         fmt_offset_minute(offset_minute(), modifier::OffsetMinute { padding }) "30",
         fmt_offset_second(ri8::within(0), modifier::OffsetSecond { padding }) "00",
     );
-    Ok(())
 }
 
 #[test]
 #[tactic(auto, using(time_fmt::proofs::TextLemmas::signed_lengths))]
-fn hours_of_offsets_and_moments_are_written(rt: HostRuntime) -> Result<(), Fail> {
+fn hours_of_offsets_and_moments_are_written(rt: HostRuntime) {
     let (padding, sign_is_mandatory, is_negative) = (zeros(), no(), no());
     let number = i64::from(nanosecond().get());
     written!(rt;
@@ -227,5 +218,4 @@ fn hours_of_offsets_and_moments_are_written(rt: HostRuntime) -> Result<(), Fail>
             number, modifier::UnixTimestampMillisecond { sign_is_mandatory }
         ) "123456789",
     );
-    Ok(())
 }

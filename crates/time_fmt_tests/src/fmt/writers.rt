@@ -1,9 +1,8 @@
 //! Worked rows of numbers, their paddings and signs, and texts as they are.
-ghost use Rattle.std.specs.Prelude.{IfOk};
 ghost use Rattle.time_fmt.specs.Room.{HasRoom};
 
 use crate::texts::{assert_same, assert_that};
-use std::alloc::AllocError;
+use std::alloc::Global;
 use std::process::Abort;
 use std::test::Fail;
 use time_below::format_description::modifier::Padding;
@@ -11,14 +10,17 @@ use time_digits::{ru8, ru16, ru32};
 use time_fmt::writers::*;
 
 /// Returns an empty vector with capacity for each text of these tests.
-pub(super) fn empty(rt: &HostRuntime) -> Result<Vec<u8>, AllocError>
-    ensures { IfOk result (λ output. HasRoom output 20) }
+pub(super) fn empty(rt: &impl Abort, alloc: Global) -> Vec<u8>
+    ensures { HasRoom result 20 }
 {
-    Vec::with_capacity(rt.alloc(), 20)
+    let Ok(output) = Vec::with_capacity(alloc, 20) else {
+        panic!(rt; "no memory");
+    };
+    output
 }
 
-/// Compares what was appended to an empty vector, and the answer.
-pub(super) fn assert_written(rt: &impl Abort, output: &Vec<u8>, count: usize, text: &str) {
+/// Compares what was appended to an empty vector, and the count. The vector is taken, so that no test gives it back.
+pub(super) fn assert_written(rt: &impl Abort, output: Vec<u8>, count: usize, text: &str) {
     assert_same(rt, output.as_slice(), text.as_bytes());
     assert_same(rt, count, text.len());
 }
@@ -34,24 +36,22 @@ const TWO: &[(u8, Padding, &str)] = &[
 
 #[test]
 #[tactic(auto, using(time_fmt::proofs::TextLemmas::text_lengths))]
-fn two_digits_are_filled_as_asked_for(rt: HostRuntime) -> Result<(), Fail> {
+fn two_digits_are_filled_as_asked_for(rt: HostRuntime) {
     for &(number, padding, text) in TWO {
-        let mut output = empty(&rt)?;
+        let mut output = empty(&rt, rt.alloc());
         let number = ru8::new(number).expect(&rt, "two digits");
         let count = format_two_digits(&mut output, number, padding);
-        assert_written(&rt, &output, count, text);
+        assert_written(&rt, output, count, text);
     }
-    Ok(())
 }
 
 #[test]
 #[tactic(auto, using(time_fmt::proofs::NumberLemmas::four_digits))]
-fn one_digit_is_written(rt: HostRuntime) -> Result<(), Fail> {
-    let mut output = empty(&rt)?;
+fn one_digit_is_written(rt: HostRuntime) {
+    let mut output = empty(&rt, rt.alloc());
     let digit = ru8::new(7).expect(&rt, "a digit");
     let count = format_single_digit(&mut output, digit);
-    assert_written(&rt, &output, count, "7");
-    Ok(())
+    assert_written(&rt, output, count, "7");
 }
 
 const THREE: &[(u16, Padding, &str)] = &[
@@ -65,14 +65,13 @@ const THREE: &[(u16, Padding, &str)] = &[
 
 #[test]
 #[tactic(auto, using(time_fmt::proofs::TextLemmas::three_places))]
-fn three_digits_are_filled_as_asked_for(rt: HostRuntime) -> Result<(), Fail> {
+fn three_digits_are_filled_as_asked_for(rt: HostRuntime) {
     for &(number, padding, text) in THREE {
-        let mut output = empty(&rt)?;
+        let mut output = empty(&rt, rt.alloc());
         let number = ru16::new(number).expect(&rt, "three digits");
         let count = format_three_digits(&mut output, number, padding);
-        assert_written(&rt, &output, count, text);
+        assert_written(&rt, output, count, text);
     }
-    Ok(())
 }
 
 const FOUR: &[(u16, Padding, &str)] = &[
@@ -86,14 +85,13 @@ const FOUR: &[(u16, Padding, &str)] = &[
 
 #[test]
 #[tactic(auto, using(time_fmt::proofs::NumberLemmas::four_places))]
-fn four_digits_are_filled_as_asked_for(rt: HostRuntime) -> Result<(), Fail> {
+fn four_digits_are_filled_as_asked_for(rt: HostRuntime) {
     for &(number, padding, text) in FOUR {
-        let mut output = empty(&rt)?;
+        let mut output = empty(&rt, rt.alloc());
         let number = ru16::new(number).expect(&rt, "four digits");
         let count = format_four_digits(&mut output, number, padding);
-        assert_written(&rt, &output, count, text);
+        assert_written(&rt, output, count, text);
     }
-    Ok(())
 }
 
 const FILLED: &[(u16, &str, &str, &str)] = &[
@@ -104,22 +102,21 @@ const FILLED: &[(u16, &str, &str, &str)] = &[
 
 #[test]
 #[tactic(auto, using(time_fmt::proofs::NumberLemmas::number_lengths))]
-fn four_to_six_digits_are_filled_with_zeros(rt: HostRuntime) -> Result<(), Fail> {
+fn four_to_six_digits_are_filled_with_zeros(rt: HostRuntime) {
     for &(number, four, five, six) in FILLED {
-        let mut output = empty(&rt)?;
+        let mut output = empty(&rt, rt.alloc());
         let value = ru16::new(number).expect(&rt, "four digits");
         let count = format_four_digits_pad_zero(&mut output, value);
-        assert_written(&rt, &output, count, four);
-        let mut output = empty(&rt)?;
+        assert_written(&rt, output, count, four);
+        let mut output = empty(&rt, rt.alloc());
         let value = ru32::new(u32::from(number)).expect(&rt, "five digits");
         let count = format_five_digits_pad_zero(&mut output, value);
-        assert_written(&rt, &output, count, five);
-        let mut output = empty(&rt)?;
+        assert_written(&rt, output, count, five);
+        let mut output = empty(&rt, rt.alloc());
         let value = ru32::new(u32::from(number)).expect(&rt, "six digits");
         let count = format_six_digits_pad_zero(&mut output, value);
-        assert_written(&rt, &output, count, six);
+        assert_written(&rt, output, count, six);
     }
-    Ok(())
 }
 
 const WHOLE: &[(u64, &str)] = &[
@@ -130,16 +127,15 @@ const WHOLE: &[(u64, &str)] = &[
 
 #[test]
 #[tactic(auto, using(time_fmt::proofs::NumberLemmas::number_lengths))]
-fn whole_numbers_have_no_more_than_their_digits(rt: HostRuntime) -> Result<(), Fail> {
-    let mut output = empty(&rt)?;
+fn whole_numbers_have_no_more_than_their_digits(rt: HostRuntime) {
+    let mut output = empty(&rt, rt.alloc());
     let count = format_int_padded(&mut output, 42, 4);
-    assert_written(&rt, &output, count, "0042");
+    assert_written(&rt, output, count, "0042");
     for &(number, text) in WHOLE {
-        let mut output = empty(&rt)?;
+        let mut output = empty(&rt, rt.alloc());
         let count = format_u64_pad_none(&mut output, number);
-        assert_written(&rt, &output, count, text);
+        assert_written(&rt, output, count, text);
     }
-    Ok(())
 }
 
 const SIGNS: &[(bool, bool, &str)] = &[
@@ -151,43 +147,40 @@ const SIGNS: &[(bool, bool, &str)] = &[
 
 #[test]
 #[tactic(auto, using(time_fmt::proofs::NumberLemmas::number_lengths))]
-fn a_plus_is_written_where_it_is_asked_for(rt: HostRuntime) -> Result<(), Fail> {
+fn a_plus_is_written_where_it_is_asked_for(rt: HostRuntime) {
     for &(is_negative, sign_is_mandatory, text) in SIGNS {
-        let mut output = empty(&rt)?;
+        let mut output = empty(&rt, rt.alloc());
         let count = fmt_sign(&mut output, is_negative, sign_is_mandatory);
-        assert_written(&rt, &output, count, text);
+        assert_written(&rt, output, count, text);
     }
-    Ok(())
 }
 
 #[test]
-fn bytes_and_texts_are_written_as_they_are(rt: HostRuntime) -> Result<(), Fail> {
-    let mut output = empty(&rt)?;
+fn bytes_and_texts_are_written_as_they_are(rt: HostRuntime) {
+    let mut output = empty(&rt, rt.alloc());
     let count = write_bytes(&mut output, b"\xc3");
     assert_same(&rt, output.as_slice(), b"\xc3".as_slice());
     assert_same(&rt, count, 1);
-    let mut output = empty(&rt)?;
+    let mut output = empty(&rt, rt.alloc());
     let count = write(&mut output, "T");
-    assert_written(&rt, &output, count, "T");
-    let mut output = empty(&rt)?;
+    assert_written(&rt, output, count, "T");
+    let mut output = empty(&rt, rt.alloc());
     let count = write_many(&mut output, &["1", "", "997"]);
-    assert_written(&rt, &output, count, "1997");
-    Ok(())
+    assert_written(&rt, output, count, "1997");
 }
 
 const WANTED: &[(bool, &str, &str)] = &[(true, "+", "AM"), (false, "", "PM")];
 
 #[test]
-fn a_text_is_written_where_it_is_asked_for(rt: HostRuntime) -> Result<(), Fail> {
+fn a_text_is_written_where_it_is_asked_for(rt: HostRuntime) {
     for &(is_wanted, text, chosen) in WANTED {
-        let mut output = empty(&rt)?;
+        let mut output = empty(&rt, rt.alloc());
         let count = write_if(&mut output, is_wanted, "+");
-        assert_written(&rt, &output, count, text);
-        let mut output = empty(&rt)?;
+        assert_written(&rt, output, count, text);
+        let mut output = empty(&rt, rt.alloc());
         let count = write_if_else(&mut output, is_wanted, "AM", "PM");
-        assert_written(&rt, &output, count, chosen);
+        assert_written(&rt, output, count, chosen);
     }
-    Ok(())
 }
 
 const DECIMALS: &[(u64, u64, u8, &str)] = &[
@@ -200,16 +193,15 @@ const DECIMALS: &[(u64, u64, u8, &str)] = &[
 ];
 
 #[test]
-fn decimals_of_a_unit_are_not_rounded(rt: HostRuntime) -> Result<(), Fail> {
+fn decimals_of_a_unit_are_not_rounded(rt: HostRuntime) {
     for &(rest, unit, digits, text) in DECIMALS {
         assert_that(&rt, rest < unit && unit <= 3_600_000_000_000);
         let digits = ru8::new(digits).expect(&rt, "at most 20 digits");
         assert_that(&rt, digits.get() <= 20);
-        let mut output = empty(&rt)?;
+        let mut output = empty(&rt, rt.alloc());
         let count = format_decimals(&mut output, rest, unit, digits);
-        assert_written(&rt, &output, count, text);
+        assert_written(&rt, output, count, text);
     }
-    Ok(())
 }
 
 #[test]
