@@ -1,5 +1,5 @@
 -- Texts of components are ASCII, and texts one after another are UTF-8 where each of them is.
-use Rattle.std.proofs.Common.{◌≡◌, ℕ, ◌+◌, ◌-◌, ◌<◌, Bool, true, false, ◌&&◌, nat_lt, List, [], ◌∷◌}
+use Rattle.std.proofs.Common.{◌≡◌, ℕ, ◌-◌, ◌<◌, Bool, true, false, ◌&&◌, nat_lt, List, []}
 use Rattle.std.proofs.Common.{IsAscii, IsUtf8, IsTrue, MatchOption, Option, Some, None, if◌then◌else◌, refl, arith, Result}
 use Rattle.std.specs.Prelude.{codes, nat_le}
 use Rattle.std.specs.List.{list_all}
