@@ -31,13 +31,14 @@ pub fn append_described(
     description.format_into(line, date, &mut DateState::default())
 }
 
-/// Appends the moment of an entry of a web server's log, such as `22/Nov/2026:09:55:06 +0000`.
+/// Appends a moment by a pattern, such as `22/Nov/2026:09:55:06 +0000` by `%d/%b/%Y:%H:%M:%S %z`.
 pub fn append_by_pattern(
     line: &mut Vec<u8>,
     alloc: Global,
+    pattern: &str,
     moment: &OffsetDateTime,
 ) -> Option<Result<usize, Format>> {
-    let Ok(description) = parse_strftime_owned(alloc, b"%d/%b/%Y:%H:%M:%S %z") else {
+    let Ok(description) = parse_strftime_owned(alloc, pattern.as_bytes()) else {
         return None;
     };
     Some(description.format_into(line, moment, &mut DateState::default()))

@@ -31,7 +31,8 @@ fn says_which_word_of_a_configuration_is_wrong(rt: HostRuntime) {
 #[test]
 fn appends_the_moment_of_a_log(rt: HostRuntime) {
     let mut line = Vec::new(rt.alloc());
-    let written = append_by_pattern(&mut line, rt.alloc(), &sunday(&rt));
+    let pattern = "%d/%b/%Y:%H:%M:%S %z";
+    let written = append_by_pattern(&mut line, rt.alloc(), pattern, &sunday(&rt));
     assert!(rt; matches!(written, Some(Ok(26))));
     assert!(rt; line.as_slice() == b"22/Nov/2026:09:55:06 +0000".as_slice());
 }
