@@ -43,7 +43,7 @@ class Edit:
         self.functions = {f"{crate.name}::{it}" for it in re.findall(r"^refused: (\S+)$", self.text, re.M)}
         self.why = rt.edited(self.text, crate.folder)[1] or ("" if self.functions else "it has no line 'refused: FUNCTION'")
         self.outside, self.reads, self.is_found = set(), set(), True
-        self.alone, self.twins = self, 0
+        self.alone, self.number = self, 0  # the edit itself, and the number of its twin
         if not self.why:
             self.look(crate.folder)
 
@@ -67,7 +67,7 @@ class Edit:
     def twin(self, number):
         """Returns the edit as it is made in the twin of this number."""
         made = copy.copy(self)
-        made.twins, made.functions = number, {f"{it}_{number}" for it in self.functions}
+        made.number, made.functions = number, {f"{it}_{number}" for it in self.functions}
         return made
 
     def put_twin(self, folder, texts):
@@ -91,20 +91,20 @@ class Edit:
         others = [it for it in rt.rtlib.files_of(folder) if it.endswith(".antt") and not it.startswith(f"{folder}/{proofs}/")]
         if any(f".proofs{names}" in rt.rtlib.text_of(it) for it in others):
             return False
-        twin, source = f"{path[-1]}_{self.twins}", texts.get(file, before)
+        twin, source = f"{path[-1]}_{self.number}", texts.get(file, before)
         at = ABOVE.search(source[: among[0].start()]).start()
         second = re.sub(rf"\bfn {path[-1]}\b", f"fn {twin}", edited[0][0], count=1)
         texts[file] = f"{source[:at]}{above}{second}\n\n{source[at:]}"
         for name in os.listdir(f"{folder}/{proofs}") if os.path.isdir(f"{folder}/{proofs}") else ():
             proof = rt.rtlib.text_of(f"{folder}/{proofs}/{name}")
-            texts[f"{proofs}_{self.twins}/{name}"] = proof.replace(f".proofs{names}", f".proofs{names[:-1]}_{self.twins}.")
+            texts[f"{proofs}_{self.number}/{name}"] = proof.replace(f".proofs{names}", f".proofs{names[:-1]}_{self.number}.")
         return True
 
 
 def joined(crate, group):
     """Returns the texts that all edits of a group make, if they can be made in one copy."""
-    texts = rt.edited("\n".join(it.text for it in group if not it.twins), crate.folder)[0]
-    return texts and all(it.put_twin(crate.folder, texts) for it in group if it.twins) and texts
+    texts = rt.edited("\n".join(it.text for it in group if not it.number), crate.folder)[0]
+    return texts and all(it.put_twin(crate.folder, texts) for it in group if it.number) and texts
 
 
 def groups_of(crate, edits):
