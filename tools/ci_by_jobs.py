@@ -5,6 +5,9 @@ ci_by_jobs.py N.
 These proofs are a chain, beside which processors idle, and these tests would end last. What is proved, and how it is
 judged, is as by `rt ci`. The proof of a static library leaves its record in out/checked, by which `rattle build` makes
 the archive with no second proof.
+
+`rt ci` has no flag for the jobs of one proof, and none by which it leaves such a record. So both stand here over its
+functions `in_lanes` and `Crate.ci`, which a newer kit may name otherwise.
 """
 import importlib.machinery
 import importlib.util

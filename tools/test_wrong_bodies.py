@@ -44,6 +44,13 @@ pub fn four() -> u8
     FOUR
 }
 """
+ANSWERS = """\
+use Rattle.std.proofs.Common.{refl}
+use Rattle.tiny.proofs.three.Goals as goal
+
+pub returns : goal.returns
+returns c = refl
+"""
 # The function that an edit names, what it changes, and the expected result.
 EDITS = {
     "wrong": ("one", "    1", "    4", "refused in tiny::one"),
@@ -54,27 +61,40 @@ EDITS = {
     "unread": ("three", "    3", "    three(", "BAD EDIT"),
     "unnamed": ("", "    3", "    4", "BAD EDIT"),
 }
+# The second edit of a function is made in its twin, which is proved by a copy of its answers.
+TWINS = {
+    "another_number": ("three", "    3", "    4", "refused in tiny::three"),
+    "right_in_the_twin": ("three", "    3", "    3 + 0", "NOT REFUSED in tiny::three"),
+}
 
 
-def main():
+def is_told(edits, last):
+    """Tries the edits of the small crate, and returns whether each is told as it is, and this is the last line."""
     script = pathlib.Path(__file__).resolve().parent / "wrong_bodies.py"
     with tempfile.TemporaryDirectory() as room:
         folder = pathlib.Path(room, "crates/tiny")
-        (folder / "src").mkdir(parents=True)
-        (folder / "must-fail").mkdir()
+        for part in ("src", "must-fail", "proofs/three"):
+            (folder / part).mkdir(parents=True)
         pathlib.Path(room, "crates.txt").write_text("tiny:\n")
         (folder / "src/lib.rt").write_text(CRATE)
-        for name, (function, old, new, _) in EDITS.items():
+        (folder / "proofs/three/Answers.antt").write_text(ANSWERS)
+        for name, (function, old, new, _) in edits.items():
             text = f"refused: {function}\n" * bool(function) + f"file: src/lib.rt\nold: {old}\nnew: {new}\n"
             (folder / f"must-fail/{name}.edit").write_text(text)
         words = [script, "--lanes", str(len(os.sched_getaffinity(0)))]
         ran = subprocess.run(words, cwd=room, capture_output=True, text=True)
     lines = ran.stdout.rstrip("\n").split("\n")
-    differ = [name for name, it in EDITS.items() if not any(f"/{name}.edit: {it[3]}" in line for line in lines)]
-    if differ or lines[-1] != "3 passed, 4 failed" or ran.returncode != 1:
+    differ = [name for name, it in edits.items() if not any(f"/{name}.edit: {it[3]}" in line for line in lines)]
+    is_well = not differ and lines[-1] == last and ran.returncode == 1
+    if not is_well:
         print(ran.stdout + ran.stderr, f"not as it must be: {differ}", sep="\n")
+    return is_well
+
+
+def main():
+    if not is_told(EDITS, "3 passed, 4 failed") or not is_told(TWINS, "1 passed, 1 failed"):
         return 1
-    print(f"{len(EDITS)} edits of a small crate: told as they are")
+    print(f"{len(EDITS) + len(TWINS)} edits of a small crate: told as they are")
     return 0
 
 

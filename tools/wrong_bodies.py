@@ -3,12 +3,13 @@
 
 The prover holds a body to the contracts of what it calls, so edits whose functions are apart (edits.py) are made in one
 copy of the crate, and the check's line of each function tells its own reason from a call of a refused one. Each edit of a
-joined check that does not tell is tried alone. A check of the unedited crate adds what a copy of
+joined check that does not tell is tried alone, in the function itself. A check of the unedited crate adds what a copy of
 crates/NAME/out/incremental lacks, and all others start from copies of that. After a proof that left all of it there, that
 check proves nothing anew, and `--proved` leaves it out. The last line is `N passed, M failed`.
 """
 import argparse
 import concurrent.futures
+import copy
 import os
 import re
 import shutil
@@ -24,15 +25,30 @@ CYCLE = re.compile(r"#\[cycle\((\w+)\)\]\n(?:\s*#\[.*\n)*\s*(?:pub\S* )?fn (\w+)
 ITSELF = re.compile(r"not proved\b|no proof: (?!it calls|it passes|a call of)")
 
 
+def copied(crate, texts, room):
+    """Returns the crate with these texts in place of its own and beside them, in a folder of this room."""
+    made = copy.copy(crate)
+    made.folder = f"{room}/{crate.name}"
+    for part in rt.rtlib.PARTS:
+        if os.path.isdir(f"{crate.folder}/{part}"):
+            shutil.copytree(f"{crate.folder}/{part}", f"{made.folder}/{part}")
+    for path, text in texts.items():
+        os.makedirs(os.path.dirname(f"{made.folder}/{path}"), exist_ok=True)
+        with open(f"{made.folder}/{path}", "w", encoding="utf-8") as file:
+            file.write(text)
+    return made
+
+
 def refused(crate, functions, texts, kept, given):
     """Checks these functions, and returns those that are refused for a reason of their own, or why the check decides nothing."""
     with given.lanes, tempfile.TemporaryDirectory(prefix="wrong-") as room:
         if texts:
             kept = shutil.copytree(kept, f"{room}/kept", copy_function=os.link)  # the prover replaces a file as a whole
         only = [word for it in sorted(functions) for word in ("--only", it)]
-        ran = rt.checked(crate, texts, ["--jobs", "1", *only], kept)
+        ran = rt.checked(copied(crate, texts, room), {}, ["--jobs", "1", *only], kept)
     lines = ran.stdout.rstrip("\n").split("\n")
-    unread = [it for it in lines if rt.unread(it, texts) or rt.rtlib.STALE.search(it)]
+    changed = [it for it in texts if os.path.isfile(f"{crate.folder}/{it}")]
+    unread = [it for it in lines if rt.unread(it, changed) or rt.rtlib.STALE.search(it)]
     if unread or ran.returncode not in (0, 1) or not lines[-1].startswith("only="):
         return set(), f"BAD EDIT: the prover cannot read it (status {ran.returncode}): {'; '.join((unread or lines)[:3])[:600]}"
     return {name for name, words in LINE.findall(ran.stdout) if ITSELF.match(words)}, ""
@@ -52,10 +68,10 @@ def tried(crate, group, kept, given):
     others = [it for it in found if it.rpartition("::")[2] not in names]
     if len(group) > 1 and (why or others or not functions <= found):
         print(f"{crate.name}: {why or f'{len(group)} joined edits, more {others}, less {functions - found}'}: each alone", flush=True)
-        return [it for edit in group for it in tried(crate, [edit], kept, given)]
+        return [it for edit in group for it in tried(crate, [edit.alone], kept, given)]
     is_well = not why and functions <= found
     where = "refused in" if is_well else f"refused in {', '.join(sorted(found))}, and not in" if found else "NOT REFUSED in"
-    return [(is_well, f"{it.label}: {why or f'{where} ' + ', '.join(sorted(it.functions))}") for it in group]
+    return [(is_well, f"{it.label}: {why or f'{where} ' + ', '.join(sorted(it.alone.functions))}") for it in group]
 
 
 def tried_all(crate, given):
