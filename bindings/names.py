@@ -153,7 +153,7 @@ class Interfaces:
         rattle = numbers(r"impl Format for (\w+) \{.*?const WIDTH: usize = (\d+);", *self.rattle)
         self.same("the greatest length of a text", rattle, rust)
         rust["iso8601by"] = sum(map(int, findall(r"MAX_WIDTH: usize = (\d+)", *self.rust)))
-        self.same("the greatest length by a configuration", [str(rust["iso8601by"])], findall(r"ArraySink::<(\d+)>", *self.rattle))
+        self.same("the greatest length by a configuration", [str(rust["iso8601by"])], findall(r"const MOST_BYTES: usize = (\d+)", *self.rattle))
         self.same("the length of a buffer", numbers(r"MOVALIREN_(\w+)_ROOM = (\d+)", self.c), rust)
         self.same("the array of a stamp", [rust.get("stamp")], [int(n) for n in findall(r"\[u8; (\d+)\]", *self.rust)])
 

@@ -512,12 +512,6 @@ put_shown (Ok ts) f lost count old new before after put counted fits after_is = 
       put.longer fits after_is;
 }
 
--- or not, for this reason
-pub not_shown : (all : Result (List Tree) Reason) (f : Facts) (r : Reason) (old new : Buffer) (before after : List ℕ)
-    → IsPut all f (Err r) old new → IsShown all f (Err r) before after
-not_shown (Ok ts) f r old new before after put = put
-not_shown (Err invalid) f r old new before after put = put
-
 -- ---- no text
 
 -- no value

@@ -1,14 +1,15 @@
 -- What is kept for the times of log lines.
 use Rattle.std.proofs.Common.{◌≡◌, ◌∙◌, ℕ, ◌<◌, ℤ, Bool, true, false, List, [], ◌++◌, append_assoc, refl, ap, arith, ◌⊎◌, inl, inr}
 use Rattle.std.proofs.Common.{unsigned_abs, Result, Ok, Err, Some}
-use Rattle.std.proofs.Common.{◌+◌, drop, length, sym, take, w64, FitsSigned, of_z, to_z}
+use Rattle.std.proofs.Common.{◌+◌, ◌-◌, ◌≤◌, drop, length, length-append, length-drop, sym, take, w64, FitsSigned, of_z, to_z}
 use Rattle.std.proofs.lemmas.Bool.{lt-ltb}
 use Rattle.std.proofs.lemmas.Int.{to_z-of_z}
-use Rattle.std.proofs.lemmas.List.{drop-drop, take-append-drop, take_all, take_at}
+use Rattle.std.proofs.Math.ListN.{length-take}
+use Rattle.std.proofs.lemmas.List.{append-nil, drop-drop, drop_all, drop_at, take-append-drop, take_all, take_at}
 use Rattle.std.specs.Prelude.{◌+ℤ◌, codes, nat_lt}
 use Rattle.movaliren_c.specs.Answer.{IsAnswer, IsWritten, answer_number, gives}
 use Rattle.movaliren_c.specs.Chosen.{iso8601_by}
-use Rattle.movaliren_c.specs.Log.{Remembers, log_choices, log_config}
+use Rattle.movaliren_c.specs.Log.{Remembers, head_of, log_choices, log_config}
 use Rattle.movaliren_c.specs.Utc.{east_value, local_there, local_value}
 use Rattle.movaliren_c.specs.Value.{checked, is_in_years, with_value}
 use Rattle.movaliren_c.specs.declared.reason.Reason.{Reason}
@@ -67,12 +68,11 @@ regrouped : (date clock fraction offset : List ℕ)
 regrouped date clock fraction offset = simp append_assoc
 
 -- each moment of a second whose value has a text has one
-pub remembered : (s east : ℤ) (v : OffsetDateAndTime) (f : Shown) (before after : List ℕ) → local_value s 0 east ≡ Ok v
+pub remembered : (s east : ℤ) (v : OffsetDateAndTime) (f : Shown) → local_value s 0 east ≡ Ok v
     → checked_text 0 25 v.date.year (unsigned_abs v.offset.hours) (unsigned_abs v.offset.seconds) [] ≡ done []
     → f ≡ fields (date_facts v.date) v.time v.offset
-    → before ≡ date_of_fields (codes "-") f ++ codes "T" ++ clock_text (codes ":") f.time ++ codes "."
-    → after ≡ offset_of_fields (codes ":") f.offset → Remembers s east before after
-remembered s east v f before after value accepted shown head zone = λ n d small.
+    → Remembers s east (head_of f) (offset_of_fields (codes ":") f.offset)
+remembered s east v f value accepted shown = λ n d small.
     let w = at n v in
     let F = fields (date_facts w.date) w.time w.offset in
     let date = date_of_fields (codes "-") F in
@@ -80,16 +80,15 @@ remembered s east v f before after value accepted shown head zone = λ n d small
     let offset = offset_of_fields (codes ":") F.offset in
     let text : iso8601_of (log_choices d) w ≡ done (date ++ (codes "T" ++ (clock ++ (codes "." ++ decimals n 1_000_000_000 d))) ++ offset) =
     usual_accepted (log_choices d) true (Some d) sign.Point (date_facts w.date) w.time w.offset [] refl accepted in
-    let kept : before ≡ date ++ codes "T" ++ clock ++ codes "." = rw (head, shown) refl in
-    let last : after ≡ offset = rw (zone, shown) refl in
-    rw (later s east n v value small, text, kept, last) (ap (λ (t : List ℕ). Ok (done t)) (regrouped date clock (decimals n 1_000_000_000 d) offset))
+    rw (later s east n v value small, text, shown) (ap (λ (t : List ℕ). Ok (done t)) (regrouped date clock (decimals n 1_000_000_000 d) offset))
 
 -- the bytes that are kept are those
-pub kept_bytes : (s o : ℤ) (before after head zone rest : List ℕ) → FitsSigned w64 s → FitsSigned w64 o → Remembers s o before after
-    → head ≡ before → zone ≡ after
-    → Remembers (to_z w64 (of_z w64 s)) (to_z w64 (of_z w64 o)) head (take (length after) (zone ++ rest))
-kept_bytes s o before after head zone rest small low remembers front last =
-    rw (to_z-of_z w64 s small, to_z-of_z w64 o low, front, last, take_at after rest _ refl) remembers
+pub kept_bytes : (s o : ℤ) (before after head zone : List ℕ) (n k : ℕ) → FitsSigned w64 s → FitsSigned w64 o → Remembers s o before after
+    → n ≡ length head → take n head ≡ before → take k zone ≡ after
+    → Remembers (to_z w64 (of_z w64 s)) (to_z w64 (of_z w64 o)) head (take k zone)
+kept_bytes s o before after head zone n k small low remembers long first last =
+    let whole : head ≡ before = sym (take_all n head (omega (arith, long))) ∙ first in
+    rw (to_z-of_z w64 s small, to_z-of_z w64 o low, whole, last) remembers
 
 -- ---- what is written
 
@@ -124,19 +123,32 @@ drop_later a b c xs ys h =
     ∙ drop-drop c (a + b) ys
 
 -- three pieces, one after another, at the start of a buffer
-pub three_pieces : (x y z before first second third : List ℕ) → take (0 + length x) first ≡ take 0 before ++ x
-    → drop (0 + length x) first ≡ drop (0 + length x) before
-    → take (length x + length y) second ≡ take (length x) first ++ y
-    → drop (length x + length y) second ≡ drop (length x + length y) first
-    → take (length x + length y + length z) third ≡ take (length x + length y) second ++ z
-    → drop (length x + length y + length z) third ≡ drop (length x + length y + length z) second
-    → third ≡ x ++ y ++ z ++ drop (length x + length y + length z) before
-three_pieces x y z before first second third a a' b b' c c' =
-    let zero : 0 + length x ≡ length x = omega arith in
-    let far : drop (length x + length y + length z) second ≡ drop (length x + length y + length z) first =
-    sym (drop-drop (length z) (length x + length y) second) ∙ ap (drop (length z)) b'
-    ∙ drop-drop (length z) (length x + length y) first in
-    let further : drop (length x + length y + length z) first ≡ drop (length x + length y + length z) before =
-    drop_later (length x) (length y) (length z) first before (rw zero at a') in
-    sym (take-append-drop (length x + length y + length z) third)
-    ∙ rw (c, b, rw zero at a, c', far, further) refl
+pub three_pieces : (n m k : ℕ) (x y z before first second third : List ℕ) → take (0 + n) first ≡ take 0 before ++ x
+    → drop (0 + n) first ≡ drop (0 + n) before → take (n + m) second ≡ take n first ++ y → drop (n + m) second ≡ drop (n + m) first
+    → take (n + m + k) third ≡ take (n + m) second ++ z → drop (n + m + k) third ≡ drop (n + m + k) second
+    → third ≡ (x ++ y ++ z) ++ drop (n + m + k) before
+three_pieces n m k x y z before first second third a a' b b' c c' =
+    let zero : 0 + n ≡ n = omega arith in
+    let far : drop (n + m + k) second ≡ drop (n + m + k) first =
+    sym (drop-drop k (n + m) second) ∙ ap (drop k) b' ∙ drop-drop k (n + m) first in
+    let further : drop (n + m + k) first ≡ drop (n + m + k) before = drop_later n m k first before (rw zero at a') in
+    let text : take (n + m + k) third ≡ x ++ y ++ z = rw (c, b, rw zero at a) refl in
+    sym (take-append-drop (n + m + k) third) ∙ rw (text, c', far, further) refl
+
+-- a buffer whose bytes from a place on are these
+abbrev pub from_on : ℕ → List ℕ → List ℕ → List ℕ
+from_on from old behind = take from old ++ (behind ++ drop (length old - from) (drop from old))
+
+-- what is put at the start of those is behind what is before the place
+pub put_behind : (from d : ℕ) (old new bytes : List ℕ) → from ≤ length old → length bytes ≡ d
+    → new ≡ bytes ++ drop d (take (length old - from) (drop from old))
+    → (take (from + d) (from_on from old new) ≡ take from old ++ bytes) × (drop (from + d) (from_on from old new) ≡ drop (from + d) old)
+put_behind from d old new bytes fits long is =
+    let front : length (take from old ++ bytes) ≡ from + d = omega (arith, length-append (take from old) bytes, length-take from old, fits, long) in
+    let whole : take (length old - from) (drop from old) ≡ drop from old = take_all (length old - from) (drop from old) (omega (arith, length-drop from old)) in
+    let none : drop (length old - from) (drop from old) ≡ [] = drop_all (length old - from) (drop from old) (omega (arith, length-drop from old)) in
+    let same : from_on from old new ≡ (take from old ++ bytes) ++ drop d (drop from old) =
+    rw (none, append-nil new, is, whole) (sym (append_assoc (take from old) bytes (drop d (drop from old)))) in (
+      ap (take (from + d)) same ∙ take_at _ _ _ front,
+      ap (drop (from + d)) same ∙ drop_at _ _ _ front ∙ drop-drop d from old,
+    )

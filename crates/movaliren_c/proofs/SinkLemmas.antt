@@ -8,4 +8,4 @@ use Rattle.time_known.proofs.DigitLemmas.{one_digit, decimal_below}
 pub ruleset written_pieces = (take-put_mid, drop-put_mid, drop-drop)
 
 -- one decimal more
-pub ruleset long_division = (decimals_left, one_digit, decimal_below)
+pub ruleset long_division = (decimals_left, one_digit, decimal_below, drop-drop)

@@ -151,16 +151,6 @@ pub record IsDescribed {V : Type 0} (texts : List ℕ) (items : List Item) (valu
 
 -- ---- dates and times of day
 
--- an item of a year or an hour, which may begin one
-abbrev pub is_first_of_run : Item → Bool
-is_first_of_run i = i.kind == 13 || i.kind == 14 || i.kind == 24
-
--- one of the first two items may
-abbrev pub begins_with_run : List Item → Bool
-begins_with_run [] = false
-begins_with_run (i ∷ []) = false
-begins_with_run (i ∷ j ∷ behind) = is_first_of_run i || is_first_of_run j
-
 -- the parts of a date and of a time of day
 abbrev pub first_part : Run → Component
 first_part run.Date =

@@ -1,7 +1,7 @@
 //! Descriptions from a text, in items or at once.
 ghost use Rattle.std.specs.Prelude.{◌≡◌, ◌≤◌, IfOk, length};
 ghost use Rattle.movaliren_c.specs.Answer.{Answers, IsText};
-ghost use Rattle.movaliren_c.specs.Described.{Leaves, bracket_items, few, strftime_items};
+ghost use Rattle.movaliren_c.specs.Described.{Leaves, bracket_items, few, few_in, strftime_items};
 ghost use Rattle.movaliren_c.specs.Items.{described};
 ghost use Rattle.movaliren_c.specs.Utc.{local_value};
 ghost use Rattle.movaliren_c.specs.Value.{timestamp_value};
@@ -11,9 +11,9 @@ use crate::described::write_described;
 use crate::item::Item;
 use crate::item_room::ItemRoom;
 use crate::made_item::NO_ITEM;
-use crate::moment::{UtcMoment, timestamp_value};
+use crate::moment::timestamp_value;
 use crate::reason::{Reason, answer_number};
-use crate::source::{AtOffset, Source};
+use crate::source::local_value;
 use crate::syntax::{Brackets, Fault, Strftime, Syntax};
 use time_provide::ComponentProvider;
 
@@ -43,8 +43,7 @@ pub extern "C" fn movaliren_brackets_utc(
     ensures { Answers result (λ answer. IsText (described (few (bracket_items text.now))
         (timestamp_value seconds nanosecond) facts_of_timestamp) answer room.old room.new) }
 {
-    let value = timestamp_value(seconds, nanosecond);
-    answer_number(write_text::<Brackets, _>(text, value, room))
+    answer_number(write_text::<Brackets, _>(text, timestamp_value(seconds, nanosecond), room))
 }
 
 /// The text of a moment by a description in brackets, at an offset of this many seconds east of UTC.
@@ -59,12 +58,7 @@ pub extern "C" fn movaliren_brackets_local(
     ensures { Answers result (λ answer. IsText (described (few (bracket_items text.now))
         (local_value seconds nanosecond offset) facts_of_offset_date_time) answer room.old room.new) }
 {
-    let moment = UtcMoment {
-        seconds,
-        nanosecond,
-    };
-    let value = AtOffset { east: offset }.value(&moment);
-    answer_number(write_text::<Brackets, _>(text, value, room))
+    answer_number(write_text::<Brackets, _>(text, local_value(seconds, nanosecond, offset), room))
 }
 
 /// Reads the items of a text in the syntax of strftime into an array.
@@ -91,8 +85,7 @@ pub extern "C" fn movaliren_strftime_utc(
     ensures { Answers result (λ answer. IsText (described (few (strftime_items text.now))
         (timestamp_value seconds nanosecond) facts_of_timestamp) answer room.old room.new) }
 {
-    let value = timestamp_value(seconds, nanosecond);
-    answer_number(write_text::<Strftime, _>(text, value, room))
+    answer_number(write_text::<Strftime, _>(text, timestamp_value(seconds, nanosecond), room))
 }
 
 /// The text of a moment by a description in the syntax of strftime, at an offset of this many seconds
@@ -108,12 +101,7 @@ pub extern "C" fn movaliren_strftime_local(
     ensures { Answers result (λ answer. IsText (described (few (strftime_items text.now))
         (local_value seconds nanosecond offset) facts_of_offset_date_time) answer room.old room.new) }
 {
-    let moment = UtcMoment {
-        seconds,
-        nanosecond,
-    };
-    let value = AtOffset { east: offset }.value(&moment);
-    answer_number(write_text::<Strftime, _>(text, value, room))
+    answer_number(write_text::<Strftime, _>(text, local_value(seconds, nanosecond, offset), room))
 }
 
 /// Reads the items of a text into an array. If there are none, or they do not fit, the first item of the
@@ -140,7 +128,8 @@ fn describe<S: Syntax>(text: &[u8], items: &mut [Item], fault: &mut Fault) -> Re
 }
 
 /// Writes the text of the value by the description that another text is.
-fn write_text<S: Syntax, V: ComponentProvider + Drop>(
+#[inline(always)]
+fn write_text<S: Syntax, V: ComponentProvider + Copy + Drop>(
     text: &[u8],
     value: Result<V, Reason>,
     room: &mut [u8],
@@ -149,31 +138,29 @@ where
     V::State: Drop,
     ensures { IsText (described (few (S.described text.now)) value V.facts) result room.old room.new }
 {
-    let mut items = [NO_ITEM; USUAL];
-    let mut fault = Fault::many(0);
-    match describe::<S>(text, &mut items, &mut fault) {
-        Ok(count) => write_described(&items[..count], text, value, room),
+    match write_few::<S, V, USUAL>(text, value, room) {
+        Ok(count) => Ok(count),
         Err(Reason::BadDescription) => Err(Reason::BadDescription),
-        Err(_) => write_many::<S, V>(text, value, room),
+        Err(_) => write_few::<S, V, FEW>(text, value, room),
     }
 }
 
-/// Writes the text of the value by a description of more items than most have.
-#[cold]
+/// Writes the text of the value by the description that another text is, if it has at most so many items.
 #[inline(never)]
-fn write_many<S: Syntax, V: ComponentProvider + Drop>(
+fn write_few<S: Syntax, V: ComponentProvider + Drop, const N: usize>(
     text: &[u8],
     value: Result<V, Reason>,
     room: &mut [u8],
 ) -> Result<usize, Reason>
 where
     V::State: Drop,
-    ensures { IsText (described (few (S.described text.now)) value V.facts) result room.old room.new }
+    requires { N ≤ 64 }
+    ensures { IsText (described (few_in N (S.described text.now)) value V.facts) result room.old room.new }
 {
-    let mut all = [NO_ITEM; FEW];
+    let mut items = [NO_ITEM; N];
     let mut fault = Fault::many(0);
-    match describe::<S>(text, &mut all, &mut fault) {
-        Ok(count) => write_described(&all[..count], text, value, room),
+    match describe::<S>(text, &mut items, &mut fault) {
+        Ok(count) => write_described(&items[..count], text, value, room),
         Err(reason) => Err(reason),
     }
 }

@@ -1,15 +1,14 @@
 //! ISO 8601-1:2019, by its default configuration and by any other.
-ghost use Rattle.std.specs.Prelude.{◌≡◌, ◌≤◌, IfErr, IfOk, Ok, length};
+ghost use Rattle.std.specs.Prelude.{◌≡◌, ◌≤◌, IfErr, IfOk, IsTrue, None, Ok, length};
 ghost use Rattle.movaliren_c.specs.Answer.{IsAnswer, IsRefusedFor, IsText, IsWritten, gives};
 ghost use Rattle.movaliren_c.specs.Batch.{IsBatch};
 ghost use Rattle.movaliren_c.specs.Chosen.{choices_at, iso8601_by, separated};
 ghost use Rattle.movaliren_c.specs.Utc.{utc_value};
 ghost use Rattle.movaliren_c.specs.Value.{moment_value};
-ghost use Rattle.time_below.specs.Facts.{facts_of_offset_date_time};
 ghost use Rattle.time_fmt.specs.Outcome.{done};
 ghost use Rattle.time_known.specs.Config.{default_choices};
-ghost use Rattle.time_known.specs.Iso8601.{iso8601_of};
-ghost use Rattle.time_known.specs.Iso8601Parts.{chosen_parts, shown_parts};
+ghost use Rattle.time_known.specs.Iso8601.{iso8601_of, iso_offset_of_fields};
+ghost use Rattle.time_known.specs.Iso8601Parts.{date_of_parts, part_text, parts_text, parts_width};
 ghost use Rattle.time_known.specs.Iso8601Width.{iso8601_width};
 
 mod config;
@@ -19,7 +18,7 @@ use crate::moment::{Moment, UtcMoment};
 use crate::moment_text::{Format, answer_at, put_at_start, texts_of};
 use crate::reason::{Reason, answer_number, reason_for};
 use crate::room::copy_text;
-use crate::sinks::ArraySink;
+use crate::sinks::RoomSink;
 use crate::source::{ByParts, InUtc, Source};
 use crate::writer::Writer;
 use config::separated_config_at;
@@ -27,10 +26,16 @@ pub use config::{IsoConfig, config_at};
 use std::default::Default;
 use time_below::OffsetDateTime;
 use time_digits::ru8;
-use time_known::fields::accepted_fields;
-use time_known::iso8601::{self, Config, DecimalSign, Parts, SeparatedText, Usual, put_parts};
+use time_known::fields::{OffsetFields, accepted_fields};
+use time_known::iso8601::{
+    Config, DateParts, DecimalSign, OffsetPrecision, Parts, SeparatedText, Usual, parts_of,
+    put_parts,
+};
 use time_known::sink::Text;
 use time_provide::DateState;
+
+/// The most bytes of a text: 13 of the date, 265 of the time and 6 of the offset.
+const MOST_BYTES: usize = 284;
 
 /// The format of ISO 8601 by its default configuration.
 #[derive(Clone, Copy)]
@@ -240,7 +245,7 @@ impl<S: Source> Iso8601By<S> {
     {
         match config_at(&self.config) {
             Ok(config) => match self.source.value(item) {
-                Ok(value) => copy_by(&config, &value, room),
+                Ok(value) => write_parts(&config, &value, room),
                 Err(reason) => Err(reason),
             },
             Err(reason) => Err(reason),
@@ -248,28 +253,84 @@ impl<S: Source> Iso8601By<S> {
     }
 }
 
-/// The parts of the value that the configuration writes.
-fn parts_of(config: &Config, value: &OffsetDateTime) -> Parts
-    ensures { shown_parts result ≡ chosen_parts config.now (facts_of_offset_date_time value.now) }
-{
-    iso8601::parts_of(config, value, &mut DateState::default())
-}
-
-/// Writes the text to an array first, since a part may be refused after others. No text has more bytes: 13
-/// of the date, 265 of the time and 6 of the offset.
-#[inline(never)]
-#[tactic(auto, using(crate::proofs::AnswerLemmas::copied_whole))]
-fn copy_by(config: &Config, value: &OffsetDateTime, room: &mut [u8]) -> Result<usize, Reason>
+/// Writes the text of the value, part by part, straight to a buffer that holds each text, if nothing of it is refused.
+fn write_parts(config: &Config, value: &OffsetDateTime, room: &mut [u8]) -> Result<usize, Reason>
     ensures { IsWritten result (iso8601_of config.now value.now) room.old room.new }
 {
     if config.formats_nothing() {
         return Err(Reason::Insufficient);
     }
-    let parts = parts_of(config, value);
-    let _width = config.width();
-    let mut line = ArraySink::<284>::new();
-    match put_parts(&mut line, config, &parts) {
-        Ok(()) => copy_text(line.as_bytes(), room),
+    let parts = parts_of(config, value, &mut DateState::default());
+    if room.len() >= config.width() && are_accepted(config, &parts) {
+        put_at_once(config, &parts, room)
+    } else {
+        copy_parts(config, &parts, room)
+    }
+}
+
+/// Whether nothing of the parts is refused.
+#[inline(always)]
+#[tactic(auto, using(crate::proofs::AnswerLemmas::parts_accepted))]
+fn are_accepted(config: &Config, parts: &Parts) -> bool
+    ensures { IsTrue result → (parts_text config.now parts.now).refusal ≡ None }
+{
+    is_date_accepted(config, &parts.date) && is_offset_accepted(config, &parts.offset)
+}
+
+/// Whether a date is not refused, if there is one.
+#[inline(always)]
+fn is_date_accepted(config: &Config, date: &Option<DateParts>) -> bool
+    ensures { IsTrue result → (part_text (date_of_parts config.now) date.now).refusal ≡ None }
+{
+    match date {
+        Some(date) => {
+            let year = date.year.get();
+            config.year_is_six_digits() || (year >= 0 && year <= 9_999)
+        }
+        None => true,
+    }
+}
+
+/// Whether an offset is not refused, if there is one.
+#[inline(always)]
+fn is_offset_accepted(config: &Config, offset: &Option<OffsetFields>) -> bool
+    ensures { IsTrue result → (part_text (iso_offset_of_fields config.now) offset.now).refusal ≡ None }
+{
+    match offset {
+        Some(offset) => {
+            let has_minutes = matches!(config.offset_precision(), OffsetPrecision::Minute);
+            offset.seconds.get() == 0 && (has_minutes || offset.minutes.get() == 0)
+        }
+        None => true,
+    }
+}
+
+/// Puts the parts at the start of a buffer that holds them, up to what is refused.
+#[inline(always)]
+fn put_at_once(config: &Config, parts: &Parts, room: &mut [u8]) -> Result<usize, Reason>
+    requires room { parts_width config.now parts.now ≤ length room.old }
+    ensures text { IfOk result (λ n. IsWritten (Ok n) (parts_text config.now parts.now) room.old room.new) }
+    ensures fits { IfOk result (λ n. n ≤ length room.old) }
+    ensures refused { IfErr result (λ r. IsRefusedFor r (parts_text config.now parts.now)) }
+    ensures len { length room.new ≡ length room.old }
+{
+    let mut sink = RoomSink::new(room);
+    match put_parts(&mut sink, config, parts) {
+        Ok(()) => Ok(sink.len()),
         Err(component) => Err(reason_for(component)),
+    }
+}
+
+/// Writes the parts to an array first, since one may be refused after others.
+#[cold]
+#[inline(never)]
+fn copy_parts(config: &Config, parts: &Parts, room: &mut [u8]) -> Result<usize, Reason>
+    ensures { IsWritten result (parts_text config.now parts.now) room.old room.new }
+{
+    let mut line = [0u8; MOST_BYTES];
+    let _width = parts.width(config);
+    match put_at_once(config, parts, &mut line) {
+        Ok(count) => copy_text(&line[..count], room),
+        Err(reason) => Err(reason),
     }
 }

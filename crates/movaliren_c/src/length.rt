@@ -9,9 +9,9 @@ ghost use Rattle.time_below.specs.Facts.{facts_of_date, facts_of_offset_date_tim
 
 use crate::described::{GREATEST_WIDTH, SHORT, first_reason, write_long};
 use crate::item::Item;
-use crate::moment::{Moment, UtcMoment, date_value, moment_value, timestamp_value};
+use crate::moment::{Moment, date_value, moment_value, timestamp_value};
 use crate::reason::{Reason, answer_number};
-use crate::source::{AtOffset, Source};
+use crate::source::local_value;
 use std::marker::Brand;
 use time_provide::ComponentProvider;
 
@@ -50,11 +50,7 @@ pub extern "C" fn movaliren_format_local_length(
     ensures { Answers result (λ answer. IsLength (described (trees_of texts.now items.now)
         (local_value seconds nanosecond offset) facts_of_offset_date_time) answer) }
 {
-    let moment = UtcMoment {
-        seconds,
-        nanosecond,
-    };
-    let value = AtOffset { east: offset }.value(&moment);
+    let value = local_value(seconds, nanosecond, offset);
     answer_number(text_length(items, texts, value))
 }
 

@@ -10,10 +10,9 @@ ghost use Rattle.time_known.specs.Iso8601.{iso8601_of};
 use crate::described::write_described;
 use crate::iso8601::{Iso8601, Iso8601By, IsoConfig};
 use crate::item::Item;
-use crate::moment::UtcMoment;
 use crate::moment_text::{answer_at, texts_of};
 use crate::reason::answer_number;
-use crate::source::{AtOffset, Source};
+use crate::source::{AtOffset, local_value};
 
 /// The text of ISO 8601 of a moment by the default configuration, at an offset of this many seconds east
 /// of UTC.
@@ -64,10 +63,6 @@ pub extern "C" fn movaliren_format_local(
     ensures { Answers result (λ answer. IsDescribed texts.now items.now
         (local_value seconds nanosecond offset) facts_of_offset_date_time answer room.old room.new) }
 {
-    let moment = UtcMoment {
-        seconds,
-        nanosecond,
-    };
-    let value = AtOffset { east: offset }.value(&moment);
+    let value = local_value(seconds, nanosecond, offset);
     answer_number(write_described(items, texts, value, room))
 }

@@ -2,19 +2,17 @@
 ghost use Rattle.std.specs.Prelude.{◌≡◌, ◌<◌, ◌≤◌, ◌+◌, ◌++◌, ◌⊎◌, IfOk, IsTrue, codes, drop, length, take};
 ghost use Rattle.movaliren_c.specs.Answer.{IsAnswer, IsWritten};
 ghost use Rattle.movaliren_c.specs.Chosen.{iso8601_by};
-ghost use Rattle.movaliren_c.specs.Log.{IsKept, Remembers, log_config};
+ghost use Rattle.movaliren_c.specs.Log.{IsKept, Remembers, head_of, log_config};
 ghost use Rattle.movaliren_c.specs.Utc.{local_value};
 ghost use Rattle.time_fmt.specs.Decimals.{decimals as decimals_of};
 ghost use Rattle.time_fmt.specs.Outcome.{done};
-ghost use Rattle.time_known.specs.Fields.{date_of_fields, offset_of_fields, shown};
-ghost use Rattle.time_known.specs.WellKnown.{clock_text};
+ghost use Rattle.time_known.specs.Fields.{offset_of_fields, shown};
 
 use crate::iso8601::IsoConfig;
 use crate::local::movaliren_iso8601_by_local;
-use crate::moment::UtcMoment;
 use crate::reason::{Reason, answer_number};
-use crate::sinks::{ArraySink, write_over};
-use crate::source::{AtOffset, Source};
+use crate::sinks::{RoomSink, write_over};
+use crate::source::local_value;
 use std::default::Default;
 use time_digits::ru32;
 use time_known::fields::{Fields, OffsetFields, accepted_fields};
@@ -58,8 +56,7 @@ pub extern "C" fn movaliren_log_time(
     ensures kept { IsKept kept.old → IsKept kept.new }
 {
     if is_kept(kept, seconds, offset) && is_usual(nanosecond, decimals) {
-        let digits = decimals_of(ru32::within(nanosecond), decimals);
-        return answer_number(write_kept(kept, digits.as_bytes(), room));
+        return answer_number(write_kept(kept, ru32::within(nanosecond), decimals, room));
     }
     keep_second(kept, seconds, offset);
     let config = log_config(decimals);
@@ -102,73 +99,90 @@ fn log_config(decimals: u8) -> IsoConfig
     }
 }
 
-/// The first three, six or nine decimals of a second.
+/// Writes what is kept, with so many decimals of the nanosecond within it, if they fit.
 #[inline(always)]
-#[tactic(auto, using(time_fmt::proofs::DecimalLemmas::three_of_second, time_fmt::proofs::DecimalLemmas::six_of_second))]
-fn decimals_of(nanosecond: Nanoseconds, decimals: u8) -> ArraySink<9>
-    requires { decimals ≡ 3 ⊎ decimals ≡ 6 ⊎ decimals ≡ 9 }
-    ensures { result.text.bytes ≡ decimals_of nanosecond 1_000_000_000 decimals }
-{
-    let mut digits = ArraySink::new();
-    match decimals {
-        3 => put_three_decimals(&mut digits, nanosecond),
-        6 => put_six_decimals(&mut digits, nanosecond),
-        _ => put_nine_digits(&mut digits, nanosecond),
-    }
-    digits
-}
-
-/// Writes what is kept, with these decimals within it.
-#[inline(always)]
-fn write_kept(kept: &Log, decimals: &[u8], room: &mut [u8]) -> Result<usize, Reason>
+fn write_kept(
+    kept: &Log,
+    nanosecond: Nanoseconds,
+    decimals: u8,
+    room: &mut [u8],
+) -> Result<usize, Reason>
     requires inside { kept.now.zone_len ≤ 6 }
-    ensures written { IsWritten result
-        (done (kept.now.head ++ decimals.now ++ take kept.now.zone_len kept.now.zone))
-        room.old room.new }
+    requires few { decimals ≡ 3 ⊎ decimals ≡ 6 ⊎ decimals ≡ 9 }
+    ensures written { IsWritten result (done (kept.now.head ++ decimals_of nanosecond 1_000_000_000 decimals
+        ++ take kept.now.zone_len kept.now.zone)) room.old room.new }
     ensures fits { IfOk result (λ count. count ≤ length room.old) }
 {
-    write_pieces(
-        &kept.head,
-        decimals,
-        &kept.zone[..kept.zone_len as usize],
-        room,
-    )
+    let zone = &kept.zone[..kept.zone_len as usize];
+    write_around(&kept.head, zone, nanosecond, decimals, room)
 }
 
-/// Writes three pieces, if they fit.
+/// Writes so many decimals of the nanosecond between two texts, if they fit.
 #[inline(always)]
-fn write_pieces(first: &[u8], second: &[u8], third: &[u8], room: &mut [u8]) -> Result<usize, Reason>
-    ensures written { IsWritten result (done (first.now ++ second.now ++ third.now))
-        room.old room.new }
+fn write_around(
+    head: &[u8],
+    zone: &[u8],
+    nanosecond: Nanoseconds,
+    decimals: u8,
+    room: &mut [u8],
+) -> Result<usize, Reason>
+    requires few { decimals ≡ 3 ⊎ decimals ≡ 6 ⊎ decimals ≡ 9 }
+    ensures written { IsWritten result
+        (done (head.now ++ decimals_of nanosecond 1_000_000_000 decimals ++ zone.now)) room.old room.new }
     ensures fits { IfOk result (λ count. count ≤ length room.old) }
 {
-    let (a, b) = (first.len(), second.len());
-    if a > room.len() || b > room.len() - a || third.len() > room.len() - a - b {
+    let (a, b) = (head.len(), decimals as usize);
+    if a > room.len() || b > room.len() - a || zone.len() > room.len() - a - b {
         return Err(Reason::NoRoom);
     }
-    write_over(room, 0, first);
-    write_short(room, a, second);
-    write_short(room, a + b, third);
-    Ok(a + b + third.len())
+    write_over(room, 0, head);
+    write_decimals(room, a, nanosecond, decimals);
+    write_zone(room, a + b, zone);
+    Ok(a + b + zone.len())
 }
 
-/// Overwrites the bytes of the buffer from a place on. Those of an offset and of decimals have a number of
-/// bytes that the compiler knows.
+/// Overwrites the bytes of the buffer from a place on by the first three, six or nine decimals of a second.
 #[inline(always)]
-#[tactic(auto, using(crate::proofs::LogLemmas::whole_piece))]
-fn write_short(room: &mut [u8], at: usize, bytes: &[u8])
-    requires { at + length bytes.now ≤ length room.old }
-    ensures before { take (at + length bytes.now) room.new ≡ take at room.old ++ bytes.now }
-    ensures behind { drop (at + length bytes.now) room.new
-        ≡ drop (at + length bytes.now) room.old }
+fn write_decimals(room: &mut [u8], at: usize, nanosecond: Nanoseconds, decimals: u8)
+    requires few { decimals ≡ 3 ⊎ decimals ≡ 6 ⊎ decimals ≡ 9 }
+    requires room { at + decimals ≤ length room.old }
+    ensures before { take (at + decimals) room.new ≡ take at room.old ++ decimals_of nanosecond 1_000_000_000 decimals }
+    ensures behind { drop (at + decimals) room.new ≡ drop (at + decimals) room.old }
     ensures len { length room.new ≡ length room.old }
 {
-    match bytes.len() {
-        1 => write_over(room, at, &bytes[..1]),
-        3 => write_over(room, at, &bytes[..3]),
-        6 => write_over(room, at, &bytes[..6]),
-        9 => write_over(room, at, &bytes[..9]),
-        _ => write_over(room, at, bytes),
+    put_decimals(&mut room[at..], nanosecond, decimals);
+}
+
+/// Puts them at the start of a buffer.
+#[inline(always)]
+#[tactic(auto, using(time_fmt::proofs::DecimalLemmas::three_of_second, time_fmt::proofs::DecimalLemmas::six_of_second))]
+fn put_decimals(room: &mut [u8], nanosecond: Nanoseconds, decimals: u8)
+    requires few { decimals ≡ 3 ⊎ decimals ≡ 6 ⊎ decimals ≡ 9 }
+    requires room { decimals ≤ length room.old }
+    ensures text { room.new ≡ decimals_of nanosecond 1_000_000_000 decimals ++ drop decimals room.old }
+    ensures len { length room.new ≡ length room.old }
+{
+    let mut sink = RoomSink::new(room);
+    match decimals {
+        3 => put_three_decimals(&mut sink, nanosecond),
+        6 => put_six_decimals(&mut sink, nanosecond),
+        _ => put_nine_digits(&mut sink, nanosecond),
+    }
+}
+
+/// Overwrites the bytes of the buffer from a place on by an offset, of which the compiler knows the number of bytes.
+#[inline(always)]
+#[tactic(auto, using(crate::proofs::LogLemmas::whole_piece))]
+fn write_zone(room: &mut [u8], at: usize, zone: &[u8])
+    requires { at + length zone.now ≤ length room.old }
+    ensures before { take (at + length zone.now) room.new ≡ take at room.old ++ zone.now }
+    ensures behind { drop (at + length zone.now) room.new ≡ drop (at + length zone.now) room.old }
+    ensures len { length room.new ≡ length room.old }
+{
+    match zone.len() {
+        1 => write_over(room, at, &zone[..1]),
+        6 => write_over(room, at, &zone[..6]),
+        _ => write_over(room, at, zone),
     }
 }
 
@@ -181,52 +195,47 @@ fn keep_second(kept: &mut Log, seconds: i64, offset: i64)
     if is_kept(kept, seconds, offset) {
         return;
     }
-    let moment = UtcMoment {
-        seconds,
-        nanosecond: 0,
-    };
-    let Ok(value) = (AtOffset { east: offset }).value(&moment) else {
+    let Ok(value) = local_value(seconds, 0, offset) else {
         return;
     };
     let Ok(fields) = accepted_fields(0, 25, &value, &mut DateState::default()) else {
         return;
     };
-    let (head, zone) = (head_of(&fields), zone_of(&fields.offset));
-    keep(kept, seconds, offset, head.as_bytes(), zone.as_bytes());
+    keep(kept, seconds, offset, &fields);
 }
 
-/// The date and the clock, up to the decimals.
-fn head_of(fields: &Fields) -> ArraySink<20>
-    ensures { result.text.bytes ≡ date_of_fields (codes "-") (shown fields.now) ++ codes "T"
-        ++ clock_text (codes ":") fields.now.time ++ codes "." }
+/// Keeps what the texts of these fields have in common.
+fn keep(kept: &mut Log, second: i64, offset: i64, fields: &Fields)
+    requires { Remembers second offset (head_of (shown fields.now)) (offset_of_fields (codes ":") fields.now.offset) }
+    ensures { IsKept kept.new }
 {
-    let mut head = ArraySink::new();
+    kept.zone_len = 0;
+    if put_head(fields, &mut kept.head) != kept.head.len() {
+        return;
+    }
+    kept.second = second;
+    kept.offset = offset;
+    kept.zone_len = put_zone(&fields.offset, &mut kept.zone) as u8;
+}
+
+/// Puts the date and the clock, up to the decimals, at the start of an array, and returns the number of bytes.
+fn put_head(fields: &Fields, room: &mut [u8; 20]) -> usize
+    ensures { take result room.new ≡ head_of (shown fields.now) }
+{
+    let mut head = RoomSink::new(room);
     put_date(&mut head, fields, "-");
     head.put("T");
     put_clock(&mut head, fields.time, ":");
     head.put(".");
-    head
+    head.len()
 }
 
-/// The offset.
-fn zone_of(offset: &OffsetFields) -> ArraySink<6>
-    ensures { result.text.bytes ≡ offset_of_fields (codes ":") offset.now }
+/// Puts the offset at the start of an array, and returns the number of bytes.
+fn put_zone(offset: &OffsetFields, room: &mut [u8; 6]) -> usize
+    ensures fits { result ≤ 6 }
+    ensures text { take result room.new ≡ offset_of_fields (codes ":") offset.now }
 {
-    let mut zone = ArraySink::new();
+    let mut zone = RoomSink::new(room);
     put_offset(&mut zone, offset, ":");
-    zone
-}
-
-/// Keeps these bytes.
-fn keep(kept: &mut Log, second: i64, offset: i64, head: &[u8], zone: &[u8])
-    requires { Remembers second offset head.now zone.now }
-    ensures { IsKept kept.old → IsKept kept.new }
-{
-    if head.len() == 20 && zone.len() <= 6 {
-        kept.second = second;
-        kept.offset = offset;
-        kept.head.copy_from_slice(head);
-        kept.zone[..zone.len()].copy_from_slice(zone);
-        kept.zone_len = zone.len() as u8;
-    }
+    zone.len()
 }

@@ -1,6 +1,6 @@
 //! Dates and times of day at the front of a list of items.
 ghost use Rattle.std.specs.Prelude.{◌≡◌, ◌≤◌, ◌∷◌, [], ℕ, List, IfSome, IsTrue, Ok, drop, length};
-ghost use Rattle.movaliren_c.specs.Items.{begins_with_run, first_part, is_first_of_run, item_tree, run_before, second_part, third_part, trees_of};
+ghost use Rattle.movaliren_c.specs.Items.{first_part, item_tree, run_before, second_part, third_part, trees_of};
 ghost use Rattle.movaliren_c.specs.Value.{with_value};
 ghost use Rattle.time_below.specs.Tree.{byte_literal, of_component};
 
@@ -40,9 +40,7 @@ impl Loop for WithoutRuns {
 
 /// Whether one of the first two items begins a date or a time of day, as in most descriptions that have one.
 #[inline(always)]
-pub fn begins_with_run(items: &[Item]) -> bool
-    ensures { result ≡ begins_with_run items.now }
-{
+pub fn begins_with_run(items: &[Item]) -> bool {
     match items {
         [first, second, ..] => is_first_of_run(first) || is_first_of_run(second),
         _ => false,
@@ -51,9 +49,7 @@ pub fn begins_with_run(items: &[Item]) -> bool
 
 /// Whether an item may begin a date or a time of day.
 #[inline(always)]
-fn is_first_of_run(item: &Item) -> bool
-    ensures { result ≡ is_first_of_run item.now }
-{
+fn is_first_of_run(item: &Item) -> bool {
     item.kind == 13 || item.kind == 14 || item.kind == 24
 }
 

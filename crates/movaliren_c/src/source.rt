@@ -67,10 +67,18 @@ impl Source for AtOffset {
 
     #[inline(always)]
     fn value(self, moment: &UtcMoment) -> Result<OffsetDateTime, Reason> {
-        let moment = timestamp_value(moment.seconds, moment.nanosecond)?;
-        let offset = offset_east(self.east)?;
-        local_there(moment, offset)
+        local_value(moment.seconds, moment.nanosecond, self.east)
     }
+}
+
+/// The local date and time this long after 1970, at an offset of this many seconds east of UTC.
+#[inline(always)]
+pub fn local_value(seconds: i64, nanosecond: u32, east: i64) -> Result<OffsetDateTime, Reason>
+    ensures { result ≡ local_value seconds nanosecond east }
+{
+    let moment = timestamp_value(seconds, nanosecond)?;
+    let offset = offset_east(east)?;
+    local_there(moment, offset)
 }
 
 /// The offset of this many seconds east of UTC, if it is at most 25:59:59 either way.

@@ -9,8 +9,7 @@ returns-then-is_usual-clause-text c = λ kept.
     let fits : FitsSigned w64 c.answer_number.result = search rules in
     let seconds : FitsSigned w64 c.args.seconds = search rules in
     let offset : FitsSigned w64 c.args.offset = search rules in
-    let digits = c.as_bytes.ensures ∙ c.decimals_of-digits.ensures
-    ∙ ap (λ (n : ℕ). decimals n 1_000_000_000 c.args.decimals) c.within.ensures in
+    let digits = ap (λ (n : ℕ). decimals n 1_000_000_000 c.args.decimals) c.within.ensures in
     kept_text c.args.decimals c.args.nanosecond c.args.kept.now.second c.args.seconds c.args.kept.now.offset c.args.offset
     _ _ _ c.write_kept.result _ _ _ (kept (c.if-is_kept.ensures.some refl))
     (c.if-is_kept.ensures.second refl ∙ to_z-of_z w64 c.args.seconds seconds)
