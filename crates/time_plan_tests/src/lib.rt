@@ -1,7 +1,8 @@
 //! Tests of `time_plan`, by public calls alone, of what no contract says, and the recipe of a plan.
 #![tactic(auto)]
 
-pub mod recipes;
+#[cfg(test)]
+mod recipes;
 #[cfg(test)]
 mod refused;
 #[cfg(test)]

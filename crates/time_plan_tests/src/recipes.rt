@@ -1,5 +1,5 @@
 //! The recipe of a plan in `docs/RECIPES.md`, which shows it word for word.
-#[cfg(test)]
+
 mod tests;
 
 use std::alloc::{AllocError, Global};
@@ -38,6 +38,19 @@ pub fn plan_of_text(alloc: Global, text: &str) -> Result<Plan, InvalidDescriptio
     Plan::parse(alloc, text.as_bytes())
 }
 
+/// Appends the time of a moment by it, and ends the line.
+pub fn append_line(
+    lines: &mut Vec<u8>,
+    plan: &Plan,
+    moment: &OffsetDateTime,
+) -> Result<(), Format> {
+    plan.format_into(lines, moment, &mut DateState::default())?;
+    match lines.push(b'\n') {
+        Ok(()) => Ok(()),
+        Err(_) => Err(Format::OutOfMemory),
+    }
+}
+
 /// Appends the times of all moments by it, a line each.
 pub fn append_times(
     lines: &mut Vec<u8>,
@@ -45,10 +58,7 @@ pub fn append_times(
     moments: &[OffsetDateTime],
 ) -> Result<(), Format> {
     for moment in moments {
-        plan.format_into(lines, moment, &mut DateState::default())?;
-        if lines.push(b'\n').is_err() {
-            return Err(Format::OutOfMemory);
-        }
+        append_line(lines, plan, moment)?;
     }
     Ok(())
 }

@@ -1,5 +1,5 @@
 //! Refusals, and bytes that are no UTF-8.
-use crate::texts::{DAY, HOUR, MINUTE, MONTH, SECOND, YEAR, assert_same, date, example};
+use crate::texts::{DAY, HOUR, MINUTE, MONTH, SECOND, YEAR, assert_same, date, example, plan_of};
 use std::alloc::{AllocError, Global};
 use std::default::Default;
 use std::test::Fail;
@@ -22,6 +22,20 @@ const DATE_AND_TIME: &[Item<'_>] = &[
     Item::Component(SECOND),
 ];
 
+/// A day, and a year of four digits at most.
+const DAY_AND_YEAR: &[Item<'_>] = &[
+    Item::Component(DAY),
+    Item::StringLiteral("/"),
+    Item::Component(Component::CalendarYearFullStandardRange(parts::YEAR_STANDARD)),
+];
+
+/// A day, a byte that is no text, and two that are one.
+const DAY_AND_BYTES: &[Item<'_>] = &[
+    Item::Component(DAY),
+    Item::Literal(b"\xff"),
+    Item::Literal(b"\xc3\xa4"),
+];
+
 /// Whether a component was refused that the value does not supply.
 fn is_unsupplied(answer: Result<usize, Format>) -> bool {
     matches!(answer, Err(Format::InsufficientTypeInformation))
@@ -34,9 +48,9 @@ fn is_out_of_range(answer: Result<usize, Format>) -> bool {
 
 /// The plan, which is made once more after a failed allocation.
 fn plan_at_last(alloc: Global) -> Result<Plan, AllocError> {
-    match Plan::of_items(alloc, DATE_AND_TIME) {
+    match plan_of(alloc, DATE_AND_TIME) {
         Ok(plan) => Ok(plan),
-        Err(_) => Plan::of_items(alloc, DATE_AND_TIME),
+        Err(_) => plan_of(alloc, DATE_AND_TIME),
     }
 }
 
@@ -59,7 +73,7 @@ fn a_failed_allocation_does_not_hinder_the_next_call(rt: HostRuntime) -> Result<
 
 #[test]
 fn what_the_value_lacks_is_refused_behind_the_text_before_it(rt: HostRuntime) -> Result<(), Fail> {
-    let plan = Plan::of_items(rt.alloc(), DATE_AND_TIME)?;
+    let plan = plan_of(rt.alloc(), DATE_AND_TIME)?;
     let value = example(&rt);
     let mut output = Vec::new(rt.alloc());
     let of_date = plan.format_into(&mut output, &value.date(), &mut DateState::default());
@@ -73,13 +87,7 @@ fn what_the_value_lacks_is_refused_behind_the_text_before_it(rt: HostRuntime) ->
 
 #[test]
 fn a_year_past_9999_is_refused_by_its_component(rt: HostRuntime) -> Result<(), Fail> {
-    let year = Component::CalendarYearFullStandardRange(parts::YEAR_STANDARD);
-    let items = [
-        Item::Component(DAY),
-        Item::StringLiteral("/"),
-        Item::Component(year),
-    ];
-    let plan = Plan::of_items(rt.alloc(), &items)?;
+    let plan = plan_of(rt.alloc(), DAY_AND_YEAR)?;
     let date = date(&rt, 10_000, Month::May, 3);
     let mut output = Vec::new(rt.alloc());
     let of_date = plan.format_into(&mut output, &date, &mut DateState::default());
@@ -90,12 +98,7 @@ fn a_year_past_9999_is_refused_by_its_component(rt: HostRuntime) -> Result<(), F
 
 #[test]
 fn bytes_that_are_no_utf_8_are_kept_and_shown(rt: HostRuntime) -> Result<(), Fail> {
-    let items = [
-        Item::Component(DAY),
-        Item::Literal(b"\xff"),
-        Item::Literal(b"\xc3\xa4"),
-    ];
-    let plan = Plan::of_items(rt.alloc(), &items)?;
+    let plan = plan_of(rt.alloc(), DAY_AND_BYTES)?;
     let value = example(&rt);
     let mut output = Vec::new(rt.alloc());
     plan.format_into(&mut output, &value, &mut DateState::default())?;

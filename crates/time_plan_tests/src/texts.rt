@@ -1,5 +1,5 @@
 //! Worked texts, each by the list and by its plan.
-use std::alloc::Global;
+use std::alloc::{AllocError, Global};
 use std::default::Default;
 use std::fmt::Debug;
 use std::process::Abort;
@@ -46,6 +46,11 @@ pub(crate) fn example(rt: &impl Abort) -> OffsetDateTime {
     OffsetDateTime::new_in_offset(date(rt, 1997, Month::November, 12), time, offset)
 }
 
+/// The plan of items. No clause is handed on, so that a test proves no more than it compares.
+pub(crate) fn plan_of(alloc: Global, items: &[Item<'_>]) -> Result<Plan, AllocError> {
+    Plan::of_items(alloc, items)
+}
+
 /// Compares the text of the example by a description.
 pub(crate) fn assert_text<D: Formattable>(
     rt: &impl Abort,
@@ -67,7 +72,7 @@ fn assert_list(
     items: &[Item<'_>],
     wanted: &[u8],
 ) -> Result<(), Fail> {
-    let plan = Plan::of_items(alloc, items)?;
+    let plan = plan_of(alloc, items)?;
     let list = BorrowedItems(items);
     assert_same(
         rt,

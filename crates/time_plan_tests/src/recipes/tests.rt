@@ -1,8 +1,9 @@
 //! The recipe's text.
 use super::{append_times, plan_of_text, plan_of_times};
 use crate::texts::{assert_same, assert_text, example};
+use std::alloc::Global;
 use std::test::Fail;
-use time_plan::{InvalidDescription, Plan};
+use time_plan::{InvalidDescription, InvalidStrftime, Plan};
 
 #[test]
 fn the_recipe_has_its_text(rt: HostRuntime) -> Result<(), Fail> {
@@ -15,11 +16,16 @@ fn the_recipe_has_its_text(rt: HostRuntime) -> Result<(), Fail> {
     Ok(())
 }
 
+/// The plan of a text in the syntax of strftime. No clause is handed on.
+fn plan_in_percents(alloc: Global, text: &[u8]) -> Result<Plan, InvalidStrftime> {
+    Plan::parse_strftime(alloc, text)
+}
+
 #[test]
 fn a_text_has_a_plan_or_its_fault(rt: HostRuntime) -> Result<(), Fail> {
     let plan = plan_of_text(rt.alloc(), "[year]-[month]-[day] [hour]:[minute]:[second]")?;
     assert_text(&rt, rt.alloc(), &plan, b"1997-11-12 09:55:06")?;
-    let by_strftime = Plan::parse_strftime(rt.alloc(), b"%d/%b/%Y:%H:%M:%S %z")?;
+    let by_strftime = plan_in_percents(rt.alloc(), b"%d/%b/%Y:%H:%M:%S %z")?;
     assert_text(&rt, rt.alloc(), &by_strftime, b"12/Nov/1997:09:55:06 -0630")?;
     let fault = plan_of_text(rt.alloc(), "[day]/[mnth]");
     assert_same(
