@@ -1,5 +1,5 @@
 //! ISO 8601-1:2019, by its default configuration and by any other.
-ghost use Rattle.std.specs.Prelude.{◌≡◌, ◌≤◌, IfErr, IfOk, IsTrue, None, Ok, length};
+ghost use Rattle.std.specs.Prelude.{◌≡◌, ◌≤◌, IfErr, IfOk, Ok, length};
 ghost use Rattle.movaliren_c.specs.Answer.{IsAnswer, IsRefusedFor, IsText, IsWritten, gives};
 ghost use Rattle.movaliren_c.specs.Batch.{IsBatch};
 ghost use Rattle.movaliren_c.specs.Chosen.{choices_at, iso8601_by, separated};
@@ -7,8 +7,8 @@ ghost use Rattle.movaliren_c.specs.Utc.{utc_value};
 ghost use Rattle.movaliren_c.specs.Value.{moment_value};
 ghost use Rattle.time_fmt.specs.Outcome.{done};
 ghost use Rattle.time_known.specs.Config.{default_choices};
-ghost use Rattle.time_known.specs.Iso8601.{iso8601_of, iso_offset_of_fields};
-ghost use Rattle.time_known.specs.Iso8601Parts.{date_of_parts, part_text, parts_text, parts_width};
+ghost use Rattle.time_known.specs.Iso8601.{iso8601_of};
+ghost use Rattle.time_known.specs.Iso8601Parts.{parts_text, parts_width};
 ghost use Rattle.time_known.specs.Iso8601Width.{iso8601_width};
 
 mod config;
@@ -26,11 +26,8 @@ pub use config::{IsoConfig, config_at};
 use std::default::Default;
 use time_below::OffsetDateTime;
 use time_digits::ru8;
-use time_known::fields::{OffsetFields, accepted_fields};
-use time_known::iso8601::{
-    Config, DateParts, DecimalSign, OffsetPrecision, Parts, SeparatedText, Usual, parts_of,
-    put_parts,
-};
+use time_known::fields::accepted_fields;
+use time_known::iso8601::{Config, DecimalSign, Parts, SeparatedText, Usual, parts_of, put_parts};
 use time_known::sink::Text;
 use time_provide::DateState;
 
@@ -253,7 +250,8 @@ impl<S: Source> Iso8601By<S> {
     }
 }
 
-/// Writes the text of the value, part by part, straight to a buffer that holds each text, if nothing of it is refused.
+/// Writes the text of the value, part by part.
+#[inline(never)]
 fn write_parts(config: &Config, value: &OffsetDateTime, room: &mut [u8]) -> Result<usize, Reason>
     ensures { IsWritten result (iso8601_of config.now value.now) room.old room.new }
 {
@@ -261,48 +259,7 @@ fn write_parts(config: &Config, value: &OffsetDateTime, room: &mut [u8]) -> Resu
         return Err(Reason::Insufficient);
     }
     let parts = parts_of(config, value, &mut DateState::default());
-    if room.len() >= config.width() && are_accepted(config, &parts) {
-        put_at_once(config, &parts, room)
-    } else {
-        copy_parts(config, &parts, room)
-    }
-}
-
-/// Whether nothing of the parts is refused.
-#[inline(always)]
-#[tactic(auto, using(crate::proofs::AnswerLemmas::parts_accepted))]
-fn are_accepted(config: &Config, parts: &Parts) -> bool
-    ensures { IsTrue result → (parts_text config.now parts.now).refusal ≡ None }
-{
-    is_date_accepted(config, &parts.date) && is_offset_accepted(config, &parts.offset)
-}
-
-/// Whether a date is not refused, if there is one.
-#[inline(always)]
-fn is_date_accepted(config: &Config, date: &Option<DateParts>) -> bool
-    ensures { IsTrue result → (part_text (date_of_parts config.now) date.now).refusal ≡ None }
-{
-    match date {
-        Some(date) => {
-            let year = date.year.get();
-            config.year_is_six_digits() || (year >= 0 && year <= 9_999)
-        }
-        None => true,
-    }
-}
-
-/// Whether an offset is not refused, if there is one.
-#[inline(always)]
-fn is_offset_accepted(config: &Config, offset: &Option<OffsetFields>) -> bool
-    ensures { IsTrue result → (part_text (iso_offset_of_fields config.now) offset.now).refusal ≡ None }
-{
-    match offset {
-        Some(offset) => {
-            let has_minutes = matches!(config.offset_precision(), OffsetPrecision::Minute);
-            offset.seconds.get() == 0 && (has_minutes || offset.minutes.get() == 0)
-        }
-        None => true,
-    }
+    copy_parts(config, &parts, room)
 }
 
 /// Puts the parts at the start of a buffer that holds them, up to what is refused.
@@ -322,8 +279,7 @@ fn put_at_once(config: &Config, parts: &Parts, room: &mut [u8]) -> Result<usize,
 }
 
 /// Writes the parts to an array first, since one may be refused after others.
-#[cold]
-#[inline(never)]
+#[inline(always)]
 fn copy_parts(config: &Config, parts: &Parts, room: &mut [u8]) -> Result<usize, Reason>
     ensures { IsWritten result (parts_text config.now parts.now) room.old room.new }
 {

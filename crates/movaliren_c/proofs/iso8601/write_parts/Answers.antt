@@ -1,4 +1,4 @@
-use Rattle.std.proofs.Common.{◌≡◌, ◌≢◌, true, false, refl, sym, ◌∙◌, rules, subst}
+use Rattle.std.proofs.Common.{◌≡◌, ◌≢◌, true, false, refl, sym, ◌∙◌, subst}
 use Rattle.movaliren_c.specs.Answer.{IsWritten}
 use Rattle.time_below.specs.Facts.{facts_of_offset_date_time}
 use Rattle.time_below.specs.Moment.{OffsetDateAndTime}
@@ -8,8 +8,7 @@ use Rattle.time_known.specs.Iso8601.{iso8601_of}
 use Rattle.time_known.specs.Iso8601Parts.{chosen_parts, parts_text, shown_parts}
 use Rattle.time_known.specs.declared.iso8601.config.FormattedComponents.TheVariants as components
 use Rattle.time_known.specs.declared.iso8601.parts.Parts.{Parts}
-use Rattle.time_known.proofs.iso8601.PartsLemmas.{by_parts, by_parts_width}
-use Rattle.movaliren_c.proofs.AnswerLemmas.{put_whole}
+use Rattle.time_known.proofs.iso8601.PartsLemmas.{by_parts}
 use Rattle.movaliren_c.proofs.iso8601.write_parts.Goals as goal
 
 -- the parts of a value give its outcome
@@ -18,26 +17,8 @@ text_of_parts : (choices : Choices) (v : OffsetDateAndTime) (p : Parts) → choi
 text_of_parts choices v p some e =
     by_parts choices (facts_of_offset_date_time v) p (λ width outcome. parts_text choices p ≡ outcome) refl some e refl
 
-pub put_at_once-requires : goal.put_at_once-requires
-put_at_once-requires c =
-    let choices = c.args.config.now in
-    let some : choices.formatted_components ≢ components.None =
-    λ e. let never : false ≡ true = sym c.if-formats_nothing.false ∙ c.formats_nothing.ensures.1 e in cc in
-    let width = by_parts_width choices (facts_of_offset_date_time c.args.value.now) c.parts_of-parts.result some
-    c.parts_of-parts.ensures.parts in
-    record { room = rw width (search rules) }
-
-pub returns-then-are_accepted : goal.returns-then-are_accepted
-returns-then-are_accepted c =
-    let choices = c.args.config.now in
-    let some : choices.formatted_components ≢ components.None =
-    λ e. let never : false ≡ true = sym c.if-formats_nothing.false ∙ c.formats_nothing.ensures.1 e in cc in
-    let same = text_of_parts choices c.args.value.now c.parts_of-parts.result some c.parts_of-parts.ensures.parts in
-    subst (λ (o : Outcome). IsWritten c.put_at_once.result o c.args.room.now c.put_at_once.new.room) same
-    (put_whole _ _ _ _ (c.are_accepted.ensures c.if-are_accepted.true) c.put_at_once.ensures.text c.put_at_once.ensures.refused)
-
-pub returns-else-room-width : goal.returns-else-room-width
-returns-else-room-width c =
+pub returns : goal.returns
+returns c =
     let choices = c.args.config.now in
     let some : choices.formatted_components ≢ components.None =
     λ e. let never : false ≡ true = sym c.if-formats_nothing.false ∙ c.formats_nothing.ensures.1 e in cc in
