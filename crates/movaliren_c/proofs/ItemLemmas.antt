@@ -5,7 +5,6 @@ use Rattle.std.specs.Str.{is_utf8}
 use Rattle.std.proofs.lemmas.Bool.{le-leb, leb-true, leb-false}
 use Rattle.std.proofs.lemmas.List.{append-nil, length-append, take_more_set}
 use Rattle.movaliren_c.specs.Described.{AreItems, DescribeNothing, Describes, HoldsIn, HoldsItems, HoldsListsIn, IsHeld, IsItem, IsItemOf, Leaves, LeavesItems, bracket_items, bracket_number, few_in, fault_at, is_shown, no_item, of_brackets, of_strftime, shown, strftime_items, strftime_number}
-use Rattle.movaliren_c.specs.Answer.{IsText}
 use Rattle.movaliren_c.specs.Flat.{closed_at, flat, flat_items, hidden_at, or_at, shown_in}
 use Rattle.movaliren_c.specs.Items.{component_of, date_component, described, item_tree, trees_of}
 use Rattle.movaliren_c.specs.declared.item.Item.{Item}
@@ -267,25 +266,27 @@ same_by : {A : Type 0} (description all : List Tree) (value : Result A Reason) (
 same_by description all (Ok v) facts same = ap Ok (sym (same (facts v)))
 same_by description all (Err r) facts same = refl
 
-given_by : {A : Type 0} (fits : Bool) (text : List ℕ) (all : List Tree) (count room : ℕ) (items : List Item) (old new : Fault) (value : Result A Reason)
-    (facts : A → Facts) → nat_le (length all) room ≡ fits → LeavesItems fits text all (Ok count) items old new
-    → described (few_in room (Ok all)) value facts ≡ described (trees_of text (take count items)) value facts
-given_by true text all count room items old new value facts test h =
+given_by : {A : Type 0} (fits : Bool) (text : List ℕ) (all : List Tree) (count room most : ℕ) (items : List Item) (old new : Fault) (value : Result A Reason)
+    (facts : A → Facts) → room ≤ most → nat_le (length all) room ≡ fits → LeavesItems fits text all (Ok count) items old new
+    → described (few_in most (Ok all)) value facts ≡ described (trees_of text (take count items)) value facts
+given_by true text all count room most items old new value facts small test h =
     let same : count ≡ length all = let e = h.0 in cc in
-    let few : few_in room (Ok all) ≡ Ok all = rw test refl in
+    let inside : length all ≤ room = leb-true (length all) room test in
+    let test : nat_le (length all) most ≡ true = le-leb (length all) most (omega (arith, inside, small)) in
+    let few : few_in most (Ok all) ≡ Ok all = rw test refl in
     ap (λ (d : Result (List Tree) Reason). described d value facts) few
     ∙ same_by h.1.description all value facts h.1.same
     ∙ ap (λ (d : Result (List Tree) Reason). described d value facts) (sym h.1.there)
     ∙ ap (λ (n : ℕ). described (trees_of text (take n items)) value facts) (sym same)
-given_by false text all count room items old new value facts test h = absurd (let e = h.0 in cc)
+given_by false text all count room most items old new value facts small test h = absurd (let e = h.0 in cc)
 
--- the items give what the text does
-pub text_given : {A : Type 0} (text : List ℕ) (d : Result (List Tree) Fault) (count : ℕ) (items : List Item) (old new : Fault) (value : Result A Reason)
-    (facts : A → Facts) → Leaves text d (Ok count) items old new
-    → described (few_in (length items) d) value facts ≡ described (trees_of text (take count items)) value facts
-text_given text (Ok all) count items old new value facts h =
-    given_by (nat_le (length all) (length items)) text all count (length items) items old new value facts refl h
-text_given text (Err f) count items old new value facts h = absurd (let e = h.0 in cc)
+-- the items give what the text does, of which there may be more than the array has room for
+pub text_given : {A : Type 0} (text : List ℕ) (d : Result (List Tree) Fault) (count most : ℕ) (items : List Item) (old new : Fault) (value : Result A Reason)
+    (facts : A → Facts) → length items ≤ most → Leaves text d (Ok count) items old new
+    → described (few_in most d) value facts ≡ described (trees_of text (take count items)) value facts
+text_given text (Ok all) count most items old new value facts small h =
+    given_by (nat_le (length all) (length items)) text all count (length items) most items old new value facts small refl h
+text_given text (Err f) count most items old new value facts small h = absurd (let e = h.0 in cc)
 
 many_only : (fits : Bool) (text : List ℕ) (all : List Tree) (r : Reason) (items : List Item) (old new : Fault)
     → LeavesItems fits text all (Err r) items old new → r ≡ reason.ManyItems
@@ -306,32 +307,9 @@ text_refused text (Ok all) r items old new h = refused_by (nat_le (length all) (
 text_refused text (Err f) r items old new h =
     let same : r ≡ reason.BadDescription = let e = h.0 in cc in ap Err (sym same)
 
-few_by : {A : Type 0} (fits : Bool) (all : List Tree) (room most : ℕ) (value : Result A Reason) (facts : A → Facts) (answer : Result ℕ Reason)
-    (before after : List ℕ) → nat_le (length all) room ≡ fits → room ≤ most → answer ≢ Err reason.ManyItems
-    → IsText (described (few_in room (Ok all)) value facts) answer before after
-    → IsText (described (few_in most (Ok all)) value facts) answer before after
-few_by true all room most value facts answer before after test small other is =
-    let more : nat_le (length all) most ≡ true = le-leb _ _ (omega (arith, leb-true _ _ test, small)) in
-    rw more (rw test at is)
-few_by false all room most value facts answer before after test small other is =
-    let many = rw test at is in absurd (other many.0)
-
--- what is not too much for some items is not too much for more
-pub text_few : {A : Type 0} (d : Result (List Tree) Fault) (room most : ℕ) (value : Result A Reason) (facts : A → Facts) (answer : Result ℕ Reason)
-    (before after : List ℕ) → room ≤ most → answer ≢ Err reason.ManyItems
-    → IsText (described (few_in room d) value facts) answer before after
-    → IsText (described (few_in most d) value facts) answer before after
-text_few (Ok all) room most value facts answer before after small other is =
-    few_by (nat_le (length all) room) all room most value facts answer before after refl small other is
-text_few (Err f) room most value facts answer before after small other is = is
-
--- where there is no text, the buffer is unchanged
-pub text_unchanged : (asked : Result Outcome Reason) (r : Reason) (before after : List ℕ) → IsText asked (Err r) before after → after ≡ before
-text_unchanged (Ok o) r before after is = is.0
-text_unchanged (Err e) r before after is = is.1
-
-pub text_is_not_many : (answer : Result ℕ Reason) (n : ℕ) → answer ≡ Ok n → answer ≢ Err reason.ManyItems
-text_is_not_many answer n is = λ e. let same : Ok n ≡ Err reason.ManyItems = sym is ∙ e in cc
-
-pub fault_is_not_many : (answer : Result ℕ Reason) → answer ≡ Err reason.BadDescription → answer ≢ Err reason.ManyItems
-fault_is_not_many answer is = λ e. let same : Err reason.BadDescription ≡ Err reason.ManyItems = sym is ∙ e in cc
+-- a fault is the same, however many items there may be
+pub text_faulty : (text : List ℕ) (d : Result (List Tree) Fault) (r : Reason) (most : ℕ) (items : List Item) (old new : Fault)
+    → r ≢ reason.ManyItems → Leaves text d (Err r) items old new → few_in most d ≡ Err r
+text_faulty text (Ok all) r most items old new other h = absurd (other (many_only (nat_le (length all) (length items)) text all r items old new h))
+text_faulty text (Err f) r most items old new other h =
+    let same : r ≡ reason.BadDescription = let e = h.0 in cc in ap Err (sym same)

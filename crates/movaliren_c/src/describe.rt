@@ -1,7 +1,7 @@
 //! Descriptions from a text, in items or at once.
 ghost use Rattle.std.specs.Prelude.{◌≡◌, ◌≤◌, IfOk, length};
 ghost use Rattle.movaliren_c.specs.Answer.{Answers, IsText};
-ghost use Rattle.movaliren_c.specs.Described.{Leaves, bracket_items, few, few_in, strftime_items};
+ghost use Rattle.movaliren_c.specs.Described.{Leaves, bracket_items, few, strftime_items};
 ghost use Rattle.movaliren_c.specs.Items.{described};
 ghost use Rattle.movaliren_c.specs.Utc.{local_value};
 ghost use Rattle.movaliren_c.specs.Value.{timestamp_value};
@@ -128,8 +128,7 @@ fn describe<S: Syntax>(text: &[u8], items: &mut [Item], fault: &mut Fault) -> Re
 }
 
 /// Writes the text of the value by the description that another text is.
-#[inline(always)]
-fn write_text<S: Syntax, V: ComponentProvider + Copy + Drop>(
+fn write_text<S: Syntax, V: ComponentProvider + Drop>(
     text: &[u8],
     value: Result<V, Reason>,
     room: &mut [u8],
@@ -138,29 +137,31 @@ where
     V::State: Drop,
     ensures { IsText (described (few (S.described text.now)) value V.facts) result room.old room.new }
 {
-    match write_few::<S, V, USUAL>(text, value, room) {
-        Ok(count) => Ok(count),
+    let mut items = [NO_ITEM; USUAL];
+    let mut fault = Fault::many(0);
+    match describe::<S>(text, &mut items, &mut fault) {
+        Ok(count) => write_described(&items[..count], text, value, room),
         Err(Reason::BadDescription) => Err(Reason::BadDescription),
-        Err(_) => write_few::<S, V, FEW>(text, value, room),
+        Err(_) => write_many::<S, V>(text, value, room),
     }
 }
 
-/// Writes the text of the value by the description that another text is, if it has at most so many items.
+/// Writes the text of the value by a description of more items than most have.
+#[cold]
 #[inline(never)]
-fn write_few<S: Syntax, V: ComponentProvider + Drop, const N: usize>(
+fn write_many<S: Syntax, V: ComponentProvider + Drop>(
     text: &[u8],
     value: Result<V, Reason>,
     room: &mut [u8],
 ) -> Result<usize, Reason>
 where
     V::State: Drop,
-    requires { N ≤ 64 }
-    ensures { IsText (described (few_in N (S.described text.now)) value V.facts) result room.old room.new }
+    ensures { IsText (described (few (S.described text.now)) value V.facts) result room.old room.new }
 {
-    let mut items = [NO_ITEM; N];
+    let mut all = [NO_ITEM; FEW];
     let mut fault = Fault::many(0);
-    match describe::<S>(text, &mut items, &mut fault) {
-        Ok(count) => write_described(&items[..count], text, value, room),
+    match describe::<S>(text, &mut all, &mut fault) {
+        Ok(count) => write_described(&all[..count], text, value, room),
         Err(reason) => Err(reason),
     }
 }
