@@ -558,7 +558,7 @@ ptrdiff_t movaliren_width(const struct movaliren_item *items, size_t items_len, 
     size_t texts_len);
 
 /* The number of bytes of one text, up to PTRDIFF_MAX, or its error, which is never MOVALIREN_ERROR_NO_ROOM. After
- * that error of movaliren_format make a buffer of this many bytes, and call it again. It costs about as much as the
+ * that error of movaliren_format make a buffer of this many bytes, and call it again. It costs somewhat more than the
  * text. */
 ptrdiff_t movaliren_format_length(const struct movaliren_item *items, size_t items_len,
     const void *texts, size_t texts_len, const struct movaliren_moment *moment);
