@@ -10,23 +10,24 @@
  * A call that writes one text returns the number of bytes that it wrote to the start of the buffer
  * `room`. These are the whole text, without a zero at the end; the bytes after them are unchanged. Or it
  * returns a negative movaliren_error, and the buffer is unchanged. A batch returns how many texts it
- * wrote, and movaliren_width a width. A number out of its range is an error, and is never changed to one
- * in range. A call reads its arguments, keeps nothing and prints nothing. Threads may call at the same
- * time without a lock.
+ * wrote; movaliren_width, movaliren_format_length and its like return a number of bytes. A number out of its
+ * range is an error, and is never changed to one in range. A call keeps nothing outside of its arguments and
+ * prints nothing. Threads may call at the same time without a lock.
  *
  * A text that does not fit the buffer is MOVALIREN_ERROR_NO_ROOM. A buffer of MOVALIREN_RFC3339_ROOM bytes
  * holds each text of RFC 3339, and the other formats have such numbers. Of a description movaliren_width is
  * the most bytes that a text has, and movaliren_format_length and its like count the bytes of one text.
  *
- * No call allocates, so each may be made from a signal handler, and in the forked child of a process with
- * threads.
+ * No call allocates or takes a lock, so each may be made from a signal handler, and in the forked child of a
+ * process with threads. But movaliren_fault_text and movaliren_place_text call sprintf, which POSIX does not
+ * name among the functions that are safe there.
  *
  * Pointers must not be null, also where a length is 0: pass "". The proof is about arrays, and each array
  * has a place in memory, also one of no bytes. So no call tests for null. Each length must be that of its
  * array, and below PTRDIFF_MAX. The buffer must not overlap anything else that the call is given. All
  * fields must be set.
  *
- * The header is C99 and C++, and C89 where the compiler has <stdint.h> and an inline of its own. The soname
+ * The header is C99 and C++, and C89 where the compiler has <stdint.h>. The soname
  * libmovaliren.so.0 stands for the layout of each struct and the meaning of each call: a field more, or another
  * meaning of a number, has another soname. A later version of one soname may have more calls and more numbers. */
 #ifndef MOVALIREN_H
@@ -325,8 +326,8 @@ ptrdiff_t movaliren_iso8601_by_local(const struct movaliren_iso_config *config, 
 /* ---- times of log lines */
 
 /* What the texts of one second at one offset have in common. The caller keeps it from one line to the next; each
- * thread has one of its own. It is zeroed before the first call, and no other code writes to it: of other bytes
- * the text is any, and still within the buffer. */
+ * thread has one of its own. It is zeroed before the first call, and no other code writes to it: else the text may
+ * be any, but it stays within the buffer. */
 struct movaliren_log {
     int64_t second;
     int64_t offset;
@@ -335,9 +336,9 @@ struct movaliren_log {
     uint8_t zone_len;
 };
 
-/* What movaliren_iso8601_by_local writes by MOVALIREN_ISO_DECIMALS(decimals). Of the second and the offset that are
- * kept, a text of three, six or nine decimals is a copy with these decimals. Any other number of decimals costs the
- * whole text. The offset is 0 for UTC.
+/* Writes what movaliren_iso8601_by_local writes by MOVALIREN_ISO_DECIMALS(decimals). At the second and the offset
+ * that are kept, a text of three, six or nine decimals costs a copy of what is kept, and these decimals. Any other
+ * number of decimals costs the whole text. The offset is 0 for UTC.
  *
  *     static _Thread_local struct movaliren_log kept;
  *     n = MOVALIREN_STRING(
@@ -557,7 +558,7 @@ ptrdiff_t movaliren_width(const struct movaliren_item *items, size_t items_len, 
     size_t texts_len);
 
 /* The number of bytes of one text, up to PTRDIFF_MAX, or its error, which is never MOVALIREN_ERROR_NO_ROOM. After
- * that error of movaliren_format make a buffer of this many bytes, and call it again. It costs about as much as the
+ * that error of movaliren_format make a buffer of this many bytes, and call it again. It costs somewhat more than the
  * text. */
 ptrdiff_t movaliren_format_length(const struct movaliren_item *items, size_t items_len,
     const void *texts, size_t texts_len, const struct movaliren_moment *moment);
@@ -644,8 +645,9 @@ ptrdiff_t movaliren_describe_strftime(const void *text, size_t text_len,
     struct movaliren_item *items, size_t items_len, struct movaliren_fault *fault);
 
 /* The text of a moment by a description in brackets of at most 64 items, which is read for this one text. The errors
- * are those of movaliren_describe, and then those of movaliren_format_utc. After MOVALIREN_ERROR_NO_ROOM read the
- * description by movaliren_parse, and movaliren_length_by_utc counts the bytes of the text.
+ * are those of movaliren_describe, and then those of movaliren_format_utc or movaliren_format_local. After
+ * MOVALIREN_ERROR_NO_ROOM read the description by movaliren_parse, and movaliren_length_by_utc or
+ * movaliren_length_by_local counts the bytes of the text.
  *
  *     static const char day[] = "[day] [month repr:long]";
  *     n = movaliren_brackets_utc(day, sizeof day - 1, now.tv_sec, 0, line, sizeof line); */
@@ -655,9 +657,9 @@ ptrdiff_t movaliren_brackets_local(const void *text, size_t text_len, int64_t se
     uint32_t nanosecond, int64_t offset, void *room, size_t room_len);
 
 /* The text of a moment by a description in the syntax of strftime of at most 64 items, which is read for this one text.
- * The errors are those of movaliren_describe_strftime, and then those of movaliren_format_utc. After
- * MOVALIREN_ERROR_NO_ROOM read the description by movaliren_parse_strftime, and movaliren_length_by_utc counts the bytes
- * of the text.
+ * The errors are those of movaliren_describe_strftime, and then those of movaliren_format_utc or
+ * movaliren_format_local. After MOVALIREN_ERROR_NO_ROOM read the description by movaliren_parse_strftime, and
+ * movaliren_length_by_utc or movaliren_length_by_local counts the bytes of the text.
  *
  *     static const char day[] = "%d %B";
  *     n = movaliren_strftime_utc(day, sizeof day - 1, now.tv_sec, 0, line, sizeof line); */
