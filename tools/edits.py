@@ -3,8 +3,8 @@
 An edit has a line `refused: FUNCTION`, its path in the crate, or several; `rt` ignores them. Two edits are apart if they
 name different functions, and neither changes, outside the bodies of its own, an item that the other's functions or the
 contracts of what these call name. A second edit of one body is made in a twin: the function once more, under another
-name, with its contract and its proof files. Unedited, it would be proved as the function is: nothing calls it, and no
-proof but its own speaks of it.
+name, with its contract and its proof files. Unedited, it is proved as the function is (`wrong_bodies.py --twins`): nothing
+calls it, and no proof but its own speaks of it.
 
 `rt must-fail` tries each edit by a check of the whole crate, and no command checks some functions of an edited copy. So
 this module and wrong_bodies.py take from `rt` how an edit is read, made and checked.
@@ -70,8 +70,8 @@ class Edit:
         made.number, made.functions = number, {f"{it}_{number}" for it in self.functions}
         return made
 
-    def put_twin(self, folder, texts):
-        """Adds the twin and its proof files to the texts of a group, and returns whether that can be done."""
+    def put_twin(self, folder, texts, is_edited=True):
+        """Adds the twin, edited or not, and its proof files to the texts of a group, and returns whether that can be done."""
         changed = rt.edited(self.text, folder)[0]
         path = next(iter(self.alone.functions)).split("::")[1:]
         if len(self.functions) > 1 or len(changed) > 1:
@@ -93,7 +93,7 @@ class Edit:
             return False
         twin, source = f"{path[-1]}_{self.number}", texts.get(file, before)
         at = ABOVE.search(source[: among[0].start()]).start()
-        second = re.sub(rf"\bfn {path[-1]}\b", f"fn {twin}", edited[0][0], count=1)
+        second = re.sub(rf"\bfn {path[-1]}\b", f"fn {twin}", (edited if is_edited else own)[0][0], count=1)
         texts[file] = f"{source[:at]}{above}{second}\n\n{source[at:]}"
         for name in os.listdir(f"{folder}/{proofs}") if os.path.isdir(f"{folder}/{proofs}") else ():
             proof = rt.rtlib.text_of(f"{folder}/{proofs}/{name}")

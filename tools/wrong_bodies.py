@@ -6,6 +6,9 @@ copy of the crate, and the check's line of each function tells its own reason fr
 joined check that does not tell is tried alone, in the function itself. A check of the unedited crate adds what a copy of
 crates/NAME/out/incremental lacks, and all others start from copies of that. After a proof that left all of it there, that
 check proves nothing anew, and `--proved` leaves it out. The last line is `N passed, M failed`.
+
+A second edit of a function is made in a twin of it (edits.py). `--twins` tries the twins without their edits: each must be
+proved, so that what refuses a twin is its edit.
 """
 import argparse
 import concurrent.futures
@@ -74,6 +77,16 @@ def tried(crate, group, kept, given):
     return [(is_well, f"{it.label}: {why or f'{where} ' + ', '.join(sorted(it.alone.functions))}") for it in group]
 
 
+def tried_unedited(crate, group, kept, given):
+    """Checks the twins of a group without their edits, and returns for each whether it is proved, and what to say."""
+    twins, texts = [it for it in group if it.number], {}
+    if not all([it.put_twin(crate.folder, texts, is_edited=False) for it in twins]) or not twins:
+        return [(False, f"{it.label}: its twin cannot be made") for it in twins]
+    found, why = refused(crate, set().union(*(it.functions for it in twins)), texts, kept, given)
+    is_proved = lambda it: not why and not it.functions & found
+    return [(is_proved(it), f"{it.label}: its twin is {'proved' if is_proved(it) else why or 'not proved'}") for it in twins]
+
+
 def tried_all(crate, given):
     """Returns for each edit of a crate whether it is refused in the functions that it names, and what to say."""
     good, bad = rt.edits_of(argparse.Namespace(folder=f"{given.edits}/crates/{crate.name}"))
@@ -90,7 +103,8 @@ def tried_all(crate, given):
             found, why = refused(crate, set().union(*(it.functions for it in edits)), {}, kept, given)
         if found or why:
             return told + [(False, f"{it.label}: the unedited crate is not proved: {why or sorted(found)}") for it in edits]
-        return sum(pool.map(lambda it: tried(crate, it, kept, given), groups_of(crate, edits)), told)
+        way = tried_unedited if given.twins else tried
+        return sum(pool.map(lambda it: way(crate, it, kept, given), groups_of(crate, edits)), told)
 
 
 def main():
@@ -98,6 +112,7 @@ def main():
     words.add_argument("--edits", default=".", help="the top of the repository that has must-fail/, where it is another")
     words.add_argument("--lanes", type=lambda it: threading.BoundedSemaphore(int(it)), default="1", help="how many checks run side by side")
     words.add_argument("--proved", action="store_true", help="the crates that have out/incremental were proved since they were changed")
+    words.add_argument("--twins", action="store_true", help="tries the twins without their edits, which must be proved")
     words.add_argument("crates", nargs="*")
     given = words.parse_args()
     rt.rtlib.RATTLE = os.environ.get("RATTLE", rt.rtlib.RATTLE)
