@@ -22,9 +22,9 @@ RUST = {"movaliren": "bindings/rust", "movaliren_time": "bindings/rust-time"}
 HEADER = TOP / "bindings/c/movaliren.h"
 HEAD = """# The calls, by crate and type
 
-`docs/calls.py` makes this page from the sources, and `./gate --tests` compares the two. It has every public item but the laws, with the first paragraph of its comment. The contract of a call stands in its file, which the heading of its type or module names. Where a call has a condition, *requires* names the clauses.
+`docs/calls.py` makes this page from the sources, and `./gate --tests` compares the two. It has the public types, traits, functions, macros and constants of the libraries, with the first paragraph of each comment. Laws are left out, and so are constants that belong to a type. The choices of components and their constants stand in [COMPONENTS.md](COMPONENTS.md). The contract of a call stands in its file, which the heading of its type or module names. Where a call has a condition, *requires* names the clauses.
 
-The crates of Rust and the header of C stand at the end. `cargo doc` in `bindings/rust` and `bindings/rust-time` shows more, and so does the man page `movaliren(3)`.
+The crates of Rust and the calls of the header of C stand at the end. `cargo doc` in `bindings/rust` and `bindings/rust-time` shows more, and so does the man page `movaliren(3)`.
 """
 ITEM = re.compile(
     r"(?P<doc>(?:^///[^\n]*\n)*)(?P<attributes>(?:^#\[(?:[^\]]|\][^\n])*\]\n)*)"
@@ -34,7 +34,8 @@ METHOD = re.compile(r"(?P<doc>(?:^    ///[^\n]*\n)*)(?:^    #\[[^\n]*\]\n)*^    
 FIELD = re.compile(r"(?P<doc>(?:^    ///[^\n]*\n)*)^    pub (?P<name>\w+): (?P<type>[^\n]*),\n", re.M)
 VARIANT = re.compile(r"(?P<doc>(?:^    ///[^\n]*\n)*)(?:^    #\[[^\n]*\]\n)*^    (?P<words>[A-Z]\w*(?:\([^\n]*\)| \{.*?\})?)(?: = \d+)?,$", re.M | re.S)
 MOST_VARIANTS = 12
-IMPL = re.compile(r"^impl(?P<parameters><[^\n]*?>)? (?P<what>[^\n{]*?) \{$", re.M)
+# The arrow of a function's type ends no parameters.
+IMPL = re.compile(r"^impl(?P<parameters><[^\n]*?(?<!-)>)? (?P<what>[^\n{]*?) \{$", re.M)
 CLAUSE = re.compile(r"^\s*(?:requires|ensures|where|ghost|antt)\b|\{$|;$", re.M)
 
 
@@ -197,10 +198,21 @@ class Crate:
                 rows.append(f"| `{item['name']}{item['rest'].rstrip(';')}` | {paragraph(item['doc'])} |")
             elif item["kind"] == "const" and not re.search(r"src/parts\.rt$", str(path)):
                 rows.append(f"| `{item['name']}` | {paragraph(item['doc'])} |")
-        if not rows:
-            return []
+        return self.table(module, rows)
+
+    def table(self, module, rows):
+        """The rows of a module under its name, if there are any."""
         name = "::".join([self.name, *module])
-        return [f"### Calls of `{name}`", "", "| Call | |", "|---|---|", *rows, ""]
+        return [f"### Calls of `{name}`", "", "| Call | |", "|---|---|", *rows, ""] if rows else []
+
+    def inner_functions(self, module):
+        """One table of the functions of each public module that stands in this one's file."""
+        lines = []
+        for name, body in re.findall(r"^pub mod (\w+) \{\n(.*?)^\}", self.files.get(self.file_of(module), ""), re.M | re.S):
+            text = re.sub(r"^    ", "", body, flags=re.M)
+            found = [it for it in ITEM.finditer(text) if it["kind"].endswith("fn")]
+            lines += self.table((*module, name), [row(it["doc"], *signature(text, it.start("name"))) for it in found])
+        return lines
 
     def page(self, module=()):
         names, inner = self.exported(module)
@@ -210,7 +222,7 @@ class Crate:
             if found and found[0]["kind"] in ("struct", "enum", "trait") and (name, found[1]) not in self.shown:
                 self.shown.add((name, found[1]))
                 lines += self.item(*found)
-        lines += self.functions(module, names)
+        lines += self.functions(module, names) + self.inner_functions(module)
         for text in [self.files.get(self.file_of(module), "")]:
             for macro in MACRO.finditer(text):
                 lines += [f"### `{macro['name']}!`", "", paragraph(macro["doc"]), ""]
