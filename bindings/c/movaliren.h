@@ -836,8 +836,9 @@ MOVALIREN_INLINE ptrdiff_t movaliren_width_by(const struct movaliren_description
  *     movaliren_add_usual(&line, MOVALIREN_MONTH_LONG);
  *     n = movaliren_by(&line, &moment, ..);
  *
- * After an item that did not fit, or is invalid, nothing more is added, and `reason` says why. Then the first item is
- * one that each call refuses as MOVALIREN_ERROR_BAD_ITEM, also where the reason is not tested. */
+ * After an item that did not fit, or is invalid, nothing more is added, and `reason` says why. movaliren_by and its like
+ * return it. Then the first item of the array is one that movaliren_format and its like refuse as
+ * MOVALIREN_ERROR_BAD_ITEM, so that no text is written where the reason is not tested. */
 
 /* Ends the description for the first reason. */
 MOVALIREN_INLINE void movaliren_refuse(struct movaliren_description *description, ptrdiff_t reason)

@@ -3,9 +3,9 @@
 //
 //     std::cout << movaliren::rfc3339(std::chrono::system_clock::now()) << '\n';
 //
-// A call allocates nothing but where it returns a std::string, or adds to a description, which is held in a vector and
-// a string. A time point has any duration; what is finer than a nanosecond is rounded down, before 1970 too. With
-// <format>, a text is an argument of std::format.
+// A call allocates nothing but where it returns a std::string or a description, adds to one, or throws. A description is
+// held in a vector and a string. A time point has any duration; what is finer than a nanosecond is rounded down, before
+// 1970 too. With <format>, a text is an argument of std::format.
 #ifndef MOVALIREN_HPP
 #define MOVALIREN_HPP
 
@@ -221,7 +221,8 @@ inline text<MOVALIREN_ISO8601_BY_ROOM> iso8601(
     });
 }
 
-// ISO 8601 with this many decimals of a second, 0 to 9, as 1997-11-12T15:55:06.120Z for 3. More are an error.
+// ISO 8601 with this many decimals of a second, 0 to 9, as 1997-11-12T15:55:06.120Z for 3. A text of more than 35 bytes,
+// which has more decimals than 9, is an error.
 template <class Duration>
 text<MOVALIREN_ISO8601_ROOM> iso8601(sys_time<Duration> point, std::uint8_t decimals)
 {
