@@ -153,7 +153,7 @@ fn write_decimals(room: &mut [u8], at: usize, nanosecond: Nanoseconds, decimals:
     put_decimals(&mut room[at..], nanosecond, decimals);
 }
 
-/// Puts them at the start of a buffer.
+/// Puts the first three, six or nine decimals of a second at the start of a buffer.
 #[inline(always)]
 #[tactic(auto, using(time_fmt::proofs::DecimalLemmas::three_of_second, time_fmt::proofs::DecimalLemmas::six_of_second))]
 fn put_decimals(room: &mut [u8], nanosecond: Nanoseconds, decimals: u8)
@@ -170,7 +170,8 @@ fn put_decimals(room: &mut [u8], nanosecond: Nanoseconds, decimals: u8)
     }
 }
 
-/// Overwrites the bytes of the buffer from a place on by an offset, of which the compiler knows the number of bytes.
+/// Overwrites the bytes of the buffer from a place on by an offset. The compiler knows
+/// its usual lengths, 1 and 6.
 #[inline(always)]
 #[tactic(auto, using(crate::proofs::LogLemmas::whole_piece))]
 fn write_zone(room: &mut [u8], at: usize, zone: &[u8])

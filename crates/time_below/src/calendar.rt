@@ -1,4 +1,4 @@
-//! The lengths of years and months.
+//! The lengths of years and months, and the weeks of days.
 ghost use Rattle.std.specs.Prelude.{◌≡◌, ◌+◌, ◌-◌, ◌*◌, ◌/◌, ◌%◌, ◌<◌, ◌≤◌, if◌then◌else◌};
 ghost use Rattle.std.specs.Int.{IsInRange};
 ghost use Rattle.time_below.specs.Calendar.{is_leap_year, days_in_year, days_in_month, days_of_months, last_begun};
@@ -89,7 +89,7 @@ pub fn rest_by_seven(number: u32) -> u8
     (number.wrapping_mul(613_566_757) >> 29) as u8
 }
 
-// The whole weeks in fewer than so many days, by a product.
+// The whole weeks in so many days, by a product.
 #[inline]
 pub fn weeks_in(days: u32) -> u8
     requires { days < 378 }

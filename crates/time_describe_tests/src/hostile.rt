@@ -1,5 +1,5 @@
-//! Texts that are no descriptions, by chance or by will: each has an answer, and the index of its fault is that of
-//! one of its bytes.
+//! Texts that are cut, changed, long or deep: each is a description, or the index of its fault is that of one of its
+//! bytes.
 use crate::texts::{fault_in_brackets, fault_in_percents, repeated};
 use std::alloc::{AllocError, Global};
 use std::process::Abort;
