@@ -102,9 +102,10 @@ pub extern "C" fn movaliren_width(items: &[Item], texts: &[u8]) -> isize
     answer_number(width(items, texts))
 }
 
-/// Writes the text of the value by the description, if there are both. The text is written to an array
-/// first, so that the buffer is as it was where there is no text. A longer text is written again, once
-/// it is known that it is complete and fits.
+/// Writes the text of the value by the description, if there are both. A date or a time of day alone is
+/// written straight to a buffer that has room for the longest such text. Any other text is written to an
+/// array first, so that the buffer is as it was where there is no text. A longer text is written again,
+/// once it is known that it is complete and fits.
 #[inline(always)]
 pub fn write_described<V: ComponentProvider + Drop>(
     items: &[Item],

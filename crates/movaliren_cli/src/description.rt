@@ -43,8 +43,8 @@ pub enum Refusal {
     Strftime(InvalidStrftime),
 }
 
-/// The description of a text: with a percent sign it is in the syntax of strftime, else in that of
-/// brackets.
+/// The description of a text: with a percent sign it is in the syntax of strftime, else with a bracket in
+/// that of brackets. Any other text is refused as a name.
 fn item_of(alloc: Global, text: &str) -> Result<OwnedFormatItem, Refusal> {
     let bytes = text.as_bytes();
     if bytes.contains(&b'%') {

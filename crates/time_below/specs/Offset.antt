@@ -29,7 +29,7 @@ signed_like lead x =
     if int_lt (pos 0) lead then pos (unsigned_abs x)
     else (if int_lt lead (pos 0) then neg_ℤ (pos (unsigned_abs x)) else x)
 
--- the smaller parts take the sign of the largest part that is not zero
+-- the later parts take the sign of the first part that is not zero
 abbrev pub settled : ℤ → ℤ → ℤ → Offset
 settled h m s =
     record { hours = h; minutes = signed_like h m; seconds = signed_like h (signed_like m s) }

@@ -68,8 +68,8 @@ fn sixtieths(whole: i32, part: i8) -> i32
 
 impl UtcOffset {
     /// The offset of hours -25 to 25, minutes -59 to 59 and seconds -59 to 59. Refuses the first
-    /// part that is outside its range, in this order. If signs differ, the smaller parts take the
-    /// sign of the largest part that is not zero.
+    /// part that is outside its range, in this order. If signs differ, the later parts take the sign of
+    /// the first part that is not zero.
     pub fn from_hms(hours: i8, minutes: i8, seconds: i8) -> Result<UtcOffset, ComponentRange>
         ensures accepted { IsOk result ↔ AreOffsetParts hours minutes seconds }
         ensures value { IfOk result (λ o. o ≡ settled hours minutes seconds) }
@@ -92,7 +92,7 @@ impl UtcOffset {
     }
 
     /// The offset of parts that are in the ranges of `from_hms`, as the caller knows. Nothing is tested.
-    /// If signs differ, the smaller parts take the sign of the largest part that is not zero.
+    /// If signs differ, the later parts take the sign of the first part that is not zero.
     #[inline]
     pub fn from_ranged_hms(hours: i8, minutes: i8, seconds: i8) -> UtcOffset
         requires { AreOffsetParts hours minutes seconds }

@@ -1,4 +1,4 @@
-//! Descriptions in brackets, and the texts that standards and the documentation of `time` give for them.
+//! Descriptions in brackets and in the syntax of strftime, and the texts that standards and documentation give.
 use crate::texts::{Numbers, Row, WEDNESDAY, assert_brackets};
 
 /// Examples of RFC 3339 (5.8), RFC 2822 (A.1.1), RFC 9110 (5.6.7) and ISO 8601 (week date, ordinal date).

@@ -1,4 +1,4 @@
-//! The choices of one component: what it is, how wide it is and how it is written, in one place.
+//! The trait of a component's choices, which say what component it is, its group, its width and its writer.
 ghost use Rattle.std.specs.Prelude.{◌≡◌, IsTrue};
 ghost use Rattle.time_below.specs.Conversion.{is_current};
 ghost use Rattle.time_below.specs.declared.format_description.component.Component.{Component};
@@ -13,11 +13,11 @@ use crate::sink::Sink;
 use time_below::format_description::Group;
 use time_provide::ComponentProvider;
 
-/// The choices of one component, whose type says which component it is.
+/// The choices of one component, which with their type say which component it is.
 ///
 /// Each type of choices in `time_below::format_description::modifier` is one, but for those of
-/// deprecated components and of the two that have no text. The impls are beside the writers of
-/// their group.
+/// deprecated components and of the two that have no text. Each impl is beside the
+/// writer that it calls.
 pub trait Modifier: Copy {
     /// The component with these choices.
     ghost component_of: { Self → Component };

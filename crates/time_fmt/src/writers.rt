@@ -1,6 +1,6 @@
 //! Texts appended to a sink with room for them. No writer allocates.
 //!
-//! The impls of [`Modifier`](crate::Modifier) for a group's components are beside its writers.
+//! The impl of [`Modifier`](crate::Modifier) for a component is beside its writer.
 mod century;
 mod date;
 mod decimals;

@@ -1,5 +1,5 @@
 //! The rows of `time_known`, by public calls alone: texts, counts and refusals of the well-known formats,
-//! in a library of their own, so that `time_known` is not proved once more beside its tests. The recipes
+//! in a library of their own, so that `time_known` is not proved once more beside its tests. Recipes
 //! of `docs/RECIPES.md` stand here too.
 #![tactic(auto)]
 

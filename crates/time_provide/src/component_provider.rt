@@ -39,22 +39,24 @@ pub trait ComponentProvider {
 
     ghost SUPPLIES_DATE: { Bool };
 
-    /// Whether the value has a date, which the first nine methods supply.
+    /// Whether the value has a date, which `supplied_date` and the methods from `day` to `iso_year` return.
     const SUPPLIES_DATE: bool;
 
     ghost SUPPLIES_TIME: { Bool };
 
-    /// Whether the value has a time of day, which the next five methods supply.
+    /// Whether the value has a time of day, which `supplied_time`, `nanosecond` and the methods from
+    /// `hour` to `second` return.
     const SUPPLIES_TIME: bool;
 
     ghost SUPPLIES_OFFSET: { Bool };
 
-    /// Whether the value has an offset from UTC, which the next five methods supply.
+    /// Whether the value has an offset from UTC, which `supplied_offset` and the methods from
+    /// `offset_is_negative` to `offset_second` return.
     const SUPPLIES_OFFSET: bool;
 
     ghost SUPPLIES_TIMESTAMP: { Bool };
 
-    /// Whether the value is a moment, which the last two methods supply.
+    /// Whether the value is a moment, which `supplied_moment` and the last two methods return.
     const SUPPLIES_TIMESTAMP: bool;
 
     /// The date.

@@ -56,7 +56,7 @@ time_value n =
     with_value (natural_part Nanosecond 0 999_999_999 n.nanosecond) (λ nanosecond.
     Ok (record { hour = hour; minute = minute; second = second; nanosecond = nanosecond })))))
 
--- the largest number that is not zero decides the sign, if the signs of the numbers differ
+-- where signs differ, the first number that is not zero, of hours, minutes and seconds, decides the sign
 abbrev pub offset_value : OffsetNumbers → Result Offset Part
 offset_value n =
     with_value (signed_part Hours 25 n.hours) (λ hours.

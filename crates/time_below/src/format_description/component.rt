@@ -187,7 +187,8 @@ impl Component {
     }
 }
 
-/// The most bytes of the component's text, over all values.
+/// The most bytes of the component's text, over all values. For a deprecated `Year` of the standard range
+/// it is the width of the extended range.
 #[inline(always)]
 pub fn component_width(component: &Component) -> usize
     ensures { result ≡ component_width component.now }

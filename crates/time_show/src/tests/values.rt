@@ -160,7 +160,7 @@ fn ten_numbers_give_a_date_and_time(rt: HostRuntime) {
     }
 }
 
-/// Lines and their offsets. The largest part of an offset that is not zero decides its sign.
+/// Lines and their offsets. The first part of an offset that is not zero decides its sign.
 const MIXED_SIGNS: &[(&[u8], (i8, i8, i8))] = &[
     (b"2000 1 1 0 0 0 0 1 -30 0", (1, 30, 0)),
     (b"2000 1 1 0 0 0 0 -1 30 0", (-1, -30, 0)),
