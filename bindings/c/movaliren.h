@@ -15,17 +15,17 @@
  * prints nothing. Threads may call at the same time without a lock.
  *
  * A text that does not fit the buffer is MOVALIREN_ERROR_NO_ROOM. A buffer of MOVALIREN_RFC3339_ROOM bytes
- * holds each text of RFC 3339, and the other formats have such numbers. Of a description movaliren_width is
- * the most bytes that a text has, and movaliren_format_length and its like count the bytes of one text.
+ * holds each text of RFC 3339, and the other formats have such numbers. No text of a description has more
+ * bytes than movaliren_width returns, and movaliren_format_length and its like count the bytes of one text.
  *
  * No call allocates or takes a lock, so each may be made from a signal handler, and in the forked child of a
  * process with threads. But movaliren_fault_text and movaliren_place_text call sprintf, which POSIX does not
  * name among the functions that are safe there.
  *
  * Pointers must not be null, also where a length is 0: pass "". The proof is about arrays, and each array
- * has a place in memory, also one of no bytes. So no call tests for null. Each length must be that of its
- * array, and below PTRDIFF_MAX. The buffer must not overlap anything else that the call is given. All
- * fields must be set.
+ * has a place in memory, also one of no bytes. So no call tests for null. No length may be more than its
+ * array has, and no array may have more than PTRDIFF_MAX bytes. What a call writes to must not overlap
+ * anything else that it is given. All fields of what it reads must be set.
  *
  * The header is C99 and C++, and C89 where the compiler has <stdint.h>. The soname
  * libmovaliren.so.0 stands for the layout of each struct and the meaning of each call: a field more, or another
@@ -552,7 +552,7 @@ ptrdiff_t movaliren_format_date(const struct movaliren_item *items, size_t items
     const void *texts, size_t texts_len, int32_t year, uint8_t month, uint8_t day, void *room,
     size_t room_len);
 
-/* The most bytes that a text of these items has, up to PTRDIFF_MAX, or MOVALIREN_ERROR_BAD_ITEM:
+/* The sum of the most bytes that each item has, up to PTRDIFF_MAX, or MOVALIREN_ERROR_BAD_ITEM:
  * a buffer of this many is large enough. */
 ptrdiff_t movaliren_width(const struct movaliren_item *items, size_t items_len, const void *texts,
     size_t texts_len);
@@ -818,7 +818,7 @@ MOVALIREN_INLINE ptrdiff_t movaliren_length_by_date(
             description->texts, description->texts_len, year, month, day);
 }
 
-/* The most bytes that a text of the description has. */
+/* What movaliren_width returns of its items. */
 MOVALIREN_INLINE ptrdiff_t movaliren_width_by(const struct movaliren_description *description)
 {
     return description->reason ? description->reason
@@ -836,9 +836,9 @@ MOVALIREN_INLINE ptrdiff_t movaliren_width_by(const struct movaliren_description
  *     movaliren_add_usual(&line, MOVALIREN_MONTH_LONG);
  *     n = movaliren_by(&line, &moment, ..);
  *
- * After an item that did not fit, or is invalid, nothing more is added, and `reason` says why. movaliren_by and its like
- * return it. Then the first item of the array is one that movaliren_format and its like refuse as
- * MOVALIREN_ERROR_BAD_ITEM, so that no text is written where the reason is not tested. */
+ * After an item that did not fit, or that movaliren_add finds invalid, nothing more is added, and `reason` says why.
+ * movaliren_by and its like return it. Then the first item of the array is one that movaliren_format and its like
+ * refuse as MOVALIREN_ERROR_BAD_ITEM, so that no text is written where the reason is not tested. */
 
 /* Ends the description for the first reason. */
 MOVALIREN_INLINE void movaliren_refuse(struct movaliren_description *description, ptrdiff_t reason)
@@ -852,7 +852,8 @@ MOVALIREN_INLINE void movaliren_refuse(struct movaliren_description *description
     }
 }
 
-/* Adds an item. After a reason nothing is added. An array that is full is MOVALIREN_ERROR_NO_ROOM. */
+/* Adds an item, which is not tested. After a reason nothing is added. An array that is full is
+ * MOVALIREN_ERROR_NO_ROOM. */
 MOVALIREN_INLINE void movaliren_add_item(
     struct movaliren_description *description, struct movaliren_item item)
 {
@@ -880,8 +881,8 @@ MOVALIREN_INLINE void movaliren_add(struct movaliren_description *description, u
         movaliren_refuse(description, MOVALIREN_ERROR_BAD_ITEM);
 }
 
-/* Adds a component by its usual choices: zeros before its number, no plus, and as many decimals as are
- * needed. A weekday counts from 1, and the half of the day is in upper case. */
+/* Adds a component by its usual choices: zeros before its number, a sign only where it is needed, and as many
+ * decimals as are needed. A weekday counts from 1, and the half of the day is in upper case. */
 MOVALIREN_INLINE void movaliren_add_usual(struct movaliren_description *description, uint32_t kind)
 {
     const uint8_t flag = kind == MOVALIREN_WEEKDAY_FROM_SUNDAY

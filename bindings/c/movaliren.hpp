@@ -376,7 +376,7 @@ public:
         return *this;
     }
 
-    // The most bytes that a text has. Throws std::system_error if a kind or a choice is invalid.
+    // What movaliren_width returns. Throws std::system_error if a kind or a choice is invalid.
     std::size_t width() const
     {
         return checked(movaliren_width(items(), items_.size(), texts_.data(), texts_.size()));
