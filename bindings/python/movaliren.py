@@ -15,7 +15,7 @@ _NO_ROOM = -20
 
 
 class Error(ValueError):
-    """A moment has no text. Its number is one of movaliren_error."""
+    """Why there is no text. Its number is one of movaliren_error."""
 
     def __init__(self, number):
         room = ctypes.create_string_buffer(200)

@@ -1,8 +1,8 @@
 //! Finds the library: in the folder `MOVALIREN_LIB`, else where `rt lib` builds it in this repository,
 //! else where it is installed, by pkg-config.
 //!
-//! An installed library is the archive `libmovaliren.a`. The one that `rt lib` builds is
-//! `libmovaliren_c.a`.
+//! An installed library is the archive `libmovaliren.a`, or `libmovaliren.so` where there is no archive. The one
+//! that `rt lib` builds is `libmovaliren_c.a`.
 //!
 //! The version of the library is that of pkg-config, or of the header where there is one. It must be of the same
 //! interface as this crate.
@@ -86,8 +86,8 @@ fn numbers(version: &str) -> Option<[u64; 3]> {
     parts.next().is_none().then_some(numbers)
 }
 
-/// Whether a library of the version has what this crate calls: the first number that is not zero is the same, and no
-/// number after it is older.
+/// Whether a library of the version has what this crate calls: its first number, and where that is 0 its second, is
+/// the same, and the version is not older.
 fn has_calls(version: &str) -> bool {
     match (numbers(version), numbers(env!("CARGO_PKG_VERSION"))) {
         (Some(theirs), Some(ours)) => {

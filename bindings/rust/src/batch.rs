@@ -39,7 +39,7 @@ pub trait Batch<V>: Format<V> + raw::CallAll<V> {
 
     /// Appends the texts of the values, each followed by the byte `end`.
     ///
-    /// Reserves the width of all of them first.
+    /// Reserves the room that is enough for all of them first.
     fn batch_into(&self, output: &mut Vec<u8>, values: &[V], end: u8) -> Progress {
         let width = values.len().saturating_mul(self.width() + 1);
         raw::append_all(self, values, end, width, output)

@@ -5,8 +5,8 @@ use crate::{Kind, Padding, SubsecondDigits};
 /// When a sign stands before a year, a century, the hours of an offset or the time since 1970.
 #[derive(Clone, Copy, Debug, Default, PartialEq, Eq, Hash)]
 pub enum Sign {
-    /// A minus where the number is negative, and a plus before a year with more than four digits. This is
-    /// the usual choice.
+    /// A minus where the year, the offset or the time is negative, and a plus before a year with more than
+    /// four digits and before its century. This is the usual choice.
     #[default]
     Automatic,
     /// A minus or a plus, always.
@@ -57,7 +57,7 @@ pub struct Component {
 }
 
 impl Component {
-    /// Returns the component with its usual choices: zeros before its number, and no plus.
+    /// Returns the component with its usual choices: zeros before its number, and [`Sign::Automatic`].
     ///
     /// A weekday counts from 1, the half of the day is in upper case, and a second has its decimals
     /// without the zeros at the end.

@@ -220,14 +220,14 @@ impl Description {
         self
     }
 
-    /// The greatest number of bytes that a text has.
+    /// The sum of the greatest numbers of bytes of its items, up to `isize::MAX`. No text has more.
     #[inline]
     #[must_use]
     pub const fn width(&self) -> usize {
         self.width
     }
 
-    /// Returns the number of bytes of the text of a value, up to `isize::MAX`. It costs about as much as the text.
+    /// Returns the number of bytes of the text of a value, up to `isize::MAX`. It costs somewhat more than the text.
     ///
     /// # Errors
     ///

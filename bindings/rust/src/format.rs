@@ -5,8 +5,8 @@ use alloc::vec::Vec;
 
 /// A format of values of the type `V`.
 ///
-/// Each method either writes the whole text or returns an error. This trait is sealed: the formats of
-/// this crate implement it.
+/// Each method but [`Format::width`] either makes the whole text or returns an error. This trait is sealed:
+/// the formats of this crate implement it.
 ///
 /// `&F`, `Box<F>`, `Rc<F>` and `Arc<F>` of a format are formats, so one is chosen when the program runs:
 ///
@@ -27,11 +27,11 @@ use alloc::vec::Vec;
 ///
 /// # Errors
 ///
-/// Each method returns the reason why the value has no text. An [`Error`] names the part that is out of
-/// its range, or the one that the format cannot represent. A method that grows a vector or a `String` returns
-/// [`Error::OutOfMemory`] where an allocation fails. The library allocates nothing.
+/// A method that makes a text returns the reason why the value has none. Most of an [`Error`]'s reasons name
+/// the part that is out of its range, or the one that the format cannot represent. A method that grows a vector
+/// or a `String` returns [`Error::OutOfMemory`] where an allocation fails. The library allocates nothing.
 pub trait Format<V>: raw::Call<V> {
-    /// The greatest number of bytes that a text has.
+    /// A number of bytes that no text exceeds: the room that is always enough.
     fn width(&self) -> usize;
 
     /// Writes the text of the value to the start of the buffer, and returns the number of its bytes.

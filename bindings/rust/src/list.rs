@@ -42,7 +42,7 @@ impl<const ITEMS: usize, const BYTES: usize> List<ITEMS, BYTES> {
     ///
     /// # Panics
     ///
-    /// Their number is that of the type, and so is that of the bytes in their literals.
+    /// Unless their number is that of the type, and so is that of the bytes in their literals.
     #[must_use]
     pub const fn new(list: &[Item<'_>]) -> Self {
         assert!(list.len() == ITEMS && bytes_of(list) == BYTES);

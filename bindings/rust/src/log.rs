@@ -3,8 +3,8 @@ use crate::library::Log;
 use crate::{Format, LocalMoment, UtcMoment};
 use core::cell::Cell;
 
-/// The times of the lines of a log, as `1997-11-12T16:55:06.120+01:00`: ISO 8601 and RFC 3339 with three, six
-/// or nine decimals.
+/// The times of the lines of a log, as `1997-11-12T16:55:06.120+01:00`: ISO 8601 with three, six or nine
+/// decimals, which is also RFC 3339 where the offset is below 24 hours.
 ///
 /// It keeps what the texts of one second at one offset have in common. Another moment of that second costs a
 /// copy of it and the decimals. What is kept changes no byte of any text.

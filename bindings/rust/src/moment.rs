@@ -184,9 +184,9 @@ impl UtcMoment {
 
 /// A moment, and how far the local time is ahead of UTC.
 ///
-/// Each format but [`Stamp`](crate::Stamp) writes the local date and time, and the offset. The numbers are
-/// tested when the moment is formatted: an offset of more than 25:59:59 either way is
-/// [`Error::OffsetHours`]. A local date outside of the years -999,999 to 999,999 is
+/// A format writes the local date and time, and the offset, as far as it has them. [`Stamp`](crate::Stamp)
+/// is no format of it. The numbers are tested when the moment is formatted: an offset of more than 25:59:59
+/// either way is [`Error::OffsetHours`]. A local date outside of the years -999,999 to 999,999 is
 /// [`Error::NoPlaceForYear`].
 ///
 /// ```
@@ -211,7 +211,7 @@ pub struct LocalMoment {
 /// The date and time in UTC, of a moment of the years 0 to 9999.
 ///
 /// They are read from the moment's [`stamp`], so no other code knows the calendar. Another year is
-/// [`Error::NoPlaceForYear`].
+/// [`Error::NoPlaceForYear`], or outside of -999,999 to 999,999 [`Error::MomentSeconds`].
 ///
 /// ```
 /// use movaliren::{Moment, UtcMoment};

@@ -1,6 +1,6 @@
 //! The functions of the library, and the calls of them.
 //!
-//! A call passes slices, whose pointers are never null and whose lengths are below `isize::MAX`.
+//! A call passes slices, whose pointers are never null and which have at most `isize::MAX` bytes.
 //! The buffer is borrowed mutably, so it overlaps nothing else. Each struct that crosses is
 //! `#[repr(C)]`, with the fields of the header in its order. The library keeps no pointer. It writes
 //! bytes of a buffer or leaves them as they were, so none becomes uninitialized.
@@ -626,7 +626,7 @@ const NO_FAULT: Fault = Fault {
     byte: 0,
 };
 
-/// The greatest number of bytes that a text of the items has.
+/// The sum of the greatest numbers of bytes of the items.
 pub(crate) fn width(items: &[Item], texts: &[u8]) -> Result<usize, Error> {
     // SAFETY: `Item` has the header's layout, and each pointer comes with the length of its slice.
     count_of(unsafe {

@@ -9,8 +9,8 @@ use core::{fmt, ops, str};
 
 /// A text of at most 64 bytes, held in place: it allocates nothing, and is a `str` by `Deref`.
 ///
-/// [`Format::text`](crate::Format::text) makes one. The text is made before it is shown, so `{}` never
-/// fails.
+/// [`Format::text`](crate::Format::text) makes one. The text is made before it is shown, so `{}` fails only
+/// where what it is written to fails.
 ///
 /// ```
 /// use movaliren::{Format, Moment, Rfc3339};
