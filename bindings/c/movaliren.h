@@ -179,8 +179,8 @@ MOVALIREN_INLINE ptrdiff_t movaliren_ended(char *line, ptrdiff_t count)
     movaliren_ended(line, function(__VA_ARGS__, line, sizeof(line) - 1))
 #endif
 
-/* A buffer of this many bytes is large enough for any value and any configuration. One byte more has
- * space for a zero after the text. */
+/* A buffer of this many bytes is large enough for each text of the format, the one of
+ * MOVALIREN_ISO8601_BY_ROOM by any configuration. One byte more has space for a zero after the text. */
 enum {
     MOVALIREN_RFC3339_ROOM = 35,
     MOVALIREN_RFC2822_ROOM = 31,
