@@ -526,7 +526,7 @@ enum movaliren_padding { MOVALIREN_ZERO = 0, MOVALIREN_SPACE = 1, MOVALIREN_NO_P
 
 /* An item of a description. Another number than these, or a text that is not within the texts, is
  * MOVALIREN_ERROR_BAD_ITEM, and so is an item of zeros alone. padding, flag and digits of a component are tested
- * even if its kind does not use them. */
+ * even if its kind does not use them; those of a text and of a byte are not. */
 struct movaliren_item {
     uint32_t kind;   /* movaliren_kind */
     uint8_t padding; /* movaliren_padding */
