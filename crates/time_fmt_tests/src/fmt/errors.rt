@@ -85,16 +85,17 @@ fn a_range_is_given_back_and_no_other_error(rt: HostRuntime) {
         &rt,
         matches!(ComponentRange::try_from(Format::from(range)), Ok(same) if same == range),
     );
-    for other in [
-        Format::InsufficientTypeInformation,
-        Format::InvalidComponent("year"),
-        Format::OutOfMemory,
-    ] {
-        assert_that(
-            &rt,
-            matches!(ComponentRange::try_from(other), Err(DifferentVariant)),
-        );
-    }
+    assert_no_range(&rt, Format::InsufficientTypeInformation);
+    assert_no_range(&rt, Format::InvalidComponent("year"));
+    assert_no_range(&rt, Format::OutOfMemory);
+}
+
+/// No range is given back of the error.
+fn assert_no_range(rt: &impl Abort, error: Format) {
+    assert_that(
+        rt,
+        matches!(ComponentRange::try_from(error), Err(DifferentVariant)),
+    );
 }
 
 #[test]
