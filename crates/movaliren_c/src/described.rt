@@ -94,7 +94,7 @@ pub extern "C" fn movaliren_format_date(
     answer_number(write_described(items, texts, date_value(year, month, day), room))
 }
 
-/// The most bytes that a text of the description has, up to the greatest `isize`.
+/// A number of bytes that no text of the description exceeds, up to the greatest `isize`.
 #[unsafe(no_mangle)]
 pub extern "C" fn movaliren_width(items: &[Item], texts: &[u8]) -> isize
     ensures { Answers result (λ answer. answer ≡ width_answer (trees_of texts.now items.now)) }

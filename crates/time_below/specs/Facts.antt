@@ -92,7 +92,7 @@ abbrev pub group_or : {G : Type 0} → G → Option G → G
 group_or other None = other
 group_or other (Some group) = group
 
--- the date of a value that has one; of others nothing is said
+-- the date of a value that has one, or else the first day of the year 0
 abbrev pub the_date : Facts → DateFacts
 the_date f = group_or (date_facts (record { year = pos 0; ordinal = 1 })) f.date
 

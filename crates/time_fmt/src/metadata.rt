@@ -7,7 +7,7 @@ use time_below::format_description::{Component, Metadata, component_width};
 
 /// A description whose width is known before its text is written.
 pub trait ComputeMetadata {
-    /// The most bytes that the text may have, without a bound.
+    /// A number of bytes that no text exceeds, without a bound of its own.
     ghost width_of: { Self → ℕ };
 
     /// Whether no byte literal is among what the width counts.
@@ -17,13 +17,13 @@ pub trait ComputeMetadata {
     /// table of widths; of the sums of other widths nothing is said.
     ghost reaches_width: { Self → Type 0 } = { λ _. Unit {0} };
 
-    /// The most bytes that the text may have, and whether it is sure to be UTF-8.
+    /// A number of bytes that no text exceeds, and whether the text is sure to be UTF-8.
     fn compute_metadata(&self) -> Metadata
         ensures width { result.max_bytes_needed ≡ min (width_of self.now) usize.MAX }
         ensures text { result.guaranteed_utf8 ≡ is_guaranteed self.now }
         ensures reached { reaches_width self.now };
 
-    /// The most bytes that the text may have, alone. No more than `inline` in the impls: what becomes part
+    /// A number of bytes that no text exceeds, alone. No more than `inline` in the impls: what becomes part
     /// of a large text is counted before anything is folded.
     fn width(&self) -> usize
         ensures { result ≡ min (width_of self.now) usize.MAX }

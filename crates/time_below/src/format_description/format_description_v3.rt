@@ -222,7 +222,7 @@ impl<'a> FormatDescriptionV3<'a> {
         &self.inner
     }
 
-    /// The most bytes that the text may have, at most the greatest `usize`.
+    /// A number of bytes that no text exceeds, at most the greatest `usize`.
     pub fn max_bytes_needed(&self) -> usize
         ensures { result ≡ min (tree_width (v3_tree self.now)) usize.MAX }
     {

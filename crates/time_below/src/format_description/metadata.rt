@@ -12,7 +12,7 @@ use std::ops::Add;
 /// What is known of a text before it is written.
 #[derive(Clone, Copy, Debug)]
 pub struct Metadata {
-    /// The most bytes that the text may have, at most the greatest `usize`.
+    /// A number of bytes that no text exceeds, at most the greatest `usize`.
     pub max_bytes_needed: usize,
     /// Whether the text is sure to be UTF-8.
     pub guaranteed_utf8: bool,

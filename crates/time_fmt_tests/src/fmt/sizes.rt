@@ -165,7 +165,7 @@ fn last_of_four<K, T: Tree<K>>(alloc: Global, item: T) -> Result<T, AllocError> 
     Ok(T::list(items))
 }
 
-/// Nested lists are measured in linear time, of which no clause speaks.
+/// No list in a list is measured twice, of which no clause speaks: its time would double with each level.
 pub(super) fn assert_linear<K, T: Tree<K>>(
     rt: &impl Abort,
     alloc: Global,
