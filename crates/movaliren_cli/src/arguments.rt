@@ -166,7 +166,7 @@ const OPTIONS: &[OptionRow] = &[
         letter: Some('q'),
         choice: None,
         takes: Takes::Nothing,
-        help: "Does not count the lines that pass as they are",
+        help: "Does not print how many lines passed as they were",
         jobs: WITH_PASSED,
     },
 ];
