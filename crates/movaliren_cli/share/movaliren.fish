@@ -25,4 +25,4 @@ complete -c movaliren -n "__fish_seen_subcommand_from unix" -s d -l digits -x -d
 complete -c movaliren -n "__fish_seen_subcommand_from unix" -l milliseconds -d 'Numbers are milliseconds'
 complete -c movaliren -n "__fish_seen_subcommand_from unix" -l microseconds -d 'Numbers are microseconds'
 complete -c movaliren -n "__fish_seen_subcommand_from unix" -l nanoseconds -d 'Numbers are nanoseconds'
-complete -c movaliren -n "__fish_seen_subcommand_from unix read" -s q -l quiet -d 'Do not count lines that pass'
+complete -c movaliren -n "__fish_seen_subcommand_from unix read" -s q -l quiet -d 'Do not print how many lines passed'

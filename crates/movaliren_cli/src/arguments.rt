@@ -56,7 +56,7 @@ Descriptions:
   stamp          the same, always in UTC: sorts as the moments do
   unix           1700000000, always seconds since 1970
   a text with %  as of strftime: '%Y-%m-%d %H:%M:%S'
-  other texts    '[year]-[month]-[day] [hour]:[minute]'";
+  a text with [  '[year]-[month]-[day] [hour]:[minute]'";
 
 /// What follows the name of an option.
 #[derive(Clone, Copy)]
@@ -166,7 +166,7 @@ const OPTIONS: &[OptionRow] = &[
         letter: Some('q'),
         choice: None,
         takes: Takes::Nothing,
-        help: "Does not count the lines that pass as they are",
+        help: "Does not print how many lines passed as they were",
         jobs: WITH_PASSED,
     },
 ];
@@ -176,7 +176,7 @@ const JOBS: &[(&str, &str)] = &[
     ("now", "Puts the time at which it was read before each line"),
     (
         "unix",
-        "Replaces the first number of each line, Unix seconds, by its text",
+        "Replaces the first Unix time of each line, a number of at least nine digits, by its text",
     ),
     (
         "read",
