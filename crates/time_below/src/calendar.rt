@@ -7,7 +7,7 @@ ghost use Rattle.time_below.specs.Calendar.{is_leap_year, days_in_year, days_in_
 const CUMULATIVE_DAYS: [u16; 12] = [0, 31, 59, 90, 120, 151, 181, 212, 243, 273, 304, 334];
 
 /// Whether 4 divides the year, and 100 does not or 400 does. Three years of four are told by the first test.
-/// A year of the others is one of 100 where 25 divides it, and one of 400 where 16 does too.
+/// Where 4 divides the year, 100 does if 25 does, and 400 does if 25 and 16 do.
 #[inline]
 pub fn is_leap_year(year: i32) -> bool
     ensures { result ≡ is_leap_year year }

@@ -45,7 +45,7 @@ impl UtcDateTime {
         self.time
     }
 
-    /// The whole seconds since 1970-01-01T00:00:00 UTC, in the range of `Timestamp`.
+    /// The whole seconds since 1970-01-01T00:00:00 UTC, rounded down, in the range of `Timestamp`.
     pub fn unix_timestamp(self) -> i64
         ensures value { result ≡ unix_seconds self }
         ensures range { IsTimestampSecond result }

@@ -222,7 +222,7 @@ impl<'a> FormatDescriptionV3<'a> {
         &self.inner
     }
 
-    /// A number of bytes that no text exceeds, at most the greatest `usize`.
+    /// A number of bytes that no text exceeds, or the greatest `usize` if that is less.
     pub fn max_bytes_needed(&self) -> usize
         ensures { result ≡ min (tree_width (v3_tree self.now)) usize.MAX }
     {

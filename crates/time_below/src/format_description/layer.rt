@@ -50,8 +50,8 @@ pub trait Node: Sized {
         ensures tree { layer_tree tree result ≡ tree self.now }
         ensures smaller { size_below size result < size self.now };
 
-    /// A bound of the bytes of a text or a component, where it is quick to tell. It is asked of each item
-    /// before a list is written.
+    /// A bound of the bytes of the text, where it is quick to tell, as of a text or a component.
+    /// `nodes_fit` adds those of the items of a list, up to the first item that has none.
     fn quick_bound(&self) -> Option<usize>
         ensures { IfSome result (λ bound. tree_width (tree self.now) ≤ bound) }
     {

@@ -12,7 +12,7 @@ use std::ops::Add;
 /// What is known of a text before it is written.
 #[derive(Clone, Copy, Debug)]
 pub struct Metadata {
-    /// A number of bytes that no text exceeds, at most the greatest `usize`.
+    /// A number of bytes that no text exceeds, or the greatest `usize` if that is less.
     pub max_bytes_needed: usize,
     /// Whether the text is sure to be UTF-8.
     pub guaranteed_utf8: bool,
@@ -131,8 +131,8 @@ pub fn metadata_of_node<T: Node>(node: &T) -> Metadata
     }
 }
 
-/// Whether so many bytes are plainly enough for the text of the items, by bounds that are quick to tell.
-/// Of items that tell no bound nothing is told.
+/// Whether the quick bounds of the items come to at most so many bytes, which are then enough for their
+/// text. It is `false` where an item has no such bound.
 #[inline]
 pub fn nodes_fit<T: Node>(nodes: &[T], room: usize) -> bool
     ensures { IsTrue result → trees_width (trees (map T.tree nodes.now)) ≤ room }

@@ -135,7 +135,7 @@ pub struct WeekNumberMonday {
 pub struct CalendarYearFullExtendedRange {
     /// The padding before a number of fewer than four digits.
     pub padding: Padding,
-    /// Whether a plus is written before a number that is not negative.
+    /// Whether a plus is written before each year that is not negative, and not only above 9,999.
     pub sign_is_mandatory: bool,
 }
 
@@ -154,7 +154,7 @@ pub struct CalendarYearFullStandardRange {
 pub struct CalendarYearCenturyExtendedRange {
     /// The padding before a number of one digit.
     pub padding: Padding,
-    /// Whether a plus is written before a number that is not negative.
+    /// Whether a plus is written wherever the year is not negative, and not only above 9,999.
     pub sign_is_mandatory: bool,
 }
 
@@ -163,7 +163,7 @@ pub struct CalendarYearCenturyExtendedRange {
 pub struct CalendarYearCenturyStandardRange {
     /// The padding before a number of one digit.
     pub padding: Padding,
-    /// Whether a plus is written before a number that is not negative.
+    /// Whether a plus is written where the year is not negative.
     pub sign_is_mandatory: bool,
 }
 
@@ -180,7 +180,7 @@ pub struct CalendarYearLastTwo {
 pub struct IsoYearFullExtendedRange {
     /// The padding before a number of fewer than four digits.
     pub padding: Padding,
-    /// Whether a plus is written before a number that is not negative.
+    /// Whether a plus is written before each year that is not negative, and not only above 9,999.
     pub sign_is_mandatory: bool,
 }
 
@@ -199,7 +199,7 @@ pub struct IsoYearFullStandardRange {
 pub struct IsoYearCenturyExtendedRange {
     /// The padding before a number of one digit.
     pub padding: Padding,
-    /// Whether a plus is written before a number that is not negative.
+    /// Whether a plus is written wherever the year is not negative, and not only above 9,999.
     pub sign_is_mandatory: bool,
 }
 
@@ -209,7 +209,7 @@ pub struct IsoYearCenturyExtendedRange {
 pub struct IsoYearCenturyStandardRange {
     /// The padding before a number of one digit.
     pub padding: Padding,
-    /// Whether a plus is written before a number that is not negative.
+    /// Whether a plus is written where the year is not negative.
     pub sign_is_mandatory: bool,
 }
 
@@ -269,7 +269,7 @@ pub struct Subsecond {
 pub struct OffsetHour {
     /// The padding before a number of one digit.
     pub padding: Padding,
-    /// Whether a plus is written before a number that is not negative.
+    /// Whether a plus is written where the offset is not negative.
     pub sign_is_mandatory: bool,
 }
 
@@ -366,7 +366,7 @@ pub enum YearRepr {
 pub enum YearRange {
     /// The years -9999 to 9999.
     Standard,
-    /// A year of any size.
+    /// The years -999,999 to 999,999.
     Extended,
 }
 
@@ -439,6 +439,7 @@ pub struct Year {
     pub range: YearRange,
     /// Whether the year is that of the week calendar.
     pub iso_week_based: bool,
-    /// Whether a plus is written before a number that is not negative.
+    /// Whether a plus is written wherever the year is not negative, and in the extended range not only above
+    /// 9,999.
     pub sign_is_mandatory: bool,
 }
