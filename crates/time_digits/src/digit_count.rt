@@ -6,7 +6,7 @@ pub trait DigitCount {
     /// The number.
     ghost number: { Self → ℕ };
 
-    /// The number of digits of the shortest decimal text, from 1 to 10; 1 for zero.
+    /// The number of digits of the shortest decimal text: 1 for zero, and at most 10 for a `u32`.
     fn num_digits(self) -> u8
         ensures { result ≡ length (decimal (number self)) };
 }

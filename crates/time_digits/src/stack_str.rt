@@ -13,7 +13,7 @@ pub struct StackStr<const N: usize> {
 impl<const N: usize> StackStr<N> {
     ghost use Rattle.time_digits.specs.Shown.{shown};
 
-    /// The text of the first `len` bytes.
+    /// The text of the first `len` bytes, which are ASCII, as the caller knows. Nothing is tested.
     #[inline]
     pub fn new(bytes: [u8; N], len: usize) -> Self
         requires within { len ≤ N }
@@ -53,7 +53,7 @@ pub struct StackTrailingStr<const N: usize> {
 impl<const N: usize> StackTrailingStr<N> {
     ghost use Rattle.time_digits.specs.Shown.{shown_end};
 
-    /// The text of the bytes from `start` on.
+    /// The text of the bytes from `start` on, which are ASCII, as the caller knows. Nothing is tested.
     #[inline]
     pub fn new(bytes: [u8; N], start: usize) -> Self
         requires within { start ≤ N }
