@@ -23,7 +23,7 @@ use time_digits::{ri8, ri32, ru8, ru16};
 /// A method may keep in the state what it computed. It may be called where the value supplies its
 /// group and the state agrees with the value, and the state agrees afterwards. It still holds what it
 /// held. The group is real: a date of the calendar with its own components, a time of day in its ranges, an
-/// offset in its ranges and of one sign, a moment in its range.
+/// offset in its ranges and of one sign, a moment less than 26 hours outside the range of `Timestamp` at most.
 pub trait ComponentProvider {
     /// What earlier calls for the same value computed.
     type State: Kept;
