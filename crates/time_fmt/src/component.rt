@@ -120,7 +120,8 @@ pub(crate) fn write_current<S: Sink, V: ComponentProvider>(
     }
 }
 
-/// Appends the text of a component that is seldom met, by a call. Returns its refusal, if it is refused.
+/// Appends the text of a component that is not deprecated, by a call that is not inlined, as of one that is
+/// seldom met. Returns its refusal, if it is refused.
 #[cold]
 #[inline(never)]
 pub fn write_rare<M: Modifier, S: Sink, V: ComponentProvider>(

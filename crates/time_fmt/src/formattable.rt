@@ -34,8 +34,8 @@ pub trait Formattable: ComputeMetadata {
     /// with a grammar; of others nothing is said.
     ghost reads_as: { Self → Facts → List ℕ → Type 0 } = { λ _ _ _. Unit {0} };
 
-    /// Appends the text of the value. The output needs spare capacity for the width. Allocates
-    /// nothing.
+    /// Appends the text of the value. The output needs spare capacity for the width, which must be below
+    /// the greatest `usize`. Allocates nothing.
     ///
     /// Returns the number of bytes appended, or the refusal that ends the text. The bytes appended
     /// before a refusal stay.
@@ -57,15 +57,16 @@ pub trait Formattable: ComputeMetadata {
             (outcome_of self.now (V.facts value.now)) }
         ensures agrees { V.agrees state.new value.now };
 
-    /// Whether this many bytes are plainly enough for each text, where that is told faster than the width.
+    /// Returns `true` only if this many bytes are enough for each text, where that is told faster than the
+    /// width. `false` says nothing.
     fn fits_plainly(&self, _room: usize) -> bool
         ensures { IsTrue result → Self.width_of self.now ≤ _room }
     {
         false
     }
 
-    /// Appends the text of the value. Reserves once if the spare capacity is below the width: the
-    /// width, or twice the capacity if that is more.
+    /// Appends the text of the value. Reserves once if the spare capacity is below the width: the capacity
+    /// becomes what is needed, or twice what it was if that is more.
     ///
     /// Returns the number of bytes appended, or the refusal that ends the text. The bytes appended
     /// before a refusal stay. If the reservation fails, or the width has reached the greatest
@@ -117,8 +118,8 @@ pub trait Formattable: ComputeMetadata {
         self.write_into(output, value, state)
     }
 
-    /// The text of the value, after one reservation; bytes that are no UTF-8, which only byte
-    /// literals make, are read as a whole with U+FFFD for what is no character.
+    /// The text of the value, after one reservation, or the refusal that ends it. Bytes that are no UTF-8,
+    /// which only byte literals make, are read as a whole with U+FFFD for what is no character.
     ///
     /// The result is `OutOfMemory` if an allocation fails, for the text or for reading bytes that are no
     /// UTF-8, or if the width has reached the greatest `usize`.
@@ -166,7 +167,7 @@ pub trait Formattable: ComputeMetadata {
 }
 
 /// Reserves spare capacity for this many bytes if it is missing. One reservation at least doubles
-/// the capacity.
+/// the capacity. If it fails, the vector is unchanged.
 #[inline]
 pub fn make_room(output: &mut Vec<u8>, width: usize) -> Result<(), AllocError>
     ensures items { output.new.items ≡ output.old.items }

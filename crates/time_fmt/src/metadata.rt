@@ -17,13 +17,14 @@ pub trait ComputeMetadata {
     /// table of widths; of the sums of other widths nothing is said.
     ghost reaches_width: { Self → Type 0 } = { λ _. Unit {0} };
 
-    /// A number of bytes that no text exceeds, and whether the text is sure to be UTF-8.
+    /// A number of bytes that no text exceeds, or the greatest `usize` if that is less, and whether the text
+    /// is sure to be UTF-8.
     fn compute_metadata(&self) -> Metadata
         ensures width { result.max_bytes_needed ≡ min (width_of self.now) usize.MAX }
         ensures text { result.guaranteed_utf8 ≡ is_guaranteed self.now }
         ensures reached { reaches_width self.now };
 
-    /// A number of bytes that no text exceeds, alone. No more than `inline` in the impls: what becomes part
+    /// The number of bytes of `compute_metadata` alone. No more than `inline` in the impls: what becomes part
     /// of a large text is counted before anything is folded.
     fn width(&self) -> usize
         ensures { result ≡ min (width_of self.now) usize.MAX }

@@ -30,7 +30,7 @@ pub struct RoomSink<'a, B: Before> {
 }
 
 impl<'a, B: Before> RoomSink<'a, B> {
-    /// An empty text.
+    /// An empty text at the start of a buffer, which holds what `B` says.
     #[inline(always)]
     pub fn new(room: &'a mut [u8]) -> RoomSink<'a, B>
         requires before { room.old ≡ B.before }

@@ -15,8 +15,8 @@ use time_below::format_description::modifier::Padding;
 use time_digits::ru8;
 use time_provide::ComponentProvider;
 
-/// Appends the year of a value with its sign and at least four digits, the month and the day in two places,
-/// with a byte before each of these two. Returns the number of bytes.
+/// Appends the year of a value in at least four digits, after a sign if it is negative or above 9,999, and the
+/// month and the day in two digits each, with a byte before each of these two. Returns the number of bytes.
 #[inline(always)]
 pub fn write_date<S: Sink, V: ComponentProvider>(
     between: (u8, u8),
@@ -49,7 +49,7 @@ fn number_of(month: Month) -> ru8<0, 99>
     ru8::new(u8::from(month)).unwrap()
 }
 
-/// Appends the hour, the minute and the second of a value in two places each, with a byte before each of the
+/// Appends the hour, the minute and the second of a value in two digits each, with a byte before each of the
 /// last two. Returns the number of bytes.
 #[inline(always)]
 pub fn write_time<S: Sink, V: ComponentProvider>(

@@ -20,7 +20,7 @@ pub trait Sink: Sized {
         ensures capacity { (buffer self.new).capacity ≡ (buffer self.old).capacity }
         ensures lender { (buffer self.new).lender ≡ (buffer self.old).lender };
 
-    /// Appends the first of nine bytes, for all of which there is room.
+    /// Appends the first `count` of nine bytes, for all of which there is room.
     fn put_first(&mut self, bytes: [u8; 9], count: usize)
         requires most { count ≤ 9 }
         requires room { Fits (buffer self.old) 9 }

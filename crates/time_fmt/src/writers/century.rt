@@ -21,7 +21,8 @@ use time_digits::{ri8, ri16, ru8, ru16};
 use time_provide::ComponentProvider;
 use time_provide::ranges::{ExtendedCentury, LastTwo, StandardCentury, Year};
 
-/// Appends the year's sign and two places of its century, or all its digits and a sign from 100 on.
+/// Appends the century of a year, padded to two places as `modifier` says, after a sign if the year is
+/// negative, the century is above 99, or `modifier` wants one.
 #[inline]
 pub fn fmt_calendar_year_century_extended_range<S: Sink>(
     output: &mut S,
@@ -61,7 +62,8 @@ impl Modifier for modifier::CalendarYearCenturyExtendedRange {
     }
 }
 
-/// Appends the year's sign and two places of its century.
+/// Appends the century of a year, padded to two places as `modifier` says, after a sign if the year is
+/// negative or `modifier` wants one.
 #[inline]
 pub fn fmt_calendar_year_century_standard_range<S: Sink>(
     output: &mut S,
@@ -103,8 +105,8 @@ impl Modifier for modifier::CalendarYearCenturyStandardRange {
     }
 }
 
-/// Appends the sign and two places of the century of the week calendar's year, or all its digits
-/// and a sign from 100 on. The sign is that of the year.
+/// Appends the century of a year of the week calendar, padded to two places as `modifier` says, after a sign
+/// if the year is negative, the century is above 99, or `modifier` wants one.
 #[inline]
 pub fn fmt_iso_year_century_extended_range<S: Sink>(
     output: &mut S,
@@ -144,8 +146,8 @@ impl Modifier for modifier::IsoYearCenturyExtendedRange {
     }
 }
 
-/// Appends the sign and two places of the century of the week calendar's year. The sign is that of
-/// the year.
+/// Appends the century of a year of the week calendar, padded to two places as `modifier` says, after a sign
+/// if the year is negative or `modifier` wants one.
 #[inline]
 pub fn fmt_iso_year_century_standard_range<S: Sink>(
     output: &mut S,
@@ -187,7 +189,7 @@ impl Modifier for modifier::IsoYearCenturyStandardRange {
     }
 }
 
-/// Appends the last two digits of the year, 0 to 99, in two places.
+/// Appends the last two digits of the year, 0 to 99, padded to two places as `modifier` says.
 #[inline]
 pub fn fmt_calendar_year_last_two<S: Sink>(
     output: &mut S,
@@ -221,7 +223,7 @@ impl Modifier for modifier::CalendarYearLastTwo {
     }
 }
 
-/// Appends the last two digits of the week calendar's year, 0 to 99, in two places.
+/// Appends the last two digits of the week calendar's year, 0 to 99, padded to two places as `modifier` says.
 #[inline]
 pub fn fmt_iso_year_last_two<S: Sink>(
     output: &mut S,

@@ -19,7 +19,7 @@ use time_digits::ru8;
 use time_provide::ComponentProvider;
 use time_provide::ranges::{Day, Ordinal};
 
-/// Appends the day of the month, 1 to 31, in two places.
+/// Appends the day of the month, 1 to 31, padded to two places as `modifier` says.
 #[inline(always)]
 pub fn fmt_day<S: Sink>(output: &mut S, day: Day, modifier: modifier::Day) -> usize
     requires room { Fits (S.buffer output.old) (length (padded_text modifier.padding 2 day)) }
@@ -115,7 +115,7 @@ impl Modifier for modifier::MonthLong {
     }
 }
 
-/// Appends the month, 1 to 12, in two places.
+/// Appends the month, 1 to 12, padded to two places as `modifier` says.
 #[inline(always)]
 pub fn fmt_month_numerical<S: Sink>(
     output: &mut S,
@@ -152,7 +152,7 @@ impl Modifier for modifier::MonthNumerical {
     }
 }
 
-/// Appends the day of the year, 1 to 366, in three places.
+/// Appends the day of the year, 1 to 366, padded to three places as `modifier` says.
 #[inline]
 pub fn fmt_ordinal<S: Sink>(output: &mut S, ordinal: Ordinal, modifier: modifier::Ordinal) -> usize
     requires room { Fits (S.buffer output.old) (length (padded_text modifier.padding 3 ordinal)) }

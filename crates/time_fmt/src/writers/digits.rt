@@ -15,7 +15,7 @@ use time_digits::num_fmt::{
 };
 use time_digits::{ru8, ru16, ru32};
 
-/// Appends a minus, or a plus where it is wanted.
+/// Appends a minus if the number is negative, else a plus if a sign is mandatory, else nothing.
 #[inline(always)]
 pub fn fmt_sign<S: Sink>(output: &mut S, is_negative: bool, sign_is_mandatory: bool) -> usize
     requires room { Fits (S.buffer output.old) (length (sign_text is_negative sign_is_mandatory)) }
@@ -41,7 +41,7 @@ pub fn format_single_digit<S: Sink>(output: &mut S, value: ru8<0, 9>) -> usize
     write(output, single_digit(value))
 }
 
-/// Appends a number of at most two digits, in two places.
+/// Appends a number of at most two digits, padded to two places as `padding` says.
 #[inline(always)]
 pub fn format_two_digits<S: Sink>(output: &mut S, value: ru8<0, 99>, padding: Padding) -> usize
     requires room { Fits (S.buffer output.old) (length (padded_text padding 2 value)) }
@@ -80,7 +80,7 @@ fn write_two_places<S: Sink>(output: &mut S, value: ru8<0, 99>, padding: Padding
     }
 }
 
-/// Appends a number of at most three digits, in three places.
+/// Appends a number of at most three digits, padded to three places as `padding` says.
 #[inline]
 pub fn format_three_digits<S: Sink>(output: &mut S, value: ru16<0, 999>, padding: Padding) -> usize
     requires room { Fits (S.buffer output.old) (length (padded_text padding 3 value)) }
@@ -93,7 +93,7 @@ pub fn format_three_digits<S: Sink>(output: &mut S, value: ru16<0, 999>, padding
     }
 }
 
-/// Appends a number of at most four digits, in four places.
+/// Appends a number of at most four digits, padded to four places as `padding` says.
 #[inline(always)]
 pub fn format_four_digits<S: Sink>(output: &mut S, value: ru16<0, 9_999>, padding: Padding) -> usize
     requires room { Fits (S.buffer output.old) (length (padded_text padding 4 value)) }
@@ -161,8 +161,8 @@ pub fn format_six_digits_pad_zero<S: Sink>(output: &mut S, value: ru32<0, 999_99
     write_many(output, &six_digits_zero_padded(value))
 }
 
-/// Appends all digits of a number, and nothing before them. Of nine to sixteen the last eight have a
-/// length that is known.
+/// Appends all digits of a number, and nothing before them. The last eight of nine to sixteen digits are
+/// appended as eight, so that the compiler knows their number.
 #[inline]
 #[tactic(auto, using(crate::proofs::NumberLemmas::eight_after))]
 pub fn format_u64_pad_none<S: Sink>(output: &mut S, value: u64) -> usize

@@ -15,7 +15,8 @@ use time_below::format_description::{Group, modifier};
 use time_provide::ComponentProvider;
 use time_provide::ranges::{OffsetHours, OffsetMinutes, OffsetSeconds};
 
-/// Appends the sign of the whole offset, and its hour, 0 to 25, in two places.
+/// Appends the hour of the offset, 0 to 25, padded to two places as `modifier` says, after a sign if the whole
+/// offset is negative or `modifier` wants one.
 #[inline(always)]
 #[tactic(auto, using(crate::proofs::TextLemmas::signed_parts))]
 pub fn fmt_offset_hour<S: Sink>(
@@ -57,7 +58,7 @@ impl Modifier for modifier::OffsetHour {
     }
 }
 
-/// Appends the minute of the offset, 0 to 59, in two places, without a sign.
+/// Appends the minute of the offset, 0 to 59, without a sign, padded to two places as `modifier` says.
 #[inline(always)]
 pub fn fmt_offset_minute<S: Sink>(
     output: &mut S,
@@ -92,7 +93,7 @@ impl Modifier for modifier::OffsetMinute {
     }
 }
 
-/// Appends the second of the offset, 0 to 59, in two places, without a sign.
+/// Appends the second of the offset, 0 to 59, without a sign, padded to two places as `modifier` says.
 #[inline(always)]
 pub fn fmt_offset_second<S: Sink>(
     output: &mut S,

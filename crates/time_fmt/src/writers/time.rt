@@ -17,7 +17,7 @@ use time_digits::ru8;
 use time_provide::ComponentProvider;
 use time_provide::ranges::{Hours, Minutes, Seconds};
 
-/// Appends the hour of the 12-hour clock, 1 to 12, in two places.
+/// Appends the hour of the 12-hour clock, 1 to 12, padded to two places as `modifier` says.
 #[inline(always)]
 pub fn fmt_hour_12<S: Sink>(output: &mut S, hour: Hours, modifier: modifier::Hour12) -> usize
     requires room { Fits (S.buffer output.old) (length (padded_text modifier.padding 2 (hour_12 hour))) }
@@ -47,7 +47,7 @@ impl Modifier for modifier::Hour12 {
     }
 }
 
-/// Appends the hour, 0 to 23, in two places.
+/// Appends the hour, 0 to 23, padded to two places as `modifier` says.
 #[inline(always)]
 pub fn fmt_hour_24<S: Sink>(output: &mut S, hour: Hours, modifier: modifier::Hour24) -> usize
     requires room { Fits (S.buffer output.old) (length (padded_text modifier.padding 2 hour)) }
@@ -76,7 +76,7 @@ impl Modifier for modifier::Hour24 {
     }
 }
 
-/// Appends the minute, 0 to 59, in two places.
+/// Appends the minute, 0 to 59, padded to two places as `modifier` says.
 #[inline(always)]
 pub fn fmt_minute<S: Sink>(output: &mut S, minute: Minutes, modifier: modifier::Minute) -> usize
     requires room { Fits (S.buffer output.old) (length (padded_text modifier.padding 2 minute)) }
@@ -141,7 +141,7 @@ impl Modifier for modifier::Period {
     }
 }
 
-/// Appends the second, 0 to 59, in two places.
+/// Appends the second, 0 to 59, padded to two places as `modifier` says.
 #[inline(always)]
 pub fn fmt_second<S: Sink>(output: &mut S, second: Seconds, modifier: modifier::Second) -> usize
     requires room { Fits (S.buffer output.old) (length (padded_text modifier.padding 2 second)) }

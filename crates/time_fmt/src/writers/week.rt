@@ -179,7 +179,7 @@ impl Modifier for modifier::WeekdayMonday {
     }
 }
 
-/// Appends the week of the week calendar, 1 to 53, in two places (ISO 8601-1:2019).
+/// Appends the week of the week calendar, 1 to 53 (ISO 8601-1:2019), padded to two places as `modifier` says.
 #[inline]
 pub fn fmt_week_number_iso<S: Sink>(
     output: &mut S,
@@ -212,7 +212,8 @@ impl Modifier for modifier::WeekNumberIso {
     }
 }
 
-/// Appends the week of the year by its Sundays, 0 to 53, in two places.
+/// Appends the week of the year, 0 to 53, where week 1 begins on the first Sunday, padded to two places as
+/// `modifier` says.
 #[inline]
 pub fn fmt_week_number_sunday<S: Sink>(
     output: &mut S,
@@ -245,7 +246,8 @@ impl Modifier for modifier::WeekNumberSunday {
     }
 }
 
-/// Appends the week of the year by its Mondays, 0 to 53, in two places.
+/// Appends the week of the year, 0 to 53, where week 1 begins on the first Monday, padded to two places as
+/// `modifier` says.
 #[inline]
 pub fn fmt_week_number_monday<S: Sink>(
     output: &mut S,

@@ -21,8 +21,8 @@ use time_digits::{ri16, ru16, ru32};
 use time_provide::ComponentProvider;
 use time_provide::ranges::{StandardYear, Year};
 
-/// Appends the sign and four places of the year, -999,999 to 999,999, or all its digits and a sign
-/// from 10,000 on.
+/// Appends the year, -999,999 to 999,999, padded to four places as `modifier` says, after a sign if it is
+/// negative, above 9,999, or `modifier` wants one.
 #[inline(always)]
 pub fn fmt_calendar_year_full_extended_range<S: Sink>(
     output: &mut S,
@@ -57,7 +57,8 @@ impl Modifier for modifier::CalendarYearFullExtendedRange {
     }
 }
 
-/// Appends the sign and four places of the year, -9,999 to 9,999.
+/// Appends the year, -9,999 to 9,999, padded to four places as `modifier` says, after a sign if it is negative
+/// or `modifier` wants one.
 #[inline]
 pub fn fmt_calendar_year_full_standard_range<S: Sink>(
     output: &mut S,
@@ -95,8 +96,8 @@ impl Modifier for modifier::CalendarYearFullStandardRange {
     }
 }
 
-/// Appends the sign and four places of the week calendar's year, -999,999 to 999,999
-/// (ISO 8601-1:2019), or all its digits and a sign from 10,000 on.
+/// Appends the week calendar's year, -999,999 to 999,999 (ISO 8601-1:2019), padded to four places as `modifier`
+/// says, after a sign if it is negative, above 9,999, or `modifier` wants one.
 #[inline]
 pub fn fmt_iso_year_full_extended_range<S: Sink>(
     output: &mut S,
@@ -131,7 +132,8 @@ impl Modifier for modifier::IsoYearFullExtendedRange {
     }
 }
 
-/// Appends the sign and four places of the week calendar's year, -9,999 to 9,999 (ISO 8601-1:2019).
+/// Appends the week calendar's year, -9,999 to 9,999 (ISO 8601-1:2019), padded to four places as `modifier`
+/// says, after a sign if it is negative or `modifier` wants one.
 #[inline]
 pub fn fmt_iso_year_full_standard_range<S: Sink>(
     output: &mut S,
