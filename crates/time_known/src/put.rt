@@ -21,7 +21,7 @@ use time_digits::{
 };
 use time_provide::ranges::Nanoseconds;
 
-/// Puts a number of two digits.
+/// Puts a number in two digits, with a zero in front where it is below 10.
 #[inline(always)]
 pub fn put_pair<S: Sink>(output: &mut S, number: ru8<0, 99>)
     requires room { Fits 2 (S.buffer output.old) }
@@ -30,7 +30,7 @@ pub fn put_pair<S: Sink>(output: &mut S, number: ru8<0, 99>)
     output.put(two_digits_zero_padded(number));
 }
 
-/// Puts a number of three digits.
+/// Puts a number in three digits, with zeros in front where it has fewer.
 #[inline(always)]
 pub fn put_three_digits<S: Sink>(output: &mut S, number: ru16<0, 999>)
     requires room { Fits 3 (S.buffer output.old) }
@@ -52,7 +52,7 @@ pub fn put_three_decimals<S: Sink>(output: &mut S, nanosecond: Nanoseconds)
     put_three_digits(output, ru16::within((nanosecond.get() / 1_000_000) as u16));
 }
 
-/// Puts a number of four digits.
+/// Puts a number in four digits, with zeros in front where it has fewer.
 #[inline(always)]
 pub fn put_four_digits<S: Sink>(output: &mut S, number: ru16<0, 9_999>)
     requires room { Fits 4 (S.buffer output.old) }
@@ -86,7 +86,7 @@ pub fn put_nine_digits<S: Sink>(output: &mut S, nanosecond: Nanoseconds)
     put_both(output, fourth, fifth);
 }
 
-/// Puts the first six of the nine digits.
+/// Puts the first six of the nine digits of a fraction.
 #[inline(always)]
 #[tactic(auto, using(time_fmt::proofs::DecimalLemmas::six_digits, crate::proofs::LengthLemmas::joined_lengths))]
 pub fn put_six_decimals<S: Sink>(output: &mut S, nanosecond: Nanoseconds)

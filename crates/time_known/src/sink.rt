@@ -23,7 +23,8 @@ pub trait Sink {
         requires room { Fits (length piece.now) (buffer self.old) }
         ensures puts { Puts (buffer self.old) (buffer self.new) piece.now };
 
-    /// Puts the first decimals of `rest / unit`, not rounded.
+    /// Puts the first `digits` decimals of `rest / unit`, not rounded. The rest is below the unit, which is at
+    /// most 3,600,000,000,000.
     fn put_decimals(&mut self, rest: u64, unit: u64, digits: ru8<1, 255>)
         requires part { rest < unit }
         requires unit { unit ≤ 3_600_000_000_000 }

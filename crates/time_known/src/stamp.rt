@@ -11,8 +11,7 @@ use time_fmt::{Format, Formattable};
 use time_provide::DateState;
 
 /// Appends the stamp of a date and time in UTC, as `1997-11-12T15:55:06.000000000Z`: its text by the
-/// default configuration of ISO 8601. Of two stamps the one whose bytes come first is that of the
-/// earlier moment.
+/// default configuration of ISO 8601. Stamps sort by their bytes as their moments do.
 ///
 /// Returns 30, the number of bytes appended. A year outside 0 to 9,999 is refused as the component
 /// `year`, and nothing is appended. Reserves once if the spare capacity is below the 35 bytes of the format's

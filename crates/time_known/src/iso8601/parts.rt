@@ -65,7 +65,7 @@ pub struct Parts {
     pub offset: Option<OffsetFields>,
 }
 
-/// Puts the parts, one after another, up to what has no place.
+/// Puts the parts, one after another, up to the component that has no place, and returns that one.
 #[inline(always)]
 pub fn put_parts<S: Sink>(output: &mut S, config: &Config, parts: &Parts) -> Result<(), OutOfRange>
     requires room { Fits (parts_width config.now parts.now) (S.buffer output.old) }

@@ -157,7 +157,7 @@ impl Text for WeekText {
     }
 }
 
-/// The text by such choices with separators, of fields of which nothing is refused.
+/// The text by the choices of [`Usual`], but always with separators, of fields of which nothing is refused.
 #[derive(Clone, Copy)]
 pub struct SeparatedText {
     /// The decimals and their sign.
