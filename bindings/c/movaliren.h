@@ -573,9 +573,10 @@ ptrdiff_t movaliren_format_date_length(const struct movaliren_item *items, size_
 
 /* What is wrong in a text that is no description, and at which byte. */
 enum movaliren_fault_reason {
-    /* A bracket is not closed, or another one or a backslash stands in it: the opening bracket. */
+    /* A bracket is not closed, or that of a component has another one or a backslash in it: the
+     * opening bracket. */
     MOVALIREN_FAULT_UNCLOSED_BRACKET = 1,
-    /* What follows a backslash is no backslash and no bracket: the backslash. */
+    /* No backslash and no bracket follows a backslash: that backslash. */
     MOVALIREN_FAULT_INVALID_ESCAPE = 2,
     /* Brackets have no name in them: the closing bracket. */
     MOVALIREN_FAULT_MISSING_NAME = 3,
@@ -600,14 +601,15 @@ enum movaliren_fault_reason {
     MOVALIREN_FAULT_TOO_MANY_ITEMS = 11,
     /* The text ends within a conversion. The byte is its `%`. */
     MOVALIREN_FAULT_UNFINISHED = 12,
-    /* No conversion has this letter. The byte is that letter, or a colon before it. */
+    /* No conversion has this letter, or a colon stands elsewhere than in `%:z`. The byte is that
+     * letter, or a colon before it. */
     MOVALIREN_FAULT_UNKNOWN_CONVERSION = 13,
     /* `%Z`, the name of a time zone: values have an offset and no name of it. The byte is the
      * `Z`. */
     MOVALIREN_FAULT_ZONE_NAME = 14,
     /* `E` or `O`, which ask for a locale's own eras and digits. */
     MOVALIREN_FAULT_LOCALE_MODIFIER = 15,
-    /* A field width, other than the three of `%3N`, `%6N` and `%9N`: its first digit. */
+    /* A field width, elsewhere than in `%3N`, `%6N` and `%9N`: its first digit. */
     MOVALIREN_FAULT_FIELD_WIDTH = 16,
     /* `^` or `#`, which change the case of letters. */
     MOVALIREN_FAULT_CASE_FLAG = 17,

@@ -10,9 +10,10 @@ use core::str::FromStr;
 #[derive(Clone, Copy, Debug, PartialEq, Eq, Hash)]
 #[non_exhaustive]
 pub enum FaultReason {
-    /// A bracket is not closed, or another one or a backslash stands in it: the opening bracket.
+    /// A bracket is not closed, or that of a component has another one or a backslash in it: the
+    /// opening bracket.
     UnclosedBracket = 1,
-    /// What follows a backslash is no backslash and no bracket: the backslash.
+    /// No backslash and no bracket follows a backslash: that backslash.
     InvalidEscape = 2,
     /// Brackets have no name in them: the closing bracket.
     MissingName = 3,
@@ -37,13 +38,14 @@ pub enum FaultReason {
     TooManyItems = 11,
     /// The text ends within a conversion. The byte is its `%`.
     Unfinished = 12,
-    /// No conversion has this letter. The byte is that letter, or a colon before it.
+    /// No conversion has this letter, or a colon stands elsewhere than in `%:z`. The byte is that
+    /// letter, or a colon before it.
     UnknownConversion = 13,
     /// `%Z`, the name of a time zone: values have an offset and no name of it. The byte is the `Z`.
     ZoneName = 14,
     /// `E` or `O`, which ask for a locale's own eras and digits.
     LocaleModifier = 15,
-    /// A field width, other than the three of `%3N`, `%6N` and `%9N`: its first digit.
+    /// A field width, elsewhere than in `%3N`, `%6N` and `%9N`: its first digit.
     FieldWidth = 16,
     /// `^` or `#`, which change the case of letters.
     CaseFlag = 17,

@@ -24,7 +24,8 @@ pub enum InvalidDescription {
     /// An allocation failed.
     #[error("memory could not be reserved")]
     OutOfMemory,
-    /// The text is no description: what is wrong first, and the index of its byte.
+    /// The text is no description: what is wrong first, and the index of its byte. Too many items are told
+    /// before a fault at an earlier byte.
     #[error("{reason} at byte {index}")]
     Invalid {
         /// What is wrong.
@@ -106,7 +107,8 @@ pub fn describe<I: Items>(items: &mut I, text: &[u8]) -> Result<(), InvalidDescr
 /// `[year]-[month]-[day]`.
 ///
 /// An error says the first fault and the index of its byte, or that an allocation failed; nothing
-/// is kept then. Lists may be 32 deep in one another, and 65,536 items may begin.
+/// is kept then. Lists may be 32 deep in one another, and 65,536 items may begin. Of a text in which more
+/// begin, that alone is said.
 pub fn parse_owned(alloc: Global, text: &[u8]) -> Result<OwnedFormatItem, InvalidDescription>
     ensures found { IfOk result (λ item. tree_of (described text.now) ≡ Ok (owned_tree item)) }
     ensures says { IfErr result (Says (length text.now) (described text.now)) }

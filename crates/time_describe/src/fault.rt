@@ -10,10 +10,11 @@ use thiserror::Error;
 /// error has.
 #[derive(Clone, Copy, Debug, PartialEq, Eq, Error)]
 pub enum Reason {
-    /// A bracket is not closed, or another one or a backslash stands in it: the opening bracket.
+    /// A bracket is not closed, or that of a component has another one or a backslash in it: the opening
+    /// bracket.
     #[error("unclosed bracket")]
     UnclosedBracket,
-    /// What follows a backslash is no backslash and no bracket: the backslash.
+    /// No backslash and no bracket follows a backslash: that backslash.
     #[error("invalid escape sequence")]
     InvalidEscape,
     /// Brackets have no name in them: the closing bracket.

@@ -1,7 +1,7 @@
 //! Descriptions from a text in the syntax of strftime, as `%Y-%m-%d`, in the C locale.
 //!
-//! The conversions are those of POSIX.1-2017 but `%Z`, and of GNU `%k`, `%l`, `%N`, `%P`, `%s` and
-//! `%:z`. A number takes one flag: `-` for no padding, `_` for spaces, `0` for zeros. A year has at
+//! The conversions are those of POSIX.1-2017 but `%Z` and those with `E` or `O`, and of GNU `%k`, `%l`, `%N`,
+//! `%P`, `%s` and `%:z`. A number takes one flag: `-` for no padding, `_` for spaces, `0` for zeros. A year has at
 //! least four digits, unless a flag says otherwise.
 ghost use Rattle.std.specs.Prelude.{◌≡◌, ◌+◌, ◌<◌, ◌≤◌, ℕ, List, [], length, drop, slice_range, Ok, IfOk, IfErr, OnOk, IsTrue};
 ghost use Rattle.time_below.specs.Tree.{Tree, owned_tree};

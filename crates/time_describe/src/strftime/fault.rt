@@ -12,7 +12,7 @@ pub enum StrftimeReason {
     /// The text ends within a conversion.
     #[error("unfinished conversion `%`")]
     Unfinished,
-    /// No conversion has this letter.
+    /// No conversion has this letter, or a colon stands elsewhere than in `%:z`.
     #[error("unknown conversion `%{}`", .0.escape_ascii())]
     UnknownConversion(u8),
     /// `%Z`, the name of a time zone: values have an offset and no name of it.
@@ -21,7 +21,7 @@ pub enum StrftimeReason {
     /// `E` or `O`, which ask for a locale's own eras and digits.
     #[error("unsupported modifier `%{}`", .0.escape_ascii())]
     LocaleModifier(u8),
-    /// A field width, other than the three of `%3N`, `%6N` and `%9N`: its first digit.
+    /// A field width, elsewhere than in `%3N`, `%6N` and `%9N`: its first digit.
     #[error("unsupported field width `%{}`", .0.escape_ascii())]
     FieldWidth(u8),
     /// `^` or `#`, which change the case of letters.
