@@ -16,7 +16,7 @@ impl Plan {
     /// The plan of a text in the syntax of `time`'s format descriptions, version 2, as
     /// `[year]-[month]-[day]`.
     ///
-    /// An error says the first fault and the index of its byte, or that an allocation failed.
+    /// An error is that of `parse_owned` of `time_describe`, or says that an allocation failed.
     pub fn parse(alloc: Global, text: &[u8]) -> Result<Plan, InvalidDescription>
         ensures means { IfOk result (λ plan. IsOkAnd (brackets.tree_of (reading.described text.now))
             (Means
