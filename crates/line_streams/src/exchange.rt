@@ -5,7 +5,7 @@ ghost use Rattle.line_streams.specs.Prompt.{Grows, GrowsInPart, IsPrompt};
 use crate::lines::LineJob;
 use std::alloc::AllocError;
 
-/// Why a run ended before the end of its input.
+/// Why a run ended before all that the lines of its input become was written.
 #[derive(Clone, Copy, Debug, PartialEq, Eq, Drop)]
 pub enum FilterError {
     /// A read failed.
