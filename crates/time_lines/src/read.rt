@@ -14,8 +14,9 @@ use std::alloc::AllocError;
 use time_below::{OffsetDateTime, Timestamp};
 use time_read::LenientReader;
 
-/// Replaces the first text of RFC 3339 of each line by what is shown of its moment. A line without one
-/// passes as it is, and is counted; so does one of whose moment nothing is shown.
+/// Replaces the first text of RFC 3339 of each line, as `read_lenient` of `time_read` reads it, by what is shown
+/// of its moment. A line without one passes as it is, and is counted; so does one of whose moment nothing is
+/// shown.
 #[derive(Drop)]
 pub struct ReadJob<S: Shown + Drop> {
     pub shown: S,
