@@ -626,7 +626,7 @@ struct movaliren_fault {
     size_t at;      /* the index of the byte; after MOVALIREN_ERROR_MANY_ITEMS 0 */
     size_t items;   /* after MOVALIREN_ERROR_MANY_ITEMS how many items there are, else 0 */
     uint8_t reason; /* movaliren_fault_reason; after MOVALIREN_ERROR_MANY_ITEMS 0 */
-    uint8_t byte;   /* the letter that the reason names, or 0 */
+    uint8_t byte;   /* the byte that the reason names, or 0 */
 };
 
 /* Reads a description into items at the start of the array: in brackets, as [year]-[month]-[day], or in the syntax of
@@ -726,7 +726,7 @@ MOVALIREN_INLINE ptrdiff_t movaliren_parsed(
 }
 
 /* Reads the description from a text in brackets, as [year]-[month]-[day]. Returns 0, or the reason and sets `fault`.
- * The text is not copied: it lasts as long as the description. */
+ * The text is not copied: it must last as long as the description. */
 MOVALIREN_INLINE ptrdiff_t movaliren_parse(struct movaliren_description *description, const char *text)
 {
     const size_t text_len = strlen(text);

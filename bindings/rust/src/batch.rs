@@ -10,7 +10,7 @@ use alloc::vec::Vec;
 pub struct Progress {
     /// The number of values that were written.
     pub moments: usize,
-    /// The number of bytes that they have.
+    /// The number of bytes of their texts, each with its end.
     pub bytes: usize,
     /// Why the next value was not written, or `None` if all were.
     pub stopped: Option<Error>,

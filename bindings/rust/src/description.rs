@@ -16,7 +16,7 @@ pub enum Padding {
     NoPadding = 2,
 }
 
-/// A component. One with a range refuses a value outside it.
+/// A component. `Year`, `Century`, `IsoYear` and `IsoCentury` refuse each year outside their range.
 #[derive(Clone, Copy, Debug, PartialEq, Eq, Hash)]
 #[non_exhaustive]
 pub enum Kind {

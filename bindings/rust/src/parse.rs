@@ -65,7 +65,7 @@ pub struct InvalidDescription {
     pub at: usize,
     /// The reason, or `None` where the library returned a number that this crate does not know.
     pub reason: Option<FaultReason>,
-    /// The byte that the reason names.
+    /// The byte that the reason names, if it names one.
     pub byte: Option<u8>,
     number: u8,
 }

@@ -54,13 +54,13 @@ pub enum Expected {
     Digit(u8, u8),
     /// This byte.
     Byte(u8),
-    /// This capital letter, or its small form too.
+    /// This capital letter, and its small form too where the second field is `true`.
     Letter(u8, bool),
-    /// `Z`, `+` or `-`, or a small `z` too.
+    /// `Z`, `+` or `-`, and a small `z` too where the field is `true`.
     Offset(bool),
-    /// A point, `Z`, `+` or `-`, or a small `z` too.
+    /// A point, `Z`, `+` or `-`, and a small `z` too where the field is `true`.
     PointOrOffset(bool),
-    /// A digit, `Z`, `+` or `-`, or a small `z` too.
+    /// A digit, `Z`, `+` or `-`, and a small `z` too where the field is `true`.
     DigitOrOffset(bool),
     /// No more bytes.
     End,
