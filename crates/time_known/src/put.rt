@@ -99,8 +99,8 @@ pub fn put_six_decimals<S: Sink>(output: &mut S, nanosecond: Nanoseconds)
     put_four_digits(output, ru16::within((number % 10_000) as u16));
 }
 
-/// Puts the nine digits of a fraction without the zeros at their end, at least one digit. What most users
-/// write, nine digits, milliseconds and microseconds, is stored at once.
+/// Puts the nine digits of a fraction without the zeros at their end, at least one digit. Nine digits,
+/// milliseconds and microseconds are stored at once.
 #[inline(always)]
 #[tactic(auto, using(time_fmt::proofs::TrimLemmas::whole_fractions))]
 pub fn put_fraction<S: Sink>(output: &mut S, nanosecond: Nanoseconds)
