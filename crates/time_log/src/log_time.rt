@@ -20,8 +20,8 @@ use time_known::fields::OffsetFields;
 /// The times of the lines of one log, at one offset and with as many decimals in each: texts of
 /// RFC 3339, section 5.6, as `1985-04-12T23:20:50.520Z`.
 ///
-/// The text of the last second is kept. Another time of that second costs a copy of it and the
-/// decimals. What is kept changes no byte of any text.
+/// The text of the last second is kept up to its decimals. Another time of that second costs a copy of
+/// it, the decimals and the offset. What is kept changes no byte of any text.
 #[derive(Clone, Drop)]
 pub struct LogTime {
     offset: UtcOffset,
