@@ -558,8 +558,8 @@ ptrdiff_t movaliren_width(const struct movaliren_item *items, size_t items_len, 
     size_t texts_len);
 
 /* The number of bytes of one text, up to PTRDIFF_MAX, or its error, which is never MOVALIREN_ERROR_NO_ROOM. After
- * that error of movaliren_format make a buffer of this many bytes, and call it again. It costs somewhat more than the
- * text. */
+ * that error of movaliren_format make a buffer of this many bytes, and call it again. It costs somewhat more than a
+ * short text. */
 ptrdiff_t movaliren_format_length(const struct movaliren_item *items, size_t items_len,
     const void *texts, size_t texts_len, const struct movaliren_moment *moment);
 ptrdiff_t movaliren_format_utc_length(const struct movaliren_item *items, size_t items_len,
@@ -690,7 +690,7 @@ ptrdiff_t movaliren_fault_words(uint8_t reason, void *room, size_t room_len);
 struct movaliren_description {
     struct movaliren_item *items;
     size_t items_len, items_room;
-    const char *texts; /* the literals are cut from it: it lasts as long as the description */
+    const char *texts; /* the literals are cut from it: it must last as long as the description */
     size_t texts_len;
     char *texts_array; /* where a literal that is added is kept, of so many bytes */
     size_t texts_room;

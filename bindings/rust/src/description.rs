@@ -227,7 +227,8 @@ impl Description {
         self.width
     }
 
-    /// Returns the number of bytes of the text of a value, up to `isize::MAX`. It costs somewhat more than the text.
+    /// Returns the number of bytes of the text of a value, up to `isize::MAX`. It costs somewhat more than a
+    /// short text.
     ///
     /// # Errors
     ///
