@@ -590,8 +590,8 @@ enum movaliren_fault_reason {
     MOVALIREN_FAULT_MISSING_MODIFIER = 7,
     /* An `optional` has no list of items: the closing bracket. */
     MOVALIREN_FAULT_MISSING_ITEMS = 8,
-    /* A byte other than whitespace and a bracket stands between lists of items, or an `optional`
-     * has another list: that byte, or the bracket of the list. */
+    /* A byte other than whitespace and a bracket stands where only lists of items may, or an
+     * `optional` has another list: that byte, or the bracket of the list. */
     MOVALIREN_FAULT_UNEXPECTED_BYTE = 9,
     /* A list of items is the 33rd in one another: its opening bracket. */
     MOVALIREN_FAULT_TOO_DEEP = 10,

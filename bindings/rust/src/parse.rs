@@ -27,8 +27,8 @@ pub enum FaultReason {
     MissingModifier = 7,
     /// An `optional` has no list of items: the closing bracket.
     MissingItems = 8,
-    /// A byte other than whitespace and a bracket stands between lists of items, or an `optional`
-    /// has another list: that byte, or the bracket of the list.
+    /// A byte other than whitespace and a bracket stands where only lists of items may, or an
+    /// `optional` has another list: that byte, or the bracket of the list.
     UnexpectedByte = 9,
     /// A list of items is the 33rd in one another: its opening bracket.
     TooDeep = 10,

@@ -35,7 +35,7 @@ pub enum Reason {
     /// An `optional` has no list of items: the closing bracket.
     #[error("missing list of items")]
     MissingItems,
-    /// A byte other than whitespace and a bracket stands between lists of items, or an `optional`
+    /// A byte other than whitespace and a bracket stands where only lists of items may, or an `optional`
     /// has another list: that byte, or the bracket of the list.
     #[error("unexpected text")]
     UnexpectedByte,
