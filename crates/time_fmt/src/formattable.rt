@@ -26,6 +26,8 @@ use time_provide::ComponentProvider;
 pub use trees::v3_write_into;
 
 /// A description, by which any value is formatted.
+///
+/// The state that its methods take is a default one, or what earlier calls for the same value left in it.
 pub trait Formattable: ComputeMetadata {
     /// What is written for a value with these components.
     ghost outcome_of: { Self → Facts → Outcome };
