@@ -120,10 +120,10 @@ pub(crate) fn write_current<S: Sink, V: ComponentProvider>(
     }
 }
 
-/// Appends the text of a component that is seldom met, by a call. Returns its refusal, if it is refused.
+// Appends the text of a component that is seldom met, by a call. Returns its refusal, if it is refused.
 #[cold]
 #[inline(never)]
-pub fn write_rare<M: Modifier, S: Sink, V: ComponentProvider>(
+fn write_rare<M: Modifier, S: Sink, V: ComponentProvider>(
     part: M,
     output: &mut S,
     value: &V,
