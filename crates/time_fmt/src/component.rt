@@ -35,6 +35,7 @@ pub fn write_often<S: Sink, V: ComponentProvider>(
         Component::MonthLong(part) => Some(write_part(part, output, value, state)),
         Component::MonthNumerical(part) => Some(write_part(part, output, value, state)),
         Component::WeekdayShort(part) => Some(write_part(part, output, value, state)),
+        Component::WeekdayMonday(part) => Some(write_part(part, output, value, state)),
         Component::CalendarYearFullExtendedRange(part) => Some(write_part(
             part, output, value, state,
         )),
