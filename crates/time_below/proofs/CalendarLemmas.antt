@@ -45,7 +45,7 @@ weekday_from_start (negsuc a) n e =
 
 -- the same where each year counts as one day, since 365 days are 52 weeks and a day
 pub weekday_by_years : (d : OrdinalDate) (n : ℕ) → d.year +ℤ pos greatest_year ≡ pos n
-    → 1 ≤ d.ordinal → weekday_of d ≡ (n + n / 4 - n / 100 + n / 400 + d.ordinal - 1) % 7
+    → 1 ≤ d.ordinal → weekday_of d ≡ ((n + 100) * 5 / 4 - (n + 100) / 100 * 3 / 4 + d.ordinal) % 7
 weekday_by_years d n e one =
     let there = day_number_from_start d n e one in
     weekday_from_start (day_number d) (days_of_years n + d.ordinal - 1) (sym there) ∙ omega (arith, one)

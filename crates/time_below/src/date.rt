@@ -177,14 +177,16 @@ impl Date {
         (self.year, Month::from_number(month), day)
     }
 
-    // A number whose rest by seven is the weekday: a year of 365 days is 52 weeks and a day.
+    // A number whose rest by seven is the weekday: a year of 365 days is 52 weeks and a day. A hundred
+    // years earlier leap days are a quarter of the years, less three quarters of the centuries, and no
+    // day is left over.
     #[tactic(auto, using(crate::proofs::CalendarLemmas::weekday_by_years))]
     fn place_in_weeks(self) -> u32
         ensures value { result % 7 ≡ weekday_of self }
         ensures range { result < 3_000_000 }
     {
-        let years = (self.year + GREATEST_YEAR) as u32;
-        years + years / 4 - years / 100 + years / 400 + self.ordinal as u32 - 1
+        let years = (self.year + GREATEST_YEAR) as u32 + 100;
+        years * 5 / 4 - years / 100 * 3 / 4 + self.ordinal as u32
     }
 
     /// The weekday.

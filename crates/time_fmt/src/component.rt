@@ -35,6 +35,7 @@ pub fn write_often<S: Sink, V: ComponentProvider>(
         Component::MonthLong(part) => Some(write_part(part, output, value, state)),
         Component::MonthNumerical(part) => Some(write_part(part, output, value, state)),
         Component::WeekdayShort(part) => Some(write_part(part, output, value, state)),
+        Component::WeekdayMonday(part) => Some(write_part(part, output, value, state)),
         Component::CalendarYearFullExtendedRange(part) => Some(write_part(
             part, output, value, state,
         )),
@@ -120,11 +121,11 @@ pub(crate) fn write_current<S: Sink, V: ComponentProvider>(
     }
 }
 
-/// Appends the text of a component that is not deprecated, by a call that is not inlined, as of one that is
-/// seldom met. Returns its refusal, if it is refused.
+// Appends the text of a component that is not deprecated, by a call that is not inlined, as of one that is
+// seldom met. Returns its refusal, if it is refused.
 #[cold]
 #[inline(never)]
-pub fn write_rare<M: Modifier, S: Sink, V: ComponentProvider>(
+fn write_rare<M: Modifier, S: Sink, V: ComponentProvider>(
     part: M,
     output: &mut S,
     value: &V,

@@ -15,7 +15,7 @@ mod runs;
 mod sink;
 pub mod writers;
 
-pub use component::{component_write_into, end_component, write_often, write_rare};
+pub use component::{component_write_into, end_component, write_often};
 pub use error::{Error, Format};
 pub use formattable::{
     BorrowedItems, Formattable, Literal, OwnedItems, make_room, v3_write_into, write_into_room,

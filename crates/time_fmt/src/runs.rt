@@ -46,7 +46,7 @@ fn number_of(month: Month) -> ru8<0, 99>
     ensures number { result ≡ month_number month }
     ensures range { result < 100 }
 {
-    ru8::new(u8::from(month)).unwrap()
+    ru8::within(u8::from(month))
 }
 
 /// Appends the hour, the minute and the second of a value in two digits each, with a byte before each of the

@@ -79,7 +79,7 @@ impl ComponentProvider for Date {
         ensures value { result ≡ 0 }
         ensures kept { state.new ≡ state.old }
     {
-        ru32::new(0).unwrap()
+        ru32::within(0)
     }
 
     fn supplied_offset(&self) -> UtcOffset
@@ -228,7 +228,7 @@ impl ComponentProvider for UtcOffset {
     fn nanosecond(&self, _state: &mut ()) -> Nanoseconds
         ensures { result ≡ 0 }
     {
-        ru32::new(0).unwrap()
+        ru32::within(0)
     }
 
     fn supplied_offset(&self) -> UtcOffset {

@@ -1,4 +1,5 @@
 pub mod CommandLemmas
 pub mod OutputBufferLemmas
 pub mod FieldsLemmas
+pub mod ReplyLemmas
 pub mod RunLemmas

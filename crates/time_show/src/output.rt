@@ -192,7 +192,7 @@ impl OutputBuffer {
             self.push(u64_pad_none(number as u64).as_str().as_bytes());
             return;
         }
-        match one_to_two_digits_no_padding(ru8::new(number as u8).unwrap()).as_bytes() {
+        match one_to_two_digits_no_padding(ru8::within(number as u8)).as_bytes() {
             [only] => self.push_byte(*only),
             [tens, ones] => {
                 self.push_byte(*tens);
@@ -223,8 +223,8 @@ impl OutputBuffer {
         ensures grown { length self.new ≤ length self.old + 45 }
     {
         if count <= 99 && width <= 99 {
-            let counted = one_to_two_digits_no_padding(ru8::new(count as u8).unwrap()).as_bytes();
-            let wide = one_to_two_digits_no_padding(ru8::new(width as u8).unwrap()).as_bytes();
+            let counted = one_to_two_digits_no_padding(ru8::within(count as u8)).as_bytes();
+            let wide = one_to_two_digits_no_padding(ru8::within(width as u8)).as_bytes();
             if let ([a, b], [c, d]) = (counted, wide) {
                 self.push(&[b'o', b'k', b' ', *a, *b, b' ', *c, *d, b' ']);
                 return;

@@ -16,11 +16,8 @@ use crate::formats::Formats;
 use crate::line_buffer::LINE_LIMIT;
 use crate::value::{Part, date_time_value, time_value, utc_date_time_value};
 use std::default::Default;
-use time_below::format_description::modifier::{
-    Hour24, Minute, Padding, Second, Subsecond, SubsecondDigits,
-};
-use time_below::format_description::{BorrowedFormatItem, Component};
-use time_fmt::{BorrowedItems, Format, Formattable};
+use time_fmt::parts::{HOUR, MINUTE, SECOND, SUBSECOND};
+use time_fmt::{Format, Formattable, text};
 use time_known::{Iso8601, Rfc2822, Rfc3339};
 use time_provide::ComponentProvider;
 
@@ -59,57 +56,29 @@ fn error_name(error: &Format) -> &'static str
 fn formatted_reply<'a, D: Formattable, V: ComponentProvider>(
     text: &'a mut Vec<u8>,
     description: &D,
-    width: usize,
     value: &V,
 ) -> Reply<'a>
 where
     V::State: Drop,
-    requires width { width ≡ min (D.width_of description.now) usize.MAX }
     ensures { Answers
         (formatted (D.width_of description.now) (D.outcome_of description.now (V.facts value.now)))
         (reply_text result) }
 {
     text.clear();
-    if width == usize::MAX || text.reserve(width).is_err() {
-        return Reply::Refused {
-            written: 0,
-            name: error_name(&Format::OutOfMemory),
-        };
-    }
     let mut state = Default::default();
-    match description.write_into(text, value, &mut state) {
+    match description.format_into(text, value, &mut state) {
         Ok(count) => Reply::Formatted {
             count,
-            width,
+            width: description.compute_metadata().max_bytes_needed,
             text: text.as_slice(),
+        },
+        Err(Format::OutOfMemory) => Reply::Refused {
+            written: 0,
+            name: error_name(&Format::OutOfMemory),
         },
         Err(error) => Reply::Refused {
             written: text.len(),
             name: error_name(&error),
-        },
-    }
-}
-
-/// The reply to a value by a description of this width, or to the part that is out of its range.
-fn value_reply_of_width<'a, D: Formattable, V: ComponentProvider + Drop>(
-    text: &'a mut Vec<u8>,
-    description: &D,
-    width: usize,
-    value: Result<V, Part>,
-) -> Reply<'a>
-where
-    V::State: Drop,
-    requires width { width ≡ min (D.width_of description.now) usize.MAX }
-    ensures { Answers
-        (asked_value (D.width_of description.now)
-        (λ v. D.outcome_of description.now (V.facts v)) value)
-        (reply_text result) }
-{
-    match value {
-        Ok(value) => formatted_reply(text, description, width, &value),
-        Err(part) => Reply::Refused {
-            written: 0,
-            name: part.name(),
         },
     }
 }
@@ -127,8 +96,13 @@ where
         (λ v. D.outcome_of description.now (V.facts v)) value)
         (reply_text result) }
 {
-    let width = description.compute_metadata().max_bytes_needed;
-    value_reply_of_width(text, description, width, value)
+    match value {
+        Ok(value) => formatted_reply(text, description, &value),
+        Err(part) => Reply::Refused {
+            written: 0,
+            name: part.name(),
+        },
+    }
 }
 
 /// The reply to the numbers of a local date and time by a description.
@@ -162,47 +136,18 @@ fn stamp_reply<'a>(text: &'a mut Vec<u8>, iso: &Iso8601, fields: Fields<'_>) -> 
     }
 }
 
-/// The items of the description of a time: hour, minute and second in two digits each, then the
+/// The reply to the numbers of a time of day: hour, minute and second in two digits each, then the
 /// decimals.
-static TIME_ITEMS: [BorrowedFormatItem<'static>; 7] = [
-    BorrowedFormatItem::Component(Component::Hour24(Hour24 {
-        padding: Padding::Zero,
-    })),
-    BorrowedFormatItem::StringLiteral(":"),
-    BorrowedFormatItem::Component(Component::Minute(Minute {
-        padding: Padding::Zero,
-    })),
-    BorrowedFormatItem::StringLiteral(":"),
-    BorrowedFormatItem::Component(Component::Second(Second {
-        padding: Padding::Zero,
-    })),
-    BorrowedFormatItem::StringLiteral("."),
-    BorrowedFormatItem::Component(Component::Subsecond(Subsecond {
-        digits: SubsecondDigits::OneOrMore,
-    })),
-];
-
-/// The description of a time.
-#[inline(always)]
-fn time_items() -> BorrowedItems<'static>
-    ensures { all_of (trees (map borrowed_tree result.0.now)) ≡ time_tree }
-{
-    BorrowedItems(&TIME_ITEMS)
-}
-
-/// The most bytes of a time of day by that description: three times two digits, three signs and nine
-/// decimals.
-const TIME_WIDTH: usize = 18;
-
-/// The reply to the numbers of a time of day.
 #[inline(never)]
 fn time_reply<'a>(text: &'a mut Vec<u8>, fields: Fields<'_>) -> Reply<'a>
     ensures { Answers (asked_by Name.Time (numbers_of fields.entry)) (reply_text result) }
 {
-    let items = time_items();
     match time_numbers(fields) {
         None => Reply::BadLine,
-        Some(numbers) => value_reply_of_width(text, &items, TIME_WIDTH, time_value(numbers)),
+        Some(numbers) => {
+            let description = text!(HOUR, b":", MINUTE, b":", SECOND, b".", SUBSECOND);
+            value_reply(text, &description, time_value(numbers))
+        }
     }
 }
 

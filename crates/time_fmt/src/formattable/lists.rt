@@ -7,8 +7,8 @@ ghost use Rattle.time_below.specs.Width.{trees_width, are_guaranteed_text};
 ghost use Rattle.time_fmt.specs.Description.{trees_outcome};
 
 use crate::error::Format;
-use crate::formattable::Formattable;
-use crate::formattable::engine::write_nodes;
+use crate::formattable::into_sink::write_into_sink;
+use crate::formattable::{Formattable, make_room};
 use crate::metadata::ComputeMetadata;
 use time_below::format_description::{
     BorrowedFormatItem, Metadata, OwnedFormatItem, metadata_of_nodes, nodes_fit,
@@ -32,7 +32,6 @@ impl ComputeMetadata for BorrowedItems<'_> {
 impl Formattable for BorrowedItems<'_> {
     ghost outcome_of = { λ items. trees_outcome (trees (map borrowed_tree items.0.now)) };
 
-    // More than one caller would else call it for each text.
     #[inline(always)]
     fn write_into<V: ComponentProvider>(
         &self,
@@ -42,8 +41,27 @@ impl Formattable for BorrowedItems<'_> {
     ) -> Result<usize, Format> {
         let BorrowedItems(items) = *self;
         let begin = output.len();
-        write_nodes(items, output, value, state)?;
-        Ok(output.len() - begin)
+        match write_into_sink(items, output, value, state) {
+            Ok(()) => Ok(output.len() - begin),
+            Err(refused) => Err(Format::from(refused)),
+        }
+    }
+
+    // This becomes part of the caller, so that no result lies in memory.
+    #[inline(always)]
+    fn format_into<V: ComponentProvider>(
+        &self,
+        output: &mut Vec<u8>,
+        value: &V,
+        state: &mut V::State,
+    ) -> Result<usize, Format> {
+        if !self.fits_plainly(output.capacity() - output.len()) {
+            let width = self.compute_metadata().max_bytes_needed;
+            if width == usize::MAX || make_room(output, width).is_err() {
+                return Err(Format::OutOfMemory);
+            }
+        }
+        self.write_into(output, value, state)
     }
 
     #[inline(always)]
@@ -69,7 +87,6 @@ impl ComputeMetadata for OwnedItems<'_> {
 impl Formattable for OwnedItems<'_> {
     ghost outcome_of = { λ items. trees_outcome (trees (map owned_tree items.0.now)) };
 
-    // More than one caller would else call it for each text.
     #[inline(always)]
     fn write_into<V: ComponentProvider>(
         &self,
@@ -79,8 +96,27 @@ impl Formattable for OwnedItems<'_> {
     ) -> Result<usize, Format> {
         let OwnedItems(items) = *self;
         let begin = output.len();
-        write_nodes(items, output, value, state)?;
-        Ok(output.len() - begin)
+        match write_into_sink(items, output, value, state) {
+            Ok(()) => Ok(output.len() - begin),
+            Err(refused) => Err(Format::from(refused)),
+        }
+    }
+
+    // This becomes part of the caller, so that no result lies in memory.
+    #[inline(always)]
+    fn format_into<V: ComponentProvider>(
+        &self,
+        output: &mut Vec<u8>,
+        value: &V,
+        state: &mut V::State,
+    ) -> Result<usize, Format> {
+        if !self.fits_plainly(output.capacity() - output.len()) {
+            let width = self.compute_metadata().max_bytes_needed;
+            if width == usize::MAX || make_room(output, width).is_err() {
+                return Err(Format::OutOfMemory);
+            }
+        }
+        self.write_into(output, value, state)
     }
 
     #[inline(always)]

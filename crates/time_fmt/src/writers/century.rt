@@ -297,7 +297,7 @@ fn write_century_digits<S: Sink>(output: &mut S, century: ru16<0, 9_999>, paddin
 {
     let number = century.get();
     if number < 100 {
-        format_two_digits(output, ru8::new(number as u8).unwrap(), padding)
+        format_two_digits(output, ru8::within(number as u8), padding)
     } else {
         write_many(output, &one_to_four_digits_no_padding(century))
     }
@@ -332,5 +332,5 @@ fn standard_century_of(year: Year) -> Option<(StandardCentury, bool)>
 fn last_two(year: Year) -> LastTwo
     ensures { result ≡ unsigned_abs year % 100 }
 {
-    ru8::new((year.get().unsigned_abs() % 100) as u8).unwrap()
+    ru8::within((year.get().unsigned_abs() % 100) as u8)
 }

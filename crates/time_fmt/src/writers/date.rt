@@ -127,7 +127,7 @@ pub fn fmt_month_numerical<S: Sink>(
     ensures writes { Puts (S.buffer output.old) (S.buffer output.new) result
         (padded_text modifier.padding 2 (month_number month)) }
 {
-    format_two_digits(output, ru8::new(u8::from(month)).unwrap(), modifier.padding)
+    format_two_digits(output, ru8::within(u8::from(month)), modifier.padding)
 }
 
 impl Modifier for modifier::MonthNumerical {

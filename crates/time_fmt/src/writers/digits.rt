@@ -10,7 +10,7 @@ use time_below::format_description::modifier::Padding;
 use time_digits::num_fmt::{
     five_digits_zero_padded, four_digits_space_padded, four_digits_zero_padded,
     one_to_four_digits_no_padding, one_to_three_digits_no_padding, one_to_two_digits_no_padding,
-    single_digit, six_digits_zero_padded, three_digits_space_padded, three_digits_zero_padded,
+    six_digits_zero_padded, three_digits_space_padded, three_digits_zero_padded,
     two_digits_space_padded, two_digits_zero_padded, u64_pad_none,
 };
 use time_digits::{ru8, ru16, ru32};
@@ -33,12 +33,14 @@ pub fn fmt_sign<S: Sink>(output: &mut S, is_negative: bool, sign_is_mandatory: b
 }
 
 /// Appends one digit.
-#[inline]
+#[inline(always)]
+#[tactic(auto, using(std::proofs::lemmas::Fmt::decimal_digit))]
 pub fn format_single_digit<S: Sink>(output: &mut S, value: ru8<0, 9>) -> usize
     requires room { Fits (S.buffer output.old) (length (decimal value)) }
     ensures writes { Puts (S.buffer output.old) (S.buffer output.new) result (decimal value) }
 {
-    write(output, single_digit(value))
+    output.put_byte(b'0' + value.get());
+    1
 }
 
 /// Appends a number of at most two digits, padded to two places as `padding` says.

@@ -96,18 +96,18 @@ fn write_first_decimals<S: Sink>(
     let number = nanosecond.get();
     match digits {
         SubsecondDigits::One => {
-            format_single_digit(output, ru8::new((number / 100_000_000) as u8).unwrap())
+            format_single_digit(output, ru8::within((number / 100_000_000) as u8))
         }
         SubsecondDigits::Two => {
-            let first = ru8::new((number / 10_000_000) as u8).unwrap();
+            let first = ru8::within((number / 10_000_000) as u8);
             format_two_digits(output, first, Padding::Zero)
         }
         SubsecondDigits::Three => write_three_decimals(output, nanosecond),
         SubsecondDigits::Four => {
-            format_four_digits_pad_zero(output, ru16::new((number / 100_000) as u16).unwrap())
+            format_four_digits_pad_zero(output, ru16::within((number / 100_000) as u16))
         }
         SubsecondDigits::Five => {
-            format_five_digits_pad_zero(output, ru32::new(number / 10_000).unwrap())
+            format_five_digits_pad_zero(output, ru32::within(number / 10_000))
         }
         SubsecondDigits::Six => write_six_decimals(output, nanosecond),
         SubsecondDigits::Seven => format_seven_digits(output, number / 100),
@@ -128,7 +128,7 @@ pub fn write_three_decimals<S: Sink>(output: &mut S, nanosecond: Nanoseconds) ->
         (subsecond_text SubsecondDigits.Three nanosecond) }
 {
     let number = nanosecond.get() / 1_000_000;
-    write_three_digits(output, ru16::new(number as u16).unwrap())
+    write_three_digits(output, ru16::within(number as u16))
 }
 
 // Appends three digits.
@@ -190,9 +190,9 @@ pub fn write_six_decimals<S: Sink>(output: &mut S, nanosecond: Nanoseconds) -> u
         (subsecond_text SubsecondDigits.Six nanosecond) }
 {
     let number = nanosecond.get() / 1_000;
-    let first = ru8::new((number / 10_000) as u8).unwrap();
+    let first = ru8::within((number / 10_000) as u8);
     let count = format_two_digits(output, first, Padding::Zero);
-    let last = ru16::new((number % 10_000) as u16).unwrap();
+    let last = ru16::within((number % 10_000) as u16);
     count + format_four_digits_pad_zero(output, last)
 }
 
@@ -205,10 +205,10 @@ fn write_nine_digits<S: Sink>(output: &mut S, nanosecond: Nanoseconds) -> usize
 {
     let number = nanosecond.get();
     let first_five = number / 10_000;
-    let first = format_single_digit(output, ru8::new((first_five / 10_000) as u8).unwrap());
-    let next = ru16::new((first_five % 10_000) as u16).unwrap();
+    let first = format_single_digit(output, ru8::within((first_five / 10_000) as u8));
+    let next = ru16::within((first_five % 10_000) as u16);
     let count = first + format_four_digits_pad_zero(output, next);
-    let last = ru16::new((number % 10_000) as u16).unwrap();
+    let last = ru16::within((number % 10_000) as u16);
     count + format_four_digits_pad_zero(output, last)
 }
 
@@ -230,6 +230,6 @@ fn format_seven_digits<S: Sink>(output: &mut S, number: u32) -> usize
     requires room { Fits (S.buffer output.old) 7 }
     ensures writes { Puts (S.buffer output.old) (S.buffer output.new) result (fixed 7 number) }
 {
-    let first = format_single_digit(output, ru8::new((number / 1_000_000) as u8).unwrap());
-    first + format_six_digits_pad_zero(output, ru32::new(number % 1_000_000).unwrap())
+    let first = format_single_digit(output, ru8::within((number / 1_000_000) as u8));
+    first + format_six_digits_pad_zero(output, ru32::within(number % 1_000_000))
 }

@@ -175,5 +175,5 @@ impl Modifier for modifier::Second {
 fn on_the_dial(hour: Hours) -> ru8<0, 99>
     ensures { result ≡ hour_12 hour }
 {
-    ru8::new((hour.get() + 11) % 12 + 1).unwrap()
+    ru8::within((hour.get() + 11) % 12 + 1)
 }

@@ -302,6 +302,5 @@ fn write_weekday_digit<S: Sink>(output: &mut S, days: u8, one_indexed: bool) -> 
     requires room { Fits (S.buffer output.old) (length (decimal (indexed one_indexed days))) }
     ensures writes { Puts (S.buffer output.old) (S.buffer output.new) result (decimal (indexed one_indexed days)) }
 {
-    let digit = if one_indexed { days + 1 } else { days };
-    format_single_digit(output, ru8::new(digit).unwrap())
+    format_single_digit(output, ru8::within(days + u8::from(one_indexed)))
 }

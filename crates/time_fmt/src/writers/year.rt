@@ -186,7 +186,7 @@ fn write_extended_year<S: Sink>(
 {
     let number = year.get();
     if !sign_is_mandatory && 0 <= number && number <= 9_999 {
-        return format_four_digits(output, ru16::new(number as u16).unwrap(), padding);
+        return format_four_digits(output, ru16::within(number as u16), padding);
     }
     write_rare_year(output, year, padding, sign_is_mandatory)
 }
@@ -253,7 +253,7 @@ fn write_year_digits<S: Sink>(output: &mut S, year: ru32<0, 999_999>, padding: P
 {
     let number = year.get();
     if number < 10_000 {
-        format_four_digits(output, ru16::new(number as u16).unwrap(), padding)
+        format_four_digits(output, ru16::within(number as u16), padding)
     } else {
         write_many(output, &four_to_six_digits(year))
     }
