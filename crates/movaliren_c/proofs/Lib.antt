@@ -7,4 +7,5 @@ pub mod LogLemmas
 pub mod MeaningLemmas
 pub mod NumberLemmas
 pub mod ReadLemmas
+pub mod RoomLemmas
 pub mod SinkLemmas

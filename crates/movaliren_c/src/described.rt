@@ -473,26 +473,28 @@ fn write_usual_text<S: Sink>(
     }
     match part_of(item, texts) {
         Ok(Part::Text(text)) if text.len() <= output.room() => {
-            write_fitting(output, text);
+            match text {
+                [first, second] => {
+                    output.put_byte(*first);
+                    output.put_byte(*second);
+                }
+                _ => write_fitting(output, text),
+            }
             Some(Ok(()))
         }
         _ => None,
     }
 }
 
-/// Writes a text that fits. A long one is written to the sink taken out, since a call writes it.
+/// Writes a text that fits to the sink taken out, since a call writes it.
 #[inline(always)]
-fn write_fitting<S: Sink>(output: &mut S, text: &[u8]) -> usize
+fn write_fitting<S: Sink>(output: &mut S, text: &[u8])
     requires room { Fits (S.buffer output.old) (length text.now) }
-    ensures writes { Puts (S.buffer output.old) (S.buffer output.new) result text.now }
+    ensures writes { Puts (S.buffer output.old) (S.buffer output.new) (length text.now) text.now }
 {
-    if text.len() <= 2 {
-        return write_bytes(output, text);
-    }
     let mut taken = output.take_out();
-    let count = write_bytes(&mut taken, text);
+    write_bytes(&mut taken, text);
     output.put_back(taken);
-    count
 }
 
 /// Writes any item if its text fits, and returns the number of bytes that are lost if it does not.

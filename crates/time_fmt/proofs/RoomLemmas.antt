@@ -1,6 +1,7 @@
 -- A text at the start of a buffer, and what follows it.
-use Rattle.std.proofs.Common.{◌≡◌, ℕ, ◌<◌, List, [], ◌∷◌, ◌++◌, length, take, drop, refl, sym, arith}
-use Rattle.std.proofs.lemmas.List.{take-append-drop}
+use Rattle.std.proofs.Common.{◌≡◌, ℕ, ◌+◌, ◌-◌, ◌<◌, ◌≤◌, List, [], ◌∷◌, ◌++◌, length, take, drop, refl, sym, ap, ◌∙◌, arith}
+use Rattle.std.proofs.lemmas.List.{take-append-drop, drop-drop}
+use Rattle.std.proofs.lemmas.Slice.{take-put_mid, drop-put_mid}
 
 -- no bytes are as long as none
 none_as_long : (xs : List ℕ) → length xs ≡ 0 → xs ≡ []
@@ -17,3 +18,14 @@ room_written n old [] bytes text count long behind =
 room_written n old (b ∷ bs) bytes text count long behind =
     let parts : take n (b ∷ bs) ++ drop n (b ∷ bs) ≡ b ∷ bs = take-append-drop n (b ∷ bs) in
     sym (rw (← count, text) (rw (behind (omega arith)) at parts))
+
+-- bytes that are written over others
+pub ruleset written_over = (take-put_mid, drop-put_mid, drop-drop)
+
+-- what is unchanged from a place on is unchanged from a later one on
+pub still_behind : (m n : ℕ) (old new : List ℕ) → drop m new ≡ drop m old → m ≤ n → drop n new ≡ drop n old
+still_behind m n old new same later =
+    let at : m + (n - m) ≡ n = omega arith in
+    let there : drop (n - m) (drop m new) ≡ drop n new = rw at at (drop-drop (n - m) m new) in
+    let before : drop (n - m) (drop m old) ≡ drop n old = rw at at (drop-drop (n - m) m old) in
+    sym there ∙ (ap (drop (n - m)) same ∙ before)

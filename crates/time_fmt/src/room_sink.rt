@@ -2,7 +2,7 @@
 //!
 //! What the buffer held before is a ghost member of a type parameter. So the sink's own invariants say that
 //! what follows the text is as it was, and no writer has to.
-ghost use Rattle.std.specs.Prelude.{◌≡◌, ◌<◌, ◌≤◌, ℕ, List, [], Some, length, take, drop};
+ghost use Rattle.std.specs.Prelude.{◌≡◌, ◌<◌, ◌≤◌, ◌+◌, ◌++◌, ℕ, List, [], Some, length, take, drop};
 ghost use Rattle.time_fmt.specs.Sink.{Buffer};
 
 use crate::sink::Sink;
@@ -69,6 +69,14 @@ impl<B: Before> Sink for RoomSink<'_, B> {
         self.room[at] = byte;
     }
 
+    #[inline]
+    #[tactic(auto, using(crate::proofs::RoomLemmas::still_behind))]
+    fn put_first(&mut self, bytes: [u8; 9], count: usize) {
+        let at = self.len;
+        self.len = at + count;
+        write_first_over(self.room, at, &bytes, count);
+    }
+
     #[inline(always)]
     fn room(&self) -> usize {
         self.room.len() - self.len
@@ -88,4 +96,38 @@ impl<B: Before> Sink for RoomSink<'_, B> {
     fn put_back(&mut self, taken: Self) {
         *self = taken;
     }
+}
+
+// Overwrites the bytes of a buffer from a place on by the first of nine. Those of a name are written with no call, since
+// the compiler knows how many they are.
+#[inline(always)]
+fn write_first_over(room: &mut [u8], at: usize, bytes: &[u8; 9], count: usize)
+    requires most { count ≤ 9 }
+    requires room { at + 9 ≤ length room.old }
+    ensures before { take (at + count) room.new ≡ take at room.old ++ take count bytes.now }
+    ensures behind { drop (at + count) room.new ≡ drop (at + count) room.old }
+    ensures len { length room.new ≡ length room.old }
+{
+    match count {
+        3 => write_over(room, at, &bytes[..3]),
+        4 => write_over(room, at, &bytes[..4]),
+        5 => write_over(room, at, &bytes[..5]),
+        6 => write_over(room, at, &bytes[..6]),
+        7 => write_over(room, at, &bytes[..7]),
+        8 => write_over(room, at, &bytes[..8]),
+        9 => write_over(room, at, bytes),
+        _ => write_over(room, at, &bytes[..count]),
+    }
+}
+
+// Overwrites the bytes of a buffer from a place on.
+#[inline(always)]
+#[tactic(auto, using(crate::proofs::RoomLemmas::written_over))]
+fn write_over(room: &mut [u8], at: usize, bytes: &[u8])
+    requires { at + length bytes.now ≤ length room.old }
+    ensures before { take (at + length bytes.now) room.new ≡ take at room.old ++ bytes.now }
+    ensures behind { drop (at + length bytes.now) room.new ≡ drop (at + length bytes.now) room.old }
+    ensures len { length room.new ≡ length room.old }
+{
+    room[at..at + bytes.len()].copy_from_slice(bytes);
 }

@@ -1,0 +1,36 @@
+-- Texts that are copied to the start of a buffer.
+use Rattle.std.proofs.Common.{◌≡◌, ℕ, ◌+◌, ◌-◌, ◌≤◌, List, ◌++◌, length, take, drop, sym, ap, ◌∙◌, length-drop, zero-add, arith}
+use Rattle.std.proofs.lemmas.List.{length-take-le, take-append-drop, take-take, take_rest, drop-drop}
+
+-- a text of which the first bytes were written, and then the last ones
+joined_ends : (n k rest : ℕ) (text old mid new : List ℕ) → k ≤ n → rest ≤ k → take k mid ≡ take k text
+    → drop k mid ≡ drop k old → take n new ≡ take rest mid ++ drop rest text → drop n new ≡ drop n mid
+    → new ≡ text ++ drop n old
+joined_ends n k rest text old mid new most half start behind end after =
+    let first : take rest (take k mid) ≡ take rest mid = take-take rest k mid half in
+    let of_text : take rest (take k text) ≡ take rest text = take-take rest k text half in
+    let first : take rest mid ≡ take rest text = sym first ∙ (ap (take rest) start ∙ of_text) in
+    let whole : take n new ≡ text = rw first at end ∙ take-append-drop rest text in
+    let there : k + (n - k) ≡ n = omega arith in
+    let before : drop (n - k) (drop k mid) ≡ drop n mid = rw there at (drop-drop (n - k) k mid) in
+    let old_there : drop (n - k) (drop k old) ≡ drop n old = rw there at (drop-drop (n - k) k old) in
+    let same : drop n new ≡ drop n old = after ∙ (sym before ∙ (ap (drop (n - k)) behind ∙ old_there)) in
+    sym (take-append-drop n new) ∙ (ap (λ (xs : List ℕ). xs ++ drop n new) whole ∙ ap (λ (xs : List ℕ). text ++ xs) same)
+
+-- the same by what was written each time
+pub ends_copied : (k : ℕ) (text old mid new : List ℕ) → k ≤ length text → length text ≤ k + k
+    → (let first = take k text in take (0 + length first) mid ≡ take 0 old ++ first)
+    → (let first = take k text in drop (0 + length first) mid ≡ drop (0 + length first) old)
+    → (let rest = length text - k in let last = take (length text - rest) (drop rest text) in take (rest + length last) new ≡ take rest mid ++ last)
+    → (let rest = length text - k in let last = take (length text - rest) (drop rest text) in drop (rest + length last) new ≡ drop (rest + length last) mid)
+    → new ≡ text ++ drop (length text) old
+ends_copied k text old mid new most half start behind end after =
+    let rest = length text - k in
+    let count : 0 + length (take k text) ≡ k = zero-add (length (take k text)) ∙ length-take-le k text most in
+    let start : take k mid ≡ take k text = rw count at start in
+    let behind : drop k mid ≡ drop k old = rw count at behind in
+    let last : take (length text - rest) (drop rest text) ≡ drop rest text = take_rest text rest in
+    let whole : rest + length (drop rest text) ≡ length text = omega (arith, length-drop rest text) in
+    let end : take (length text) new ≡ take rest mid ++ drop rest text = rw (last, whole) at end in
+    let after : drop (length text) new ≡ drop (length text) mid = rw (last, whole) at after in
+    joined_ends (length text) k rest text old mid new most (omega arith) start behind end after
