@@ -1,5 +1,5 @@
 //! ISO 8601-1:2019, by its default configuration and by any other.
-ghost use Rattle.std.specs.Prelude.{◌≡◌, ◌≤◌, IfErr, IfOk, Ok, length};
+ghost use Rattle.std.specs.Prelude.{◌≡◌, ◌≢◌, ◌≤◌, IfErr, IfOk, Ok, length};
 ghost use Rattle.movaliren_c.specs.Answer.{IsAnswer, IsRefusedFor, IsText, IsWritten, gives};
 ghost use Rattle.movaliren_c.specs.Batch.{IsBatch};
 ghost use Rattle.movaliren_c.specs.Chosen.{choices_at, iso8601_by, separated};
@@ -8,7 +8,6 @@ ghost use Rattle.movaliren_c.specs.Value.{moment_value};
 ghost use Rattle.time_fmt.specs.Outcome.{done};
 ghost use Rattle.time_known.specs.Config.{default_choices};
 ghost use Rattle.time_known.specs.Iso8601.{iso8601_of};
-ghost use Rattle.time_known.specs.Iso8601Parts.{parts_text, parts_width};
 ghost use Rattle.time_known.specs.Iso8601Width.{iso8601_width};
 
 mod config;
@@ -27,7 +26,9 @@ use std::default::Default;
 use time_below::OffsetDateTime;
 use time_digits::ru8;
 use time_known::fields::accepted_fields;
-use time_known::iso8601::{Config, DecimalSign, Parts, SeparatedText, Usual, parts_of, put_parts};
+use time_known::iso8601::{
+    Config, DecimalSign, FormattedComponents, SeparatedText, Usual, put_parts,
+};
 use time_known::sink::Text;
 use time_provide::DateState;
 
@@ -250,7 +251,7 @@ impl<S: Source> Iso8601By<S> {
     }
 }
 
-/// Writes the text of the value, part by part.
+/// Writes the text of the value to an array first, part by part, since one may be refused after others.
 #[inline(never)]
 fn write_parts(config: &Config, value: &OffsetDateTime, room: &mut [u8]) -> Result<usize, Reason>
     ensures { IsWritten result (iso8601_of config.now value.now) room.old room.new }
@@ -258,35 +259,27 @@ fn write_parts(config: &Config, value: &OffsetDateTime, room: &mut [u8]) -> Resu
     if config.formats_nothing() {
         return Err(Reason::Insufficient);
     }
-    let parts = parts_of(config, value, &mut DateState::default());
-    copy_parts(config, &parts, room)
+    let mut line = [0u8; MOST_BYTES];
+    let _width = config.width();
+    match put_at_once(config, value, &mut line) {
+        Ok(count) => copy_text(&line[..count], room),
+        Err(reason) => Err(reason),
+    }
 }
 
 /// Puts the parts at the start of a buffer that holds them, up to what is refused.
 #[inline(always)]
-fn put_at_once(config: &Config, parts: &Parts, room: &mut [u8]) -> Result<usize, Reason>
-    requires room { parts_width config.now parts.now ≤ length room.old }
-    ensures text { IfOk result (λ n. IsWritten (Ok n) (parts_text config.now parts.now) room.old room.new) }
+fn put_at_once(config: &Config, value: &OffsetDateTime, room: &mut [u8]) -> Result<usize, Reason>
+    requires some { config.now.formatted_components ≢ FormattedComponents.None }
+    requires room { iso8601_width config.now ≤ length room.old }
+    ensures text { IfOk result (λ n. IsWritten (Ok n) (iso8601_of config.now value.now) room.old room.new) }
     ensures fits { IfOk result (λ n. n ≤ length room.old) }
-    ensures refused { IfErr result (λ r. IsRefusedFor r (parts_text config.now parts.now)) }
+    ensures refused { IfErr result (λ r. IsRefusedFor r (iso8601_of config.now value.now)) }
     ensures len { length room.new ≡ length room.old }
 {
     let mut sink = RoomSink::new(room);
-    match put_parts(&mut sink, config, parts) {
+    match put_parts(&mut sink, config, value, &mut DateState::default()) {
         Ok(()) => Ok(sink.len()),
         Err(component) => Err(reason_for(component)),
-    }
-}
-
-/// Writes the parts to an array first, since one may be refused after others.
-#[inline(always)]
-fn copy_parts(config: &Config, parts: &Parts, room: &mut [u8]) -> Result<usize, Reason>
-    ensures { IsWritten result (parts_text config.now parts.now) room.old room.new }
-{
-    let mut line = [0u8; MOST_BYTES];
-    let _width = parts.width(config);
-    match put_at_once(config, parts, &mut line) {
-        Ok(count) => copy_text(&line[..count], room),
-        Err(reason) => Err(reason),
     }
 }

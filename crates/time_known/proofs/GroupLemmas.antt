@@ -1,6 +1,7 @@
 -- Facts that have the groups that are needed, and the outcome that these give.
 use Rattle.std.proofs.Common.{◌≡◌, Bool, true, false, refl, ◌∙◌, Option, Some, None}
-use Rattle.std.specs.Prelude.{◌&&◌, ◌||◌, not, is_some}
+use Rattle.std.proofs.lemmas.Bool.{and_parts}
+use Rattle.std.specs.Prelude.{◌||◌, not, is_some}
 use Rattle.time_below.specs.Facts.{group_or}
 use Rattle.time_fmt.specs.Description.{of_group}
 use Rattle.time_fmt.specs.Outcome.{Outcome, refused, insufficient}
@@ -26,11 +27,6 @@ pub of_supplied : {G : Type 0} (group : Option G) (other : G) (outcome : G → O
 of_supplied None other outcome h = cc
 of_supplied (Some g) other outcome h = refl
 
--- both tests hold
-both_tests_hold : (a b : Bool) → (a && b) ≡ true → (a ≡ true) × (b ≡ true)
-both_tests_hold true b h = (refl, h)
-both_tests_hold false b h = cc
-
 -- a group that is needed and supplied is there
 needed_is_supplied : (is_there is_needed : Bool) → (is_there || not is_needed) ≡ true → is_needed ≡ true → is_there ≡ true
 needed_is_supplied true is_needed h e = refl
@@ -45,8 +41,8 @@ pub record HasNeeded (needed : Groups) (f : Facts) : Type 0 where
 
 pub has_needed : (needed : Groups) (f : Facts) → has_groups needed f ≡ true → HasNeeded needed f
 has_needed needed f h =
-    let first = both_tests_hold _ _ h in
-    let two = both_tests_hold _ _ first.0 in
+    let first = and_parts _ _ h in
+    let two = and_parts _ _ first.0 in
     record { date = needed_is_supplied _ _ two.0; time = needed_is_supplied _ _ two.1; offset = needed_is_supplied _ _ first.1 }
 
 -- all three are needed

@@ -14,7 +14,7 @@ use Rattle.time_known.specs.Iso8601Grammar.{iso8601_reads_as}
 use Rattle.time_known.specs.Stamps.{stamp_of, stamp_text, stamp_length, IsStampYear, HasStamp}
 use Rattle.time_known.specs.Values.{OrdinalDate, IsDate, DateFacts, date_facts, IsTimeOfDay}
 use Rattle.time_known.specs.WellKnown.{is_outside}
-use Rattle.time_known.proofs.OutcomeLemmas.{IsYearWithin, year_is_within}
+use Rattle.time_known.proofs.OutcomeLemmas.{year_is_within}
 use Rattle.time_known.proofs.StampLemmas.{year_within, stamp_year, stamp_done, default_is_whole, stamps_are_completed}
 use Rattle.time_known.proofs.StampLemmas.{year_refused}
 
@@ -30,34 +30,31 @@ pub record Answered (old new : Vec ℕ Global) (answer : Result ℕ Format) (v :
 
 -- ---- dates and times
 
--- a year is refused, or is one of four digits
-either_year : (v : DateAndTime)
-    → (stamp_of v ≡ refused (invalid_component (codes "year"))) ⊎ IsYearWithin 0 9_999 v.date.year
+-- the year is refused
+abbrev IsRefused : DateAndTime → Type 0
+IsRefused v = stamp_of v ≡ refused (invalid_component (codes "year"))
+
+-- a year is refused, or is that of a stamp
+either_year : (v : DateAndTime) → IsRefused v ⊎ IsStampYear v.date.year
 either_year v =
     ⊎_elim (λ (e : is_outside 0 9_999 v.date.year ≡ true). inl (year_refused v e))
-    (λ (e : is_outside 0 9_999 v.date.year ≡ false). inr (year_is_within 0 9_999 v.date.year e))
+    (λ (e : is_outside 0 9_999 v.date.year ≡ false). inr (stamp_year v.date.year (year_is_within 0 9_999 v.date.year e)))
     (cases_Bool (is_outside 0 9_999 v.date.year))
-
--- what is not refused has a year of four digits
-year_of_completed : (v : DateAndTime) → (stamp_of v).refusal ≡ None → IsYearWithin 0 9_999 v.date.year
-year_of_completed v none = at (either_year v) where
-  at : (stamp_of v ≡ refused (invalid_component (codes "year"))) ⊎ IsYearWithin 0 9_999 v.date.year
-      → IsYearWithin 0 9_999 v.date.year
-  at (inl e) =
-      let some : Some (invalid_component (codes "year")) ≡ None = sym (ap (λ (o : Outcome). o.refusal) e) ∙ none in cc
-  at (inr h) = h
 
 -- what is completed and read back has a stamp
 has_stamp : (v : DateAndTime) → (stamp_of v).refusal ≡ None
     → iso8601_reads_as default_choices (facts_of_utc_date_time v) (stamp_text v) → HasStamp v
 has_stamp v none reads =
     let r = reads default_is_whole in
+    let year : IsStampYear v.date.year =
+    ⊎_elim (λ (e : IsRefused v). absurd (let some : Some (invalid_component (codes "year")) ≡ None =
+    sym (ap (λ (o : Outcome). o.refusal) e) ∙ none in cc)) (λ (h : IsStampYear v.date.year). h) (either_year v) in
     let facts : date_facts v.date ≡ date_facts r.value.date = cc in
     let date = ap (λ (f : DateFacts). let d : OrdinalDate = record { year = f.year; ordinal = f.ordinal } in d) facts in
     let time : v.time ≡ r.value.time = cc in
     record {
       date = subst IsDate (sym date) r.fits.date;
-      year = stamp_year v.date.year (year_of_completed v none);
+      year = year;
       time = subst IsTimeOfDay (sym time) r.fits.time;
     }
 
@@ -74,14 +71,12 @@ named_none o e none named = subst (λ (r : Option Refusal). IsSomeAnd r (Names e
 -- an error other than `OutOfMemory` names the year, and adds no byte
 refused_by_year : (old new : Vec ℕ Global) (v : DateAndTime) (e : Format) → Adds old new (Err e) (stamp_of v)
     → Names e (invalid_component (codes "year")) × (new.items ≡ old.items)
-refused_by_year old new v e adds = at (either_year v) where
-  at : (stamp_of v ≡ refused (invalid_component (codes "year"))) ⊎ IsYearWithin 0 9_999 v.date.year
-      → Names e (invalid_component (codes "year")) × (new.items ≡ old.items)
-  at (inl r) = (
-    subst (λ (o : Outcome). IsSomeAnd o.refusal (Names e)) r adds.named,
-    adds.appended ∙ ap (λ (o : Outcome). old.items ++ o.bytes) r ∙ append-nil old.items,
-  )
-  at (inr h) = absurd (named_none (stamp_of v) e (not_refused v (stamp_year v.date.year h)) adds.named)
+refused_by_year old new v e adds =
+    ⊎_elim (λ (r : IsRefused v). (
+      subst (λ (o : Outcome). IsSomeAnd o.refusal (Names e)) r adds.named,
+      adds.appended ∙ ap (λ (o : Outcome). old.items ++ o.bytes) r ∙ append-nil old.items,
+    ))
+    (λ (h : IsStampYear v.date.year). absurd (named_none (stamp_of v) e (not_refused v h) adds.named)) (either_year v)
 
 -- A completed call has a stamp, of 30 bytes. Another one that is not out of memory names the year, which has none; and
 -- an error appends nothing.

@@ -1,6 +1,6 @@
 -- What of a value a format has no place for.
-use Rattle.std.specs.Prelude.{ℕ, ℤ, ◌≡◌, ◌+◌, ◌≤◌, ◌++◌, List, length, codes, nat_lt, Option, Some, None, Result, Ok, Err}
-use Rattle.std.specs.Prelude.{Vec, vec_len, vec_capacity}
+use Rattle.std.specs.Prelude.{ℕ, ℤ, ◌≡◌, List, codes, nat_lt, Option, Some, None, Result, Ok, Err}
+use Rattle.std.specs.Prelude.{Vec}
 use Rattle.std.specs.Global.{Global}
 use Rattle.time_fmt.specs.Outcome.{AppendsUpTo, Outcome, Refusal, done, refused, invalid_component}
 use Rattle.time_known.specs.Sink.{Buffer, PutsUpTo}
@@ -30,14 +30,6 @@ checked_text first greatest_hour year hour second text =
 abbrev pub refusal_of : Result Unit OutOfRange → Option Refusal
 refusal_of (Ok u) = None
 refusal_of (Err component) = Some (invalid_component (component_name component))
-
--- the bytes of the outcome were appended, and the answer is its refusal
-pub record AppendsOrRefuses (width : ℕ) (old new : Vec ℕ Global) (answer : Result Unit OutOfRange) (o : Outcome) : Type 0 where
-  pub appended : new.items ≡ old.items ++ o.bytes
-  pub refusal : o.refusal ≡ refusal_of answer
-  pub grown : vec_len new ≡ vec_len old + length o.bytes
-  pub capacity : vec_capacity new ≡ vec_capacity old
-  pub within : vec_len new ≤ vec_len old + width
 
 -- all bytes of the outcome were appended, and the answer is their number; or no byte was, and the outcome is the refusal
 -- of the component

@@ -3,7 +3,7 @@ ghost use Rattle.std.specs.Prelude.{◌≡◌, ℕ, List, IfOk, IfErr, OnOk, IsT
 ghost use Rattle.time_below.specs.Facts.{the_date, the_time, the_offset};
 ghost use Rattle.time_below.specs.Offset.{IsOffset};
 ghost use Rattle.time_fmt.specs.Outcome.{done};
-ghost use Rattle.time_provide.specs.Real.{AgreesOnDate, AgreesOnTime, AreReal};
+ghost use Rattle.time_provide.specs.Real.{AgreesOnTime, AreReal};
 ghost use Rattle.time_known.specs.Accepted.{checked_text, refused_for};
 ghost use Rattle.time_known.specs.Fields.{fields, offset_fields, shown};
 ghost use Rattle.time_known.specs.Groups.{AreAllSupplied, at_groups};
@@ -88,32 +88,6 @@ pub fn accepted_fields<V: ComponentProvider>(
         }
         Err(component) => Err(component),
     }
-}
-
-// The year of the value's week calendar, if it is from 0 to 9,999 and the offset has no seconds. Else the first of them
-// that is refused.
-#[inline(always)]
-pub(crate) fn accepted_year_of_week<V: ComponentProvider>(
-    offset: &OffsetFields,
-    value: &V,
-    state: &mut V::State,
-) -> Result<ru16<0, 9_999>, OutOfRange>
-    requires supplied { IsTrue V.SUPPLIES_DATE }
-    requires offset { offset.now ≡ offset_fields (the_offset (V.facts value.now)) }
-    requires agrees { V.agrees state.old value.now }
-    ensures accepted { IfOk result (λ _. (text : List ℕ)
-        → checked_text 0 25 (the_date (V.facts value.now)).iso_year
-        (unsigned_abs (the_offset (V.facts value.now)).hours)
-        (unsigned_abs (the_offset (V.facts value.now)).seconds) text ≡ done text) }
-    ensures year { IfOk result (λ y. y ≡ unsigned_abs (the_date (V.facts value.now)).iso_year) }
-    ensures refused { IfErr result (λ out. (text : List ℕ)
-        → checked_text 0 25 (the_date (V.facts value.now)).iso_year
-        (unsigned_abs (the_offset (V.facts value.now)).hours)
-        (unsigned_abs (the_offset (V.facts value.now)).seconds) text ≡ refused_for out) }
-    ensures agrees { AgreesOnDate (V.agrees state.new value.now) (V.facts value.now) }
-{
-    let year = value.iso_year(state).get();
-    accepted_year(0, 25, year, offset.hours, offset.seconds.get())
 }
 
 // The value's time of day.

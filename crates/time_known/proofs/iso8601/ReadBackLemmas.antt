@@ -5,32 +5,18 @@ use Rattle.std.specs.Global.{Global}
 use Rattle.time_fmt.specs.declared.error.Format.{Format}
 use Rattle.time_fmt.specs.Outcome.{Outcome, Appends}
 use Rattle.time_provide.specs.Real.{AreReal}
-use Rattle.time_known.specs.Config.{Choices, IsWhole, groups_of}
-use Rattle.time_known.specs.Values.{Facts, date_facts}
+use Rattle.time_known.specs.Config.{Choices, groups_of}
+use Rattle.time_known.specs.Values.{Facts}
 use Rattle.time_known.specs.declared.iso8601.config.FormattedComponents.TheVariants as components
 use Rattle.time_known.specs.Groups.{has_groups}
 use Rattle.time_known.specs.Iso8601.{iso_of_groups, iso8601_outcome, iso8601_outcome_of}
 use Rattle.time_known.specs.Iso8601Grammar.{Iso8601Spells, IsCanonicalIso8601, iso8601_reads_as}
-use Rattle.time_known.specs.Laws.{IsValue, CompletedAreCanonical}
 use Rattle.time_known.specs.ReadBack.{ReadsAs}
 use Rattle.time_known.specs.WellKnown.{of_all_groups}
 use Rattle.time_known.proofs.GroupLemmas.{has_all}
-use Rattle.time_known.proofs.iso8601.WholeLemmas.{outcome_is, iso8601_is_written}
+use Rattle.time_known.proofs.iso8601.WholeLemmas.{joined_is_written}
 use Rattle.time_known.proofs.LawLemmas.{completed_are_canonical}
 use Rattle.time_known.proofs.ReadBackLemmas.{reads_as}
-
--- their completed texts are the canonical ones
-joined_are_canonical : (c : Choices) → IsWhole c
-    → CompletedAreCanonical IsValue (λ v. iso_of_groups c (date_facts v.date) v.time v.offset) (λ v. v)
-    (Iso8601Spells c) (IsCanonicalIso8601 c)
-joined_are_canonical c w =
-    let law = completed_are_canonical (iso8601_is_written c w) in
-    record {
-      completed = λ text v fits e. law.completed text v fits (outcome_is c v w ∙ e);
-      canonical = λ text v canonical.
-          let is = law.canonical text v canonical in
-          (is.0, is.1, sym (outcome_is c v w) ∙ is.2);
-    }
 
 -- completed bytes spell the value of their groups
 iso8601_reads : (c : Choices) (f : Facts) → has_groups (groups_of c.formatted_components) f ≡ true
@@ -41,7 +27,7 @@ iso8601_reads c f there real complete w =
     let all = has_all f (ap (λ parts. has_groups (groups_of parts) f) (sym w.components) ∙ there) in
     let same : iso8601_outcome c f ≡ of_all_groups f (iso_of_groups c) =
     ap (λ parts. iso8601_outcome_of parts c f) w.components in
-    let read = reads_as (iso_of_groups c) (joined_are_canonical c w) f all (real w.components)
+    let read = reads_as (iso_of_groups c) (completed_are_canonical (joined_is_written c w)) f all (real w.components)
     (sym (ap (λ (x : Outcome). x.refusal) same) ∙ complete) in
     subst (λ (x : Outcome). ReadsAs (λ v. v) (Iso8601Spells c) (IsCanonicalIso8601 c) f x.bytes) (sym same) read
 

@@ -1,16 +1,16 @@
 //! The date of a text of ISO 8601-1:2019, section 5.2.
-ghost use Rattle.std.specs.Prelude.{◌≡◌, MatchOption, Ok, false, ◌+◌, ◌*◌, ◌++◌, length, pos, int_lt, unsigned_abs, true, IsTrue, codes};
+ghost use Rattle.std.specs.Prelude.{◌≡◌, MatchOption, Ok, false, ◌+◌, ◌*◌, ◌++◌, length, pos, int_lt, unsigned_abs, true, IsTrue, not, ◌||◌};
 ghost use Rattle.time_below.specs.Facts.{the_date};
 ghost use Rattle.time_digits.specs.Digits.{zero_padded};
 ghost use Rattle.time_fmt.specs.Outcome.{AppendsUpTo};
 ghost use Rattle.time_fmt.specs.Room.{HasRoom};
 ghost use Rattle.time_fmt.specs.Text.{sign_text};
-ghost use Rattle.time_provide.specs.Real.{AgreesOnDate};
+ghost use Rattle.time_provide.specs.Real.{AgreesOnDate, AreFactsOfDate};
 ghost use Rattle.time_known.specs.Accepted.{PutsOutcome};
-ghost use Rattle.time_known.specs.Config.{separator};
+ghost use Rattle.time_known.specs.Config.{has_date};
 ghost use Rattle.time_known.specs.Days.{dash};
-ghost use Rattle.time_known.specs.Iso8601.{iso_date, iso_year, rest_text};
-ghost use Rattle.time_known.specs.Iso8601Parts.{date_of_parts, date_parts_width, part_text, part_width, rest_width};
+ghost use Rattle.time_known.specs.Iso8601.{iso_date, iso_year, rest_text, week_text};
+ghost use Rattle.time_known.specs.Iso8601Parts.{date_of_parts, date_parts_width, part_if, rest_width, width_if};
 ghost use Rattle.time_known.specs.Iso8601Width.{iso_date_width, year_width};
 ghost use Rattle.time_known.specs.Sink.{Fits, PutsJust, PutsUpTo};
 
@@ -45,10 +45,9 @@ pub fn format_date<V: ComponentProvider>(
         (iso_date config.now (the_date (V.facts value.now))) }
     ensures agrees { AgreesOnDate (V.agrees state.new value.now) (V.facts value.now) }
 {
-    let date = date_of(config.date_kind(), value, state);
     let mut taken = take_out(output);
     let begin = taken.len();
-    let answer = put_date(&mut taken, config, &date);
+    let answer = put_date(&mut taken, config, value, state);
     let count = taken.len() - begin;
     put_back(output, taken);
     match answer {
@@ -128,27 +127,57 @@ fn put_short<S: Sink>(output: &mut S, year: ru16<0, 9_999>, rest: &RestOfDate, h
     put_rest(output, rest, has_dash);
 }
 
-// Puts the date, if there is one.
+// Puts the date, if it is formatted.
 #[inline(always)]
-pub(super) fn put_date_part<S: Sink>(
+pub(super) fn put_date_part<S: Sink, V: ComponentProvider>(
     output: &mut S,
     config: &Config,
-    date: &Option<DateParts>,
+    value: &V,
+    state: &mut V::State,
 ) -> Result<(), OutOfRange>
-    requires room { Fits (part_width (date_parts_width config.now) date.now) (S.buffer output.old) }
-    ensures puts { PutsOutcome (part_width (date_parts_width config.now) date.now)
+    requires supplied { IsTrue (V.SUPPLIES_DATE || not (has_date config.now.formatted_components)) }
+    requires room { Fits (width_if (has_date config.now.formatted_components) (iso_date_width config.now))
+        (S.buffer output.old) }
+    requires agrees { V.agrees state.old value.now }
+    ensures puts { PutsOutcome (width_if (has_date config.now.formatted_components) (iso_date_width config.now))
         (S.buffer output.old) (S.buffer output.new) result
-        (part_text (date_of_parts config.now) date.now) }
+        (part_if (has_date config.now.formatted_components) (iso_date config.now (the_date (V.facts value.now)))) }
+    ensures real { IsTrue (has_date config.now.formatted_components) → AreFactsOfDate (the_date (V.facts value.now)) }
+    ensures agrees { V.agrees state.new value.now }
 {
-    match date {
-        Some(date) => put_date(output, config, date),
-        None => Ok(()),
+    if config.has_date() {
+        put_date(output, config, value, state)
+    } else {
+        Ok(())
     }
+}
+
+// Puts the value's date.
+#[inline(always)]
+fn put_date<S: Sink, V: ComponentProvider>(
+    output: &mut S,
+    config: &Config,
+    value: &V,
+    state: &mut V::State,
+) -> Result<(), OutOfRange>
+    requires supplied { IsTrue V.SUPPLIES_DATE }
+    requires room { Fits (iso_date_width config.now) (S.buffer output.old) }
+    requires agrees { V.agrees state.old value.now }
+    ensures puts { PutsOutcome (iso_date_width config.now) (S.buffer output.old) (S.buffer output.new) result
+        (iso_date config.now (the_date (V.facts value.now))) }
+    ensures agrees { AgreesOnDate (V.agrees state.new value.now) (V.facts value.now) }
+{
+    let date = date_of(config.date_kind(), value, state);
+    put_date_parts(output, config, &date)
 }
 
 // Puts the year, and what follows it.
 #[inline(always)]
-fn put_date<S: Sink>(output: &mut S, config: &Config, date: &DateParts) -> Result<(), OutOfRange>
+fn put_date_parts<S: Sink>(
+    output: &mut S,
+    config: &Config,
+    date: &DateParts,
+) -> Result<(), OutOfRange>
     requires room { Fits (date_parts_width config.now date.now) (S.buffer output.old) }
     ensures puts { PutsOutcome (date_parts_width config.now date.now)
         (S.buffer output.old) (S.buffer output.new) result (date_of_parts config.now date.now) }
@@ -245,7 +274,7 @@ pub(super) fn put_week<S: Sink>(
     requires room { Fits (4 + 2 * length separator.now) (S.buffer output.old) }
     ensures puts { PutsUpTo (4 + 2 * length separator.now)
         (S.buffer output.old) (S.buffer output.new)
-        (separator.now ++ codes "W" ++ zero_padded 2 week ++ separator.now ++ zero_padded 1 weekday) }
+        (week_text separator.now week weekday) }
 {
     put_both(output, separator, "W");
     put_pair(output, week);

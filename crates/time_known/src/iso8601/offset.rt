@@ -1,12 +1,14 @@
 //! The offset from UTC of a text of ISO 8601-1:2019, sections 5.3.3 and 5.3.4.
-ghost use Rattle.std.specs.Prelude.{IsTrue};
+ghost use Rattle.std.specs.Prelude.{IsTrue, not, ◌||◌};
 ghost use Rattle.time_below.specs.Facts.{the_offset};
+ghost use Rattle.time_below.specs.Offset.{IsOffset};
 ghost use Rattle.time_fmt.specs.Outcome.{AppendsUpTo};
 ghost use Rattle.time_fmt.specs.Room.{HasRoom};
 ghost use Rattle.time_provide.specs.Real.{AgreesOnOffset};
 ghost use Rattle.time_known.specs.Accepted.{PutsOutcome};
+ghost use Rattle.time_known.specs.Config.{has_offset};
 ghost use Rattle.time_known.specs.Iso8601.{iso_offset, iso_offset_of_fields, iso_minutes};
-ghost use Rattle.time_known.specs.Iso8601Parts.{part_text, part_width};
+ghost use Rattle.time_known.specs.Iso8601Parts.{part_if, width_if};
 ghost use Rattle.time_known.specs.Iso8601Width.{minutes_width, iso_offset_width};
 ghost use Rattle.time_known.specs.Sink.{Fits};
 
@@ -50,22 +52,25 @@ pub fn format_offset<V: ComponentProvider>(
     }
 }
 
-// Puts the offset, if there is one.
+// Puts the offset, if it is formatted.
 #[inline(always)]
-pub(super) fn put_offset_part<S: Sink>(
+pub(super) fn put_offset_part<S: Sink, V: ComponentProvider>(
     output: &mut S,
     config: &Config,
-    offset: &Option<OffsetFields>,
+    value: &V,
 ) -> Result<(), OutOfRange>
-    requires room { Fits (part_width (λ _. iso_offset_width config.now) offset.now)
+    requires supplied { IsTrue (V.SUPPLIES_OFFSET || not (has_offset config.now.formatted_components)) }
+    requires room { Fits (width_if (has_offset config.now.formatted_components) (iso_offset_width config.now))
         (S.buffer output.old) }
-    ensures puts { PutsOutcome (part_width (λ _. iso_offset_width config.now) offset.now)
+    ensures puts { PutsOutcome (width_if (has_offset config.now.formatted_components) (iso_offset_width config.now))
         (S.buffer output.old) (S.buffer output.new) result
-        (part_text (iso_offset_of_fields config.now) offset.now) }
+        (part_if (has_offset config.now.formatted_components) (iso_offset config.now (the_offset (V.facts value.now)))) }
+    ensures real { IsTrue (has_offset config.now.formatted_components) → IsOffset (the_offset (V.facts value.now)) }
 {
-    match offset {
-        Some(offset) => put_offset_by(output, config, offset),
-        None => Ok(()),
+    if config.has_offset() {
+        put_offset_by(output, config, &offset_of(value))
+    } else {
+        Ok(())
     }
 }
 

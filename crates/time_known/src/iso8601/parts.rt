@@ -7,89 +7,49 @@ ghost use Rattle.time_provide.specs.Real.{AgreesOnDate, AreReal};
 ghost use Rattle.time_known.specs.Config.{groups_of};
 ghost use Rattle.time_known.specs.Groups.{are_supplied};
 ghost use Rattle.time_known.specs.Iso8601.{iso8601_outcome, iso_date, iso_time};
-ghost use Rattle.time_known.specs.Iso8601Parts.{chosen_parts, date_parts, parts_text, parts_width, shown_date, shown_parts};
+ghost use Rattle.time_known.specs.Iso8601Parts.{date_parts, parts_text, parts_width, shown_date};
 ghost use Rattle.time_known.specs.Iso8601Width.{iso8601_width, iso_date_width, iso_time_width};
 ghost use Rattle.time_known.specs.Sink.{Fits};
-ghost use Rattle.time_known.specs.Accepted.{AppendsAllOrNone, AppendsOrRefuses, PutsOutcome};
+ghost use Rattle.time_known.specs.Accepted.{AppendsAllOrNone, PutsOutcome};
 ghost use Rattle.time_known.specs.Ways.{FitsUnusual, FitsWay};
 
 use crate::accepted::OutOfRange;
 use crate::days::CalendarDay;
-use crate::fields::{OffsetFields, offset_of, time_of};
 use crate::iso8601::config::{Config, DateKind, FormattedComponents, Unusual, Way};
 use crate::iso8601::date::{put_date_part, write_date_by};
 use crate::iso8601::offset::put_offset_part;
 use crate::iso8601::time::{put_time_part, write_time};
 use crate::iso8601::usual_text::{write_usual, write_usual_week};
 use crate::sink::Sink;
-use time_below::Time;
 use time_digits::ru8;
 use time_fmt::Format;
 use time_fmt::writers::{put_back, take_out};
 use time_provide::ComponentProvider;
 use time_provide::ranges::{IsoWeekNumber, Ordinal, Year};
 
-/// The fields of a date by one kind.
+// The fields of a date by one kind.
 #[derive(Clone, Copy)]
-pub struct DateParts {
-    /// The year of the calendar, or of the week calendar.
-    pub year: Year,
-    /// What follows it.
-    pub rest: RestOfDate,
+pub(super) struct DateParts {
+    // The year of the calendar, or of the week calendar.
+    pub(super) year: Year,
+    // What follows it.
+    pub(super) rest: RestOfDate,
 }
 
-/// What follows the year in a date.
+// What follows the year in a date.
 #[derive(Clone, Copy)]
-pub enum RestOfDate {
-    /// The month and the day.
+pub(super) enum RestOfDate {
+    // The month and the day.
     MonthAndDay(CalendarDay),
-    /// The week, and the weekday from 1 for Monday.
+    // The week, and the weekday from 1 for Monday.
     WeekAndWeekday {
         week: IsoWeekNumber,
         weekday: ru8<1, 7>,
     },
-    /// The day of the year.
+    // The day of the year.
     DayOfYear {
         day: Ordinal,
     },
-}
-
-/// The fields of the parts of a text, each where it is written.
-#[derive(Clone, Copy)]
-pub struct Parts {
-    /// The date.
-    pub date: Option<DateParts>,
-    /// The time of day.
-    pub time: Option<Time>,
-    /// The offset.
-    pub offset: Option<OffsetFields>,
-}
-
-/// Puts the parts, one after another, up to the component that has no place, and returns that one.
-#[inline(always)]
-pub fn put_parts<S: Sink>(output: &mut S, config: &Config, parts: &Parts) -> Result<(), OutOfRange>
-    requires room { Fits (parts_width config.now parts.now) (S.buffer output.old) }
-    ensures puts { PutsOutcome (parts_width config.now parts.now)
-        (S.buffer output.old) (S.buffer output.new) result (parts_text config.now parts.now) }
-{
-    put_date_part(output, config, &parts.date)?;
-    put_time_part(output, config, &parts.time);
-    put_offset_part(output, config, &parts.offset)
-}
-
-// Appends the parts, or the bytes before a refusal. Takes no memory. The configuration is copied first, so that no
-// byte that is written may change it.
-#[inline(always)]
-fn append_parts(config: &Config, output: &mut Vec<u8>, parts: &Parts) -> Result<(), OutOfRange>
-    requires room { HasRoom output.old (parts_width config.now parts.now) }
-    ensures appends { AppendsOrRefuses (parts_width config.now parts.now) output.old output.new
-        result (parts_text config.now parts.now) }
-{
-    let config = *config;
-    let mut taken = take_out(output);
-    let answer = put_parts(&mut taken, &config, parts);
-    put_back(output, taken);
-    answer
 }
 
 // The fields of the value's date by this kind.
@@ -133,33 +93,50 @@ pub(super) fn date_of<V: ComponentProvider>(
     }
 }
 
-/// The parts of the value that the configuration formats.
+/// Puts the parts of the value that the configuration formats, one after another, up to what has no place.
 #[inline(always)]
-pub fn parts_of<V: ComponentProvider>(config: &Config, value: &V, state: &mut V::State) -> Parts
+pub fn put_parts<S: Sink, V: ComponentProvider>(
+    output: &mut S,
+    config: &Config,
+    value: &V,
+    state: &mut V::State,
+) -> Result<(), OutOfRange>
+    requires some { config.now.formatted_components ≢ FormattedComponents.None }
     requires supplied { IsTrue (are_supplied (groups_of config.now.formatted_components)
         V.SUPPLIES_DATE V.SUPPLIES_TIME V.SUPPLIES_OFFSET) }
+    requires room { Fits (iso8601_width config.now) (S.buffer output.old) }
     requires agrees { V.agrees state.old value.now }
-    ensures parts { shown_parts result ≡ chosen_parts config.now (V.facts value.now) }
-    ensures real { config.now.formatted_components ≡ FormattedComponents.DateTimeOffset
-        → AreReal (V.facts value.now) }
+    ensures puts { PutsOutcome (iso8601_width config.now) (S.buffer output.old) (S.buffer output.new) result
+        (iso8601_outcome config.now (V.facts value.now)) }
+    ensures real { OnOk result (config.now.formatted_components ≡ FormattedComponents.DateTimeOffset
+        → AreReal (V.facts value.now)) }
     ensures agrees { V.agrees state.new value.now }
 {
-    let date = if config.has_date() {
-        Some(date_of(config.date_kind(), value, state))
-    } else {
-        None
-    };
-    let time = if config.has_time() {
-        Some(time_of(value, state))
-    } else {
-        None
-    };
-    let offset = if config.has_offset() {
-        Some(offset_of(value))
-    } else {
-        None
-    };
-    Parts { date, time, offset }
+    put_each_part(output, config, value, state)
+}
+
+// Puts each part that is formatted, up to what has no place.
+#[inline(always)]
+fn put_each_part<S: Sink, V: ComponentProvider>(
+    output: &mut S,
+    config: &Config,
+    value: &V,
+    state: &mut V::State,
+) -> Result<(), OutOfRange>
+    requires supplied { IsTrue (are_supplied (groups_of config.now.formatted_components)
+        V.SUPPLIES_DATE V.SUPPLIES_TIME V.SUPPLIES_OFFSET) }
+    requires room { Fits (parts_width config.now.formatted_components config.now) (S.buffer output.old) }
+    requires agrees { V.agrees state.old value.now }
+    ensures puts { PutsOutcome (parts_width config.now.formatted_components config.now)
+        (S.buffer output.old) (S.buffer output.new) result
+        (parts_text config.now.formatted_components config.now (V.facts value.now)) }
+    ensures real { OnOk result (config.now.formatted_components ≡ FormattedComponents.DateTimeOffset
+        → AreReal (V.facts value.now)) }
+    ensures agrees { V.agrees state.new value.now }
+{
+    put_date_part(output, config, value, state)?;
+    put_time_part(output, config, value, state);
+    put_offset_part(output, config, value)
 }
 
 // Appends the parts that are formatted, of a value that supplies their groups. A configuration that
@@ -198,7 +175,8 @@ pub(super) fn write_parts<V: ComponentProvider>(
     }
 }
 
-// Appends the parts that are formatted, by any configuration that formats something.
+// Appends the parts that are formatted, by any configuration that formats something. It is copied first, so that no
+// byte that is written may change it.
 #[inline(never)]
 fn write_each<V: ComponentProvider>(
     config: &Config,
@@ -211,14 +189,17 @@ fn write_each<V: ComponentProvider>(
         V.SUPPLIES_DATE V.SUPPLIES_TIME V.SUPPLIES_OFFSET) }
     requires room { HasRoom output.old (iso8601_width config.now) }
     requires agrees { V.agrees state.old value.now }
-    ensures appends { AppendsOrRefuses (iso8601_width config.now) output.old output.new result
-        (iso8601_outcome config.now (V.facts value.now)) }
-    ensures real { config.now.formatted_components ≡ FormattedComponents.DateTimeOffset
-        → AreReal (V.facts value.now) }
+    ensures puts { PutsOutcome (iso8601_width config.now) (⟦<Vec<u8> as Sink>⟧.buffer output.old)
+        (⟦<Vec<u8> as Sink>⟧.buffer output.new) result (iso8601_outcome config.now (V.facts value.now)) }
+    ensures real { OnOk result (config.now.formatted_components ≡ FormattedComponents.DateTimeOffset
+        → AreReal (V.facts value.now)) }
     ensures agrees { V.agrees state.new value.now }
 {
-    let parts = parts_of(config, value, state);
-    append_parts(config, output, &parts)
+    let config = *config;
+    let mut taken = take_out(output);
+    let answer = put_parts(&mut taken, &config, value, state);
+    put_back(output, taken);
+    answer
 }
 
 // Appends by the function that the configuration decided, where nothing of the value is refused. It may refuse what

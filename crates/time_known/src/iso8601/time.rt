@@ -1,15 +1,16 @@
 //! The time of day of a text of ISO 8601-1:2019, section 5.3.
 #![tactic(auto, using(crate::proofs::LengthLemmas::joined_lengths))]
 
-ghost use Rattle.std.specs.Prelude.{◌≡◌, Ok, ◌+◌, ◌*◌, ◌<◌, ◌≤◌, ◌++◌, length, IsTrue};
+ghost use Rattle.std.specs.Prelude.{◌≡◌, Ok, ◌+◌, ◌*◌, ◌<◌, ◌≤◌, ◌++◌, [], length, IsTrue, not, ◌||◌, if◌then◌else◌};
 ghost use Rattle.time_below.specs.Facts.{the_time};
+ghost use Rattle.time_below.specs.TimeOfDay.{IsTimeOfDay};
 ghost use Rattle.time_digits.specs.Digits.{zero_padded};
 ghost use Rattle.time_fmt.specs.Outcome.{AppendsUpTo};
 ghost use Rattle.time_fmt.specs.Room.{HasRoom};
 ghost use Rattle.time_provide.specs.Real.{AgreesOnTime};
-ghost use Rattle.time_known.specs.Config.{has_time_letter, separator};
+ghost use Rattle.time_known.specs.Config.{has_time, has_time_letter, separator};
 ghost use Rattle.time_known.specs.Iso8601.{iso_time, iso_time_text, decimal_part, units_text, nanoseconds_of_hour, nanoseconds_of_minute};
-ghost use Rattle.time_known.specs.Iso8601Parts.{part_width, time_part_text};
+ghost use Rattle.time_known.specs.Iso8601Parts.{width_if};
 ghost use Rattle.time_known.specs.Iso8601Width.{iso_time_width, decimal_part_width, units_width};
 ghost use Rattle.time_known.specs.Sink.{Fits, PutsUpTo};
 ghost use Rattle.time_known.specs.WellKnown.{clock_text};
@@ -78,16 +79,27 @@ pub(super) fn write_time<V: ComponentProvider>(
     count
 }
 
-// Puts the time, if there is one.
+// Puts the time, if it is formatted.
 #[inline(always)]
-pub(super) fn put_time_part<S: Sink>(output: &mut S, config: &Config, time: &Option<Time>)
-    requires room { Fits (part_width (λ _. iso_time_width config.now) time.now)
+pub(super) fn put_time_part<S: Sink, V: ComponentProvider>(
+    output: &mut S,
+    config: &Config,
+    value: &V,
+    state: &mut V::State,
+)
+    requires supplied { IsTrue (V.SUPPLIES_TIME || not (has_time config.now.formatted_components)) }
+    requires room { Fits (width_if (has_time config.now.formatted_components) (iso_time_width config.now))
         (S.buffer output.old) }
-    ensures puts { PutsUpTo (part_width (λ _. iso_time_width config.now) time.now)
-        (S.buffer output.old) (S.buffer output.new) (time_part_text config.now time.now) }
+    requires agrees { V.agrees state.old value.now }
+    ensures puts { PutsUpTo (width_if (has_time config.now.formatted_components) (iso_time_width config.now))
+        (S.buffer output.old) (S.buffer output.new)
+        (if has_time config.now.formatted_components then iso_time_text config.now (the_time (V.facts value.now)) else []) }
+    ensures real { IsTrue (has_time config.now.formatted_components) → IsTimeOfDay (the_time (V.facts value.now)) }
+    ensures agrees { V.agrees state.new value.now }
 {
-    if let Some(time) = time {
-        put_time::<S, false>(output, config, config.has_time_letter(), *time);
+    if config.has_time() {
+        let time = time_of(value, state);
+        put_time::<S, false>(output, config, config.has_time_letter(), time);
     }
 }
 

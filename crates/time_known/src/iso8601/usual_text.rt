@@ -10,19 +10,16 @@ ghost use Rattle.time_provide.specs.Real.{AreReal};
 ghost use Rattle.time_known.specs.Accepted.{AppendsAllOrNone};
 ghost use Rattle.time_known.specs.Fields.{date_of_fields, offset_of_fields, shown};
 ghost use Rattle.time_known.specs.Groups.{AreAllSupplied, at_groups};
-ghost use Rattle.time_known.specs.Iso8601.{decimal_part, iso_of_groups, rest_text};
+ghost use Rattle.time_known.specs.Iso8601.{decimal_part, iso_of_groups, week_text};
 ghost use Rattle.time_known.specs.Iso8601Width.{decimal_part_width, iso8601_width};
 ghost use Rattle.time_known.specs.Sink.{Fits, Puts, PutsUpTo};
 ghost use Rattle.time_known.specs.Stamps.{stamp_length, stamp_of_fields};
 ghost use Rattle.time_known.specs.UsualText.{usual_choices, usual_of_fields, usual_time_text, week_choices, week_of_fields};
 
-use crate::accepted::OutOfRange;
-use crate::fields::{
-    Fields, OffsetFields, accepted_fields, accepted_year_of_week, offset_of, time_of,
-};
+use crate::accepted::{OutOfRange, accepted_year};
+use crate::fields::{Fields, OffsetFields, accepted_fields, offset_of, time_of};
 use crate::iso8601::config::{Config, DecimalSign, Usual};
 use crate::iso8601::date::put_week;
-use crate::iso8601::parts::RestOfDate;
 use crate::iso8601::time::{NANOSECONDS_PER_SECOND, put_to_second};
 use crate::pieces::piece;
 use crate::put::{
@@ -87,7 +84,8 @@ pub(super) fn write_usual_week<V: ComponentProvider>(
     ensures agrees { V.agrees state.new value.now }
 {
     let offset = offset_of(value);
-    match accepted_year_of_week(&offset, value, state) {
+    let number = value.iso_year(state).get();
+    match accepted_year(0, 25, number, offset.hours, offset.seconds.get()) {
         Ok(year) => {
             let text = WeekText {
                 usual: *usual,
@@ -236,25 +234,15 @@ fn put_usual_week<S: Sink>(output: &mut S, text: &WeekText, dash: &str, colon: &
         + decimal_part_width text.now.usual.decimal_digits) (S.buffer output.old) }
     ensures puts { PutsUpTo (20 + 2 * length dash.now + 3 * length colon.now
         + decimal_part_width text.now.usual.decimal_digits) (S.buffer output.old) (S.buffer output.new)
-        ((zero_padded 4 text.now.year ++ rest_text dash.now (RestOfDate.WeekAndWeekday text.now.week text.now.weekday))
+        ((zero_padded 4 text.now.year ++ week_text dash.now text.now.week text.now.weekday)
         ++ usual_time_text colon.now text.now.usual.decimal_sign text.now.usual.decimal_digits
         text.now.time
         ++ offset_of_fields colon.now text.now.offset) }
 {
-    put_week_date(output, text, dash);
-    put_usual_time(output, &text.usual, text.time, colon);
-    put_offset(output, &text.offset, colon);
-}
-
-// Puts four digits of the year, the week and the weekday.
-#[inline(always)]
-fn put_week_date<S: Sink>(output: &mut S, text: &WeekText, dash: &str)
-    requires room { Fits (8 + 2 * length dash.now) (S.buffer output.old) }
-    ensures puts { PutsUpTo (8 + 2 * length dash.now) (S.buffer output.old) (S.buffer output.new)
-        (zero_padded 4 text.now.year ++ rest_text dash.now (RestOfDate.WeekAndWeekday text.now.week text.now.weekday)) }
-{
     put_four_digits(output, text.year);
     put_week(output, dash, text.week.expand(), text.weekday.expand());
+    put_usual_time(output, &text.usual, text.time, colon);
+    put_offset(output, &text.offset, colon);
 }
 
 // Puts the time, and decimals of its second.

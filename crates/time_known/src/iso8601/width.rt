@@ -1,14 +1,12 @@
 //! The most bytes of a text, which its configuration decides.
-ghost use Rattle.std.specs.Prelude.{◌≡◌, ◌+◌, ◌≤◌};
-ghost use Rattle.time_known.specs.Iso8601Parts.{date_parts_width, parts_width};
-ghost use Rattle.time_known.specs.Iso8601Width.{iso8601_width, iso_date_width, iso_time_width, iso_offset_width, year_width, width_after_year, units_width, decimal_part_width};
+ghost use Rattle.std.specs.Prelude.{◌≡◌, ◌≤◌};
+ghost use Rattle.time_known.specs.Iso8601Width.{iso8601_width, iso_date_width, iso_time_width, iso_offset_width, units_width, decimal_part_width};
 ghost use Rattle.time_known.specs.UsualText.{usual_choices};
 ghost use Rattle.time_known.specs.Ways.{FitsWay};
 
 use crate::iso8601::config::{
     Config, DateKind, FormattedComponents, OffsetPrecision, TimePrecision, Usual, Way,
 };
-use crate::iso8601::parts::{DateParts, Parts, RestOfDate};
 use time_digits::ru8;
 
 impl Way {
@@ -22,59 +20,6 @@ impl Way {
             Way::Usual(usual) => usual.width(),
             Way::Unusual(_) => config.width(),
         }
-    }
-}
-
-// Returns the most bytes of a date of this kind, whatever kind the configuration has.
-fn width_by(config: &Config, kind: DateKind) -> usize
-    ensures width { result ≡ year_width config.now.year_is_six_digits + width_after_year kind config.now }
-    ensures most { result ≤ 13 }
-{
-    let year = if config.year_is_six_digits() { 7 } else { 4 };
-    let dash = config.separator("-").len();
-    let rest = match kind {
-        DateKind::Calendar | DateKind::Week => 4 + 2 * dash,
-        DateKind::Ordinal => 3 + dash,
-    };
-    year + rest
-}
-
-impl DateParts {
-    // Returns the most bytes of the date, by the kind of its fields.
-    fn width(&self, config: &Config) -> usize
-        ensures width { result ≡ date_parts_width config.now self.now }
-        ensures most { result ≤ 13 }
-    {
-        match self.rest {
-            RestOfDate::MonthAndDay(_) => width_by(config, DateKind::Calendar),
-            RestOfDate::WeekAndWeekday { .. } => width_by(config, DateKind::Week),
-            RestOfDate::DayOfYear { .. } => width_by(config, DateKind::Ordinal),
-        }
-    }
-}
-
-impl Parts {
-    /// Returns the most bytes of the parts that are there, by this configuration: at most 284. This is
-    /// the room that `put_parts` needs.
-    pub fn width(&self, config: &Config) -> usize
-        ensures width { result ≡ parts_width config.now self.now }
-        ensures most { result ≤ 284 }
-    {
-        let date = match &self.date {
-            Some(date) => date.width(config),
-            None => 0,
-        };
-        let time = if self.time.is_some() {
-            config.time_width()
-        } else {
-            0
-        };
-        let offset = if self.offset.is_some() {
-            config.offset_width()
-        } else {
-            0
-        };
-        date + time + offset
     }
 }
 
@@ -104,7 +49,13 @@ impl Config {
         ensures width { result ≡ iso_date_width self.now }
         ensures most { result ≤ 13 }
     {
-        width_by(self, self.date_kind())
+        let year = if self.year_is_six_digits() { 7 } else { 4 };
+        let dash = self.separator("-").len();
+        let rest = match self.date_kind() {
+            DateKind::Calendar | DateKind::Week => 4 + 2 * dash,
+            DateKind::Ordinal => 3 + dash,
+        };
+        year + rest
     }
 
     /// Returns the most bytes of the time by this configuration, 2 to 265: the spare capacity that

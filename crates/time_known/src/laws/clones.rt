@@ -11,9 +11,6 @@ ghost use Rattle.time_known.specs.declared.iso8601.config.FormattedComponents.{F
 ghost use Rattle.time_known.specs.declared.iso8601.config.OffsetPrecision.{OffsetPrecision};
 ghost use Rattle.time_known.specs.declared.iso8601.config.TimePrecision.{TimePrecision};
 ghost use Rattle.time_known.specs.declared.iso8601.config.Usual.{Usual};
-ghost use Rattle.time_known.specs.declared.iso8601.parts.DateParts.{DateParts};
-ghost use Rattle.time_known.specs.declared.iso8601.parts.Parts.{Parts};
-ghost use Rattle.time_known.specs.declared.iso8601.parts.RestOfDate.{RestOfDate};
 ghost use Rattle.time_known.specs.declared.iso8601.usual_text.SeparatedText.{SeparatedText};
 ghost use Rattle.time_known.specs.declared.iso8601.usual_text.StampText.{StampText};
 ghost use Rattle.time_known.specs.declared.rfc2822.Rfc2822Text.{Rfc2822Text};
@@ -40,9 +37,6 @@ pub fn clones_of_fields()
     ensures calendar_day { (a b : CalendarDay) → ⟦<days::CalendarDay as Clone>⟧.is_clone a b → b ≡ a }
     ensures offset_fields { (a b : OffsetFields) → ⟦<fields::OffsetFields as Clone>⟧.is_clone a b → b ≡ a }
     ensures fields { (a b : Fields) → ⟦<fields::Fields as Clone>⟧.is_clone a b → b ≡ a }
-    ensures date_parts { (a b : DateParts) → ⟦<iso8601::DateParts as Clone>⟧.is_clone a b → b ≡ a }
-    ensures rest_of_date { (a b : RestOfDate) → ⟦<iso8601::RestOfDate as Clone>⟧.is_clone a b → b ≡ a }
-    ensures parts { (a b : Parts) → ⟦<iso8601::Parts as Clone>⟧.is_clone a b → b ≡ a }
 {}
 
 /// Clones of texts that are not written yet.

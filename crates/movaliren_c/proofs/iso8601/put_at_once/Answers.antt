@@ -1,7 +1,7 @@
 use Rattle.std.proofs.Common.{ℕ, List, ◌≡◌, ◌++◌, ◌∙◌, ap, ap₂, arith, drop, length, rules, sym, take}
 use Rattle.std.proofs.lemmas.Grind.{common_steps}
 use Rattle.std.proofs.lemmas.List.{take-append-drop}
-use Rattle.time_known.specs.Iso8601Parts.{parts_text}
+use Rattle.time_known.specs.Iso8601.{iso8601_of}
 use Rattle.time_known.specs.Sink.{Buffer}
 use Rattle.movaliren_c.proofs.iso8601.put_at_once.Goals as goal
 
@@ -10,7 +10,7 @@ returns-in-Ok-clause-text c =
     let put = c.in-Ok.ensures.puts in
     let start = c.new-sink.ensures in
     let new = c.put_parts.new.output in
-    let text = (parts_text c.args.config.now c.args.parts.now).bytes in
+    let text = (iso8601_of c.args.config.now c.args.value.now).bytes in
     let same : c.room-1.given.0 ≡ new.room.now = first_of (search rules, grind (arith, common_steps), cc) in
     let front : take new.len new.room.now ≡ text =
     put.puts.put ∙ ap (λ (b : Buffer). b.bytes ++ text) start in
