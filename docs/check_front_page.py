@@ -13,7 +13,7 @@ TOP = pathlib.Path(__file__).resolve().parent.parent
 RECIPES = [
     "crates/time_known_tests/src/recipes.rt",
     "crates/time_describe_tests/src/recipes.rt",
-    "crates/time_plan_tests/src/recipes.rt",
+    "crates/time_describe_tests/src/plans/recipes.rt",
     "crates/time_log_tests/src/recipes.rt",
     "crates/time_read_tests/src/recipes.rt",
     "crates/time_upper_tests/src/recipes.rt",

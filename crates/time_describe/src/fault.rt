@@ -3,7 +3,7 @@ ghost use Rattle.std.specs.Prelude.{◌≡◌};
 ghost use Rattle.time_describe.specs.declared.fault.Failure.TheVariants.{OutOfMemory, Invalid};
 
 use crate::literal::MOST_ITEMS;
-use std::alloc::{AllocError, AllocFailed};
+use std::alloc::AllocError;
 use thiserror::Error;
 
 /// What is wrong at a place of a text in brackets. Each variant names the byte whose index an
@@ -49,7 +49,7 @@ pub enum Reason {
 }
 
 /// What is wrong, and where.
-#[derive(Clone, Copy, Debug, PartialEq, Eq)]
+#[derive(Clone, Copy)]
 pub struct Fault {
     /// What is wrong.
     pub reason: Reason,
@@ -58,7 +58,7 @@ pub struct Fault {
 }
 
 /// Why nothing was made of a text.
-#[derive(Clone, Copy, Debug, PartialEq, Eq)]
+#[derive(Clone, Copy)]
 pub enum Failure {
     /// An allocation failed.
     OutOfMemory,
@@ -70,14 +70,6 @@ impl From<AllocError> for Failure {
     ghost from_gives = { λ _ e. e ≡ OutOfMemory };
 
     fn from(_error: AllocError) -> Failure {
-        Failure::OutOfMemory
-    }
-}
-
-impl<T: Drop> From<AllocFailed<T>> for Failure {
-    ghost from_gives = { λ _ e. e ≡ OutOfMemory };
-
-    fn from(_error: AllocFailed<T>) -> Failure {
         Failure::OutOfMemory
     }
 }

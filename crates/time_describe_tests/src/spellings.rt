@@ -1,5 +1,5 @@
 //! Each component by both of its texts, which `docs/COMPONENTS.md` shows.
-use crate::texts::{WEDNESDAY, assert_formats, in_brackets, in_percents};
+use crate::texts::{WEDNESDAY, assert_in_brackets, assert_in_percents};
 
 /// Rows of a component in brackets, its conversion of strftime or nothing, and the text of 1997-11-12 9:55:06.12
 /// -6:00 that the component's row in `docs/COMPONENTS.md` has, with the choices of that row.
@@ -60,11 +60,9 @@ const SPELLINGS: &[(&str, &str, &str)] = &[
 #[test]
 fn each_component_has_its_text_in_both_syntaxes(rt: HostRuntime) {
     for &(brackets, percents, wanted) in SPELLINGS {
-        let item = in_brackets(&rt, rt.alloc(), brackets);
-        assert_formats(&rt, rt.alloc(), &item, WEDNESDAY, wanted);
+        assert_in_brackets(&rt, rt.alloc(), (brackets, WEDNESDAY, wanted));
         if !percents.is_empty() {
-            let item = in_percents(&rt, rt.alloc(), percents);
-            assert_formats(&rt, rt.alloc(), &item, WEDNESDAY, wanted);
+            assert_in_percents(&rt, rt.alloc(), (percents, WEDNESDAY, wanted));
         }
     }
 }

@@ -3,7 +3,7 @@
 use std::alloc::{AllocError, Global};
 use std::convert::TryFrom;
 use std::default::Default;
-use std::fmt::Display;
+use std::fmt::{Debug, Display};
 use std::process::Abort;
 use time_below::format_description::OwnedFormatItem;
 use time_below::{Date, Month, OffsetDateTime, Time, UtcOffset};
@@ -21,6 +21,9 @@ pub(crate) type Row = (&'static str, Numbers, &'static str);
 
 /// 1997-11-12 9:55:06.12 -6:00, a Wednesday.
 pub(crate) const WEDNESDAY: Numbers = ((1997, 11, 12), (9, 55, 6, 120_000_000), (-6, 0, 0));
+
+/// 1997-11-12 9:55:06.123456789 -6:30, a Wednesday.
+pub(crate) const EXAMPLE: Numbers = ((1997, 11, 12), (9, 55, 6, 123_456_789), (-6, -30, 0));
 
 /// The moment of the numbers, if there is one.
 fn moment_of(
@@ -50,7 +53,7 @@ pub(crate) fn moment(rt: &impl Abort, numbers: Numbers) -> OffsetDateTime {
 }
 
 /// The description in brackets that a text is.
-pub(crate) fn in_brackets(rt: &impl Abort, alloc: Global, text: &str) -> OwnedFormatItem {
+fn in_brackets(rt: &impl Abort, alloc: Global, text: &str) -> OwnedFormatItem {
     match parse_owned(alloc, text.as_bytes()) {
         Ok(item) => item,
         Err(_) => panic!(rt; "{text}"),
@@ -58,7 +61,7 @@ pub(crate) fn in_brackets(rt: &impl Abort, alloc: Global, text: &str) -> OwnedFo
 }
 
 /// The description in the syntax of strftime that a text is.
-pub(crate) fn in_percents(rt: &impl Abort, alloc: Global, text: &str) -> OwnedFormatItem {
+fn in_percents(rt: &impl Abort, alloc: Global, text: &str) -> OwnedFormatItem {
     match parse_strftime_owned(alloc, text.as_bytes()) {
         Ok(item) => item,
         Err(_) => panic!(rt; "{text}"),
@@ -86,38 +89,71 @@ pub(crate) fn repeated(alloc: Global, bytes: &[u8], times: usize) -> Result<Vec<
     bytes.repeat(alloc, times)
 }
 
+/// One comparison for all types, so that no test proves it again.
+pub(crate) fn assert_same<T: PartialEq + Debug + Copy>(rt: &impl Abort, found: T, wanted: T) {
+    assert_eq!(rt; found, wanted);
+}
+
 /// Compares what a description formats of a moment with a text.
-pub(crate) fn assert_formats(
+pub(crate) fn assert_formats<D: Formattable>(
     rt: &impl Abort,
     alloc: Global,
-    item: &OwnedFormatItem,
+    description: &D,
     numbers: Numbers,
     wanted: &str,
 ) {
-    match item.format(alloc, &moment(rt, numbers), &mut DateState::default()) {
-        Ok(text) => assert_eq!(rt; text.as_str(), wanted),
+    match description.format(alloc, &moment(rt, numbers), &mut DateState::default()) {
+        Ok(text) => assert_same(rt, text.as_str(), wanted),
         Err(refusal) => panic!(rt; "{wanted}: {refusal}"),
     }
 }
 
+/// Compares what a description appends of a moment, and the number of bytes that it returns, with bytes.
+pub(crate) fn assert_appends<D: Formattable>(
+    rt: &impl Abort,
+    alloc: Global,
+    description: &D,
+    numbers: Numbers,
+    wanted: &[u8],
+) {
+    let mut output = Vec::new(alloc);
+    match description.format_into(&mut output, &moment(rt, numbers), &mut DateState::default()) {
+        Ok(count) => {
+            assert_same(rt, output.as_slice(), wanted);
+            assert_same(rt, count, wanted.len());
+        }
+        Err(refusal) => panic!(rt; "{refusal}"),
+    }
+}
+
+/// Compares what a description in brackets formats with a text.
+pub(crate) fn assert_in_brackets(rt: &impl Abort, alloc: Global, (text, numbers, wanted): Row) {
+    assert_formats(rt, alloc, &in_brackets(rt, alloc, text), numbers, wanted);
+}
+
+/// Compares what a description in the syntax of strftime formats with a text.
+pub(crate) fn assert_in_percents(rt: &impl Abort, alloc: Global, (text, numbers, wanted): Row) {
+    assert_formats(rt, alloc, &in_percents(rt, alloc, text), numbers, wanted);
+}
+
 /// Compares what each description in brackets formats with the text of its row.
 pub(crate) fn assert_brackets(rt: &impl Abort, alloc: Global, rows: &[Row]) {
-    for &(text, numbers, wanted) in rows {
-        assert_formats(rt, alloc, &in_brackets(rt, alloc, text), numbers, wanted);
+    for row in rows {
+        assert_in_brackets(rt, alloc, *row);
     }
 }
 
 /// Compares what each description in the syntax of strftime formats with the text of its row.
 pub(crate) fn assert_percents(rt: &impl Abort, alloc: Global, rows: &[Row]) {
-    for &(text, numbers, wanted) in rows {
-        assert_formats(rt, alloc, &in_percents(rt, alloc, text), numbers, wanted);
+    for row in rows {
+        assert_in_percents(rt, alloc, *row);
     }
 }
 
 /// Compares what is displayed with a text.
 pub(crate) fn assert_displays<D: Display>(rt: &impl Abort, alloc: Global, shown: &D, wanted: &str) {
     match format!(in alloc; "{shown}") {
-        Ok(text) => assert_eq!(rt; text.as_str(), wanted),
+        Ok(text) => assert_same(rt, text.as_str(), wanted),
         Err(_) => panic!(rt; "{wanted}: no memory"),
     }
 }

@@ -116,14 +116,17 @@ set_last xs n s some is_n =
     ∙ ap (λ (ys : List Step). take n xs ++ s ∷ ys)
     (at_drop_all (λ (ys : List Step). ys) xs (suc n) (omega (arith, some, is_n)))
 
+-- what stands at a place of a list, put there again
+pub put_back : (xs : List Step) (n : ℕ) (s : Step) → s ≡ slice_index_or xs n s → slice_set xs n s ≡ xs
+put_back xs n s is = ap (λ (z : Step). slice_set xs n z) is ∙ set-get_or xs n s
+
 -- a literal put behind what the last step shows, where that step lies
 pub literal_in_place : (xs : List Step) (n : ℕ) (s t : Step) (b : Bool) (bs : List ℕ) → 0 < length xs
     → n ≡ length xs - 1 → s ≡ slice_index_or xs n s → t.shown ≡ s.shown
     → literal_bytes s.literal ≡ [] → s.is_text ≡ true → literal_bytes t.literal ≡ bs → t.is_text ≡ b
     → Extends (step_trees xs) (step_trees (slice_set xs n t)) (literal_tree b bs)
 literal_in_place xs n s t b bs some is_n is_s same no_literal was_text is_literal is_text =
-    let whole : take n xs ++ s ∷ [] ≡ xs = sym (set_last xs n s some is_n)
-    ∙ ap (λ (z : Step). slice_set xs n z) is_s ∙ set-get_or xs n s in
+    let whole : take n xs ++ s ∷ [] ≡ xs = sym (set_last xs n s some is_n) ∙ put_back xs n s is_s in
     let new = sym (set_last xs n t some is_n) in
     subst (λ (ys : List Step). Extends (step_trees ys) (step_trees (slice_set xs n t)) (literal_tree b bs)) whole
     (subst (λ (ys : List Step). Extends (step_trees (take n xs ++ s ∷ [])) (step_trees ys) (literal_tree b bs)) new

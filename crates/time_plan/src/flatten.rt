@@ -1,7 +1,7 @@
 //! The steps of a tree.
 ghost use Rattle.std.specs.Prelude.{◌≡◌, true, OnOk, MatchOption, IsUtf8, map};
 ghost use Rattle.time_below.specs.Tree.{of_component, all_of, trees};
-ghost use Rattle.time_plan.specs.Literal.{literal_bytes, literal_tree};
+ghost use Rattle.time_plan.specs.Literal.{literal_tree};
 ghost use Rattle.time_plan.specs.Shown.{shown_tree};
 ghost use Rattle.time_plan.specs.Steps.{step_trees, Extends};
 
@@ -124,20 +124,13 @@ fn add_literal(
             last.end_with(literal, is_text);
             Ok(())
         }
-        _ => add_alone(steps, literal, is_text),
+        _ => {
+            steps.push(Step {
+                shown: Shown::Run(Run::Empty),
+                literal,
+                is_text,
+            })?;
+            Ok(())
+        }
     }
-}
-
-/// Adds a literal behind no component.
-fn add_alone(steps: &mut Vec<Step>, literal: Literal, is_text: bool) -> Result<(), AllocError>
-    requires utf8 { is_text ≡ true → IsUtf8 (literal_bytes literal) }
-    ensures extends { OnOk result (Extends (step_trees steps.old.items) (step_trees steps.new.items)
-        (literal_tree is_text (literal_bytes literal))) }
-{
-    steps.push(Step {
-        shown: Shown::Run(Run::Empty),
-        literal,
-        is_text,
-    })?;
-    Ok(())
 }

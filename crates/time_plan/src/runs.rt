@@ -40,24 +40,15 @@ fn run_between<T: Node>(
         (more (T.tree second.now) (more (T.tree before_third.now) (more (T.tree third.now) left))))) (run_tree run) left) }
 {
     let first = part_of(first)?;
-    let between = separators_of(before_second, before_third)?;
+    let between = Separators {
+        first: byte_of(before_second)?,
+        second: byte_of(before_third)?,
+    };
     match (first, part_of(second)?, part_of(third)?) {
         (Part::Year, Part::Month, Part::Day) => Some(Run::Date(between)),
         (Part::Hour, Part::Minute, Part::Second) => Some(Run::Time(between)),
         _ => None,
     }
-}
-
-/// The bytes that two nodes are, if each is a text of one.
-#[inline(always)]
-fn separators_of<T: Node>(before_second: &T, before_third: &T) -> Option<Separators>
-    ensures first { IfSome result (λ between. T.tree before_second.now ≡ text_literal (between.first ∷ [])) }
-    ensures second { IfSome result (λ between. T.tree before_third.now ≡ text_literal (between.second ∷ [])) }
-{
-    Some(Separators {
-        first: byte_of(before_second)?,
-        second: byte_of(before_third)?,
-    })
 }
 
 /// The part that a node is, if it is one.

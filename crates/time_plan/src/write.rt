@@ -11,7 +11,7 @@ ghost use Rattle.time_plan.specs.Shown.{run_tree, shown_tree};
 ghost use Rattle.time_plan.specs.Steps.{step_tree, step_trees};
 
 use crate::literal::Literal;
-use crate::shown::{Run, Separators, Shown};
+use crate::shown::{Run, Shown};
 use crate::step::Step;
 use time_fmt::writers::write_bytes;
 use time_fmt::{Refused, Sink, end_component, write_date, write_often, write_time};
@@ -118,52 +118,22 @@ fn write_run<S: Sink, V: ComponentProvider>(
     ensures agrees { V.agrees state.new value.now }
 {
     match run {
-        Run::Time(between) => end_time(*between, output, value, state),
-        Run::Date(between) => end_date(*between, output, value, state),
+        Run::Time(between) => {
+            if !V::SUPPLIES_TIME {
+                return Err(Refused::Unsupplied);
+            }
+            write_time((between.first, between.second), output, value, state);
+            Ok(())
+        }
+        Run::Date(between) => {
+            if !V::SUPPLIES_DATE {
+                return Err(Refused::Unsupplied);
+            }
+            write_date((between.first, between.second), output, value, state);
+            Ok(())
+        }
         Run::Empty => Ok(()),
     }
-}
-
-/// Writes a date. A value without one is refused.
-#[inline(always)]
-fn end_date<S: Sink, V: ComponentProvider>(
-    between: Separators,
-    output: &mut S,
-    value: &V,
-    state: &mut V::State,
-) -> Result<(), Refused>
-    requires room { Fits (S.buffer output.old) (tree_width (run_tree (Run.Date between))) }
-    requires agrees { V.agrees state.old value.now }
-    ensures ends { Ends (tree_width (run_tree (Run.Date between))) (S.buffer output.old) (S.buffer output.new) result
-        (tree_outcome (run_tree (Run.Date between)) (V.facts value.now)) }
-    ensures agrees { V.agrees state.new value.now }
-{
-    if !V::SUPPLIES_DATE {
-        return Err(Refused::Unsupplied);
-    }
-    write_date((between.first, between.second), output, value, state);
-    Ok(())
-}
-
-/// Writes a time of day. A value without one is refused.
-#[inline(always)]
-fn end_time<S: Sink, V: ComponentProvider>(
-    between: Separators,
-    output: &mut S,
-    value: &V,
-    state: &mut V::State,
-) -> Result<(), Refused>
-    requires room { Fits (S.buffer output.old) (tree_width (run_tree (Run.Time between))) }
-    requires agrees { V.agrees state.old value.now }
-    ensures ends { Ends (tree_width (run_tree (Run.Time between))) (S.buffer output.old) (S.buffer output.new) result
-        (tree_outcome (run_tree (Run.Time between)) (V.facts value.now)) }
-    ensures agrees { V.agrees state.new value.now }
-{
-    if !V::SUPPLIES_TIME {
-        return Err(Refused::Unsupplied);
-    }
-    write_time((between.first, between.second), output, value, state);
-    Ok(())
 }
 
 /// Writes any step, or returns the refusal of what it shows.
@@ -208,27 +178,20 @@ fn end_shown<S: Sink, V: ComponentProvider>(
     }
 }
 
-/// Writes the literal behind a component, and returns the number of bytes.
+/// Writes the literal behind a component, and returns the number of bytes. For more than two bytes the sink
+/// is taken out once more.
 #[inline(always)]
 fn write_literal<S: Sink>(output: &mut S, literal: &Literal) -> usize
     requires room { Fits (S.buffer output.old) (length (literal_bytes literal.now)) }
     ensures writes { Puts (S.buffer output.old) (S.buffer output.new) result (literal_bytes literal.now) }
 {
-    match literal {
+    let bytes = match literal {
         Literal::Byte(byte) => {
             output.put_byte(*byte);
-            1
+            return 1;
         }
-        Literal::Bytes(bytes) => write_several(output, bytes),
-    }
-}
-
-/// Writes a literal of any length. The sink is taken out once more.
-#[inline(always)]
-fn write_several<S: Sink>(output: &mut S, bytes: &[u8]) -> usize
-    requires room { Fits (S.buffer output.old) (length bytes.now) }
-    ensures writes { Puts (S.buffer output.old) (S.buffer output.new) result bytes.now }
-{
+        Literal::Bytes(bytes) => bytes.as_slice(),
+    };
     if bytes.is_empty() {
         return 0;
     }

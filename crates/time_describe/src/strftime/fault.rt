@@ -3,7 +3,7 @@ ghost use Rattle.std.specs.Prelude.{◌≡◌};
 ghost use Rattle.time_describe.specs.declared.strftime.fault.Failure.TheVariants.{OutOfMemory, Invalid};
 
 use crate::literal::MOST_ITEMS;
-use std::alloc::{AllocError, AllocFailed};
+use std::alloc::AllocError;
 use thiserror::Error;
 
 /// What is wrong at a place of a text in the syntax of strftime.
@@ -42,7 +42,7 @@ pub enum StrftimeReason {
 }
 
 /// What is wrong, and where.
-#[derive(Clone, Copy, Debug, PartialEq, Eq)]
+#[derive(Clone, Copy)]
 pub struct Fault {
     /// What is wrong.
     pub reason: StrftimeReason,
@@ -51,7 +51,7 @@ pub struct Fault {
 }
 
 /// Why nothing was made of a text.
-#[derive(Clone, Copy, Debug, PartialEq, Eq)]
+#[derive(Clone, Copy)]
 pub enum Failure {
     /// An allocation failed.
     OutOfMemory,

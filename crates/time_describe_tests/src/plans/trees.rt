@@ -1,9 +1,9 @@
 //! The plans of each type of tree.
-use crate::texts::{DAY, MONTH, YEAR, assert_text};
+use super::{DAY, MONTH, YEAR};
+use crate::texts::{EXAMPLE, assert_appends};
 use std::alloc::{AllocError, Global};
-use std::test::Fail;
 use time_below::format_description::{
-    BorrowedFormatItem as Borrowed, FormatDescriptionV3, FormatDescriptionV3Inner as Inner, Node,
+    BorrowedFormatItem as Borrowed, FormatDescriptionV3Inner as Inner, Node,
 };
 use time_plan::{InvalidDescription, Plan};
 
@@ -32,34 +32,34 @@ fn plan_in_brackets(alloc: Global, text: &[u8]) -> Result<Plan, InvalidDescripti
 }
 
 #[test]
-fn a_borrowed_tree_has_its_text(rt: HostRuntime) -> Result<(), Fail> {
+fn a_borrowed_tree_has_its_text(rt: HostRuntime) -> Result<(), AllocError> {
     let plan = plan_of_tree(rt.alloc(), BORROWED)?;
-    assert_text(&rt, rt.alloc(), &plan, b"1997/11/12")
+    assert_appends(&rt, rt.alloc(), &plan, EXAMPLE, b"1997/11/12");
+    Ok(())
 }
 
 #[test]
-fn an_owned_tree_has_its_text(rt: HostRuntime) -> Result<(), Fail> {
+fn an_owned_tree_has_its_text(rt: HostRuntime) -> Result<(), InvalidDescription> {
     let text = b"[first [[year]\xff[month]/[optional [[day]]]] [[day]]]";
     let plan = plan_in_brackets(rt.alloc(), text)?;
-    assert_text(&rt, rt.alloc(), &plan, b"1997\xff11/12")
+    assert_appends(&rt, rt.alloc(), &plan, EXAMPLE, b"1997\xff11/12");
+    Ok(())
+}
+
+/// The plan of a year, a year that is left out, a slash and a month.
+fn plan_of_version_3(alloc: Global) -> Result<Plan, AllocError> {
+    let left_out = Inner::OwnedOptional {
+        format: false,
+        item: Box::new(alloc, Inner::from(YEAR))?,
+    };
+    let slash = Inner::BorrowedLiteral("/");
+    let items = vec![in alloc; Inner::from(YEAR), left_out, slash, Inner::from(MONTH)]?;
+    plan_of_tree(alloc, &Inner::OwnedCompound(items))
 }
 
 #[test]
-fn a_version_3_tree_has_its_text(rt: HostRuntime) -> Result<(), Fail> {
-    let alloc = rt.alloc();
-    let items = vec![in alloc;
-        Inner::from(YEAR),
-        Inner::OwnedOptional {
-            format: false,
-            item: Box::new(alloc, Inner::from(YEAR))?,
-        },
-        Inner::BorrowedLiteral("/"),
-        Inner::OwnedOptional {
-            format: true,
-            item: Box::new(alloc, Inner::from(MONTH))?,
-        },
-    ]?;
-    let description = FormatDescriptionV3::new(Inner::OwnedCompound(items));
-    let plan = plan_of_tree(alloc, description.inner())?;
-    assert_text(&rt, alloc, &plan, b"1997/11")
+fn a_version_3_tree_has_its_text(rt: HostRuntime) -> Result<(), AllocError> {
+    let plan = plan_of_version_3(rt.alloc())?;
+    assert_appends(&rt, rt.alloc(), &plan, EXAMPLE, b"1997/11");
+    Ok(())
 }

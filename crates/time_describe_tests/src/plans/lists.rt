@@ -1,87 +1,11 @@
 //! Worked texts, each by the list and by its plan.
+use super::{DAY, HOUR, MINUTE, MONTH, SECOND, YEAR, plan_of};
+use crate::texts::{EXAMPLE, assert_appends, assert_same};
 use std::alloc::{AllocError, Global};
-use std::default::Default;
-use std::fmt::Debug;
 use std::process::Abort;
-use std::test::Fail;
 use time_below::format_description::modifier::{self, MonthRepr, Padding, YearRange, YearRepr};
 use time_below::format_description::{BorrowedFormatItem as Item, Component};
-use time_below::{Date, Month, OffsetDateTime, Time, UtcOffset};
-use time_fmt::{BorrowedItems, ComputeMetadata, DateState, Formattable, parts};
-use time_plan::Plan;
-
-pub(crate) const YEAR: Component = Component::CalendarYearFullExtendedRange(parts::YEAR);
-
-pub(crate) const MONTH: Component = Component::MonthNumerical(parts::MONTH);
-
-pub(crate) const DAY: Component = Component::Day(parts::DAY);
-
-pub(crate) const HOUR: Component = Component::Hour24(parts::HOUR);
-
-pub(crate) const MINUTE: Component = Component::Minute(parts::MINUTE);
-
-pub(crate) const SECOND: Component = Component::Second(parts::SECOND);
-
-/// One comparison for all types, so that no test proves it again.
-pub(crate) fn assert_same<T: PartialEq + Debug + Copy>(rt: &impl Abort, found: T, wanted: T) {
-    assert_eq!(rt; found, wanted);
-}
-
-/// The date of a day that its month has.
-pub(crate) fn date(rt: &impl Abort, year: i32, month: Month, day: u8) -> Date {
-    let Ok(date) = Date::from_calendar_date(year, month, day) else {
-        panic!(rt; "no such date");
-    };
-    date
-}
-
-/// 1997-11-12 9:55:06.123456789 -06:30, a Wednesday.
-pub(crate) fn example(rt: &impl Abort) -> OffsetDateTime {
-    let Ok(time) = Time::from_hms_nano(9, 55, 6, 123_456_789) else {
-        panic!(rt; "no such time");
-    };
-    let Ok(offset) = UtcOffset::from_hms(-6, -30, 0) else {
-        panic!(rt; "no such offset");
-    };
-    OffsetDateTime::new_in_offset(date(rt, 1997, Month::November, 12), time, offset)
-}
-
-/// The plan of items. No clause is handed on, so that a test proves no more than it compares.
-pub(crate) fn plan_of(alloc: Global, items: &[Item<'_>]) -> Result<Plan, AllocError> {
-    Plan::of_items(alloc, items)
-}
-
-/// Compares the text of the example by a description.
-pub(crate) fn assert_text<D: Formattable>(
-    rt: &impl Abort,
-    alloc: Global,
-    description: &D,
-    wanted: &[u8],
-) -> Result<(), Fail> {
-    let mut output = Vec::new(alloc);
-    let count = description.format_into(&mut output, &example(rt), &mut DateState::default())?;
-    assert_same(rt, output.as_slice(), wanted);
-    assert_same(rt, count, wanted.len());
-    Ok(())
-}
-
-/// Compares the text by a list and by its plan, and the plan's width with that of the list.
-fn assert_list(
-    rt: &impl Abort,
-    alloc: Global,
-    items: &[Item<'_>],
-    wanted: &[u8],
-) -> Result<(), Fail> {
-    let plan = plan_of(alloc, items)?;
-    let list = BorrowedItems(items);
-    assert_same(
-        rt,
-        plan.compute_metadata().max_bytes_needed,
-        list.compute_metadata().max_bytes_needed,
-    );
-    assert_text(rt, alloc, &list, wanted)?;
-    assert_text(rt, alloc, &plan, wanted)
-}
+use time_fmt::{BorrowedItems, ComputeMetadata, parts};
 
 /// An item: a text in bytes, or a component.
 macro_rules! item {
@@ -195,20 +119,29 @@ const NEARLY_DATES: &[(&[Item<'_>], &str)] = &[
     (&[], ""),
 ];
 
-/// Compares each text of a table by the list and by its plan.
-fn assert_lists(rt: &impl Abort, alloc: Global, rows: &[(&[Item<'_>], &str)]) -> Result<(), Fail> {
-    for (items, wanted) in rows {
-        assert_list(rt, alloc, items, wanted.as_bytes())?;
+/// Compares each text of a table by the list and by its plan, and the plan's width with that of the list.
+fn assert_lists(
+    rt: &impl Abort,
+    alloc: Global,
+    rows: &[(&[Item<'_>], &str)],
+) -> Result<(), AllocError> {
+    for &(items, wanted) in rows {
+        let plan = plan_of(alloc, items)?;
+        let list = BorrowedItems(items);
+        let width = plan.compute_metadata().max_bytes_needed;
+        assert_same(rt, width, list.compute_metadata().max_bytes_needed);
+        assert_appends(rt, alloc, &list, EXAMPLE, wanted.as_bytes());
+        assert_appends(rt, alloc, &plan, EXAMPLE, wanted.as_bytes());
     }
     Ok(())
 }
 
 #[test]
-fn a_plan_and_its_list_have_the_text_of_strftime(rt: HostRuntime) -> Result<(), Fail> {
+fn a_plan_and_its_list_have_the_text_of_strftime(rt: HostRuntime) -> Result<(), AllocError> {
     assert_lists(&rt, rt.alloc(), OF_STRFTIME)
 }
 
 #[test]
-fn what_is_nearly_a_date_has_its_own_text(rt: HostRuntime) -> Result<(), Fail> {
+fn what_is_nearly_a_date_has_its_own_text(rt: HostRuntime) -> Result<(), AllocError> {
     assert_lists(&rt, rt.alloc(), NEARLY_DATES)
 }

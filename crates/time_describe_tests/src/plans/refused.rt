@@ -1,9 +1,10 @@
 //! Refusals, and bytes that are no UTF-8.
-use crate::texts::{DAY, HOUR, MINUTE, MONTH, SECOND, YEAR, assert_same, date, example, plan_of};
+use super::{DAY, HOUR, MINUTE, MONTH, SECOND, YEAR, plan_of};
+use crate::texts::{EXAMPLE, assert_appends, assert_formats, assert_same, moment};
 use std::alloc::{AllocError, Global};
 use std::default::Default;
 use std::test::Fail;
-use time_below::Month;
+use time_below::OffsetDateTime;
 use time_below::format_description::{BorrowedFormatItem as Item, Component};
 use time_fmt::{ComputeMetadata, DateState, Format, Formattable, parts};
 use time_plan::Plan;
@@ -54,18 +55,22 @@ fn plan_at_last(alloc: Global) -> Result<Plan, AllocError> {
     }
 }
 
+/// Appends the text of a moment by a plan. No clause is handed on.
+fn append(output: &mut Vec<u8>, plan: &Plan, moment: &OffsetDateTime) -> Result<usize, Format> {
+    plan.format_into(output, moment, &mut DateState::default())
+}
+
 /// Under `rt try --test --fail-alloc N` one allocation fails, and each call here is made once more.
 #[test]
 fn a_failed_allocation_does_not_hinder_the_next_call(rt: HostRuntime) -> Result<(), Fail> {
     let plan = plan_at_last(rt.alloc())?;
-    let value = example(&rt);
+    let moment = moment(&rt, EXAMPLE);
     let mut output = Vec::new(rt.alloc());
-    let mut state = DateState::default();
-    let first = plan.format_into(&mut output, &value, &mut state);
+    let first = append(&mut output, &plan, &moment);
     if first.is_err() {
         assert_same(&rt, matches!(first, Err(Format::OutOfMemory)), true);
         assert_same(&rt, output.len(), 0);
-        plan.format_into(&mut output, &value, &mut state)?;
+        append(&mut output, &plan, &moment)?;
     }
     assert_same(&rt, output.as_slice(), b"1997-11-12 09:55:06".as_slice());
     Ok(())
@@ -74,12 +79,12 @@ fn a_failed_allocation_does_not_hinder_the_next_call(rt: HostRuntime) -> Result<
 #[test]
 fn what_the_value_lacks_is_refused_behind_the_text_before_it(rt: HostRuntime) -> Result<(), Fail> {
     let plan = plan_of(rt.alloc(), DATE_AND_TIME)?;
-    let value = example(&rt);
+    let moment = moment(&rt, EXAMPLE);
     let mut output = Vec::new(rt.alloc());
-    let of_date = plan.format_into(&mut output, &value.date(), &mut DateState::default());
+    let of_date = plan.format_into(&mut output, &moment.date(), &mut DateState::default());
     assert_same(&rt, is_unsupplied(of_date), true);
     assert_same(&rt, output.as_slice(), b"1997-11-12 ".as_slice());
-    let of_time = plan.format_into(&mut output, &value.time(), &mut ());
+    let of_time = plan.format_into(&mut output, &moment.time(), &mut ());
     assert_same(&rt, is_unsupplied(of_time), true);
     assert_same(&rt, output.as_slice(), b"1997-11-12 ".as_slice());
     Ok(())
@@ -88,10 +93,10 @@ fn what_the_value_lacks_is_refused_behind_the_text_before_it(rt: HostRuntime) ->
 #[test]
 fn a_year_past_9999_is_refused_by_its_component(rt: HostRuntime) -> Result<(), Fail> {
     let plan = plan_of(rt.alloc(), DAY_AND_YEAR)?;
-    let date = date(&rt, 10_000, Month::May, 3);
+    let moment = moment(&rt, ((10_000, 5, 3), (0, 0, 0, 0), (0, 0, 0)));
     let mut output = Vec::new(rt.alloc());
-    let of_date = plan.format_into(&mut output, &date, &mut DateState::default());
-    assert_same(&rt, is_out_of_range(of_date), true);
+    let answer = append(&mut output, &plan, &moment);
+    assert_same(&rt, is_out_of_range(answer), true);
     assert_same(&rt, output.as_slice(), b"03/".as_slice());
     Ok(())
 }
@@ -99,12 +104,8 @@ fn a_year_past_9999_is_refused_by_its_component(rt: HostRuntime) -> Result<(), F
 #[test]
 fn bytes_that_are_no_utf_8_are_kept_and_shown(rt: HostRuntime) -> Result<(), Fail> {
     let plan = plan_of(rt.alloc(), DAY_AND_BYTES)?;
-    let value = example(&rt);
-    let mut output = Vec::new(rt.alloc());
-    plan.format_into(&mut output, &value, &mut DateState::default())?;
-    assert_same(&rt, output.as_slice(), b"12\xff\xc3\xa4".as_slice());
-    let text = plan.format(rt.alloc(), &value, &mut DateState::default())?;
-    assert_same(&rt, text.as_str(), "12\u{fffd}\u{e4}");
+    assert_appends(&rt, rt.alloc(), &plan, EXAMPLE, b"12\xff\xc3\xa4");
+    assert_formats(&rt, rt.alloc(), &plan, EXAMPLE, "12\u{fffd}\u{e4}");
     assert_same(&rt, plan.compute_metadata().guaranteed_utf8, false);
     Ok(())
 }
