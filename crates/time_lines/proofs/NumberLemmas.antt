@@ -10,8 +10,8 @@ use Rattle.std.proofs.lemmas.List.Sums.{prefix_len_passes}
 use Rattle.std.specs.Char.{is_ascii_digit}
 use Rattle.std.specs.Str.Parse.{digits_value}
 use Rattle.time_below.specs.Moment.{Moment, IsMoment}
-use Rattle.time_lines.specs.Number.{HasMoment, after_decimals, begins, decimals_of, digit_count, digits_of, first_place, goes_on, has_minus, is_digit_at, moment_after, moment_of, number_at, number_start, with_sign}
-use Rattle.time_lines.specs.Unix.{NumberBecomes, StartBecomes, UnixBecomes}
+use Rattle.time_lines.specs.Number.{HasMoment, after_decimals, begins, decimals_of, digit_count, digits_of, first_place, goes_on, has_minus, is_digit_at, moment_after, moment_of, number_at, with_sign}
+use Rattle.time_lines.specs.Unix.{NumberBecomes}
 use Rattle.std.specs.Prelude.{if◌then◌else◌}
 use Rattle.time_lines.specs.declared.number.Unit.{Unit as UnixUnit}
 
@@ -194,11 +194,3 @@ number_is_replaced shows unit line start first minus digits decimals rest after 
     replaces_named shows (HasMoment unit number) (moment_of unit number) moment number.before number.after line old new r
     (named unit line start minus digits decimals moment spelled same some)
     (none_named unit line start minus digits decimals moment spelled same none) (rw (← before_is, ← after_is) h)
-
--- what the number of a line becomes is what the line becomes where its first number is this one
-pub first_becomes : {E : Type 0} (shows : Moment → Option (List ℕ) → Type 0) (unit : UnixUnit) (least : ℕ) (line : List ℕ)
-    (start : ℕ) (old new : List ℕ) (r : Result Bool E) → number_start least line ≡ Some start
-    → OnOk r (Adds (NumberBecomes shows unit (number_at line start) line) old new)
-    → OnOk r (Adds (UnixBecomes shows unit least line) old new)
-first_becomes shows unit least line start old new r found h =
-    subst (λ s. OnOk r (Adds (StartBecomes shows unit s line) old new)) (sym found) h

@@ -25,7 +25,7 @@ use Rattle.std.proofs.Common.{Option, Some, None}
 use Rattle.std.specs.Prelude.{Result, Ok, Err, OnOk, IfSome, IfNone}
 use Rattle.line_streams.specs.Filter.{Adds}
 use Rattle.time_below.specs.Moment.{Moment, IsMoment}
-use Rattle.time_lines.specs.Read.{IsFirstText, NoText, NoTextBefore, ReadBecomes, moment_of_value, offset_length, tail_length, text_length}
+use Rattle.time_lines.specs.Read.{NoText, NoTextBefore, moment_of_value, offset_length, tail_length, text_length}
 use Rattle.time_lines.specs.Shown.{IsReplaced, Replaces}
 use Rattle.time_lines.proofs.NumberLemmas.{replaces_named}
 
@@ -250,23 +250,15 @@ real : (m : Moment) (named : Option Moment) → IfSome named (λ n. (n ≡ m) ×
 real m None some = some
 real m (Some n) some = (some.0, subst IsMoment some.0 some.1)
 
-becomes : {E : Type 0} (shows : Moment → Option (List ℕ) → Type 0) (line : List ℕ) (at count : ℕ) (v : OffsetDateAndTime)
-    (old new : List ℕ) (r : Result Bool E) → IsFirstText line at count v
-    → OnOk r (Adds (Replaces shows (IsMoment (moment_of_value v)) (moment_of_value v) (take at line)
-    (drop count (drop at line)) line) old new)
-    → OnOk r (Adds (ReadBecomes shows line) old new)
-becomes shows line at count v old new (Ok b) first h = (h.0, h.1, inl (at, count, v, first, h.2))
-becomes shows line at count v old new (Err e) first h = h
-
--- what takes the place of the moment of the first text of a line takes that of the text
-pub first_is_replaced : {E : Type 0} (shows : Moment → Option (List ℕ) → Type 0) (line : List ℕ) (at count : ℕ)
-    (v : OffsetDateAndTime) (moment : Option Moment) (after old new : List ℕ) (r : Result Bool E) → IsFirstText line at count v
+-- what takes the place of the moment of a text of a line takes that of the text
+pub text_is_replaced : {E : Type 0} (shows : Moment → Option (List ℕ) → Type 0) (line : List ℕ) (at count : ℕ)
+    (v : OffsetDateAndTime) (moment : Option Moment) (after old new : List ℕ) (r : Result Bool E)
     → after ≡ drop count (drop at line) → IfSome moment (λ m. (m ≡ moment_of_value v) × IsMoment m)
     → IfNone moment (¬ IsMoment (moment_of_value v))
     → OnOk r (Adds (IsReplaced shows moment (take at line) after line) old new)
-    → OnOk r (Adds (ReadBecomes shows line) old new)
-first_is_replaced shows line at count v moment after old new r first behind some none h =
-    becomes shows line at count v old new r first
-    (replaces_named shows (IsMoment (moment_of_value v)) (moment_of_value v) moment (take at line) (drop count (drop at line))
+    → OnOk r (Adds (Replaces shows (IsMoment (moment_of_value v)) (moment_of_value v) (take at line)
+    (drop count (drop at line)) line) old new)
+text_is_replaced shows line at count v moment after old new r behind some none h =
+    replaces_named shows (IsMoment (moment_of_value v)) (moment_of_value v) moment (take at line) (drop count (drop at line))
     line old new r (real (moment_of_value v) moment some) none
-    (subst (λ a. OnOk r (Adds (IsReplaced shows moment (take at line) a line) old new)) behind h))
+    (subst (λ a. OnOk r (Adds (IsReplaced shows moment (take at line) a line) old new)) behind h)

@@ -3,7 +3,7 @@ ghost use Rattle.std.specs.Prelude.{◌≡◌, ◌+◌, ◌≤◌, length, take,
 ghost use Rattle.line_streams.specs.Filter.{Adds};
 ghost use Rattle.time_below.specs.Moment.{IsMoment};
 ghost use Rattle.time_lines.specs.Read.{IsFirstText, NoText, NoTextBefore, ReadBecomes, moment_of_value, offset_length, tail_length, text_length};
-ghost use Rattle.time_lines.specs.Shown.{SameShown};
+ghost use Rattle.time_lines.specs.Shown.{Replaces, SameShown};
 ghost use Rattle.time_read.specs.Lenient.{Rfc3339Means};
 
 use crate::runs::digit_count;
@@ -109,24 +109,32 @@ fn moment_of_value(value: OffsetDateTime) -> Option<Timestamp>
     }
 }
 
-/// Appends what the line becomes, and says whether a text took the place of its first one.
-fn append_line<S: Shown>(
+/// Appends the line with what is shown of the value of a text of it in place of the text. Says whether a
+/// text took its place.
+fn append_found<S: Shown>(
     shown: &mut S,
-    reader: &mut LenientReader,
     output: &mut Vec<u8>,
     line: &[u8],
+    found: &FoundText,
 ) -> Result<bool, AllocError>
+    requires at { found.now.at ≤ length line.now }
+    requires count { found.now.count ≤ length (drop found.now.at line.now) }
     ensures same { SameShown (S.shows shown.old) (S.shows shown.new) }
-    ensures appended { OnOk result (Adds (ReadBecomes (S.shows shown.old) line.now)
+    ensures appended { OnOk result (Adds (Replaces (S.shows shown.old)
+        (IsMoment (moment_of_value found.now.value)) (moment_of_value found.now.value)
+        (take found.now.at line.now) (drop found.now.count (drop found.now.at line.now)) line.now)
         output.old.items output.new.items) }
 {
-    let Some(found) = first_text(reader, line) else {
-        output.extend_from_slice(line)?;
-        return Ok(false);
-    };
     let rest = &line[found.at..];
     let after = &rest[found.count..];
-    append_replaced(shown, output, line, found.at, after, moment_of_value(found.value))
+    append_replaced(
+        shown,
+        output,
+        line,
+        found.at,
+        after,
+        moment_of_value(found.value),
+    )
 }
 
 impl<S: Shown + Drop> LineJob for ReadJob<S> {
@@ -139,7 +147,12 @@ impl<S: Shown + Drop> LineJob for ReadJob<S> {
     }
 
     fn append(&mut self, output: &mut Vec<u8>, line: &[u8]) -> Result<(), AllocError> {
-        if !append_line(&mut self.shown, &mut self.reader, output, line)? {
+        let Some(found) = first_text(&mut self.reader, line) else {
+            count_passed(&mut self.passed);
+            output.extend_from_slice(line)?;
+            return Ok(());
+        };
+        if !append_found(&mut self.shown, output, line, &found)? {
             count_passed(&mut self.passed);
         }
         Ok(())

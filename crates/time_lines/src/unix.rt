@@ -102,27 +102,28 @@ fn append_number<S: Shown>(
     append_replaced(shown, output, line, first, after, moment)
 }
 
-/// Appends what the line becomes, and says whether a text took the place of its number. Most numbers begin
-/// their lines, and a call for these alone is the shorter one.
+/// The same. Most numbers begin their lines, and a call for these alone is the shorter one.
 #[inline(always)]
-fn append_line<S: Shown>(
+fn append_found<S: Shown>(
     shown: &mut S,
     unit: Unit,
-    least: usize,
     output: &mut Vec<u8>,
     line: &[u8],
+    start: usize,
+    count: usize,
 ) -> Result<bool, AllocError>
+    requires inside { start ≤ length line.now }
+    requires digits { count ≤ length line.now - start }
+    requires count { count ≡ digit_count (drop start line.now) }
     ensures same { SameShown (S.shows shown.old) (S.shows shown.new) }
-    ensures appended { OnOk result (Adds (UnixBecomes (S.shows shown.old) unit least line.now)
+    ensures appended { OnOk result (Adds
+        (NumberBecomes (S.shows shown.old) unit (number_at line.now start) line.now)
         output.old.items output.new.items) }
 {
-    match number_start(line, least) {
-        Some((0, count)) => append_number(shown, unit, output, line, 0, count),
-        Some((start, count)) => append_number(shown, unit, output, line, start, count),
-        None => {
-            output.extend_from_slice(line)?;
-            Ok(false)
-        }
+    if start == 0 {
+        append_number(shown, unit, output, line, 0, count)
+    } else {
+        append_number(shown, unit, output, line, start, count)
     }
 }
 
@@ -142,7 +143,13 @@ impl<S: Shown + Drop> LineJob for UnixJob<S> {
 
     #[inline(always)]
     fn append(&mut self, output: &mut Vec<u8>, line: &[u8]) -> Result<(), AllocError> {
-        if !append_line(&mut self.shown, self.unit, self.least, output, line)? {
+        let Some((start, count)) = number_start(line, self.least) else {
+            count_passed(&mut self.passed);
+            output.extend_from_slice(line)?;
+            return Ok(());
+        };
+        let unit = self.unit;
+        if !append_found(&mut self.shown, unit, output, line, start, count)? {
             count_passed(&mut self.passed);
         }
         Ok(())
