@@ -1,7 +1,9 @@
 -- The nanoseconds of a moment, and the offset of what a clock shows.
-use Rattle.std.proofs.Common.{◌≡◌, ℕ, ℤ, pos, ◌+ℤ◌, ◌*ℤ◌, ◌<◌, ◌∙◌, refl, w64, to_z, of_z, sym, subst, arith}
+use Rattle.std.proofs.Common.{◌≡◌, ℕ, ℤ, pos, negsuc, neg_ℤ, nat_abs, ◌+ℤ◌, ◌-ℤ◌, ◌*ℤ◌, ◌<◌, ◌∙◌, refl, w64, to_z, of_z, sym, subst, arith}
 use Rattle.std.proofs.lemmas.Int.{ints}
-use Rattle.std.specs.Int.{w128}
+use Rattle.jiff_core.specs.Calendar.{IsBetween}
+use Rattle.jiff_core.specs.Timestamp.{IsTimestampNanos}
+use Rattle.std.specs.Int.{int_div_euclid, w128}
 use Rattle.time_below.specs.Moment.{IsNearTimestampSecond}
 
 -- the nanoseconds as the code holds them
@@ -22,3 +24,11 @@ nanoseconds_of_parts s u n k near small second nanosecond =
 -- a clock that shows the same of one moment has one offset
 pub one_offset : (civil n x y : ℤ) → civil ≡ n +ℤ x *ℤ pos 1_000_000_000 → civil ≡ n +ℤ y *ℤ pos 1_000_000_000 → x ≡ y
 one_offset civil n x y a b = omega (arith, ints)
+
+-- the second in which a moment of jiff lies, and the nanoseconds from there on as the code holds them
+pub parts_of : (n s : ℤ) → IsTimestampNanos n → s ≡ int_div_euclid n (pos 1_000_000_000)
+    → IsBetween (neg_ℤ (pos 377_705_023_201)) (pos 253_402_207_200) s
+    × ((n -ℤ pos 1_000_000_000 *ℤ s ≡ pos (nat_abs (n -ℤ pos 1_000_000_000 *ℤ s)))
+    × (nat_abs (n -ℤ pos 1_000_000_000 *ℤ s) < 1_000_000_000))
+parts_of (pos n) s h e = rw e (omega (arith, ints), (omega (arith, ints), omega (arith, ints)))
+parts_of (negsuc n) s h e = rw e (omega (arith, ints), (omega (arith, ints), omega (arith, ints)))

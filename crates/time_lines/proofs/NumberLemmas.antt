@@ -4,12 +4,15 @@ use Rattle.std.proofs.lemmas.Bool.{le-leb}
 use Rattle.std.proofs.lemmas.List.{drop-drop, get_or-drop, take-append-drop}
 use Rattle.line_streams.specs.Filter.{Adds}
 use Rattle.line_streams.proofs.LinesLemmas.{slice-end}
-use Rattle.time_lines.specs.Shown.{Replaces, bytes_of}
+use Rattle.std.specs.Prelude.{Result, Ok, Err, OnOk, IfSome, IfNone}
+use Rattle.time_lines.specs.Shown.{IsReplaced, Replaces, bytes_of}
 use Rattle.std.proofs.lemmas.List.Sums.{prefix_len_passes}
 use Rattle.std.specs.Char.{is_ascii_digit}
 use Rattle.std.specs.Str.Parse.{digits_value}
 use Rattle.time_below.specs.Moment.{Moment, IsMoment}
-use Rattle.time_lines.specs.Number.{HasMoment, begins, decimals_of, digit_count, digits_of, first_place, goes_on, has_minus, is_digit_at, moment_after, moment_of, number_at, with_sign}
+use Rattle.time_lines.specs.Number.{HasMoment, after_decimals, begins, decimals_of, digit_count, digits_of, first_place, goes_on, has_minus, is_digit_at, moment_after, moment_of, number_at, with_sign}
+use Rattle.time_lines.specs.Unix.{NumberBecomes}
+use Rattle.std.specs.Prelude.{if◌then◌else◌}
 use Rattle.time_lines.specs.declared.number.Unit.{Unit as UnixUnit}
 
 one_less : (length at : ℕ) → at < length → length - at ≡ suc (length - (at + 1))
@@ -108,43 +111,86 @@ pub moment_is : (unit : UnixUnit) (line : List ℕ) (start : ℕ) (minus : Bool)
     → with_sign minus (moment_after unit (digits_value 10 digits) decimals) ≡ moment_of unit (number_at line start)
 moment_is unit line start minus digits decimals rest spelled sign left are = rw (spelled, sign, are, left) refl
 
--- a number has a moment if its digits are few enough and the moment that was made of its parts is real
-pub number_has : (unit : UnixUnit) (line : List ℕ) (start : ℕ) (digits : List ℕ) (m : Moment)
-    → digits ≡ digits_of (drop start line) → length digits ≤ 19 → IsMoment m
-    → m ≡ moment_of unit (number_at line start) → HasMoment unit (number_at line start)
-number_has unit line start digits m spelled short real same = (rw (← spelled) short, subst IsMoment same real)
-
--- and none if no moment was made of them
-pub number_has_none : (unit : UnixUnit) (line : List ℕ) (start : ℕ) (minus : Bool) (digits decimals rest : List ℕ)
-    → digits ≡ digits_of (drop start line) → minus ≡ has_minus line start
-    → rest ≡ drop (digit_count (drop start line)) (drop start line) → decimals ≡ decimals_of rest
-    → (length digits ≤ 19 → ¬ IsMoment (with_sign minus (moment_after unit (digits_value 10 digits) decimals)))
-    → ¬ HasMoment unit (number_at line start)
-number_has_none unit line start minus digits decimals rest spelled sign left are none has =
-    none (rw spelled has.0)
-    (subst IsMoment (sym (moment_is unit line start minus digits decimals rest spelled sign left are)) has.1)
-
 -- a text took the place of what named the moment
-pub text_is_put : (shows : Moment → Option (List ℕ) → Type 0) (P : Type 0) (m n : Moment) (before after line : List ℕ)
-    (o0 o1 o2 o3 : List ℕ) (shown : Option (List ℕ)) → P → m ≡ n → shows m shown → is_some shown ≡ true
-    → o1 ≡ o0 ++ before → o2 ≡ o1 ++ bytes_of shown → o3 ≡ o2 ++ after → Adds (Replaces shows P n before after line) o0 o3
-text_is_put shows P m n before after line o0 o1 o2 o3 None has same is some first second third = absurd (no_text (sym some))
-text_is_put shows P m n before after line o0 o1 o2 o3 (Some text) has same is some first second third = (
+pub text_is_put : (shows : Moment → Option (List ℕ) → Type 0) (m : Moment) (before after line : List ℕ)
+    (o0 o1 o2 o3 : List ℕ) (shown : Option (List ℕ)) → shows m shown → is_some shown ≡ true
+    → o1 ≡ o0 ++ before → o2 ≡ o1 ++ bytes_of shown → o3 ≡ o2 ++ after
+    → Adds (IsReplaced shows (Some m) before after line) o0 o3
+text_is_put shows m before after line o0 o1 o2 o3 None is some first second third = absurd (no_text (sym some))
+text_is_put shows m before after line o0 o1 o2 o3 (Some text) is some first second third = (
   before ++ (text ++ after),
   third ∙ rw (second, first) (append_assoc _ text _ ∙ append_assoc o0 _ _),
-  inl (has, (text, subst (λ x. shows x (Some text)) same is, refl)),
+  inl (text, is, refl),
 )
 
 -- nothing took its place
-pub line_is_left : (shows : Moment → Option (List ℕ) → Type 0) (P : Type 0) (m n : Moment) (before after line : List ℕ) (from : ℕ)
-    (o0 o1 o2 o3 : List ℕ) (shown : Option (List ℕ)) → m ≡ n → shows m shown → is_some shown ≡ false
-    → o1 ≡ o0 ++ take from line → o2 ≡ o1 ++ bytes_of shown → o3 ≡ o2 ++ take (length line - from) (drop from line)
-    → Adds (Replaces shows P n before after line) o0 o3
-line_is_left shows P m n before after line from o0 o1 o2 o3 (Some text) same is none first second third = absurd (no_none none)
-line_is_left shows P m n before after line from o0 o1 o2 o3 None same is none first second third = (
+pub line_is_left : (shows : Moment → Option (List ℕ) → Type 0) (m : Moment) (before after line : List ℕ) (first : ℕ)
+    (o0 o1 o2 o3 : List ℕ) (shown : Option (List ℕ)) → shows m shown → is_some shown ≡ false
+    → o1 ≡ o0 ++ take first line → o2 ≡ o1 ++ bytes_of shown → o3 ≡ o2 ++ take (length line - first) (drop first line)
+    → Adds (IsReplaced shows (Some m) before after line) o0 o3
+line_is_left shows m before after line first o0 o1 o2 o3 (Some text) is none one two three = absurd (no_none none)
+line_is_left shows m before after line first o0 o1 o2 o3 None is none one two three = (
   line,
-  third
-      ∙ rw (second, first, slice-end from line, append-nil (o0 ++ take from line))
-      (append_assoc o0 (take from line) (drop from line) ∙ ap (λ l. o0 ++ l) (take-append-drop from line)),
-  inr (λ _. subst (λ x. shows x None) same is, refl),
+  three
+      ∙ rw (two, one, slice-end first line, append-nil (o0 ++ take first line))
+      (append_assoc o0 (take first line) (drop first line) ∙ ap (λ l. o0 ++ l) (take-append-drop first line)),
+  inr (is, refl),
 )
+
+placed : (shows : Moment → Option (List ℕ) → Type 0) (P : Type 0) (m n : Moment) (before after line text : List ℕ) → P → n ≡ m
+    → IsReplaced shows (Some n) before after line text → Replaces shows P m before after line text
+placed shows P m n before after line text has same (inl b) =
+    inl (has, (b.0, subst (λ x. shows x (Some b.0)) same b.1, b.2))
+placed shows P m n before after line text has same (inr b) = inr (λ _. subst (λ x. shows x None) same b.0, b.1)
+
+-- the moment that is replaced, if there is one, is the one that is named
+pub replaces_named : {E : Type 0} (shows : Moment → Option (List ℕ) → Type 0) (P : Type 0) (m : Moment) (named : Option Moment)
+    (before after line old new : List ℕ) (r : Result Bool E) → IfSome named (λ n. (n ≡ m) × P) → IfNone named (¬ P)
+    → OnOk r (Adds (IsReplaced shows named before after line) old new)
+    → OnOk r (Adds (Replaces shows P m before after line) old new)
+replaces_named shows P m None before after line old new (Ok b) some none h =
+    (h.0, h.1, inr (λ has. absurd (none has), h.2))
+replaces_named shows P m (Some n) before after line old new (Ok b) some none h =
+    (h.0, h.1, placed shows P m n before after line h.0 some.1 some.0 h.2)
+replaces_named shows P m named before after line old new (Err e) some none h = h
+
+-- the number that a moment of its parts names, or names none
+named : (unit : UnixUnit) (line : List ℕ) (start : ℕ) (minus : Bool) (digits decimals : List ℕ) (moment : Option Moment)
+    → digits ≡ digits_of (drop start line)
+    → with_sign minus (moment_after unit (digits_value 10 digits) decimals) ≡ moment_of unit (number_at line start)
+    → IfSome moment (λ m. (length digits ≤ 19) × IsMoment m
+    × (m ≡ with_sign minus (moment_after unit (digits_value 10 digits) decimals)))
+    → IfSome moment (λ m. (m ≡ moment_of unit (number_at line start)) × HasMoment unit (number_at line start))
+named unit line start minus digits decimals None spelled same h = h
+named unit line start minus digits decimals (Some m) spelled same h =
+    let is = h.2 ∙ same in (is, (rw (← spelled) h.0, subst IsMoment is h.1))
+
+none_named : (unit : UnixUnit) (line : List ℕ) (start : ℕ) (minus : Bool) (digits decimals : List ℕ) (moment : Option Moment)
+    → digits ≡ digits_of (drop start line)
+    → with_sign minus (moment_after unit (digits_value 10 digits) decimals) ≡ moment_of unit (number_at line start)
+    → IfNone moment (length digits ≤ 19 → ¬ IsMoment (with_sign minus (moment_after unit (digits_value 10 digits) decimals)))
+    → IfNone moment (¬ HasMoment unit (number_at line start))
+none_named unit line start minus digits decimals None spelled same h =
+    λ has. h (rw spelled has.0) (subst IsMoment (sym same) has.1)
+none_named unit line start minus digits decimals (Some m) spelled same h = h
+
+-- what takes the place of the moment of its parts takes that of a number
+pub number_is_replaced : {E : Type 0} (shows : Moment → Option (List ℕ) → Type 0) (unit : UnixUnit) (line : List ℕ)
+    (start first : ℕ) (minus : Bool) (digits decimals rest after : List ℕ) (moment : Option Moment) (old new : List ℕ)
+    (r : Result Bool E) → digits ≡ digits_of (drop start line) → minus ≡ has_minus line start
+    → rest ≡ drop (digit_count (drop start line)) (drop start line) → decimals ≡ decimals_of rest
+    → after ≡ after_decimals (decimals_of rest) rest → first ≡ (if minus then start - 1 else start)
+    → IfSome moment (λ m. (length digits ≤ 19) × IsMoment m
+    × (m ≡ with_sign minus (moment_after unit (digits_value 10 digits) decimals)))
+    → IfNone moment (length digits ≤ 19 → ¬ IsMoment (with_sign minus (moment_after unit (digits_value 10 digits) decimals)))
+    → OnOk r (Adds (IsReplaced shows moment (take first line) after line) old new)
+    → OnOk r (Adds (NumberBecomes shows unit (number_at line start) line) old new)
+number_is_replaced shows unit line start first minus digits decimals rest after moment old new r spelled sign left are behind
+    from some none h =
+    let number = number_at line start in
+    let same = moment_is unit line start minus digits decimals rest spelled sign left are in
+    let before_is : take first line ≡ number.before = rw (from, sign) refl in
+    let after_is : after ≡ number.after = rw (behind, left) refl in
+    replaces_named shows (HasMoment unit number) (moment_of unit number) moment number.before number.after line old new r
+    (named unit line start minus digits decimals moment spelled same some)
+    (none_named unit line start minus digits decimals moment spelled same none) (rw (← before_is, ← after_is) h)

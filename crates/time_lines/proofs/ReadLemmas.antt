@@ -21,7 +21,13 @@ use Rattle.time_read.proofs.OffsetEnds.{numbers_are}
 use Rattle.time_read.proofs.Tails.{AreDecimals, decimals_of}
 use Rattle.time_read.proofs.UsualLemmas.{date_length}
 use Rattle.time_lines.specs.Number.{digit_count}
-use Rattle.time_lines.specs.Read.{NoText, NoTextBefore, offset_length, tail_length, text_length}
+use Rattle.std.proofs.Common.{Option, Some, None}
+use Rattle.std.specs.Prelude.{Result, Ok, Err, OnOk, IfSome, IfNone}
+use Rattle.line_streams.specs.Filter.{Adds}
+use Rattle.time_below.specs.Moment.{Moment, IsMoment}
+use Rattle.time_lines.specs.Read.{NoText, NoTextBefore, moment_of_value, offset_length, tail_length, text_length}
+use Rattle.time_lines.specs.Shown.{IsReplaced, Replaces}
+use Rattle.time_lines.proofs.NumberLemmas.{replaces_named}
 
 -- ---- the parts of a text have these lengths
 
@@ -238,3 +244,21 @@ none_before_next line at before here k lt = elim (cases_lt k at) [
   | inl less ↦ before k less
   | inr more ↦ let same : k ≡ at = omega (arith, lt, more) in subst (λ n. NoText (drop n line)) (sym same) here
 ]
+
+real : (m : Moment) (named : Option Moment) → IfSome named (λ n. (n ≡ m) × IsMoment n)
+    → IfSome named (λ n. (n ≡ m) × IsMoment m)
+real m None some = some
+real m (Some n) some = (some.0, subst IsMoment some.0 some.1)
+
+-- what takes the place of the moment of a text of a line takes that of the text
+pub text_is_replaced : {E : Type 0} (shows : Moment → Option (List ℕ) → Type 0) (line : List ℕ) (at count : ℕ)
+    (v : OffsetDateAndTime) (moment : Option Moment) (after old new : List ℕ) (r : Result Bool E)
+    → after ≡ drop count (drop at line) → IfSome moment (λ m. (m ≡ moment_of_value v) × IsMoment m)
+    → IfNone moment (¬ IsMoment (moment_of_value v))
+    → OnOk r (Adds (IsReplaced shows moment (take at line) after line) old new)
+    → OnOk r (Adds (Replaces shows (IsMoment (moment_of_value v)) (moment_of_value v) (take at line)
+    (drop count (drop at line)) line) old new)
+text_is_replaced shows line at count v moment after old new r behind some none h =
+    replaces_named shows (IsMoment (moment_of_value v)) (moment_of_value v) moment (take at line) (drop count (drop at line))
+    line old new r (real (moment_of_value v) moment some) none
+    (subst (λ a. OnOk r (Adds (IsReplaced shows moment (take at line) a line) old new)) behind h)

@@ -1,13 +1,13 @@
 -- What is shown stays the same.
-use Rattle.std.proofs.Common.{ℕ, ◌↔◌, List, Option, inl, inr, Some, None}
-use Rattle.time_below.specs.Facts.{Facts}
-use Rattle.time_below.specs.Moment.{Moment}
+use Rattle.std.proofs.Common.{ℕ, ◌≡◌, ◌↔◌, Bool, true, false, List, Option, inl, inr, Some, None, is_some, refl, sym, subst, ◌∙◌, append-nil}
+use Rattle.time_below.specs.Facts.{Facts, facts_of_offset_date_time}
+use Rattle.time_below.specs.Moment.{Moment, OffsetDateAndTime, IsMoment, local_at, moved}
 use Rattle.time_below.specs.Offset.{Offset}
 use Rattle.time_fmt.specs.Outcome.{Outcome}
 use Rattle.time_lines.specs.Now.{NowBecomes}
 use Rattle.time_lines.specs.Number.{number_start}
 use Rattle.time_lines.specs.Read.{ReadBecomes}
-use Rattle.time_lines.specs.Shown.{Replaces, SameShown, ShowsAt}
+use Rattle.time_lines.specs.Shown.{AppendsShown, Replaces, SameShown, ShowsAt, text_of}
 use Rattle.time_lines.specs.Unix.{StartBecomes, UnixBecomes}
 use Rattle.time_lines.specs.declared.number.Unit.{Unit as UnixUnit}
 use Rattle.line_streams.specs.Filter.{Stays}
@@ -66,3 +66,21 @@ read_stays shows shows' same line text = (
   λ b. read_becomes shows shows' line text (λ m t. (same m t).0) b,
   λ b. read_becomes shows' shows line text (λ m t. (same m t).1) b,
 )
+
+none_of : (text : Option (List ℕ)) → is_some text ≡ false → text ≡ None
+none_of None e = refl
+none_of (Some text) e = absurd (let never : true ≡ false = e in cc)
+
+-- what was appended of the local value of a moment is what is shown of the moment
+pub shown_local : (f : Facts → Outcome) (m : Moment) (o : Offset) (v : OffsetDateAndTime) (old new : List ℕ) (has_text : Bool)
+    → v ≡ local_at m o → (¬ IsMoment (moved m o) → has_text ≡ false)
+    → AppendsShown (λ text. text ≡ text_of (f (facts_of_offset_date_time v))) old new has_text
+    → AppendsShown (ShowsAt f o m) old new has_text
+shown_local f m o v old new has_text value none h =
+    let is = subst (λ w. h.0 ≡ text_of (f (facts_of_offset_date_time w))) value h.1 in
+    (h.0, (λ _. is, λ out. none_of h.0 (sym h.2 ∙ none out)), h.2, h.3)
+
+-- nothing is shown of a moment that has no local value
+pub none_shown : (f : Facts → Outcome) (m : Moment) (o : Offset) (old : List ℕ) → ¬ IsMoment (moved m o)
+    → AppendsShown (ShowsAt f o m) old old false
+none_shown f m o old none = (None, (λ near. absurd (none near), λ _. refl), refl, sym (append-nil old))

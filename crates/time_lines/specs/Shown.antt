@@ -27,6 +27,13 @@ text_of outcome = elim outcome.refusal [
   | Some refusal ↦ None
 ]
 
+-- what a line becomes between two parts of which a moment stands, or none: what is shown of the moment takes its place, and
+-- the line stays as it is where there is no moment or nothing is shown of it
+abbrev pub IsReplaced : (Moment → Option (List ℕ) → Type 0) → Option Moment → List ℕ → List ℕ → List ℕ → List ℕ → Type 0
+IsReplaced shows None before after line text = text ≡ line
+IsReplaced shows (Some m) before after line text =
+    ((shown : List ℕ) × shows m (Some shown) × (text ≡ before ++ (shown ++ after))) ⊎ (shows m None × (text ≡ line))
+
 -- what a line becomes between two parts of which a moment is named, if it is one: what is shown of the moment takes its
 -- place, and the line stays as it is where there is none or nothing is shown of it
 abbrev pub Replaces : (Moment → Option (List ℕ) → Type 0) → Type 0 → Moment → List ℕ → List ℕ → List ℕ → List ℕ → Type 0

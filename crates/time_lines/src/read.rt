@@ -8,7 +8,7 @@ ghost use Rattle.time_read.specs.Lenient.{Rfc3339Means};
 
 use crate::runs::digit_count;
 use crate::shown::Shown;
-use crate::unix::{append_bytes, count_passed};
+use crate::unix::{append_replaced, count_passed};
 use line_streams::{FilterError, LineJob};
 use std::alloc::AllocError;
 use time_below::{OffsetDateTime, Timestamp};
@@ -126,18 +126,16 @@ fn append_found<S: Shown>(
         (take found.now.at line.now) (drop found.now.count (drop found.now.at line.now)) line.now)
         output.old.items output.new.items) }
 {
-    let Some(moment) = moment_of_value(found.value) else {
-        output.extend_from_slice(line)?;
-        return Ok(false);
-    };
     let rest = &line[found.at..];
-    append_bytes(output, &line[..found.at])?;
-    if shown.append(output, &moment)? {
-        output.extend_from_slice(&rest[found.count..])?;
-        return Ok(true);
-    }
-    output.extend_from_slice(rest)?;
-    Ok(false)
+    let after = &rest[found.count..];
+    append_replaced(
+        shown,
+        output,
+        line,
+        found.at,
+        after,
+        moment_of_value(found.value),
+    )
 }
 
 impl<S: Shown + Drop> LineJob for ReadJob<S> {

@@ -1,14 +1,15 @@
 //! Unix time in lines, replaced by its text.
-ghost use Rattle.std.specs.Prelude.{◌≡◌, ◌≤◌, ◌-◌, ◌++◌, true, length, drop, OnOk, if◌then◌else◌};
+ghost use Rattle.std.specs.Prelude.{◌≡◌, ◌≤◌, ◌-◌, ◌++◌, true, length, take, drop, OnOk, if◌then◌else◌};
 ghost use Rattle.line_streams.specs.Filter.{Adds};
 ghost use Rattle.time_lines.specs.Number.{digit_count, number_at};
 ghost use Rattle.time_lines.specs.Unix.{NumberBecomes, UnixBecomes};
-ghost use Rattle.time_lines.specs.Shown.{SameShown};
+ghost use Rattle.time_lines.specs.Shown.{IsReplaced, SameShown};
 
 use crate::number::{Unit, has_minus, moment_of, number_start, split_decimals};
 use crate::shown::Shown;
 use line_streams::{FilterError, LineJob};
 use std::alloc::AllocError;
+use time_below::Timestamp;
 
 /// Replaces the first number of each line that has at least so many digits, which is Unix time, by what
 /// is shown of its moment. A line without one passes as it is, and is counted; so does one whose number
@@ -43,6 +44,37 @@ fn first_place(is_negative: bool, start: usize) -> usize
     if is_negative { start - 1 } else { start }
 }
 
+/// Appends the line with what is shown of the moment in place of what stands between its first bytes, as many
+/// as this, and those after it. The line stays as it is if there is no moment, or nothing is shown of it.
+/// Says whether a text took the place.
+#[inline(always)]
+pub(crate) fn append_replaced<S: Shown>(
+    shown: &mut S,
+    output: &mut Vec<u8>,
+    line: &[u8],
+    first: usize,
+    after: &[u8],
+    moment: Option<Timestamp>,
+) -> Result<bool, AllocError>
+    requires first { first ≤ length line.now }
+    ensures same { SameShown (S.shows shown.old) (S.shows shown.new) }
+    ensures appended { OnOk result (Adds
+        (IsReplaced (S.shows shown.old) moment (take first line.now) after.now line.now)
+        output.old.items output.new.items) }
+{
+    let Some(moment) = moment else {
+        output.extend_from_slice(line)?;
+        return Ok(false);
+    };
+    append_bytes(output, &line[..first])?;
+    if shown.append(output, &moment)? {
+        output.extend_from_slice(after)?;
+        return Ok(true);
+    }
+    output.extend_from_slice(&line[first..])?;
+    Ok(false)
+}
+
 /// Appends the line with what is shown of its number, which has so many digits from here on, in place of
 /// it. Says whether a text took its place.
 #[inline(always)]
@@ -65,18 +97,9 @@ fn append_number<S: Shown>(
     let end = start + count;
     let (decimals, after) = split_decimals(&line[end..]);
     let is_negative = has_minus(line, start);
-    let Some(moment) = moment_of(unit, is_negative, &line[start..end], decimals) else {
-        output.extend_from_slice(line)?;
-        return Ok(false);
-    };
-    let from = first_place(is_negative, start);
-    append_bytes(output, &line[..from])?;
-    if shown.append(output, &moment)? {
-        output.extend_from_slice(after)?;
-        return Ok(true);
-    }
-    output.extend_from_slice(&line[from..])?;
-    Ok(false)
+    let first = first_place(is_negative, start);
+    let moment = moment_of(unit, is_negative, &line[start..end], decimals);
+    append_replaced(shown, output, line, first, after, moment)
 }
 
 /// The same. Most numbers begin their lines, and a call for these alone is the shorter one.

@@ -1,31 +1,58 @@
 //! From the kit's `jiff`.
 use crate::values::assert_text;
 use jiff::tz::TimeZone;
-use jiff::{Timestamp, ToSpan};
+use jiff::{Timestamp, ToSpan, Zoned};
 use std::default::Default;
+use std::process::Abort;
 use std::test::Fail;
 use time_fmt::TimestampState;
 use time_fmt::parts::*;
 use time_known::{Rfc2822, Rfc3339};
 use time_plan::Plan;
 
+fn instant(rt: &impl Abort) -> Timestamp {
+    let Ok(instant) = Timestamp::from_second(1_774_746_000) else {
+        panic!(rt; "no instant")
+    };
+    instant
+}
+
+/// The instant at which clocks in Berlin change, by the rule of its zone.
+fn zoned(rt: &impl Abort) -> Zoned<'static> {
+    let Ok(zone) = TimeZone::posix("CET-1CEST,M3.5.0,M10.5.0/3") else {
+        panic!(rt; "no zone")
+    };
+    instant(rt).to_zoned(zone)
+}
+
 #[test]
-fn values_of_jiff(rt: HostRuntime) -> Result<(), Fail> {
+fn values_have_these_texts_by_jiff(rt: HostRuntime) -> Result<(), Fail> {
     let alloc = rt.alloc();
-    let instant = Timestamp::from_second(1_774_746_000)?;
-    let zoned = instant.to_zoned(TimeZone::posix("CET-1CEST,M3.5.0,M10.5.0/3")?);
+    let (instant, zoned) = (instant(&rt), zoned(&rt));
     let text = format!(in alloc; "{instant}")?;
     assert_text(&rt, &text, "2026-03-29T01:00:00Z");
     let text = zoned.strftime(alloc, "%a, %d %b %Y %H:%M:%S %z")?;
     assert_text(&rt, &text, "Sun, 29 Mar 2026 03:00:00 +0200");
     let text = zoned.strftime(alloc, "%A, %-d %B, %H:%M")?;
     assert_text(&rt, &text, "Sunday, 29 March, 03:00");
+    Ok(())
+}
+
+#[test]
+fn an_instant_has_the_same_text(rt: HostRuntime) -> Result<(), Fail> {
+    let (alloc, instant) = (rt.alloc(), instant(&rt));
     let text = Rfc3339.format(
         alloc,
         &time_jiff::timestamp(instant),
         &mut TimestampState::default(),
     )?;
     assert_text(&rt, &text, "2026-03-29T01:00:00Z");
+    Ok(())
+}
+
+#[test]
+fn a_zoned_value_has_the_same_texts(rt: HostRuntime) -> Result<(), Fail> {
+    let (alloc, zoned) = (rt.alloc(), zoned(&rt));
     let text = Rfc2822.format(
         alloc,
         &time_jiff::offset_date_time(&zoned),
@@ -39,6 +66,12 @@ fn values_of_jiff(rt: HostRuntime) -> Result<(), Fail> {
         &mut DateState::default(),
     )?;
     assert_text(&rt, &text, "Sunday, 29 March, 03:00");
+    Ok(())
+}
+
+#[test]
+fn a_day_later_has_the_same_clock(rt: HostRuntime) -> Result<(), Fail> {
+    let (alloc, zoned) = (rt.alloc(), zoned(&rt));
     let later = zoned.checked_add(1i64.day())?;
     let text = Rfc3339.format(
         alloc,

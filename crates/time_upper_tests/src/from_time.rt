@@ -41,6 +41,14 @@ fn descriptions(rt: HostRuntime) -> Result<(), Fail> {
     let state = &mut DateState::default();
     let text = text!(YEAR, b"-", MONTH, b"-", DAY).format(alloc, &moment, state)?;
     assert_text(&rt, &text, "2026-11-22");
+    Ok(())
+}
+
+#[test]
+fn descriptions_from_a_text(rt: HostRuntime) -> Result<(), Fail> {
+    let alloc = rt.alloc();
+    let moment = moment(&rt);
+    let state = &mut DateState::default();
     let plan = Plan::parse(alloc, b"[hour]:[minute]:[second].[subsecond digits:3]")?;
     let text = plan.format(alloc, &moment, state)?;
     assert_text(&rt, &text, "09:55:06.120");
@@ -51,12 +59,19 @@ fn descriptions(rt: HostRuntime) -> Result<(), Fail> {
 }
 
 #[test]
-fn values_and_texts_read(rt: HostRuntime) -> Result<(), Fail> {
+fn a_local_moment_has_its_text(rt: HostRuntime) -> Result<(), Fail> {
     let alloc = rt.alloc();
     let (date, time, offset) = (date(&rt), time(&rt), offset(&rt));
     let moment = OffsetDateTime::new_in_offset(date, time, offset);
     let text = Rfc3339.format(alloc, &moment, &mut DateState::default())?;
     assert_text(&rt, &text, "2026-11-22T09:55:06.12-06:00");
+    assert!(&rt; date.ordinal() == 326 && date.iso_year_week().1 == 47);
+    Ok(())
+}
+
+#[test]
+fn an_instant_has_its_texts(rt: HostRuntime) -> Result<(), Fail> {
+    let alloc = rt.alloc();
     let Ok(instant) = Timestamp::new(1_795_362_906, 120_000_000) else {
         panic!(&rt; "no instant")
     };
@@ -70,10 +85,14 @@ fn values_and_texts_read(rt: HostRuntime) -> Result<(), Fail> {
     };
     let text = Rfc3339.format(alloc, &local, &mut DateState::default())?;
     assert_text(&rt, &text, "2026-11-22T09:55:06.12-06:00");
+    Ok(())
+}
+
+#[test]
+fn texts_are_read(rt: HostRuntime) -> Result<(), Fail> {
     let moment = rfc3339::read(b"2026-11-22T09:55:06.12-06:00")?;
     assert!(&rt; moment.unix_timestamp() == 1_795_362_906);
     let moment = rfc3339::read_lenient(b"2026-11-22t09:55:06.12-06:00")?;
     assert!(&rt; moment.unix_timestamp() == 1_795_362_906);
-    assert!(&rt; date.ordinal() == 326 && date.iso_year_week().1 == 47);
     Ok(())
 }

@@ -7,7 +7,7 @@ use std::test::Fail;
 use std::time::{Clock, Duration};
 use time_below::UtcOffset;
 use time_fmt::parts::UNIX_TIMESTAMP;
-use time_known::{Rfc2822, Rfc3339};
+use time_known::Rfc2822;
 use time_lines::{
     AtOffset, InPlace, InUtc, NowJob, ReadJob, Rfc3339InPlace, Shown, Unit, UnixJob, Utc,
 };
@@ -26,6 +26,15 @@ fn assert_becomes<J: LineJob>(
     job.append(&mut output, line)?;
     assert!(rt; output.as_slice() == wanted);
     Ok(())
+}
+
+fn unix_job<S: Shown + Drop>(shown: S) -> UnixJob<S> {
+    UnixJob {
+        shown,
+        unit: Unit::Seconds,
+        least: 9,
+        passed: 0,
+    }
 }
 
 /// Lines with a number of at least nine digits, in seconds, and what they become.
@@ -77,14 +86,7 @@ const PASSED: &[&[u8]] = &[
 
 #[test]
 fn the_first_number_is_replaced(rt: HostRuntime) -> Result<(), Fail> {
-    let mut job = UnixJob {
-        shown: InUtc {
-            description: Rfc3339,
-        },
-        unit: Unit::Seconds,
-        least: 9,
-        passed: 0,
-    };
+    let mut job = unix_job(Rfc3339InPlace::new(Utc));
     for (line, wanted) in SECONDS {
         assert_becomes(&rt, rt.alloc(), &mut job, line, wanted)?;
     }
@@ -146,14 +148,9 @@ const UNITS: &[(Unit, usize, &[u8], &[u8])] = &[
 #[test]
 fn units_and_digits_are_as_asked_for(rt: HostRuntime) -> Result<(), Fail> {
     for (unit, least, line, wanted) in UNITS {
-        let mut job = UnixJob {
-            shown: InUtc {
-                description: Rfc3339,
-            },
-            unit: *unit,
-            least: *least,
-            passed: 0,
-        };
+        let mut job = unix_job(Rfc3339InPlace::new(Utc));
+        job.unit = *unit;
+        job.least = *least;
         assert_becomes(&rt, rt.alloc(), &mut job, line, wanted)?;
     }
     Ok(())
@@ -164,15 +161,10 @@ fn the_clock_of_a_place_is_shown(rt: HostRuntime) -> Result<(), Fail> {
     let Ok(offset) = UtcOffset::from_hms(5, 30, 0) else {
         return Ok(());
     };
-    let mut job = UnixJob {
-        shown: InPlace {
-            description: Rfc2822,
-            place: AtOffset { offset },
-        },
-        unit: Unit::Seconds,
-        least: 9,
-        passed: 0,
-    };
+    let mut job = unix_job(InPlace {
+        description: Rfc2822,
+        place: AtOffset { offset },
+    });
     assert_becomes(
         &rt,
         rt.alloc(),
@@ -227,15 +219,6 @@ const DAYS: &[(&[u8], &[u8], &[u8])] = &[
         b"2023-11-14T10:00:01-14:00\n",
     ),
 ];
-
-fn unix_job<S: Shown + Drop>(shown: S) -> UnixJob<S> {
-    UnixJob {
-        shown,
-        unit: Unit::Seconds,
-        least: 9,
-        passed: 0,
-    }
-}
 
 #[test]
 fn a_day_that_is_kept_changes_no_text(rt: HostRuntime) -> Result<(), Fail> {
@@ -316,9 +299,7 @@ impl Clock for Standing {
 fn the_moment_stands_before_the_line(rt: HostRuntime) -> Result<(), Fail> {
     let mut job = NowJob {
         clock: &Standing,
-        shown: InUtc {
-            description: Rfc3339,
-        },
+        shown: Rfc3339InPlace::new(Utc),
         stamp: Vec::new(rt.alloc()),
     };
     assert_becomes(

@@ -1,4 +1,4 @@
-use Rattle.std.proofs.Common.{take, refl}
+use Rattle.std.proofs.Common.{take, refl, arith}
 use Rattle.line_streams.proofs.FilterLemmas.{Stays-then}
 use Rattle.line_streams.proofs.PromptLemmas.{Going-end_off, Going-ended, Going-off, Going-on, Going-prompt, Going-stopped, Going-waits, on_error}
 use Rattle.line_streams.proofs.filter.run.Goals as goal
@@ -51,3 +51,7 @@ returns-in_err-take_block-clause-err g c =
 pub returns-clause-err : goal.returns-clause-err
 returns-clause-err g c =
     Going-stopped (g.J.LineJob.becomes c.args.job.now) _ _ _ _ _ c.loop.invariant.going refl refl
+
+pub returns-then-count-eq0-clause-ended : goal.returns-then-count-eq0-clause-ended
+returns-then-count-eq0-clause-ended g c =
+    c.in_ok-take_last.ensures.ended (c.in_ok-count.ensures.ended c.if-count-eq0.true (omega arith))

@@ -1,7 +1,7 @@
 use Rattle.std.proofs.Common.{Some, None, refl, ◌∙◌}
 use Rattle.line_streams.proofs.LinesLemmas.{line-found}
 use Rattle.line_streams.proofs.FilterLemmas.{no_line_ends, one_line_waits}
-use Rattle.line_streams.proofs.PromptLemmas.{BreaksOff-texts, Writes-none, Writes-texts, on_error}
+use Rattle.line_streams.proofs.PromptLemmas.{BreaksOff-none, BreaksOff-texts, Writes-none, Writes-texts, on_error}
 use Rattle.line_streams.proofs.filter.take_block.Goals as goal
 
 pub returns-in_default-clause-waits : goal.returns-in_default-clause-waits
@@ -31,3 +31,15 @@ returns-in_err-write_all-clause-cut g c =
     (BreaksOff-texts (g.J.LineJob.becomes c.args.job.now) (g.J.LineJob.becomes c.prepare.new.self) _ _ _ _ _ _
     c.clear.ensures.items c.as_slice.ensures.value c.in_ok-prepare.ensures.stays c.in_ok-append_block.ensures.appended
     c.in_err-write_all.ensures.cut)
+
+pub returns-in_err-extend_from_slice-clause-cut : goal.returns-in_err-extend_from_slice-clause-cut
+returns-in_err-extend_from_slice-clause-cut g c =
+    on_error _ (BreaksOff-none (g.J.LineJob.becomes c.args.job.now) _ _ _ refl)
+
+pub returns-in_err-prepare-clause-cut : goal.returns-in_err-prepare-clause-cut
+returns-in_err-prepare-clause-cut g c =
+    on_error _ (BreaksOff-none (g.J.LineJob.becomes c.args.job.now) _ _ _ refl)
+
+pub returns-in_err-append_block-clause-cut : goal.returns-in_err-append_block-clause-cut
+returns-in_err-append_block-clause-cut g c =
+    on_error _ (BreaksOff-none (g.J.LineJob.becomes c.args.job.now) _ _ _ refl)

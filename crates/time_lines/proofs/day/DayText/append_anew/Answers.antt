@@ -1,9 +1,9 @@
-use Rattle.std.proofs.Common.{◌≡◌, ◌-◌, refl, ap, sym, subst, take, drop, length, to_z, of_z, w64, ◌∙◌}
+use Rattle.std.proofs.Common.{◌≡◌, ◌-◌, true, false, refl, ap, sym, subst, take, drop, length, to_z, of_z, w64, ◌∙◌}
 use Rattle.std.proofs.lemmas.Int.{to_z-of_z}
-use Rattle.time_below.specs.Moment.{IsTimestampSecond, OffsetDateAndTime, moved, utc_date}
-use Rattle.time_known.specs.Rfc3339.{rfc3339_of}
-use Rattle.time_lines.specs.Shown.{text_of}
+use Rattle.time_below.specs.Moment.{IsTimestampSecond, moved, utc_date}
+use Rattle.time_known.specs.Rfc3339.{rfc3339_outcome}
 use Rattle.time_lines.proofs.DayLemmas.{BeginsWithDay, day_of_moment}
+use Rattle.time_lines.proofs.ShownLemmas.{none_shown, shown_local}
 use Rattle.time_lines.proofs.day.DayText.append_anew.Goals as goal
 use Rattle.time_lines.proofs.day.DayText.append_anew.Goals.{After-of-arg-1}
 
@@ -38,6 +38,15 @@ of-requires-clause-text c = (begins c).front
 
 pub returns-then-has_text : goal.returns-then-has_text
 returns-then-has_text c =
-    let h = c.in_ok-has_text.ensures in
-    let is = subst (λ (v : OffsetDateAndTime). h.0 ≡ text_of (rfc3339_of v)) c.in-Some.ensures.value h.1 in
-    (h.0, (λ _. is, λ none. absurd (none (c.in-Some.ensures.accepted.0 refl, c.local_second.ensures.moment.1))), h.2, h.3)
+    shown_local rfc3339_outcome c.args.moment.now c.args.offset c.in-Some.local _ _ _ c.in-Some.ensures.value
+    (λ none. absurd (none (c.in-Some.ensures.accepted.0 refl, c.local_second.ensures.moment.1))) c.in_ok-has_text.ensures
+
+pub returns-else-has_text : goal.returns-else-has_text
+returns-else-has_text c =
+    shown_local rfc3339_outcome c.args.moment.now c.args.offset c.in-Some.local _ _ _ c.in-Some.ensures.value
+    (λ _. c.if-has_text.false) c.in_ok-has_text.ensures
+
+pub returns-in_default : goal.returns-in_default
+returns-in_default c =
+    none_shown rfc3339_outcome c.args.moment.now c.args.offset _
+    (λ near. absurd (let never : false ≡ true = c.in_default.ensures.accepted.1 near.0 in cc))
