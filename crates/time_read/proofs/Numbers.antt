@@ -10,10 +10,10 @@ use Rattle.std.proofs.lemmas.Str.Parse.{digit_from_value}
 use Rattle.time_known.specs.Rules.{Rule, Digits, Literal, ◌▹◌}
 use Rattle.time_known.proofs.Rules.Texts.{Reads, reads_digits, reads_after, width_literal}
 use Rattle.time_read.specs.Fault.{SpellsSome, Begins, IsFirstFault, IsLetter}
-use Rattle.time_read.specs.Front.{Front, FieldFault}
+use Rattle.time_read.specs.Front.{Front, FieldFault, NoFront}
 use Rattle.time_read.specs.Profiles.{TheLetter}
 use Rattle.time_read.specs.Shapes.{Seq, TheByte, OneDigit, Two, TwoAfter, TensAndUnits, first_unit, last_unit}
-use Rattle.time_read.proofs.Fields.{CanGoOn, begins_first, begins_after, field_as, field_first, field_after, front_as, front_then}
+use Rattle.time_read.proofs.Fields.{CanGoOn, begins_first, begins_after, field_as, field_first, field_after, front_as, front_then, one_front}
 use Rattle.time_read.specs.declared.fault.Fault.{Fault}
 use Rattle.time_read.specs.declared.fault.Profile.{Profile}
 use Rattle.time_read.specs.declared.fault.Profile.TheVariants as profile
@@ -164,6 +164,52 @@ begins_two least greatest h =
     let b = begins_first (tens_go_on least greatest h.0) (begins_one (least / 10) (greatest / 10) (omega (arith, h.0))) in
     record { more = b.more; whole = record { value = _; spelled = tens_to least greatest b.whole.value b.more h.1 b.whole.spelled } }
 
+-- two digits at the front
+pub two_at : (text : List ℕ) → 2 ≤ length text → IsInRange 48 57 (get_or text 0 0) → IsInRange 48 57 (get_or text 1 0)
+    → Front (Two 0 99 (10 * (get_or text 0 0 - 48) + (get_or text 1 0 - 48))) text (take (length text - 2) (drop 2 text))
+two_at [] long h k = absurd (omega arith)
+two_at (a ∷ []) long h k = absurd (omega arith)
+two_at (a ∷ b ∷ cs) long h k =
+    let d : Digits 2 (10 * (a - 48) + (b - 48)) ((48 + (a - 48)) ∷ (48 + (b - 48)) ∷ []) =
+    two_of (a - 48) (b - 48) (omega (arith, h.1)) (omega (arith, k.1)) in
+    let x : 48 + (a - 48) ≡ a = omega (arith, h.0) in
+    let y : 48 + (b - 48) ≡ b = omega (arith, k.0) in
+    record {
+      front = a ∷ b ∷ [];
+      whole = ap (λ t. a ∷ b ∷ t) (sym (take_all (length (a ∷ b ∷ cs) - 2) cs (omega arith)));
+      is = (
+        subst (λ (z : ℕ). Digits 2 (10 * (a - 48) + (b - 48)) (a ∷ z ∷ [])) y
+            (subst (λ (z : ℕ). Digits 2 (10 * (a - 48) + (b - 48)) (z ∷ (48 + (b - 48)) ∷ [])) x d),
+        (omega arith, omega (arith, h.1, k.1)),
+      );
+    }
+
+two_bytes : (n : ℕ) (text rest : List ℕ) → Front (Two 0 99 n) text rest
+    → (2 ≤ length text) × (IsInRange 48 57 (get_or text 0 0) × IsInRange 48 57 (get_or text 1 0))
+two_bytes n text rest p =
+    let d = two_is n p.front p.is.0 in
+    let e : text ≡ (48 + d.tens) ∷ (48 + d.units) ∷ rest = p.whole ∙ ap (λ t. t ++ rest) d.is in
+    subst (λ (t : List ℕ). (2 ≤ length t) × (IsInRange 48 57 (get_or t 0 0) × IsInRange 48 57 (get_or t 1 0))) (sym e)
+    (omega arith, ((omega arith, omega (arith, d.tens_fit)), (omega arith, omega (arith, d.units_fit))))
+
+-- a text that does not begin with two digits
+pub no_two : (text : List ℕ) → (2 ≤ length text → IsInRange 48 57 (get_or text 0 0) → ¬ IsInRange 48 57 (get_or text 1 0))
+    → NoFront (Two 0 99) text
+no_two text h n rest p = let b = two_bytes n text rest p in h b.0 b.1.0 b.1.1
+
+pub no_two_within : (least greatest : ℕ) (text : List ℕ) → greatest < 100 → NoFront (Two 0 99) text → NoFront (Two least greatest) text
+no_two_within least greatest text small none n rest p =
+    none n rest (record { front = p.front; whole = p.whole; is = (p.is.0, (omega arith, omega (arith, p.is.1.1))) })
+
+-- a text that begins with another number
+pub other_two : (least greatest n : ℕ) (text rest : List ℕ) → Front (Two 0 99 n) text rest → (least ≤ n → ¬ (n ≤ greatest))
+    → NoFront (Two least greatest) text
+other_two least greatest n text rest p out m last q =
+    let r : Front (Digits 2 n) text rest = record { front = p.front; whole = p.whole; is = p.is.0 } in
+    let s : Front (Digits 2 m) text last = record { front = q.front; whole = q.whole; is = q.is.0 } in
+    let same : n ≡ m = one_front (reads_digits 2) n m r s in
+    out (omega (arith, q.is.1.0)) (omega (arith, q.is.1.1))
+
 -- ---- after a byte
 
 pub reads_byte : (b : ℕ) → Reads 1 (TheByte b)
@@ -216,6 +262,11 @@ front_byte b h p = record {
   whole = h ∙ ap (λ t. b ∷ t) p.whole;
   is = record { front = b ∷ []; rest = p.front; whole = refl; first = refl; second = p.is };
 }
+
+-- what follows the byte does not begin with the number
+pub no_two_behind : (b least greatest : ℕ) (text rest : List ℕ) → NoFront (TwoAfter b least greatest) text → text ≡ b ∷ rest
+    → NoFront (Two least greatest) rest
+no_two_behind b least greatest text rest none e n last p = none n last (front_byte b e p)
 
 -- ---- a letter
 

@@ -28,7 +28,7 @@ fn end(text: &[u8]) -> Result<(), Fault>
 
 // The offset of hours and minutes with one sign.
 #[inline(always)]
-pub(crate) fn signed_offset(is_negative: bool, hour: u8, minute: u8) -> UtcOffset
+fn signed_offset(is_negative: bool, hour: u8, minute: u8) -> UtcOffset
     requires hour { hour < 24 }
     requires minute { minute < 60 }
     ensures { result ≡ signed_offset is_negative hour minute }
@@ -53,7 +53,7 @@ fn is_some(profile: Profile, is_negative: bool) -> bool
 
 // The least minute of an offset that may not be zero, or may.
 #[inline(always)]
-pub(crate) fn least_minute(some: bool, hour: u8) -> u8
+fn least_minute(some: bool, hour: u8) -> u8
     ensures least { result ≡ least_minute some hour }
     ensures small { result ≤ 1 }
 {
