@@ -8,10 +8,10 @@ use Rattle.time_known.specs.Rules.{Rule, Digits}
 use Rattle.time_known.specs.Values.{OrdinalDate}
 use Rattle.time_known.proofs.Rules.Texts.{HasWidth, reads_digits}
 use Rattle.time_read.specs.Fault.{SpellsSome}
-use Rattle.time_read.specs.Front.{Front, FieldFault, TextFault}
+use Rattle.time_read.specs.Front.{Front, FieldFault, NoFront, TextFault}
 use Rattle.time_read.specs.Profiles.{ReadsAs, Tail, TheLetter}
 use Rattle.time_read.specs.Shapes.{OneDigit, Two, TwoAfter, month_days}
-use Rattle.time_read.specs.Stops.{IsFaultIn, IsNumbered, StopsAt, from, start}
+use Rattle.time_read.specs.Stops.{IsFaultIn, IsMissing, IsNumbered, StopsAt, from, start}
 use Rattle.time_read.specs.declared.fault.Fault.{Fault}
 use Rattle.time_read.specs.declared.fault.Profile.{Profile}
 use Rattle.time_read.specs.declared.value.Field.{Field}
@@ -39,38 +39,37 @@ cut_after {rest = rest} w c p = record {
 }
 
 -- the reading stops at a field that begins with the rest
-stops : (p : Profile) (f : Field) (text rest : List ℕ) → Cut (start f) text rest → IsNumbered f → (e : Fault)
-    → IsFaultIn p f rest e → ((x : Fault) → IsFaultIn p f rest x → TextFault (SpellsSome (ReadsAs p)) text x)
+stops : (p : Profile) (f : Field) (text rest : List ℕ) → Cut (start f) text rest → IsNumbered f → IsMissing p f rest
+    → ((x : Fault) → IsFaultIn p f rest x → TextFault (SpellsSome (ReadsAs p)) text x)
     → StopsAt p f text
-stops p f text rest c numbered e missing whole =
+stops p f text rest c numbered missing whole =
     let same : rest ≡ from f text =
     sym (take_rest text (start f) ∙ ap (drop (start f)) c.whole ∙ drop_at c.right rest (start f) c.long) in
     record {
       within = omega (arith, ap length c.whole, length-append c.right rest, c.long);
       numbered = numbered;
-      fault = e;
-      missing = subst (λ t. IsFaultIn p f t e) same missing;
+      missing = subst (IsMissing p f) same missing;
       whole = λ x g. whole x (subst (λ t. IsFaultIn p f t x) (sym same) g);
     }
 
 -- ---- in the date
 
-pub stop_year : (p : Profile) (text : List ℕ) (e : Fault) → FieldFault 4 (SpellsSome (Digits 4)) text e → StopsAt p field.Year text
-stop_year p text e f = stops p field.Year text text (at_start text) tt e f (λ x g. whole_date p text x (date_first text x g))
+pub stop_year : (p : Profile) (text : List ℕ) → NoFront (Digits 4) text → StopsAt p field.Year text
+stop_year p text f = stops p field.Year text text (at_start text) tt f (λ x g. whole_date p text x (date_first text x g))
 
-pub stop_month : (p : Profile) (y : ℕ) (text rest : List ℕ) (e : Fault) → Front (Digits 4 y) text rest
-    → FieldFault 3 (SpellsSome (TwoAfter 45 1 12)) rest e → StopsAt p field.Month text
-stop_month p y text rest e h f =
-    stops p field.Month text rest (cut_after ((reads_digits 4).width y) (at_start text) h) tt e f
+pub stop_month : (p : Profile) (y : ℕ) (text rest : List ℕ) → Front (Digits 4 y) text rest
+    → NoFront (TwoAfter 45 1 12) rest → StopsAt p field.Month text
+stop_month p y text rest h f =
+    stops p field.Month text rest (cut_after ((reads_digits 4).width y) (at_start text) h) tt f
     (λ x g. whole_date p text x (date_month y text rest x h g))
 
-pub stop_day : (p : Profile) (y m : ℕ) (text rest last : List ℕ) (e : Fault) → Front (Digits 4 y) text rest
-    → Front (TwoAfter 45 1 12 m) rest last → FieldFault 3 (SpellsSome (TwoAfter 45 1 (month_days y m))) last e
+pub stop_day : (p : Profile) (y m : ℕ) (text rest last : List ℕ) → Front (Digits 4 y) text rest
+    → Front (TwoAfter 45 1 12 m) rest last → NoFront (TwoAfter 45 1 (month_days y m)) last
     → StopsAt p (field.Day (month_days y m)) text
-stop_day p y m text rest last e h k f =
+stop_day p y m text rest last h k f =
     stops p (field.Day (month_days y m)) text last
     (cut_after ((reads_two_after 45 1 12).width m) (cut_after ((reads_digits 4).width y) (at_start text) h) k)
-    (days_are_two y m) e f (λ x g. whole_date p text x (date_day y m text rest last x h k g))
+    (days_are_two y m) f (λ x g. whole_date p text x (date_day y m text rest last x h k g))
 
 -- the first digit of the year
 pub no_digit : (p : Profile) (text : List ℕ) (e : Fault) → FieldFault 1 (SpellsSome (OneDigit 0 9)) text e
@@ -85,27 +84,27 @@ date_there d front rest h = record { front = front; whole = refl; is = h }
 after_date : (d : OrdinalDate) (front rest : List ℕ) → FullDate d front → Cut 10 (front ++ rest) rest
 after_date d front rest h = cut_after (reads_full_date.width d) (at_start (front ++ rest)) (date_there d front rest h)
 
-pub stop_letter : (p : Profile) (d : OrdinalDate) (front text : List ℕ) (e : Fault) → FullDate d front
-    → FieldFault 1 (SpellsSome (TheLetter p 84)) text e → StopsAt p field.Letter (front ++ text)
-stop_letter p d front text e h f =
-    stops p field.Letter (front ++ text) text (after_date d front text h) tt e f
+pub stop_letter : (p : Profile) (d : OrdinalDate) (front text : List ℕ) → FullDate d front
+    → NoFront (TheLetter p 84) text → StopsAt p field.Letter (front ++ text)
+stop_letter p d front text h f =
+    stops p field.Letter (front ++ text) text (after_date d front text h) tt f
     (λ x g. whole_letter p d (front ++ text) text x (date_there d front text h) g)
 
 after_letter : (p : Profile) (d : OrdinalDate) (front text rest : List ℕ) → FullDate d front → Front (TheLetter p 84 tt) text rest
     → Cut 11 (front ++ text) rest
 after_letter p d front text rest h l = cut_after ((reads_letter p 84).width tt) (after_date d front text h) l
 
-pub stop_hour : (p : Profile) (d : OrdinalDate) (front text rest : List ℕ) (e : Fault) → FullDate d front
-    → Front (TheLetter p 84 tt) text rest → FieldFault 2 (SpellsSome (Two 0 23)) rest e → StopsAt p field.Hour (front ++ text)
-stop_hour p d front text rest e h l f =
-    stops p field.Hour (front ++ text) rest (after_letter p d front text rest h l) tt e f
+pub stop_hour : (p : Profile) (d : OrdinalDate) (front text rest : List ℕ) → FullDate d front
+    → Front (TheLetter p 84 tt) text rest → NoFront (Two 0 23) rest → StopsAt p field.Hour (front ++ text)
+stop_hour p d front text rest h l f =
+    stops p field.Hour (front ++ text) rest (after_letter p d front text rest h l) tt f
     (λ x g. whole_clock p d (front ++ text) text rest x (date_there d front text h) l (clock_first rest x g))
 
-pub stop_minute : (p : Profile) (d : OrdinalDate) (hour : ℕ) (front text rest last : List ℕ) (e : Fault) → FullDate d front
-    → Front (TheLetter p 84 tt) text rest → Front (Two 0 23 hour) rest last → FieldFault 3 (SpellsSome (TwoAfter 58 0 59)) last e
+pub stop_minute : (p : Profile) (d : OrdinalDate) (hour : ℕ) (front text rest last : List ℕ) → FullDate d front
+    → Front (TheLetter p 84 tt) text rest → Front (Two 0 23 hour) rest last → NoFront (TwoAfter 58 0 59) last
     → StopsAt p field.Minute (front ++ text)
-stop_minute p d hour front text rest last e h l a f =
-    stops p field.Minute (front ++ text) last (cut_after ((reads_two 0 23).width hour) (after_letter p d front text rest h l) a) tt e f
+stop_minute p d hour front text rest last h l a f =
+    stops p field.Minute (front ++ text) last (cut_after ((reads_two 0 23).width hour) (after_letter p d front text rest h l) a) tt f
     (λ x g. whole_clock p d (front ++ text) text rest x (date_there d front text h) l (clock_minute hour rest last x a g))
 
 after_minute : (p : Profile) (d : OrdinalDate) (hour minute : ℕ) (front text rest last behind : List ℕ) → FullDate d front
@@ -115,38 +114,36 @@ after_minute p d hour minute front text rest last behind h l a b =
     cut_after ((reads_two_after 58 0 59).width minute)
     (cut_after ((reads_two 0 23).width hour) (after_letter p d front text rest h l) a) b
 
-pub stop_second : (p : Profile) (d : OrdinalDate) (hour minute : ℕ) (front text rest last behind : List ℕ) (e : Fault)
+pub stop_second : (p : Profile) (d : OrdinalDate) (hour minute : ℕ) (front text rest last behind : List ℕ)
     → FullDate d front → Front (TheLetter p 84 tt) text rest → Front (Two 0 23 hour) rest last
-    → Front (TwoAfter 58 0 59 minute) last behind → FieldFault 3 (SpellsSome (TwoAfter 58 0 59)) behind e
+    → Front (TwoAfter 58 0 59 minute) last behind → NoFront (TwoAfter 58 0 59) behind
     → StopsAt p field.Second (front ++ text)
-stop_second p d hour minute front text rest last behind e h l a b f =
-    stops p field.Second (front ++ text) behind (after_minute p d hour minute front text rest last behind h l a b) tt e f
+stop_second p d hour minute front text rest last behind h l a b f =
+    stops p field.Second (front ++ text) behind (after_minute p d hour minute front text rest last behind h l a b) tt f
     (λ x g. whole_clock p d (front ++ text) text rest x (date_there d front text h) l (clock_second hour minute rest last behind x a b g))
 
-pub stop_tail : (p : Profile) (d : OrdinalDate) (hour minute second : ℕ) (front text rest last behind end : List ℕ) (e : Fault)
+pub stop_tail : (p : Profile) (d : OrdinalDate) (hour minute second : ℕ) (front text rest last behind end : List ℕ)
     → FullDate d front → Front (TheLetter p 84 tt) text rest → Front (Two 0 23 hour) rest last
     → Front (TwoAfter 58 0 59 minute) last behind → Front (TwoAfter 58 0 59 second) behind end
-    → TextFault (SpellsSome (Tail p)) end e → StopsAt p field.Tail (front ++ text)
-stop_tail p d hour minute second front text rest last behind end e h l a b c f =
+    → ¬ SpellsSome (Tail p) end → StopsAt p field.Tail (front ++ text)
+stop_tail p d hour minute second front text rest last behind end h l a b c f =
     stops p field.Tail (front ++ text) end
-    (cut_after ((reads_two_after 58 0 59).width second) (after_minute p d hour minute front text rest last behind h l a b) c) tt e f
+    (cut_after ((reads_two_after 58 0 59).width second) (after_minute p d hour minute front text rest last behind h l a b) c) tt f
     (λ x g. whole_tail p d _ (front ++ text) text rest end x (date_there d front text h) l
     (clock_front hour minute second rest last behind end a b c) g)
 
 -- ---- the field that is known
 
-pub missing_at : (p : Profile) (f g : Field) (text : List ℕ) (s : StopsAt p f text) → f ≡ g → IsFaultIn p g (from g text) s.fault
-missing_at p f g text s e = subst (λ (x : Field). IsFaultIn p x (from x text) s.fault) e s.missing
+pub missing_at : (p : Profile) (f g : Field) (text : List ℕ) → StopsAt p f text → f ≡ g → IsMissing p g (from g text)
+missing_at p f g text s e = subst (λ (x : Field). IsMissing p x (from x text)) e s.missing
 
 pub whole_at : (p : Profile) (f g : Field) (text : List ℕ) → StopsAt p f text → f ≡ g → (x : Fault)
     → IsFaultIn p g (from g text) x → TextFault (SpellsSome (ReadsAs p)) text x
 whole_at p f g text s e x h = s.whole x (subst (λ (y : Field). IsFaultIn p y (from y text) x) (sym e) h)
 
 -- the year begins the text
-pub missing_year : (p : Profile) (f : Field) (text : List ℕ) (s : StopsAt p f text) → f ≡ field.Year
-    → FieldFault 4 (SpellsSome (Digits 4)) text s.fault
-missing_year p f text s e =
-    subst (λ t. FieldFault 4 (SpellsSome (Digits 4)) t s.fault) (take_rest text 0) (missing_at p f field.Year text s e)
+pub missing_year : (p : Profile) (f : Field) (text : List ℕ) → StopsAt p f text → f ≡ field.Year → NoFront (Digits 4) text
+missing_year p f text s e = subst (NoFront (Digits 4)) (take_rest text 0) (missing_at p f field.Year text s e)
 
 pub whole_year : (p : Profile) (f : Field) (text : List ℕ) → StopsAt p f text → f ≡ field.Year → (x : Fault)
     → FieldFault 4 (SpellsSome (Digits 4)) text x → TextFault (SpellsSome (ReadsAs p)) text x

@@ -3,7 +3,7 @@ use Rattle.std.specs.Prelude.{ℕ, ◌-◌, ◌<◌, ◌≤◌, ◌↔◌, IsTru
 use Rattle.time_known.specs.Rules.{Digits}
 use Rattle.time_known.specs.Values.{OffsetDateAndTime}
 use Rattle.time_read.specs.Fault.{IsFirstFault, IsSecond60, SpellsSome}
-use Rattle.time_read.specs.Front.{FieldFault, TextFault}
+use Rattle.time_read.specs.Front.{FieldFault, NoFront, TextFault}
 use Rattle.time_read.specs.Profiles.{ReadsAs, Tail, TheLetter}
 use Rattle.time_read.specs.Shapes.{Two, TwoAfter}
 use Rattle.time_read.specs.declared.fault.Fault.{Fault}
@@ -49,12 +49,22 @@ IsFaultIn p field.Minute = FieldFault 3 (SpellsSome (TwoAfter 58 0 59))
 IsFaultIn p field.Second = FieldFault 3 (SpellsSome (TwoAfter 58 0 59))
 IsFaultIn p field.Tail = TextFault (SpellsSome (Tail p))
 
+-- the field is not there
+abbrev pub IsMissing : Profile → Field → List ℕ → Type 0
+IsMissing p field.Year = NoFront (Digits 4)
+IsMissing p field.Month = NoFront (TwoAfter 45 1 12)
+IsMissing p (field.Day last) = NoFront (TwoAfter 45 1 last)
+IsMissing p field.Letter = NoFront (TheLetter p 84)
+IsMissing p field.Hour = NoFront (Two 0 23)
+IsMissing p field.Minute = NoFront (TwoAfter 58 0 59)
+IsMissing p field.Second = NoFront (TwoAfter 58 0 59)
+IsMissing p field.Tail = λ text. ¬ SpellsSome (Tail p) text
+
 -- the field is not there, and its first fault is that of the text
 pub record StopsAt (p : Profile) (f : Field) (text : List ℕ) : Type 0 where
   pub within : start f ≤ length text
   pub numbered : IsNumbered f
-  pub fault : Fault
-  pub missing : IsFaultIn p f (from f text) fault
+  pub missing : IsMissing p f (from f text)
   pub whole : (e : Fault) → IsFaultIn p f (from f text) e → TextFault (SpellsSome (ReadsAs p)) text e
 
 -- the text is refused at its first fault

@@ -144,7 +144,7 @@ fn two(text: &[u8]) -> Option<(u8, &[u8])>
 
 // Reads two digits of a number from the least to the greatest, or nothing.
 #[inline(always)]
-fn two_within(text: &[u8], least: u8, greatest: u8) -> Option<(u8, &[u8])>
+pub(crate) fn two_within(text: &[u8], least: u8, greatest: u8) -> Option<(u8, &[u8])>
     requires { greatest < 100 }
     ensures read { IfSome result (λ r. Front (Two least greatest r.0) text.now r.1.now) }
     ensures range { IfSome result (λ r. r.0 ≤ greatest) }
@@ -158,6 +158,37 @@ fn two_within(text: &[u8], least: u8, greatest: u8) -> Option<(u8, &[u8])>
         return None;
     }
     Some((number, rest))
+}
+
+// Reads this byte, and then two digits of a number from the least to the greatest, or nothing.
+#[inline(always)]
+pub(crate) fn two_after(
+    text: &[u8],
+    before: u8,
+    least: u8,
+    greatest: u8,
+) -> Option<(u8, &[u8])>
+    requires { greatest < 100 }
+    ensures read { IfSome result (λ r.
+        Front (TwoAfter before least greatest r.0) text.now r.1.now) }
+    ensures range { IfSome result (λ r. r.0 ≤ greatest) }
+    ensures none { IfNone result (NoFront (TwoAfter before least greatest) text.now) }
+{
+    let rest = after(text, before)?;
+    let (number, rest) = two_within(rest, least, greatest)?;
+    Some((number, rest))
+}
+
+// Reads four digits, or nothing.
+#[inline(always)]
+pub(crate) fn four(text: &[u8]) -> Option<(u16, &[u8])>
+    ensures read { IfSome result (λ r. Front (Digits 4 r.0) text.now r.1.now) }
+    ensures range { IfSome result (λ r. r.0 < 10_000) }
+    ensures none { IfNone result (NoFront (Digits 4) text.now) }
+{
+    let (high, rest) = two(text)?;
+    let (low, rest) = two(rest)?;
+    Some((100 * high as u16 + low as u16, rest))
 }
 
 // Reads two digits of a number from the least to the greatest, one after the other.

@@ -6,7 +6,7 @@ ghost use Rattle.time_read.specs.Profiles.{ReadsAs};
 ghost use Rattle.time_read.specs.Stops.{StopsAt};
 
 use crate::days::{Day, date_of, days_of_month};
-use crate::digits::{four_digits, letter, pair, pair_after};
+use crate::digits::{after_letter, four, two_after, two_within};
 use crate::fault::Profile;
 use crate::tail::fraction_and_offset;
 use time_below::{Date, OffsetDateTime, Time};
@@ -35,14 +35,14 @@ pub(crate) fn date(text: &[u8]) -> Result<(Date, &[u8]), Field>
     ensures read { IfOk result (λ r. Front (FullDate r.0) text.now r.1.now) }
     ensures stops { IfErr result (λ f. (p : Profile) → StopsAt p f text.now) }
 {
-    let Ok((year, rest)) = four_digits(text) else {
+    let Some((year, rest)) = four(text) else {
         return Err(Field::Year);
     };
-    let Ok((month, rest)) = pair_after(rest, b'-', 1, 12) else {
+    let Some((month, rest)) = two_after(rest, b'-', 1, 12) else {
         return Err(Field::Month);
     };
     let last = days_of_month(year, month);
-    let Ok((day, rest)) = pair_after(rest, b'-', 1, last) else {
+    let Some((day, rest)) = two_after(rest, b'-', 1, last) else {
         return Err(Field::Day(last));
     };
     Ok((date_of(Day { year, month, day }), rest))
@@ -56,16 +56,16 @@ pub(crate) fn after_date(date: Date, text: &[u8], profile: Profile) -> Result<Of
     ensures stops { IfErr result (λ f. (front : List ℕ)
         → FullDate date front → StopsAt profile f (front ++ text.now)) }
 {
-    let Ok(rest) = letter(text, b'T', profile) else {
+    let Some(rest) = after_letter(text, b'T', profile) else {
         return Err(Field::Letter);
     };
-    let Ok((hour, rest)) = pair(rest, 0, 23) else {
+    let Some((hour, rest)) = two_within(rest, 0, 23) else {
         return Err(Field::Hour);
     };
-    let Ok((minute, rest)) = pair_after(rest, b':', 0, 59) else {
+    let Some((minute, rest)) = two_after(rest, b':', 0, 59) else {
         return Err(Field::Minute);
     };
-    let Ok((second, rest)) = pair_after(rest, b':', 0, 59) else {
+    let Some((second, rest)) = two_after(rest, b':', 0, 59) else {
         return Err(Field::Second);
     };
     let Ok(tail) = fraction_and_offset(rest, profile) else {
