@@ -162,12 +162,7 @@ pub(crate) fn two_within(text: &[u8], least: u8, greatest: u8) -> Option<(u8, &[
 
 // Reads this byte, and then two digits of a number from the least to the greatest, or nothing.
 #[inline(always)]
-pub(crate) fn two_after(
-    text: &[u8],
-    before: u8,
-    least: u8,
-    greatest: u8,
-) -> Option<(u8, &[u8])>
+pub(crate) fn two_after(text: &[u8], before: u8, least: u8, greatest: u8) -> Option<(u8, &[u8])>
     requires { greatest < 100 }
     ensures read { IfSome result (λ r.
         Front (TwoAfter before least greatest r.0) text.now r.1.now) }

@@ -8,7 +8,7 @@ ghost use Rattle.time_read.specs.Stops.{StopsAt};
 use crate::days::{Day, date_of, days_of_month};
 use crate::digits::{after_letter, four, two_after, two_within};
 use crate::fault::Profile;
-use crate::tail::fraction_and_offset;
+use crate::tail::tail;
 use time_below::{Date, OffsetDateTime, Time};
 
 // The bytes of the shortest text.
@@ -68,7 +68,7 @@ pub(crate) fn after_date(date: Date, text: &[u8], profile: Profile) -> Result<Of
     let Some((second, rest)) = two_after(rest, b':', 0, 59) else {
         return Err(Field::Second);
     };
-    let Ok(tail) = fraction_and_offset(rest, profile) else {
+    let Some(tail) = tail(rest, profile) else {
         return Err(Field::Tail);
     };
     let time = Time::from_valid_hms_nano(hour, minute, second, tail.0);

@@ -26,10 +26,10 @@ returns-in_default-two_after-2-clause-stops c = λ front date.
     stop_second c.args.profile c.args.date _ _ front c.args.text.now _ _ _ date c.in-Some.ensures.some c.in-Some-two_within.ensures.read
     c.in-Some-two_after.ensures.read c.in_default-two_after-2.ensures.none
 
-pub returns-in_default-fraction_and_offset-clause-stops : goal.returns-in_default-fraction_and_offset-clause-stops
-returns-in_default-fraction_and_offset-clause-stops c = λ front date.
+pub returns-in_default-tail-clause-stops : goal.returns-in_default-tail-clause-stops
+returns-in_default-tail-clause-stops c = λ front date.
     stop_tail c.args.profile c.args.date _ _ _ front c.args.text.now _ _ _ _ date c.in-Some.ensures.some c.in-Some-two_within.ensures.read
-    c.in-Some-two_after.ensures.read c.in-Some-two_after-2.ensures.read c.in_default-fraction_and_offset.ensures.fault.none
+    c.in-Some-two_after.ensures.read c.in-Some-two_after-2.ensures.read c.in_default-tail.ensures.none
 
 pub returns-clause-read : goal.returns-clause-read
 returns-clause-read c =
@@ -38,4 +38,4 @@ returns-clause-read c =
     λ front date.
     subst (λ (v : OffsetDateAndTime). ReadsAs c.args.profile v (front ++ c.args.text.now)) (sym same)
     (whole_is c.args.profile _ _ _ _ (front ++ c.args.text.now) c.args.text.now _ _
-    (date_there c.args.date front c.args.text.now date) c.in-Some.ensures.some clock c.in-Ok.ensures.read)
+    (date_there c.args.date front c.args.text.now date) c.in-Some.ensures.some clock c.in-Some-tail.ensures.read)
