@@ -184,19 +184,6 @@ two_at (a ∷ b ∷ cs) long h k =
       );
     }
 
-two_bytes : (n : ℕ) (text rest : List ℕ) → Front (Two 0 99 n) text rest
-    → (2 ≤ length text) × (IsInRange 48 57 (get_or text 0 0) × IsInRange 48 57 (get_or text 1 0))
-two_bytes n text rest p =
-    let d = two_is n p.front p.is.0 in
-    let e : text ≡ (48 + d.tens) ∷ (48 + d.units) ∷ rest = p.whole ∙ ap (λ t. t ++ rest) d.is in
-    subst (λ (t : List ℕ). (2 ≤ length t) × (IsInRange 48 57 (get_or t 0 0) × IsInRange 48 57 (get_or t 1 0))) (sym e)
-    (omega arith, ((omega arith, omega (arith, d.tens_fit)), (omega arith, omega (arith, d.units_fit))))
-
--- a text that does not begin with two digits
-pub no_two : (text : List ℕ) → (2 ≤ length text → IsInRange 48 57 (get_or text 0 0) → ¬ IsInRange 48 57 (get_or text 1 0))
-    → NoFront (Two 0 99) text
-no_two text h n rest p = let b = two_bytes n text rest p in h b.0 b.1.0 b.1.1
-
 pub no_two_within : (least greatest : ℕ) (text : List ℕ) → greatest < 100 → NoFront (Two 0 99) text → NoFront (Two least greatest) text
 no_two_within least greatest text small none n rest p =
     none n rest (record { front = p.front; whole = p.whole; is = (p.is.0, (omega arith, omega (arith, p.is.1.1))) })
