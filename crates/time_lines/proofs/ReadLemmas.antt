@@ -19,7 +19,7 @@ use Rattle.time_read.specs.Shapes.{sign_byte}
 use Rattle.time_read.specs.declared.fault.Profile.TheVariants as profile
 use Rattle.time_read.proofs.OffsetEnds.{numbers_are}
 use Rattle.time_read.proofs.Tails.{AreDecimals, decimals_of}
-use Rattle.time_read.proofs.UsualLemmas.{date_length}
+use Rattle.time_read.proofs.PartLemmas.{reads_full_date}
 use Rattle.time_lines.specs.Number.{digit_count}
 use Rattle.std.proofs.Common.{Option, Some, None}
 use Rattle.std.specs.Prelude.{Result, Ok, Err, OnOk, IfSome, IfNone}
@@ -178,7 +178,7 @@ text_has_length v text more h =
       arith,
       length-append h.front (t.front ++ u.front),
       length-append t.front u.front,
-      date_length v.date h.front h.first,
+      (reads_full_date.width v.date).width h.front h.first,
       letter_length t.front t.first,
       clock_length v.time u.front u.first,
     ) in
@@ -194,7 +194,7 @@ text_has_length v text more h =
       length-concatenation t,
       length-concatenation u,
       length-concatenation x,
-      date_length v.date h.front h.first,
+      (reads_full_date.width v.date).width h.front h.first,
       letter_length t.front t.first,
       clock_length v.time u.front u.first,
     ) in

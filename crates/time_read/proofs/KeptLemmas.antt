@@ -1,8 +1,8 @@
 -- The bytes of a date that is kept spell it.
-use Rattle.std.proofs.Common.{◌≡◌, ℕ, List, ◌++◌, arith, ap, ap₂, refl, subst, sym, take, drop, length, ◌-◌, pos, ◌∙◌, Option}
-use Rattle.std.proofs.lemmas.List.{drop-take, take-append-drop, take-take, take_all, take_rest}
+use Rattle.std.proofs.Common.{◌≡◌, ℕ, List, ◌++◌, arith, ap, ap₂, refl, subst, sym, take, drop, length, ◌-◌, pos, ◌∙◌}
+use Rattle.std.proofs.lemmas.List.{drop-take, take-append-drop, take-take, take_all, take_at, take_rest}
 use Rattle.std.proofs.Math.Seq.{take-add}
-use Rattle.std.specs.Prelude.{codes, IfSome}
+use Rattle.std.specs.Prelude.{codes}
 use Rattle.std.proofs.lemmas.Int.{ints}
 use Rattle.std.specs.Fmt.{digits}
 use Rattle.time_below.specs.Calendar.{IsDate, OrdinalDate, date_of, days_of_months, last_begun}
@@ -10,11 +10,15 @@ use Rattle.time_digits.specs.Digits.{padded}
 use Rattle.time_known.proofs.OutcomeLemmas.{IsYearWithin, not_outside, year_is_within}
 use Rattle.time_known.proofs.Rules.Parts.{owns_four, owns_month_date}
 use Rattle.time_known.proofs.Rules.Texts.{Owns}
-use Rattle.time_known.specs.Rfc3339Grammar.{FullDate, Rfc3339Spells}
-use Rattle.time_known.specs.Values.{OffsetDateAndTime}
-use Rattle.time_read.proofs.UsualLemmas.{date_length, date_taken, text_is_read}
+use Rattle.time_known.specs.Rfc3339Grammar.{FullDate}
+use Rattle.time_read.proofs.PartLemmas.{reads_full_date}
 use Rattle.time_read.specs.Front.{Front}
 use Rattle.time_read.specs.Kept.{IsKeptDate, date_text}
+
+-- the date at the front of a text is spelled by the first ten bytes
+pub date_taken : (d : OrdinalDate) (text rest : List ℕ) → Front (FullDate d) text rest → FullDate d (take 10 text)
+date_taken d text rest f =
+    subst (FullDate d) (sym (ap (take 10) f.whole ∙ take_at f.front rest 10 ((reads_full_date.width d).width f.front f.is))) f.is
 
 owns_date : (d : OrdinalDate) → Owns (IsDate d × IsYearWithin 0 9_999 d.year) (FullDate d) (date_text d)
 owns_date d = owns_month_date (codes "-") d (owns_four d.year) (λ h. omega (arith, h.high))
@@ -31,7 +35,7 @@ spelled d bytes kept =
     subst (FullDate d) (sym kept.text) ((owns_date d).is (kept.real, year_is_within 0 9_999 d.year kept.year))
 
 pub length-kept : (d : OrdinalDate) (bytes : List ℕ) → IsKeptDate d bytes → length bytes ≡ 10
-length-kept d bytes kept = date_length d bytes (spelled d bytes kept)
+length-kept d bytes kept = (reads_full_date.width d).width bytes (spelled d bytes kept)
 
 -- a text with the same first eight bytes, and the same eight behind the first two, begins with all ten
 pub same_ten : (bytes text : List ℕ) → length bytes ≡ 10 → take 8 bytes ≡ take 8 text
@@ -49,15 +53,11 @@ pub last_eight : (bytes text : List ℕ) → bytes ≡ take 10 text → take 8 (
 last_eight bytes text same =
     ap (λ xs. take 8 (drop 2 xs)) same ∙ ap (take 8) (drop-take 2 8 text) ∙ take-take 8 8 (drop 2 text) (omega arith)
 
--- a text that begins with the bytes of the date is read after them
-pub read_after_kept : (d : OrdinalDate) (bytes text rest : List ℕ) (r : Option OffsetDateAndTime) → IsKeptDate d bytes
-    → bytes ≡ take 10 text → rest ≡ take (length text - 10) (drop 10 text)
-    → IfSome r (λ v. (front : List ℕ) → FullDate d front → Rfc3339Spells v (front ++ rest))
-    → IfSome r (λ v. Rfc3339Spells v text)
-read_after_kept d bytes text rest r kept begins after h =
-    let whole : text ≡ bytes ++ rest =
-    sym (take-append-drop 10 text) ∙ rw (begins, after, take_rest text 10) refl in
-    text_is_read d bytes text rest r (spelled d bytes kept) whole h
+-- a text that begins with the bytes of the date goes on after them
+pub after_kept : (d : OrdinalDate) (bytes text : List ℕ) → IsKeptDate d bytes → bytes ≡ take 10 text
+    → FullDate d (take 10 text) × (text ≡ take 10 text ++ take (length text - 10) (drop 10 text))
+after_kept d bytes text kept begins =
+    (subst (FullDate d) begins (spelled d bytes kept), sym (take-append-drop 10 text) ∙ rw (take_rest text 10) refl)
 
 -- the date that is kept at first
 pub first_kept : (d : OrdinalDate) → d ≡ date_of (pos 1970) 1 1 → IsKeptDate d (codes "1970-01-01")

@@ -4,9 +4,9 @@ use Rattle.std.proofs.Common.{refl, sym, ap, subst, ◌∙◌, arith, ◌⊎◌,
 use Rattle.std.specs.Prelude.{codes}
 use Rattle.std.proofs.lemmas.List.{append-nil, take_all, take_at}
 use Rattle.time_known.specs.Laws.{OneValue}
-use Rattle.time_known.specs.Rfc3339Grammar.{OptionalSecfrac, TimeNumoffset, TimeOffset}
+use Rattle.time_known.specs.Rfc3339Grammar.{OptionalSecfrac, Rfc3339Spells, TimeNumoffset, TimeOffset}
 use Rattle.time_known.specs.Rules.{◌▹◌}
-use Rattle.time_known.specs.Values.{Offset}
+use Rattle.time_known.specs.Values.{Offset, OffsetDateAndTime}
 use Rattle.time_known.proofs.Rules.Fractions.{same_fraction}
 use Rattle.time_known.proofs.Rules.Offsets.{not_zed, one_utc_or}
 use Rattle.time_known.proofs.Rules.Parts.{same_clock, same_value, width_clock}
@@ -14,7 +14,7 @@ use Rattle.time_known.proofs.Rules.Texts.{HasWidth, cut_at, cut_by_width}
 use Rattle.time_read.specs.Lenient.{EitherT, IsOffsetFor, MeansOffset, MeansSecfrac, Rfc3339Means}
 use Rattle.time_read.specs.declared.fault.Profile.TheVariants as profile
 use Rattle.time_read.proofs.IsoLemmas.{one_offset}
-use Rattle.time_read.proofs.OffsetEnds.{no_small_z}
+use Rattle.time_read.proofs.OffsetEnds.{itself, no_small_z}
 use Rattle.time_read.proofs.PartLemmas.{reads_full_date}
 use Rattle.time_read.proofs.Tails.{after_lead, after_offset_alone, same_front}
 
@@ -101,3 +101,43 @@ means_one_value text v w s t =
     let tail = one_tail time.rest v.time.nanosecond w.time.nanosecond v.offset w.offset time.second time.second' in
     same_value (reads_full_date.same date.front v.date w.date date.first date.first')
     (same_clock time.first time.first' tail.0) tail.1
+
+-- ---- what the grammar spells is meant
+
+means_secfrac : {n : ℕ} {text : List ℕ} → OptionalSecfrac n text → MeansSecfrac n text
+means_secfrac {text = text} f = record {
+  plain = text;
+  cut = record { more = []; whole = sym (append-nil text); digits = tt; full = inl refl };
+  spelled = f;
+}
+
+pub means_itself : (v : OffsetDateAndTime) (text : List ℕ) → Rfc3339Spells v text → Rfc3339Means v text
+means_itself v text s =
+    let t = s.second in
+    let c = t.second in
+    let f = c.second in
+    record {
+      front = s.front;
+      rest = s.rest;
+      whole = s.whole;
+      first = s.first;
+      second = record {
+        front = t.front;
+        rest = t.rest;
+        whole = t.whole;
+        first = inl t.first;
+        second = record {
+          front = c.front;
+          rest = c.rest;
+          whole = c.whole;
+          first = c.first;
+          second = record {
+            front = f.front;
+            rest = f.rest;
+            whole = f.whole;
+            first = means_secfrac f.first;
+            second = itself f.second;
+          };
+        };
+      };
+    }

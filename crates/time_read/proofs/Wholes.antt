@@ -9,15 +9,17 @@ use Rattle.time_read.specs.Fault.{SpellsSome, IsFirstFault, IsLetter}
 use Rattle.time_read.specs.Front.{Front, FieldFault, TextFault}
 use Rattle.time_read.specs.Lenient.{EitherT}
 use Rattle.time_read.specs.Profiles.{ReadsAs, Tail, TheLetter}
-use Rattle.time_read.specs.Shapes.{Seq, OfClock}
+use Rattle.time_read.specs.Shapes.{Clock, Seq, OfClock}
 use Rattle.time_read.specs.declared.fault.Profile.{Profile}
 use Rattle.time_read.specs.declared.fault.Profile.TheVariants as profile
 use Rattle.time_read.specs.declared.fault.Fault.{Fault}
-use Rattle.time_read.specs.declared.parts.Clock.{Clock}
 use Rattle.time_read.proofs.Fields.{CanGoOn, begins_first, text_as, text_first, text_after}
 use Rattle.time_read.proofs.Numbers.{reads_letter, begins_letter}
 use Rattle.time_read.proofs.PartLemmas.{reads_full_date, reads_clock, begins_clock}
-use Rattle.time_read.proofs.Tails.{begins_any_tail}
+use Rattle.time_read.proofs.Tails.{begins_any_tail, offset_leads}
+use Rattle.time_known.proofs.Rules.Parts.{width_clock}
+use Rattle.time_known.proofs.Rules.Texts.{length-concatenation}
+use Rattle.std.specs.Prelude.{codes}
 
 -- a time of day and an offset, and these after a letter
 abbrev ClockAndTail : Profile → Clock × (ℕ × Offset) → Rule
@@ -203,6 +205,21 @@ place_is P text e at h f =
     subst (λ (t : List ℕ). IsFirstFault P t (drop at text) e.expected) right
     (subst (λ (t : List ℕ). IsFirstFault P f.right t e.expected) rest f.first)
 
--- no more bytes are left than there are
-pub left_within : {P : Rule} {text : List ℕ} {e : Fault} → TextFault P text e → e.left ≤ length text
-left_within f = omega (arith, f.left, ap length f.whole, length-append f.right f.rest)
+-- no text is shorter
+pub shortest : (p : Profile) (v : OffsetDateAndTime) (text : List ℕ) → ReadsAs p v text → 20 ≤ length text
+shortest p v text s =
+    let d = in_parts p v text s in
+    let l = d.second in
+    let c = l.second in
+    let t = c.second in
+    omega (
+      arith,
+      length-concatenation d,
+      length-concatenation l,
+      length-concatenation c,
+      length-concatenation t,
+      (reads_full_date.width v.date).width d.front d.first,
+      ((reads_letter p 84).width tt).width l.front (to_letter p l.front l.first),
+      (width_clock (codes ":") v.time).width c.front c.first,
+      ap length (offset_leads p v.offset t.rest t.second).is,
+    )

@@ -4,3 +4,4 @@ pub mod Kept
 pub mod Lenient
 pub mod Profiles
 pub mod Shapes
+pub mod Stops

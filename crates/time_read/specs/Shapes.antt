@@ -8,13 +8,12 @@ use Rattle.time_known.specs.Rules.{Rule, Digits, Literal, ◌▹◌}
 use Rattle.time_known.specs.Values.{OrdinalDate}
 use Rattle.time_read.specs.Fault.{Allows, Begins, BeginsOffset, SpellsSome}
 use Rattle.time_read.specs.Profiles.{Secfrac, Tail}
+use Rattle.time_read.specs.declared.days.Day.{Day}
 use Rattle.time_read.specs.declared.fault.Expected.{Expected}
 use Rattle.time_read.specs.declared.fault.Expected.TheVariants as expected
 use Rattle.time_read.specs.declared.fault.Fault.{Fault}
 use Rattle.time_read.specs.declared.fault.Profile.{Profile}
 use Rattle.time_read.specs.declared.fault.Profile.TheVariants as profile
-use Rattle.time_read.specs.declared.parts.Clock.{Clock}
-use Rattle.time_read.specs.declared.parts.Day.{Day}
 
 -- a part, and then one that may depend on it
 pub record Seq {A B : Type 0} (P : A → Rule) (Q : A → B → Rule) (p : A × B) (text : List ℕ) : Type 0 where
@@ -47,15 +46,6 @@ abbrev pub TensAndUnits : ℕ → ℕ → ℕ × ℕ → Rule
 TensAndUnits least greatest =
     Seq (OneDigit (least / 10) (greatest / 10)) (λ tens. OneDigit (first_unit least tens) (last_unit greatest tens))
 
--- the numbers of a date and of a time of day, in any range
-abbrev pub DateNumbers : ℕ → ℕ → ℕ → Rule
-DateNumbers year month day =
-    Digits 4 year ▹ Literal (codes "-") ▹ Digits 2 month ▹ Literal (codes "-") ▹ Digits 2 day
-
-abbrev pub ClockNumbers : ℕ → ℕ → ℕ → Rule
-ClockNumbers hour minute second =
-    Digits 2 hour ▹ Literal (codes ":") ▹ Digits 2 minute ▹ Literal (codes ":") ▹ Digits 2 second
-
 -- a number of two digits after a byte
 abbrev pub TwoAfter : ℕ → ℕ → ℕ → ℕ → Rule
 TwoAfter before least greatest n = Literal (before ∷ []) ▹ Two least greatest n
@@ -86,7 +76,13 @@ pub record IsDay (d : Day) : Type 0 where
 abbrev pub ClockParts : ℕ × (ℕ × ℕ) → Rule
 ClockParts = Seq (Two 0 23) (λ _. Seq (TwoAfter 58 0 59) (λ _. TwoAfter 58 0 59))
 
--- an hour, a minute and a second, with colons between them
+-- the hour, the minute and the second
+pub record Clock : Type 0 where
+  pub hour : ℕ
+  pub minute : ℕ
+  pub second : ℕ
+
+-- these, with colons between them
 abbrev pub OfClock : Clock → Rule
 OfClock c = ClockTime (codes ":") (record { hour = c.hour; minute = c.minute; second = c.second; nanosecond = 0 })
 

@@ -2,7 +2,7 @@
 ghost use Rattle.std.specs.Prelude.{◌≡◌, ◌≢◌, ℕ, List, IfSome, IfNone, ◌+◌, ◌-◌, ◌*◌, ◌/◌, ◌<◌, ◌≤◌, ◌∷◌, ◌↔◌, IfOk, IfErr, IsTrue, min};
 ghost use Rattle.time_known.specs.Rules.{Digits};
 ghost use Rattle.time_read.specs.Fault.{IsLetter, SpellsSome};
-ghost use Rattle.time_read.specs.Front.{Front, FieldFault};
+ghost use Rattle.time_read.specs.Front.{Front, FieldFault, NoFront};
 ghost use Rattle.time_read.specs.Profiles.{TheLetter};
 ghost use Rattle.time_read.specs.Shapes.{TheByte, OneDigit, Two, TwoAfter, first_unit, last_unit};
 
@@ -126,6 +126,91 @@ fn units(least: u8, greatest: u8, tens: u8) -> (u8, u8)
     (first, last)
 }
 
+// Reads two digits.
+#[inline(always)]
+#[tactic(auto, using(crate::proofs::Numbers::two_at))]
+fn two(text: &[u8]) -> Option<(u8, &[u8])>
+    ensures read { IfSome result (λ r. Front (Two 0 99 r.0) text.now r.1.now) }
+    ensures range { IfSome result (λ r. r.0 < 100) }
+    ensures none { IfNone result (NoFront (Two 0 99) text.now) }
+{
+    if let [tens, units, rest @ ..] = text {
+        if tens.is_ascii_digit() && units.is_ascii_digit() {
+            return Some((10 * (*tens - b'0') + (*units - b'0'), rest));
+        }
+    }
+    None
+}
+
+// Reads two digits of a number from the least to the greatest, or nothing.
+#[inline(always)]
+pub(crate) fn two_within(text: &[u8], least: u8, greatest: u8) -> Option<(u8, &[u8])>
+    requires { greatest < 100 }
+    ensures read { IfSome result (λ r. Front (Two least greatest r.0) text.now r.1.now) }
+    ensures range { IfSome result (λ r. r.0 ≤ greatest) }
+    ensures none { IfNone result (NoFront (Two least greatest) text.now) }
+{
+    let (number, rest) = two(text)?;
+    if number < least {
+        return None;
+    }
+    if greatest < number {
+        return None;
+    }
+    Some((number, rest))
+}
+
+// Reads this byte, and then two digits of a number from the least to the greatest, or nothing.
+#[inline(always)]
+pub(crate) fn two_after(text: &[u8], before: u8, least: u8, greatest: u8) -> Option<(u8, &[u8])>
+    requires { greatest < 100 }
+    ensures read { IfSome result (λ r.
+        Front (TwoAfter before least greatest r.0) text.now r.1.now) }
+    ensures range { IfSome result (λ r. r.0 ≤ greatest) }
+    ensures none { IfNone result (NoFront (TwoAfter before least greatest) text.now) }
+{
+    let rest = after(text, before)?;
+    let (number, rest) = two_within(rest, least, greatest)?;
+    Some((number, rest))
+}
+
+// Reads four digits, or nothing.
+#[inline(always)]
+pub(crate) fn four(text: &[u8]) -> Option<(u16, &[u8])>
+    ensures read { IfSome result (λ r. Front (Digits 4 r.0) text.now r.1.now) }
+    ensures range { IfSome result (λ r. r.0 < 10_000) }
+    ensures none { IfNone result (NoFront (Digits 4) text.now) }
+{
+    let (high, rest) = two(text)?;
+    let (low, rest) = two(rest)?;
+    Some((100 * high as u16 + low as u16, rest))
+}
+
+// Reads two digits of a number from the least to the greatest, one after the other.
+#[inline(always)]
+fn digit_by_digit(text: &[u8], least: u8, greatest: u8) -> Result<(u8, &[u8]), Fault>
+    requires order { least ≤ greatest }
+    requires pairs { greatest < 100 }
+    ensures read { IfOk result (λ r. Front (Two least greatest r.0) text.now r.1.now) }
+    ensures fault { IfErr result (λ e. FieldFault 2 (SpellsSome (Two least greatest)) text.now e) }
+{
+    let (tens, rest) = digit(text, least / 10, greatest / 10)?;
+    let (first, last) = units(least, greatest, tens);
+    let (ones, rest) = digit(rest, first, last)?;
+    Ok((10 * tens + ones, rest))
+}
+
+// The fault of a text that does not begin with two digits of such a number.
+#[inline(always)]
+pub(crate) fn pair_fault(text: &[u8], least: u8, greatest: u8) -> Fault
+    requires order { least ≤ greatest }
+    requires pairs { greatest < 100 }
+    requires none { NoFront (Two least greatest) text.now }
+    ensures { FieldFault 2 (SpellsSome (Two least greatest)) text.now result }
+{
+    digit_by_digit(text, least, greatest).unwrap_err()
+}
+
 // Reads two digits of a number from the least to the greatest.
 #[inline(always)]
 pub(crate) fn pair(text: &[u8], least: u8, greatest: u8) -> Result<(u8, &[u8]), Fault>
@@ -135,10 +220,10 @@ pub(crate) fn pair(text: &[u8], least: u8, greatest: u8) -> Result<(u8, &[u8]), 
     ensures range { IfOk result (λ r. r.0 ≤ greatest) }
     ensures fault { IfErr result (λ e. FieldFault 2 (SpellsSome (Two least greatest)) text.now e) }
 {
-    let (tens, rest) = digit(text, least / 10, greatest / 10)?;
-    let (first, last) = units(least, greatest, tens);
-    let (ones, rest) = digit(rest, first, last)?;
-    Ok((10 * tens + ones, rest))
+    match two_within(text, least, greatest) {
+        Some(read) => Ok(read),
+        None => Err(pair_fault(text, least, greatest)),
+    }
 }
 
 // Reads this byte, and then two digits of a number from the least to the greatest.
@@ -159,6 +244,20 @@ pub(crate) fn pair_after(
     let rest = byte(text, before)?;
     let (number, rest) = pair(rest, least, greatest)?;
     Ok((number, rest))
+}
+
+// The fault of a text that does not begin with this byte and two digits of such a number.
+#[inline(always)]
+pub(crate) fn pair_after_fault(text: &[u8], before: u8, least: u8, greatest: u8) -> Fault
+    requires order { least ≤ greatest }
+    requires pairs { greatest < 100 }
+    requires none { NoFront (TwoAfter before least greatest) text.now }
+    ensures { FieldFault 3 (SpellsSome (TwoAfter before least greatest)) text.now result }
+{
+    match byte(text, before) {
+        Ok(rest) => pair_fault(rest, least, greatest),
+        Err(fault) => fault,
+    }
 }
 
 // Reads four digits.

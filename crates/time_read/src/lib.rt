@@ -1,15 +1,17 @@
 //! Texts of RFC 3339, read back. No call allocates.
 #![tactic(auto)]
 
+mod days;
 mod decimals;
 mod digits;
 mod fault;
 pub mod laws;
 mod offset;
-mod parts;
+mod places;
 mod reader;
 pub mod rfc3339;
-mod usual;
+mod tail;
+mod value;
 
 pub use fault::{Expected, NotRead, Profile};
 pub use reader::LenientReader;

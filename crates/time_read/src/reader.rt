@@ -7,9 +7,10 @@ ghost use Rattle.time_read.specs.Fault.{IsFirstFault, IsSecond60, SpellsSome};
 ghost use Rattle.time_read.specs.Kept.{IsKeptDate};
 ghost use Rattle.time_read.specs.Lenient.{Rfc3339Means};
 
-use crate::fault::NotRead;
+use crate::fault::{NotRead, Profile};
+use crate::places::place_of;
 use crate::rfc3339::read_lenient;
-use crate::usual::{SHORTEST, calendar_date_at, value_of};
+use crate::value::{SHORTEST, after_date, date};
 use time_below::{Date, Month, OffsetDateTime};
 
 // The bytes of a date.
@@ -47,10 +48,14 @@ impl LenientReader {
         ensures second_60 { IfErr result (λ e.
             IsTrue e.is_second_60 ↔ IsSecond60 e.at text.now) }
     {
-        if let Some(value) = self.usual(text) {
-            return Ok(value);
+        if text.len() < SHORTEST || !self.keeps(text) {
+            return read_lenient(text);
         }
-        read_lenient(text)
+        let field = match after_date(self.date, &text[LENGTH..], Profile::Lenient) {
+            Ok(value) => return Ok(value),
+            Err(field) => field,
+        };
+        Err(place_of(text, field, Profile::Lenient))
     }
 
     // Whether a text begins with a date, which then is the one that is kept.
@@ -62,7 +67,7 @@ impl LenientReader {
         if begins_with(text, &self.bytes) {
             return true;
         }
-        let Some(found) = calendar_date_at(text) else {
+        let Ok(found) = date(text) else {
             return false;
         };
         let mut bytes = [0u8; LENGTH];
@@ -72,20 +77,6 @@ impl LenientReader {
             bytes,
         };
         true
-    }
-
-    // The value of a text, if it is one of those that are read at once.
-    #[inline(always)]
-    fn usual(&mut self, text: &[u8]) -> Option<OffsetDateTime>
-        ensures read { IfSome result (λ v. Rfc3339Spells v text.now) }
-    {
-        if text.len() < SHORTEST {
-            return None;
-        }
-        if self.keeps(text) {
-            return value_of(self.date, &text[LENGTH..]);
-        }
-        None
     }
 }
 

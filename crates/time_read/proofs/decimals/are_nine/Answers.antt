@@ -1,4 +1,4 @@
-use Rattle.std.proofs.Common.{◌≡◌, ◌<◌, ◌∙◌, sym, get_or, length, take, subst, arith}
+use Rattle.std.proofs.Common.{◌<◌, ◌∙◌, sym, get_or, length, take, subst, arith}
 use Rattle.std.proofs.lemmas.Int.Digits.{digits_more}
 use Rattle.std.proofs.lemmas.List.{get_or-take, length-take, take-take}
 use Rattle.std.proofs.lemmas.Str.{digit_value_digit}

@@ -1,5 +1,4 @@
-use Rattle.time_read.proofs.LenientLemmas.{means_one_value}
-use Rattle.time_read.proofs.UsualLemmas.{means_itself}
+use Rattle.time_read.proofs.LenientLemmas.{means_itself, means_one_value}
 use Rattle.time_read.proofs.laws.lenient_texts.Goals as goal
 
 pub returns : goal.returns

@@ -1,0 +1,127 @@
+//! Fractions and offsets at the end of a text.
+ghost use Rattle.std.specs.Prelude.{◌≡◌, ◌<◌, ◌∷◌, ◌^◌, IfOk, IfErr, IfSome, IfNone};
+ghost use Rattle.time_read.specs.Fault.{SpellsSome};
+ghost use Rattle.time_read.specs.Front.{TextFault};
+ghost use Rattle.time_read.specs.Profiles.{Tail};
+ghost use Rattle.time_read.specs.Shapes.{AtFraction, Skipped, next_after};
+
+use crate::decimals::{after_digits, nanosecond};
+use crate::digits::{after, after_letter};
+use crate::fault::{Expected, Fault, Profile};
+use crate::offset::{after_sign, rest_of_signed, rest_of_utc};
+use time_below::UtcOffset;
+
+// Reads a fraction, if there is one, and an offset, to the end of the text.
+#[inline(always)]
+pub(crate) fn fraction_and_offset(text: &[u8], profile: Profile) -> Result<(u32, UtcOffset), Fault>
+    ensures read { IfOk result (λ r. Tail profile (r.0, r.1) text.now) }
+    ensures range { IfOk result (λ r. r.0 < 10 ^ 9) }
+    ensures fault { IfErr result (λ e. TextFault (SpellsSome (Tail profile)) text.now e) }
+{
+    let (nanosecond, rest, expected) = fraction(text, profile)?;
+    if let Some(rest) = after_letter(rest, b'Z', profile) {
+        let offset = rest_of_utc(rest, profile)?;
+        return Ok((nanosecond, offset));
+    }
+    if let Some(rest) = after(rest, b'+') {
+        let offset = rest_of_signed(rest, false, profile)?;
+        return Ok((nanosecond, offset));
+    }
+    if let Some(rest) = after(rest, b'-') {
+        let offset = rest_of_signed(rest, true, profile)?;
+        return Ok((nanosecond, offset));
+    }
+    Err(Fault {
+        left: rest.len(),
+        expected,
+    })
+}
+
+// Reads the same, or nothing: what is expected is not kept.
+#[inline(always)]
+pub(crate) fn tail(text: &[u8], profile: Profile) -> Option<(u32, UtcOffset)>
+    ensures read { IfSome result (λ r. Tail profile (r.0, r.1) text.now) }
+    ensures range { IfSome result (λ r. r.0 < 10 ^ 9) }
+    ensures none { IfNone result (¬ SpellsSome (Tail profile) text.now) }
+{
+    let Ok((nanosecond, rest, _)) = fraction(text, profile) else {
+        return None;
+    };
+    if let Some(rest) = after_letter(rest, b'Z', profile) {
+        let Ok(offset) = rest_of_utc(rest, profile) else {
+            return None;
+        };
+        return Some((nanosecond, offset));
+    }
+    if let Some(rest) = after(rest, b'+') {
+        let offset = after_sign(rest, false, profile)?;
+        return Some((nanosecond, offset));
+    }
+    if let Some(rest) = after(rest, b'-') {
+        let offset = after_sign(rest, true, profile)?;
+        return Some((nanosecond, offset));
+    }
+    None
+}
+
+// Reads a fraction, if there is one: its nanosecond, what is left, and what may come there.
+#[inline(always)]
+fn fraction(text: &[u8], profile: Profile) -> Result<(u32, &[u8], Expected), Fault>
+    ensures read { IfOk result (λ r. AtFraction profile text.now r.0 r.1.now r.2) }
+    ensures range { IfOk result (λ r. r.0 < 10 ^ 9) }
+    ensures fault { IfErr result (λ e. TextFault (SpellsSome (Tail profile)) text.now e) }
+{
+    match after(text, b'.') {
+        Some(rest) => decimals(rest, profile),
+        None => Ok((0, text, Expected::PointOrOffset(profile))),
+    }
+}
+
+// Reads the digits after a point: one to nine, or more where the profile is lenient.
+#[inline(always)]
+fn decimals(text: &[u8], profile: Profile) -> Result<(u32, &[u8], Expected), Fault>
+    ensures read { IfOk result (λ r. AtFraction profile (46 ∷ text.now) r.0 r.1.now r.2) }
+    ensures range { IfOk result (λ r. r.0 < 10 ^ 9) }
+    ensures fault { IfErr result (λ e. TextFault (SpellsSome (Tail profile)) (46 ∷ text.now) e) }
+{
+    let (nanosecond, count) = nanosecond(text);
+    if count == 0 {
+        return Err(Fault {
+            left: text.len(),
+            expected: Expected::Digit(0, 9),
+        });
+    }
+    Ok((
+        nanosecond,
+        skip(&text[count..], profile),
+        next_after(count, profile),
+    ))
+}
+
+// What may follow this many digits of a fraction.
+#[inline(always)]
+fn next_after(count: usize, profile: Profile) -> Expected
+    ensures { result ≡ next_after profile count }
+{
+    match profile {
+        Profile::Strict => {
+            if count == 9 {
+                Expected::Offset(Profile::Strict)
+            } else {
+                Expected::DigitOrOffset(Profile::Strict)
+            }
+        }
+        Profile::Lenient => Expected::DigitOrOffset(Profile::Lenient),
+    }
+}
+
+// What follows the decimals that are cut.
+#[inline(always)]
+fn skip(text: &[u8], profile: Profile) -> &[u8]
+    ensures { Skipped profile text.now result.now }
+{
+    match profile {
+        Profile::Strict => text,
+        Profile::Lenient => after_digits(text),
+    }
+}
