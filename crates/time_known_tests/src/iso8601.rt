@@ -9,14 +9,12 @@ use std::alloc::Global;
 use std::default::Default;
 use std::process::Abort;
 use std::test::Fail;
-use time_digits::ru8;
 use time_fmt::{ComponentProvider, ComputeMetadata, Format};
 use time_known::Iso8601;
-use time_known::fields::OffsetFields;
 use time_known::iso8601::DateKind::{Calendar, Ordinal, Week};
 use time_known::iso8601::{
-    self, Config, DateKind, DecimalSign, FormattedComponents as Parts, OffsetPrecision,
-    format_date, format_offset, format_time,
+    Config, DateKind, DecimalSign, FormattedComponents as Parts, OffsetPrecision, format_date,
+    format_offset, format_time,
 };
 
 /// What a row chooses.
@@ -473,24 +471,4 @@ fn each_format_shows_its_configuration(rt: HostRuntime) -> Result<(), Fail> {
         );
     }
     Ok(())
-}
-
-/// The parts that are there have their widths, as of an offset alone.
-#[test]
-fn parts_have_the_width_of_those_that_are_there(rt: HostRuntime) {
-    let config = Config::default();
-    let mut parts = iso8601::Parts {
-        date: None,
-        time: None,
-        offset: None,
-    };
-    assert_same(&rt, parts.width(&config), 0);
-    parts.offset = Some(OffsetFields {
-        is_utc: false,
-        is_negative: true,
-        hours: ru8::within(6),
-        minutes: ru8::within(0),
-        seconds: ru8::within(0),
-    });
-    assert_same(&rt, parts.width(&config), 6);
 }
