@@ -599,7 +599,7 @@ enum movaliren_fault_reason {
      * begins: the first one past them. In the syntax of strftime, the part that begins here has the
      * 65,537th item. */
     MOVALIREN_FAULT_TOO_MANY_ITEMS = 11,
-    /* The text ends within a conversion. The byte is its `%`. */
+    /* A `%`, or a flag behind one, ends the text. The byte is its `%`. */
     MOVALIREN_FAULT_UNFINISHED = 12,
     /* No conversion has this letter, or a colon stands elsewhere than in `%:z`. The byte is that
      * letter, or a colon before it. */

@@ -38,8 +38,8 @@ pub trait Exchange {
     /// Whether the source is at its end.
     ghost has_ended: { Self → Type 0 };
 
-    /// Reads some bytes, or none at the end of the source. No line that was read to its end may wait
-    /// for what it becomes.
+    /// Reads some bytes of the source into the block: none at the end of the source, or where the block is
+    /// empty. No line that was read to its end may wait for what it becomes.
     fn read<J: LineJob>(&mut self, job: &J, block: &mut [u8]) -> Result<usize, FilterError>
         requires prompt { IsPrompt (J.becomes job.now) (got self.old) (put self.old) }
         ensures bound { IfOk result (λ n. n ≤ length block.new) }

@@ -9,7 +9,7 @@ use thiserror::Error;
 /// What is wrong at a place of a text in the syntax of strftime.
 #[derive(Clone, Copy, Debug, PartialEq, Eq, Error)]
 pub enum StrftimeReason {
-    /// The text ends within a conversion.
+    /// A `%`, or a flag behind one, ends the text.
     #[error("unfinished conversion `%`")]
     Unfinished,
     /// No conversion has this letter, or a colon stands elsewhere than in `%:z`.
