@@ -28,12 +28,9 @@ pub struct LenientReader {
 impl LenientReader {
     /// A reader, before its first text.
     pub fn new() -> LenientReader {
-        match Date::from_calendar_date(1970, Month::January, 1) {
-            Ok(date) => LenientReader {
-                date,
-                bytes: *b"1970-01-01",
-            },
-            Err(_) => unreachable!(),
+        LenientReader {
+            date: Date::from_valid_calendar_date(1970, Month::January, 1),
+            bytes: *b"1970-01-01",
         }
     }
 
