@@ -745,7 +745,8 @@ MOVALIREN_INLINE ptrdiff_t movaliren_parse_strftime(
             text, text_len, description->items, description->items_room, &description->fault));
 }
 
-/* The text by the description: of a moment with its parts, in UTC, at an offset, and of a date. */
+/* The text by the description: movaliren_by takes a moment with its parts, movaliren_by_utc one in UTC,
+ * movaliren_by_local one at an offset, and movaliren_by_date a date. */
 MOVALIREN_INLINE ptrdiff_t movaliren_by(const struct movaliren_description *description,
     const struct movaliren_moment *moment, void *room, size_t room_len)
 {
@@ -781,7 +782,8 @@ MOVALIREN_INLINE ptrdiff_t movaliren_by_date(const struct movaliren_description 
             description->texts_len, year, month, day, room, room_len);
 }
 
-/* The number of bytes of one text by the description: of a moment with its parts, in UTC, at an offset, and of a
+/* The number of bytes of one text by the description: movaliren_length_by takes a moment with its parts,
+ * movaliren_length_by_utc one in UTC, movaliren_length_by_local one at an offset, and movaliren_length_by_date a
  * date. */
 MOVALIREN_INLINE ptrdiff_t movaliren_length_by(
     const struct movaliren_description *description, const struct movaliren_moment *moment)
