@@ -73,9 +73,9 @@ def said_of_tables():
     return [
         (f"takes {min(counts)} to {max(counts)} instructions in the first table", True),
         ("No other text of ISO 8601 takes more than `time` 0.3.55 takes", max(dearer) <= 0),
-        ("a third to three quarters of what", .32 < min(of_crate) and max(of_crate) < .76),
-        ("about as much as {fmt} or less", max(of_fmt.values()) < 1.07),
-        ("takes a quarter to a half of what the list takes", .24 < min(of_list) and max(of_list) < .51),
+        ("three tenths to two thirds of what", .29 < min(of_crate) and max(of_crate) < .67),
+        ("less than nine tenths of what {fmt} takes", max(of_fmt.values()) < .9),
+        ("takes about a quarter to a half of what the list takes", .24 < min(of_list) and max(of_list) < .53),
         ("less than a tenth of what `strftime` takes, and an eighth to a seventh of what `time` 0.3.9 takes",
          max(utc["C"], utc["Rust"]) < utc["strftime"] / 10 and all(.12 < utc[it] / utc["time"] < .148 for it in ("C", "Rust"))),
         (f"{numbers.get(len(near))} rows take more than four fifths of what 0.3.55 takes", True),
