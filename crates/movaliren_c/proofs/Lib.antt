@@ -8,4 +8,3 @@ pub mod MeaningLemmas
 pub mod NumberLemmas
 pub mod ReadLemmas
 pub mod RoomLemmas
-pub mod SinkLemmas

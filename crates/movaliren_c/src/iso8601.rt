@@ -17,14 +17,15 @@ use crate::moment::{Moment, UtcMoment};
 use crate::moment_text::{Format, answer_at, put_at_start, texts_of};
 use crate::reason::{Reason, answer_number, reason_for};
 use crate::room::copy_text;
-use crate::sinks::RoomSink;
 use crate::source::{ByParts, InUtc, Source};
 use crate::writer::Writer;
 use config::separated_config_at;
 pub use config::{IsoConfig, config_at};
 use std::default::Default;
+use std::marker::Brand;
 use time_below::OffsetDateTime;
 use time_digits::ru8;
+use time_fmt::{Before, RoomSink};
 use time_known::fields::accepted_fields;
 use time_known::iso8601::{
     Config, DecimalSign, FormattedComponents, SeparatedText, Usual, put_parts,
@@ -261,7 +262,7 @@ fn write_parts(config: &Config, value: &OffsetDateTime, room: &mut [u8]) -> Resu
     }
     let mut line = [0u8; MOST_BYTES];
     let _width = config.width();
-    match put_at_once(config, value, &mut line) {
+    match put_at_once::<Brand>(config, value, &mut line) {
         Ok(count) => copy_text(&line[..count], room),
         Err(reason) => Err(reason),
     }
@@ -269,7 +270,13 @@ fn write_parts(config: &Config, value: &OffsetDateTime, room: &mut [u8]) -> Resu
 
 /// Puts the parts at the start of a buffer that holds them, up to what is refused.
 #[inline(always)]
-fn put_at_once(config: &Config, value: &OffsetDateTime, room: &mut [u8]) -> Result<usize, Reason>
+#[tactic(auto, using(time_fmt::proofs::RoomLemmas::room_written))]
+fn put_at_once<B: Before>(
+    config: &Config,
+    value: &OffsetDateTime,
+    room: &mut [u8],
+) -> Result<usize, Reason>
+    requires before { room.old ≡ B.before }
     requires some { config.now.formatted_components ≢ FormattedComponents.None }
     requires room { iso8601_width config.now ≤ length room.old }
     ensures text { IfOk result (λ n. IsWritten (Ok n) (iso8601_of config.now value.now) room.old room.new) }
@@ -277,7 +284,7 @@ fn put_at_once(config: &Config, value: &OffsetDateTime, room: &mut [u8]) -> Resu
     ensures refused { IfErr result (λ r. IsRefusedFor r (iso8601_of config.now value.now)) }
     ensures len { length room.new ≡ length room.old }
 {
-    let mut sink = RoomSink::new(room);
+    let mut sink = RoomSink::<B>::new(room);
     match put_parts(&mut sink, config, value, &mut DateState::default()) {
         Ok(()) => Ok(sink.len()),
         Err(component) => Err(reason_for(component)),

@@ -27,7 +27,6 @@ mod rfc2822;
 mod rfc3339;
 mod room;
 mod run;
-mod sinks;
 mod source;
 mod stamp;
 mod syntax;

@@ -10,16 +10,19 @@ ghost use Rattle.time_known.specs.Fields.{offset_of_fields, shown};
 
 use crate::iso8601::IsoConfig;
 use crate::local::movaliren_iso8601_by_local;
+use crate::moment_text::put_at_start;
 use crate::reason::{Reason, answer_number};
-use crate::sinks::{RoomSink, write_over};
 use crate::source::local_value;
 use std::default::Default;
+use std::marker::Brand;
 use time_digits::ru32;
+use time_fmt::writers::write;
+use time_fmt::{Before, RoomSink, Sink, write_over};
 use time_known::fields::{Fields, OffsetFields, accepted_fields};
 use time_known::put::{
     put_clock, put_date, put_nine_digits, put_offset, put_six_decimals, put_three_decimals,
 };
-use time_known::sink::Sink;
+use time_known::sink::Text;
 use time_provide::DateState;
 use time_provide::ranges::Nanoseconds;
 
@@ -150,19 +153,20 @@ fn write_decimals(room: &mut [u8], at: usize, nanosecond: Nanoseconds, decimals:
     ensures behind { drop (at + decimals) room.new ≡ drop (at + decimals) room.old }
     ensures len { length room.new ≡ length room.old }
 {
-    put_decimals(&mut room[at..], nanosecond, decimals);
+    put_decimals::<Brand>(&mut room[at..], nanosecond, decimals);
 }
 
 /// Puts the first three, six or nine decimals of a second at the start of a buffer.
 #[inline(always)]
-#[tactic(auto, using(time_fmt::proofs::DecimalLemmas::three_of_second, time_fmt::proofs::DecimalLemmas::six_of_second))]
-fn put_decimals(room: &mut [u8], nanosecond: Nanoseconds, decimals: u8)
+#[tactic(auto, using(time_fmt::proofs::DecimalLemmas::three_of_second, time_fmt::proofs::DecimalLemmas::six_of_second, time_fmt::proofs::RoomLemmas::room_written))]
+fn put_decimals<B: Before>(room: &mut [u8], nanosecond: Nanoseconds, decimals: u8)
+    requires before { room.old ≡ B.before }
     requires few { decimals ≡ 3 ⊎ decimals ≡ 6 ⊎ decimals ≡ 9 }
     requires room { decimals ≤ length room.old }
     ensures text { room.new ≡ decimals_of nanosecond 1_000_000_000 decimals ++ drop decimals room.old }
     ensures len { length room.new ≡ length room.old }
 {
-    let mut sink = RoomSink::new(room);
+    let mut sink = RoomSink::<B>::new(room);
     match decimals {
         3 => put_three_decimals(&mut sink, nanosecond),
         6 => put_six_decimals(&mut sink, nanosecond),
@@ -211,32 +215,41 @@ fn keep(kept: &mut Log, second: i64, offset: i64, fields: &Fields)
     ensures { IsKept kept.new }
 {
     kept.zone_len = 0;
-    if put_head(fields, &mut kept.head) != kept.head.len() {
+    if put_at_start(&Head(fields), &mut kept.head) != kept.head.len() {
         return;
     }
     kept.second = second;
     kept.offset = offset;
-    kept.zone_len = put_zone(&fields.offset, &mut kept.zone) as u8;
+    kept.zone_len = put_at_start(&Zone(&fields.offset), &mut kept.zone) as u8;
 }
 
-/// Puts the date and the clock, up to the decimals, at the start of an array, and returns the number of bytes.
-fn put_head(fields: &Fields, room: &mut [u8; 20]) -> usize
-    ensures { take result room.new ≡ head_of (shown fields.now) }
-{
-    let mut head = RoomSink::new(room);
-    put_date(&mut head, fields, "-");
-    head.put("T");
-    put_clock(&mut head, fields.time, ":");
-    head.put(".");
-    head.len()
+/// The date and the clock, up to the decimals.
+#[derive(Drop)]
+struct Head<'a>(&'a Fields);
+
+impl Text for Head<'_> {
+    ghost width = { λ _. 20 };
+
+    ghost text = { λ head. head_of (shown head.0.now) };
+
+    fn put_into<S: Sink>(&self, output: &mut S) {
+        put_date(output, self.0, "-");
+        write(output, "T");
+        put_clock(output, self.0.time, ":");
+        write(output, ".");
+    }
 }
 
-/// Puts the offset at the start of an array, and returns the number of bytes.
-fn put_zone(offset: &OffsetFields, room: &mut [u8; 6]) -> usize
-    ensures fits { result ≤ 6 }
-    ensures text { take result room.new ≡ offset_of_fields (codes ":") offset.now }
-{
-    let mut zone = RoomSink::new(room);
-    put_offset(&mut zone, offset, ":");
-    zone.len()
+/// The offset.
+#[derive(Drop)]
+struct Zone<'a>(&'a OffsetFields);
+
+impl Text for Zone<'_> {
+    ghost width = { λ _. 6 };
+
+    ghost text = { λ zone. offset_of_fields (codes ":") zone.0.now };
+
+    fn put_into<S: Sink>(&self, output: &mut S) {
+        put_offset(output, self.0, ":");
+    }
 }

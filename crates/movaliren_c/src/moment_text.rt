@@ -7,10 +7,11 @@ ghost use Rattle.time_fmt.specs.Outcome.{Outcome, done};
 use crate::moment::UtcMoment;
 use crate::reason::{Reason, answer_number};
 use crate::room::copy_text;
-use crate::sinks::RoomSink;
 use crate::source::Source;
 use crate::writer::Writer;
+use std::marker::Brand;
 use time_below::OffsetDateTime;
+use time_fmt::{Before, RoomSink};
 use time_known::sink::Text;
 
 /// A format of moments, whose texts have at most 35 bytes.
@@ -102,7 +103,21 @@ pub fn put_at_start<T: Text>(text: &T, room: &mut [u8]) -> usize
     ensures text { room.new
         ≡ T.text text.now ++ drop (length (T.text text.now)) room.old }
 {
-    let mut sink = RoomSink::new(room);
+    put_before::<Brand, T>(text, room)
+}
+
+/// Puts it at the start of a buffer that held these bytes before.
+#[inline(always)]
+#[tactic(auto, using(time_fmt::proofs::RoomLemmas::room_written))]
+fn put_before<B: Before, T: Text>(text: &T, room: &mut [u8]) -> usize
+    requires before { room.old ≡ B.before }
+    requires room { T.width text.now ≤ length room.old }
+    ensures fits { result ≤ length room.old }
+    ensures count { result ≡ length (T.text text.now) }
+    ensures text { room.new
+        ≡ T.text text.now ++ drop (length (T.text text.now)) room.old }
+{
+    let mut sink = RoomSink::<B>::new(room);
     text.put_into(&mut sink);
     sink.len()
 }

@@ -4,7 +4,7 @@ ghost use Rattle.movaliren_c.specs.Answer.{IsWritten};
 ghost use Rattle.time_fmt.specs.Outcome.{done};
 
 use crate::reason::Reason;
-use crate::sinks::write_over;
+use time_fmt::write_over;
 
 /// Copies the text to the start of the buffer, if it fits.
 #[inline(always)]

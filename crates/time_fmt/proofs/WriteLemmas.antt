@@ -5,14 +5,7 @@ use Rattle.std.proofs.Common.{refl, sym, ap, ◌∙◌, arith, Option, Some, Non
 use Rattle.std.proofs.lemmas.List.{append-nil}
 use Rattle.std.specs.Global.{Global}
 use Rattle.time_fmt.specs.declared.error.Format.{Format}
-use Rattle.time_fmt.specs.Outcome.{Outcome, Refusal, Names, Appends, Adds, done, refused, join}
-use Rattle.time_fmt.specs.Room.{WritesUpTo}
-
--- a text that is written within a width is appended
-pub appends_up_to : {width : ℕ} {old new : Vec ℕ Global} {n : ℕ} {text : List ℕ} → WritesUpTo width old new n text
-    → Appends old new (Ok n) (done text)
-appends_up_to w =
-    record { appended = w.appended; counted = (refl, w.counted); named = tt; grown = w.grown; capacity = w.capacity }
+use Rattle.time_fmt.specs.Outcome.{Outcome, Refusal, Names, Appends, Adds, refused, join}
 
 -- an outcome is added if it is appended after a reservation
 pub adds_after_room : {answer : Result ℕ Format} {o : Outcome} (old mid new : Vec ℕ Global) → mid.items ≡ old.items

@@ -13,11 +13,3 @@ pub record Writes (old new : Vec ℕ Global) (count : ℕ) (text : List ℕ) : T
   pub counted : count ≡ length text
   pub grown : vec_len new ≡ vec_len old + length text
   pub capacity : vec_capacity new ≡ vec_capacity old
-
--- a text of at most this many bytes was appended
-pub record WritesUpTo (width : ℕ) (old new : Vec ℕ Global) (count : ℕ) (text : List ℕ) : Type 0 where
-  pub appended : new.items ≡ old.items ++ text
-  pub counted : count ≡ length text
-  pub grown : vec_len new ≡ vec_len old + length text
-  pub capacity : vec_capacity new ≡ vec_capacity old
-  pub within : length text ≤ width

@@ -24,7 +24,7 @@ pub use formattable::{
 pub use metadata::ComputeMetadata;
 pub use modifier::{Modifier, write_part};
 pub use refused::Refused;
-pub use room_sink::{Before, RoomSink};
+pub use room_sink::{Before, RoomSink, write_over};
 pub use runs::{write_date, write_time};
 pub use sink::Sink;
 pub use time_below::format_description::Metadata;

@@ -34,9 +34,12 @@ impl<'a, B: Before> RoomSink<'a, B> {
     #[inline(always)]
     pub fn new(room: &'a mut [u8]) -> RoomSink<'a, B>
         requires before { room.old ≡ B.before }
-        ensures len { result.len ≡ 0 }
-        ensures same_reference { result.room.ghost_name ≡ room.entry.ghost_name }
-        ensures room { result.room.now ≡ room.old }
+        ensures { ⟦<RoomSink<'a, B> as Sink>⟧.buffer result ≡ record {
+          bytes = [];
+          len = 0;
+          capacity = length room.old;
+          lender = Some room.entry.ghost_name;
+        } }
     {
         RoomSink {
             room,
@@ -48,7 +51,7 @@ impl<'a, B: Before> RoomSink<'a, B> {
     /// The number of bytes of the text.
     #[inline(always)]
     pub fn len(&self) -> usize
-        ensures { result ≡ self.now.len }
+        ensures { result ≡ (⟦<RoomSink<'a, B> as Sink>⟧.buffer self.now).len }
     {
         self.len
     }
@@ -120,10 +123,10 @@ fn write_first_over(room: &mut [u8], at: usize, bytes: &[u8; 9], count: usize)
     }
 }
 
-// Overwrites the bytes of a buffer from a place on.
+/// Overwrites the bytes of a buffer from a place on.
 #[inline(always)]
 #[tactic(auto, using(crate::proofs::RoomLemmas::written_over))]
-fn write_over(room: &mut [u8], at: usize, bytes: &[u8])
+pub fn write_over(room: &mut [u8], at: usize, bytes: &[u8])
     requires { at + length bytes.now ≤ length room.old }
     ensures before { take (at + length bytes.now) room.new ≡ take at room.old ++ bytes.now }
     ensures behind { drop (at + length bytes.now) room.new ≡ drop (at + length bytes.now) room.old }

@@ -27,8 +27,10 @@ pub use digits::{
     format_two_digits, format_u64_pad_none,
 };
 pub use offset::{fmt_offset_hour, fmt_offset_minute, fmt_offset_second};
-pub(crate) use plain::{write_each, write_literal};
-pub use plain::{put_back, take_out, write, write_bytes, write_if, write_if_else, write_many};
+pub(crate) use plain::write_each;
+pub use plain::{
+    put_back, take_out, write, write_bytes, write_if, write_if_else, write_literal, write_many,
+};
 pub use subsecond::{fmt_subsecond, write_fraction, write_six_decimals, write_three_decimals};
 pub use time::{fmt_hour_12, fmt_hour_24, fmt_minute, fmt_period, fmt_second};
 pub use timestamp::{fmt_unix_timestamp_millisecond, fmt_unix_timestamp_second};

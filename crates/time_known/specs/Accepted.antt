@@ -2,8 +2,9 @@
 use Rattle.std.specs.Prelude.{ℕ, ℤ, ◌≡◌, List, codes, nat_lt, Option, Some, None, Result, Ok, Err}
 use Rattle.std.specs.Prelude.{Vec}
 use Rattle.std.specs.Global.{Global}
+use Rattle.time_fmt.specs.Sink.{Buffer}
 use Rattle.time_fmt.specs.Outcome.{AppendsUpTo, Outcome, Refusal, done, refused, invalid_component}
-use Rattle.time_known.specs.Sink.{Buffer, PutsUpTo}
+use Rattle.time_known.specs.Sink.{PutsUpTo}
 use Rattle.time_known.specs.WellKnown.{refused_if, is_outside}
 use Rattle.time_known.specs.declared.accepted.OutOfRange.{OutOfRange}
 use Rattle.time_known.specs.declared.accepted.OutOfRange.TheVariants as out

@@ -6,47 +6,49 @@ ghost use Rattle.time_below.specs.Weekday.{days_from_monday};
 ghost use Rattle.time_digits.specs.Digits.{fixed, zero_padded};
 ghost use Rattle.time_digits.specs.Fraction.{trimmed_fraction};
 ghost use Rattle.time_fmt.specs.DateText.{month_name, weekday_name, short_name};
+ghost use Rattle.time_fmt.specs.Sink.{Fits, Puts};
 ghost use Rattle.time_known.specs.Days.{month_and_day};
 ghost use Rattle.time_known.specs.Fields.{date_of_fields, hours_of_fields, offset_of_fields, shown, signed_offset_of_fields};
-ghost use Rattle.time_known.specs.Sink.{Fits, Puts, PutsJust, PutsUpTo};
+ghost use Rattle.time_known.specs.Sink.{PutsUpTo};
 ghost use Rattle.time_known.specs.WellKnown.{clock_text};
 
 use crate::days::CalendarDay;
 use crate::fields::{Fields, OffsetFields};
-use crate::sink::Sink;
 use time_below::{Time, Weekday};
 use time_digits::num_fmt::{three_digits_zero_padded, truncated_subsecond_from_nanos};
 use time_digits::{
     four_digits_zero_padded, ru8, ru16, subsecond_from_nanos, two_digits_zero_padded,
 };
+use time_fmt::Sink;
+use time_fmt::writers::{write, write_literal};
 use time_provide::ranges::Nanoseconds;
 
 /// Puts a number in two digits, with a zero in front where it is below 10.
 #[inline(always)]
 pub fn put_pair<S: Sink>(output: &mut S, number: ru8<0, 99>)
-    requires room { Fits 2 (S.buffer output.old) }
-    ensures puts { PutsJust 2 (S.buffer output.old) (S.buffer output.new) (zero_padded 2 number) }
+    requires room { Fits (S.buffer output.old) 2 }
+    ensures puts { Puts (S.buffer output.old) (S.buffer output.new) 2 (zero_padded 2 number) }
 {
-    output.put(two_digits_zero_padded(number));
+    write(output, two_digits_zero_padded(number));
 }
 
 /// Puts a number in three digits, with zeros in front where it has fewer.
 #[inline(always)]
 pub fn put_three_digits<S: Sink>(output: &mut S, number: ru16<0, 999>)
-    requires room { Fits 3 (S.buffer output.old) }
-    ensures puts { PutsJust 3 (S.buffer output.old) (S.buffer output.new) (zero_padded 3 number) }
+    requires room { Fits (S.buffer output.old) 3 }
+    ensures puts { Puts (S.buffer output.old) (S.buffer output.new) 3 (zero_padded 3 number) }
 {
     let [first, last] = three_digits_zero_padded(number);
-    output.put(first);
-    output.put(last);
+    write(output, first);
+    write(output, last);
 }
 
 /// Puts the first three of the nine digits of a fraction.
 #[inline(always)]
 #[tactic(auto, using(time_fmt::proofs::DecimalLemmas::first_decimals))]
 pub fn put_three_decimals<S: Sink>(output: &mut S, nanosecond: Nanoseconds)
-    requires room { Fits 3 (S.buffer output.old) }
-    ensures puts { PutsJust 3 (S.buffer output.old) (S.buffer output.new)
+    requires room { Fits (S.buffer output.old) 3 }
+    ensures puts { Puts (S.buffer output.old) (S.buffer output.new) 3
         (take 3 (fixed 9 nanosecond)) }
 {
     put_three_digits(output, ru16::within((nanosecond.get() / 1_000_000) as u16));
@@ -55,33 +57,34 @@ pub fn put_three_decimals<S: Sink>(output: &mut S, nanosecond: Nanoseconds)
 /// Puts a number in four digits, with zeros in front where it has fewer.
 #[inline(always)]
 pub fn put_four_digits<S: Sink>(output: &mut S, number: ru16<0, 9_999>)
-    requires room { Fits 4 (S.buffer output.old) }
-    ensures puts { PutsJust 4 (S.buffer output.old) (S.buffer output.new) (zero_padded 4 number) }
+    requires room { Fits (S.buffer output.old) 4 }
+    ensures puts { Puts (S.buffer output.old) (S.buffer output.new) 4 (zero_padded 4 number) }
 {
     let [high, low] = four_digits_zero_padded(number);
-    output.put(high);
-    output.put(low);
+    write(output, high);
+    write(output, low);
 }
 
 // Puts a piece, and then another.
 #[inline(always)]
 pub(crate) fn put_both<S: Sink>(output: &mut S, first: &str, second: &str)
-    requires room { Fits (length first.now + length second.now) (S.buffer output.old) }
-    ensures puts { Puts (S.buffer output.old) (S.buffer output.new) (first.now ++ second.now) }
+    requires room { Fits (S.buffer output.old) (length first.now + length second.now) }
+    ensures puts { Puts (S.buffer output.old) (S.buffer output.new) (length first.now + length second.now)
+        (first.now ++ second.now) }
     ensures length { length (first.now ++ second.now) ≡ length first.now + length second.now }
 {
-    output.put(first);
-    output.put(second);
+    write(output, first);
+    write(output, second);
 }
 
 /// Puts the nine digits of a fraction of a second.
 #[inline(always)]
 pub fn put_nine_digits<S: Sink>(output: &mut S, nanosecond: Nanoseconds)
-    requires room { Fits 9 (S.buffer output.old) }
-    ensures puts { PutsJust 9 (S.buffer output.old) (S.buffer output.new) (fixed 9 nanosecond) }
+    requires room { Fits (S.buffer output.old) 9 }
+    ensures puts { Puts (S.buffer output.old) (S.buffer output.new) 9 (fixed 9 nanosecond) }
 {
     let [first, second, third, fourth, fifth] = subsecond_from_nanos(nanosecond);
-    output.put(first);
+    write(output, first);
     put_both(output, second, third);
     put_both(output, fourth, fifth);
 }
@@ -90,8 +93,8 @@ pub fn put_nine_digits<S: Sink>(output: &mut S, nanosecond: Nanoseconds)
 #[inline(always)]
 #[tactic(auto, using(time_fmt::proofs::DecimalLemmas::six_digits, crate::proofs::LengthLemmas::joined_lengths))]
 pub fn put_six_decimals<S: Sink>(output: &mut S, nanosecond: Nanoseconds)
-    requires room { Fits 6 (S.buffer output.old) }
-    ensures puts { PutsJust 6 (S.buffer output.old) (S.buffer output.new)
+    requires room { Fits (S.buffer output.old) 6 }
+    ensures puts { Puts (S.buffer output.old) (S.buffer output.new) 6
         (take 6 (fixed 9 nanosecond)) }
 {
     let number = nanosecond.get() / 1_000;
@@ -104,7 +107,7 @@ pub fn put_six_decimals<S: Sink>(output: &mut S, nanosecond: Nanoseconds)
 #[inline(always)]
 #[tactic(auto, using(time_fmt::proofs::TrimLemmas::whole_fractions))]
 pub fn put_fraction<S: Sink>(output: &mut S, nanosecond: Nanoseconds)
-    requires room { Fits 9 (S.buffer output.old) }
+    requires room { Fits (S.buffer output.old) 9 }
     ensures puts { PutsUpTo 9 (S.buffer output.old) (S.buffer output.new)
         (trimmed_fraction nanosecond) }
 {
@@ -119,13 +122,13 @@ pub fn put_fraction<S: Sink>(output: &mut S, nanosecond: Nanoseconds)
         return put_six_decimals(output, nanosecond);
     }
     let digits = truncated_subsecond_from_nanos(nanosecond);
-    output.put(digits.as_str());
+    write_literal(output, digits.as_str().as_bytes());
 }
 
 /// Puts the year, the month and the day, and the separator between them.
 #[inline(always)]
 pub fn put_date<S: Sink>(output: &mut S, fields: &Fields, separator: &str)
-    requires room { Fits (8 + 2 * length separator.now) (S.buffer output.old) }
+    requires room { Fits (S.buffer output.old) (8 + 2 * length separator.now) }
     ensures puts { PutsUpTo (8 + 2 * length separator.now)
         (S.buffer output.old) (S.buffer output.new)
         (date_of_fields separator.now (shown fields.now)) }
@@ -137,41 +140,41 @@ pub fn put_date<S: Sink>(output: &mut S, fields: &Fields, separator: &str)
 /// Puts the month and the day, and the separator before each of them.
 #[inline(always)]
 pub fn put_month_and_day<S: Sink>(output: &mut S, date: CalendarDay, separator: &str)
-    requires room { Fits (4 + 2 * length separator.now) (S.buffer output.old) }
+    requires room { Fits (S.buffer output.old) (4 + 2 * length separator.now) }
     ensures puts { PutsUpTo (4 + 2 * length separator.now)
         (S.buffer output.old) (S.buffer output.new)
         (separator.now ++ zero_padded 2 (month_and_day date).month
         ++ separator.now ++ zero_padded 2 (month_and_day date).day) }
 {
     let (month, day) = date.digits();
-    output.put(separator);
-    output.put(month);
-    output.put(separator);
-    output.put(day);
+    write(output, separator);
+    write(output, month);
+    write(output, separator);
+    write(output, day);
 }
 
 /// Puts the first three letters of the month's English name.
 #[inline(always)]
 pub fn put_month_name<S: Sink>(output: &mut S, date: CalendarDay)
-    requires room { Fits 3 (S.buffer output.old) }
-    ensures puts { PutsJust 3 (S.buffer output.old) (S.buffer output.new)
+    requires room { Fits (S.buffer output.old) 3 }
+    ensures puts { Puts (S.buffer output.old) (S.buffer output.new) 3
         (short_name (month_name (month_and_day date).month)) }
 {
     let (first, rest) = date.month_letters();
-    output.put(first);
-    output.put(rest);
+    write(output, first);
+    write(output, rest);
 }
 
 /// Puts the first three letters of the weekday's English name.
 #[inline(always)]
 pub fn put_weekday_name<S: Sink>(output: &mut S, weekday: Weekday)
-    requires room { Fits 3 (S.buffer output.old) }
-    ensures puts { PutsJust 3 (S.buffer output.old) (S.buffer output.new)
+    requires room { Fits (S.buffer output.old) 3 }
+    ensures puts { Puts (S.buffer output.old) (S.buffer output.new) 3
         (short_name (weekday_name (days_from_monday weekday))) }
 {
     let (first, rest) = weekday_letters(weekday);
-    output.put(first);
-    output.put(rest);
+    write(output, first);
+    write(output, rest);
 }
 
 // The first letter of the weekday's English name, and the next two.
@@ -196,53 +199,53 @@ fn weekday_letters(weekday: Weekday) -> (&'static str, &'static str)
 /// Puts the hour, the minute and the second, and the separator between them.
 #[inline(always)]
 pub fn put_clock<S: Sink>(output: &mut S, time: Time, separator: &str)
-    requires room { Fits (6 + 2 * length separator.now) (S.buffer output.old) }
+    requires room { Fits (S.buffer output.old) (6 + 2 * length separator.now) }
     ensures puts { PutsUpTo (6 + 2 * length separator.now)
         (S.buffer output.old) (S.buffer output.new)
         (clock_text separator.now time) }
 {
     let (hour, minute, second, _) = time.as_hms_nano();
     put_pair(output, ru8::within(hour));
-    output.put(separator);
+    write(output, separator);
     put_pair(output, ru8::within(minute));
-    output.put(separator);
+    write(output, separator);
     put_pair(output, ru8::within(second));
 }
 
 /// Puts the sign of the whole offset, and its hours.
 #[inline(always)]
 pub fn put_offset_hours<S: Sink>(output: &mut S, offset: &OffsetFields)
-    requires room { Fits 3 (S.buffer output.old) }
-    ensures puts { PutsJust 3 (S.buffer output.old) (S.buffer output.new)
+    requires room { Fits (S.buffer output.old) 3 }
+    ensures puts { Puts (S.buffer output.old) (S.buffer output.new) 3
         (hours_of_fields offset.now) }
 {
-    output.put(if offset.is_negative { "-" } else { "+" });
+    write(output, if offset.is_negative { "-" } else { "+" });
     put_pair(output, offset.hours.expand());
 }
 
 /// Puts the sign of the whole offset, and its hours and its minutes, and the separator between them.
 #[inline(always)]
 pub fn put_signed_offset<S: Sink>(output: &mut S, offset: &OffsetFields, separator: &str)
-    requires room { Fits (5 + length separator.now) (S.buffer output.old) }
+    requires room { Fits (S.buffer output.old) (5 + length separator.now) }
     ensures puts { PutsUpTo (5 + length separator.now)
         (S.buffer output.old) (S.buffer output.new)
         (signed_offset_of_fields separator.now offset.now) }
 {
     put_offset_hours(output, offset);
-    output.put(separator);
+    write(output, separator);
     put_pair(output, offset.minutes.expand());
 }
 
-/// Puts the offset, or `Z` for UTC.
+/// Puts `Z` for UTC, else the sign of the whole offset, its hours and its minutes, and the separator between them.
 #[inline(always)]
 pub fn put_offset<S: Sink>(output: &mut S, offset: &OffsetFields, separator: &str)
-    requires room { Fits (5 + length separator.now) (S.buffer output.old) }
+    requires room { Fits (S.buffer output.old) (5 + length separator.now) }
     ensures puts { PutsUpTo (5 + length separator.now)
         (S.buffer output.old) (S.buffer output.new)
         (offset_of_fields separator.now offset.now) }
 {
     if offset.is_utc {
-        output.put("Z");
+        write(output, "Z");
     } else {
         put_signed_offset(output, offset, separator);
     }

@@ -1,20 +1,22 @@
 //! RFC 2822.
 ghost use Rattle.std.specs.Prelude.{true};
 ghost use Rattle.time_below.specs.Weekday.{days_from_monday};
+ghost use Rattle.time_fmt.specs.Sink.{Fits};
 ghost use Rattle.time_known.specs.Fields.{shown};
 ghost use Rattle.time_known.specs.Longest.{FillsRfc2822Width};
 ghost use Rattle.time_known.specs.ReadBack.{ReadsAs};
 ghost use Rattle.time_known.specs.Rfc2822.{rfc2822_of_fields, rfc2822_outcome, named_date_of_fields, day_of_fields};
 ghost use Rattle.time_known.specs.Rfc2822.{rfc2822_width, named_date_width, date_width};
 ghost use Rattle.time_known.specs.Rfc2822Grammar.{Rfc2822Spells, to_whole_second};
-ghost use Rattle.time_known.specs.Sink.{Fits, PutsUpTo};
+ghost use Rattle.time_known.specs.Sink.{PutsUpTo};
 
 use crate::fields::{Fields, accepted_fields};
 use crate::groups::Groups;
 use crate::put::{put_clock, put_four_digits, put_month_name, put_signed_offset, put_weekday_name};
-use crate::sink::{Sink, Text, append};
+use crate::sink::{Text, append};
 use time_below::Weekday;
-use time_fmt::{ComputeMetadata, Format, Formattable, Metadata};
+use time_fmt::writers::write;
+use time_fmt::{ComputeMetadata, Format, Formattable, Metadata, Sink};
 use time_provide::ComponentProvider;
 
 /// The format of RFC 2822, section 3.3, as `Fri, 21 Nov 1997 09:55:06 -0600`, of 31 bytes.
@@ -86,9 +88,9 @@ impl Text for Rfc2822Text {
     #[inline(always)]
     fn put_into<S: Sink>(&self, output: &mut S) {
         put_named_date(output, self.weekday, &self.fields);
-        output.put(" ");
+        write(output, " ");
         put_clock(output, self.fields.time, ":");
-        output.put(" ");
+        write(output, " ");
         put_signed_offset(output, &self.fields.offset, "");
     }
 }
@@ -97,12 +99,12 @@ impl Text for Rfc2822Text {
 #[inline(always)]
 #[tactic(auto, using(crate::proofs::LengthLemmas::joined_lengths))]
 fn put_named_date<S: Sink>(output: &mut S, weekday: Weekday, fields: &Fields)
-    requires room { Fits named_date_width (S.buffer output.old) }
+    requires room { Fits (S.buffer output.old) named_date_width }
     ensures puts { PutsUpTo named_date_width (S.buffer output.old) (S.buffer output.new)
         (named_date_of_fields (days_from_monday weekday) (shown fields.now)) }
 {
     put_weekday_name(output, weekday);
-    output.put(", ");
+    write(output, ", ");
     put_day(output, fields);
 }
 
@@ -110,14 +112,14 @@ fn put_named_date<S: Sink>(output: &mut S, weekday: Weekday, fields: &Fields)
 #[inline(always)]
 #[tactic(auto, using(crate::proofs::LengthLemmas::joined_lengths))]
 fn put_day<S: Sink>(output: &mut S, fields: &Fields)
-    requires room { Fits date_width (S.buffer output.old) }
+    requires room { Fits (S.buffer output.old) date_width }
     ensures puts { PutsUpTo date_width (S.buffer output.old) (S.buffer output.new)
         (day_of_fields (shown fields.now)) }
 {
     let (_, day) = fields.date.digits();
-    output.put(day);
-    output.put(" ");
+    write(output, day);
+    write(output, " ");
     put_month_name(output, fields.date);
-    output.put(" ");
+    write(output, " ");
     put_four_digits(output, fields.year);
 }

@@ -1,20 +1,22 @@
 //! RFC 3339.
 ghost use Rattle.std.specs.Prelude.{true};
+ghost use Rattle.time_fmt.specs.Sink.{Fits};
 ghost use Rattle.time_known.specs.Fields.{shown};
 ghost use Rattle.time_known.specs.Longest.{FillsRfc3339Width};
 ghost use Rattle.time_known.specs.ReadBack.{ReadsAs};
 ghost use Rattle.time_known.specs.Rfc3339.{rfc3339_of_fields, rfc3339_outcome, rfc3339_width};
 ghost use Rattle.time_known.specs.Rfc3339.{time_secfrac_text, time_secfrac_width};
 ghost use Rattle.time_known.specs.Rfc3339Grammar.{Rfc3339Spells, IsCanonicalRfc3339};
-ghost use Rattle.time_known.specs.Sink.{Fits, PutsUpTo};
+ghost use Rattle.time_known.specs.Sink.{PutsUpTo};
 
 use crate::fields::{Fields, accepted_fields};
 use crate::groups::Groups;
 use crate::put::{put_clock, put_date, put_fraction, put_offset};
-use crate::sink::{Sink, Text, append};
+use crate::sink::{Text, append};
 use time_below::Time;
 use time_digits::ru32;
-use time_fmt::{ComputeMetadata, Format, Formattable, Metadata};
+use time_fmt::writers::write;
+use time_fmt::{ComputeMetadata, Format, Formattable, Metadata, Sink};
 use time_provide::ComponentProvider;
 
 /// The format of RFC 3339, section 5.6, as `1985-04-12T23:20:50.52Z`, of at most 35 bytes.
@@ -82,7 +84,7 @@ impl Text for Rfc3339Text {
     #[inline(always)]
     fn put_into<S: Sink>(&self, output: &mut S) {
         put_date(output, &self.fields, "-");
-        output.put("T");
+        write(output, "T");
         put_clock(output, self.fields.time, ":");
         put_time_secfrac(output, self.fields.time);
         put_offset(output, &self.fields.offset, ":");
@@ -93,13 +95,13 @@ impl Text for Rfc3339Text {
 #[inline(always)]
 #[tactic(auto, using(crate::proofs::LengthLemmas::joined_lengths))]
 fn put_time_secfrac<S: Sink>(output: &mut S, time: Time)
-    requires room { Fits time_secfrac_width (S.buffer output.old) }
+    requires room { Fits (S.buffer output.old) time_secfrac_width }
     ensures puts { PutsUpTo time_secfrac_width (S.buffer output.old) (S.buffer output.new)
         (time_secfrac_text time.nanosecond) }
 {
     let (_, _, _, nanosecond) = time.as_hms_nano();
     if nanosecond != 0 {
-        output.put(".");
+        write(output, ".");
         put_fraction(output, ru32::within(nanosecond));
     }
 }

@@ -16,11 +16,10 @@ use std::default::Default;
 use time_below::{Time, Timestamp, UtcOffset};
 use time_digits::{ru8, ru32};
 use time_fmt::make_room;
-use time_fmt::writers::{put_back, take_out};
+use time_fmt::writers::{put_back, take_out, write};
 use time_known::Rfc3339;
 use time_known::fields::OffsetFields;
 use time_known::put::{put_clock, put_fraction, put_offset};
-use time_known::sink::Sink;
 use time_provide::DateState;
 
 /// The bytes of a date and the letter `T`.
@@ -229,7 +228,7 @@ fn put_text(output: &mut Vec<u8>, day: &[u8; LENGTH], time: Time, offset: &Offse
     put_clock(&mut taken, time, ":");
     let (_, _, _, nanosecond) = time.as_hms_nano();
     if nanosecond != 0 {
-        taken.put(".");
+        write(&mut taken, ".");
         put_fraction(&mut taken, ru32::within(nanosecond));
     }
     put_offset(&mut taken, offset, ":");

@@ -58,7 +58,7 @@ pub(crate) fn write_each<S: Sink>(output: &mut S, bytes: &[u8]) -> usize
 
 /// Appends a literal of a list. For a long one the sink is taken out once more.
 #[inline(always)]
-pub(crate) fn write_literal<S: Sink>(output: &mut S, bytes: &[u8]) -> usize
+pub fn write_literal<S: Sink>(output: &mut S, bytes: &[u8]) -> usize
     requires room { Fits (S.buffer output.old) (length bytes.now) }
     ensures writes { Puts (S.buffer output.old) (S.buffer output.new) result bytes.now }
 {

@@ -4,6 +4,7 @@ ghost use Rattle.time_below.specs.Facts.{the_date};
 ghost use Rattle.time_digits.specs.Digits.{zero_padded};
 ghost use Rattle.time_fmt.specs.Outcome.{AppendsUpTo};
 ghost use Rattle.time_fmt.specs.Room.{HasRoom};
+ghost use Rattle.time_fmt.specs.Sink.{Fits, Puts};
 ghost use Rattle.time_fmt.specs.Text.{sign_text};
 ghost use Rattle.time_provide.specs.Real.{AgreesOnDate, AreFactsOfDate};
 ghost use Rattle.time_known.specs.Accepted.{PutsOutcome};
@@ -12,18 +13,17 @@ ghost use Rattle.time_known.specs.Days.{dash};
 ghost use Rattle.time_known.specs.Iso8601.{iso_date, iso_year, rest_text, week_text};
 ghost use Rattle.time_known.specs.Iso8601Parts.{date_of_parts, date_parts_width, part_if, rest_width, width_if};
 ghost use Rattle.time_known.specs.Iso8601Width.{iso_date_width, year_width};
-ghost use Rattle.time_known.specs.Sink.{Fits, PutsJust, PutsUpTo};
+ghost use Rattle.time_known.specs.Sink.{PutsUpTo};
 
 use crate::accepted::OutOfRange;
 use crate::days::ordinal_digits;
 use crate::iso8601::config::{Config, DateKind};
 use crate::iso8601::parts::{DateParts, RestOfDate, date_of};
 use crate::put::{put_both, put_four_digits, put_month_and_day, put_pair};
-use crate::sink::Sink;
 use time_digits::num_fmt::six_digits_zero_padded;
 use time_digits::{ru8, ru16, single_digit};
-use time_fmt::Format;
-use time_fmt::writers::{put_back, take_out};
+use time_fmt::writers::{put_back, take_out, write};
+use time_fmt::{Format, Sink};
 use time_provide::ComponentProvider;
 use time_provide::ranges::{Ordinal, Year};
 
@@ -118,7 +118,7 @@ fn append_short(
 #[inline(always)]
 #[tactic(auto, using(crate::proofs::LengthLemmas::joined_lengths))]
 fn put_short<S: Sink>(output: &mut S, year: ru16<0, 9_999>, rest: &RestOfDate, has_dash: bool)
-    requires room { Fits (4 + rest_width (length (dash has_dash)) rest.now) (S.buffer output.old) }
+    requires room { Fits (S.buffer output.old) (4 + rest_width (length (dash has_dash)) rest.now) }
     ensures puts { PutsUpTo (4 + rest_width (length (dash has_dash)) rest.now)
         (S.buffer output.old) (S.buffer output.new)
         (zero_padded 4 year ++ rest_text (dash has_dash) rest.now) }
@@ -136,8 +136,8 @@ pub(super) fn put_date_part<S: Sink, V: ComponentProvider>(
     state: &mut V::State,
 ) -> Result<(), OutOfRange>
     requires supplied { IsTrue (V.SUPPLIES_DATE || not (has_date config.now.formatted_components)) }
-    requires room { Fits (width_if (has_date config.now.formatted_components) (iso_date_width config.now))
-        (S.buffer output.old) }
+    requires room { Fits (S.buffer output.old)
+        (width_if (has_date config.now.formatted_components) (iso_date_width config.now)) }
     requires agrees { V.agrees state.old value.now }
     ensures puts { PutsOutcome (width_if (has_date config.now.formatted_components) (iso_date_width config.now))
         (S.buffer output.old) (S.buffer output.new) result
@@ -161,7 +161,7 @@ fn put_date<S: Sink, V: ComponentProvider>(
     state: &mut V::State,
 ) -> Result<(), OutOfRange>
     requires supplied { IsTrue V.SUPPLIES_DATE }
-    requires room { Fits (iso_date_width config.now) (S.buffer output.old) }
+    requires room { Fits (S.buffer output.old) (iso_date_width config.now) }
     requires agrees { V.agrees state.old value.now }
     ensures puts { PutsOutcome (iso_date_width config.now) (S.buffer output.old) (S.buffer output.new) result
         (iso_date config.now (the_date (V.facts value.now))) }
@@ -178,7 +178,7 @@ fn put_date_parts<S: Sink>(
     config: &Config,
     date: &DateParts,
 ) -> Result<(), OutOfRange>
-    requires room { Fits (date_parts_width config.now date.now) (S.buffer output.old) }
+    requires room { Fits (S.buffer output.old) (date_parts_width config.now date.now) }
     ensures puts { PutsOutcome (date_parts_width config.now date.now)
         (S.buffer output.old) (S.buffer output.new) result (date_of_parts config.now date.now) }
 {
@@ -194,7 +194,7 @@ fn put_date_parts<S: Sink>(
 // Puts the sign and six digits of the year, or four digits of one that has no more.
 #[inline(always)]
 fn put_year<S: Sink>(output: &mut S, year: Year, is_six_digits: bool) -> Result<(), OutOfRange>
-    requires room { Fits (year_width is_six_digits) (S.buffer output.old) }
+    requires room { Fits (S.buffer output.old) (year_width is_six_digits) }
     ensures puts { PutsOutcome (year_width is_six_digits) (S.buffer output.old)
         (S.buffer output.new) result (iso_year is_six_digits year) }
 {
@@ -223,13 +223,13 @@ fn sign(is_negative: bool) -> &'static str
 #[inline(always)]
 #[tactic(auto, using(crate::proofs::LengthLemmas::joined_lengths))]
 fn put_six_digits<S: Sink>(output: &mut S, year: Year)
-    requires room { Fits 7 (S.buffer output.old) }
-    ensures puts { PutsJust 7 (S.buffer output.old) (S.buffer output.new)
+    requires room { Fits (S.buffer output.old) 7 }
+    ensures puts { Puts (S.buffer output.old) (S.buffer output.new) 7
         (sign_text (int_lt year (pos 0)) true ++ zero_padded 6 (unsigned_abs year)) }
 {
-    output.put(sign(year.get() < 0));
+    write(output, sign(year.get() < 0));
     let [first, second, third] = six_digits_zero_padded(year.abs());
-    output.put(first);
+    write(output, first);
     put_both(output, second, third);
 }
 
@@ -237,7 +237,7 @@ fn put_six_digits<S: Sink>(output: &mut S, year: Year)
 #[inline(always)]
 #[tactic(auto, using(crate::proofs::LengthLemmas::joined_lengths))]
 fn put_rest<S: Sink>(output: &mut S, rest: &RestOfDate, has_dash: bool)
-    requires room { Fits (rest_width (length (dash has_dash)) rest.now) (S.buffer output.old) }
+    requires room { Fits (S.buffer output.old) (rest_width (length (dash has_dash)) rest.now) }
     ensures puts { PutsUpTo (rest_width (length (dash has_dash)) rest.now)
         (S.buffer output.old) (S.buffer output.new) (rest_text (dash has_dash) rest.now) }
 {
@@ -271,7 +271,7 @@ pub(super) fn put_week<S: Sink>(
     week: ru8<0, 99>,
     weekday: ru8<0, 9>,
 )
-    requires room { Fits (4 + 2 * length separator.now) (S.buffer output.old) }
+    requires room { Fits (S.buffer output.old) (4 + 2 * length separator.now) }
     ensures puts { PutsUpTo (4 + 2 * length separator.now)
         (S.buffer output.old) (S.buffer output.new)
         (week_text separator.now week weekday) }
@@ -294,7 +294,7 @@ fn digit(number: ru8<0, 9>) -> &'static str
 // Puts three digits of the day of the year, after a dash if it is wanted.
 #[inline(always)]
 fn put_day_of_year<S: Sink>(output: &mut S, day: Ordinal, has_dash: bool)
-    requires room { Fits (3 + length (dash has_dash)) (S.buffer output.old) }
+    requires room { Fits (S.buffer output.old) (3 + length (dash has_dash)) }
     ensures puts { PutsUpTo (3 + length (dash has_dash))
         (S.buffer output.old) (S.buffer output.new) (dash has_dash ++ zero_padded 3 day) }
 {

@@ -4,21 +4,20 @@ ghost use Rattle.time_below.specs.Facts.{the_offset};
 ghost use Rattle.time_below.specs.Offset.{IsOffset};
 ghost use Rattle.time_fmt.specs.Outcome.{AppendsUpTo};
 ghost use Rattle.time_fmt.specs.Room.{HasRoom};
+ghost use Rattle.time_fmt.specs.Sink.{Fits};
 ghost use Rattle.time_provide.specs.Real.{AgreesOnOffset};
 ghost use Rattle.time_known.specs.Accepted.{PutsOutcome};
 ghost use Rattle.time_known.specs.Config.{has_offset};
 ghost use Rattle.time_known.specs.Iso8601.{iso_offset, iso_offset_of_fields, iso_minutes};
 ghost use Rattle.time_known.specs.Iso8601Parts.{part_if, width_if};
 ghost use Rattle.time_known.specs.Iso8601Width.{minutes_width, iso_offset_width};
-ghost use Rattle.time_known.specs.Sink.{Fits};
 
 use crate::accepted::OutOfRange;
 use crate::fields::{OffsetFields, offset_of};
 use crate::iso8601::config::{Config, OffsetPrecision};
 use crate::put::{put_offset_hours, put_pair};
-use crate::sink::Sink;
-use time_fmt::Format;
-use time_fmt::writers::{put_back, take_out};
+use time_fmt::writers::{put_back, take_out, write};
+use time_fmt::{Format, Sink};
 use time_provide::ComponentProvider;
 
 /// Appends the offset, whether or not the configuration formats offsets: `Z` for UTC if it formats
@@ -60,8 +59,8 @@ pub(super) fn put_offset_part<S: Sink, V: ComponentProvider>(
     value: &V,
 ) -> Result<(), OutOfRange>
     requires supplied { IsTrue (V.SUPPLIES_OFFSET || not (has_offset config.now.formatted_components)) }
-    requires room { Fits (width_if (has_offset config.now.formatted_components) (iso_offset_width config.now))
-        (S.buffer output.old) }
+    requires room { Fits (S.buffer output.old)
+        (width_if (has_offset config.now.formatted_components) (iso_offset_width config.now)) }
     ensures puts { PutsOutcome (width_if (has_offset config.now.formatted_components) (iso_offset_width config.now))
         (S.buffer output.old) (S.buffer output.new) result
         (part_if (has_offset config.now.formatted_components) (iso_offset config.now (the_offset (V.facts value.now)))) }
@@ -81,12 +80,12 @@ fn put_offset_by<S: Sink>(
     config: &Config,
     offset: &OffsetFields,
 ) -> Result<(), OutOfRange>
-    requires room { Fits (iso_offset_width config.now) (S.buffer output.old) }
+    requires room { Fits (S.buffer output.old) (iso_offset_width config.now) }
     ensures puts { PutsOutcome (iso_offset_width config.now) (S.buffer output.old)
         (S.buffer output.new) result (iso_offset_of_fields config.now offset.now) }
 {
     if config.has_time() && offset.is_utc {
-        output.put("Z");
+        write(output, "Z");
         return Ok(());
     }
     if offset.seconds.get() != 0 {
@@ -104,8 +103,8 @@ fn put_minutes<S: Sink>(
     config: &Config,
     offset: &OffsetFields,
 ) -> Result<(), OutOfRange>
-    requires room { Fits (minutes_width config.now.offset_precision config.now)
-        (S.buffer output.old) }
+    requires room { Fits (S.buffer output.old)
+        (minutes_width config.now.offset_precision config.now) }
     ensures puts { PutsOutcome (minutes_width config.now.offset_precision config.now)
         (S.buffer output.old) (S.buffer output.new) result
         (iso_minutes config.now.offset_precision config.now offset.now.minutes) }
@@ -113,7 +112,7 @@ fn put_minutes<S: Sink>(
     match config.offset_precision() {
         OffsetPrecision::Minute => {
             if config.use_separators() {
-                output.put(":");
+                write(output, ":");
             }
             put_pair(output, offset.minutes.expand());
             Ok(())

@@ -3,13 +3,13 @@ ghost use Rattle.std.specs.Prelude.{◌≡◌, ◌≢◌, ◌+◌, IfSome, IsTru
 ghost use Rattle.time_below.specs.Facts.{the_date, the_time};
 ghost use Rattle.time_fmt.specs.Outcome.{AppendsUpTo, join};
 ghost use Rattle.time_fmt.specs.Room.{HasRoom};
+ghost use Rattle.time_fmt.specs.Sink.{Fits, vec_buffer};
 ghost use Rattle.time_provide.specs.Real.{AgreesOnDate, AreReal};
 ghost use Rattle.time_known.specs.Config.{groups_of};
 ghost use Rattle.time_known.specs.Groups.{are_supplied};
 ghost use Rattle.time_known.specs.Iso8601.{iso8601_outcome, iso_date, iso_time};
 ghost use Rattle.time_known.specs.Iso8601Parts.{date_parts, parts_text, parts_width, shown_date};
 ghost use Rattle.time_known.specs.Iso8601Width.{iso8601_width, iso_date_width, iso_time_width};
-ghost use Rattle.time_known.specs.Sink.{Fits};
 ghost use Rattle.time_known.specs.Accepted.{AppendsAllOrNone, PutsOutcome};
 ghost use Rattle.time_known.specs.Ways.{FitsUnusual, FitsWay};
 
@@ -20,10 +20,9 @@ use crate::iso8601::date::{put_date_part, write_date_by};
 use crate::iso8601::offset::put_offset_part;
 use crate::iso8601::time::{put_time_part, write_time};
 use crate::iso8601::usual_text::{write_usual, write_usual_week};
-use crate::sink::Sink;
 use time_digits::ru8;
-use time_fmt::Format;
 use time_fmt::writers::{put_back, take_out};
+use time_fmt::{Format, Sink};
 use time_provide::ComponentProvider;
 use time_provide::ranges::{IsoWeekNumber, Ordinal, Year};
 
@@ -104,7 +103,7 @@ pub fn put_parts<S: Sink, V: ComponentProvider>(
     requires some { config.now.formatted_components ≢ FormattedComponents.None }
     requires supplied { IsTrue (are_supplied (groups_of config.now.formatted_components)
         V.SUPPLIES_DATE V.SUPPLIES_TIME V.SUPPLIES_OFFSET) }
-    requires room { Fits (iso8601_width config.now) (S.buffer output.old) }
+    requires room { Fits (S.buffer output.old) (iso8601_width config.now) }
     requires agrees { V.agrees state.old value.now }
     ensures puts { PutsOutcome (iso8601_width config.now) (S.buffer output.old) (S.buffer output.new) result
         (iso8601_outcome config.now (V.facts value.now)) }
@@ -125,7 +124,7 @@ fn put_each_part<S: Sink, V: ComponentProvider>(
 ) -> Result<(), OutOfRange>
     requires supplied { IsTrue (are_supplied (groups_of config.now.formatted_components)
         V.SUPPLIES_DATE V.SUPPLIES_TIME V.SUPPLIES_OFFSET) }
-    requires room { Fits (parts_width config.now.formatted_components config.now) (S.buffer output.old) }
+    requires room { Fits (S.buffer output.old) (parts_width config.now.formatted_components config.now) }
     requires agrees { V.agrees state.old value.now }
     ensures puts { PutsOutcome (parts_width config.now.formatted_components config.now)
         (S.buffer output.old) (S.buffer output.new) result
@@ -189,8 +188,8 @@ fn write_each<V: ComponentProvider>(
         V.SUPPLIES_DATE V.SUPPLIES_TIME V.SUPPLIES_OFFSET) }
     requires room { HasRoom output.old (iso8601_width config.now) }
     requires agrees { V.agrees state.old value.now }
-    ensures puts { PutsOutcome (iso8601_width config.now) (⟦<Vec<u8> as Sink>⟧.buffer output.old)
-        (⟦<Vec<u8> as Sink>⟧.buffer output.new) result (iso8601_outcome config.now (V.facts value.now)) }
+    ensures puts { PutsOutcome (iso8601_width config.now) (vec_buffer output.old)
+        (vec_buffer output.new) result (iso8601_outcome config.now (V.facts value.now)) }
     ensures real { OnOk result (config.now.formatted_components ≡ FormattedComponents.DateTimeOffset
         → AreReal (V.facts value.now)) }
     ensures agrees { V.agrees state.new value.now }

@@ -5,25 +5,26 @@ ghost use Rattle.std.specs.Prelude.{◌≡◌, Ok, ◌+◌, ◌*◌, ◌<◌, �
 ghost use Rattle.time_below.specs.Facts.{the_time};
 ghost use Rattle.time_below.specs.TimeOfDay.{IsTimeOfDay};
 ghost use Rattle.time_digits.specs.Digits.{zero_padded};
+ghost use Rattle.time_fmt.specs.Decimals.{decimals};
 ghost use Rattle.time_fmt.specs.Outcome.{AppendsUpTo};
 ghost use Rattle.time_fmt.specs.Room.{HasRoom};
+ghost use Rattle.time_fmt.specs.Sink.{Fits, Puts};
 ghost use Rattle.time_provide.specs.Real.{AgreesOnTime};
 ghost use Rattle.time_known.specs.Config.{has_time, has_time_letter, separator};
 ghost use Rattle.time_known.specs.Iso8601.{iso_time, iso_time_text, decimal_part, units_text, nanoseconds_of_hour, nanoseconds_of_minute};
 ghost use Rattle.time_known.specs.Iso8601Parts.{width_if};
 ghost use Rattle.time_known.specs.Iso8601Width.{iso_time_width, decimal_part_width, units_width};
-ghost use Rattle.time_known.specs.Sink.{Fits, PutsUpTo};
+ghost use Rattle.time_known.specs.Sink.{PutsUpTo};
 ghost use Rattle.time_known.specs.WellKnown.{clock_text};
 
 use crate::fields::time_of;
 use crate::iso8601::config::{Config, DecimalSign, TimePrecision};
 use crate::iso8601::usual_text::put_fraction_by;
 use crate::put::{put_clock, put_pair};
-use crate::sink::Sink;
 use time_below::Time;
 use time_digits::{ru8, ru32};
-use time_fmt::Format;
-use time_fmt::writers::{put_back, take_out};
+use time_fmt::writers::{format_decimals, put_back, take_out, write};
+use time_fmt::{Format, Sink};
 use time_provide::ComponentProvider;
 
 pub(super) const NANOSECONDS_PER_SECOND: u64 = 1_000_000_000;
@@ -88,8 +89,8 @@ pub(super) fn put_time_part<S: Sink, V: ComponentProvider>(
     state: &mut V::State,
 )
     requires supplied { IsTrue (V.SUPPLIES_TIME || not (has_time config.now.formatted_components)) }
-    requires room { Fits (width_if (has_time config.now.formatted_components) (iso_time_width config.now))
-        (S.buffer output.old) }
+    requires room { Fits (S.buffer output.old)
+        (width_if (has_time config.now.formatted_components) (iso_time_width config.now)) }
     requires agrees { V.agrees state.old value.now }
     ensures puts { PutsUpTo (width_if (has_time config.now.formatted_components) (iso_time_width config.now))
         (S.buffer output.old) (S.buffer output.new)
@@ -113,12 +114,12 @@ fn put_time<S: Sink, const IS_ALONE: bool>(
     time: Time,
 )
     requires letter { has_time_letter config.now ≡ has_letter }
-    requires room { Fits (iso_time_width config.now) (S.buffer output.old) }
+    requires room { Fits (S.buffer output.old) (iso_time_width config.now) }
     ensures puts { PutsUpTo (iso_time_width config.now) (S.buffer output.old)
         (S.buffer output.new) (iso_time_text config.now time) }
 {
     if has_letter {
-        output.put("T");
+        write(output, "T");
     }
     put_units::<S, IS_ALONE>(output, config, time);
 }
@@ -126,8 +127,8 @@ fn put_time<S: Sink, const IS_ALONE: bool>(
 // Puts the whole units down to the precision, and decimals of the last one.
 #[inline(always)]
 fn put_units<S: Sink, const IS_ALONE: bool>(output: &mut S, config: &Config, time: Time)
-    requires room { Fits (units_width config.now.time_precision config.now)
-        (S.buffer output.old) }
+    requires room { Fits (S.buffer output.old)
+        (units_width config.now.time_precision config.now) }
     ensures puts { PutsUpTo (units_width config.now.time_precision config.now)
         (S.buffer output.old) (S.buffer output.new)
         (units_text config.now.time_precision config.now time) }
@@ -152,8 +153,8 @@ fn put_second<S: Sink, const IS_ALONE: bool>(
     time: Time,
     digits: Option<ru8<1, 255>>,
 )
-    requires room { Fits (units_width (TimePrecision.Second digits) config.now)
-        (S.buffer output.old) }
+    requires room { Fits (S.buffer output.old)
+        (units_width (TimePrecision.Second digits) config.now) }
     ensures puts { PutsUpTo (units_width (TimePrecision.Second digits) config.now)
         (S.buffer output.old) (S.buffer output.new)
         (units_text (TimePrecision.Second digits) config.now time) }
@@ -169,7 +170,7 @@ fn put_second<S: Sink, const IS_ALONE: bool>(
 // Puts the hour, and decimals of it.
 #[inline(always)]
 fn put_to_hour<S: Sink>(output: &mut S, time: Time, sign: DecimalSign, digits: Option<ru8<1, 255>>)
-    requires room { Fits (2 + decimal_part_width digits) (S.buffer output.old) }
+    requires room { Fits (S.buffer output.old) (2 + decimal_part_width digits) }
     ensures puts { PutsUpTo (2 + decimal_part_width digits)
         (S.buffer output.old) (S.buffer output.new)
         (zero_padded 2 time.hour ++ decimal_part sign digits
@@ -194,8 +195,8 @@ fn put_to_minute<S: Sink>(
     sign: DecimalSign,
     digits: Option<ru8<1, 255>>,
 )
-    requires room { Fits (4 + length colon.now + decimal_part_width digits)
-        (S.buffer output.old) }
+    requires room { Fits (S.buffer output.old)
+        (4 + length colon.now + decimal_part_width digits) }
     ensures puts { PutsUpTo (4 + length colon.now + decimal_part_width digits)
         (S.buffer output.old) (S.buffer output.new)
         (zero_padded 2 time.hour ++ colon.now ++ zero_padded 2 time.minute
@@ -204,7 +205,7 @@ fn put_to_minute<S: Sink>(
 {
     let (hour, minute, _, _) = time.as_hms_nano();
     put_pair(output, ru8::within(hour));
-    output.put(colon);
+    write(output, colon);
     put_pair(output, ru8::within(minute));
     put_decimals(
         output,
@@ -224,8 +225,8 @@ pub(super) fn put_to_second<S: Sink>(
     sign: DecimalSign,
     digits: Option<ru8<1, 255>>,
 )
-    requires room { Fits (6 + 2 * length colon.now + decimal_part_width digits)
-        (S.buffer output.old) }
+    requires room { Fits (S.buffer output.old)
+        (6 + 2 * length colon.now + decimal_part_width digits) }
     ensures puts { PutsUpTo (6 + 2 * length colon.now + decimal_part_width digits)
         (S.buffer output.old) (S.buffer output.new)
         (clock_text colon.now time
@@ -265,12 +266,26 @@ fn put_decimals<S: Sink>(
 )
     requires part { rest < unit }
     requires unit { unit ≤ NANOSECONDS_PER_HOUR }
-    requires room { Fits (decimal_part_width digits) (S.buffer output.old) }
+    requires room { Fits (S.buffer output.old) (decimal_part_width digits) }
     ensures puts { PutsUpTo (decimal_part_width digits)
         (S.buffer output.old) (S.buffer output.new) (decimal_part sign digits rest unit) }
 {
     if let Some(digits) = digits {
-        output.put(sign.text());
-        output.put_decimals(rest, unit, digits);
+        write(output, sign.text());
+        put_long_division(output, rest, unit, digits);
     }
+}
+
+// Puts the first `digits` decimals of `rest / unit`, not rounded, by a call that borrows a sink that is taken out.
+#[inline]
+#[tactic(auto, using(crate::proofs::iso8601::LengthLemmas::decimal_lengths))]
+pub(super) fn put_long_division<S: Sink>(output: &mut S, rest: u64, unit: u64, digits: ru8<1, 255>)
+    requires part { rest < unit }
+    requires unit { unit ≤ NANOSECONDS_PER_HOUR }
+    requires room { Fits (S.buffer output.old) digits }
+    ensures puts { Puts (S.buffer output.old) (S.buffer output.new) digits (decimals rest unit digits) }
+{
+    let mut taken = output.take_out();
+    format_decimals(&mut taken, rest, unit, digits);
+    output.put_back(taken);
 }

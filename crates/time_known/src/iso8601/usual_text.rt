@@ -6,13 +6,14 @@ ghost use Rattle.time_digits.specs.Digits.{zero_padded};
 ghost use Rattle.time_fmt.specs.Decimals.{decimals};
 ghost use Rattle.time_fmt.specs.Outcome.{AppendsUpTo};
 ghost use Rattle.time_fmt.specs.Room.{HasRoom};
+ghost use Rattle.time_fmt.specs.Sink.{Fits, Puts};
 ghost use Rattle.time_provide.specs.Real.{AreReal};
 ghost use Rattle.time_known.specs.Accepted.{AppendsAllOrNone};
 ghost use Rattle.time_known.specs.Fields.{date_of_fields, offset_of_fields, shown};
 ghost use Rattle.time_known.specs.Groups.{AreAllSupplied, at_groups};
 ghost use Rattle.time_known.specs.Iso8601.{decimal_part, iso_of_groups, week_text};
 ghost use Rattle.time_known.specs.Iso8601Width.{decimal_part_width, iso8601_width};
-ghost use Rattle.time_known.specs.Sink.{Fits, Puts, PutsUpTo};
+ghost use Rattle.time_known.specs.Sink.{PutsUpTo};
 ghost use Rattle.time_known.specs.Stamps.{stamp_length, stamp_of_fields};
 ghost use Rattle.time_known.specs.UsualText.{usual_choices, usual_of_fields, usual_time_text, week_choices, week_of_fields};
 
@@ -20,14 +21,16 @@ use crate::accepted::{OutOfRange, accepted_year};
 use crate::fields::{Fields, OffsetFields, accepted_fields, offset_of, time_of};
 use crate::iso8601::config::{Config, DecimalSign, Usual};
 use crate::iso8601::date::put_week;
-use crate::iso8601::time::{NANOSECONDS_PER_SECOND, put_to_second};
+use crate::iso8601::time::{NANOSECONDS_PER_SECOND, put_long_division, put_to_second};
 use crate::pieces::piece;
 use crate::put::{
     put_date, put_four_digits, put_nine_digits, put_offset, put_six_decimals, put_three_decimals,
 };
-use crate::sink::{Sink, Text, append};
+use crate::sink::{Text, append};
 use time_below::Time;
 use time_digits::{ru8, ru16, single_digit};
+use time_fmt::Sink;
+use time_fmt::writers::{write, write_literal};
 use time_provide::ComponentProvider;
 use time_provide::ranges::{IsoWeekNumber, Nanoseconds};
 
@@ -199,7 +202,7 @@ impl Text for StampText {
         };
         put_date(output, &self.fields, "-");
         put_usual_time(output, &usual, self.fields.time, ":");
-        output.put("Z");
+        write(output, "Z");
     }
 }
 
@@ -213,8 +216,8 @@ const ZEROS: &str = "\
 // each part stands.
 #[inline(always)]
 fn put_usual<S: Sink>(output: &mut S, usual: &Usual, fields: &Fields, dash: &str, colon: &str)
-    requires room { Fits (20 + 2 * length dash.now + 3 * length colon.now
-        + decimal_part_width usual.now.decimal_digits) (S.buffer output.old) }
+    requires room { Fits (S.buffer output.old) (20 + 2 * length dash.now + 3 * length colon.now
+        + decimal_part_width usual.now.decimal_digits) }
     ensures puts { PutsUpTo (20 + 2 * length dash.now + 3 * length colon.now
         + decimal_part_width usual.now.decimal_digits) (S.buffer output.old) (S.buffer output.new)
         (date_of_fields dash.now (shown fields.now)
@@ -230,8 +233,8 @@ fn put_usual<S: Sink>(output: &mut S, usual: &Usual, fields: &Fields, dash: &str
 // Puts the date by week and weekday, the time and the offset with these separators.
 #[inline(always)]
 fn put_usual_week<S: Sink>(output: &mut S, text: &WeekText, dash: &str, colon: &str)
-    requires room { Fits (20 + 2 * length dash.now + 3 * length colon.now
-        + decimal_part_width text.now.usual.decimal_digits) (S.buffer output.old) }
+    requires room { Fits (S.buffer output.old) (20 + 2 * length dash.now + 3 * length colon.now
+        + decimal_part_width text.now.usual.decimal_digits) }
     ensures puts { PutsUpTo (20 + 2 * length dash.now + 3 * length colon.now
         + decimal_part_width text.now.usual.decimal_digits) (S.buffer output.old) (S.buffer output.new)
         ((zero_padded 4 text.now.year ++ week_text dash.now text.now.week text.now.weekday)
@@ -249,14 +252,14 @@ fn put_usual_week<S: Sink>(output: &mut S, text: &WeekText, dash: &str, colon: &
 #[inline(always)]
 fn put_usual_time<S: Sink>(output: &mut S, usual: &Usual, time: Time, separator: &str)
     requires room { Fits
-        (7 + 2 * length separator.now + decimal_part_width usual.now.decimal_digits)
-        (S.buffer output.old) }
+        (S.buffer output.old)
+        (7 + 2 * length separator.now + decimal_part_width usual.now.decimal_digits) }
     ensures puts { PutsUpTo
         (7 + 2 * length separator.now + decimal_part_width usual.now.decimal_digits)
         (S.buffer output.old) (S.buffer output.new)
         (usual_time_text separator.now usual.now.decimal_sign usual.now.decimal_digits time) }
 {
-    output.put("T");
+    write(output, "T");
     put_to_second(
         output,
         time,
@@ -275,13 +278,13 @@ pub(super) fn put_fraction_by<S: Sink>(
     digits: Option<ru8<1, 255>>,
     nanosecond: Nanoseconds,
 )
-    requires room { Fits (decimal_part_width digits) (S.buffer output.old) }
+    requires room { Fits (S.buffer output.old) (decimal_part_width digits) }
     ensures puts { PutsUpTo (decimal_part_width digits)
         (S.buffer output.old) (S.buffer output.new)
         (decimal_part sign digits nanosecond NANOSECONDS_PER_SECOND) }
 {
     if let Some(digits) = digits {
-        output.put(sign.text());
+        write(output, sign.text());
         put_decimals(output, nanosecond, digits);
     }
 }
@@ -290,8 +293,8 @@ pub(super) fn put_fraction_by<S: Sink>(
 #[inline(always)]
 #[tactic(auto, using(crate::proofs::iso8601::LengthLemmas::decimals_of_second))]
 fn put_decimals<S: Sink>(output: &mut S, nanosecond: Nanoseconds, digits: ru8<1, 255>)
-    requires room { Fits digits (S.buffer output.old) }
-    ensures puts { Puts (S.buffer output.old) (S.buffer output.new)
+    requires room { Fits (S.buffer output.old) digits }
+    ensures puts { Puts (S.buffer output.old) (S.buffer output.new) digits
         (decimals nanosecond NANOSECONDS_PER_SECOND digits) }
 {
     match digits.get() {
@@ -301,7 +304,7 @@ fn put_decimals<S: Sink>(output: &mut S, nanosecond: Nanoseconds, digits: ru8<1,
         1 => put_one_decimal(output, nanosecond),
         _ => {
             let rest = u64::from(nanosecond.get());
-            output.put_decimals(rest, NANOSECONDS_PER_SECOND, digits);
+            put_long_division(output, rest, NANOSECONDS_PER_SECOND, digits);
         }
     }
 }
@@ -311,13 +314,13 @@ fn put_decimals<S: Sink>(output: &mut S, nanosecond: Nanoseconds, digits: ru8<1,
 #[tactic(auto, using(crate::proofs::iso8601::LengthLemmas::table_of_zeros))]
 fn put_nine_and_more<S: Sink>(output: &mut S, nanosecond: Nanoseconds, digits: u8)
     requires many { 9 ≤ digits }
-    requires room { Fits digits (S.buffer output.old) }
-    ensures puts { Puts (S.buffer output.old) (S.buffer output.new)
+    requires room { Fits (S.buffer output.old) digits }
+    ensures puts { Puts (S.buffer output.old) (S.buffer output.new) digits
         (decimals nanosecond NANOSECONDS_PER_SECOND digits) }
 {
     put_nine_digits(output, nanosecond);
     if digits > 9 {
-        output.put_seldom(piece(ZEROS, 0, digits as usize - 9));
+        write_literal(output, piece(ZEROS, 0, digits as usize - 9).as_bytes());
     }
 }
 
@@ -325,9 +328,9 @@ fn put_nine_and_more<S: Sink>(output: &mut S, nanosecond: Nanoseconds, digits: u
 #[inline(always)]
 #[tactic(auto, using(crate::proofs::iso8601::LengthLemmas::first_decimal))]
 fn put_one_decimal<S: Sink>(output: &mut S, nanosecond: Nanoseconds)
-    requires room { Fits 1 (S.buffer output.old) }
-    ensures puts { Puts (S.buffer output.old) (S.buffer output.new)
+    requires room { Fits (S.buffer output.old) 1 }
+    ensures puts { Puts (S.buffer output.old) (S.buffer output.new) 1
         (decimals nanosecond NANOSECONDS_PER_SECOND 1) }
 {
-    output.put(single_digit(ru8::within((nanosecond.get() / 100_000_000) as u8)));
+    write(output, single_digit(ru8::within((nanosecond.get() / 100_000_000) as u8)));
 }

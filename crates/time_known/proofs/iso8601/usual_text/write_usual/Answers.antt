@@ -3,7 +3,7 @@ use Rattle.time_known.specs.Groups.{at_groups}
 use Rattle.time_known.specs.UsualText.{usual_choices, usual_of_fields}
 use Rattle.time_known.specs.Values.{the_date, the_time, the_offset}
 use Rattle.time_known.proofs.AcceptedLemmas.{usual_accepted}
-use Rattle.time_known.proofs.SinkLemmas.{written_as, text_appended}
+use Rattle.time_known.proofs.SinkLemmas.{appended_as}
 use Rattle.time_known.proofs.iso8601.usual_text.write_usual.Goals as goal
 
 pub returns-in-Ok-clause-appends : goal.returns-in-Ok-clause-appends
@@ -17,5 +17,4 @@ returns-in-Ok-clause-appends g c =
           (the_offset f) text c.requires.usual (c.in-Ok.ensures.accepted text),
       c.requires.usual,
     )
-    (text_appended (written_as (usual_of_fields choices u.decimal_digits) c.in-Ok.ensures.fields
-    c.append.ensures.writes))
+    (appended_as (usual_of_fields choices u.decimal_digits) c.in-Ok.ensures.fields c.append.ensures.appends)

@@ -4,7 +4,6 @@ use Rattle.time_fmt.specs.Outcome.{done}
 use Rattle.time_known.specs.Accepted.{checked_text}
 use Rattle.time_known.specs.Values.{the_date, the_time, the_offset}
 use Rattle.time_known.proofs.AcceptedLemmas.{week_accepted}
-use Rattle.time_known.proofs.SinkLemmas.{text_appended}
 use Rattle.time_known.proofs.iso8601.usual_text.write_usual_week.Goals as goal
 
 pub returns-in-Ok-clause-appends : goal.returns-in-Ok-clause-appends
@@ -24,10 +23,10 @@ returns-in-Ok-clause-appends g c =
           c.requires.usual accepted,
       c.requires.usual,
     )
-    (text_appended (rw (
+    (rw (
       year,
       c.iso_week_number.ensures.value,
       weekday,
       c.time_of.ensures.time,
       fields,
-    ) at c.append.ensures.writes))
+    ) at c.append.ensures.appends)

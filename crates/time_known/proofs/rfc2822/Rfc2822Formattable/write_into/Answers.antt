@@ -1,6 +1,6 @@
 use Rattle.std.proofs.Common.{ap, sym, ◌∙◌, arith, rules, ℕ, unsigned_abs}
 use Rattle.time_fmt.specs.Outcome.{Outcome}
-use Rattle.time_fmt.proofs.WriteLemmas.{appends_nothing, appends_up_to}
+use Rattle.time_fmt.proofs.WriteLemmas.{appends_nothing}
 use Rattle.time_known.specs.Fields.{fields, shown}
 use Rattle.time_known.specs.Groups.{at_groups}
 use Rattle.time_known.specs.Rfc2822.{rfc2822_of_fields, rfc2822_of_groups}
@@ -11,7 +11,7 @@ use Rattle.time_known.proofs.GuaranteeLemmas.{rfc2822_utf8}
 use Rattle.time_known.proofs.LawLemmas.{completed_are_canonical}
 use Rattle.time_known.proofs.ReadBackLemmas.{reads_as}
 use Rattle.time_known.proofs.Rfc2822Lemmas.{rfc2822_is_written}
-use Rattle.time_known.proofs.SinkLemmas.{written_as}
+use Rattle.time_known.proofs.SinkLemmas.{appended_as}
 use Rattle.time_known.proofs.rfc2822.Rfc2822Formattable.write_into.Goals as goal
 
 pub returns-then-not-are_supplied_by-clause-text : goal.returns-then-not-are_supplied_by-clause-text
@@ -27,9 +27,9 @@ returns-in-Ok g c =
     (unsigned_abs (the_offset f).seconds) text c.accepted_fields.ensures.offset.0.0 in
     let completed = outcome_of_all f all rfc2822_of_groups ∙ sym hours ∙ c.in-Ok.ensures.accepted text in
     record {
-      appends = rw completed (appends_up_to (written_as (rfc2822_of_fields (the_date f).weekday) c.in-Ok.ensures.fields
-          (written_as (λ (weekday : ℕ). rfc2822_of_fields weekday (shown c.in-Ok.fields))
-          c.weekday-weekday.ensures.value c.append.ensures.writes)));
+      appends = rw completed (appended_as (rfc2822_of_fields (the_date f).weekday) c.in-Ok.ensures.fields
+          (appended_as (λ (weekday : ℕ). rfc2822_of_fields weekday (shown c.in-Ok.fields))
+          c.weekday-weekday.ensures.value c.append.ensures.appends)).appends;
       spelled = reads_as rfc2822_of_groups (completed_are_canonical rfc2822_is_written) f all c.in-Ok.ensures.real
           (ap (λ (o : Outcome). o.refusal) completed);
       within = omega arith;

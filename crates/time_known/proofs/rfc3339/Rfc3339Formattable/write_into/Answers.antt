@@ -1,6 +1,6 @@
 use Rattle.std.proofs.Common.{ap, ◌∙◌, arith, rules}
 use Rattle.time_fmt.specs.Outcome.{Outcome}
-use Rattle.time_fmt.proofs.WriteLemmas.{appends_nothing, appends_up_to}
+use Rattle.time_fmt.proofs.WriteLemmas.{appends_nothing}
 use Rattle.time_known.specs.Fields.{fields}
 use Rattle.time_known.specs.Groups.{at_groups}
 use Rattle.time_known.specs.Rfc3339.{rfc3339_of_fields, rfc3339_of_groups}
@@ -9,7 +9,7 @@ use Rattle.time_known.proofs.GuaranteeLemmas.{rfc3339_utf8}
 use Rattle.time_known.proofs.LawLemmas.{completed_are_canonical}
 use Rattle.time_known.proofs.ReadBackLemmas.{reads_as}
 use Rattle.time_known.proofs.Rfc3339Lemmas.{rfc3339_is_written}
-use Rattle.time_known.proofs.SinkLemmas.{written_as}
+use Rattle.time_known.proofs.SinkLemmas.{appended_as}
 use Rattle.time_known.proofs.rfc3339.Rfc3339Formattable.write_into.Goals as goal
 
 pub returns-then-not-are_supplied_by-clause-text : goal.returns-then-not-are_supplied_by-clause-text
@@ -22,7 +22,7 @@ returns-in-Ok g c =
     let all = has_all f (c.are_supplied_by.ensures.there value ∙ c.if-not-are_supplied_by.false) in
     let completed = outcome_of_all f all rfc3339_of_groups ∙ c.in-Ok.ensures.accepted (rfc3339_of_fields (at_groups fields f)) in
     record {
-      appends = rw completed (appends_up_to (written_as rfc3339_of_fields c.in-Ok.ensures.fields c.append.ensures.writes));
+      appends = rw completed (appended_as rfc3339_of_fields c.in-Ok.ensures.fields c.append.ensures.appends).appends;
       spelled = reads_as rfc3339_of_groups (completed_are_canonical rfc3339_is_written) f all c.in-Ok.ensures.real
           (ap (λ (o : Outcome). o.refusal) completed);
       within = omega arith;
