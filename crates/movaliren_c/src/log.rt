@@ -16,12 +16,10 @@ use crate::source::local_value;
 use std::default::Default;
 use std::marker::Brand;
 use time_digits::ru32;
-use time_fmt::writers::write;
+use time_fmt::writers::{write, write_nine_digits, write_six_decimals, write_three_decimals};
 use time_fmt::{Before, RoomSink, Sink, write_over};
 use time_known::fields::{Fields, OffsetFields, accepted_fields};
-use time_known::put::{
-    put_clock, put_date, put_nine_digits, put_offset, put_six_decimals, put_three_decimals,
-};
+use time_known::put::{put_clock, put_date, put_offset};
 use time_known::sink::Text;
 use time_provide::DateState;
 use time_provide::ranges::Nanoseconds;
@@ -167,11 +165,11 @@ fn put_decimals<B: Before>(room: &mut [u8], nanosecond: Nanoseconds, decimals: u
     ensures len { length room.new ≡ length room.old }
 {
     let mut sink = RoomSink::<B>::new(room);
-    match decimals {
-        3 => put_three_decimals(&mut sink, nanosecond),
-        6 => put_six_decimals(&mut sink, nanosecond),
-        _ => put_nine_digits(&mut sink, nanosecond),
-    }
+    let _count = match decimals {
+        3 => write_three_decimals(&mut sink, nanosecond),
+        6 => write_six_decimals(&mut sink, nanosecond),
+        _ => write_nine_digits(&mut sink, nanosecond),
+    };
 }
 
 /// Overwrites the bytes of the buffer from a place on by an offset. The compiler knows

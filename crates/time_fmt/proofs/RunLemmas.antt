@@ -1,5 +1,5 @@
 -- How long dates and times of day are, and that they are what their parts give.
-use Rattle.std.proofs.Common.{◌≡◌, ℕ, ◌<◌, ◌≤◌, ◌++◌, ◌∷◌, [], true, false, List, Ok, length, length-append}
+use Rattle.std.proofs.Common.{◌≡◌, ℕ, ◌≤◌, ◌++◌, ◌∷◌, [], true, false, List, Ok, length}
 use Rattle.std.proofs.Common.{refl, sym, ap, ◌∙◌, subst, arith}
 use Rattle.std.proofs.lemmas.List.{append-nil}
 use Rattle.std.specs.Prelude.{ℤ, pos, int_lt, is_some, unsigned_abs}
@@ -10,23 +10,13 @@ use Rattle.time_fmt.specs.Description.{component_outcome}
 use Rattle.time_fmt.specs.Ends.{Ends}
 use Rattle.time_fmt.specs.Kind.{kind_text, extended_year}
 use Rattle.time_fmt.specs.Outcome.{Outcome, done, join}
-use Rattle.time_fmt.specs.Runs.{date_run, time_run, two_after}
+use Rattle.time_fmt.specs.Runs.{date_run, time_run}
 use Rattle.time_fmt.specs.Sink.{Buffer, Puts}
 use Rattle.time_fmt.specs.Text.{padded_text}
 use Rattle.time_fmt.proofs.EndLemmas.{whole_text}
-use Rattle.time_fmt.proofs.TextLemmas.{two_places, signed_four_to_six}
+use Rattle.time_fmt.proofs.TextLemmas.{signed_four_to_six}
 
 -- ---- lengths
-
--- two numbers, each behind its byte
-pub length-two_after : (x y m n : ℕ) → m < 100 → n < 100 → length (two_after x m y n) ≤ 6
-length-two_after x y m n small_m small_n =
-    omega (
-      arith,
-      length-append (padded_text padding.Zero 2 m) (y ∷ padded_text padding.Zero 2 n),
-      two_places padding.Zero m small_m,
-      two_places padding.Zero n small_n,
-    )
 
 -- a year
 pub length-year : (year : ℤ) → unsigned_abs year ≤ 999_999

@@ -9,9 +9,8 @@ ghost use Rattle.time_fmt.specs.Sink.{Fits, Puts};
 
 use crate::parts;
 use crate::sink::Sink;
-use crate::writers::{fmt_calendar_year_full_extended_range, format_two_digits};
+use crate::writers::{fmt_calendar_year_full_extended_range, format_two_digits_pad_zero};
 use time_below::Month;
-use time_below::format_description::modifier::Padding;
 use time_digits::ru8;
 use time_provide::ComponentProvider;
 
@@ -69,7 +68,7 @@ pub fn write_time<S: Sink, V: ComponentProvider>(
     let hour = value.hour(state).expand();
     let minute = value.minute(state).expand();
     let second = value.second(state).expand();
-    let count = format_two_digits(output, hour, Padding::Zero);
+    let count = format_two_digits_pad_zero(output, hour);
     count + write_two_after(output, between, minute, second)
 }
 
@@ -81,13 +80,12 @@ fn write_two_after<S: Sink>(
     first: ru8<0, 99>,
     second: ru8<0, 99>,
 ) -> usize
-    requires room { Fits (S.buffer output.old) (length (two_after between.0 first between.1 second)) }
-    ensures writes { Puts (S.buffer output.old) (S.buffer output.new) result
-        (two_after between.0 first between.1 second) }
+    requires room { Fits (S.buffer output.old) 6 }
+    ensures writes { Puts (S.buffer output.old) (S.buffer output.new) 6 (two_after between.0 first between.1 second) }
+    ensures count { result ≡ 6 }
 {
-    let _room = output.room();
     output.put_byte(between.0);
-    let count = format_two_digits(output, first, Padding::Zero);
+    let count = format_two_digits_pad_zero(output, first);
     output.put_byte(between.1);
-    2 + count + format_two_digits(output, second, Padding::Zero)
+    2 + count + format_two_digits_pad_zero(output, second)
 }

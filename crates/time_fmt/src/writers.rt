@@ -24,14 +24,16 @@ pub use decimals::format_decimals;
 pub use digits::{
     fmt_sign, format_five_digits_pad_zero, format_four_digits, format_four_digits_pad_zero,
     format_int_padded, format_single_digit, format_six_digits_pad_zero, format_three_digits,
-    format_two_digits, format_u64_pad_none,
+    format_two_digits, format_two_digits_pad_zero, format_u64_pad_none,
 };
 pub use offset::{fmt_offset_hour, fmt_offset_minute, fmt_offset_second};
 pub(crate) use plain::write_each;
 pub use plain::{
     put_back, take_out, write, write_bytes, write_if, write_if_else, write_literal, write_many,
 };
-pub use subsecond::{fmt_subsecond, write_fraction, write_six_decimals, write_three_decimals};
+pub use subsecond::{
+    fmt_subsecond, write_fraction, write_nine_digits, write_six_decimals, write_three_decimals,
+};
 pub use time::{fmt_hour_12, fmt_hour_24, fmt_minute, fmt_period, fmt_second};
 pub use timestamp::{fmt_unix_timestamp_millisecond, fmt_unix_timestamp_second};
 pub use week::{

@@ -12,10 +12,11 @@ ghost use Rattle.time_known.specs.Sink.{PutsUpTo};
 
 use crate::fields::{Fields, accepted_fields};
 use crate::groups::Groups;
-use crate::put::{put_clock, put_four_digits, put_month_name, put_signed_offset, put_weekday_name};
+use crate::put::{put_clock, put_month_name, put_signed_offset};
 use crate::sink::{Text, append};
 use time_below::Weekday;
-use time_fmt::writers::write;
+use time_fmt::parts::WEEKDAY_SHORT;
+use time_fmt::writers::{fmt_weekday_short, format_four_digits_pad_zero, write};
 use time_fmt::{ComputeMetadata, Format, Formattable, Metadata, Sink};
 use time_provide::ComponentProvider;
 
@@ -103,7 +104,7 @@ fn put_named_date<S: Sink>(output: &mut S, weekday: Weekday, fields: &Fields)
     ensures puts { PutsUpTo named_date_width (S.buffer output.old) (S.buffer output.new)
         (named_date_of_fields (days_from_monday weekday) (shown fields.now)) }
 {
-    put_weekday_name(output, weekday);
+    fmt_weekday_short(output, weekday, WEEKDAY_SHORT);
     write(output, ", ");
     put_day(output, fields);
 }
@@ -121,5 +122,5 @@ fn put_day<S: Sink>(output: &mut S, fields: &Fields)
     write(output, " ");
     put_month_name(output, fields.date);
     write(output, " ");
-    put_four_digits(output, fields.year);
+    format_four_digits_pad_zero(output, fields.year);
 }

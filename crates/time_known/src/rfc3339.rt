@@ -11,11 +11,11 @@ ghost use Rattle.time_known.specs.Sink.{PutsUpTo};
 
 use crate::fields::{Fields, accepted_fields};
 use crate::groups::Groups;
-use crate::put::{put_clock, put_date, put_fraction, put_offset};
+use crate::put::{put_clock, put_date, put_offset};
 use crate::sink::{Text, append};
 use time_below::Time;
 use time_digits::ru32;
-use time_fmt::writers::write;
+use time_fmt::writers::{write, write_fraction};
 use time_fmt::{ComputeMetadata, Format, Formattable, Metadata, Sink};
 use time_provide::ComponentProvider;
 
@@ -93,7 +93,7 @@ impl Text for Rfc3339Text {
 
 // Puts `time-secfrac`, if there is a fraction of a second.
 #[inline(always)]
-#[tactic(auto, using(crate::proofs::LengthLemmas::joined_lengths))]
+#[tactic(auto, using(crate::proofs::LengthLemmas::fraction_lengths))]
 fn put_time_secfrac<S: Sink>(output: &mut S, time: Time)
     requires room { Fits (S.buffer output.old) time_secfrac_width }
     ensures puts { PutsUpTo time_secfrac_width (S.buffer output.old) (S.buffer output.new)
@@ -102,6 +102,6 @@ fn put_time_secfrac<S: Sink>(output: &mut S, time: Time)
     let (_, _, _, nanosecond) = time.as_hms_nano();
     if nanosecond != 0 {
         write(output, ".");
-        put_fraction(output, ru32::within(nanosecond));
+        write_fraction(output, ru32::within(nanosecond));
     }
 }

@@ -16,10 +16,10 @@ use std::default::Default;
 use time_below::{Time, Timestamp, UtcOffset};
 use time_digits::{ru8, ru32};
 use time_fmt::make_room;
-use time_fmt::writers::{put_back, take_out, write};
+use time_fmt::writers::{put_back, take_out, write, write_fraction};
 use time_known::Rfc3339;
 use time_known::fields::OffsetFields;
-use time_known::put::{put_clock, put_fraction, put_offset};
+use time_known::put::{put_clock, put_offset};
 use time_provide::DateState;
 
 /// The bytes of a date and the letter `T`.
@@ -216,7 +216,7 @@ fn push_each(output: &mut Vec<u8>, bytes: [u8; LENGTH])
 
 /// Appends a text by the text of its day, its time of day and its offset.
 #[inline(always)]
-#[tactic(auto, using(time_known::proofs::LengthLemmas::joined_lengths))]
+#[tactic(auto, using(time_known::proofs::LengthLemmas::fraction_lengths))]
 fn put_text(output: &mut Vec<u8>, day: &[u8; LENGTH], time: Time, offset: &OffsetFields)
     requires day { length day.now ≡ LENGTH }
     requires room { HasRoom output.old WIDTH }
@@ -229,7 +229,7 @@ fn put_text(output: &mut Vec<u8>, day: &[u8; LENGTH], time: Time, offset: &Offse
     let (_, _, _, nanosecond) = time.as_hms_nano();
     if nanosecond != 0 {
         write(&mut taken, ".");
-        put_fraction(&mut taken, ru32::within(nanosecond));
+        write_fraction(&mut taken, ru32::within(nanosecond));
     }
     put_offset(&mut taken, offset, ":");
     put_back(output, taken);

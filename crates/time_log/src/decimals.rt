@@ -4,7 +4,7 @@ ghost use Rattle.time_fmt.specs.Decimals.{decimals as decimals_of};
 ghost use Rattle.time_fmt.specs.Room.{HasRoom, Writes};
 ghost use Rattle.time_log.specs.LogText.{digits_of};
 
-use time_known::put::{put_nine_digits, put_six_decimals, put_three_decimals};
+use time_fmt::writers::{write_nine_digits, write_six_decimals, write_three_decimals};
 use time_provide::ranges::Nanoseconds;
 
 /// The decimals of the second in a text. What a moment has after them is cut off, not rounded.
@@ -39,9 +39,9 @@ pub(crate) fn put_decimals(output: &mut Vec<u8>, nanosecond: Nanoseconds, decima
     ensures writes { Writes output.old output.new (digits_of decimals)
         (decimals_of nanosecond 1_000_000_000 (digits_of decimals)) }
 {
-    match decimals {
-        Decimals::Milliseconds => put_three_decimals(output, nanosecond),
-        Decimals::Microseconds => put_six_decimals(output, nanosecond),
-        Decimals::Nanoseconds => put_nine_digits(output, nanosecond),
-    }
+    let _count = match decimals {
+        Decimals::Milliseconds => write_three_decimals(output, nanosecond),
+        Decimals::Microseconds => write_six_decimals(output, nanosecond),
+        Decimals::Nanoseconds => write_nine_digits(output, nanosecond),
+    };
 }

@@ -1,5 +1,5 @@
 //! Numbers, and the signs before them.
-ghost use Rattle.std.specs.Prelude.{◌<◌, ◌≤◌, length, decimal, replicate};
+ghost use Rattle.std.specs.Prelude.{◌≡◌, ◌<◌, ◌≤◌, length, decimal, replicate};
 ghost use Rattle.time_digits.specs.Digits.{fixed, zero_padded};
 ghost use Rattle.time_fmt.specs.Sink.{Fits, Puts};
 ghost use Rattle.time_fmt.specs.Text.{padded_text, sign_text};
@@ -41,6 +41,16 @@ pub fn format_single_digit<S: Sink>(output: &mut S, value: ru8<0, 9>) -> usize
 {
     output.put_byte(b'0' + value.get());
     1
+}
+
+/// Appends a number in two places, with a zero in front where it is below 10.
+#[inline(always)]
+pub fn format_two_digits_pad_zero<S: Sink>(output: &mut S, value: ru8<0, 99>) -> usize
+    requires room { Fits (S.buffer output.old) 2 }
+    ensures writes { Puts (S.buffer output.old) (S.buffer output.new) 2 (zero_padded 2 value) }
+    ensures count { result ≡ 2 }
+{
+    write_pair(output, two_digits_zero_padded(value))
 }
 
 /// Appends a number of at most two digits, padded to two places as `padding` says.
@@ -97,6 +107,7 @@ pub fn format_three_digits<S: Sink>(output: &mut S, value: ru16<0, 999>, padding
 
 /// Appends a number of at most four digits, padded to four places as `padding` says.
 #[inline(always)]
+#[tactic(auto, using(crate::proofs::NumberLemmas::number_lengths))]
 pub fn format_four_digits<S: Sink>(output: &mut S, value: ru16<0, 9_999>, padding: Padding) -> usize
     requires room { Fits (S.buffer output.old) (length (padded_text padding 4 value)) }
     ensures writes { Puts (S.buffer output.old) (S.buffer output.new) result (padded_text padding 4 value) }
@@ -123,6 +134,7 @@ fn write_four_rarely<S: Sink>(output: &mut S, value: ru16<0, 9_999>, padding: Pa
 // Appends four places to a sink that was taken out.
 #[cold]
 #[inline(never)]
+#[tactic(auto, using(crate::proofs::NumberLemmas::number_lengths))]
 fn write_four_places<S: Sink>(output: &mut S, value: ru16<0, 9_999>, padding: Padding) -> usize
     requires room { Fits (S.buffer output.old) (length (padded_text padding 4 value)) }
     ensures writes { Puts (S.buffer output.old) (S.buffer output.new) result (padded_text padding 4 value) }
@@ -137,8 +149,9 @@ fn write_four_places<S: Sink>(output: &mut S, value: ru16<0, 9_999>, padding: Pa
 /// Appends a number in four places, with zeros in front.
 #[inline(always)]
 pub fn format_four_digits_pad_zero<S: Sink>(output: &mut S, value: ru16<0, 9_999>) -> usize
-    requires room { Fits (S.buffer output.old) (length (zero_padded 4 value)) }
-    ensures writes { Puts (S.buffer output.old) (S.buffer output.new) result (zero_padded 4 value) }
+    requires room { Fits (S.buffer output.old) 4 }
+    ensures writes { Puts (S.buffer output.old) (S.buffer output.new) 4 (zero_padded 4 value) }
+    ensures count { result ≡ 4 }
 {
     let [high, low] = four_digits_zero_padded(value);
     let count = write_pair(output, high);

@@ -1,5 +1,5 @@
 //! The decimals of the second: their texts, width and writer.
-ghost use Rattle.std.specs.Prelude.{◌≡◌, ◌<◌, length};
+ghost use Rattle.std.specs.Prelude.{◌≡◌, ◌<◌, length, take};
 ghost use Rattle.time_below.specs.declared.format_description.component.Component.TheVariants as component;
 ghost use Rattle.time_below.specs.declared.format_description.modifier.SubsecondDigits.TheVariants as SubsecondDigits;
 ghost use Rattle.time_digits.specs.Digits.{fixed, zero_padded};
@@ -12,7 +12,7 @@ use crate::refused::Refused;
 use crate::sink::Sink;
 use crate::writers::digits::{
     format_five_digits_pad_zero, format_four_digits_pad_zero, format_single_digit,
-    format_six_digits_pad_zero, format_two_digits, write_eight_digits,
+    format_six_digits_pad_zero, format_two_digits, format_two_digits_pad_zero, write_eight_digits,
 };
 use crate::writers::plain::{write, write_pair};
 use time_below::format_description::modifier::{Padding, SubsecondDigits};
@@ -124,8 +124,8 @@ fn write_first_decimals<S: Sink>(
 #[tactic(auto, using(crate::proofs::DecimalLemmas::first_decimals))]
 pub fn write_three_decimals<S: Sink>(output: &mut S, nanosecond: Nanoseconds) -> usize
     requires room { Fits (S.buffer output.old) 3 }
-    ensures writes { Puts (S.buffer output.old) (S.buffer output.new) result
-        (subsecond_text SubsecondDigits.Three nanosecond) }
+    ensures writes { Puts (S.buffer output.old) (S.buffer output.new) 3 (take 3 (fixed 9 nanosecond)) }
+    ensures count { result ≡ 3 }
 {
     let number = nanosecond.get() / 1_000_000;
     write_three_digits(output, ru16::within(number as u16))
@@ -135,7 +135,8 @@ pub fn write_three_decimals<S: Sink>(output: &mut S, nanosecond: Nanoseconds) ->
 #[inline(always)]
 fn write_three_digits<S: Sink>(output: &mut S, number: ru16<0, 999>) -> usize
     requires room { Fits (S.buffer output.old) 3 }
-    ensures writes { Puts (S.buffer output.old) (S.buffer output.new) result (zero_padded 3 number) }
+    ensures writes { Puts (S.buffer output.old) (S.buffer output.new) 3 (zero_padded 3 number) }
+    ensures count { result ≡ 3 }
 {
     let [first, pair] = three_digits_zero_padded(number);
     output.put_byte(first.as_bytes()[0]);
@@ -186,22 +187,25 @@ fn write_rare_fraction<S: Sink>(output: &mut S, nanosecond: Nanoseconds) -> usiz
 #[tactic(auto, using(crate::proofs::DecimalLemmas::six_digits))]
 pub fn write_six_decimals<S: Sink>(output: &mut S, nanosecond: Nanoseconds) -> usize
     requires room { Fits (S.buffer output.old) 6 }
-    ensures writes { Puts (S.buffer output.old) (S.buffer output.new) result
-        (subsecond_text SubsecondDigits.Six nanosecond) }
+    ensures writes { Puts (S.buffer output.old) (S.buffer output.new) 6 (take 6 (fixed 9 nanosecond)) }
+    ensures count { result ≡ 6 }
 {
     let number = nanosecond.get() / 1_000;
     let first = ru8::within((number / 10_000) as u8);
-    let count = format_two_digits(output, first, Padding::Zero);
+    let count = format_two_digits_pad_zero(output, first);
     let last = ru16::within((number % 10_000) as u16);
     count + format_four_digits_pad_zero(output, last)
 }
 
-// Appends the nine digits.
+/// Appends the nine digits. Allocates nothing and refuses nothing.
+///
+/// Returns the number of bytes appended.
 #[inline(always)]
 #[tactic(auto, using(crate::proofs::DecimalLemmas::nine_digits))]
-fn write_nine_digits<S: Sink>(output: &mut S, nanosecond: Nanoseconds) -> usize
+pub fn write_nine_digits<S: Sink>(output: &mut S, nanosecond: Nanoseconds) -> usize
     requires room { Fits (S.buffer output.old) 9 }
-    ensures writes { Puts (S.buffer output.old) (S.buffer output.new) result (fixed 9 nanosecond) }
+    ensures writes { Puts (S.buffer output.old) (S.buffer output.new) 9 (fixed 9 nanosecond) }
+    ensures count { result ≡ 9 }
 {
     let number = nanosecond.get();
     let first_five = number / 10_000;

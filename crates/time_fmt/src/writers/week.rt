@@ -27,10 +27,10 @@ pub fn fmt_weekday_short<S: Sink>(
     weekday: Weekday,
     modifier: modifier::WeekdayShort,
 ) -> usize
-    requires room { Fits (S.buffer output.old)
-        (length (short_name (weekday_name (days_from_monday weekday)))) }
-    ensures writes { Puts (S.buffer output.old) (S.buffer output.new) result
+    requires room { Fits (S.buffer output.old) 3 }
+    ensures writes { Puts (S.buffer output.old) (S.buffer output.new) 3
         (short_name (weekday_name (days_from_monday weekday))) }
+    ensures count { result ≡ 3 }
 {
     let _ = modifier;
     write_three(output, &name_of_weekday(weekday).as_bytes()[..3])

@@ -19,10 +19,12 @@ use crate::accepted::OutOfRange;
 use crate::days::ordinal_digits;
 use crate::iso8601::config::{Config, DateKind};
 use crate::iso8601::parts::{DateParts, RestOfDate, date_of};
-use crate::put::{put_both, put_four_digits, put_month_and_day, put_pair};
+use crate::put::{put_both, put_month_and_day};
 use time_digits::num_fmt::six_digits_zero_padded;
 use time_digits::{ru8, ru16, single_digit};
-use time_fmt::writers::{put_back, take_out, write};
+use time_fmt::writers::{
+    fmt_sign, format_four_digits_pad_zero, format_two_digits_pad_zero, put_back, take_out, write,
+};
 use time_fmt::{Format, Sink};
 use time_provide::ComponentProvider;
 use time_provide::ranges::{Ordinal, Year};
@@ -123,7 +125,7 @@ fn put_short<S: Sink>(output: &mut S, year: ru16<0, 9_999>, rest: &RestOfDate, h
         (S.buffer output.old) (S.buffer output.new)
         (zero_padded 4 year ++ rest_text (dash has_dash) rest.now) }
 {
-    put_four_digits(output, year);
+    format_four_digits_pad_zero(output, year);
     put_rest(output, rest, has_dash);
 }
 
@@ -206,28 +208,19 @@ fn put_year<S: Sink>(output: &mut S, year: Year, is_six_digits: bool) -> Result<
     if number < 0 || number > 9_999 {
         return Err(OutOfRange::Year);
     }
-    put_four_digits(output, ru16::within(number.unsigned_abs() as u16));
+    format_four_digits_pad_zero(output, ru16::within(number.unsigned_abs() as u16));
     Ok(())
-}
-
-// The sign of a number, a plus too.
-#[inline(always)]
-fn sign(is_negative: bool) -> &'static str
-    ensures text { result.now ≡ sign_text is_negative true }
-    ensures length { length result.now ≡ 1 }
-{
-    if is_negative { "-" } else { "+" }
 }
 
 // Puts the sign and six digits of the year.
 #[inline(always)]
-#[tactic(auto, using(crate::proofs::LengthLemmas::joined_lengths))]
+#[tactic(auto, using(crate::proofs::LengthLemmas::sign_lengths))]
 fn put_six_digits<S: Sink>(output: &mut S, year: Year)
     requires room { Fits (S.buffer output.old) 7 }
-    ensures puts { Puts (S.buffer output.old) (S.buffer output.new) 7
+    ensures puts { PutsUpTo 7 (S.buffer output.old) (S.buffer output.new)
         (sign_text (int_lt year (pos 0)) true ++ zero_padded 6 (unsigned_abs year)) }
 {
-    write(output, sign(year.get() < 0));
+    fmt_sign(output, year.get() < 0, true);
     let [first, second, third] = six_digits_zero_padded(year.abs());
     write(output, first);
     put_both(output, second, third);
@@ -277,7 +270,7 @@ pub(super) fn put_week<S: Sink>(
         (week_text separator.now week weekday) }
 {
     put_both(output, separator, "W");
-    put_pair(output, week);
+    format_two_digits_pad_zero(output, week);
     put_both(output, separator, digit(weekday));
 }
 

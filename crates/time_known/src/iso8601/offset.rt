@@ -15,8 +15,8 @@ ghost use Rattle.time_known.specs.Iso8601Width.{minutes_width, iso_offset_width}
 use crate::accepted::OutOfRange;
 use crate::fields::{OffsetFields, offset_of};
 use crate::iso8601::config::{Config, OffsetPrecision};
-use crate::put::{put_offset_hours, put_pair};
-use time_fmt::writers::{put_back, take_out, write};
+use crate::put::put_offset_hours;
+use time_fmt::writers::{format_two_digits_pad_zero, put_back, take_out, write};
 use time_fmt::{Format, Sink};
 use time_provide::ComponentProvider;
 
@@ -114,7 +114,7 @@ fn put_minutes<S: Sink>(
             if config.use_separators() {
                 write(output, ":");
             }
-            put_pair(output, offset.minutes.expand());
+            format_two_digits_pad_zero(output, offset.minutes.expand());
             Ok(())
         }
         OffsetPrecision::Hour => {

@@ -20,10 +20,10 @@ ghost use Rattle.time_known.specs.WellKnown.{clock_text};
 use crate::fields::time_of;
 use crate::iso8601::config::{Config, DecimalSign, TimePrecision};
 use crate::iso8601::usual_text::put_fraction_by;
-use crate::put::{put_clock, put_pair};
+use crate::put::put_clock;
 use time_below::Time;
 use time_digits::{ru8, ru32};
-use time_fmt::writers::{format_decimals, put_back, take_out, write};
+use time_fmt::writers::{format_decimals, format_two_digits_pad_zero, put_back, take_out, write};
 use time_fmt::{Format, Sink};
 use time_provide::ComponentProvider;
 
@@ -176,7 +176,7 @@ fn put_to_hour<S: Sink>(output: &mut S, time: Time, sign: DecimalSign, digits: O
         (zero_padded 2 time.hour ++ decimal_part sign digits
         (nanoseconds_of_hour time) NANOSECONDS_PER_HOUR) }
 {
-    put_pair(output, ru8::within(time.hour()));
+    format_two_digits_pad_zero(output, ru8::within(time.hour()));
     put_decimals(
         output,
         nanoseconds_of_hour(time),
@@ -204,9 +204,9 @@ fn put_to_minute<S: Sink>(
         NANOSECONDS_PER_MINUTE) }
 {
     let (hour, minute, _, _) = time.as_hms_nano();
-    put_pair(output, ru8::within(hour));
+    format_two_digits_pad_zero(output, ru8::within(hour));
     write(output, colon);
-    put_pair(output, ru8::within(minute));
+    format_two_digits_pad_zero(output, ru8::within(minute));
     put_decimals(
         output,
         nanoseconds_of_minute(time),

@@ -23,14 +23,15 @@ use crate::iso8601::config::{Config, DecimalSign, Usual};
 use crate::iso8601::date::put_week;
 use crate::iso8601::time::{NANOSECONDS_PER_SECOND, put_long_division, put_to_second};
 use crate::pieces::piece;
-use crate::put::{
-    put_date, put_four_digits, put_nine_digits, put_offset, put_six_decimals, put_three_decimals,
-};
+use crate::put::{put_date, put_offset};
 use crate::sink::{Text, append};
 use time_below::Time;
-use time_digits::{ru8, ru16, single_digit};
+use time_digits::{ru8, ru16};
 use time_fmt::Sink;
-use time_fmt::writers::{write, write_literal};
+use time_fmt::writers::{
+    format_four_digits_pad_zero, format_single_digit, write, write_literal, write_nine_digits,
+    write_six_decimals, write_three_decimals,
+};
 use time_provide::ComponentProvider;
 use time_provide::ranges::{IsoWeekNumber, Nanoseconds};
 
@@ -242,7 +243,7 @@ fn put_usual_week<S: Sink>(output: &mut S, text: &WeekText, dash: &str, colon: &
         text.now.time
         ++ offset_of_fields colon.now text.now.offset) }
 {
-    put_four_digits(output, text.year);
+    format_four_digits_pad_zero(output, text.year);
     put_week(output, dash, text.week.expand(), text.weekday.expand());
     put_usual_time(output, &text.usual, text.time, colon);
     put_offset(output, &text.offset, colon);
@@ -299,8 +300,12 @@ fn put_decimals<S: Sink>(output: &mut S, nanosecond: Nanoseconds, digits: ru8<1,
 {
     match digits.get() {
         9.. => put_nine_and_more(output, nanosecond, digits.get()),
-        6 => put_six_decimals(output, nanosecond),
-        3 => put_three_decimals(output, nanosecond),
+        6 => {
+            write_six_decimals(output, nanosecond);
+        }
+        3 => {
+            write_three_decimals(output, nanosecond);
+        }
         1 => put_one_decimal(output, nanosecond),
         _ => {
             let rest = u64::from(nanosecond.get());
@@ -318,7 +323,7 @@ fn put_nine_and_more<S: Sink>(output: &mut S, nanosecond: Nanoseconds, digits: u
     ensures puts { Puts (S.buffer output.old) (S.buffer output.new) digits
         (decimals nanosecond NANOSECONDS_PER_SECOND digits) }
 {
-    put_nine_digits(output, nanosecond);
+    write_nine_digits(output, nanosecond);
     if digits > 9 {
         write_literal(output, piece(ZEROS, 0, digits as usize - 9).as_bytes());
     }
@@ -332,5 +337,5 @@ fn put_one_decimal<S: Sink>(output: &mut S, nanosecond: Nanoseconds)
     ensures puts { Puts (S.buffer output.old) (S.buffer output.new) 1
         (decimals nanosecond NANOSECONDS_PER_SECOND 1) }
 {
-    write(output, single_digit(ru8::within((nanosecond.get() / 100_000_000) as u8)));
+    format_single_digit(output, ru8::within((nanosecond.get() / 100_000_000) as u8));
 }

@@ -13,4 +13,4 @@ returns g c =
     let text : zero_padded 2 c.within-first.result ++ zero_padded 4 c.within-last.result ≡ take 6 (fixed 9 n) =
     ap₂ (λ a b. zero_padded 2 a ++ zero_padded 4 b) first last
     ∙ six_parts n (omega (arith, c.get-number.ensures.greatest)) in
-    record { writes = grind (arith, common_steps, text, six_digits) }
+    record { writes = grind (arith, common_steps, text, six_digits); count = omega arith }

@@ -6,6 +6,6 @@ pub returns : goal.returns
 returns g c =
     let week = rw (c.expand.ensures, c.expand-2.ensures) at c.put_week.ensures.puts in
     record {
-      puts = puts_up_to_more (puts_then (puts_then (puts_then (puts_up_to c.put_four_digits.ensures.puts) week)
+      puts = puts_up_to_more (puts_then (puts_then (puts_then (puts_up_to c.format_four_digits_pad_zero.ensures.writes) week)
           c.put_usual_time.ensures.puts) c.put_offset.ensures.puts) (omega arith);
     }
