@@ -150,14 +150,17 @@ impl Items for ItemRoom<'_> {
         Ok(())
     }
 
+    #[tactic(auto, using(crate::proofs::ItemLemmas::counted_leaves))]
     fn len(&self) -> usize {
         self.count
     }
 
+    #[tactic(auto, using(crate::proofs::ItemLemmas::begun))]
     fn begin_lists(&mut self) -> Result<(), AllocError> {
         Ok(())
     }
 
+    #[tactic(auto, using(crate::proofs::ItemLemmas::opened))]
     fn open_list(&mut self, depth: usize, is_first: bool) {
         self.hidden_at = opened_at(self.hidden_at, is_first, depth);
     }
