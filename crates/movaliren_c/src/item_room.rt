@@ -63,7 +63,6 @@ impl<'a> ItemRoom<'a> {
 
     /// Adds an item behind all others.
     #[inline(always)]
-    #[tactic(auto, using(crate::proofs::ItemLemmas::item_put))]
     fn push(&mut self, item: Item)
         ensures put { (text : List ℕ) (tree : Tree) → IsItem text item tree
             → Adds (λ room all. HoldsItems text room.array.now room.count all) self.old self.new (tree ∷ []) }
