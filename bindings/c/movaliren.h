@@ -647,9 +647,7 @@ ptrdiff_t movaliren_describe_strftime(const void *text, size_t text_len,
     struct movaliren_item *items, size_t items_len, struct movaliren_fault *fault);
 
 /* The text of a moment by a description in brackets of at most 64 items, which is read for this one text. The errors
- * are those of movaliren_describe, and then those of movaliren_format_utc or movaliren_format_local. After
- * MOVALIREN_ERROR_NO_ROOM read the description by movaliren_parse, and movaliren_length_by_utc or
- * movaliren_length_by_local counts the bytes of the text.
+ * are those of movaliren_describe, and then those of movaliren_format_utc or movaliren_format_local.
  *
  *     static const char day[] = "[day] [month repr:long]";
  *     n = movaliren_brackets_utc(day, sizeof day - 1, now.tv_sec, 0, line, sizeof line); */
@@ -660,8 +658,7 @@ ptrdiff_t movaliren_brackets_local(const void *text, size_t text_len, int64_t se
 
 /* The text of a moment by a description in the syntax of strftime of at most 64 items, which is read for this one text.
  * The errors are those of movaliren_describe_strftime, and then those of movaliren_format_utc or
- * movaliren_format_local. After MOVALIREN_ERROR_NO_ROOM read the description by movaliren_parse_strftime, and
- * movaliren_length_by_utc or movaliren_length_by_local counts the bytes of the text.
+ * movaliren_format_local.
  *
  *     static const char day[] = "%d %B";
  *     n = movaliren_strftime_utc(day, sizeof day - 1, now.tv_sec, 0, line, sizeof line); */
@@ -828,6 +825,52 @@ MOVALIREN_INLINE ptrdiff_t movaliren_width_by(const struct movaliren_description
     return description->reason ? description->reason
                                : movaliren_width(description->items, description->items_len,
                                    description->texts, description->texts_len);
+}
+
+/* The number of bytes of the text that movaliren_brackets_utc and its like write, up to PTRDIFF_MAX, or their error,
+ * which is never MOVALIREN_ERROR_NO_ROOM. After that error make a buffer of this many bytes, and call them again. */
+MOVALIREN_INLINE ptrdiff_t movaliren_brackets_utc_length(
+    const void *text, size_t text_len, int64_t seconds, uint32_t nanosecond)
+{
+    struct movaliren_item items[64];
+    struct movaliren_fault fault;
+    const ptrdiff_t count = movaliren_describe(text, text_len, items, 64, &fault);
+    return count < 0 ? count
+                     : movaliren_format_utc_length(
+                         items, MOVALIREN_CAST(size_t, count), text, text_len, seconds, nanosecond);
+}
+
+MOVALIREN_INLINE ptrdiff_t movaliren_brackets_local_length(const void *text, size_t text_len, int64_t seconds,
+    uint32_t nanosecond, int64_t offset)
+{
+    struct movaliren_item items[64];
+    struct movaliren_fault fault;
+    const ptrdiff_t count = movaliren_describe(text, text_len, items, 64, &fault);
+    return count < 0 ? count
+                     : movaliren_format_local_length(
+                         items, MOVALIREN_CAST(size_t, count), text, text_len, seconds, nanosecond, offset);
+}
+
+MOVALIREN_INLINE ptrdiff_t movaliren_strftime_utc_length(
+    const void *text, size_t text_len, int64_t seconds, uint32_t nanosecond)
+{
+    struct movaliren_item items[64];
+    struct movaliren_fault fault;
+    const ptrdiff_t count = movaliren_describe_strftime(text, text_len, items, 64, &fault);
+    return count < 0 ? count
+                     : movaliren_format_utc_length(
+                         items, MOVALIREN_CAST(size_t, count), text, text_len, seconds, nanosecond);
+}
+
+MOVALIREN_INLINE ptrdiff_t movaliren_strftime_local_length(const void *text, size_t text_len, int64_t seconds,
+    uint32_t nanosecond, int64_t offset)
+{
+    struct movaliren_item items[64];
+    struct movaliren_fault fault;
+    const ptrdiff_t count = movaliren_describe_strftime(text, text_len, items, 64, &fault);
+    return count < 0 ? count
+                     : movaliren_format_local_length(
+                         items, MOVALIREN_CAST(size_t, count), text, text_len, seconds, nanosecond, offset);
 }
 
 /* ---- descriptions that are built

@@ -122,8 +122,9 @@ static void descriptions()
     const auto usual = movaliren::description().add(MOVALIREN_PERIOD).add(MOVALIREN_WEEKDAY_FROM_SUNDAY);
     expect("usual choices", usual.format(moment), "PM6");
     const auto chosen = movaliren::description().add(MOVALIREN_PERIOD, MOVALIREN_ZERO, false)
-        .add(MOVALIREN_HOUR_12, MOVALIREN_SPACE).add(MOVALIREN_SUBSECOND, MOVALIREN_ZERO, false, 3);
-    expect("other choices", chosen.format(at(milliseconds(-10))), "pm11990");
+        .add(MOVALIREN_HOUR_12, MOVALIREN_SPACE).add(MOVALIREN_SUBSECOND, MOVALIREN_ZERO, false, 3)
+        .add(MOVALIREN_OFFSET_HOUR, MOVALIREN_ZERO, true);
+    expect("other choices", chosen.format(at(milliseconds(-10))), "pm11990+00");
     const auto hour = movaliren::description().add(MOVALIREN_HOUR, MOVALIREN_NO_PADDING);
     expect("a length in UTC", std::to_string(hour.length(at(hours(9)))), "1");
     expect("a length at an offset", std::to_string(hour.length(at(hours(9)), hours(1))), "2");

@@ -122,6 +122,18 @@ static void try_lengths(const struct movaliren_description *line, size_t i)
         movaliren_length_by_date(line, mail.year, mail.month, mail.day), rows[i].date, format, "its length of a date");
 }
 
+/* The lengths by one call, at six hours behind UTC and in UTC. */
+static void expect_lengths(int is_strftime, const char *format, ptrdiff_t local, ptrdiff_t utc)
+{
+    const size_t len = strlen(format);
+    const int64_t second = mail_utc.seconds;
+    const ptrdiff_t in_utc = is_strftime ? movaliren_strftime_utc_length(format, len, second, 120000000)
+                                         : movaliren_brackets_utc_length(format, len, second, 120000000);
+    const ptrdiff_t there = is_strftime ? movaliren_strftime_local_length(format, len, second, 120000000, -21600)
+                                        : movaliren_brackets_local_length(format, len, second, 120000000, -21600);
+    expect_true(in_utc == utc && there == local, format, "its length by one call");
+}
+
 static void try_texts(void)
 {
     struct movaliren_item items[32];
@@ -140,6 +152,7 @@ static void try_texts(void)
         expect_text(is_strftime ? strftime_local : brackets_local, rows[i].format, &mail_utc, rows[i].text);
         expect_true(movaliren_width_by(&line) >= (ptrdiff_t)strlen(rows[i].text), rows[i].format, "its width");
         try_lengths(&line, i);
+        expect_lengths(is_strftime, rows[i].format, (ptrdiff_t)strlen(rows[i].text), (ptrdiff_t)strlen(rows[i].utc));
     }
 }
 
@@ -214,6 +227,7 @@ static void try_faults(void)
         expect_refused(&line, MOVALIREN_ERROR_BAD_DESCRIPTION, format);
         expect_error(is_strftime ? strftime_utc : brackets_utc, format, &mail_utc, MOVALIREN_ERROR_BAD_DESCRIPTION);
         expect_error(is_strftime ? strftime_local : brackets_local, format, &mail_utc, MOVALIREN_ERROR_BAD_DESCRIPTION);
+        expect_lengths(is_strftime, format, MOVALIREN_ERROR_BAD_DESCRIPTION, MOVALIREN_ERROR_BAD_DESCRIPTION);
     }
 }
 
@@ -240,6 +254,22 @@ static void try_rooms(void)
             expect_refused(&line, MOVALIREN_ERROR_NO_ROOM, "a sixth item");
         }
     }
+}
+
+/* One call takes 64 items, and no more. */
+static void try_many(void)
+{
+    char percents[131] = "";
+    char brackets[131] = "";
+    memset(percents, '%', 130);
+    for (size_t i = 0; i < 130; i += 2)
+        memcpy(brackets + i, "\\[", 2);
+    expect_lengths(1, percents + 2, 64, 64);
+    expect_lengths(0, brackets + 2, 64, 64);
+    expect_lengths(1, percents, MOVALIREN_ERROR_MANY_ITEMS, MOVALIREN_ERROR_MANY_ITEMS);
+    expect_lengths(0, brackets, MOVALIREN_ERROR_MANY_ITEMS, MOVALIREN_ERROR_MANY_ITEMS);
+    expect_text(strftime_utc, percents + 2, &mail_utc, percents + 66);
+    expect_error(brackets_local, brackets, &mail_utc, MOVALIREN_ERROR_MANY_ITEMS);
 }
 
 /* A component is added to a description that was read, and no text, since its texts are those of the caller. */
@@ -334,6 +364,7 @@ int main(void)
     try_faults();
     try_rooms();
     try_adding();
+    try_many();
     try_words();
     for (size_t i = 0; i < sizeof rows / sizeof *rows; i++)
         try_prefixes(rows[i].format, rows[i].parse == movaliren_parse_strftime);

@@ -33,6 +33,7 @@ use Rattle.time_fmt.proofs.RunLemmas.{date_ends}
 use Rattle.time_fmt.proofs.TextLemmas.{signed_four}
 use Rattle.time_fmt.proofs.WriteLemmas.{join_done, join_refused}
 use Rattle.movaliren_c.proofs.BatchLemmas.{refused_first}
+use Rattle.movaliren_c.proofs.FlatLemmas.{alone}
 
 -- what is left of a list begins with the member at its index
 next_of : {I A : Type 0} (f : I → Result A Reason) (items : List I) (i : ℕ) (d : I)
@@ -387,17 +388,11 @@ ended (Ok t) f now new ends = (
 
 -- ---- a component in an array
 
-alone : (o : Outcome) (x : Option Refusal) → o.refusal ≡ x → (join o (done [])).refusal ≡ None → join o (done []) ≡ o
-alone o None is completed =
-    let same : done (o.bytes ++ []) ≡ o = rw (append-nil o.bytes, ← is) refl in join_done o (done []) is ∙ same
-alone o (Some r) is completed = join_refused o (done []) r is
-
 -- a list of one component is the component
 pub in_array : (o : Outcome) (count : ℕ) (old new : List ℕ) → IsAtTheStart old new (Ok count) (join o (done []))
     → (o.refusal ≡ None) × (take count new ≡ o.bytes) × (length o.bytes ≡ count)
 in_array o count old new put =
-    let same = alone o o.refusal refl put.counted.0 in
-    let is : IsAtTheStart old new (Ok count) o = rw same at put in
+    let is : IsAtTheStart old new (Ok count) o = rw (alone o) at put in
     (is.counted.0, rw (is.counted.1, is.written) (take-append_seam o.bytes (drop (length o.bytes) old)), sym is.counted.1)
 
 -- ---- the end

@@ -32,7 +32,7 @@ nothing_behind : (x : List ℕ) (r : Option Refusal)
 nothing_behind x (Some r) = refl
 nothing_behind x None = ap (λ (bs : List ℕ). record { bytes = bs; refusal = None }) (append-nil x)
 
-alone : (a : Outcome) → join a (done []) ≡ a
+pub alone : (a : Outcome) → join a (done []) ≡ a
 alone a = nothing_behind a.bytes a.refusal
 
 joined : (a b : List Tree) (f : Facts) → trees_outcome (trees (a ++ b)) f ≡ join (trees_outcome (trees a) f) (trees_outcome (trees b) f)

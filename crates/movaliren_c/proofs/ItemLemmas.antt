@@ -164,6 +164,7 @@ none_held text array count hidden none shown = record { hidden = shown; held = r
 
 pub strftime_held : (text : List ℕ) (array : List Item) (count : ℕ) (hidden : Option ℕ) → IsFound (strftime.described text) (HoldsIn text [] array count hidden)
     → IsHeld text (strftime_items text) array count
+unfolding strftime_items
 strftime_held text array count hidden found = record {
   all = found.0;
   is = ap (of_strftime (length text)) found.1;
@@ -172,15 +173,18 @@ strftime_held text array count hidden found = record {
 
 pub strftime_faulty : (text : List ℕ) (reason : StrftimeReason) (index : ℕ) → Says (length text) (strftime.described text) (error.Invalid reason index)
     → strftime_items text ≡ Err (fault_at index (strftime_number reason))
+unfolding strftime_items
 strftime_faulty text reason index says =
     ap (of_strftime (length text)) says.1 ∙ ap (λ (at : ℕ). Err (fault_at at (strftime_number reason))) (sym says.2)
 
 pub brackets_held : (text : List ℕ) (array : List Item) (count : ℕ) (hidden : Option ℕ)
     → bracket_found.IsFound (reading.described text) (HoldsIn text [] array count hidden) → IsHeld text (bracket_items text) array count
+unfolding bracket_items
 brackets_held text array count hidden found = record { all = flat_items found.0; is = ap (of_brackets (length text)) found.1; held = found.2.held }
 
 pub brackets_faulty : (text : List ℕ) (reason : bracket_reasons.Reason) (index : ℕ)
     → bracket_says.Says (length text) (reading.described text) (bracket_error.Invalid reason index) → bracket_items text ≡ Err (fault_at index (bracket_number reason))
+unfolding bracket_items
 brackets_faulty text reason index says =
     ap (of_brackets (length text)) says.1 ∙ ap (λ (at : ℕ). Err (fault_at at (bracket_number reason))) (sym says.2)
 

@@ -1,4 +1,3 @@
-pub mod AnswerLemmas
 pub mod BatchLemmas
 pub mod DescribedLemmas
 pub mod FlatLemmas

@@ -11,7 +11,7 @@ use Rattle.movaliren_c.specs.Answer.{IsAnswer, IsWritten, answer_number, gives}
 use Rattle.movaliren_c.specs.Chosen.{iso8601_by}
 use Rattle.movaliren_c.specs.Log.{Remembers, head_of, log_choices, log_config}
 use Rattle.movaliren_c.specs.Utc.{east_value, local_there, local_value}
-use Rattle.movaliren_c.specs.Value.{checked, is_in_years, with_value}
+use Rattle.movaliren_c.specs.Value.{checked, is_in_years, timestamp_value, with_value}
 use Rattle.movaliren_c.specs.declared.reason.Reason.{Reason}
 use Rattle.movaliren_c.specs.declared.reason.Reason.TheVariants as reason
 use Rattle.time_below.specs.Facts.{date_facts}
@@ -55,6 +55,7 @@ in_years false e s m n v h = absurd (let x = h in cc)
 -- the value of each moment of a second that has one
 later : (s east : ℤ) (n : ℕ) (v : OffsetDateAndTime) → local_value s 0 east ≡ Ok v → n < 1_000_000_000
     → local_value s n east ≡ Ok (at n v)
+unfolding local_value timestamp_value
 later s east n v h small =
     let below : nat_lt n 1_000_000_000 ≡ true = lt-ltb n 1_000_000_000 small in
     rw below (in_years (is_in_years s) (east_value east) s 0 n v h)

@@ -32,6 +32,7 @@ same_value a b h = let e = h in cc
 
 is_moment : (s : ℤ) (n : ℕ) (m : Moment) → timestamp_value s n ≡ Ok m
     → IsMoment m × (m.seconds ≡ s) × (m.nanosecond ≡ n)
+unfolding timestamp_value
 is_moment s n m h =
     let first = test_that_passed _ _ _ m h in
     let second = test_that_passed _ _ _ m first.1 in
@@ -73,6 +74,7 @@ local_of m o t real h =
     (((omega (arith, ints), omega (arith, ints)), real.1), sym (same_value (local_at m o) t test.1))
 
 pub local_means : (s : ℤ) (n : ℕ) (east : ℤ) (t : OffsetDateAndTime) → local_value s n east ≡ Ok t → Means s n east t
+unfolding local_value
 local_means s n east t h =
     let first = value_of_given (timestamp_value s n) (λ m. with_value (east_value east) (λ o. local_there m o)) t h in
     let m = first.0 in

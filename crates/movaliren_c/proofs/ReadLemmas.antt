@@ -23,6 +23,7 @@ both a b x y = rw (x, y) refl
 -- ---- dates
 
 date_given : (y : ℤ) (m d : ℕ) → IsYear y → IsInRange 1 12 m → IsDayOfMonth y m d → date_value y m d ≡ Ok (date_of y m d)
+unfolding date_value
 date_given y m d year month day =
     go _ _ _ (le-leb (unsigned_abs y) 999_999 year)
     ∙ go _ _ _ (both _ _ (le-leb 1 m month.0) (le-leb m 12 month.1))
@@ -95,7 +96,7 @@ same_offset h m s o a b c = rw (a, b, c) refl
 of_zero : (x : ℤ) → HasNoOtherSign (pos 0) x
 of_zero x = (λ above. absurd above.lt, λ below. absurd below.lt)
 
-offset_of_value : (m : Moment) (o : Offset) → m.offset_hours ≡ o.hours → m.offset_minutes ≡ o.minutes
+pub offset_of_value : (m : Moment) (o : Offset) → m.offset_hours ≡ o.hours → m.offset_minutes ≡ o.minutes
     → m.offset_seconds ≡ o.seconds → IsOffset o → offset_value m ≡ Ok o
 offset_of_value m o a b c real =
     let hours : is_offset_part 25 (pos 0) (pos 0) m.offset_hours ≡ true =
@@ -114,6 +115,7 @@ offset_of_value m o a b c real =
 
 value_given : (m : Moment) (v : OffsetDateAndTime) → date_value m.year m.month m.day ≡ Ok v.date
     → time_value m ≡ Ok v.time → offset_value m ≡ Ok v.offset → moment_value m ≡ Ok v
+unfolding moment_value
 value_given m v date time offset = rw (date, time, offset) refl
 
 pub value_of_parts : (y : ℤ) (mo d h mi s n : ℕ) (oh om os : ℤ) (v : OffsetDateAndTime) → y ≡ v.date.year → mo ≡ month_of v.date

@@ -125,7 +125,7 @@ abbrev pub of_strftime : ℕ → Result (List Tree) strftime_fault.Fault → Res
 of_strftime len (Ok all) = Ok all
 of_strftime len (Err f) = Err (fault_at (len - f.left) (strftime_number f.reason))
 
-abbrev pub strftime_items : List ℕ → Result (List Tree) Fault
+unfoldable pub strftime_items : List ℕ → Result (List Tree) Fault
 strftime_items text = of_strftime (length text) (strftime.described text)
 
 -- what a text in brackets describes, with the items of lists in their places
@@ -133,7 +133,7 @@ abbrev pub of_brackets : ℕ → Result (List Tree) bracket_fault.Fault → Resu
 of_brackets len (Ok all) = Ok (flat_items all)
 of_brackets len (Err f) = Err (fault_at (len - f.left) (bracket_number f.reason))
 
-abbrev pub bracket_items : List ℕ → Result (List Tree) Fault
+unfoldable pub bracket_items : List ℕ → Result (List Tree) Fault
 bracket_items text = of_brackets (length text) (reading.described text)
 
 -- ---- what is left

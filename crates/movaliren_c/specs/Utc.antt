@@ -31,7 +31,7 @@ abbrev pub local_there : Moment → Offset → Result OffsetDateAndTime Reason
 local_there m o = checked (is_in_years (m.seconds +ℤ offset_seconds o)) reason.NoPlaceForYear (Ok (local_at m o))
 
 -- the moment is tested first, then the offset, then the local date
-abbrev pub local_value : ℤ → ℕ → ℤ → Result OffsetDateAndTime Reason
+unfoldable pub local_value : ℤ → ℕ → ℤ → Result OffsetDateAndTime Reason
 local_value seconds nanosecond east =
     with_value (timestamp_value seconds nanosecond) (λ m. with_value (east_value east) (λ o. local_there m o))
 

@@ -28,7 +28,7 @@ numbered first (value ∷ rest) r n = if n == first then Ok value else numbered 
 abbrev pub flag_at : ℕ → Reason → Result Bool Reason
 flag_at n r = numbered 0 (false ∷ true ∷ []) r n
 
-abbrev pub date_value : ℤ → ℕ → ℕ → Result OrdinalDate Reason
+unfoldable pub date_value : ℤ → ℕ → ℕ → Result OrdinalDate Reason
 date_value year month day =
     checked (nat_le (unsigned_abs year) 999_999) reason.Year
     (checked (nat_le 1 month && nat_le month 12) reason.Month
@@ -69,7 +69,7 @@ offset_value m =
     }))))
 
 -- the ranges are tested in this order: date, time, offset
-abbrev pub moment_value : Moment → Result OffsetDateAndTime Reason
+unfoldable pub moment_value : Moment → Result OffsetDateAndTime Reason
 moment_value m =
     with_value (date_value m.year m.month m.day) (λ date.
     with_value (time_value m) (λ time.
@@ -85,7 +85,7 @@ abbrev pub is_in_years : ℤ → Bool
 is_in_years seconds = int_le (neg_ℤ (pos seconds_before)) seconds && int_le seconds (pos last_second)
 
 -- the moment of this many seconds since 1970 and a nanosecond
-abbrev pub timestamp_value : ℤ → ℕ → Result moments.Moment Reason
+unfoldable pub timestamp_value : ℤ → ℕ → Result moments.Moment Reason
 timestamp_value seconds nanosecond =
     checked (is_in_years seconds) reason.MomentSeconds
     (checked (nat_lt nanosecond 1_000_000_000) reason.Nanosecond

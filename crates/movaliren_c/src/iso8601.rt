@@ -124,10 +124,8 @@ pub extern "C" fn movaliren_iso8601_utc_batch(
 /// The format of ISO 8601 by a configuration, over the moments of a source.
 #[derive(Clone, Copy)]
 pub struct Iso8601By<S> {
-    /// The numbers of the configuration.
-    pub config: IsoConfig,
-    /// What gives the moments.
-    pub source: S,
+    config: IsoConfig,
+    source: S,
 }
 
 impl<S: Source> Writer for Iso8601By<S> {
@@ -148,7 +146,7 @@ impl<S: Source> Writer for Iso8601By<S> {
 }
 
 /// The texts of ISO 8601 by this configuration, of the moments of this source.
-fn iso8601_by<S: Source>(config: &IsoConfig, source: S) -> Iso8601By<S>
+pub fn iso8601_by<S: Source>(config: &IsoConfig, source: S) -> Iso8601By<S>
     ensures { result ≡ record { config = config.now; source = source } }
 {
     Iso8601By {

@@ -63,7 +63,6 @@ impl<'a> ItemRoom<'a> {
 
     /// Adds an item behind all others.
     #[inline(always)]
-    #[tactic(auto, using(crate::proofs::ItemLemmas::item_put))]
     fn push(&mut self, item: Item)
         ensures put { (text : List ℕ) (tree : Tree) → IsItem text item tree
             → Adds (λ room all. HoldsItems text room.array.now room.count all) self.old self.new (tree ∷ []) }
@@ -150,14 +149,17 @@ impl Items for ItemRoom<'_> {
         Ok(())
     }
 
+    #[tactic(auto, using(crate::proofs::ItemLemmas::counted_leaves))]
     fn len(&self) -> usize {
         self.count
     }
 
+    #[tactic(auto, using(crate::proofs::ItemLemmas::begun))]
     fn begin_lists(&mut self) -> Result<(), AllocError> {
         Ok(())
     }
 
+    #[tactic(auto, using(crate::proofs::ItemLemmas::opened))]
     fn open_list(&mut self, depth: usize, is_first: bool) {
         self.hidden_at = opened_at(self.hidden_at, is_first, depth);
     }

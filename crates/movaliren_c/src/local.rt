@@ -8,7 +8,7 @@ ghost use Rattle.time_known.specs.Config.{default_choices};
 ghost use Rattle.time_known.specs.Iso8601.{iso8601_of};
 
 use crate::described::write_described;
-use crate::iso8601::{Iso8601, Iso8601By, IsoConfig};
+use crate::iso8601::{Iso8601, IsoConfig, iso8601_by};
 use crate::item::Item;
 use crate::moment_text::{answer_at, texts_of};
 use crate::reason::answer_number;
@@ -43,10 +43,7 @@ pub extern "C" fn movaliren_iso8601_by_local(
     ensures { IsAnswer (iso8601_by config.now (local_value seconds nanosecond offset))
         result room.old room.new }
 {
-    let texts = Iso8601By {
-        config: *config,
-        source: AtOffset { east: offset },
-    };
+    let texts = iso8601_by(config, AtOffset { east: offset });
     answer_at(&texts, seconds, nanosecond, room)
 }
 

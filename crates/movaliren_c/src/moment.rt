@@ -1,5 +1,5 @@
 //! Moments in the interface, and the values that they give.
-ghost use Rattle.std.specs.Prelude.{◌≡◌, ◌≤◌, IsTrue, pos, true, unsigned_abs};
+ghost use Rattle.std.specs.Prelude.{◌≡◌, ◌≤◌, IsTrue, unsigned_abs};
 ghost use Rattle.movaliren_c.specs.Utc.{utc_value};
 ghost use Rattle.movaliren_c.specs.Value.{date_value, is_alike, is_offset_part, moment_value, offset_value, time_value, timestamp_value};
 ghost use Rattle.time_below.specs.Moment.{utc_date_and_time};
@@ -34,6 +34,7 @@ pub struct UtcMoment {
 
 /// The date of a year, a month and a day, or the first of them that is outside its range.
 #[inline(always)]
+#[tactic(auto, unfolding(crate::specs::Value::date_value))]
 pub fn date_value(year: i32, month: u8, day: u8) -> Result<Date, Reason>
     ensures { result ≡ date_value year month day }
 {
@@ -89,9 +90,6 @@ fn offset_value(moment: &Moment) -> Result<UtcOffset, Reason>
 /// each two.
 #[inline(always)]
 fn are_offset_parts(hours: i8, minutes: i8, seconds: i8) -> bool
-    ensures hours { IsTrue result → is_offset_part 25 (pos 0) (pos 0) hours ≡ true }
-    ensures minutes { IsTrue result → is_offset_part 59 hours (pos 0) minutes ≡ true }
-    ensures seconds { IsTrue result → is_offset_part 59 hours minutes seconds ≡ true }
     ensures range { IsTrue result → AreOffsetParts hours minutes seconds }
     ensures minutes_like_hours { IsTrue result → HasNoOtherSign hours minutes }
     ensures seconds_like_hours { IsTrue result → HasNoOtherSign hours seconds }
@@ -149,6 +147,7 @@ fn is_alike(first: i8, second: i8) -> bool
 /// The value of the parts, or the first part that is outside its range, in the order date, time,
 /// offset.
 #[inline(always)]
+#[tactic(auto, unfolding(crate::specs::Value::moment_value))]
 pub fn moment_value(moment: &Moment) -> Result<OffsetDateTime, Reason>
     ensures { result ≡ moment_value moment.now }
 {
@@ -159,6 +158,7 @@ pub fn moment_value(moment: &Moment) -> Result<OffsetDateTime, Reason>
 }
 
 /// The moment of this many seconds since 1970-01-01T00:00:00 UTC, and a nanosecond.
+#[tactic(auto, unfolding(crate::specs::Value::timestamp_value))]
 pub fn timestamp_value(seconds: i64, nanosecond: u32) -> Result<Timestamp, Reason>
     ensures { result ≡ timestamp_value seconds nanosecond }
 {

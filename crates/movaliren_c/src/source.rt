@@ -73,6 +73,7 @@ impl Source for AtOffset {
 
 /// The local date and time this long after 1970, at an offset of this many seconds east of UTC.
 #[inline(always)]
+#[tactic(auto, unfolding(crate::specs::Utc::local_value))]
 pub fn local_value(seconds: i64, nanosecond: u32, east: i64) -> Result<OffsetDateTime, Reason>
     ensures { result ≡ local_value seconds nanosecond east }
 {

@@ -44,7 +44,7 @@ impl Writer for Stamp {
 
     ghost asked = { λ _ moment. gives (stamp_value moment.seconds moment.nanosecond) stamp_of };
 
-    #[tactic(auto, unfolding(crate::specs::Utc::value_at))]
+    #[tactic(auto, unfolding(crate::specs::Utc::value_at, crate::specs::Value::timestamp_value))]
     fn write(&self, moment: &UtcMoment, room: &mut [u8]) -> Result<usize, Reason> {
         texts_of(*self, InUtc).write(moment, room)
     }

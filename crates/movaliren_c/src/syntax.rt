@@ -69,7 +69,7 @@ pub struct Brackets;
 impl Syntax for Brackets {
     ghost described = { bracket_items };
 
-    #[tactic(auto, using(crate::proofs::ItemLemmas::none_held, crate::proofs::ItemLemmas::brackets_held, crate::proofs::ItemLemmas::brackets_faulty))]
+    #[tactic(auto, using(crate::proofs::ItemLemmas::none_held, crate::proofs::ItemLemmas::brackets_held, crate::proofs::ItemLemmas::brackets_faulty), unfolding(crate::specs::Described::bracket_items))]
     fn put_items(items: &mut ItemRoom<'_>, text: &[u8]) -> Result<(), Fault> {
         match describe(items, text) {
             Ok(()) => Ok(()),
@@ -87,7 +87,7 @@ pub struct Strftime;
 impl Syntax for Strftime {
     ghost described = { strftime_items };
 
-    #[tactic(auto, using(crate::proofs::ItemLemmas::none_held, crate::proofs::ItemLemmas::strftime_held, crate::proofs::ItemLemmas::strftime_faulty))]
+    #[tactic(auto, using(crate::proofs::ItemLemmas::none_held, crate::proofs::ItemLemmas::strftime_held, crate::proofs::ItemLemmas::strftime_faulty), unfolding(crate::specs::Described::strftime_items))]
     fn put_items(items: &mut ItemRoom<'_>, text: &[u8]) -> Result<(), Fault> {
         match describe_strftime(items, text) {
             Ok(()) => Ok(()),
