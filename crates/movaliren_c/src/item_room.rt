@@ -1,5 +1,5 @@
 //! Items at the start of an array.
-ghost use Rattle.std.specs.Prelude.{◌≡◌, ◌<◌, ◌≤◌, ◌∷◌, [], List, ℕ, Option, None, length, min, nat_le, slice_set};
+ghost use Rattle.std.specs.Prelude.{◌≡◌, ◌+◌, ◌<◌, ◌≤◌, ◌∷◌, [], List, ℕ, Option, None, length, min, nat_le, slice_set};
 ghost use Rattle.movaliren_c.specs.Described.{DescribeNothing, HoldsIn, HoldsItems, HoldsListsIn, IsItem};
 ghost use Rattle.movaliren_c.specs.Flat.{closed_at, flat, or_at};
 ghost use Rattle.time_below.specs.Tree.{Tree};
@@ -69,8 +69,9 @@ impl<'a> ItemRoom<'a> {
         ensures hidden { self.new.hidden_at ≡ self.old.hidden_at }
         ensures same_reference { self.new.array.ghost_name ≡ self.old.array.ghost_name }
     {
-        store(self.array, self.count, item);
-        self.count = self.count.saturating_add(1);
+        let (at, room) = (self.count, self.array.len());
+        store(self.array, at, item);
+        self.count = one_more(at, room);
     }
 
     /// Adds an item, unless it is left out.
@@ -105,6 +106,18 @@ fn closed_at(hidden_at: Option<usize>, depth: usize) -> Option<usize>
     match hidden_at {
         Some(outer) if outer != depth => Some(outer),
         _ => None,
+    }
+}
+
+/// One item more than so many, up to the greatest `usize`. Where there is room for it, no sum is tested.
+#[inline(always)]
+fn one_more(count: usize, room: usize) -> usize
+    ensures { result ≡ min (count + 1) 0xffff_ffff_ffff_ffff }
+{
+    if count < room {
+        count + 1
+    } else {
+        count.saturating_add(1)
     }
 }
 

@@ -87,7 +87,7 @@ fn offset_value(moment: &Moment) -> Result<UtcOffset, Reason>
 }
 
 /// Whether three parts are in their ranges and have one sign at most. Two tests for all three cost less than one for
-/// each two.
+/// each two, and one where all are zero, as in UTC.
 #[inline(always)]
 fn are_offset_parts(hours: i8, minutes: i8, seconds: i8) -> bool
     ensures range { IsTrue result → AreOffsetParts hours minutes seconds }
@@ -95,6 +95,10 @@ fn are_offset_parts(hours: i8, minutes: i8, seconds: i8) -> bool
     ensures seconds_like_hours { IsTrue result → HasNoOtherSign hours seconds }
     ensures seconds_like_minutes { IsTrue result → HasNoOtherSign minutes seconds }
 {
+    let is_zero = (hours == 0) & (minutes == 0) & (seconds == 0);
+    if is_zero {
+        return true;
+    }
     let is_negative = (hours < 0) | (minutes < 0) | (seconds < 0);
     let is_positive = (hours > 0) | (minutes > 0) | (seconds > 0);
     if is_negative && is_positive {

@@ -5,11 +5,13 @@ use Rattle.std.specs.List.{list_any, position_or_len}
 use Rattle.std.proofs.lemmas.Bool.{eqb-true}
 use Rattle.std.proofs.lemmas.List.{take-append-drop, length-take-le}
 use Rattle.std.proofs.Math.Seq.{drop-append_seam, take-append_seam}
-use Rattle.time_below.specs.Tree.{Tree}
+use Rattle.time_below.specs.Tree.{Tree, of_component}
+use Rattle.time_below.specs.declared.format_description.component.Component.{Component}
+use Rattle.time_describe.specs.Conversions.{component_of, items_of}
 use Rattle.time_describe.specs.Literal.{literal_of}
 use Rattle.time_describe.specs.declared.strftime.fault.Fault.{Fault}
 use Rattle.time_describe.specs.Strftime.{Front, is_percent, front, conversion, first_part}
-use Rattle.time_describe.specs.StrftimeGrammar.{Part, literal, converted, behind_percent, part_spelling, spelling, part_meaning, begins_with_literal, is_literal}
+use Rattle.time_describe.specs.StrftimeGrammar.{Part, literal, converted, letter, behind_percent, part_spelling, spelling, part_meaning, begins_with_literal, is_literal}
 use Rattle.time_describe.proofs.PlaceLemmas.{place_inside}
 use Rattle.time_describe.proofs.ReadLemmas.{stops}
 use Rattle.time_describe.proofs.StrftimeConversions.{Spells, Lies, conversion_found, conversion_fits, conversion_read}
@@ -22,6 +24,13 @@ first_literal : (b : ℕ) (bs : List ℕ) → is_percent b ≡ false
     → first_part (b ∷ bs) ≡ front (literal_of (b ∷ take (position_or_len is_percent bs) bs) ∷ []) (length (take (position_or_len is_percent bs) bs))
 unfolding first_part
 first_literal b bs is = rw is refl
+
+-- a letter that stands for one component
+pub letter_first : (c : ℕ) (bs : List ℕ) (x : Component) → component_of c ≡ Some x → first_part (37 ∷ c ∷ bs) ≡ front (of_component x ∷ []) 1
+letter_first c bs x is =
+    let means : items_of c ≡ Some (of_component x ∷ []) = rw is refl in
+    let w = conversion_read (letter c) (of_component x ∷ []) bs means in
+    first_conversion 37 (c ∷ bs) refl ∙ w.1 ∙ ap (front (of_component x ∷ [])) w.2
 
 -- ---- what is read is spelled
 

@@ -1,8 +1,9 @@
 -- What calls return that read the syntax of strftime.
-use Rattle.std.specs.Prelude.{◌≡◌, ℕ, ◌+◌, ◌-◌, ◌<◌, Bool, IsTrue, List, [], ◌∷◌, take, drop, Result, Ok, Err}
+use Rattle.std.specs.Prelude.{◌≡◌, ℕ, ◌+◌, ◌-◌, ◌<◌, Bool, true, false, IsTrue, List, [], ◌∷◌, take, drop, Some, Result, Ok, Err}
 use Rattle.time_below.specs.Tree.{Tree, trees, of_component, all_of}
-use Rattle.time_describe.specs.Conversions.{offset, composed}
-use Rattle.time_describe.specs.Items.{are_leaves}
+use Rattle.time_below.specs.declared.format_description.component.Component.{Component}
+use Rattle.time_describe.specs.Conversions.{component_of, offset, composed}
+use Rattle.time_describe.specs.Items.{Adds, are_leaves}
 use Rattle.time_describe.specs.Literal.{literal_of}
 use Rattle.time_describe.specs.Strftime.{Front, read}
 use Rattle.time_describe.specs.declared.strftime.fault.Fault.{Fault}
@@ -25,6 +26,19 @@ items_of_part own (part.Composition text) = composed text.now
 abbrev pub front_of : List ℕ → Result (Part × ℕ) Fault → Result Front Fault
 front_of text (Ok x) = Ok (record { items = items_of_part (take (x.1 + 1) text) x.0; behind = x.1 })
 front_of text (Err fault) = Err fault
+
+-- the component that a letter stands for alone was added, or nothing was
+abbrev pub AddsLetter : {S : Type 0} → (S → List Tree → Type 0) → S → S → ℕ → Bool → Type 0
+AddsLetter Holds old new letter true = (x : Component) × (component_of letter ≡ Some x) × Adds Holds old new (of_component x ∷ [])
+AddsLetter Holds old new letter false = new ≡ old
+
+-- the items at the front of a text were added, to which so many bytes belong, and which are literals and components alone
+pub record AddsFront {S : Type 0} (Holds : S → List Tree → Type 0) (old new : S) (reading : Result Front Fault) (len : ℕ) : Type 0 where
+  pub front : Front
+  pub is : reading ≡ Ok front
+  pub counted : len ≡ front.behind + 1
+  pub leaves : IsTrue (are_leaves front.items)
+  pub added : Adds Holds old new front.items
 
 -- the tree of a text, or its fault
 abbrev pub tree_of : Result (List Tree) Fault → Result Tree Fault

@@ -3,12 +3,12 @@
 //! The conversions are those of POSIX.1-2017 but `%Z` and those with `E` or `O`, and of GNU `%k`, `%l`, `%N`,
 //! `%P`, `%s` and `%:z`. A number takes one flag: `-` for no padding, `_` for spaces, `0` for zeros. A year has at
 //! least four digits, unless a flag says otherwise.
-ghost use Rattle.std.specs.Prelude.{◌≡◌, ◌+◌, ◌<◌, ◌≤◌, ℕ, List, [], length, drop, slice_range, Ok, IfOk, IfErr, OnOk, IsTrue};
+ghost use Rattle.std.specs.Prelude.{◌≡◌, ◌+◌, ◌<◌, ◌≤◌, ℕ, List, [], length, drop, slice_range, Ok, IfOk, IfErr, OnOk, IsTrue, IsFalse};
 ghost use Rattle.time_below.specs.Tree.{Tree, owned_tree};
 ghost use Rattle.time_describe.specs.Conversions.{composed, offset};
 ghost use Rattle.time_describe.specs.Items.{Adds, are_leaves};
-ghost use Rattle.time_describe.specs.Strftime.{described, read};
-ghost use Rattle.time_describe.specs.StrftimeOutcome.{items_of_part, tree_of, Fails, GoesOn, IsFound, IsWithin, MayRefuse, Says};
+ghost use Rattle.time_describe.specs.Strftime.{described, first_part, read};
+ghost use Rattle.time_describe.specs.StrftimeOutcome.{AddsFront, AddsLetter, items_of_part, tree_of, Fails, GoesOn, IsFound, IsWithin, MayRefuse, Says};
 
 use crate::items::Items;
 use crate::literal::MOST_ITEMS;
@@ -114,6 +114,90 @@ fn put_part<I: Items>(
     Ok(())
 }
 
+/// Adds the component that a letter stands for, if it stands for one alone. Returns whether it does.
+#[inline(always)]
+fn put_letter<I: Items>(items: &mut I, letter: u8) -> Result<bool, AllocError>
+    ensures put { IfOk result (λ is_put. (text : List ℕ)
+        → AddsLetter (I.Holds text []) items.old items.new letter is_put) }
+    ensures refusal { IfErr result (λ _. IsTrue I.can_refuse) }
+    ensures lender { I.lender items.new ≡ I.lender items.old }
+{
+    let Some(component) = component_of(letter) else {
+        return Ok(false);
+    };
+    items.put_component(component)?;
+    Ok(true)
+}
+
+/// Adds the component that a letter stands for, if most texts have it. Returns whether they have. The compiler makes
+/// the item of each letter, which stands here as a constant.
+#[inline(always)]
+fn put_usual<I: Items>(items: &mut I, letter: u8) -> Result<bool, AllocError>
+    ensures put { IfOk result (λ is_put. (text : List ℕ)
+        → AddsLetter (I.Holds text []) items.old items.new letter is_put) }
+    ensures refusal { IfErr result (λ _. IsTrue I.can_refuse) }
+    ensures lender { I.lender items.new ≡ I.lender items.old }
+{
+    match letter {
+        b'A' => put_letter(items, b'A'),
+        b'B' => put_letter(items, b'B'),
+        b'H' => put_letter(items, b'H'),
+        b'I' => put_letter(items, b'I'),
+        b'M' => put_letter(items, b'M'),
+        b'N' => put_letter(items, b'N'),
+        b'S' => put_letter(items, b'S'),
+        b'Y' => put_letter(items, b'Y'),
+        b'a' => put_letter(items, b'a'),
+        b'b' => put_letter(items, b'b'),
+        b'd' => put_letter(items, b'd'),
+        b'e' => put_letter(items, b'e'),
+        b'j' => put_letter(items, b'j'),
+        b'm' => put_letter(items, b'm'),
+        b'p' => put_letter(items, b'p'),
+        b'y' => put_letter(items, b'y'),
+        _ => Ok(false),
+    }
+}
+
+/// Adds the component of the conversion at a place of the text, if it is one that most texts have. Returns whether it
+/// is.
+#[inline(always)]
+fn put_usual_at<I: Items>(items: &mut I, text: &[u8], at: usize) -> Result<bool, AllocError>
+    requires { at < length text.now }
+    ensures put { IfOk result (λ is_put. IsTrue is_put → (whole : List ℕ)
+        → AddsFront (I.Holds whole []) items.old items.new (first_part (drop at text.now)) 2) }
+    ensures within { IfOk result (λ is_put. IsTrue is_put → at + 2 ≤ length text.now) }
+    ensures nothing { IfOk result (λ is_put. IsFalse is_put → items.new ≡ items.old) }
+    ensures refusal { IfErr result (λ _. IsTrue I.can_refuse) }
+    ensures lender { I.lender items.new ≡ I.lender items.old }
+{
+    if text[at] != b'%' {
+        return Ok(false);
+    }
+    if at + 1 == text.len() {
+        return Ok(false);
+    }
+    put_usual(items, text[at + 1])
+}
+
+/// Adds the items of the part at a place of the text. Returns how many bytes belong to it.
+#[inline(always)]
+fn put_front<I: Items>(items: &mut I, text: &[u8], at: usize) -> Result<usize, Failure>
+    requires { at < length text.now }
+    ensures put { IfOk result (λ len. AddsFront (I.Holds text.now []) items.old items.new
+        (first_part (drop at text.now)) len) }
+    ensures within { IfOk result (λ len. at + len ≤ length text.now) }
+    ensures fails { IfErr result (λ e. Fails I.can_refuse e (first_part (drop at text.now))) }
+    ensures lender { I.lender items.new ≡ I.lender items.old }
+{
+    if put_usual_at(items, text, at)? {
+        return Ok(2);
+    }
+    let (part, behind) = first_part(&text[at..])?;
+    put_part(items, text, at, behind + 1, part)?;
+    Ok(behind + 1)
+}
+
 /// Reads the part at a place of the text, and returns the place behind it.
 #[inline(always)]
 fn step<I: Items>(items: &mut I, text: &[u8], at: usize) -> Result<usize, Failure>
@@ -125,15 +209,14 @@ fn step<I: Items>(items: &mut I, text: &[u8], at: usize) -> Result<usize, Failur
     ensures within { IfOk result (λ next. next ≤ length text.now) }
     ensures lender { I.lender items.new ≡ I.lender items.old }
 {
-    let (part, behind) = first_part(&text[at..])?;
-    put_part(items, text, at, behind + 1, part)?;
+    let len = put_front(items, text, at)?;
     if items.len() > MOST_ITEMS {
         return Err(Failure::Invalid(Fault {
             reason: StrftimeReason::TooManyItems,
             left: text.len() - at,
         }));
     }
-    Ok(at + behind + 1)
+    Ok(at + len)
 }
 
 /// Adds the items of a text.

@@ -148,8 +148,8 @@ fn with_width<'a>(
     }
 }
 
-/// What is behind a `%`, and how many bytes belong to it.
-#[inline(always)]
+/// What is behind a `%`, and how many bytes belong to it. The usual conversions are added before without a call.
+#[inline(never)]
 #[tactic(auto, unfolding(crate::specs::Strftime::conversion))]
 fn conversion<'a>(bytes: &'a [u8]) -> Result<(Part<'a>, usize), Fault>
     ensures part { (text : List ℕ) → front_of text result ≡ conversion bytes.now }
