@@ -29,9 +29,11 @@ ITSELF = re.compile(r"not proved\b|no proof: (?!it calls|it passes|a call of)")
 
 
 def copied(crate, texts, room):
-    """Returns the crate with these texts in place of its own and beside them, in a folder of this room."""
+    """Returns the crate with these texts in place of its own and beside them, in a folder of this room. A program and a
+    static library become a plain library there: their functions are checked alike, and nothing is linked."""
     made = copy.copy(crate)
     made.folder = f"{room}/{crate.name}"
+    made.is_program = made.is_static = False
     for part in rt.rtlib.PARTS:
         if os.path.isdir(f"{crate.folder}/{part}"):
             shutil.copytree(f"{crate.folder}/{part}", f"{made.folder}/{part}")
@@ -39,6 +41,11 @@ def copied(crate, texts, room):
         os.makedirs(os.path.dirname(f"{made.folder}/{path}"), exist_ok=True)
         with open(f"{made.folder}/{path}", "w", encoding="utf-8") as file:
             file.write(text)
+    if crate.is_program:
+        root = rt.rtlib.text_of(f"{made.folder}/src/main.rt")
+        os.remove(f"{made.folder}/src/main.rt")
+        with open(f"{made.folder}/src/lib.rt", "w", encoding="utf-8") as file:
+            file.write(root.replace("\nfn main(", "\nfn main_of_program("))
     return made
 
 
@@ -50,7 +57,7 @@ def refused(crate, functions, texts, kept, given):
         only = [word for it in sorted(functions) for word in ("--only", it)]
         ran = rt.checked(copied(crate, texts, room), {}, ["--jobs", "1", *only], kept)
     lines = ran.stdout.rstrip("\n").split("\n")
-    changed = [it for it in texts if os.path.isfile(f"{crate.folder}/{it}")]
+    changed = [it.replace("src/main.rt", "src/lib.rt") for it in texts if os.path.isfile(f"{crate.folder}/{it}")]
     unread = [it for it in lines if rt.unread(it, changed) or rt.rtlib.STALE.search(it)]
     if unread or ran.returncode not in (0, 1) or not lines[-1].startswith("only="):
         return set(), f"BAD EDIT: the prover cannot read it (status {ran.returncode}): {'; '.join((unread or lines)[:3])[:600]}"

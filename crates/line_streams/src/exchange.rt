@@ -21,6 +21,10 @@ pub enum FilterError {
 }
 
 impl From<AllocError> for FilterError {
+    ghost use Rattle.line_streams.specs.declared.exchange.FilterError.TheVariants.{Memory};
+
+    ghost from_gives = { λ _ error. error ≡ Memory };
+
     fn from(_error: AllocError) -> FilterError {
         FilterError::Memory
     }
