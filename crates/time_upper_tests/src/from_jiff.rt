@@ -30,11 +30,11 @@ fn values_have_these_texts_by_jiff(rt: HostRuntime) -> Result<(), Fail> {
     let alloc = rt.alloc();
     let (instant, zoned) = (instant(&rt), zoned(&rt));
     let text = format!(in alloc; "{instant}")?;
-    assert_text(&rt, &text, "2026-03-29T01:00:00Z");
+    assert_text(&rt, text, "2026-03-29T01:00:00Z");
     let text = zoned.strftime(alloc, "%a, %d %b %Y %H:%M:%S %z")?;
-    assert_text(&rt, &text, "Sun, 29 Mar 2026 03:00:00 +0200");
+    assert_text(&rt, text, "Sun, 29 Mar 2026 03:00:00 +0200");
     let text = zoned.strftime(alloc, "%A, %-d %B, %H:%M")?;
-    assert_text(&rt, &text, "Sunday, 29 March, 03:00");
+    assert_text(&rt, text, "Sunday, 29 March, 03:00");
     Ok(())
 }
 
@@ -46,26 +46,32 @@ fn an_instant_has_the_same_text(rt: HostRuntime) -> Result<(), Fail> {
         &time_jiff::timestamp(instant),
         &mut TimestampState::default(),
     )?;
-    assert_text(&rt, &text, "2026-03-29T01:00:00Z");
+    assert_text(&rt, text, "2026-03-29T01:00:00Z");
     Ok(())
 }
 
 #[test]
-fn a_zoned_value_has_the_same_texts(rt: HostRuntime) -> Result<(), Fail> {
+fn a_zoned_value_has_the_same_text(rt: HostRuntime) -> Result<(), Fail> {
     let (alloc, zoned) = (rt.alloc(), zoned(&rt));
     let text = Rfc2822.format(
         alloc,
         &time_jiff::offset_date_time(&zoned),
         &mut DateState::default(),
     )?;
-    assert_text(&rt, &text, "Sun, 29 Mar 2026 03:00:00 +0200");
+    assert_text(&rt, text, "Sun, 29 Mar 2026 03:00:00 +0200");
+    Ok(())
+}
+
+#[test]
+fn a_zoned_value_has_the_same_text_by_a_plan(rt: HostRuntime) -> Result<(), Fail> {
+    let (alloc, zoned) = (rt.alloc(), zoned(&rt));
     let plan = Plan::parse_strftime(alloc, b"%A, %-d %B, %H:%M")?;
     let text = plan.format(
         alloc,
         &time_jiff::offset_date_time(&zoned),
         &mut DateState::default(),
     )?;
-    assert_text(&rt, &text, "Sunday, 29 March, 03:00");
+    assert_text(&rt, text, "Sunday, 29 March, 03:00");
     Ok(())
 }
 
@@ -78,6 +84,6 @@ fn a_day_later_has_the_same_clock(rt: HostRuntime) -> Result<(), Fail> {
         &time_jiff::offset_date_time(&later),
         &mut DateState::default(),
     )?;
-    assert_text(&rt, &text, "2026-03-30T03:00:00+02:00");
+    assert_text(&rt, text, "2026-03-30T03:00:00+02:00");
     Ok(())
 }

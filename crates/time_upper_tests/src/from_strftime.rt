@@ -12,7 +12,7 @@ fn conversions(rt: HostRuntime) -> Result<(), Fail> {
     for (conversions, wanted) in ROWS {
         let plan = Plan::parse_strftime(alloc, conversions.as_bytes())?;
         let text = plan.format(alloc, &moment, &mut DateState::default())?;
-        assert_text(&rt, &text, wanted);
+        assert_text(&rt, text, wanted);
     }
     Ok(())
 }

@@ -29,6 +29,7 @@ pub fn moment(rt: &impl Abort) -> OffsetDateTime {
     OffsetDateTime::new_in_offset(date, time, offset)
 }
 
-pub fn assert_text(rt: &impl Abort, text: &str, wanted: &str) {
-    assert!(rt; text == wanted, "another text than {wanted}");
+/// Takes the text, so that it does not outlive its comparison.
+pub fn assert_text(rt: &impl Abort, text: String, wanted: &str) {
+    assert!(rt; text.as_str() == wanted, "another text than {wanted}");
 }
