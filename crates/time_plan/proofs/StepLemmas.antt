@@ -3,7 +3,6 @@ use Rattle.std.proofs.Common.{◌≡◌, ℕ, ◌+◌, ◌≤◌, ◌<◌, get_o
 use Rattle.std.proofs.Common.{Option, Some, None}
 use Rattle.std.proofs.lemmas.List.{append-nil}
 use Rattle.std.proofs.lemmas.Str.{IsUtf8-from_is_utf8, is_utf8-from_IsUtf8}
-use Rattle.std.specs.Prelude.{IsUtf8}
 use Rattle.std.specs.Str.{is_utf8}
 use Rattle.time_below.specs.Facts.{Facts}
 use Rattle.time_below.specs.Tree.{of_component, text_literal, more, end}
@@ -67,11 +66,11 @@ text_literal_is_text false bs f h = λ no. let never : ⊥ = cc in absurd never
 pub nothing_is_utf8 : is_utf8 [] ≡ true
 nothing_is_utf8 = is_utf8-from_IsUtf8 [] empty_utf8
 
--- a text of one byte is that byte
-pub lone_byte : (bs : List ℕ) → 1 ≤ length bs → length bs < 2 → IsUtf8 bs → is_utf8 (get_or bs 0 0 ∷ []) ≡ true
-lone_byte [] some few text = let no : ⊥ = omega arith in absurd no
-lone_byte (b ∷ []) some few text = is_utf8-from_IsUtf8 (b ∷ []) text
-lone_byte (b ∷ c ∷ bs) some few text = let no : ⊥ = omega arith in absurd no
+-- a list of one byte is that byte
+pub one_byte : (bs : List ℕ) → 1 ≤ length bs → length bs < 2 → get_or bs 0 0 ∷ [] ≡ bs
+one_byte [] some few = let no : ⊥ = omega arith in absurd no
+one_byte (b ∷ []) some few = refl
+one_byte (b ∷ c ∷ bs) some few = let no : ⊥ = omega arith in absurd no
 
 -- ---- what is shown
 

@@ -1,4 +1,4 @@
-use Rattle.std.proofs.Common.{◌++◌, ◌∙◌, refl, subst, sym}
+use Rattle.std.proofs.Common.{◌++◌, ◌∙◌, arith, refl, subst, sym}
 use Rattle.time_known.specs.Values.{OffsetDateAndTime}
 use Rattle.time_known.proofs.Rules.Parts.{same_value}
 use Rattle.time_read.specs.Profiles.{ReadsAs}
@@ -30,6 +30,14 @@ pub returns-in_default-tail-clause-stops : goal.returns-in_default-tail-clause-s
 returns-in_default-tail-clause-stops c = λ front date.
     stop_tail c.args.profile c.args.date _ _ _ front c.args.text.now _ _ _ _ date c.in-Some.ensures.some c.in-Some-two_within.ensures.read
     c.in-Some-two_after.ensures.read c.in-Some-two_after-2.ensures.read c.in_default-tail.ensures.none
+
+pub from_valid_hms_nano-time-requires : goal.from_valid_hms_nano-time-requires
+from_valid_hms_nano-time-requires c = (
+  omega (arith, c.in-Some-two_within.ensures.range),
+  omega (arith, c.in-Some-two_after.ensures.range),
+  omega (arith, c.in-Some-two_after-2.ensures.range),
+  c.in-Some-tail.ensures.range,
+)
 
 pub returns-clause-read : goal.returns-clause-read
 returns-clause-read c =
