@@ -1,4 +1,4 @@
--- The lists that the examples mean.
+-- The list that the example means.
 use Rattle.std.specs.Prelude.{codes, false}
 use Rattle.time_below.specs.declared.format_description.component.Component.TheVariants as component
 use Rattle.time_below.specs.declared.format_description.modifier.Padding.TheVariants as padding

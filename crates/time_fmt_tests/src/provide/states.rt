@@ -1,6 +1,8 @@
 //! Which entries a state holds after the methods of each type. A state shows them by its `Debug` text, and two
 //! states of dates are equal if they hold the same.
-use crate::texts::{assert_same, assert_that};
+ghost use Rattle.std.specs.Prelude.{IsTrue};
+
+use crate::texts::assert_same;
 use crate::values::{date_at, moment, offset_at, time_at, timestamp_at};
 use std::alloc::Global;
 use std::default::Default;
@@ -79,16 +81,60 @@ const METHODS: &[Row] = &[
     (Method::UnixTimestampMilliseconds, Kept::Nothing, NEITHER),
 ];
 
-/// Calls the method of this name where the value supplies its group, and else nothing.
+/// Calls the method of this name, if it is one of these.
 macro_rules! call_of {
-    ($value:ident $state:ident $method:ident; $($group:ident { $($name:ident $call:ident,)+ })+) => {
+    ($value:ident $state:ident $method:ident; $($name:ident $call:ident,)+) => {
         match $method {
-            $($(Method::$name if V::$group => {
+            $(Method::$name => {
                 let _answer = $value.$call($state);
-            })+)+
+            })+
             _ => {}
         }
     };
+}
+
+fn call_of_date<V: ComponentProvider>(value: &V, state: &mut V::State, method: Method)
+    requires supplied { IsTrue V.SUPPLIES_DATE }
+    requires agrees { V.agrees state.old value.now }
+    ensures { V.agrees state.new value.now }
+{
+    call_of! { value state method;
+        Day day, Month month, Ordinal ordinal, Weekday weekday, IsoWeekNumber iso_week_number,
+        MondayBasedWeek monday_based_week, SundayBasedWeek sunday_based_week,
+        CalendarYear calendar_year, IsoYear iso_year,
+    }
+}
+
+fn call_of_time<V: ComponentProvider>(value: &V, state: &mut V::State, method: Method)
+    requires supplied { IsTrue V.SUPPLIES_TIME }
+    requires agrees { V.agrees state.old value.now }
+    ensures { V.agrees state.new value.now }
+{
+    call_of! { value state method;
+        Hour hour, Minute minute, Period period, Second second, Nanosecond nanosecond,
+    }
+}
+
+fn call_of_offset<V: ComponentProvider>(value: &V, state: &mut V::State, method: Method)
+    requires supplied { IsTrue V.SUPPLIES_OFFSET }
+    requires agrees { V.agrees state.old value.now }
+    ensures { V.agrees state.new value.now }
+{
+    call_of! { value state method;
+        OffsetIsNegative offset_is_negative, OffsetIsUtc offset_is_utc, OffsetHour offset_hour,
+        OffsetMinute offset_minute, OffsetSecond offset_second,
+    }
+}
+
+fn call_of_timestamp<V: ComponentProvider>(value: &V, state: &mut V::State, method: Method)
+    requires supplied { IsTrue V.SUPPLIES_TIMESTAMP }
+    requires agrees { V.agrees state.old value.now }
+    ensures { V.agrees state.new value.now }
+{
+    call_of! { value state method;
+        UnixTimestampSeconds unix_timestamp_seconds,
+        UnixTimestampMilliseconds unix_timestamp_milliseconds,
+    }
 }
 
 /// Calls the method where the value supplies its group. Where it does not, a clause of the method says that
@@ -97,23 +143,17 @@ fn call<V: ComponentProvider>(value: &V, state: &mut V::State, method: Method)
     requires { V.agrees state.old value.now }
     ensures { V.agrees state.new value.now }
 {
-    call_of! { value state method;
-        SUPPLIES_DATE {
-            Day day, Month month, Ordinal ordinal, Weekday weekday, IsoWeekNumber iso_week_number,
-            MondayBasedWeek monday_based_week, SundayBasedWeek sunday_based_week,
-            CalendarYear calendar_year, IsoYear iso_year,
-        }
-        SUPPLIES_TIME {
-            Hour hour, Minute minute, Period period, Second second, Nanosecond nanosecond,
-        }
-        SUPPLIES_OFFSET {
-            OffsetIsNegative offset_is_negative, OffsetIsUtc offset_is_utc, OffsetHour offset_hour,
-            OffsetMinute offset_minute, OffsetSecond offset_second,
-        }
-        SUPPLIES_TIMESTAMP {
-            UnixTimestampSeconds unix_timestamp_seconds,
-            UnixTimestampMilliseconds unix_timestamp_milliseconds,
-        }
+    if V::SUPPLIES_DATE {
+        call_of_date(value, state, method);
+    }
+    if V::SUPPLIES_TIME {
+        call_of_time(value, state, method);
+    }
+    if V::SUPPLIES_OFFSET {
+        call_of_offset(value, state, method);
+    }
+    if V::SUPPLIES_TIMESTAMP {
+        call_of_timestamp(value, state, method);
     }
 }
 
