@@ -2,8 +2,8 @@
 use Rattle.std.proofs.Common.{◌≡◌, ℕ, zero, suc, ◌+◌, ◌-◌, ◌^◌, ◌<◌, ◌≤◌, Bool, true, false, ◌&&◌, List, [], ◌∷◌, ◌++◌}
 use Rattle.std.proofs.Common.{IsTrue, length, replicate, refl, sym, ◌∙◌, decimal, arith, length-append, append_assoc}
 use Rattle.std.specs.List.{list_all}
-use Rattle.std.specs.Prelude.{slice_index_or, nat_le}
-use Rattle.std.proofs.lemmas.Bool.{and_parts, leb-true}
+use Rattle.std.specs.Prelude.{slice_index_or, nat_le, nat_lt, ◌||◌}
+use Rattle.std.proofs.lemmas.Bool.{and_parts, le-ltb, leb-true, lt-ltb}
 use Rattle.std.proofs.lemmas.Fmt.{length-decimal-le}
 use Rattle.std.proofs.lemmas.List.{length-replicate}
 use Rattle.std.proofs.Math.ListN.{length-take}
@@ -68,6 +68,15 @@ whole_year p n low high =
 
 pub whole_century : (p : Padding) (n : ℕ) → 100 ≤ n → n < 2 ^ 64 → padded_text p 2 n ≡ decimal n
 whole_century p n low high = let long = decimal_longer 2 n low high in no_padding p 2 n (omega arith)
+
+-- a century of two digits has the sign that is wanted, and a longer one has a sign
+pub small_century : (is_wanted : Bool) (n : ℕ) → n < 100 → (is_wanted || nat_lt 99 n) ≡ is_wanted
+small_century true n few = refl
+small_century false n few = le-ltb 99 n (omega arith)
+
+pub great_century : (is_wanted : Bool) (n : ℕ) → 100 ≤ n → (is_wanted || nat_lt 99 n) ≡ true
+great_century true n many = refl
+great_century false n many = lt-ltb 99 n (omega arith)
 
 -- ---- numbers after their signs
 

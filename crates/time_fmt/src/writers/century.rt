@@ -3,11 +3,11 @@
 //! The calendar year and the year of the week calendar have the same texts.
 #![tactic(auto, using(crate::proofs::TextLemmas::signed_lengths))]
 
-ghost use Rattle.std.specs.Prelude.{◌≡◌, ◌<◌, ◌%◌, MatchOption, int_lt, length, pos, unsigned_abs};
+ghost use Rattle.std.specs.Prelude.{◌≡◌, ◌<◌, ◌≤◌, ◌%◌, ◌++◌, MatchOption, decimal, int_lt, length, pos, true, unsigned_abs};
 ghost use Rattle.time_below.specs.declared.format_description.component.Component.TheVariants as component;
 ghost use Rattle.time_fmt.specs.Kind.{kind_text, extended_century, standard_century, century_of};
 ghost use Rattle.time_fmt.specs.Sink.{Fits, Puts};
-ghost use Rattle.time_fmt.specs.Text.{padded_text};
+ghost use Rattle.time_fmt.specs.Text.{padded_text, sign_text};
 
 use crate::modifier::Modifier;
 use crate::refused::Refused;
@@ -257,6 +257,7 @@ impl Modifier for modifier::IsoYearLastTwo {
     }
 }
 
+#[tactic(auto, using(crate::proofs::TextLemmas::signed_lengths, crate::proofs::TextLemmas::small_century, crate::proofs::TextLemmas::great_century, crate::proofs::TextLemmas::whole_century))]
 fn write_extended_century<S: Sink>(
     output: &mut S,
     century: ru16<0, 9_999>,
@@ -269,8 +270,23 @@ fn write_extended_century<S: Sink>(
     ensures writes { Puts (S.buffer output.old) (S.buffer output.new) result
         (kind_text (extended_century padding sign_is_mandatory is_negative century)) }
 {
-    let sign = fmt_sign(output, is_negative, sign_is_mandatory || century.get() > 99);
-    sign + write_century_digits(output, century, padding)
+    let number = century.get();
+    if number < 100 {
+        let few = ru8::within(number as u8);
+        return write_standard_century(output, few, is_negative, padding, sign_is_mandatory);
+    }
+    write_long_century(output, century, is_negative)
+}
+
+// Appends a sign and all digits of a century from 100 on.
+fn write_long_century<S: Sink>(output: &mut S, century: ru16<0, 9_999>, is_negative: bool) -> usize
+    requires long { 100 ≤ century }
+    requires room { Fits (S.buffer output.old) (length (sign_text is_negative true ++ decimal century)) }
+    ensures writes { Puts (S.buffer output.old) (S.buffer output.new) result
+        (sign_text is_negative true ++ decimal century) }
+{
+    let sign = fmt_sign(output, is_negative, true);
+    sign + write_many(output, &one_to_four_digits_no_padding(century))
 }
 
 fn write_standard_century<S: Sink>(
@@ -287,20 +303,6 @@ fn write_standard_century<S: Sink>(
 {
     let sign = fmt_sign(output, is_negative, sign_is_mandatory);
     sign + format_two_digits(output, century, padding)
-}
-
-// Appends a century in two places, or all its digits.
-#[tactic(auto, using(crate::proofs::TextLemmas::whole_century))]
-fn write_century_digits<S: Sink>(output: &mut S, century: ru16<0, 9_999>, padding: Padding) -> usize
-    requires room { Fits (S.buffer output.old) (length (padded_text padding 2 century)) }
-    ensures writes { Puts (S.buffer output.old) (S.buffer output.new) result (padded_text padding 2 century) }
-{
-    let number = century.get();
-    if number < 100 {
-        format_two_digits(output, ru8::within(number as u8), padding)
-    } else {
-        write_many(output, &one_to_four_digits_no_padding(century))
-    }
 }
 
 // The year without its last two digits and without its sign, and whether the year is negative.
