@@ -13,6 +13,7 @@ proved, so that what refuses a twin is its edit.
 import argparse
 import concurrent.futures
 import copy
+import glob
 import os
 import re
 import shutil
@@ -127,6 +128,8 @@ def main():
     crates, passed, failed = rt.rtlib.crates_below(os.getcwd()), 0, 0
     with concurrent.futures.ThreadPoolExecutor(len(crates)) as pool:
         wanted = [it for it in crates if it.name in (given.crates or [it.name])]
+        # Those with most edits take longest, so that they begin first.
+        wanted.sort(key=lambda it: -len(glob.glob(f"{given.edits}/crates/{it.name}/must-fail/*.edit")))
         for done, told in enumerate(concurrent.futures.as_completed([pool.submit(tried_all, it, given) for it in wanted]), 1):
             for is_well, text in told.result():
                 print(text, flush=True)
