@@ -79,7 +79,7 @@ def said_of_tables():
         ("less than a tenth of what `strftime` takes, and an eighth to a seventh of what `time` 0.3.9 takes",
          max(utc["C"], utc["Rust"]) < utc["strftime"] / 10 and all(.12 < utc[it] / utc["time"] < .148 for it in ("C", "Rust"))),
         (f"{numbers.get(len(near))} rows take more than four fifths of what 0.3.55 takes", True),
-        (f"{numbers.get(len(behind))} rows are behind {{fmt}} or `strftime`", True),
+        (f"{numbers.get(len(behind))} {'row is' if len(behind) == 1 else 'rows are'} behind {{fmt}} or `strftime`", True),
     ]
 
 
