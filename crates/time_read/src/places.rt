@@ -79,15 +79,24 @@ fn missing_field(text: &[u8], profile: Profile) -> Field
     value_of(text, profile).unwrap_err()
 }
 
-// The place at which a short text is refused. Most do not begin with a digit.
+// The place at which a short text that begins with a digit is refused.
 #[cold]
 #[inline(never)]
+fn place_in_digits(text: &[u8], profile: Profile) -> NotRead
+    requires { length text.now < SHORTEST }
+    ensures { IsPlace profile text.now result }
+{
+    place_of(text, missing_field(text, profile), profile)
+}
+
+// The place at which a short text is refused. Most do not begin with a digit, which the caller sees by itself.
+#[inline(always)]
 pub(crate) fn place_in_short(text: &[u8], profile: Profile) -> NotRead
     requires { length text.now < SHORTEST }
     ensures { IsPlace profile text.now result }
 {
     match digit(text, 0, 9) {
-        Ok(_) => place_of(text, missing_field(text, profile), profile),
+        Ok(_) => place_in_digits(text, profile),
         Err(fault) => place_of_fault(text, fault),
     }
 }

@@ -4,14 +4,48 @@ ghost use Rattle.time_below.specs.Moment.{OffsetDateAndTime};
 ghost use Rattle.time_known.specs.Rfc3339Grammar.{Rfc3339Spells};
 ghost use Rattle.time_read.specs.Fault.{IsFirstFault, IsSecond60, SpellsSome};
 ghost use Rattle.time_read.specs.Lenient.{Rfc3339Means};
+ghost use Rattle.time_read.specs.Profiles.{ReadsAs};
+ghost use Rattle.time_read.specs.Stops.{IsPlace};
+ghost use Rattle.time_read.specs.declared.fault.Profile.TheVariants.{Lenient, Strict};
 
 use crate::fault::{NotRead, Profile};
 use crate::places::{place_in_short, place_of};
 use crate::value::{SHORTEST, value_of};
 use time_below::OffsetDateTime;
 
+// The value of a text that is long enough, or the place at which it is refused.
+#[inline(always)]
+fn value_or_place(text: &[u8], profile: Profile) -> Result<OffsetDateTime, NotRead>
+    ensures read { IfOk result (λ v. ReadsAs profile v text.now) }
+    ensures place { IfErr result (λ e. IsPlace profile text.now e) }
+{
+    match value_of(text, profile) {
+        Ok(value) => Ok(value),
+        Err(field) => Err(place_of(text, field, profile)),
+    }
+}
+
+// The same by the grammar alone. It is a call, so that a short text is refused before registers are saved.
+#[inline(never)]
+fn strictly(text: &[u8]) -> Result<OffsetDateTime, NotRead>
+    ensures read { IfOk result (λ v. ReadsAs Strict v text.now) }
+    ensures place { IfErr result (λ e. IsPlace Strict text.now e) }
+{
+    value_or_place(text, Profile::Strict)
+}
+
+// The same by what other writers mean.
+#[inline(never)]
+fn leniently(text: &[u8]) -> Result<OffsetDateTime, NotRead>
+    ensures read { IfOk result (λ v. ReadsAs Lenient v text.now) }
+    ensures place { IfErr result (λ e. IsPlace Lenient text.now e) }
+{
+    value_or_place(text, Profile::Lenient)
+}
+
 /// The value that a text of RFC 3339, section 5.6, spells: capital letters, one to nine decimals, if any, no
 /// second 60 and no offset `-00:00`. Any other text is refused at the first place where it is none.
+#[inline(always)]
 pub fn read(text: &[u8]) -> Result<OffsetDateTime, NotRead>
     ensures read { IfOk result (λ v. Rfc3339Spells v text.now) }
     ensures refused { IfErr result (λ _. (v : OffsetDateAndTime) → ¬ Rfc3339Spells v text.now) }
@@ -23,16 +57,13 @@ pub fn read(text: &[u8]) -> Result<OffsetDateTime, NotRead>
     if text.len() < SHORTEST {
         return Err(place_in_short(text, Profile::Strict));
     }
-    let field = match value_of(text, Profile::Strict) {
-        Ok(value) => return Ok(value),
-        Err(field) => field,
-    };
-    Err(place_of(text, field, Profile::Strict))
+    strictly(text)
 }
 
 /// The value that a text of RFC 3339, section 5.6, means, also one with a small `t` or `z`, with more than
 /// nine decimals, of which the first nine count, or with the unknown offset `-00:00` (section 4.3), which
 /// is read as UTC. Any other text is refused at the first place where it is none.
+#[inline(always)]
 pub fn read_lenient(text: &[u8]) -> Result<OffsetDateTime, NotRead>
     ensures read { IfOk result (λ v. Rfc3339Means v text.now) }
     ensures refused { IfErr result (λ _. (v : OffsetDateAndTime) → ¬ Rfc3339Means v text.now) }
@@ -44,9 +75,5 @@ pub fn read_lenient(text: &[u8]) -> Result<OffsetDateTime, NotRead>
     if text.len() < SHORTEST {
         return Err(place_in_short(text, Profile::Lenient));
     }
-    let field = match value_of(text, Profile::Lenient) {
-        Ok(value) => return Ok(value),
-        Err(field) => field,
-    };
-    Err(place_of(text, field, Profile::Lenient))
+    leniently(text)
 }
