@@ -31,7 +31,7 @@ use Rattle.time_fmt.specs.Runs.{date_run, year_text}
 use Rattle.time_fmt.specs.Sink.{Buffer, Puts}
 use Rattle.time_fmt.proofs.RunLemmas.{date_ends}
 use Rattle.time_fmt.proofs.TextLemmas.{signed_four}
-use Rattle.time_fmt.proofs.WriteLemmas.{join_done, join_refused}
+use Rattle.time_fmt.proofs.WriteLemmas.{join_done}
 use Rattle.movaliren_c.proofs.BatchLemmas.{refused_first}
 use Rattle.movaliren_c.proofs.FlatLemmas.{alone}
 

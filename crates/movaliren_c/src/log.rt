@@ -59,6 +59,25 @@ pub extern "C" fn movaliren_log_time(
     if is_kept(kept, seconds, offset) && is_usual(nanosecond, decimals) {
         return answer_number(write_kept(kept, ru32::within(nanosecond), decimals, room));
     }
+    log_anew(kept, decimals, seconds, nanosecond, offset, room)
+}
+
+/// The same by the configuration. First the second is kept, if it has texts. It is a call, so that a text by what is kept
+/// saves no registers.
+#[cold]
+#[inline(never)]
+fn log_anew(
+    kept: &mut Log,
+    decimals: u8,
+    seconds: i64,
+    nanosecond: u32,
+    offset: i64,
+    room: &mut [u8],
+) -> isize
+    ensures text { IsAnswer (iso8601_by (log_config decimals) (local_value seconds nanosecond offset))
+        result room.old room.new }
+    ensures kept { IsKept kept.old → IsKept kept.new }
+{
     keep_second(kept, seconds, offset);
     let config = log_config(decimals);
     movaliren_iso8601_by_local(&config, seconds, nanosecond, offset, room)
@@ -118,7 +137,7 @@ fn write_kept(
     write_around(&kept.head, zone, nanosecond, decimals, room)
 }
 
-/// Writes so many decimals of the nanosecond between two texts, if they fit.
+/// Writes so many decimals of the nanosecond between two texts of at most 26 bytes, if they fit.
 #[inline(always)]
 fn write_around(
     head: &[u8],
@@ -127,19 +146,22 @@ fn write_around(
     decimals: u8,
     room: &mut [u8],
 ) -> Result<usize, Reason>
+    requires head { length head.now ≡ 20 }
+    requires inside { length zone.now ≤ 6 }
     requires few { decimals ≡ 3 ⊎ decimals ≡ 6 ⊎ decimals ≡ 9 }
     ensures written { IsWritten result
         (done (head.now ++ decimals_of nanosecond 1_000_000_000 decimals ++ zone.now)) room.old room.new }
     ensures fits { IfOk result (λ count. count ≤ length room.old) }
 {
     let (a, b) = (head.len(), decimals as usize);
-    if a > room.len() || b > room.len() - a || zone.len() > room.len() - a - b {
+    let count = a + b + zone.len();
+    if count > room.len() {
         return Err(Reason::NoRoom);
     }
     write_over(room, 0, head);
     write_decimals(room, a, nanosecond, decimals);
     write_zone(room, a + b, zone);
-    Ok(a + b + zone.len())
+    Ok(count)
 }
 
 /// Overwrites the bytes of the buffer from a place on by the first three, six or nine decimals of a second.
@@ -190,8 +212,6 @@ fn write_zone(room: &mut [u8], at: usize, zone: &[u8])
 }
 
 /// Keeps what the texts of the second have in common, if it has texts and is not kept.
-#[cold]
-#[inline(never)]
 fn keep_second(kept: &mut Log, seconds: i64, offset: i64)
     ensures { IsKept kept.old → IsKept kept.new }
 {

@@ -1,5 +1,4 @@
 use Rattle.std.proofs.Common.{◌≡◌, ◌+◌, ◌++◌, ◌*◌, ◌^◌, ◌/◌, inl, length, refl, arith, length-append}
-use Rattle.std.proofs.lemmas.Grind.{common_steps}
 use Rattle.time_digits.proofs.DigitLemmas.{length-fixed}
 use Rattle.movaliren_c.proofs.LogLemmas.{three_pieces}
 use Rattle.time_fmt.specs.Decimals.{decimals}
@@ -18,10 +17,10 @@ returns-clause-written c =
           d.before d.behind,
     )
 
-pub returns-then-a-room-clause-written : goal.returns-then-a-room-clause-written
-returns-then-a-room-clause-written c =
+pub returns-then-count-room-clause-written : goal.returns-then-count-room-clause-written
+returns-then-count-room-clause-written c =
     let text = decimals c.args.nanosecond 1_000_000_000 c.args.decimals in
     let long : length text ≡ c.args.decimals = length-fixed c.args.decimals (c.args.nanosecond * 10 ^ c.args.decimals / 1_000_000_000) in
     let whole : length (c.args.head.now ++ text ++ c.args.zone.now) ≡ length c.args.head.now + c.args.decimals + length c.args.zone.now =
     simp length-append (omega (arith, long)) in
-    (refl, inl (refl, refl, first_of (omega (arith, whole), grind (arith, common_steps, whole))))
+    (refl, inl (refl, refl, omega (arith, whole, c.if-count-room.true)))
