@@ -1,0 +1,18 @@
+use Rattle.std.proofs.Common.{◌≡◌, ℕ, List, None, Result, refl, sym}
+use Rattle.std.proofs.lemmas.List.{take_at}
+use Rattle.movaliren_c.specs.Answer.{IsWritten}
+use Rattle.movaliren_c.specs.declared.reason.Reason.{Reason}
+use Rattle.time_fmt.specs.Outcome.{Outcome, done}
+use Rattle.movaliren_c.proofs.iso8601.copy_parts.Goals as goal
+
+-- the bytes of a completed outcome, copied, are its text
+copied_whole : (answer : Result ℕ Reason) (o : Outcome) (bytes before after : List ℕ) → bytes ≡ o.bytes
+    → o.refusal ≡ None → IsWritten answer (done bytes) before after → IsWritten answer o before after
+copied_whole answer o bytes before after same completed written =
+    let is : done bytes ≡ o = rw (same, ← completed) refl in rw (← is) written
+
+pub returns-in-Ok : goal.returns-in-Ok
+returns-in-Ok c =
+    let put = c.in-Ok.ensures in
+    copied_whole _ _ _ _ _ (rw c.put_at_once.ensures.text (take_at _ _ _ (sym put.count))) put.whole
+    c.copy_text.ensures.written
