@@ -1,5 +1,5 @@
 //! Descriptions that cross as data, whose texts allocate nothing.
-ghost use Rattle.std.specs.Prelude.{◌≡◌, ◌≤◌, IfNone, IfOk, IfSome, IsFalse, IsTrue, MatchOption, Ok, [], length};
+ghost use Rattle.std.specs.Prelude.{◌≡◌, ◌≤◌, ◌<◌, ◌+◌, ◌∷◌, IfNone, IfOk, IfSome, IsFalse, IsTrue, MatchOption, Ok, [], length, slice_range};
 ghost use Rattle.movaliren_c.specs.Answer.{Answers};
 ghost use Rattle.movaliren_c.specs.Items.{EndsFirst, EndsItem, EndsOrIsLost, EndsRun, FitsOrIsLost, IsDescribed, IsPut, IsShown, ItemEndsOrIsLost, item_tree, part_tree, reason_before, trees_of, width_answer};
 ghost use Rattle.movaliren_c.specs.Value.{date_value, moment_value, timestamp_value};
@@ -9,11 +9,11 @@ ghost use Rattle.time_fmt.specs.Description.{component_outcome, tree_outcome};
 ghost use Rattle.time_fmt.specs.Ends.{Ends};
 ghost use Rattle.time_fmt.specs.Sink.{Fits, Puts, Ready};
 
-use crate::item::{Item, Part, part_of};
+use crate::item::{Item, Part, part_of, text_of};
 use crate::moment::{Moment, date_value, moment_value, timestamp_value};
 use crate::reason::{Reason, answer_number, reason_of};
 use crate::room::copy_text;
-use crate::run::{Loop, Run, WithRuns, WithoutRuns, begins_with_run, byte_of, is_plain, run_of};
+use crate::run::{Loop, Run, WithRuns, WithoutRuns, begins_with_run, head_of, run_of};
 use std::default::Default;
 use std::marker::Brand;
 use time_below::format_description::modifier::Padding;
@@ -404,14 +404,15 @@ fn write_usual<S: Sink, V: ComponentProvider>(
         (S.buffer output.old) (S.buffer output.new) answer) }
     ensures agrees { V.agrees state.new value.now }
 {
-    if item.kind == 255 {
+    let head = head_of(item);
+    if head == 255 {
         return write_usual_text(item, texts, output);
     }
-    if !is_plain(item) || output.room() < LONGEST {
+    if output.room() < LONGEST {
         return None;
     }
     let (padding, sign_is_mandatory, case_sensitive) = (Padding::Zero, false, true);
-    match item.kind {
+    match head {
         1 => usual!(Day: padding; output, value, state),
         2 => usual!(MonthShort: case_sensitive; output, value, state),
         3 => by_call!(MonthLong: case_sensitive; output, value, state),
@@ -426,10 +427,6 @@ fn write_usual<S: Sink, V: ComponentProvider>(
         25 => usual!(Minute: padding; output, value, state),
         27 => usual!(Second: padding; output, value, state),
         30 => usual!(OffsetMinute: padding; output, value, state),
-        254 => {
-            output.put_byte(item.byte);
-            Some(Ok(()))
-        }
         _ => None,
     }
 }
@@ -453,35 +450,52 @@ fn write_apart<M: Modifier, S: Sink, V: ComponentProvider>(
     answer
 }
 
-/// Writes a literal if it fits, or else nothing.
+/// Writes a literal if it fits, or else nothing. Most have one or two bytes, for which one test tells that there is
+/// room.
 #[inline(always)]
 fn write_usual_text<S: Sink>(
     item: &Item,
     texts: &[u8],
     output: &mut S,
 ) -> Option<Result<(), Refused>>
+    requires { item.now.kind ≡ 255 }
     ensures { MatchOption result (S.buffer output.new ≡ S.buffer output.old)
         (λ answer. (f : Facts) → EndsItem (item_tree texts.now item.now) f
         (S.buffer output.old) (S.buffer output.new) answer) }
 {
-    if output.room() == 0 {
+    if output.room() < 2 || item.start >= texts.len() {
         return None;
     }
-    if let Some(byte) = byte_of(item, texts) {
-        output.put_byte(byte);
-        return Some(Ok(()));
-    }
-    match part_of(item, texts) {
-        Ok(Part::Text(text)) if text.len() <= output.room() => {
-            match text {
-                [first, second] => {
-                    output.put_byte(*first);
-                    output.put_byte(*second);
-                }
-                _ => write_fitting(output, text),
-            }
-            Some(Ok(()))
+    match item.len {
+        1 => output.put_byte(texts[item.start]),
+        2 => {
+            let (first, second) = pair_at(texts, item.start)?;
+            output.put_byte(first);
+            output.put_byte(second);
         }
+        _ => {
+            let text = text_of(item, texts)?;
+            if text.len() > output.room() {
+                return None;
+            }
+            write_fitting(output, text);
+        }
+    }
+    Some(Ok(()))
+}
+
+/// The bytes at a place and behind it, if there is one behind it.
+#[inline(always)]
+fn pair_at(texts: &[u8], start: usize) -> Option<(u8, u8)>
+    requires { start < length texts.now }
+    ensures there { IfSome result (λ pair. start + 2 ≤ length texts.now) }
+    ensures bytes { IfSome result (λ pair. slice_range texts.now start (start + 2) ≡ pair.0 ∷ pair.1 ∷ []) }
+{
+    if start + 1 >= texts.len() {
+        return None;
+    }
+    match &texts[start..start + 2] {
+        [first, second] => Some((*first, *second)),
         _ => None,
     }
 }
