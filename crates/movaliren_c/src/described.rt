@@ -10,11 +10,11 @@ ghost use Rattle.time_fmt.specs.Ends.{Ends};
 ghost use Rattle.time_fmt.specs.Sink.{Fits, Puts, Ready};
 
 use crate::item::{Item, Part, part_of, text_of};
-use crate::moment::{Moment, date_value, moment_value, timestamp_value};
+use crate::local_parts::{FirstState, dated_value};
+use crate::moment::{Moment, date_value, timestamp_value};
 use crate::reason::{Reason, answer_number, reason_of};
 use crate::room::copy_text;
 use crate::run::{Loop, Run, WithRuns, WithoutRuns, begins_with_run, head_of, run_of};
-use std::default::Default;
 use std::marker::Brand;
 use time_below::format_description::modifier::Padding;
 use time_below::format_description::{component_width, modifier};
@@ -59,7 +59,7 @@ pub extern "C" fn movaliren_format(
     ensures { Answers result (λ answer. IsDescribed texts.now items.now
         (moment_value moment.now) facts_of_offset_date_time answer room.old room.new) }
 {
-    answer_number(write_described(items, texts, moment_value(moment), room))
+    answer_number(write_described(items, texts, dated_value(moment), room))
 }
 
 /// The text of a moment in UTC.
@@ -107,7 +107,7 @@ pub extern "C" fn movaliren_width(items: &[Item], texts: &[u8]) -> isize
 /// array first, so that the buffer is as it was where there is no text. A longer text is written again,
 /// once it is known that it is complete and fits.
 #[inline(always)]
-pub fn write_described<V: ComponentProvider + Drop>(
+pub fn write_described<V: FirstState + Drop>(
     items: &[Item],
     texts: &[u8],
     value: Result<V, Reason>,
@@ -148,7 +148,7 @@ pub fn first_reason(items: &[Item], texts: &[u8], reason: Reason) -> Reason
 /// Writes a date or a time of day to the start of a buffer, if the items are one, as `write_alone` does. Other items
 /// cost two instructions more.
 #[inline(always)]
-fn write_if_alone<B: Before, V: ComponentProvider>(
+fn write_if_alone<B: Before, V: FirstState>(
     items: &[Item],
     texts: &[u8],
     value: &V,
@@ -173,7 +173,7 @@ where
 /// fits. Returns the number of bytes, if it was written. Nothing of it is refused, so that it needs no array.
 #[inline(never)]
 #[tactic(auto, using(time_fmt::proofs::RoomLemmas::room_written, crate::proofs::DescribedLemmas::put_shown))]
-fn write_alone<B: Before, V: ComponentProvider>(
+fn write_alone<B: Before, V: FirstState>(
     items: &[Item],
     texts: &[u8],
     value: &V,
@@ -199,7 +199,7 @@ where
 /// Writes a date or a time of day into an empty sink, if the items are one, the value has it and the longest fits.
 /// Returns whether it was written.
 #[inline(always)]
-fn put_alone<S: Sink, V: ComponentProvider>(
+fn put_alone<S: Sink, V: FirstState>(
     items: &[Item],
     texts: &[u8],
     output: &mut S,
@@ -215,7 +215,7 @@ where
     ensures lender { (S.buffer output.new).lender ≡ (S.buffer output.old).lender }
     ensures nothing { IsFalse result → S.buffer output.new ≡ S.buffer output.old }
 {
-    let mut state = Default::default();
+    let mut state = value.first_state();
     write_run::<WithRuns, S, V>(items, texts, output, value, &mut state)
 }
 
@@ -223,7 +223,7 @@ where
 /// a text that is longer than the array.
 #[cold]
 #[inline(never)]
-pub fn write_long<B: Before, V: ComponentProvider>(
+pub fn write_long<B: Before, V: FirstState>(
     items: &[Item],
     texts: &[u8],
     value: &V,
@@ -240,7 +240,7 @@ where
 /// Writes the text of the items to the start of a buffer, or as much of it as fits, by the loop that is chosen
 /// for them. Returns the number of bytes of the whole text, up to the greatest `usize`.
 #[inline(always)]
-fn write_chosen<B: Before, V: ComponentProvider>(
+fn write_chosen<B: Before, V: FirstState>(
     items: &[Item],
     texts: &[u8],
     value: &V,
@@ -262,7 +262,7 @@ where
 /// bytes of the whole text, up to the greatest `usize`.
 #[inline(never)]
 #[tactic(auto, using(time_fmt::proofs::RoomLemmas::room_written, crate::proofs::DescribedLemmas::put_shown))]
-fn write_items<B: Before, L: Loop, V: ComponentProvider>(
+fn write_items<B: Before, L: Loop, V: FirstState>(
     items: &[Item],
     texts: &[u8],
     value: &V,
@@ -283,7 +283,7 @@ where
 /// Writes the texts of the items into an empty sink, but for those that do not fit. Returns their number
 /// of bytes, up to the greatest `usize`.
 #[inline(always)]
-fn put_items<L: Loop, S: Sink, V: ComponentProvider>(
+fn put_items<L: Loop, S: Sink, V: FirstState>(
     items: &[Item],
     texts: &[u8],
     output: &mut S,
@@ -297,7 +297,7 @@ where
         (S.buffer output.old) (S.buffer output.new) }
     ensures lender { IfOk result (λ _. (S.buffer output.new).lender ≡ (S.buffer output.old).lender) }
 {
-    let mut state = Default::default();
+    let mut state = value.first_state();
     let mut lost = 0usize;
     let mut left = items;
     while let [item, behind @ ..] = left {
