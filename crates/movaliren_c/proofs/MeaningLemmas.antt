@@ -15,17 +15,17 @@ use Rattle.time_below.proofs.OffsetLemmas.{IsOffset-of_seconds, offset_back, one
 
 -- ---- what a value that there is comes of
 
-value_of_given : {A B : Type 0} (value : Result A Reason) (next : A → Result B Reason) (b : B)
+pub value_of_given : {A B : Type 0} (value : Result A Reason) (next : A → Result B Reason) (b : B)
     → with_value value next ≡ Ok b → (a : A) × (value ≡ Ok a) × (next a ≡ Ok b)
 value_of_given (Ok a) next b h = (a, refl, h)
 value_of_given (Err r) next b h = absurd (let e = h in cc)
 
-test_that_passed : {A : Type 0} (test : Bool) (r : Reason) (rest : Result A Reason) (a : A)
+pub test_that_passed : {A : Type 0} (test : Bool) (r : Reason) (rest : Result A Reason) (a : A)
     → checked test r rest ≡ Ok a → (test ≡ true) × (rest ≡ Ok a)
 test_that_passed true r rest a h = (refl, h)
 test_that_passed false r rest a h = absurd (let e = h in cc)
 
-same_value : {A : Type 0} (a b : A) → ◌≡◌ {A = Result A Reason} (Ok a) (Ok b) → a ≡ b
+pub same_value : {A : Type 0} (a b : A) → ◌≡◌ {A = Result A Reason} (Ok a) (Ok b) → a ≡ b
 same_value a b h = let e = h in cc
 
 -- ---- moments

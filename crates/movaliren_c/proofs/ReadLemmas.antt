@@ -1,18 +1,21 @@
 -- The parts of a value give that value.
-use Rattle.std.proofs.Common.{T, ◌≡◌, ℕ, suc, zero, ℤ, pos, negsuc, Bool, true, false, refl, ap, ◌∙◌, ◌≤◌, Result, Ok, arith}
-use Rattle.std.specs.Prelude.{◌&&◌, ◌<ℤ◌, ◌≤ℤ◌, int_le, int_lt, unsigned_abs}
+use Rattle.std.proofs.Common.{T, ◌≡◌, ℕ, suc, zero, ℤ, pos, negsuc, Bool, true, false, refl, sym, subst, ap, ◌∙◌, ◌≤◌, Result, Ok, arith}
+use Rattle.std.specs.Prelude.{◌&&◌, ◌<ℤ◌, ◌≤ℤ◌, int_le, int_lt, nat_lt, unsigned_abs}
 use Rattle.std.proofs.lemmas.Float.{T_from_true}
 use Rattle.std.proofs.lemmas.Bool.Decides.{nat_tests}
 use Rattle.std.specs.Int.{IsInRange}
-use Rattle.std.proofs.lemmas.Bool.{le-leb, lt-ltb}
+use Rattle.std.proofs.lemmas.Bool.{and_parts, le-leb, leb-true, lt-ltb}
+use Rattle.movaliren_c.specs.Known.{IsDayOf, offset_of_parts, time_of_parts}
 use Rattle.movaliren_c.specs.Value.{checked, date_value, is_alike, is_offset_part, moment_value, offset_value, time_value}
 use Rattle.movaliren_c.specs.declared.moment.Moment.{Moment}
 use Rattle.movaliren_c.specs.declared.reason.Reason.{Reason}
+use Rattle.movaliren_c.specs.declared.reason.Reason.TheVariants as reason
 use Rattle.time_below.specs.Calendar.{IsDate, IsDayOfMonth, IsYear, OrdinalDate, date_of, day_of, days_in_month, is_leap_year, month_of}
 use Rattle.time_below.specs.Moment.{OffsetDateAndTime}
 use Rattle.time_below.specs.Offset.{HasNoOtherSign, IsOffset, Offset}
 use Rattle.time_below.specs.TimeOfDay.{IsTimeOfDay, TimeOfDay}
-use Rattle.time_below.proofs.MonthLemmas.{date_of-month_and_day}
+use Rattle.time_below.proofs.MonthLemmas.{date_of-month_and_day, day_of-date_of, month_length, month_of-date_of}
+use Rattle.movaliren_c.proofs.MeaningLemmas.{same_value, test_that_passed, value_of_given}
 
 go : {A : Type 0} (test : Bool) (r : Reason) (rest : Result A Reason) → test ≡ true → checked test r rest ≡ rest
 go test r rest h = rw h refl
@@ -127,3 +130,70 @@ pub value_of_parts : (y : ℤ) (mo d h mi s n : ℕ) (oh om os : ℤ) (v : Offse
 value_of_parts y mo d h mi s n oh om os v p q r is_year is_month is_day real a b c e time i j k offset =
     let m : Moment = record { year = y; nanosecond = n; month = mo; day = d; hour = h; minute = mi; second = s; offset_hours = oh; offset_minutes = om; offset_seconds = os } in
     value_given m v (date_of_value y mo d v.date p q r is_year is_month is_day real) (time_of_value m v.time a b c e time) (offset_of_value m v.offset i j k offset)
+
+-- ---- the parts of a local date and time
+
+day_of_date : (y : ℤ) (m d : ℕ) (date : OrdinalDate) → date_value y m d ≡ Ok date → IsDayOf m d date
+unfolding date_value
+day_of_date y m d date h =
+    let year = test_that_passed _ _ _ date h in
+    let month = test_that_passed _ _ _ date year.1 in
+    let day = test_that_passed _ _ _ date month.1 in
+    let in_year = and_parts _ _ month.0 in
+    let in_month = and_parts _ _ day.0 in
+    let first = leb-true 1 m in_year.0 in
+    let last = leb-true m 12 in_year.1 in
+    let one = leb-true 1 d in_month.0 in
+    let within = leb-true d (days_in_month (is_leap_year y) m) in_month.1 in
+    let same = same_value (date_of y m d) date day.1 in
+    record {
+      month_range = (first, last);
+      day_range = (one, omega (arith, within, month_length (is_leap_year y) m));
+      month = ap month_of (sym same) ∙ month_of-date_of y m d first last one within;
+      day = ap day_of (sym same) ∙ day_of-date_of y m d first last one within;
+    }
+
+-- what a value is by its parts
+pub record IsByParts (m : Moment) (v : OffsetDateAndTime) : Type 0 where
+  pub day : IsDayOf m.month m.day v.date
+  pub time : v.time ≡ time_of_parts m
+  pub offset : v.offset ≡ offset_of_parts m
+
+time_by_parts : (m : Moment) (t : TimeOfDay) → time_value m ≡ Ok t → t ≡ time_of_parts m
+time_by_parts m t h =
+    let whole : Result TimeOfDay Reason = Ok (time_of_parts m) in
+    let last = checked (nat_lt m.nanosecond 1_000_000_000) reason.Nanosecond whole in
+    let third = checked (nat_lt m.second 60) reason.Second last in
+    let second = checked (nat_lt m.minute 60) reason.Minute third in
+    let after_hour = (test_that_passed (nat_lt m.hour 24) reason.Hour second t h).1 in
+    let after_minute = (test_that_passed (nat_lt m.minute 60) reason.Minute third t after_hour).1 in
+    let after_second = (test_that_passed (nat_lt m.second 60) reason.Second last t after_minute).1 in
+    let after_all = (test_that_passed (nat_lt m.nanosecond 1_000_000_000) reason.Nanosecond whole t after_second).1 in
+    sym (same_value (time_of_parts m) t after_all)
+
+offset_by_parts : (m : Moment) (o : Offset) → offset_value m ≡ Ok o → o ≡ offset_of_parts m
+offset_by_parts m o h =
+    let hours = is_offset_part 25 (pos 0) (pos 0) m.offset_hours in
+    let minutes = is_offset_part 59 m.offset_hours (pos 0) m.offset_minutes in
+    let seconds = is_offset_part 59 m.offset_hours m.offset_minutes m.offset_seconds in
+    let whole : Result Offset Reason = Ok (offset_of_parts m) in
+    let last = checked seconds reason.OffsetSeconds whole in
+    let second = checked minutes reason.OffsetMinutes last in
+    let after_hours = (test_that_passed hours reason.OffsetHours second o h).1 in
+    let after_minutes = (test_that_passed minutes reason.OffsetMinutes last o after_hours).1 in
+    let after_all = (test_that_passed seconds reason.OffsetSeconds whole o after_minutes).1 in
+    sym (same_value (offset_of_parts m) o after_all)
+
+-- a value that there is has its parts
+pub value_by_parts : (m : Moment) (v : OffsetDateAndTime) → moment_value m ≡ Ok v → IsByParts m v
+unfolding moment_value
+value_by_parts m v h =
+    let date = value_of_given (date_value m.year m.month m.day) _ v h in
+    let time = value_of_given (time_value m) _ v date.2 in
+    let offset = value_of_given (offset_value m) _ v time.2 in
+    let same = same_value _ v offset.2 in
+    subst (IsByParts m) same (record {
+      day = day_of_date m.year m.month m.day date.0 date.1;
+      time = time_by_parts m time.0 time.1;
+      offset = offset_by_parts m offset.0 offset.1;
+    })

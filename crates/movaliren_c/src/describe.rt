@@ -10,12 +10,11 @@ ghost use Rattle.time_below.specs.Facts.{facts_of_offset_date_time, facts_of_tim
 use crate::described::write_described;
 use crate::item::Item;
 use crate::item_room::ItemRoom;
+use crate::local_parts::{FirstState, value_there};
 use crate::made_item::NO_ITEM;
 use crate::moment::timestamp_value;
 use crate::reason::{Reason, answer_number};
-use crate::source::local_value;
 use crate::syntax::{Brackets, Fault, Strftime, Syntax};
-use time_provide::ComponentProvider;
 
 /// The most items of a text that is formatted in one call.
 const FEW: usize = 64;
@@ -58,7 +57,7 @@ pub extern "C" fn movaliren_brackets_local(
     ensures { Answers result (λ answer. IsText (described (few (bracket_items text.now))
         (local_value seconds nanosecond offset) facts_of_offset_date_time) answer room.old room.new) }
 {
-    answer_number(write_text::<Brackets, _>(text, local_value(seconds, nanosecond, offset), room))
+    answer_number(write_text::<Brackets, _>(text, value_there(seconds, nanosecond, offset), room))
 }
 
 /// Reads the items of a text in the syntax of strftime into an array.
@@ -101,7 +100,7 @@ pub extern "C" fn movaliren_strftime_local(
     ensures { Answers result (λ answer. IsText (described (few (strftime_items text.now))
         (local_value seconds nanosecond offset) facts_of_offset_date_time) answer room.old room.new) }
 {
-    answer_number(write_text::<Strftime, _>(text, local_value(seconds, nanosecond, offset), room))
+    answer_number(write_text::<Strftime, _>(text, value_there(seconds, nanosecond, offset), room))
 }
 
 /// Reads the items of a text into an array. If there are none, or they do not fit, the first item of the
@@ -128,7 +127,7 @@ fn describe<S: Syntax>(text: &[u8], items: &mut [Item], fault: &mut Fault) -> Re
 }
 
 /// Writes the text of the value by the description that another text is.
-fn write_text<S: Syntax, V: ComponentProvider + Drop>(
+fn write_text<S: Syntax, V: FirstState + Drop>(
     text: &[u8],
     value: Result<V, Reason>,
     room: &mut [u8],
@@ -149,7 +148,7 @@ where
 /// Writes the text of the value by a description of more items than most have.
 #[cold]
 #[inline(never)]
-fn write_many<S: Syntax, V: ComponentProvider + Drop>(
+fn write_many<S: Syntax, V: FirstState + Drop>(
     text: &[u8],
     value: Result<V, Reason>,
     room: &mut [u8],

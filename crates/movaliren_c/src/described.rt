@@ -1,5 +1,5 @@
 //! Descriptions that cross as data, whose texts allocate nothing.
-ghost use Rattle.std.specs.Prelude.{◌≡◌, ◌≤◌, IfNone, IfOk, IfSome, IsFalse, IsTrue, MatchOption, Ok, [], length};
+ghost use Rattle.std.specs.Prelude.{◌≡◌, ◌≤◌, ◌<◌, ◌+◌, ◌∷◌, IfNone, IfOk, IfSome, IsFalse, IsTrue, MatchOption, Ok, [], length, slice_range};
 ghost use Rattle.movaliren_c.specs.Answer.{Answers};
 ghost use Rattle.movaliren_c.specs.Items.{EndsFirst, EndsItem, EndsOrIsLost, EndsRun, FitsOrIsLost, IsDescribed, IsPut, IsShown, ItemEndsOrIsLost, item_tree, part_tree, reason_before, trees_of, width_answer};
 ghost use Rattle.movaliren_c.specs.Value.{date_value, moment_value, timestamp_value};
@@ -9,12 +9,12 @@ ghost use Rattle.time_fmt.specs.Description.{component_outcome, tree_outcome};
 ghost use Rattle.time_fmt.specs.Ends.{Ends};
 ghost use Rattle.time_fmt.specs.Sink.{Fits, Puts, Ready};
 
-use crate::item::{Item, Part, part_of};
-use crate::moment::{Moment, date_value, moment_value, timestamp_value};
+use crate::item::{Item, Part, part_of, text_of};
+use crate::local_parts::{FirstState, dated_value};
+use crate::moment::{Moment, date_value, timestamp_value};
 use crate::reason::{Reason, answer_number, reason_of};
 use crate::room::copy_text;
-use crate::run::{Loop, Run, WithRuns, WithoutRuns, begins_with_run, byte_of, is_plain, run_of};
-use std::default::Default;
+use crate::run::{Loop, Run, WithRuns, WithoutRuns, begins_with_run, head_of, run_of};
 use std::marker::Brand;
 use time_below::format_description::modifier::Padding;
 use time_below::format_description::{component_width, modifier};
@@ -59,7 +59,7 @@ pub extern "C" fn movaliren_format(
     ensures { Answers result (λ answer. IsDescribed texts.now items.now
         (moment_value moment.now) facts_of_offset_date_time answer room.old room.new) }
 {
-    answer_number(write_described(items, texts, moment_value(moment), room))
+    answer_number(write_described(items, texts, dated_value(moment), room))
 }
 
 /// The text of a moment in UTC.
@@ -107,7 +107,7 @@ pub extern "C" fn movaliren_width(items: &[Item], texts: &[u8]) -> isize
 /// array first, so that the buffer is as it was where there is no text. A longer text is written again,
 /// once it is known that it is complete and fits.
 #[inline(always)]
-pub fn write_described<V: ComponentProvider + Drop>(
+pub fn write_described<V: FirstState + Drop>(
     items: &[Item],
     texts: &[u8],
     value: Result<V, Reason>,
@@ -148,7 +148,7 @@ pub fn first_reason(items: &[Item], texts: &[u8], reason: Reason) -> Reason
 /// Writes a date or a time of day to the start of a buffer, if the items are one, as `write_alone` does. Other items
 /// cost two instructions more.
 #[inline(always)]
-fn write_if_alone<B: Before, V: ComponentProvider>(
+fn write_if_alone<B: Before, V: FirstState>(
     items: &[Item],
     texts: &[u8],
     value: &V,
@@ -173,7 +173,7 @@ where
 /// fits. Returns the number of bytes, if it was written. Nothing of it is refused, so that it needs no array.
 #[inline(never)]
 #[tactic(auto, using(time_fmt::proofs::RoomLemmas::room_written, crate::proofs::DescribedLemmas::put_shown))]
-fn write_alone<B: Before, V: ComponentProvider>(
+fn write_alone<B: Before, V: FirstState>(
     items: &[Item],
     texts: &[u8],
     value: &V,
@@ -199,7 +199,7 @@ where
 /// Writes a date or a time of day into an empty sink, if the items are one, the value has it and the longest fits.
 /// Returns whether it was written.
 #[inline(always)]
-fn put_alone<S: Sink, V: ComponentProvider>(
+fn put_alone<S: Sink, V: FirstState>(
     items: &[Item],
     texts: &[u8],
     output: &mut S,
@@ -215,7 +215,7 @@ where
     ensures lender { (S.buffer output.new).lender ≡ (S.buffer output.old).lender }
     ensures nothing { IsFalse result → S.buffer output.new ≡ S.buffer output.old }
 {
-    let mut state = Default::default();
+    let mut state = value.first_state();
     write_run::<WithRuns, S, V>(items, texts, output, value, &mut state)
 }
 
@@ -223,7 +223,7 @@ where
 /// a text that is longer than the array.
 #[cold]
 #[inline(never)]
-pub fn write_long<B: Before, V: ComponentProvider>(
+pub fn write_long<B: Before, V: FirstState>(
     items: &[Item],
     texts: &[u8],
     value: &V,
@@ -240,7 +240,7 @@ where
 /// Writes the text of the items to the start of a buffer, or as much of it as fits, by the loop that is chosen
 /// for them. Returns the number of bytes of the whole text, up to the greatest `usize`.
 #[inline(always)]
-fn write_chosen<B: Before, V: ComponentProvider>(
+fn write_chosen<B: Before, V: FirstState>(
     items: &[Item],
     texts: &[u8],
     value: &V,
@@ -262,7 +262,7 @@ where
 /// bytes of the whole text, up to the greatest `usize`.
 #[inline(never)]
 #[tactic(auto, using(time_fmt::proofs::RoomLemmas::room_written, crate::proofs::DescribedLemmas::put_shown))]
-fn write_items<B: Before, L: Loop, V: ComponentProvider>(
+fn write_items<B: Before, L: Loop, V: FirstState>(
     items: &[Item],
     texts: &[u8],
     value: &V,
@@ -283,7 +283,7 @@ where
 /// Writes the texts of the items into an empty sink, but for those that do not fit. Returns their number
 /// of bytes, up to the greatest `usize`.
 #[inline(always)]
-fn put_items<L: Loop, S: Sink, V: ComponentProvider>(
+fn put_items<L: Loop, S: Sink, V: FirstState>(
     items: &[Item],
     texts: &[u8],
     output: &mut S,
@@ -297,7 +297,7 @@ where
         (S.buffer output.old) (S.buffer output.new) }
     ensures lender { IfOk result (λ _. (S.buffer output.new).lender ≡ (S.buffer output.old).lender) }
 {
-    let mut state = Default::default();
+    let mut state = value.first_state();
     let mut lost = 0usize;
     let mut left = items;
     while let [item, behind @ ..] = left {
@@ -404,14 +404,15 @@ fn write_usual<S: Sink, V: ComponentProvider>(
         (S.buffer output.old) (S.buffer output.new) answer) }
     ensures agrees { V.agrees state.new value.now }
 {
-    if item.kind == 255 {
+    let head = head_of(item);
+    if head == 255 {
         return write_usual_text(item, texts, output);
     }
-    if !is_plain(item) || output.room() < LONGEST {
+    if output.room() < LONGEST {
         return None;
     }
     let (padding, sign_is_mandatory, case_sensitive) = (Padding::Zero, false, true);
-    match item.kind {
+    match head {
         1 => usual!(Day: padding; output, value, state),
         2 => usual!(MonthShort: case_sensitive; output, value, state),
         3 => by_call!(MonthLong: case_sensitive; output, value, state),
@@ -426,10 +427,6 @@ fn write_usual<S: Sink, V: ComponentProvider>(
         25 => usual!(Minute: padding; output, value, state),
         27 => usual!(Second: padding; output, value, state),
         30 => usual!(OffsetMinute: padding; output, value, state),
-        254 => {
-            output.put_byte(item.byte);
-            Some(Ok(()))
-        }
         _ => None,
     }
 }
@@ -453,35 +450,52 @@ fn write_apart<M: Modifier, S: Sink, V: ComponentProvider>(
     answer
 }
 
-/// Writes a literal if it fits, or else nothing.
+/// Writes a literal if it fits, or else nothing. Most have one or two bytes, for which one test tells that there is
+/// room.
 #[inline(always)]
 fn write_usual_text<S: Sink>(
     item: &Item,
     texts: &[u8],
     output: &mut S,
 ) -> Option<Result<(), Refused>>
+    requires { item.now.kind ≡ 255 }
     ensures { MatchOption result (S.buffer output.new ≡ S.buffer output.old)
         (λ answer. (f : Facts) → EndsItem (item_tree texts.now item.now) f
         (S.buffer output.old) (S.buffer output.new) answer) }
 {
-    if output.room() == 0 {
+    if output.room() < 2 || item.start >= texts.len() {
         return None;
     }
-    if let Some(byte) = byte_of(item, texts) {
-        output.put_byte(byte);
-        return Some(Ok(()));
-    }
-    match part_of(item, texts) {
-        Ok(Part::Text(text)) if text.len() <= output.room() => {
-            match text {
-                [first, second] => {
-                    output.put_byte(*first);
-                    output.put_byte(*second);
-                }
-                _ => write_fitting(output, text),
-            }
-            Some(Ok(()))
+    match item.len {
+        1 => output.put_byte(texts[item.start]),
+        2 => {
+            let (first, second) = pair_at(texts, item.start)?;
+            output.put_byte(first);
+            output.put_byte(second);
         }
+        _ => {
+            let text = text_of(item, texts)?;
+            if text.len() > output.room() {
+                return None;
+            }
+            write_fitting(output, text);
+        }
+    }
+    Some(Ok(()))
+}
+
+/// The bytes at a place and behind it, if there is one behind it.
+#[inline(always)]
+fn pair_at(texts: &[u8], start: usize) -> Option<(u8, u8)>
+    requires { start < length texts.now }
+    ensures there { IfSome result (λ pair. start + 2 ≤ length texts.now) }
+    ensures bytes { IfSome result (λ pair. slice_range texts.now start (start + 2) ≡ pair.0 ∷ pair.1 ∷ []) }
+{
+    if start + 1 >= texts.len() {
+        return None;
+    }
+    match &texts[start..start + 2] {
+        [first, second] => Some((*first, *second)),
         _ => None,
     }
 }

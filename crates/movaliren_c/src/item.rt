@@ -1,5 +1,7 @@
 //! The items of a description, as C passes them.
-ghost use Rattle.std.specs.Prelude.{◌≡◌};
+ghost use Rattle.std.specs.Prelude.{◌≡◌, Err, IfNone, IfSome, Ok};
+ghost use Rattle.movaliren_c.specs.declared.reason.Reason.TheVariants.{BadItem};
+ghost use Rattle.time_below.specs.Tree.{byte_literal};
 ghost use Rattle.movaliren_c.specs.Items.{padding_at, digits_at, date_component, year_component, time_component, component_at, component_of, item_tree, part_tree, tree_of};
 
 use crate::reason::{Reason, flag_at};
@@ -178,17 +180,30 @@ fn component_of(item: &Item) -> Result<Component, Reason>
     component_at(item.kind, padding, flag, digits)
 }
 
+/// The bytes that an item of the kind of texts names, if they are there.
+#[inline(always)]
+pub fn text_of<'a>(item: &Item, texts: &'a [u8]) -> Option<&'a [u8]>
+    requires { item.now.kind ≡ 255 }
+    ensures there { IfSome result (λ text. item_tree texts.now item.now ≡ Ok (byte_literal text.now)) }
+    ensures not_there { IfNone result (item_tree texts.now item.now ≡ Err BadItem) }
+{
+    if item.start > texts.len() || item.len > texts.len() - item.start {
+        return None;
+    }
+    let end = item.start + item.len;
+    Some(&texts[item.start..end])
+}
+
 /// The part that the item says.
 #[inline(always)]
 pub fn part_of<'a>(item: &Item, texts: &'a [u8]) -> Result<Part<'a>, Reason>
     ensures { tree_of result ≡ item_tree texts.now item.now }
 {
     if item.kind == 255 {
-        if item.start > texts.len() || item.len > texts.len() - item.start {
-            return Err(Reason::BadItem);
-        }
-        let end = item.start + item.len;
-        return Ok(Part::Text(&texts[item.start..end]));
+        return match text_of(item, texts) {
+            Some(text) => Ok(Part::Text(text)),
+            None => Err(Reason::BadItem),
+        };
     }
     if item.kind == 254 {
         return Ok(Part::Byte(item.byte));

@@ -9,11 +9,10 @@ ghost use Rattle.time_below.specs.Facts.{facts_of_date, facts_of_offset_date_tim
 
 use crate::described::{GREATEST_WIDTH, SHORT, first_reason, write_long};
 use crate::item::Item;
-use crate::moment::{Moment, date_value, moment_value, timestamp_value};
+use crate::local_parts::{FirstState, dated_value, value_there};
+use crate::moment::{Moment, date_value, timestamp_value};
 use crate::reason::{Reason, answer_number};
-use crate::source::local_value;
 use std::marker::Brand;
-use time_provide::ComponentProvider;
 
 /// The number of bytes of the text of a local date and time with its offset.
 #[unsafe(no_mangle)]
@@ -21,7 +20,7 @@ pub extern "C" fn movaliren_format_length(items: &[Item], texts: &[u8], moment: 
     ensures { Answers result (λ answer. IsLength (described (trees_of texts.now items.now)
         (moment_value moment.now) facts_of_offset_date_time) answer) }
 {
-    answer_number(text_length(items, texts, moment_value(moment)))
+    answer_number(text_length(items, texts, dated_value(moment)))
 }
 
 /// The number of bytes of the text of a moment in UTC.
@@ -50,7 +49,7 @@ pub extern "C" fn movaliren_format_local_length(
     ensures { Answers result (λ answer. IsLength (described (trees_of texts.now items.now)
         (local_value seconds nanosecond offset) facts_of_offset_date_time) answer) }
 {
-    let value = local_value(seconds, nanosecond, offset);
+    let value = value_there(seconds, nanosecond, offset);
     answer_number(text_length(items, texts, value))
 }
 
@@ -70,7 +69,7 @@ pub extern "C" fn movaliren_format_date_length(
 }
 
 /// The number of bytes of the text of the value by the description, up to the greatest `isize`, if there are both.
-fn text_length<V: ComponentProvider + Drop>(
+fn text_length<V: FirstState + Drop>(
     items: &[Item],
     texts: &[u8],
     value: Result<V, Reason>,

@@ -17,6 +17,7 @@ pub mod laws;
 mod length;
 mod library;
 mod local;
+mod local_parts;
 mod log;
 mod made_item;
 mod moment;

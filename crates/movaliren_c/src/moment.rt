@@ -38,7 +38,7 @@ pub struct UtcMoment {
 pub fn date_value(year: i32, month: u8, day: u8) -> Result<Date, Reason>
     ensures { result ≡ date_value year month day }
 {
-    if year.unsigned_abs() > 999_999 {
+    if year < -999_999 || year > 999_999 {
         return Err(Reason::Year);
     }
     if month == 0 || month > 12 {

@@ -28,8 +28,8 @@ fn copy_over(text: &[u8], room: &mut [u8])
     ensures { room.new ≡ text.now ++ drop (length text.now) room.old }
 {
     match text.len() {
-        8..=15 => copy_ends(text, 8, room),
         16..=32 => copy_ends(text, 16, room),
+        8..=15 => copy_ends(text, 8, room),
         count => room[..count].copy_from_slice(text),
     }
 }

@@ -1,5 +1,5 @@
 //! Dates and times of day at the front of a list of items.
-ghost use Rattle.std.specs.Prelude.{◌≡◌, ◌≤◌, ◌∷◌, [], ℕ, List, IfSome, IsTrue, Ok, drop, length};
+ghost use Rattle.std.specs.Prelude.{◌≡◌, ◌≤◌, ◌<◌, ◌^◌, ◌∷◌, [], ℕ, List, IfSome, IsTrue, Ok, drop, length};
 ghost use Rattle.movaliren_c.specs.Items.{first_part, item_tree, run_before, second_part, third_part, trees_of};
 ghost use Rattle.movaliren_c.specs.Value.{with_value};
 ghost use Rattle.time_below.specs.Tree.{byte_literal, of_component};
@@ -84,28 +84,28 @@ fn run_between(first: &Item, second: &Item, third: &Item) -> Option<Run>
     ensures third { IfSome result (λ run. (texts : List ℕ)
         → item_tree texts third.now ≡ Ok (of_component (third_part run))) }
 {
-    let run = match first.kind {
-        13 if is_plain_of(second, 4) && is_plain_of(third, 1) => Run::Date,
-        14 if is_plain_of(second, 4) && is_plain_of(third, 1) => Run::StandardDate,
-        24 if is_plain_of(second, 25) && is_plain_of(third, 27) => Run::Time,
-        _ => return None,
-    };
-    if is_plain(first) { Some(run) } else { None }
+    match head_of(first) {
+        13 if is_plain_of(second, 4) && is_plain_of(third, 1) => Some(Run::Date),
+        14 if is_plain_of(second, 4) && is_plain_of(third, 1) => Some(Run::StandardDate),
+        24 if is_plain_of(second, 25) && is_plain_of(third, 27) => Some(Run::Time),
+        _ => None,
+    }
 }
 
-/// Whether the choices of an item and its byte are zeros. The compiler reads the four as one number.
+/// The kind of an item, and above it its choices and its byte. The compiler reads the five as one number.
 #[inline(always)]
-pub fn is_plain(item: &Item) -> bool
-    ensures padding { IsTrue result → item.now.padding ≡ 0 }
-    ensures flag { IsTrue result → item.now.flag ≡ 0 }
-    ensures digits { IsTrue result → item.now.digits ≡ 0 }
+pub fn head_of(item: &Item) -> u64
+    ensures kind { result < 2 ^ 32 → item.now.kind ≡ result }
+    ensures padding { result < 2 ^ 32 → item.now.padding ≡ 0 }
+    ensures flag { result < 2 ^ 32 → item.now.flag ≡ 0 }
+    ensures digits { result < 2 ^ 32 → item.now.digits ≡ 0 }
 {
-    let choices = item.padding as u32 + item.flag as u32 * 0x100 + item.digits as u32 * 0x1_0000;
-    choices + item.byte as u32 * 0x100_0000 == 0
+    let choices = item.padding as u64 + item.flag as u64 * 0x100 + item.digits as u64 * 0x1_0000;
+    let whole = choices + item.byte as u64 * 0x100_0000;
+    item.kind as u64 + whole * 0x1_0000_0000
 }
 
-/// Whether an item has this kind, and its choices and its byte are zeros. The compiler reads the five as one
-/// number.
+/// Whether an item has this kind, and its choices and its byte are zeros.
 #[inline(always)]
 fn is_plain_of(item: &Item, kind: u32) -> bool
     ensures kind { IsTrue result → item.now.kind ≡ kind }
@@ -113,9 +113,7 @@ fn is_plain_of(item: &Item, kind: u32) -> bool
     ensures flag { IsTrue result → item.now.flag ≡ 0 }
     ensures digits { IsTrue result → item.now.digits ≡ 0 }
 {
-    let choices = item.padding as u64 + item.flag as u64 * 0x100 + item.digits as u64 * 0x1_0000;
-    let whole = choices + item.byte as u64 * 0x100_0000;
-    item.kind as u64 + whole * 0x1_0000_0000 == kind as u64
+    head_of(item) == kind as u64
 }
 
 /// The byte that an item is, if it is a text of one.

@@ -1,0 +1,8 @@
+use Rattle.std.proofs.Common.{sym}
+use Rattle.movaliren_c.proofs.ReadLemmas.{value_by_parts}
+use Rattle.movaliren_c.proofs.local_parts.dated_value.Goals as goal
+
+pub by_parts-requires : goal.by_parts-requires
+by_parts-requires c =
+    let is = value_by_parts c.args.moment.now c.in-Ok.value (sym c.in-Ok.ensures) in
+    record { time = is.time; offset = is.offset; day = λ _. is.day }
