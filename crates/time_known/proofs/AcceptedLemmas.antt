@@ -9,11 +9,11 @@ use Rattle.time_digits.specs.Digits.{zero_padded}
 use Rattle.time_fmt.specs.Outcome.{Outcome, done, refused, join, invalid_component}
 use Rattle.time_known.specs.Accepted.{checked_text, component_name, refused_for}
 use Rattle.time_known.specs.Config.{Choices, separator, DecimalSign}
-use Rattle.time_known.specs.Fields.{fields, hours_of_fields, offset_fields}
+use Rattle.time_known.specs.Fields.{fields}
 use Rattle.time_known.specs.Iso8601.{iso_of_groups, iso_time_text, text_after_year}
 use Rattle.time_known.specs.UsualText.{usual_choices, usual_of_fields, week_choices, week_of_fields}
 use Rattle.time_known.specs.Values.{DateFacts, Offset, TimeOfDay}
-use Rattle.time_known.specs.WellKnown.{refused_if, is_outside}
+use Rattle.time_known.specs.WellKnown.{refused_if, is_outside, offset_hours_text}
 use Rattle.time_known.specs.declared.accepted.OutOfRange.{OutOfRange}
 use Rattle.time_known.specs.declared.iso8601.config.DateKind.TheVariants as kind
 use Rattle.time_known.proofs.OutcomeLemmas.{above_not, test_is_passed}
@@ -48,7 +48,7 @@ week_passes : (c : Choices) (has_separators : Bool) (digits : Option ℕ) (sign 
     (t : TimeOfDay) (o : Offset) → c ≡ week_choices has_separators digits sign
     → is_outside 0 9_999 d.iso_year ≡ false → nat_lt 0 (unsigned_abs o.seconds) ≡ false
     → iso_of_groups c d t o
-    ≡ done (week_of_fields c digits (unsigned_abs d.iso_year) d.iso_week (d.weekday + 1) t (offset_fields o))
+    ≡ done (week_of_fields c digits (unsigned_abs d.iso_year) d.iso_week (d.weekday + 1) t o)
 week_passes c has_separators digits sign d t o e year seconds = grind (arith, common_steps)
 
 -- an accepted year of the week calendar and an offset complete it
@@ -56,7 +56,7 @@ pub week_accepted : (c : Choices) (has_separators : Bool) (digits : Option ℕ) 
     (t : TimeOfDay) (o : Offset) (text : List ℕ) → c ≡ week_choices has_separators digits sign
     → checked_text 0 25 d.iso_year (unsigned_abs o.hours) (unsigned_abs o.seconds) text ≡ done text
     → iso_of_groups c d t o
-    ≡ done (week_of_fields c digits (unsigned_abs d.iso_year) d.iso_week (d.weekday + 1) t (offset_fields o))
+    ≡ done (week_of_fields c digits (unsigned_abs d.iso_year) d.iso_week (d.weekday + 1) t o)
 week_accepted c has_separators digits sign d t o text e accepted =
     let year = test_is_passed _ _ _ text accepted in
     let hours = test_is_passed _ _ _ text year.done in
@@ -95,5 +95,5 @@ usual_refused digits sign d t o text component hour e =
     let c = usual_choices true digits sign in
     refusal_is (is_outside 0 9_999 d.year) (is_utc o) (nat_lt 0 (unsigned_abs o.seconds))
     (zero_padded 4 (unsigned_abs d.year)) (text_after_year kind.Calendar c d) (iso_time_text c t) (codes "Z")
-    (hours_of_fields (offset_fields o)) (separator c (codes ":") ++ zero_padded 2 (unsigned_abs o.minutes)) text (component_name component)
+    (offset_hours_text o) (separator c (codes ":") ++ zero_padded 2 (unsigned_abs o.minutes)) text (component_name component)
     (no_seconds o) (rw (any_hour 0 d.year (unsigned_abs o.hours) (unsigned_abs o.seconds) text hour) at e)

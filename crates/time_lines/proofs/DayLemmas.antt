@@ -17,9 +17,9 @@ use Rattle.time_below.proofs.MonthLemmas.{month_of_date, day_of_date, month_leng
 use Rattle.time_digits.specs.Digits.{padded}
 use Rattle.time_fmt.specs.Outcome.{Outcome, Refusal, done}
 use Rattle.time_fmt.proofs.NumberLemmas.{two_zeros, four_zeros}
-use Rattle.time_known.specs.Fields.{offset_fields, offset_of_fields, value_fields}
+use Rattle.time_known.specs.Fields.{value_fields}
 use Rattle.time_known.specs.Rfc3339.{rfc3339_of, rfc3339_of_fields, rfc3339_outcome, time_secfrac_text}
-use Rattle.time_known.specs.WellKnown.{clock_text, is_outside}
+use Rattle.time_known.specs.WellKnown.{clock_text, is_outside, offset_text}
 use Rattle.time_known.proofs.LawLemmas.{accepted_is_done, IsAccepted}
 use Rattle.time_known.proofs.OutcomeLemmas.{completed_by_bytes, same_bytes, test_is_passed, year_is_within}
 use Rattle.time_known.specs.Laws.{IsValue}
@@ -76,13 +76,13 @@ pub record HasZoneText (o : Offset) : Type 0 where
 
 -- what follows the text of the day
 abbrev after_day : TimeOfDay → Offset → List ℕ
-after_day t o = clock_text (codes ":") t ++ time_secfrac_text t.nanosecond ++ offset_of_fields (codes ":") (offset_fields o)
+after_day t o = clock_text (codes ":") t ++ time_secfrac_text t.nanosecond ++ offset_text (codes ":") o
 
 -- the text of a value whose day has this text
 text_is : (v : OffsetDateAndTime) (day : List ℕ) → IsValue v → is_outside 0 9_999 v.date.year ≡ false → HasZoneText v.offset
     → day ≡ day_text v.date
     → Some (day ++ clock_text (codes ":") v.time ++ time_secfrac_text v.time.nanosecond
-    ++ offset_of_fields (codes ":") (offset_fields v.offset))
+    ++ offset_text (codes ":") v.offset)
     ≡ text_of (rfc3339_of v)
 text_is v day value year zone text =
     let accepted : IsAccepted 0 23 v = record {
@@ -99,7 +99,7 @@ pub shown_by_day : (m : Moment) (o : Offset) (midnight : ℤ) (day : List ℕ) (
     → IsMoment m → IsDayText midnight day → HasZoneText o → (moved m o).seconds ≡ midnight +ℤ pos passed → passed < 86_400
     → t ≡ time_at passed m.nanosecond
     → new ≡ old ++ (day ++ clock_text (codes ":") t ++ time_secfrac_text t.nanosecond
-    ++ offset_of_fields (codes ":") (offset_fields o))
+    ++ offset_text (codes ":") o)
     → AppendsShown (ShowsAt rfc3339_outcome o m) old new true
 shown_by_day m o midnight day passed t old new real kept zone second small time e =
     let there = in_day midnight (moved m o).seconds passed kept.range kept.start second small in

@@ -11,14 +11,14 @@ use Rattle.time_known.proofs.Rules.Parts.{owns_clock, owns_four, owns_month_date
 use Rattle.time_known.proofs.Rules.Texts.{Owns, one_after, owns_after, owns_as, owns_fixed, owns_moved, owns_two}
 use Rattle.time_known.proofs.Rules.Texts.{reads_digits, two_zeros}
 use Rattle.time_known.proofs.StampLemmas.{year_within}
-use Rattle.time_known.specs.Fields.{date_of_fields, offset_fields, offset_of_fields, value_fields}
+use Rattle.time_known.specs.Fields.{date_of_fields, value_fields}
 use Rattle.time_known.specs.Laws.{IsValue, OneValue}
 use Rattle.time_known.specs.Parts.{ShortOffset, SignedOffset}
 use Rattle.time_known.specs.Rfc3339Grammar.{ColonMinute, FullDate, Rfc3339Spells, TimeNumoffset, TimeOffset}
 use Rattle.time_known.specs.Rfc3339Grammar.{OptionalSecfrac, TimeSecfrac, WholeTime}
 use Rattle.time_known.specs.Rules.{Digits, Rule, ◌▹◌}
 use Rattle.time_known.specs.Values.{Offset, OffsetDateAndTime, utc}
-use Rattle.time_known.specs.WellKnown.{clock_text}
+use Rattle.time_known.specs.WellKnown.{clock_text, offset_text}
 use Rattle.time_log.specs.LogText.{IsFourDigits, IsLogOffset, cut, digits_of, text_of}
 use Rattle.time_log.specs.declared.decimals.Decimals.{Decimals}
 use Rattle.time_log.specs.declared.decimals.Decimals.TheVariants.{Microseconds, Milliseconds, Nanoseconds}
@@ -81,7 +81,7 @@ one_signed_offset = one_signed 23 ColonMinute (one_after (codes ":") (Digits 2) 
 
 -- an offset of at most 23 hours and no seconds is spelled by its text
 owns_offset : (o : Offset)
-    → Owns (IsShown 23 o) (ShortOffset TimeNumoffset o) (offset_of_fields (codes ":") (offset_fields o))
+    → Owns (IsShown 23 o) (ShortOffset TimeNumoffset o) (offset_text (codes ":") o)
 owns_offset o =
     let minus : SignedOffset 23 ColonMinute utc (codes "-00:00") = zero_written true (codes ":00")
     (record { front = codes ":"; rest = codes "00"; whole = refl; first = refl; second = two_zeros }) in
@@ -117,7 +117,7 @@ spelled d v value year zone =
     let day = date_of_fields (codes "-") (value_fields v) in
     let clock = clock_text (codes ":") v.time in
     let fraction = decimals v.time.nanosecond 1_000_000_000 (digits_of d) in
-    let offset = offset_of_fields (codes ":") (offset_fields v.offset) in
+    let offset = offset_text (codes ":") v.offset in
     let shown : IsShown 23 v.offset =
     record { offset = value.offset; hours = zone.0; seconds = ap unsigned_abs zone.1 } in
     let date : FullDate v.date day = subst (FullDate v.date) (date_regrouped _ _ _) ((owns_month_date (codes "-") v.date

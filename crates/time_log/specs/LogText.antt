@@ -4,8 +4,8 @@ use Rattle.std.specs.Prelude.{unsigned_abs, if◌then◌else◌}
 use Rattle.time_below.specs.Moment.{Moment, OffsetDateAndTime, local_at}
 use Rattle.time_below.specs.Offset.{Offset, is_utc}
 use Rattle.time_fmt.specs.Decimals.{decimals}
-use Rattle.time_known.specs.Fields.{date_of_fields, offset_of_fields, value_fields}
-use Rattle.time_known.specs.WellKnown.{clock_text}
+use Rattle.time_known.specs.Fields.{date_of_fields, value_fields}
+use Rattle.time_known.specs.WellKnown.{clock_text, offset_text}
 use Rattle.time_log.specs.declared.decimals.Decimals.{Decimals}
 use Rattle.time_log.specs.declared.decimals.Decimals.TheVariants.{Milliseconds, Microseconds, Nanoseconds}
 
@@ -29,7 +29,7 @@ text_to_point v =
 abbrev pub text_of : ℕ → OffsetDateAndTime → List ℕ
 text_of digits v =
     text_to_point v ++ decimals v.time.nanosecond 1_000_000_000 digits
-    ++ offset_of_fields (codes ":") (value_fields v).offset
+    ++ offset_text (codes ":") v.offset
 
 -- the text of a moment
 abbrev pub log_text : LogSettings → Moment → List ℕ

@@ -9,13 +9,14 @@ ghost use Rattle.time_fmt.specs.Room.{HasRoom};
 ghost use Rattle.time_fmt.specs.Sink.{Fits, Puts};
 ghost use Rattle.time_provide.specs.Real.{AreReal};
 ghost use Rattle.time_known.specs.Accepted.{AppendsAllOrNone};
-ghost use Rattle.time_known.specs.Fields.{date_of_fields, offset_of_fields, shown};
+ghost use Rattle.time_known.specs.Fields.{date_of_fields, shown};
 ghost use Rattle.time_known.specs.Groups.{AreAllSupplied, at_groups};
 ghost use Rattle.time_known.specs.Iso8601.{decimal_part, iso_of_groups, week_text};
 ghost use Rattle.time_known.specs.Iso8601Width.{decimal_part_width, iso8601_width};
 ghost use Rattle.time_known.specs.Sink.{PutsUpTo};
 ghost use Rattle.time_known.specs.Stamps.{stamp_length, stamp_of_fields};
 ghost use Rattle.time_known.specs.UsualText.{usual_choices, usual_of_fields, usual_time_text, week_choices, week_of_fields};
+ghost use Rattle.time_known.specs.WellKnown.{offset_text};
 
 use crate::accepted::{OutOfRange, accepted_year};
 use crate::fields::{Fields, OffsetFields, accepted_fields, offset_of, time_of};
@@ -89,7 +90,7 @@ pub(super) fn write_usual_week<V: ComponentProvider>(
 {
     let offset = offset_of(value);
     let number = value.iso_year(state).get();
-    match accepted_year(0, 25, number, offset.hours, offset.seconds.get()) {
+    match accepted_year(0, 25, number, offset.hours(), offset.seconds().get()) {
         Ok(year) => {
             let text = WeekText {
                 usual: *usual,
@@ -224,7 +225,7 @@ fn put_usual<S: Sink>(output: &mut S, usual: &Usual, fields: &Fields, dash: &str
         (date_of_fields dash.now (shown fields.now)
         ++ usual_time_text colon.now usual.now.decimal_sign usual.now.decimal_digits
         fields.now.time
-        ++ offset_of_fields colon.now fields.now.offset) }
+        ++ offset_text colon.now fields.now.offset) }
 {
     put_date(output, fields, dash);
     put_usual_time(output, usual, fields.time, colon);
@@ -241,7 +242,7 @@ fn put_usual_week<S: Sink>(output: &mut S, text: &WeekText, dash: &str, colon: &
         ((zero_padded 4 text.now.year ++ week_text dash.now text.now.week text.now.weekday)
         ++ usual_time_text colon.now text.now.usual.decimal_sign text.now.usual.decimal_digits
         text.now.time
-        ++ offset_of_fields colon.now text.now.offset) }
+        ++ offset_text colon.now text.now.offset) }
 {
     format_four_digits_pad_zero(output, text.year);
     put_week(output, dash, text.week.expand(), text.weekday.expand());

@@ -12,7 +12,7 @@ returns-in-Ok-clause-appends g c =
     let d = the_date f in
     let u = c.args.usual.now in
     let o = the_offset f in
-    let fields = c.offset_of-offset.ensures.fields in
+    let fields = c.offset_of-offset.ensures.offset in
     let accepted : checked_text 0 25 d.iso_year (unsigned_abs o.hours) (unsigned_abs o.seconds) [] ≡ done [] =
     first_of (cc (c.in-Ok.ensures.accepted []), search (rules, c.in-Ok.ensures.accepted [])) in
     let year : c.in-Ok.year ≡ unsigned_abs d.iso_year =
