@@ -210,7 +210,7 @@ fn keep_second(kept: &mut Log, seconds: i64, offset: i64)
 
 /// Keeps what the texts of these fields have in common.
 fn keep(kept: &mut Log, second: i64, offset: i64, fields: &Fields)
-    requires { Remembers second offset (head_of (shown fields.now)) (offset_text (codes ":") fields.now.offset) }
+    requires { Remembers second offset (head_of (shown fields.now).date fields.now.time) (offset_text (codes ":") fields.now.offset) }
     ensures { IsKept kept.new }
 {
     kept.zone_len = 0;
@@ -229,7 +229,7 @@ struct Head<'a>(&'a Fields);
 impl Text for Head<'_> {
     ghost width = { λ _. 20 };
 
-    ghost text = { λ head. head_of (shown head.0.now) };
+    ghost text = { λ head. head_of (shown head.0.now).date head.0.now.time };
 
     fn put_into<S: Sink>(&self, output: &mut S) {
         put_date(output, self.0, "-");

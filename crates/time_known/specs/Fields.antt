@@ -1,43 +1,48 @@
--- What the fields of a value show, and the text of a date by them.
-use Rattle.std.specs.Prelude.{ℕ, List, ◌++◌, unsigned_abs}
-use Rattle.time_digits.specs.Digits.{zero_padded}
+-- What the fields of the code show of a value.
+use Rattle.std.specs.Prelude.{ℕ, pos, unsigned_abs}
 use Rattle.time_known.specs.Days.{month_and_day}
-use Rattle.time_known.specs.Values.{DateFacts, date_facts, OffsetDateAndTime, Offset, TimeOfDay}
+use Rattle.time_known.specs.Values.{DateFacts, Offset, TimeOfDay}
 use Rattle.time_known.specs.declared.fields.Fields.{Fields}
 
--- what fields show, by the month and the day
+-- a date of which no fact is known
+abbrev no_date : DateFacts
+no_date = record {
+  year = pos 0;
+  month = 0;
+  day = 0;
+  ordinal = 0;
+  weekday = 0;
+  iso_year = pos 0;
+  iso_week = 0;
+  monday_based_week = 0;
+  sunday_based_week = 0;
+}
+
+-- a date by its year, its month and its day alone
+abbrev pub by_month_and_day : ℕ → ℕ → ℕ → DateFacts
+by_month_and_day year month day = record no_date { year = pos year; month = month; day = day }
+
+-- a date by its year, its week and its weekday alone
+abbrev pub by_week : ℕ → ℕ → ℕ → DateFacts
+by_week year week weekday = record no_date { iso_year = pos year; iso_week = week; weekday = weekday }
+
+-- a date, a time of day and an offset
 pub record Shown : Type 0 where
-  pub year : ℕ
-  pub month : ℕ
-  pub day : ℕ
+  pub date : DateFacts
   pub time : TimeOfDay
   pub offset : Offset
 
 abbrev pub shown : Fields → Shown
 shown f = record {
-  year = f.year;
-  month = (month_and_day f.date).month;
-  day = (month_and_day f.date).day;
+  date = by_month_and_day f.year (month_and_day f.date).month (month_and_day f.date).day;
   time = f.time;
   offset = f.offset;
 }
 
--- what those of a value show
+-- the date on a weekday, in days from Monday
+abbrev pub on_weekday : ℕ → Fields → DateFacts
+on_weekday weekday f = record (shown f).date { weekday = weekday }
+
+-- what the fields of a value show
 abbrev pub fields : DateFacts → TimeOfDay → Offset → Shown
-fields d t o = record {
-  year = unsigned_abs d.year;
-  month = d.month;
-  day = d.day;
-  time = t;
-  offset = o;
-}
-
-abbrev pub value_fields : OffsetDateAndTime → Shown
-value_fields v = fields (date_facts v.date) v.time v.offset
-
--- ---- texts
-
--- the year, the month and the day, and the separator between them
-abbrev pub date_of_fields : List ℕ → Shown → List ℕ
-date_of_fields separator f =
-    zero_padded 4 f.year ++ (separator ++ zero_padded 2 f.month ++ separator ++ zero_padded 2 f.day)
+fields d t o = record { date = by_month_and_day (unsigned_abs d.year) d.month d.day; time = t; offset = o }

@@ -6,9 +6,9 @@ ghost use Rattle.time_digits.specs.Digits.{zero_padded};
 ghost use Rattle.time_fmt.specs.DateText.{month_name, short_name};
 ghost use Rattle.time_fmt.specs.Sink.{Fits, Puts};
 ghost use Rattle.time_known.specs.Days.{month_and_day};
-ghost use Rattle.time_known.specs.Fields.{date_of_fields, shown};
+ghost use Rattle.time_known.specs.Fields.{shown};
 ghost use Rattle.time_known.specs.Sink.{PutsUpTo};
-ghost use Rattle.time_known.specs.WellKnown.{clock_text, offset_hours_text, offset_text, signed_offset_text};
+ghost use Rattle.time_known.specs.WellKnown.{clock_text, offset_hours_text, offset_text, signed_offset_text, date_text};
 
 use crate::days::CalendarDay;
 use crate::fields::{Fields, OffsetFields};
@@ -35,7 +35,7 @@ pub fn put_date<S: Sink>(output: &mut S, fields: &Fields, separator: &str)
     requires room { Fits (S.buffer output.old) (8 + 2 * length separator.now) }
     ensures puts { PutsUpTo (8 + 2 * length separator.now)
         (S.buffer output.old) (S.buffer output.new)
-        (date_of_fields separator.now (shown fields.now)) }
+        (date_text separator.now (shown fields.now).date) }
 {
     format_four_digits_pad_zero(output, fields.year);
     put_month_and_day(output, fields.date, separator);

@@ -11,14 +11,13 @@ use Rattle.time_known.proofs.Rules.Parts.{owns_clock, owns_four, owns_month_date
 use Rattle.time_known.proofs.Rules.Texts.{Owns, one_after, owns_after, owns_as, owns_fixed, owns_moved, owns_two}
 use Rattle.time_known.proofs.Rules.Texts.{reads_digits, two_zeros}
 use Rattle.time_known.proofs.StampLemmas.{year_within}
-use Rattle.time_known.specs.Fields.{date_of_fields, value_fields}
 use Rattle.time_known.specs.Laws.{IsValue, OneValue}
 use Rattle.time_known.specs.Parts.{ShortOffset, SignedOffset}
 use Rattle.time_known.specs.Rfc3339Grammar.{ColonMinute, FullDate, Rfc3339Spells, TimeNumoffset, TimeOffset}
 use Rattle.time_known.specs.Rfc3339Grammar.{OptionalSecfrac, TimeSecfrac, WholeTime}
 use Rattle.time_known.specs.Rules.{Digits, Rule, ◌▹◌}
-use Rattle.time_known.specs.Values.{Offset, OffsetDateAndTime, utc}
-use Rattle.time_known.specs.WellKnown.{clock_text, offset_text}
+use Rattle.time_known.specs.Values.{Offset, OffsetDateAndTime, utc, date_facts}
+use Rattle.time_known.specs.WellKnown.{clock_text, offset_text, date_text}
 use Rattle.time_log.specs.LogText.{IsFourDigits, IsLogOffset, cut, digits_of, text_of}
 use Rattle.time_log.specs.declared.decimals.Decimals.{Decimals}
 use Rattle.time_log.specs.declared.decimals.Decimals.TheVariants.{Microseconds, Milliseconds, Nanoseconds}
@@ -114,7 +113,7 @@ pub spelled : (d : Decimals) (v : OffsetDateAndTime) → IsValue v → IsFourDig
     → Rfc3339Spells (cut (digits_of d) v) (text_of (digits_of d) v)
 spelled d v value year zone =
     let kept = cut (digits_of d) v in
-    let day = date_of_fields (codes "-") (value_fields v) in
+    let day = date_text (codes "-") (date_facts v.date) in
     let clock = clock_text (codes ":") v.time in
     let fraction = decimals v.time.nanosecond 1_000_000_000 (digits_of d) in
     let offset = offset_text (codes ":") v.offset in
