@@ -2,13 +2,12 @@
 #![tactic(auto, using(crate::proofs::LengthLemmas::joined_lengths))]
 
 ghost use Rattle.std.specs.Prelude.{◌≡◌, ◌+◌, ◌*◌, ◌++◌, length};
-ghost use Rattle.time_digits.specs.Digits.{zero_padded};
 ghost use Rattle.time_fmt.specs.DateText.{month_name, short_name};
 ghost use Rattle.time_fmt.specs.Sink.{Fits, Puts};
 ghost use Rattle.time_known.specs.Days.{month_and_day};
 ghost use Rattle.time_known.specs.Fields.{shown};
 ghost use Rattle.time_known.specs.Sink.{PutsUpTo};
-ghost use Rattle.time_known.specs.WellKnown.{clock_text, offset_hours_text, offset_text, signed_offset_text, date_text};
+ghost use Rattle.time_known.specs.WellKnown.{clock_text, offset_hours_text, offset_text, signed_offset_text, date_text, month_and_day_text};
 
 use crate::days::CalendarDay;
 use crate::fields::{Fields, OffsetFields};
@@ -47,8 +46,7 @@ pub fn put_month_and_day<S: Sink>(output: &mut S, date: CalendarDay, separator: 
     requires room { Fits (S.buffer output.old) (4 + 2 * length separator.now) }
     ensures puts { PutsUpTo (4 + 2 * length separator.now)
         (S.buffer output.old) (S.buffer output.new)
-        (separator.now ++ zero_padded 2 (month_and_day date).month
-        ++ separator.now ++ zero_padded 2 (month_and_day date).day) }
+        (month_and_day_text separator.now (month_and_day date).month (month_and_day date).day) }
 {
     let (month, day) = date.digits();
     write(output, separator);

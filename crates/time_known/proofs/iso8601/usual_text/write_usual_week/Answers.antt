@@ -1,5 +1,4 @@
-use Rattle.std.proofs.Common.{◌≡◌, ◌+◌, [], arith, rules, unsigned_abs}
-use Rattle.std.proofs.lemmas.Grind.{common_steps}
+use Rattle.std.proofs.Common.{◌≡◌, [], rules, unsigned_abs}
 use Rattle.time_fmt.specs.Outcome.{done}
 use Rattle.time_known.specs.Accepted.{checked_text}
 use Rattle.time_known.specs.Values.{the_date, the_time, the_offset}
