@@ -1,8 +1,8 @@
 use Rattle.std.proofs.Common.{◌≡◌, pos, ◌+ℤ◌, to_z, of_z, w64, arith}
 use Rattle.std.proofs.lemmas.Int.{ints}
 use Rattle.time_below.specs.Offset.{offset_seconds}
+use Rattle.time_known.proofs.WidthLemmas.{length-zone}
 use Rattle.time_log.proofs.BeginLemmas.{begin_text, begin_year}
-use Rattle.time_log.proofs.ZoneLemmas.{length-zone}
 use Rattle.time_log.proofs.log_time.LogTime.at.Goals as goal
 
 pub invariant_of-result : goal.invariant_of-result
