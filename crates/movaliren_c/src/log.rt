@@ -6,7 +6,8 @@ ghost use Rattle.movaliren_c.specs.Log.{IsKept, Remembers, head_of, log_config};
 ghost use Rattle.movaliren_c.specs.Utc.{local_value};
 ghost use Rattle.time_fmt.specs.Decimals.{decimals as decimals_of};
 ghost use Rattle.time_fmt.specs.Outcome.{done};
-ghost use Rattle.time_known.specs.Fields.{offset_of_fields, shown};
+ghost use Rattle.time_known.specs.Fields.{shown};
+ghost use Rattle.time_known.specs.WellKnown.{offset_text};
 
 use crate::iso8601::IsoConfig;
 use crate::local::movaliren_iso8601_by_local;
@@ -229,7 +230,7 @@ fn keep_second(kept: &mut Log, seconds: i64, offset: i64)
 
 /// Keeps what the texts of these fields have in common.
 fn keep(kept: &mut Log, second: i64, offset: i64, fields: &Fields)
-    requires { Remembers second offset (head_of (shown fields.now)) (offset_of_fields (codes ":") fields.now.offset) }
+    requires { Remembers second offset (head_of (shown fields.now).date fields.now.time) (offset_text (codes ":") fields.now.offset) }
     ensures { IsKept kept.new }
 {
     kept.zone_len = 0;
@@ -248,7 +249,7 @@ struct Head<'a>(&'a Fields);
 impl Text for Head<'_> {
     ghost width = { λ _. 20 };
 
-    ghost text = { λ head. head_of (shown head.0.now) };
+    ghost text = { λ head. head_of (shown head.0.now).date head.0.now.time };
 
     fn put_into<S: Sink>(&self, output: &mut S) {
         put_date(output, self.0, "-");
@@ -265,7 +266,7 @@ struct Zone<'a>(&'a OffsetFields);
 impl Text for Zone<'_> {
     ghost width = { λ _. 6 };
 
-    ghost text = { λ zone. offset_of_fields (codes ":") zone.0.now };
+    ghost text = { λ zone. offset_text (codes ":") zone.0.now };
 
     fn put_into<S: Sink>(&self, output: &mut S) {
         put_offset(output, self.0, ":");

@@ -1,5 +1,5 @@
 -- Formats that have a place for each hour of an offset, and what the usual texts of ISO 8601 have a place for.
-use Rattle.std.proofs.Common.{◌≡◌, ℕ, ◌+◌, ◌≤◌, Bool, true, false, List, ◌++◌, refl, ap, arith, ℤ, unsigned_abs}
+use Rattle.std.proofs.Common.{◌≡◌, ℕ, ◌≤◌, Bool, true, false, List, ◌++◌, refl, ap, arith, ℤ, unsigned_abs}
 use Rattle.std.proofs.Common.{nat_lt, Option, Some, None}
 use Rattle.std.proofs.lemmas.Bool.Decides.{nat_tests}
 use Rattle.std.proofs.lemmas.Grind.{common_steps}
@@ -8,12 +8,11 @@ use Rattle.time_below.specs.Offset.{is_utc}
 use Rattle.time_digits.specs.Digits.{zero_padded}
 use Rattle.time_fmt.specs.Outcome.{Outcome, done, refused, join, invalid_component}
 use Rattle.time_known.specs.Accepted.{checked_text, component_name, refused_for}
-use Rattle.time_known.specs.Config.{Choices, separator, DecimalSign}
-use Rattle.time_known.specs.Fields.{fields, hours_of_fields, offset_fields}
-use Rattle.time_known.specs.Iso8601.{iso_of_groups, iso_time_text, text_after_year}
-use Rattle.time_known.specs.UsualText.{usual_choices, usual_of_fields, week_choices, week_of_fields}
+use Rattle.time_known.specs.Config.{Choices, separator, DecimalSign, DateKind}
+use Rattle.time_known.specs.Iso8601.{iso_of_groups, iso_time_text, text_after_year, year_of_kind}
+use Rattle.time_known.specs.UsualText.{usual_choices, usual_text}
 use Rattle.time_known.specs.Values.{DateFacts, Offset, TimeOfDay}
-use Rattle.time_known.specs.WellKnown.{refused_if, is_outside}
+use Rattle.time_known.specs.WellKnown.{refused_if, is_outside, offset_hours_text}
 use Rattle.time_known.specs.declared.accepted.OutOfRange.{OutOfRange}
 use Rattle.time_known.specs.declared.iso8601.config.DateKind.TheVariants as kind
 use Rattle.time_known.proofs.OutcomeLemmas.{above_not, test_is_passed}
@@ -26,42 +25,23 @@ pub any_hour : (first : ℕ) (year : ℤ) (hour second : ℕ) (text : List ℕ) 
 any_hour first year hour second text h = rw (above_not 25 hour h) refl
 
 -- the text of these choices, where both tests pass
-usual_passes : (c : Choices) (has_separators : Bool) (digits : Option ℕ) (sign : DecimalSign) (d : DateFacts)
-    (t : TimeOfDay) (o : Offset) → c ≡ usual_choices has_separators digits sign
-    → is_outside 0 9_999 d.year ≡ false → nat_lt 0 (unsigned_abs o.seconds) ≡ false
-    → iso_of_groups c d t o ≡ done (usual_of_fields c digits (fields d t o))
-usual_passes c has_separators digits sign d t o e year seconds = grind (arith, common_steps)
+usual_passes : (c : Choices) (k : DateKind) (has_separators : Bool) (digits : Option ℕ) (sign : DecimalSign) (d : DateFacts)
+    (t : TimeOfDay) (o : Offset) → c ≡ record (usual_choices has_separators digits sign) { date_kind = k }
+    → is_outside 0 9_999 (year_of_kind k d) ≡ false → nat_lt 0 (unsigned_abs o.seconds) ≡ false
+    → iso_of_groups c d t o ≡ done (usual_text c digits d t o)
+usual_passes c k has_separators digits sign d t o e year seconds = grind (arith, common_steps)
 
--- an accepted year and offset complete the text of these choices
-pub usual_accepted : (c : Choices) (has_separators : Bool) (digits : Option ℕ) (sign : DecimalSign) (d : DateFacts)
-    (t : TimeOfDay) (o : Offset) (text : List ℕ) → c ≡ usual_choices has_separators digits sign
-    → checked_text 0 25 d.year (unsigned_abs o.hours) (unsigned_abs o.seconds) text ≡ done text
-    → iso_of_groups c d t o ≡ done (usual_of_fields c digits (fields d t o))
-usual_accepted c has_separators digits sign d t o text e accepted =
+-- an accepted year and offset complete the text of these choices, with a date of this kind
+pub usual_accepted : (c : Choices) (k : DateKind) (has_separators : Bool) (digits : Option ℕ) (sign : DecimalSign)
+    (d : DateFacts) (t : TimeOfDay) (o : Offset) (text : List ℕ)
+    → c ≡ record (usual_choices has_separators digits sign) { date_kind = k }
+    → checked_text 0 25 (year_of_kind k d) (unsigned_abs o.hours) (unsigned_abs o.seconds) text ≡ done text
+    → iso_of_groups c d t o ≡ done (usual_text c digits d t o)
+usual_accepted c k has_separators digits sign d t o text e accepted =
     let year = test_is_passed _ _ _ text accepted in
     let hours = test_is_passed _ _ _ text year.done in
     let seconds = test_is_passed _ _ _ text hours.done in
-    usual_passes c has_separators digits sign d t o e year.right seconds.right
-
--- the text of these choices with a date by week and weekday, where both tests pass
-week_passes : (c : Choices) (has_separators : Bool) (digits : Option ℕ) (sign : DecimalSign) (d : DateFacts)
-    (t : TimeOfDay) (o : Offset) → c ≡ week_choices has_separators digits sign
-    → is_outside 0 9_999 d.iso_year ≡ false → nat_lt 0 (unsigned_abs o.seconds) ≡ false
-    → iso_of_groups c d t o
-    ≡ done (week_of_fields c digits (unsigned_abs d.iso_year) d.iso_week (d.weekday + 1) t (offset_fields o))
-week_passes c has_separators digits sign d t o e year seconds = grind (arith, common_steps)
-
--- an accepted year of the week calendar and an offset complete it
-pub week_accepted : (c : Choices) (has_separators : Bool) (digits : Option ℕ) (sign : DecimalSign) (d : DateFacts)
-    (t : TimeOfDay) (o : Offset) (text : List ℕ) → c ≡ week_choices has_separators digits sign
-    → checked_text 0 25 d.iso_year (unsigned_abs o.hours) (unsigned_abs o.seconds) text ≡ done text
-    → iso_of_groups c d t o
-    ≡ done (week_of_fields c digits (unsigned_abs d.iso_year) d.iso_week (d.weekday + 1) t (offset_fields o))
-week_accepted c has_separators digits sign d t o text e accepted =
-    let year = test_is_passed _ _ _ text accepted in
-    let hours = test_is_passed _ _ _ text year.done in
-    let seconds = test_is_passed _ _ _ text hours.done in
-    week_passes c has_separators digits sign d t o e year.right seconds.right
+    usual_passes c k has_separators digits sign d t o e year.right seconds.right
 
 -- UTC has no seconds
 no_seconds : (o : Offset) → is_utc o ≡ true → nat_lt 0 (unsigned_abs o.seconds) ≡ false
@@ -95,5 +75,5 @@ usual_refused digits sign d t o text component hour e =
     let c = usual_choices true digits sign in
     refusal_is (is_outside 0 9_999 d.year) (is_utc o) (nat_lt 0 (unsigned_abs o.seconds))
     (zero_padded 4 (unsigned_abs d.year)) (text_after_year kind.Calendar c d) (iso_time_text c t) (codes "Z")
-    (hours_of_fields (offset_fields o)) (separator c (codes ":") ++ zero_padded 2 (unsigned_abs o.minutes)) text (component_name component)
+    (offset_hours_text o) (separator c (codes ":") ++ zero_padded 2 (unsigned_abs o.minutes)) text (component_name component)
     (no_seconds o) (rw (any_hour 0 d.year (unsigned_abs o.hours) (unsigned_abs o.seconds) text hour) at e)

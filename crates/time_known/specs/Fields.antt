@@ -1,69 +1,48 @@
--- The fields of a date and an offset, and the texts of a date and an offset by them.
-use Rattle.std.specs.Prelude.{ℕ, List, ◌++◌, codes, true, unsigned_abs, if◌then◌else◌}
-use Rattle.time_below.specs.Offset.{is_negative, is_utc}
-use Rattle.time_digits.specs.Digits.{zero_padded}
-use Rattle.time_fmt.specs.Text.{sign_text}
+-- What the fields of the code show of a value.
+use Rattle.std.specs.Prelude.{ℕ, pos, unsigned_abs}
 use Rattle.time_known.specs.Days.{month_and_day}
-use Rattle.time_known.specs.Values.{DateFacts, date_facts, OffsetDateAndTime, Offset, TimeOfDay}
+use Rattle.time_known.specs.Values.{DateFacts, Offset, TimeOfDay}
 use Rattle.time_known.specs.declared.fields.Fields.{Fields}
-use Rattle.time_known.specs.declared.fields.OffsetFields.{OffsetFields}
 
--- ---- the fields of values
-
-abbrev pub offset_fields : Offset → OffsetFields
-offset_fields o = record {
-  is_utc = is_utc o;
-  is_negative = is_negative o;
-  hours = unsigned_abs o.hours;
-  minutes = unsigned_abs o.minutes;
-  seconds = unsigned_abs o.seconds;
+-- a date of which no fact is known
+abbrev no_date : DateFacts
+no_date = record {
+  year = pos 0;
+  month = 0;
+  day = 0;
+  ordinal = 0;
+  weekday = 0;
+  iso_year = pos 0;
+  iso_week = 0;
+  monday_based_week = 0;
+  sunday_based_week = 0;
 }
 
--- what fields show, by the month and the day
+-- a date by its year, its month and its day alone
+abbrev pub by_month_and_day : ℕ → ℕ → ℕ → DateFacts
+by_month_and_day year month day = record no_date { year = pos year; month = month; day = day }
+
+-- a date by its year, its week and its weekday alone
+abbrev pub by_week : ℕ → ℕ → ℕ → DateFacts
+by_week year week weekday = record no_date { iso_year = pos year; iso_week = week; weekday = weekday }
+
+-- a date, a time of day and an offset
 pub record Shown : Type 0 where
-  pub year : ℕ
-  pub month : ℕ
-  pub day : ℕ
+  pub date : DateFacts
   pub time : TimeOfDay
-  pub offset : OffsetFields
+  pub offset : Offset
 
 abbrev pub shown : Fields → Shown
 shown f = record {
-  year = f.year;
-  month = (month_and_day f.date).month;
-  day = (month_and_day f.date).day;
+  date = by_month_and_day f.year (month_and_day f.date).month (month_and_day f.date).day;
   time = f.time;
   offset = f.offset;
 }
 
--- what those of a value show
+-- the date on a weekday, in days from Monday
+abbrev pub on_weekday : ℕ → Fields → DateFacts
+on_weekday weekday f = record (shown f).date { weekday = weekday }
+
+-- what the fields of a value show
 abbrev pub fields : DateFacts → TimeOfDay → Offset → Shown
-fields d t o = record {
-  year = unsigned_abs d.year;
-  month = d.month;
-  day = d.day;
-  time = t;
-  offset = offset_fields o;
-}
-
-abbrev pub value_fields : OffsetDateAndTime → Shown
-value_fields v = fields (date_facts v.date) v.time v.offset
-
--- ---- texts
-
--- the year, the month and the day, and the separator between them
-abbrev pub date_of_fields : List ℕ → Shown → List ℕ
-date_of_fields separator f =
-    zero_padded 4 f.year ++ (separator ++ zero_padded 2 f.month ++ separator ++ zero_padded 2 f.day)
-
--- the sign of the whole offset, and its hours
-abbrev pub hours_of_fields : OffsetFields → List ℕ
-hours_of_fields o = sign_text o.is_negative true ++ zero_padded 2 o.hours
-
--- the sign of the whole offset, and its hours and its minutes
-abbrev pub signed_offset_of_fields : List ℕ → OffsetFields → List ℕ
-signed_offset_of_fields separator o = hours_of_fields o ++ separator ++ zero_padded 2 o.minutes
-
--- the offset, or `Z`
-abbrev pub offset_of_fields : List ℕ → OffsetFields → List ℕ
-offset_of_fields separator o = if o.is_utc then codes "Z" else signed_offset_of_fields separator o
+fields d t o = record { date = by_month_and_day (unsigned_abs d.year) d.month d.day; time = t; offset = o }

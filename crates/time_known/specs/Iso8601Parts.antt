@@ -1,29 +1,24 @@
 -- The parts of a text of ISO 8601, one after another: each is empty where it is not written.
-use Rattle.std.specs.Prelude.{ℕ, ◌+◌, ◌*◌, Bool, length, [], codes, if◌then◌else◌}
+use Rattle.std.specs.Prelude.{◌≡◌, ℕ, ◌+◌, ◌*◌, ◌++◌, Bool, List, length, [], codes, if◌then◌else◌}
 use Rattle.time_fmt.specs.Outcome.{Outcome, done, join}
 use Rattle.time_known.specs.Config.{Choices, has_date, has_time, has_offset, separator, DateKind, FormattedComponents}
 use Rattle.time_known.specs.Days.{month_and_day}
-use Rattle.time_known.specs.Iso8601.{iso_date, iso_time_text, iso_offset, iso_year, year_of_kind, rest_of_kind, rest_text}
-use Rattle.time_known.specs.Iso8601Width.{iso_date_width, iso_time_width, iso_offset_width, year_width}
+use Rattle.time_known.specs.Iso8601.{iso_date, iso_time_text, iso_offset, iso_year, year_of_kind, text_after_year, week_text}
+use Rattle.time_known.specs.Iso8601Width.{iso_date_width, iso_time_width, iso_offset_width, year_width, width_after_year}
 use Rattle.time_known.specs.Values.{Facts, DateFacts, the_date, the_time, the_offset}
-use Rattle.time_known.specs.declared.days.CalendarDay.TheVariants as day
+use Rattle.time_known.specs.WellKnown.{month_and_day_text}
+use Rattle.time_digits.specs.Digits.{zero_padded}
 use Rattle.time_known.specs.declared.iso8601.parts.DateParts.{DateParts}
 use Rattle.time_known.specs.declared.iso8601.parts.RestOfDate.{RestOfDate}
 use Rattle.time_known.specs.declared.iso8601.parts.RestOfDate.TheVariants as rest
 
 -- ---- dates
 
-abbrev pub date_parts : DateKind → DateFacts → DateParts
-date_parts k d = record { year = year_of_kind k d; rest = rest_of_kind k d }
-
--- with the numbers of the month and the day in place of a day of a leap year
-abbrev pub shown_rest : RestOfDate → RestOfDate
-shown_rest (rest.MonthAndDay d) = rest.MonthAndDay (day.OfMonth (month_and_day d).month (month_and_day d).day)
-shown_rest (rest.WeekAndWeekday week weekday) = rest.WeekAndWeekday week weekday
-shown_rest (rest.DayOfYear number) = rest.DayOfYear number
-
-abbrev pub shown_date : DateParts → DateParts
-shown_date d = record { year = d.year; rest = shown_rest d.rest }
+-- what follows the year, each part after the separator
+abbrev pub rest_text : List ℕ → RestOfDate → List ℕ
+rest_text separator (rest.MonthAndDay d) = month_and_day_text separator (month_and_day d).month (month_and_day d).day
+rest_text separator (rest.WeekAndWeekday week weekday) = week_text separator week weekday
+rest_text separator (rest.DayOfYear day) = separator ++ zero_padded 3 day
 
 abbrev pub date_of_parts : Choices → DateParts → Outcome
 date_of_parts c d = join (iso_year c.year_is_six_digits d.year) (done (rest_text (separator c (codes "-")) d.rest))
@@ -35,6 +30,12 @@ rest_width separator (rest.DayOfYear day) = 3 + separator
 
 abbrev pub date_parts_width : Choices → DateParts → ℕ
 date_parts_width c d = year_width c.year_is_six_digits + rest_width (length (separator c (codes "-"))) d.rest
+
+-- they are those of a date of the kind
+pub record AreOfDate (k : DateKind) (d : DateFacts) (p : DateParts) : Type 0 where
+  pub year : p.year ≡ year_of_kind k d
+  pub text : (c : Choices) → rest_text (separator c (codes "-")) p.rest ≡ text_after_year k c d
+  pub width : (c : Choices) → rest_width (length (separator c (codes "-"))) p.rest ≡ width_after_year k c
 
 -- ---- all parts
 

@@ -1,16 +1,14 @@
 -- The text of ISO 8601 by the usual configurations, of a value of which nothing is refused.
-use Rattle.std.specs.Prelude.{ℕ, ◌++◌, Bool, false, List, codes, Option}
+use Rattle.std.specs.Prelude.{ℕ, ◌++◌, Bool, false, List, codes, unsigned_abs, Option}
 use Rattle.time_digits.specs.Digits.{zero_padded}
 use Rattle.time_known.specs.Config.{Choices, separator, DecimalSign}
-use Rattle.time_known.specs.Fields.{Shown, date_of_fields, offset_of_fields}
-use Rattle.time_known.specs.Iso8601.{decimal_part, week_text}
-use Rattle.time_known.specs.Values.{TimeOfDay}
-use Rattle.time_known.specs.WellKnown.{clock_text}
+use Rattle.time_known.specs.Iso8601.{decimal_part, text_after_year, year_of_kind}
+use Rattle.time_known.specs.Values.{Offset, TimeOfDay, DateFacts}
+use Rattle.time_known.specs.WellKnown.{clock_text, offset_text}
 use Rattle.time_known.specs.declared.iso8601.config.DateKind.TheVariants as kind
 use Rattle.time_known.specs.declared.iso8601.config.FormattedComponents.TheVariants as components
 use Rattle.time_known.specs.declared.iso8601.config.OffsetPrecision.TheVariants as offset_precision
 use Rattle.time_known.specs.declared.iso8601.config.TimePrecision.TheVariants as precision
-use Rattle.time_known.specs.declared.fields.OffsetFields.{OffsetFields}
 
 -- the month and the day after four digits of the year, the time to the second or to decimals of it, and the offset to
 -- the minute
@@ -35,16 +33,9 @@ abbrev pub usual_time_text : List ℕ → DecimalSign → Option ℕ → TimeOfD
 usual_time_text separator sign digits t =
     codes "T" ++ (clock_text separator t ++ decimal_part sign digits t.nanosecond 1_000_000_000)
 
--- the text by the fields of the value
-abbrev pub usual_of_fields : Choices → Option ℕ → Shown → List ℕ
-usual_of_fields c digits f =
-    date_of_fields (separator c (codes "-")) f
-    ++ usual_time_text (separator c (codes ":")) c.decimal_sign digits f.time
-    ++ offset_of_fields (separator c (codes ":")) f.offset
-
--- the text with a date by week and weekday, by its year, its week and its weekday, the time and the fields of the offset
-abbrev pub week_of_fields : Choices → Option ℕ → ℕ → ℕ → ℕ → TimeOfDay → OffsetFields → List ℕ
-week_of_fields c digits year week weekday t o =
-    (zero_padded 4 year ++ week_text (separator c (codes "-")) week weekday)
+-- the date after four digits of its year, the time and the offset
+abbrev pub usual_text : Choices → Option ℕ → DateFacts → TimeOfDay → Offset → List ℕ
+usual_text c digits d t o =
+    (zero_padded 4 (unsigned_abs (year_of_kind c.date_kind d)) ++ text_after_year c.date_kind c d)
     ++ usual_time_text (separator c (codes ":")) c.decimal_sign digits t
-    ++ offset_of_fields (separator c (codes ":")) o
+    ++ offset_text (separator c (codes ":")) o

@@ -1,32 +1,123 @@
 //! The fields of a date and an offset, from which the texts of moments are written.
 ghost use Rattle.std.specs.Prelude.{◌≡◌, ℕ, List, IfOk, IfErr, OnOk, IsTrue, unsigned_abs};
 ghost use Rattle.time_below.specs.Facts.{the_date, the_time, the_offset};
-ghost use Rattle.time_below.specs.Offset.{IsOffset};
+ghost use Rattle.time_below.specs.Offset.{IsOffset, is_negative, is_utc};
 ghost use Rattle.time_fmt.specs.Outcome.{done};
 ghost use Rattle.time_provide.specs.Real.{AgreesOnTime, AreReal};
 ghost use Rattle.time_known.specs.Accepted.{checked_text, refused_for};
-ghost use Rattle.time_known.specs.Fields.{fields, offset_fields, shown};
+ghost use Rattle.time_known.specs.Fields.{fields, shown};
 ghost use Rattle.time_known.specs.Groups.{AreAllSupplied, at_groups};
 
 use crate::accepted::{OutOfRange, accepted_year};
 use crate::days::CalendarDay;
-use time_below::Time;
+use std::marker::Model;
+use time_below::{Time, UtcOffset};
 use time_digits::{ri32, ru8, ru16};
 use time_provide::ComponentProvider;
 
 /// The fields of an offset: one sign, and the sizes of its parts.
 #[derive(Clone, Copy)]
 pub struct OffsetFields {
+    // Whether all parts are zero.
+    is_zero: bool,
+    // Whether some part is below zero.
+    is_below_zero: bool,
+    hours: ru8<0, 25>,
+    minutes: ru8<0, 59>,
+    seconds: ru8<0, 59>,
+}
+
+impl Model for OffsetFields {
+    ghost use Rattle.std.specs.Prelude.{◌≡◌, unsigned_abs};
+    ghost use Rattle.std.proofs.Common.{refl};
+    ghost use Rattle.time_below.specs.Offset.{Offset, is_negative, is_utc};
+    ghost use Rattle.time_below.proofs.OffsetLemmas.{abs_signed};
+    ghost use Rattle.time_known.specs.WellKnown.{offset_by};
+
+    ghost Value = { Offset };
+
+    ghost view = { λ f. offset_by f.is_below_zero f.hours f.minutes f.seconds };
+
+    ghost invariant = { λ f. (f.is_zero ≡ is_utc (offset_by f.is_below_zero f.hours f.minutes f.seconds))
+        × (f.is_below_zero ≡ is_negative (offset_by f.is_below_zero f.hours f.minutes f.seconds)) };
+
+    ghost inverse = { λ o. record {
+      is_zero = is_utc o;
+      is_below_zero = is_negative o;
+      hours = unsigned_abs o.hours;
+      minutes = unsigned_abs o.minutes;
+      seconds = unsigned_abs o.seconds;
+    } };
+
+    ghost inverse_ok = { λ f h. rw (
+      ← h.0,
+      ← h.1,
+      abs_signed f.is_below_zero f.hours,
+      abs_signed f.is_below_zero f.minutes,
+      abs_signed f.is_below_zero f.seconds,
+    ) refl };
+}
+
+impl OffsetFields {
+    /// The fields of an offset. No test is a branch, so that the compiler computes the sign only where it is written.
+    #[inline(always)]
+    #[tactic(auto, using(crate::proofs::FieldsLemmas::fields_are))]
+    pub fn of(offset: UtcOffset) -> OffsetFields
+        ensures same { result ≡ offset }
+        ensures real { IsOffset offset }
+    {
+        let (hours, minutes, seconds) = offset.as_hms();
+        OffsetFields {
+            is_zero: offset.is_utc(),
+            is_below_zero: offset.is_negative(),
+            hours: ru8::within(hours.unsigned_abs()),
+            minutes: ru8::within(minutes.unsigned_abs()),
+            seconds: ru8::within(seconds.unsigned_abs()),
+        }
+    }
+
     /// Whether all parts are zero.
-    pub is_utc: bool,
-    /// Whether some part is below zero.
-    pub is_negative: bool,
-    /// The size of the hours.
-    pub hours: ru8<0, 25>,
-    /// The size of the minutes.
-    pub minutes: ru8<0, 59>,
-    /// The size of the seconds.
-    pub seconds: ru8<0, 59>,
+    #[inline(always)]
+    pub fn is_utc(self) -> bool
+        ensures { result ≡ is_utc self }
+    {
+        self.is_zero
+    }
+
+    // Whether some part is below zero.
+    #[inline(always)]
+    pub(crate) fn is_negative(self) -> bool
+        ensures { result ≡ is_negative self }
+    {
+        self.is_below_zero
+    }
+
+    // The size of the hours.
+    #[inline(always)]
+    #[tactic(auto, using(time_below::proofs::OffsetLemmas::abs_signed))]
+    pub(crate) fn hours(self) -> ru8<0, 25>
+        ensures { result ≡ unsigned_abs self.hours }
+    {
+        self.hours
+    }
+
+    // The size of the minutes.
+    #[inline(always)]
+    #[tactic(auto, using(time_below::proofs::OffsetLemmas::abs_signed))]
+    pub(crate) fn minutes(self) -> ru8<0, 59>
+        ensures { result ≡ unsigned_abs self.minutes }
+    {
+        self.minutes
+    }
+
+    // The size of the seconds.
+    #[inline(always)]
+    #[tactic(auto, using(time_below::proofs::OffsetLemmas::abs_signed))]
+    pub(crate) fn seconds(self) -> ru8<0, 59>
+        ensures { result ≡ unsigned_abs self.seconds }
+    {
+        self.seconds
+    }
 }
 
 /// The fields of a date of the years 0 to 9,999, of a time of day and of an offset.
@@ -72,8 +163,8 @@ pub fn accepted_fields<V: ComponentProvider>(
         first,
         greatest_hour,
         year,
-        offset.hours,
-        offset.seconds.get(),
+        offset.hours(),
+        offset.seconds().get(),
     ) {
         Ok(year) => {
             let number = ri32::within(i32::from(year.get()));
@@ -101,21 +192,12 @@ pub(crate) fn time_of<V: ComponentProvider>(value: &V, state: &mut V::State) -> 
     value.supplied_time(state)
 }
 
-// The fields of the value's offset. No test is a branch, so that the compiler computes the sign only where it is
-// written.
+// The fields of the value's offset.
 #[inline(always)]
 pub(crate) fn offset_of<V: ComponentProvider>(value: &V) -> OffsetFields
     requires supplied { IsTrue V.SUPPLIES_OFFSET }
-    ensures fields { result ≡ offset_fields (the_offset (V.facts value.now)) }
+    ensures offset { result ≡ the_offset (V.facts value.now) }
     ensures real { IsOffset (the_offset (V.facts value.now)) }
 {
-    let offset = value.supplied_offset();
-    let (hours, minutes, seconds) = offset.as_hms();
-    OffsetFields {
-        is_utc: (hours == 0) & (minutes == 0) & (seconds == 0),
-        is_negative: (hours < 0) | (minutes < 0) | (seconds < 0),
-        hours: ru8::within(hours.unsigned_abs()),
-        minutes: ru8::within(minutes.unsigned_abs()),
-        seconds: ru8::within(seconds.unsigned_abs()),
-    }
+    OffsetFields::of(value.supplied_offset())
 }

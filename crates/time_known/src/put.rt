@@ -2,13 +2,12 @@
 #![tactic(auto, using(crate::proofs::LengthLemmas::joined_lengths))]
 
 ghost use Rattle.std.specs.Prelude.{◌≡◌, ◌+◌, ◌*◌, ◌++◌, length};
-ghost use Rattle.time_digits.specs.Digits.{zero_padded};
 ghost use Rattle.time_fmt.specs.DateText.{month_name, short_name};
 ghost use Rattle.time_fmt.specs.Sink.{Fits, Puts};
 ghost use Rattle.time_known.specs.Days.{month_and_day};
-ghost use Rattle.time_known.specs.Fields.{date_of_fields, hours_of_fields, offset_of_fields, shown, signed_offset_of_fields};
+ghost use Rattle.time_known.specs.Fields.{shown};
 ghost use Rattle.time_known.specs.Sink.{PutsUpTo};
-ghost use Rattle.time_known.specs.WellKnown.{clock_text};
+ghost use Rattle.time_known.specs.WellKnown.{clock_text, offset_hours_text, offset_text, signed_offset_text, date_text, month_and_day_text};
 
 use crate::days::CalendarDay;
 use crate::fields::{Fields, OffsetFields};
@@ -35,7 +34,7 @@ pub fn put_date<S: Sink>(output: &mut S, fields: &Fields, separator: &str)
     requires room { Fits (S.buffer output.old) (8 + 2 * length separator.now) }
     ensures puts { PutsUpTo (8 + 2 * length separator.now)
         (S.buffer output.old) (S.buffer output.new)
-        (date_of_fields separator.now (shown fields.now)) }
+        (date_text separator.now (shown fields.now).date) }
 {
     format_four_digits_pad_zero(output, fields.year);
     put_month_and_day(output, fields.date, separator);
@@ -47,8 +46,7 @@ pub fn put_month_and_day<S: Sink>(output: &mut S, date: CalendarDay, separator: 
     requires room { Fits (S.buffer output.old) (4 + 2 * length separator.now) }
     ensures puts { PutsUpTo (4 + 2 * length separator.now)
         (S.buffer output.old) (S.buffer output.new)
-        (separator.now ++ zero_padded 2 (month_and_day date).month
-        ++ separator.now ++ zero_padded 2 (month_and_day date).day) }
+        (month_and_day_text separator.now (month_and_day date).month (month_and_day date).day) }
 {
     let (month, day) = date.digits();
     write(output, separator);
@@ -90,10 +88,10 @@ pub fn put_clock<S: Sink>(output: &mut S, time: Time, separator: &str)
 pub fn put_offset_hours<S: Sink>(output: &mut S, offset: &OffsetFields)
     requires room { Fits (S.buffer output.old) 3 }
     ensures puts { Puts (S.buffer output.old) (S.buffer output.new) 3
-        (hours_of_fields offset.now) }
+        (offset_hours_text offset.now) }
 {
-    write(output, if offset.is_negative { "-" } else { "+" });
-    format_two_digits_pad_zero(output, offset.hours.expand());
+    write(output, if offset.is_negative() { "-" } else { "+" });
+    format_two_digits_pad_zero(output, offset.hours().expand());
 }
 
 /// Puts the sign of the whole offset, and its hours and its minutes, and the separator between them.
@@ -102,11 +100,11 @@ pub fn put_signed_offset<S: Sink>(output: &mut S, offset: &OffsetFields, separat
     requires room { Fits (S.buffer output.old) (5 + length separator.now) }
     ensures puts { PutsUpTo (5 + length separator.now)
         (S.buffer output.old) (S.buffer output.new)
-        (signed_offset_of_fields separator.now offset.now) }
+        (signed_offset_text separator.now offset.now) }
 {
     put_offset_hours(output, offset);
     write(output, separator);
-    format_two_digits_pad_zero(output, offset.minutes.expand());
+    format_two_digits_pad_zero(output, offset.minutes().expand());
 }
 
 /// Puts `Z` for UTC, else the sign of the whole offset, its hours and its minutes, and the separator between them.
@@ -115,9 +113,9 @@ pub fn put_offset<S: Sink>(output: &mut S, offset: &OffsetFields, separator: &st
     requires room { Fits (S.buffer output.old) (5 + length separator.now) }
     ensures puts { PutsUpTo (5 + length separator.now)
         (S.buffer output.old) (S.buffer output.new)
-        (offset_of_fields separator.now offset.now) }
+        (offset_text separator.now offset.now) }
 {
-    if offset.is_utc {
+    if offset.is_utc() {
         write(output, "Z");
     } else {
         put_signed_offset(output, offset, separator);

@@ -2,10 +2,10 @@
 ghost use Rattle.std.specs.Prelude.{true};
 ghost use Rattle.time_below.specs.Weekday.{days_from_monday};
 ghost use Rattle.time_fmt.specs.Sink.{Fits};
-ghost use Rattle.time_known.specs.Fields.{shown};
+ghost use Rattle.time_known.specs.Fields.{shown, on_weekday};
 ghost use Rattle.time_known.specs.Longest.{FillsRfc2822Width};
 ghost use Rattle.time_known.specs.ReadBack.{ReadsAs};
-ghost use Rattle.time_known.specs.Rfc2822.{rfc2822_of_fields, rfc2822_outcome, named_date_of_fields, day_of_fields};
+ghost use Rattle.time_known.specs.Rfc2822.{rfc2822_text, rfc2822_outcome, named_date_text, day_text};
 ghost use Rattle.time_known.specs.Rfc2822.{rfc2822_width, named_date_width, date_width};
 ghost use Rattle.time_known.specs.Rfc2822Grammar.{Rfc2822Spells, to_whole_second};
 ghost use Rattle.time_known.specs.Sink.{PutsUpTo};
@@ -84,7 +84,7 @@ pub struct Rfc2822Text {
 impl Text for Rfc2822Text {
     ghost width = { λ _. rfc2822_width };
 
-    ghost text = { λ t. rfc2822_of_fields (days_from_monday t.weekday) (shown t.fields) };
+    ghost text = { λ t. rfc2822_text (on_weekday (days_from_monday t.weekday) t.fields) t.fields.time t.fields.offset };
 
     #[inline(always)]
     fn put_into<S: Sink>(&self, output: &mut S) {
@@ -102,7 +102,7 @@ impl Text for Rfc2822Text {
 fn put_named_date<S: Sink>(output: &mut S, weekday: Weekday, fields: &Fields)
     requires room { Fits (S.buffer output.old) named_date_width }
     ensures puts { PutsUpTo named_date_width (S.buffer output.old) (S.buffer output.new)
-        (named_date_of_fields (days_from_monday weekday) (shown fields.now)) }
+        (named_date_text (on_weekday (days_from_monday weekday) fields.now)) }
 {
     fmt_weekday_short(output, weekday, WEEKDAY_SHORT);
     write(output, ", ");
@@ -115,7 +115,7 @@ fn put_named_date<S: Sink>(output: &mut S, weekday: Weekday, fields: &Fields)
 fn put_day<S: Sink>(output: &mut S, fields: &Fields)
     requires room { Fits (S.buffer output.old) date_width }
     ensures puts { PutsUpTo date_width (S.buffer output.old) (S.buffer output.new)
-        (day_of_fields (shown fields.now)) }
+        (day_text (shown fields.now).date) }
 {
     let (_, day) = fields.date.digits();
     write(output, day);

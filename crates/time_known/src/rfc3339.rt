@@ -4,7 +4,7 @@ ghost use Rattle.time_fmt.specs.Sink.{Fits};
 ghost use Rattle.time_known.specs.Fields.{shown};
 ghost use Rattle.time_known.specs.Longest.{FillsRfc3339Width};
 ghost use Rattle.time_known.specs.ReadBack.{ReadsAs};
-ghost use Rattle.time_known.specs.Rfc3339.{rfc3339_of_fields, rfc3339_outcome, rfc3339_width};
+ghost use Rattle.time_known.specs.Rfc3339.{rfc3339_outcome, rfc3339_text, rfc3339_width};
 ghost use Rattle.time_known.specs.Rfc3339.{time_secfrac_text, time_secfrac_width};
 ghost use Rattle.time_known.specs.Rfc3339Grammar.{Rfc3339Spells, IsCanonicalRfc3339};
 ghost use Rattle.time_known.specs.Sink.{PutsUpTo};
@@ -79,7 +79,7 @@ pub struct Rfc3339Text {
 impl Text for Rfc3339Text {
     ghost width = { λ _. rfc3339_width };
 
-    ghost text = { λ t. rfc3339_of_fields (shown t.fields) };
+    ghost text = { λ t. rfc3339_text (shown t.fields).date t.fields.time t.fields.offset };
 
     #[inline(always)]
     fn put_into<S: Sink>(&self, output: &mut S) {

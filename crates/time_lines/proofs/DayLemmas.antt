@@ -7,7 +7,7 @@ use Rattle.std.specs.Prelude.{nat_lt, IfOk, Result, Ok, Err}
 use Rattle.std.specs.Fmt.{digits}
 use Rattle.std.specs.Prelude.{codes}
 use Rattle.time_below.specs.Calendar.{OrdinalDate, IsDate, date_at, days_before, last_begun, days_of_months, is_leap_year, month_of}
-use Rattle.time_below.specs.Facts.{Facts}
+use Rattle.time_below.specs.Facts.{Facts, date_facts}
 use Rattle.time_below.specs.Moment.{Moment, IsMoment, IsTimestampSecond, OffsetDateAndTime, local_at, moved, second_of_day, seconds_before, utc_date}
 use Rattle.time_below.specs.Offset.{Offset, IsOffset}
 use Rattle.time_below.specs.TimeOfDay.{TimeOfDay, time_at}
@@ -17,9 +17,8 @@ use Rattle.time_below.proofs.MonthLemmas.{month_of_date, day_of_date, month_leng
 use Rattle.time_digits.specs.Digits.{padded}
 use Rattle.time_fmt.specs.Outcome.{Outcome, Refusal, done}
 use Rattle.time_fmt.proofs.NumberLemmas.{two_zeros, four_zeros}
-use Rattle.time_known.specs.Fields.{offset_fields, offset_of_fields, value_fields}
-use Rattle.time_known.specs.Rfc3339.{rfc3339_of, rfc3339_of_fields, rfc3339_outcome, time_secfrac_text}
-use Rattle.time_known.specs.WellKnown.{clock_text, is_outside}
+use Rattle.time_known.specs.Rfc3339.{rfc3339_of, rfc3339_text, rfc3339_outcome, time_secfrac_text}
+use Rattle.time_known.specs.WellKnown.{clock_text, is_outside, offset_text}
 use Rattle.time_known.proofs.LawLemmas.{accepted_is_done, IsAccepted}
 use Rattle.time_known.proofs.OutcomeLemmas.{completed_by_bytes, same_bytes, test_is_passed, year_is_within}
 use Rattle.time_known.specs.Laws.{IsValue}
@@ -76,13 +75,13 @@ pub record HasZoneText (o : Offset) : Type 0 where
 
 -- what follows the text of the day
 abbrev after_day : TimeOfDay → Offset → List ℕ
-after_day t o = clock_text (codes ":") t ++ time_secfrac_text t.nanosecond ++ offset_of_fields (codes ":") (offset_fields o)
+after_day t o = clock_text (codes ":") t ++ time_secfrac_text t.nanosecond ++ offset_text (codes ":") o
 
 -- the text of a value whose day has this text
 text_is : (v : OffsetDateAndTime) (day : List ℕ) → IsValue v → is_outside 0 9_999 v.date.year ≡ false → HasZoneText v.offset
     → day ≡ day_text v.date
     → Some (day ++ clock_text (codes ":") v.time ++ time_secfrac_text v.time.nanosecond
-    ++ offset_of_fields (codes ":") (offset_fields v.offset))
+    ++ offset_text (codes ":") v.offset)
     ≡ text_of (rfc3339_of v)
 text_is v day value year zone text =
     let accepted : IsAccepted 0 23 v = record {
@@ -90,8 +89,8 @@ text_is v day value year zone text =
       year = year_is_within 0 9_999 v.date.year year;
       shown = record { offset = zone.offset; hours = zone.hours; seconds = ap unsigned_abs zone.seconds };
     } in
-    let is : rfc3339_of v ≡ done (rfc3339_of_fields (value_fields v)) =
-    accepted_is_done v (rfc3339_of_fields (value_fields v)) accepted in
+    let is : rfc3339_of v ≡ done (rfc3339_text (date_facts v.date) v.time v.offset) =
+    accepted_is_done v (rfc3339_text (date_facts v.date) v.time v.offset) accepted in
     rw is (ap Some (rw text refl))
 
 -- the text of a moment at an offset is what is shown of it
@@ -99,7 +98,7 @@ pub shown_by_day : (m : Moment) (o : Offset) (midnight : ℤ) (day : List ℕ) (
     → IsMoment m → IsDayText midnight day → HasZoneText o → (moved m o).seconds ≡ midnight +ℤ pos passed → passed < 86_400
     → t ≡ time_at passed m.nanosecond
     → new ≡ old ++ (day ++ clock_text (codes ":") t ++ time_secfrac_text t.nanosecond
-    ++ offset_of_fields (codes ":") (offset_fields o))
+    ++ offset_text (codes ":") o)
     → AppendsShown (ShowsAt rfc3339_outcome o m) old new true
 shown_by_day m o midnight day passed t old new real kept zone second small time e =
     let there = in_day midnight (moved m o).seconds passed kept.range kept.start second small in
@@ -151,7 +150,7 @@ day_of_written v old new has_text date has shown =
     let year = test_is_passed (is_outside 0 9_999 v.date.year) (codes "year") _ bytes (written (rfc3339_of v) some) in
     let hours = test_is_passed (nat_lt 23 (unsigned_abs v.offset.hours)) (codes "offset_hour") _ bytes year.done in
     let seconds = test_is_passed (nat_lt 0 (unsigned_abs v.offset.seconds)) (codes "offset_second") _ bytes hours.done in
-    let is : bytes ≡ rfc3339_of_fields (value_fields v) = sym (same_bytes (rfc3339_of_fields (value_fields v)) bytes seconds.done) in
+    let is : bytes ≡ rfc3339_text (date_facts v.date) v.time v.offset = sym (same_bytes (rfc3339_text (date_facts v.date) v.time v.offset) bytes seconds.done) in
     let rest = after_day v.time v.offset in
     let after : drop (length old) new ≡ day_text v.date ++ rest =
     ap (drop (length old)) shown.3 ∙ drop-append_seam old (bytes_of shown.0)

@@ -3,14 +3,11 @@ use Rattle.std.specs.Prelude.{ℕ, ◌≡◌, ◌++◌, ℤ, false, List, codes,
 use Rattle.time_below.specs.Calendar.{OrdinalDate}
 use Rattle.time_below.specs.Facts.{date_facts}
 use Rattle.time_below.specs.Moment.{IsTimestampSecond, second_of_day, utc_date}
-use Rattle.time_below.specs.Offset.{utc}
-use Rattle.time_below.specs.TimeOfDay.{time_at}
-use Rattle.time_known.specs.Fields.{date_of_fields, fields}
-use Rattle.time_known.specs.WellKnown.{is_outside}
+use Rattle.time_known.specs.WellKnown.{is_outside, date_text}
 
 -- the date and the letter `T`
 abbrev pub day_text : OrdinalDate → List ℕ
-day_text d = date_of_fields (codes "-") (fields (date_facts d) (time_at 0 0) utc) ++ codes "T"
+day_text d = date_text (codes "-") (date_facts d) ++ codes "T"
 
 -- the second is the first of a day whose year has four digits, and these bytes are its text
 pub record IsDayText (midnight : ℤ) (text : List ℕ) : Type 0 where

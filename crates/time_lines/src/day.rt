@@ -4,9 +4,8 @@ ghost use Rattle.time_below.specs.Moment.{IsMoment, IsNearTimestampSecond, IsTim
 ghost use Rattle.time_below.specs.Offset.{IsOffset, Offset};
 ghost use Rattle.time_below.specs.TimeOfDay.{time_at};
 ghost use Rattle.time_fmt.specs.Room.{HasRoom, Writes};
-ghost use Rattle.time_known.specs.Fields.{offset_fields, offset_of_fields};
 ghost use Rattle.time_known.specs.Rfc3339.{rfc3339_outcome, time_secfrac_text};
-ghost use Rattle.time_known.specs.WellKnown.{clock_text, is_outside};
+ghost use Rattle.time_known.specs.WellKnown.{clock_text, is_outside, offset_text};
 ghost use Rattle.time_lines.specs.Day.{IsDayText, day_text};
 ghost use Rattle.time_lines.specs.Shown.{AppendsShown, ShowsAt};
 
@@ -14,7 +13,7 @@ use crate::shown::{Place, Shown, append_text};
 use std::alloc::AllocError;
 use std::default::Default;
 use time_below::{Time, Timestamp, UtcOffset};
-use time_digits::{ru8, ru32};
+use time_digits::ru32;
 use time_fmt::make_room;
 use time_fmt::writers::{put_back, take_out, write, write_fraction};
 use time_known::Rfc3339;
@@ -91,7 +90,7 @@ impl DayText {
         }
         make_room(output, WIDTH)?;
         let time = time_of(passed, nanosecond);
-        put_text(output, &self.text, time, &fields_of(offset));
+        put_text(output, &self.text, time, &OffsetFields::of(offset));
         Ok(true)
     }
 
@@ -174,21 +173,6 @@ fn has_text(offset: UtcOffset) -> bool
     hours.unsigned_abs() <= 23 && seconds == 0
 }
 
-/// The fields of an offset.
-#[inline(always)]
-fn fields_of(offset: UtcOffset) -> OffsetFields
-    ensures { result ≡ offset_fields offset }
-{
-    let (hours, minutes, seconds) = offset.as_hms();
-    OffsetFields {
-        is_utc: offset.is_utc(),
-        is_negative: offset.is_negative(),
-        hours: ru8::within(hours.unsigned_abs()),
-        minutes: ru8::within(minutes.unsigned_abs()),
-        seconds: ru8::within(seconds.unsigned_abs()),
-    }
-}
-
 /// The time of day so many seconds after midnight.
 #[inline(always)]
 fn time_of(passed: i64, nanosecond: u32) -> Time
@@ -221,7 +205,7 @@ fn put_text(output: &mut Vec<u8>, day: &[u8; LENGTH], time: Time, offset: &Offse
     requires day { length day.now ≡ LENGTH }
     requires room { HasRoom output.old WIDTH }
     ensures { output.new.items ≡ output.old.items ++ (day.now ++ clock_text (codes ":") time
-        ++ time_secfrac_text time.nanosecond ++ offset_of_fields (codes ":") offset.now) }
+        ++ time_secfrac_text time.nanosecond ++ offset_text (codes ":") offset.now) }
 {
     let mut taken = take_out(output);
     push_each(&mut taken, *day);

@@ -3,15 +3,15 @@ use Rattle.std.proofs.Common.{◌≡◌, ◌∙◌, ℕ, List, ◌++◌, ℤ, ap
 use Rattle.std.specs.Prelude.{codes}
 use Rattle.time_below.specs.Moment.{Moment, local_at}
 use Rattle.time_fmt.specs.Decimals.{decimals}
-use Rattle.time_known.specs.Fields.{offset_fields, offset_of_fields}
 use Rattle.time_log.specs.declared.log_time.LogTime.TheInside.{Inside}
 use Rattle.time_log.specs.Kept.{IsKept, settings_of}
 use Rattle.time_log.specs.LogText.{IsFourDigits, LogSettings, digits_of, log_text, text_to_point}
+use Rattle.time_known.specs.WellKnown.{offset_text}
 
 -- what is kept is that of the second of this moment
 pub record IsFor (s : LogSettings) (m : Moment) (t : Inside) : Type 0 where
   pub settings : settings_of t ≡ s
-  pub fields : t.offset_fields ≡ offset_fields s.offset
+  pub fields : t.offset_fields ≡ s.offset
   pub year : IsFourDigits (local_at m s.offset).date.year
   pub head : t.head ≡ text_to_point (local_at m s.offset)
 
@@ -37,7 +37,7 @@ for_new s m t u second head kept settings text year same =
 pub text_for : (s : LogSettings) (m : Moment) (t : Inside) (old new : List ℕ) (nanosecond : ℕ) → IsFor s m t
     → nanosecond ≡ m.nanosecond
     → new ≡ old ++ (t.head ++ decimals nanosecond 1_000_000_000 (digits_of t.decimals)
-    ++ offset_of_fields (codes ":") t.offset_fields)
+    ++ offset_text (codes ":") t.offset_fields)
     → new ≡ old ++ log_text s m
 text_for s m t old new nanosecond h n e =
     let settings : t.decimals ≡ s.decimals = ap (λ (x : LogSettings). x.decimals) h.settings in

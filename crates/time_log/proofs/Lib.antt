@@ -2,4 +2,3 @@ mod BeginLemmas
 mod HeadLemmas
 mod KeptLemmas
 mod SpelledLemmas
-mod ZoneLemmas

@@ -1,24 +1,21 @@
 -- The text of a value is spelled by RFC 3339.
 use Rattle.std.proofs.Common.{◌≡◌, ℕ, ◌+◌, ◌-◌, ◌*◌, ◌/◌, ◌%◌, ◌^◌, ◌<◌, ◌≤◌, List, ◌++◌, replicate, refl, sym, ap, ◌∙◌}
 use Rattle.std.proofs.Common.{arith, append_assoc, inr, subst, unsigned_abs}
-use Rattle.std.specs.Prelude.{codes, true}
+use Rattle.std.specs.Prelude.{codes}
 use Rattle.time_digits.proofs.DigitLemmas.{fixed-append, fixed-mod, length-fixed}
 use Rattle.time_digits.specs.Digits.{fixed}
 use Rattle.time_fmt.specs.Decimals.{decimals}
-use Rattle.time_known.proofs.Rules.Offsets.{IsShown, is_spelled, one_signed, owns_known, owns_short, owns_signed}
-use Rattle.time_known.proofs.Rules.Offsets.{utc_is_shown, zero_written}
+use Rattle.time_known.proofs.Rules.Offsets.{IsShown}
+use Rattle.time_known.proofs.Rfc3339Lemmas.{owns_offset}
 use Rattle.time_known.proofs.Rules.Parts.{owns_clock, owns_four, owns_month_date}
-use Rattle.time_known.proofs.Rules.Texts.{Owns, one_after, owns_after, owns_as, owns_fixed, owns_moved, owns_two}
-use Rattle.time_known.proofs.Rules.Texts.{reads_digits, two_zeros}
+use Rattle.time_known.proofs.Rules.Texts.{owns_fixed}
 use Rattle.time_known.proofs.StampLemmas.{year_within}
-use Rattle.time_known.specs.Fields.{date_of_fields, offset_fields, offset_of_fields, value_fields}
-use Rattle.time_known.specs.Laws.{IsValue, OneValue}
-use Rattle.time_known.specs.Parts.{ShortOffset, SignedOffset}
-use Rattle.time_known.specs.Rfc3339Grammar.{ColonMinute, FullDate, Rfc3339Spells, TimeNumoffset, TimeOffset}
+use Rattle.time_known.specs.Laws.{IsValue}
+use Rattle.time_known.specs.Rfc3339Grammar.{FullDate, Rfc3339Spells, TimeOffset}
 use Rattle.time_known.specs.Rfc3339Grammar.{OptionalSecfrac, TimeSecfrac, WholeTime}
 use Rattle.time_known.specs.Rules.{Digits, Rule, ◌▹◌}
-use Rattle.time_known.specs.Values.{Offset, OffsetDateAndTime, utc}
-use Rattle.time_known.specs.WellKnown.{clock_text}
+use Rattle.time_known.specs.Values.{OffsetDateAndTime, date_facts}
+use Rattle.time_known.specs.WellKnown.{clock_text, offset_text, date_text}
 use Rattle.time_log.specs.LogText.{IsFourDigits, IsLogOffset, cut, digits_of, text_of}
 use Rattle.time_log.specs.declared.decimals.Decimals.{Decimals}
 use Rattle.time_log.specs.declared.decimals.Decimals.TheVariants.{Microseconds, Milliseconds, Nanoseconds}
@@ -73,25 +70,6 @@ secfrac Nanoseconds n small =
     digits_after_point 9 0 (n * 10 ^ 9 / 1_000_000_000) (n / 10 ^ 0 * 10 ^ 0) (omega arith) refl (omega arith)
     (omega arith) (omega arith) no_zeros
 
--- ---- offsets
-
--- a sign, hours and minutes have one value
-one_signed_offset : OneValue (SignedOffset 23 ColonMinute)
-one_signed_offset = one_signed 23 ColonMinute (one_after (codes ":") (Digits 2) (reads_digits 2).same)
-
--- an offset of at most 23 hours and no seconds is spelled by its text
-owns_offset : (o : Offset)
-    → Owns (IsShown 23 o) (ShortOffset TimeNumoffset o) (offset_of_fields (codes ":") (offset_fields o))
-owns_offset o =
-    let minus : SignedOffset 23 ColonMinute utc (codes "-00:00") = zero_written true (codes ":00")
-    (record { front = codes ":"; rest = codes "00"; whole = refl; first = refl; second = two_zeros }) in
-    owns_short TimeNumoffset (utc_is_shown 23 o) (λ h. h.seconds)
-    (λ text n. (is_spelled (omega arith) n.0).shown.seconds)
-    (λ some. owns_known {Minute = ColonMinute} (codes "-00:00") one_signed_offset minus some
-    (owns_moved (owns_as (owns_signed {greatest = 23} {Minute = ColonMinute} (omega arith) some
-    (owns_after (codes ":") (owns_two (unsigned_abs o.minutes))))
-    (λ h. h.0) (λ h. (h, omega (arith, h.offset.0.1)))) (λ _. simp append_assoc)))
-
 -- ---- whole texts
 
 -- a text of each rule, one after the other
@@ -114,10 +92,10 @@ pub spelled : (d : Decimals) (v : OffsetDateAndTime) → IsValue v → IsFourDig
     → Rfc3339Spells (cut (digits_of d) v) (text_of (digits_of d) v)
 spelled d v value year zone =
     let kept = cut (digits_of d) v in
-    let day = date_of_fields (codes "-") (value_fields v) in
+    let day = date_text (codes "-") (date_facts v.date) in
     let clock = clock_text (codes ":") v.time in
     let fraction = decimals v.time.nanosecond 1_000_000_000 (digits_of d) in
-    let offset = offset_of_fields (codes ":") (offset_fields v.offset) in
+    let offset = offset_text (codes ":") v.offset in
     let shown : IsShown 23 v.offset =
     record { offset = value.offset; hours = zone.0; seconds = ap unsigned_abs zone.1 } in
     let date : FullDate v.date day = subst (FullDate v.date) (date_regrouped _ _ _) ((owns_month_date (codes "-") v.date

@@ -4,7 +4,7 @@ use Rattle.time_below.specs.Moment.{OffsetDateAndTime, local_at}
 use Rattle.time_below.specs.Offset.{Offset, is_utc}
 use Rattle.time_log.specs.declared.log_time.LogTime.TheInside.{Inside}
 use Rattle.time_log.specs.LogText.{IsFourDigits, IsLogOffset, LogSettings, log_length, text_to_point, zone_length}
-use Rattle.time_known.specs.Fields.{offset_fields, offset_of_fields}
+use Rattle.time_known.specs.WellKnown.{offset_text}
 
 -- what clocks at an offset show when a second begins
 abbrev pub local_second : ℤ → Offset → OffsetDateAndTime
@@ -17,8 +17,8 @@ settings_of t = record { offset = t.offset; decimals = t.decimals }
 -- the offset has a text, and the bytes are those of the second that is kept
 pub record IsKept (t : Inside) : Type 0 where
   pub offset : IsLogOffset t.offset
-  pub fields : t.offset_fields ≡ offset_fields t.offset
-  pub zone : length (offset_of_fields (codes ":") t.offset_fields) ≡ zone_length (is_utc t.offset)
+  pub fields : t.offset_fields ≡ t.offset
+  pub zone : length (offset_text (codes ":") t.offset) ≡ zone_length (is_utc t.offset)
   pub length : t.length ≡ log_length (settings_of t)
   pub year : IsFourDigits (local_second t.second t.offset).date.year
   pub head : t.head ≡ text_to_point (local_second t.second t.offset)

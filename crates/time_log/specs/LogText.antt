@@ -4,8 +4,8 @@ use Rattle.std.specs.Prelude.{unsigned_abs, if◌then◌else◌}
 use Rattle.time_below.specs.Moment.{Moment, OffsetDateAndTime, local_at}
 use Rattle.time_below.specs.Offset.{Offset, is_utc}
 use Rattle.time_fmt.specs.Decimals.{decimals}
-use Rattle.time_known.specs.Fields.{date_of_fields, offset_of_fields, value_fields}
-use Rattle.time_known.specs.WellKnown.{clock_text}
+use Rattle.time_known.specs.WellKnown.{clock_text, offset_text, date_text}
+use Rattle.time_below.specs.Facts.{date_facts}
 use Rattle.time_log.specs.declared.decimals.Decimals.{Decimals}
 use Rattle.time_log.specs.declared.decimals.Decimals.TheVariants.{Milliseconds, Microseconds, Nanoseconds}
 
@@ -23,13 +23,13 @@ digits_of Nanoseconds = 9
 -- full-date "T" time-hour ":" time-minute ":" time-second "."
 abbrev pub text_to_point : OffsetDateAndTime → List ℕ
 text_to_point v =
-    date_of_fields (codes "-") (value_fields v) ++ codes "T" ++ clock_text (codes ":") v.time ++ codes "."
+    date_text (codes "-") (date_facts v.date) ++ codes "T" ++ clock_text (codes ":") v.time ++ codes "."
 
 -- then this many digits of the fraction, not rounded, and time-offset
 abbrev pub text_of : ℕ → OffsetDateAndTime → List ℕ
 text_of digits v =
     text_to_point v ++ decimals v.time.nanosecond 1_000_000_000 digits
-    ++ offset_of_fields (codes ":") (value_fields v).offset
+    ++ offset_text (codes ":") v.offset
 
 -- the text of a moment
 abbrev pub log_text : LogSettings → Moment → List ℕ

@@ -8,7 +8,7 @@ ghost use Rattle.time_log.specs.LogText.{HasLogText, IsLogOffset, log_length, lo
 use crate::decimals::Decimals;
 use crate::head::{LENGTH, head_at};
 use crate::text::append_text;
-use crate::zone::{fields_of, zone_len};
+use crate::zone::zone_len;
 use std::fmt::{self, Debug};
 use std::marker::Model;
 use time_below::{Timestamp, UtcOffset};
@@ -84,7 +84,7 @@ impl LogTime {
         LogTime {
             offset,
             decimals,
-            offset_fields: fields_of(offset),
+            offset_fields: OffsetFields::of(offset),
             length: LENGTH + decimals.digits() + zone_len(offset),
             second: midnight_of_1970(offset),
             head: *b"1970-01-01T00:00:00.",

@@ -1,9 +1,10 @@
 //! The text of a moment, from what is kept.
 ghost use Rattle.std.specs.Prelude.{◌≡◌, ◌+◌, ◌++◌, codes, length};
+ghost use Rattle.time_below.specs.Offset.{is_utc};
 ghost use Rattle.time_fmt.specs.Decimals.{decimals as decimals_of};
 ghost use Rattle.time_fmt.specs.Room.{HasRoom, Writes};
-ghost use Rattle.time_known.specs.Fields.{offset_of_fields};
 ghost use Rattle.time_log.specs.LogText.{digits_of, zone_length};
+ghost use Rattle.time_known.specs.WellKnown.{offset_text};
 
 use crate::decimals::{Decimals, put_decimals};
 use crate::head::LENGTH;
@@ -22,11 +23,11 @@ pub(crate) fn append_text(
     offset: &OffsetFields,
 )
     requires head { length head.now ≡ LENGTH }
-    requires room { HasRoom output.old (LENGTH + digits_of decimals + zone_length offset.now.is_utc) }
+    requires room { HasRoom output.old (LENGTH + digits_of decimals + zone_length (is_utc offset.now)) }
     ensures writes { Writes output.old output.new
-        (LENGTH + digits_of decimals + length (offset_of_fields (codes ":") offset.now))
+        (LENGTH + digits_of decimals + length (offset_text (codes ":") offset.now))
         (head.now ++ decimals_of nanosecond 1_000_000_000 (digits_of decimals)
-        ++ offset_of_fields (codes ":") offset.now) }
+        ++ offset_text (codes ":") offset.now) }
 {
     let mut taken = take_out(output);
     push_each(&mut taken, *head);

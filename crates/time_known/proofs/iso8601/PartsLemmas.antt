@@ -1,45 +1,24 @@
 -- The parts that are written, one after another, give the outcome and the width of the choices.
-use Rattle.std.proofs.Common.{◌≡◌, ◌≢◌, ℕ, ◌+◌, ℤ, length, List, [], refl, sym, ap, subst, ◌∙◌, arith, Option, Some, None, true}
-use Rattle.std.specs.Prelude.{codes}
+use Rattle.std.proofs.Common.{◌≡◌, ◌≢◌, ℕ, List, [], refl, sym, ap, subst, ◌∙◌, arith, Option, Some, None, true}
 use Rattle.std.proofs.lemmas.List.{append-nil}
 use Rattle.time_fmt.specs.Outcome.{Outcome, Refusal, done, join}
-use Rattle.time_known.specs.Config.{Choices, groups_of, separator, DateKind, FormattedComponents}
+use Rattle.time_known.specs.Config.{Choices, groups_of, FormattedComponents}
 use Rattle.time_known.specs.Groups.{has_groups}
-use Rattle.time_known.specs.Iso8601.{iso8601_outcome, iso8601_outcome_of, iso_date, iso_time_text, rest_of_kind}
-use Rattle.time_known.specs.Iso8601Parts.{date_parts, date_of_parts, date_parts_width, shown_date, rest_width}
+use Rattle.time_known.specs.Iso8601.{iso8601_outcome, iso8601_outcome_of, iso_date, iso_time_text}
+use Rattle.time_known.specs.Iso8601Parts.{date_of_parts, date_parts_width, AreOfDate}
 use Rattle.time_known.specs.Iso8601Parts.{parts_text, parts_width}
-use Rattle.time_known.specs.Iso8601Width.{iso8601_width, iso8601_width_of, iso_date_width, width_after_year, year_width}
+use Rattle.time_known.specs.Iso8601Width.{iso8601_width, iso8601_width_of, iso_date_width}
 use Rattle.time_known.specs.Values.{Facts, DateFacts, the_date, the_time}
-use Rattle.time_known.specs.declared.iso8601.config.DateKind.TheVariants as kind
 use Rattle.time_known.specs.declared.iso8601.config.FormattedComponents.TheVariants as components
 use Rattle.time_known.specs.declared.iso8601.parts.DateParts.{DateParts}
-use Rattle.time_known.specs.declared.iso8601.parts.RestOfDate.{RestOfDate}
-use Rattle.time_known.specs.declared.iso8601.parts.RestOfDate.TheVariants as rest
 use Rattle.time_known.proofs.GroupLemmas.{HasNeeded, has_needed, of_supplied}
 
 -- ---- dates
 
-rest_width_is : (k : DateKind) (c : Choices) (d : DateFacts)
-    → rest_width (length (separator c (codes "-"))) (rest_of_kind k d) ≡ width_after_year k c
-rest_width_is kind.Calendar c d = refl
-rest_width_is _ c d = refl
-
--- the numbers of the month and the day give the same text and width
-same_rest : (c : Choices) (year : ℤ) (r : RestOfDate) → let p : DateParts = record { year = year; rest = r } in
-    (date_of_parts c (shown_date p) ≡ date_of_parts c p) × (date_parts_width c (shown_date p) ≡ date_parts_width c p)
-same_rest c year (rest.MonthAndDay d) = (refl, refl)
-same_rest c year _ = (refl, refl)
-
 -- what holds of the width and the text of the date's fields holds of those of the date
-pub by_date : (c : Choices) (d : DateFacts) (p : DateParts) (Holds : ℕ → Outcome → Type 0)
-    → shown_date p ≡ date_parts c.date_kind d → Holds (date_parts_width c p) (date_of_parts c p)
-    → Holds (iso_date_width c) (iso_date c d)
-by_date c d p Holds e h =
-    let same = same_rest c p.year p.rest in
-    let width = sym same.1 ∙ ap (date_parts_width c) e
-    ∙ ap (λ (n : ℕ). year_width c.year_is_six_digits + n) (rest_width_is c.date_kind c d) in
-    subst (Holds (iso_date_width c)) (sym same.0 ∙ ap (date_of_parts c) e)
-    (subst (λ (n : ℕ). Holds n (date_of_parts c p)) width h)
+pub by_date : (c : Choices) (d : DateFacts) (p : DateParts) (Holds : ℕ → Outcome → Type 0) → AreOfDate c.date_kind d p
+    → Holds (date_parts_width c p) (date_of_parts c p) → Holds (iso_date_width c) (iso_date c d)
+by_date c d p Holds parts h = rw (← parts.year, ← parts.text c, ← parts.width c) h
 
 -- ---- all parts
 

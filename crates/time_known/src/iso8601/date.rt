@@ -10,8 +10,8 @@ ghost use Rattle.time_provide.specs.Real.{AgreesOnDate, AreFactsOfDate};
 ghost use Rattle.time_known.specs.Accepted.{PutsOutcome};
 ghost use Rattle.time_known.specs.Config.{has_date};
 ghost use Rattle.time_known.specs.Days.{dash};
-ghost use Rattle.time_known.specs.Iso8601.{iso_date, iso_year, rest_text, week_text};
-ghost use Rattle.time_known.specs.Iso8601Parts.{date_of_parts, date_parts_width, part_if, rest_width, width_if};
+ghost use Rattle.time_known.specs.Iso8601.{iso_date, iso_year, week_text};
+ghost use Rattle.time_known.specs.Iso8601Parts.{date_of_parts, date_parts_width, part_if, rest_width, width_if, rest_text};
 ghost use Rattle.time_known.specs.Iso8601Width.{iso_date_width, year_width};
 ghost use Rattle.time_known.specs.Sink.{PutsUpTo};
 

@@ -1,5 +1,5 @@
 //! The offset from UTC of a text of ISO 8601-1:2019, sections 5.3.3 and 5.3.4.
-ghost use Rattle.std.specs.Prelude.{IsTrue, not, ◌||◌};
+ghost use Rattle.std.specs.Prelude.{IsTrue, not, ◌||◌, unsigned_abs};
 ghost use Rattle.time_below.specs.Facts.{the_offset};
 ghost use Rattle.time_below.specs.Offset.{IsOffset};
 ghost use Rattle.time_fmt.specs.Outcome.{AppendsUpTo};
@@ -8,7 +8,7 @@ ghost use Rattle.time_fmt.specs.Sink.{Fits};
 ghost use Rattle.time_provide.specs.Real.{AgreesOnOffset};
 ghost use Rattle.time_known.specs.Accepted.{PutsOutcome};
 ghost use Rattle.time_known.specs.Config.{has_offset};
-ghost use Rattle.time_known.specs.Iso8601.{iso_offset, iso_offset_of_fields, iso_minutes};
+ghost use Rattle.time_known.specs.Iso8601.{iso_offset, iso_minutes};
 ghost use Rattle.time_known.specs.Iso8601Parts.{part_if, width_if};
 ghost use Rattle.time_known.specs.Iso8601Width.{minutes_width, iso_offset_width};
 
@@ -82,13 +82,13 @@ fn put_offset_by<S: Sink>(
 ) -> Result<(), OutOfRange>
     requires room { Fits (S.buffer output.old) (iso_offset_width config.now) }
     ensures puts { PutsOutcome (iso_offset_width config.now) (S.buffer output.old)
-        (S.buffer output.new) result (iso_offset_of_fields config.now offset.now) }
+        (S.buffer output.new) result (iso_offset config.now offset.now) }
 {
-    if config.has_time() && offset.is_utc {
+    if config.has_time() && offset.is_utc() {
         write(output, "Z");
         return Ok(());
     }
-    if offset.seconds.get() != 0 {
+    if offset.seconds().get() != 0 {
         return Err(OutOfRange::OffsetSecond);
     }
     put_offset_hours(output, offset);
@@ -107,18 +107,18 @@ fn put_minutes<S: Sink>(
         (minutes_width config.now.offset_precision config.now) }
     ensures puts { PutsOutcome (minutes_width config.now.offset_precision config.now)
         (S.buffer output.old) (S.buffer output.new) result
-        (iso_minutes config.now.offset_precision config.now offset.now.minutes) }
+        (iso_minutes config.now.offset_precision config.now (unsigned_abs offset.now.minutes)) }
 {
     match config.offset_precision() {
         OffsetPrecision::Minute => {
             if config.use_separators() {
                 write(output, ":");
             }
-            format_two_digits_pad_zero(output, offset.minutes.expand());
+            format_two_digits_pad_zero(output, offset.minutes().expand());
             Ok(())
         }
         OffsetPrecision::Hour => {
-            if offset.minutes.get() != 0 {
+            if offset.minutes().get() != 0 {
                 return Err(OutOfRange::OffsetMinute);
             }
             Ok(())

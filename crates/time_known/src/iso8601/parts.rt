@@ -8,7 +8,7 @@ ghost use Rattle.time_provide.specs.Real.{AgreesOnDate, AreReal};
 ghost use Rattle.time_known.specs.Config.{groups_of};
 ghost use Rattle.time_known.specs.Groups.{are_supplied};
 ghost use Rattle.time_known.specs.Iso8601.{iso8601_outcome, iso_date, iso_time};
-ghost use Rattle.time_known.specs.Iso8601Parts.{date_parts, parts_text, parts_width, shown_date};
+ghost use Rattle.time_known.specs.Iso8601Parts.{parts_text, parts_width, AreOfDate};
 ghost use Rattle.time_known.specs.Iso8601Width.{iso8601_width, iso_date_width, iso_time_width};
 ghost use Rattle.time_known.specs.Accepted.{AppendsAllOrNone, PutsOutcome};
 ghost use Rattle.time_known.specs.Ways.{FitsUnusual, FitsWay};
@@ -60,7 +60,7 @@ pub(super) fn date_of<V: ComponentProvider>(
 ) -> DateParts
     requires supplied { IsTrue V.SUPPLIES_DATE }
     requires agrees { V.agrees state.old value.now }
-    ensures parts { shown_date result ≡ date_parts kind (the_date (V.facts value.now)) }
+    ensures parts { AreOfDate kind (the_date (V.facts value.now)) result }
     ensures agrees { AgreesOnDate (V.agrees state.new value.now) (V.facts value.now) }
 {
     match kind {

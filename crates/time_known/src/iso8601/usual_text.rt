@@ -1,7 +1,7 @@
 //! The texts of the usual configurations, in pieces that are inlined.
 #![tactic(auto, using(crate::proofs::LengthLemmas::joined_lengths))]
 
-ghost use Rattle.std.specs.Prelude.{◌≡◌, ◌≤◌, ◌+◌, ◌*◌, ◌++◌, length, IfSome, OnOk, OnSome, MatchOption, Ok, true};
+ghost use Rattle.std.specs.Prelude.{◌≡◌, ◌≤◌, ◌+◌, ◌*◌, ◌++◌, length, IfSome, OnOk, OnSome, MatchOption, Ok, Some, true};
 ghost use Rattle.time_digits.specs.Digits.{zero_padded};
 ghost use Rattle.time_fmt.specs.Decimals.{decimals};
 ghost use Rattle.time_fmt.specs.Outcome.{AppendsUpTo};
@@ -9,13 +9,17 @@ ghost use Rattle.time_fmt.specs.Room.{HasRoom};
 ghost use Rattle.time_fmt.specs.Sink.{Fits, Puts};
 ghost use Rattle.time_provide.specs.Real.{AreReal};
 ghost use Rattle.time_known.specs.Accepted.{AppendsAllOrNone};
-ghost use Rattle.time_known.specs.Fields.{date_of_fields, offset_of_fields, shown};
+ghost use Rattle.time_known.specs.Fields.{shown, by_week};
 ghost use Rattle.time_known.specs.Groups.{AreAllSupplied, at_groups};
 ghost use Rattle.time_known.specs.Iso8601.{decimal_part, iso_of_groups, week_text};
 ghost use Rattle.time_known.specs.Iso8601Width.{decimal_part_width, iso8601_width};
 ghost use Rattle.time_known.specs.Sink.{PutsUpTo};
-ghost use Rattle.time_known.specs.Stamps.{stamp_length, stamp_of_fields};
-ghost use Rattle.time_known.specs.UsualText.{usual_choices, usual_of_fields, usual_time_text, week_choices, week_of_fields};
+ghost use Rattle.time_known.specs.Stamps.{stamp_length};
+ghost use Rattle.time_known.specs.UsualText.{usual_choices, usual_text, usual_time_text, week_choices};
+ghost use Rattle.time_known.specs.WellKnown.{offset_text, date_text};
+ghost use Rattle.time_known.specs.Config.{default_choices};
+ghost use Rattle.time_known.specs.Values.{utc};
+ghost use Rattle.time_below.specs.Weekday.{days_from_monday};
 
 use crate::accepted::{OutOfRange, accepted_year};
 use crate::fields::{Fields, OffsetFields, accepted_fields, offset_of, time_of};
@@ -25,7 +29,7 @@ use crate::iso8601::time::{NANOSECONDS_PER_SECOND, put_long_division, put_to_sec
 use crate::pieces::piece;
 use crate::put::{put_date, put_offset};
 use crate::sink::{Text, append};
-use time_below::Time;
+use time_below::{Time, Weekday};
 use time_digits::{ru8, ru16};
 use time_fmt::Sink;
 use time_fmt::writers::{
@@ -89,13 +93,13 @@ pub(super) fn write_usual_week<V: ComponentProvider>(
 {
     let offset = offset_of(value);
     let number = value.iso_year(state).get();
-    match accepted_year(0, 25, number, offset.hours, offset.seconds.get()) {
+    match accepted_year(0, 25, number, offset.hours(), offset.seconds().get()) {
         Ok(year) => {
             let text = WeekText {
                 usual: *usual,
                 year,
                 week: value.iso_week_number(state),
-                weekday: ru8::within(value.weekday(state).number_from_monday()),
+                weekday: value.weekday(state),
                 time: time_of(value, state),
                 offset,
             };
@@ -116,9 +120,9 @@ impl Text for UsualText {
     ghost width = { λ t. iso8601_width
         (usual_choices t.usual.has_separators t.usual.decimal_digits t.usual.decimal_sign) };
 
-    ghost text = { λ t. usual_of_fields
+    ghost text = { λ t. usual_text
         (usual_choices t.usual.has_separators t.usual.decimal_digits t.usual.decimal_sign)
-        t.usual.decimal_digits (shown t.fields) };
+        t.usual.decimal_digits (shown t.fields).date t.fields.time t.fields.offset };
 
     #[inline(always)]
     fn put_into<S: Sink>(&self, output: &mut S) {
@@ -136,7 +140,7 @@ struct WeekText {
     usual: Usual,
     year: ru16<0, 9_999>,
     week: IsoWeekNumber,
-    weekday: ru8<1, 7>,
+    weekday: Weekday,
     time: Time,
     offset: OffsetFields,
 }
@@ -145,9 +149,9 @@ impl Text for WeekText {
     ghost width = { λ t. iso8601_width
         (week_choices t.usual.has_separators t.usual.decimal_digits t.usual.decimal_sign) };
 
-    ghost text = { λ t. week_of_fields
+    ghost text = { λ t. usual_text
         (week_choices t.usual.has_separators t.usual.decimal_digits t.usual.decimal_sign)
-        t.usual.decimal_digits t.year t.week t.weekday t.time t.offset };
+        t.usual.decimal_digits (by_week t.year t.week (days_from_monday t.weekday)) t.time t.offset };
 
     #[inline(always)]
     fn put_into<S: Sink>(&self, output: &mut S) {
@@ -172,9 +176,9 @@ impl Text for SeparatedText {
     ghost width = { λ t. iso8601_width
         (usual_choices true t.usual.decimal_digits t.usual.decimal_sign) };
 
-    ghost text = { λ t. usual_of_fields
+    ghost text = { λ t. usual_text
         (usual_choices true t.usual.decimal_digits t.usual.decimal_sign)
-        t.usual.decimal_digits (shown t.fields) };
+        t.usual.decimal_digits (shown t.fields).date t.fields.time t.fields.offset };
 
     #[inline(always)]
     fn put_into<S: Sink>(&self, output: &mut S) {
@@ -192,7 +196,7 @@ pub struct StampText {
 impl Text for StampText {
     ghost width = { λ _. stamp_length };
 
-    ghost text = { λ t. stamp_of_fields (shown t.fields) };
+    ghost text = { λ t. usual_text default_choices (Some 9) (shown t.fields).date t.fields.time utc };
 
     #[inline(always)]
     fn put_into<S: Sink>(&self, output: &mut S) {
@@ -221,10 +225,10 @@ fn put_usual<S: Sink>(output: &mut S, usual: &Usual, fields: &Fields, dash: &str
         + decimal_part_width usual.now.decimal_digits) }
     ensures puts { PutsUpTo (20 + 2 * length dash.now + 3 * length colon.now
         + decimal_part_width usual.now.decimal_digits) (S.buffer output.old) (S.buffer output.new)
-        (date_of_fields dash.now (shown fields.now)
+        (date_text dash.now (shown fields.now).date
         ++ usual_time_text colon.now usual.now.decimal_sign usual.now.decimal_digits
         fields.now.time
-        ++ offset_of_fields colon.now fields.now.offset) }
+        ++ offset_text colon.now fields.now.offset) }
 {
     put_date(output, fields, dash);
     put_usual_time(output, usual, fields.time, colon);
@@ -238,13 +242,14 @@ fn put_usual_week<S: Sink>(output: &mut S, text: &WeekText, dash: &str, colon: &
         + decimal_part_width text.now.usual.decimal_digits) }
     ensures puts { PutsUpTo (20 + 2 * length dash.now + 3 * length colon.now
         + decimal_part_width text.now.usual.decimal_digits) (S.buffer output.old) (S.buffer output.new)
-        ((zero_padded 4 text.now.year ++ week_text dash.now text.now.week text.now.weekday)
+        ((zero_padded 4 text.now.year ++ week_text dash.now text.now.week (days_from_monday text.now.weekday + 1))
         ++ usual_time_text colon.now text.now.usual.decimal_sign text.now.usual.decimal_digits
         text.now.time
-        ++ offset_of_fields colon.now text.now.offset) }
+        ++ offset_text colon.now text.now.offset) }
 {
     format_four_digits_pad_zero(output, text.year);
-    put_week(output, dash, text.week.expand(), text.weekday.expand());
+    let weekday = ru8::within(text.weekday.number_from_monday());
+    put_week(output, dash, text.week.expand(), weekday);
     put_usual_time(output, &text.usual, text.time, colon);
     put_offset(output, &text.offset, colon);
 }

@@ -1,10 +1,10 @@
 //! A clone of a configuration, of fields or of a text that is not written yet is the same.
 ghost use Rattle.std.specs.Prelude.{◌≡◌};
 ghost use Rattle.time_known.specs.Config.{Choices};
+ghost use Rattle.time_known.specs.Values.{Offset};
 ghost use Rattle.time_known.specs.declared.accepted.OutOfRange.{OutOfRange};
 ghost use Rattle.time_known.specs.declared.days.CalendarDay.{CalendarDay};
 ghost use Rattle.time_known.specs.declared.fields.Fields.{Fields};
-ghost use Rattle.time_known.specs.declared.fields.OffsetFields.{OffsetFields};
 ghost use Rattle.time_known.specs.declared.iso8601.config.DateKind.{DateKind};
 ghost use Rattle.time_known.specs.declared.iso8601.config.DecimalSign.{DecimalSign};
 ghost use Rattle.time_known.specs.declared.iso8601.config.FormattedComponents.{FormattedComponents};
@@ -35,7 +35,7 @@ pub fn clones_of_configurations()
 pub fn clones_of_fields()
     ensures out_of_range { (a b : OutOfRange) → ⟦<accepted::OutOfRange as Clone>⟧.is_clone a b → b ≡ a }
     ensures calendar_day { (a b : CalendarDay) → ⟦<days::CalendarDay as Clone>⟧.is_clone a b → b ≡ a }
-    ensures offset_fields { (a b : OffsetFields) → ⟦<fields::OffsetFields as Clone>⟧.is_clone a b → b ≡ a }
+    ensures offset_fields { (a b : Offset) → ⟦<fields::OffsetFields as Clone>⟧.is_clone a b → b ≡ a }
     ensures fields { (a b : Fields) → ⟦<fields::Fields as Clone>⟧.is_clone a b → b ≡ a }
 {}
 

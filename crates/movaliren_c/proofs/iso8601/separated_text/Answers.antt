@@ -1,7 +1,9 @@
 use Rattle.std.proofs.Common.{[], refl, sym, ap, ◌∙◌, true}
 use Rattle.time_below.specs.Facts.{date_facts}
 use Rattle.time_fmt.specs.Outcome.{done}
-use Rattle.time_known.specs.UsualText.{usual_choices, usual_of_fields}
+use Rattle.time_known.specs.UsualText.{usual_choices, usual_text}
+use Rattle.time_known.specs.Fields.{Shown}
+use Rattle.time_known.specs.declared.iso8601.config.DateKind.TheVariants as kind
 use Rattle.time_known.proofs.AcceptedLemmas.{usual_accepted, usual_refused}
 use Rattle.movaliren_c.proofs.iso8601.separated_text.Goals as goal
 
@@ -10,9 +12,9 @@ returns-in-Ok-clause-text c =
     let v = c.args.value.now in
     let u = c.args.usual.now in
     let choices = usual_choices true u.decimal_digits u.decimal_sign in
-    usual_accepted choices true u.decimal_digits u.decimal_sign (date_facts v.date) v.time v.offset [] refl
+    usual_accepted choices kind.Calendar true u.decimal_digits u.decimal_sign (date_facts v.date) v.time v.offset [] refl
     (c.in-Ok.ensures.accepted [])
-    ∙ ap (λ f. done (usual_of_fields choices u.decimal_digits f)) (sym c.in-Ok.ensures.fields)
+    ∙ ap (λ (s : Shown). done (usual_text choices u.decimal_digits s.date s.time s.offset)) (sym c.in-Ok.ensures.fields)
 
 pub returns-in-Err-clause-refused : goal.returns-in-Err-clause-refused
 returns-in-Err-clause-refused c =

@@ -1,9 +1,9 @@
-use Rattle.std.proofs.Common.{◌≡◌, ◌+◌, [], arith, rules, unsigned_abs}
-use Rattle.std.proofs.lemmas.Grind.{common_steps}
+use Rattle.std.proofs.Common.{◌≡◌, [], rules, unsigned_abs}
 use Rattle.time_fmt.specs.Outcome.{done}
 use Rattle.time_known.specs.Accepted.{checked_text}
 use Rattle.time_known.specs.Values.{the_date, the_time, the_offset}
-use Rattle.time_known.proofs.AcceptedLemmas.{week_accepted}
+use Rattle.time_known.specs.declared.iso8601.config.DateKind.TheVariants as kind
+use Rattle.time_known.proofs.AcceptedLemmas.{usual_accepted}
 use Rattle.time_known.proofs.iso8601.usual_text.write_usual_week.Goals as goal
 
 pub returns-in-Ok-clause-appends : goal.returns-in-Ok-clause-appends
@@ -12,21 +12,20 @@ returns-in-Ok-clause-appends g c =
     let d = the_date f in
     let u = c.args.usual.now in
     let o = the_offset f in
-    let fields = c.offset_of-offset.ensures.fields in
+    let fields = c.offset_of-offset.ensures.offset in
     let accepted : checked_text 0 25 d.iso_year (unsigned_abs o.hours) (unsigned_abs o.seconds) [] ≡ done [] =
     first_of (cc (c.in-Ok.ensures.accepted []), search (rules, c.in-Ok.ensures.accepted [])) in
     let year : c.in-Ok.year ≡ unsigned_abs d.iso_year =
     first_of (cc (c.in-Ok.ensures.year), search (rules, c.in-Ok.ensures.year)) in
-    let weekday : c.within.result ≡ d.weekday + 1 = grind (arith, common_steps) in
     rw (
-      week_accepted c.args.config.now u.has_separators u.decimal_digits u.decimal_sign d (the_time f) (the_offset f) []
+      usual_accepted c.args.config.now kind.Week u.has_separators u.decimal_digits u.decimal_sign d (the_time f) (the_offset f) []
           c.requires.usual accepted,
       c.requires.usual,
     )
     (rw (
       year,
       c.iso_week_number.ensures.value,
-      weekday,
+      c.weekday.ensures.value,
       c.time_of.ensures.time,
       fields,
     ) at c.append.ensures.appends)

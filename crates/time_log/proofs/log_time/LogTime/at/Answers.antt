@@ -1,6 +1,7 @@
 use Rattle.std.proofs.Common.{◌≡◌, pos, ◌+ℤ◌, to_z, of_z, w64, arith}
 use Rattle.std.proofs.lemmas.Int.{ints}
 use Rattle.time_below.specs.Offset.{offset_seconds}
+use Rattle.time_known.proofs.WidthLemmas.{length-zone}
 use Rattle.time_log.proofs.BeginLemmas.{begin_text, begin_year}
 use Rattle.time_log.proofs.log_time.LogTime.at.Goals as goal
 
@@ -10,8 +11,8 @@ invariant_of-result c =
     let midnight : second +ℤ offset_seconds c.args.offset ≡ pos 0 = omega (arith, ints, c.midnight_of_1970.ensures) in
     record {
       offset = c.requires;
-      fields = c.fields_of.ensures.fields;
-      zone = c.fields_of.ensures.length;
+      fields = c.of.ensures.same;
+      zone = length-zone c.args.offset c.of.ensures.real;
       length = omega (arith, c.digits.ensures, c.zone_len.ensures);
       year = begin_year second c.args.offset midnight;
       head = begin_text second c.args.offset midnight;
