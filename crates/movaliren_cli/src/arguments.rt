@@ -1,5 +1,6 @@
 //! What the words of the command line ask for.
-use clap::{Arg, ArgAction, ArgMatches, Command, Error, value_parser};
+use clap::builder::ValueParser;
+use clap::{Arg, ArgAction, ArgMatches, Command, Error};
 use std::alloc::{AllocError, Global};
 use time_lines::Unit;
 
@@ -59,153 +60,176 @@ Descriptions:
   a text with [  '[year]-[month]-[day] [hour]:[minute]'";
 
 /// What follows the name of an option.
-#[derive(Clone, Copy)]
-enum Takes {
-    /// Nothing: it is given or not.
-    Nothing,
-    /// A text, which has this name in the help, and may begin with a hyphen where it may have a sign.
-    Text { name: &'static str, is_signed: bool },
-    /// The number of digits of a number.
-    Digits,
+struct Takes {
+    action: ArgAction,
+    /// The name of the text in the help, if one follows.
+    names: &'static [&'static str],
+    /// The text may begin with a hyphen, since it may have a sign.
+    is_signed: bool,
+    parser: ValueParser<'static>,
 }
+
+/// Nothing: it is given or not.
+const NOTHING: Takes = Takes {
+    action: ArgAction::SetTrue,
+    names: &[],
+    is_signed: false,
+    parser: ValueParser::Bool,
+};
+
+const OFFSET_TEXT: Takes = Takes {
+    action: ArgAction::Set,
+    names: &["OFFSET"],
+    is_signed: true,
+    parser: ValueParser::String,
+};
+
+const NAME_TEXT: Takes = Takes {
+    action: ArgAction::Set,
+    names: &["NAME"],
+    is_signed: false,
+    parser: ValueParser::String,
+};
+
+/// The number of digits of a number.
+const DIGIT_COUNT: Takes = Takes {
+    action: ArgAction::Set,
+    names: &["N"],
+    is_signed: false,
+    parser: ValueParser::Signed(1, 19),
+};
 
 /// An option of the command line.
 struct OptionRow {
     name: &'static str,
     letter: Option<char>,
-    /// The name of the options of which at most one is given, if it is one of those.
-    choice: Option<&'static str>,
+    /// The group of which at most one option is given, if it is in one.
+    groups: &'static [&'static str],
     takes: Takes,
     help: &'static str,
-    /// The names of the jobs that have it.
-    jobs: &'static [&'static str],
 }
 
-/// The names of all jobs.
-const ALL: &[&str] = &["now", "unix", "read"];
+const UTC: OptionRow = OptionRow {
+    name: "utc",
+    letter: Some('u'),
+    groups: &["clock"],
+    takes: NOTHING,
+    help: "Shows UTC, which is the default",
+};
 
-/// The job whose lines have numbers.
-const WITH_NUMBERS: &[&str] = &["unix"];
+const OFFSET: OptionRow = OptionRow {
+    name: "offset",
+    letter: None,
+    groups: &["clock"],
+    takes: OFFSET_TEXT,
+    help: "Shows the time at an offset such as +05:30",
+};
 
-/// The jobs in which a line may pass as it is.
-const WITH_PASSED: &[&str] = &["unix", "read"];
+const ZONE: OptionRow = OptionRow {
+    name: "zone",
+    letter: Some('z'),
+    groups: &["clock"],
+    takes: NAME_TEXT,
+    help: "Shows the time in a zone such as Europe/Berlin",
+};
 
-const OPTIONS: &[OptionRow] = &[
-    OptionRow {
-        name: "utc",
-        letter: Some('u'),
-        choice: Some("clock"),
-        takes: Takes::Nothing,
-        help: "Shows UTC, which is the default",
-        jobs: ALL,
-    },
-    OptionRow {
-        name: "offset",
-        letter: None,
-        choice: Some("clock"),
-        takes: Takes::Text {
-            name: "OFFSET",
-            is_signed: true,
-        },
-        help: "Shows the time at an offset such as +05:30",
-        jobs: ALL,
-    },
-    OptionRow {
-        name: "zone",
-        letter: Some('z'),
-        choice: Some("clock"),
-        takes: Takes::Text {
-            name: "NAME",
-            is_signed: false,
-        },
-        help: "Shows the time in a zone such as Europe/Berlin",
-        jobs: ALL,
-    },
-    OptionRow {
-        name: "local",
-        letter: Some('l'),
-        choice: Some("clock"),
-        takes: Takes::Nothing,
-        help: "Shows the time in the zone of the system, or of the variable TZ",
-        jobs: ALL,
-    },
-    OptionRow {
-        name: "digits",
-        letter: Some('d'),
-        choice: None,
-        takes: Takes::Digits,
-        help: "How many digits a number has at least [default: 9]",
-        jobs: WITH_NUMBERS,
-    },
-    OptionRow {
-        name: "milliseconds",
-        letter: None,
-        choice: Some("unit"),
-        takes: Takes::Nothing,
-        help: "Numbers are milliseconds, and not seconds",
-        jobs: WITH_NUMBERS,
-    },
-    OptionRow {
-        name: "microseconds",
-        letter: None,
-        choice: Some("unit"),
-        takes: Takes::Nothing,
-        help: "Numbers are microseconds",
-        jobs: WITH_NUMBERS,
-    },
-    OptionRow {
-        name: "nanoseconds",
-        letter: None,
-        choice: Some("unit"),
-        takes: Takes::Nothing,
-        help: "Numbers are nanoseconds",
-        jobs: WITH_NUMBERS,
-    },
-    OptionRow {
-        name: "quiet",
-        letter: Some('q'),
-        choice: None,
-        takes: Takes::Nothing,
-        help: "Does not print how many lines passed as they were",
-        jobs: WITH_PASSED,
-    },
-];
+const LOCAL: OptionRow = OptionRow {
+    name: "local",
+    letter: Some('l'),
+    groups: &["clock"],
+    takes: NOTHING,
+    help: "Shows the time in the zone of the system, or of the variable TZ",
+};
 
-/// The jobs and what they do.
-const JOBS: &[(&str, &str)] = &[
-    ("now", "Puts the time at which it was read before each line"),
-    (
-        "unix",
-        "Replaces the first Unix time of each line, a number of at least nine digits, by its text",
-    ),
-    (
-        "read",
-        "Replaces the first text of RFC 3339 of each line, such as 2023-11-14T22:13:20Z",
-    ),
-];
+const DIGITS: OptionRow = OptionRow {
+    name: "digits",
+    letter: Some('d'),
+    groups: &[],
+    takes: DIGIT_COUNT,
+    help: "How many digits a number has at least [default: 9]",
+};
 
-/// The option, and what follows its name.
-fn with_value<'a>(option: Arg<'a>, takes: Takes) -> Arg<'a> {
-    match takes {
-        Takes::Nothing => option.action(ArgAction::SetTrue),
-        Takes::Text { name, is_signed } => option.value_name(name).allow_hyphen_values(is_signed),
-        Takes::Digits => option
-            .value_name("N")
-            .value_parser(value_parser!(u8).range(1..20)),
-    }
+const MILLISECONDS: OptionRow = OptionRow {
+    name: "milliseconds",
+    letter: None,
+    groups: &["unit"],
+    takes: NOTHING,
+    help: "Numbers are milliseconds, and not seconds",
+};
+
+const MICROSECONDS: OptionRow = OptionRow {
+    name: "microseconds",
+    letter: None,
+    groups: &["unit"],
+    takes: NOTHING,
+    help: "Numbers are microseconds",
+};
+
+const NANOSECONDS: OptionRow = OptionRow {
+    name: "nanoseconds",
+    letter: None,
+    groups: &["unit"],
+    takes: NOTHING,
+    help: "Numbers are nanoseconds",
+};
+
+const QUIET: OptionRow = OptionRow {
+    name: "quiet",
+    letter: Some('q'),
+    groups: &[],
+    takes: NOTHING,
+    help: "Does not print how many lines passed as they were",
+};
+
+/// A job, what it does, and its options.
+struct JobRow {
+    name: &'static str,
+    about: &'static str,
+    options: &'static [&'static OptionRow],
 }
+
+const JOBS: &[JobRow] = &[
+    JobRow {
+        name: "now",
+        about: "Puts the time at which it was read before each line",
+        options: &[&UTC, &OFFSET, &ZONE, &LOCAL],
+    },
+    JobRow {
+        name: "unix",
+        about: "Replaces the first Unix time of each line, a number of at least nine digits, by its text",
+        options: &[
+            &UTC,
+            &OFFSET,
+            &ZONE,
+            &LOCAL,
+            &DIGITS,
+            &MILLISECONDS,
+            &MICROSECONDS,
+            &NANOSECONDS,
+            &QUIET,
+        ],
+    },
+    JobRow {
+        name: "read",
+        about: "Replaces the first text of RFC 3339 of each line, such as 2023-11-14T22:13:20Z",
+        options: &[&UTC, &OFFSET, &ZONE, &LOCAL, &QUIET],
+    },
+];
 
 /// The option of a row.
 fn option<'a>(alloc: Global, row: &OptionRow) -> Result<Arg<'a>, AllocError> {
-    let option = with_value(Arg::new(alloc, row.name).help(row.help), row.takes).long(row.name);
+    let option = Arg::new(alloc, row.name)
+        .help(row.help)
+        .long(row.name)
+        .action(row.takes.action)
+        .value_names(row.takes.names)
+        .allow_hyphen_values(row.takes.is_signed)
+        .value_parser(row.takes.parser);
     let option = match row.letter {
         Some(letter) => option.short(letter),
         None => option,
     };
-    match row.choice {
-        Some(choice) => option.group(choice),
-        None => Ok(option),
-    }
+    option.groups(row.groups)
 }
 
 /// The description, which needs no name.
@@ -216,19 +240,13 @@ fn description<'a>(alloc: Global) -> Arg<'a> {
 }
 
 /// The command of a job, with its options.
-fn subcommand<'a>(
-    alloc: Global,
-    name: &'static str,
-    about: &'static str,
-) -> Result<Command<'a>, AllocError> {
-    let mut command = Command::new(alloc, name)
-        .about(about)
+fn subcommand<'a>(alloc: Global, job: &JobRow) -> Result<Command<'a>, AllocError> {
+    let mut command = Command::new(alloc, job.name)
+        .about(job.about)
         .after_help(DESCRIPTIONS)
         .arg(description(alloc))?;
-    for row in OPTIONS {
-        if row.jobs.contains(&name) {
-            command = command.arg(option(alloc, row)?)?;
-        }
+    for row in job.options {
+        command = command.arg(option(alloc, row)?)?;
     }
     Ok(command)
 }
@@ -239,8 +257,8 @@ fn command<'a>(alloc: Global) -> Result<Command<'a>, AllocError> {
         .about("Formats the moments of the lines of standard input")
         .subcommand_required(true)
         .arg_required_else_help(true);
-    for (name, about) in JOBS {
-        command = command.subcommand(subcommand(alloc, name, about)?)?;
+    for job in JOBS {
+        command = command.subcommand(subcommand(alloc, job)?)?;
     }
     Ok(command)
 }

@@ -1,4 +1,7 @@
 //! Descriptions of the command line.
+ghost use Rattle.std.specs.Prelude.{IfErr};
+ghost use Rattle.movaliren_cli.specs.Refusal.{IsRefusalOf};
+
 use std::alloc::Global;
 use time_below::format_description::OwnedFormatItem;
 use time_describe::{InvalidDescription, InvalidStrftime, parse_owned, parse_strftime_owned};
@@ -45,7 +48,9 @@ pub enum Refusal {
 
 /// The description of a text: with a percent sign it is in the syntax of strftime, else with a bracket in
 /// that of brackets. Any other text is refused as a name.
-fn item_of(alloc: Global, text: &str) -> Result<OwnedFormatItem, Refusal> {
+fn item_of(alloc: Global, text: &str) -> Result<OwnedFormatItem, Refusal>
+    ensures { IfErr result (IsRefusalOf text.now) }
+{
     let bytes = text.as_bytes();
     if bytes.contains(&b'%') {
         match parse_strftime_owned(alloc, bytes) {
@@ -63,7 +68,9 @@ fn item_of(alloc: Global, text: &str) -> Result<OwnedFormatItem, Refusal> {
 }
 
 /// The plan of a text.
-pub fn plan_of(alloc: Global, text: &str) -> Result<Plan, Refusal> {
+pub fn plan_of(alloc: Global, text: &str) -> Result<Plan, Refusal>
+    ensures { IfErr result (IsRefusalOf text.now) }
+{
     match item_of(alloc, text) {
         Ok(item) => match Plan::of(alloc, &item) {
             Ok(plan) => Ok(plan),

@@ -112,6 +112,16 @@ impl<'a> ZoneClock<'a> {
             offset: offset_of(zone, asked),
         }
     }
+
+    /// Asks the zone at this second. This is a call, so that a line without a change has no memory for the answer.
+    #[cold]
+    #[inline(never)]
+    fn ask(&mut self, second: i64)
+        ensures zone { self.new.zone ≡ self.old.zone }
+        ensures asked { IsNearest second self.new.asked }
+    {
+        *self = ZoneClock::at(self.zone, second);
+    }
 }
 
 impl Place for ZoneClock<'_> {
@@ -123,7 +133,7 @@ impl Place for ZoneClock<'_> {
         if self.first <= second && second <= self.last {
             return self.offset;
         }
-        *self = ZoneClock::at(self.zone, second);
+        self.ask(second);
         self.offset
     }
 }

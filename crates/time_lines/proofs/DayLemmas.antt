@@ -22,7 +22,7 @@ use Rattle.time_known.specs.WellKnown.{clock_text, is_outside, offset_text}
 use Rattle.time_known.proofs.LawLemmas.{accepted_is_done, IsAccepted}
 use Rattle.time_known.proofs.OutcomeLemmas.{completed_by_bytes, same_bytes, test_is_passed, year_is_within}
 use Rattle.time_known.specs.Laws.{IsValue}
-use Rattle.time_lines.specs.Day.{IsDayText, day_text}
+use Rattle.time_lines.specs.Day.{BeginsWithDay, IsDayText, day_text}
 use Rattle.time_lines.specs.Shown.{AppendsShown, ShowsAt, bytes_of, text_of}
 
 -- the day that is kept at first
@@ -134,12 +134,6 @@ written o e = completed_by_bytes o (at o.bytes o.refusal e) where
   at : (bytes : List ℕ) (r : Option Refusal) → true ≡ is_some (text_of (record { bytes = bytes; refusal = r })) → r ≡ None
   at bytes None e = refl
   at bytes (Some r) e = absurd (let never : true ≡ false = e in cc)
-
--- a text that begins with that of a day
-pub record BeginsWithDay (d : OrdinalDate) (text : List ℕ) : Type 0 where
-  pub year : is_outside 0 9_999 d.year ≡ false
-  pub front : take 11 text ≡ day_text d
-  pub long : 11 ≤ length text
 
 -- what was written begins with the text of its day
 day_of_written : (v : OffsetDateAndTime) (old new : List ℕ) (has_text : Bool) → IsDate v.date → has_text ≡ true

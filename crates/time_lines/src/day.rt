@@ -1,12 +1,12 @@
 //! Texts of RFC 3339 at the clock of a place, by the text of a day that is kept.
-ghost use Rattle.std.specs.Prelude.{◌≡◌, ◌+◌, ◌<◌, ◌≤◌, ◌++◌, ◌-ℤ◌, ◌≤ℤ◌, ◌<ℤ◌, ℕ, List, Option, IfOk, IsTrue, codes, true, false, length, pos, take, unsigned_abs};
+ghost use Rattle.std.specs.Prelude.{◌≡◌, ◌+◌, ◌<◌, ◌≤◌, ◌++◌, ◌-ℤ◌, ◌≤ℤ◌, ◌<ℤ◌, ℕ, List, Option, IfOk, IsTrue, codes, true, false, length, pos, unsigned_abs};
 ghost use Rattle.time_below.specs.Moment.{IsMoment, IsNearTimestampSecond, IsTimestampSecond, moved, utc_date};
 ghost use Rattle.time_below.specs.Offset.{IsOffset, Offset};
 ghost use Rattle.time_below.specs.TimeOfDay.{time_at};
 ghost use Rattle.time_fmt.specs.Room.{HasRoom, Writes};
 ghost use Rattle.time_known.specs.Rfc3339.{rfc3339_outcome, time_secfrac_text};
-ghost use Rattle.time_known.specs.WellKnown.{clock_text, is_outside, offset_text};
-ghost use Rattle.time_lines.specs.Day.{IsDayText, day_text};
+ghost use Rattle.time_known.specs.WellKnown.{clock_text, offset_text};
+ghost use Rattle.time_lines.specs.Day.{BeginsWithDay, IsDayText};
 ghost use Rattle.time_lines.specs.Shown.{AppendsShown, ShowsAt};
 
 use crate::shown::{Place, Shown, append_text};
@@ -120,9 +120,7 @@ impl DayText {
     /// The day of this second, by a text of RFC 3339 of a moment of that day.
     fn of(second: i64, text: &[u8]) -> DayText
         requires range { IsTimestampSecond second }
-        requires year { is_outside 0 9_999 (utc_date second).year ≡ false }
-        requires long { 11 ≤ length text.now }
-        requires text { take 11 text.now ≡ day_text (utc_date second) }
+        requires begins { BeginsWithDay (utc_date second) text.now }
     {
         let mut day = [0u8; LENGTH];
         day.copy_from_slice(&text[..LENGTH]);

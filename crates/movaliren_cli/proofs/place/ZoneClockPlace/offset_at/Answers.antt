@@ -8,16 +8,16 @@ returns-clause-same c = λ m o.
     subst
     (λ z. (HasOffset c.args.self.now.zone m.seconds o → HasOffset z m.seconds o)
     × (HasOffset z m.seconds o → HasOffset c.args.self.now.zone m.seconds o))
-    (sym c.at.ensures.zone) (λ h. h, λ h. h)
+    (sym c.ask.ensures.zone) (λ h. h, λ h. h)
 
 pub returns-clause-offset : goal.returns-clause-offset
 returns-clause-offset c =
-    let r = c.at.result in
+    let r = c.ask.new.self in
     let second : to_z w64 (of_z w64 c.as_seconds-second.result) ≡ c.args.moment.now.seconds =
     to_z-of_z w64 c.as_seconds-second.result (record { sfits = c.as_seconds-second.type_inv }) ∙ c.as_seconds-second.ensures.value in (
       r.asked,
       r.first,
       r.last,
-      subst (λ z. IsSpan z r.asked r.first r.last r.offset) c.at.ensures.zone r.span,
-      inr (subst (λ s. IsNearest s r.asked) second c.at.ensures.asked),
+      subst (λ z. IsSpan z r.asked r.first r.last r.offset) c.ask.ensures.zone r.span,
+      inr (subst (λ s. IsNearest s r.asked) second c.ask.ensures.asked),
     )

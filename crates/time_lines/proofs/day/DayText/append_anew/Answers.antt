@@ -2,7 +2,8 @@ use Rattle.std.proofs.Common.{◌≡◌, ◌-◌, true, false, refl, ap, sym, su
 use Rattle.std.proofs.lemmas.Int.{to_z-of_z}
 use Rattle.time_below.specs.Moment.{IsTimestampSecond, moved, utc_date}
 use Rattle.time_known.specs.Rfc3339.{rfc3339_outcome}
-use Rattle.time_lines.proofs.DayLemmas.{BeginsWithDay, day_of_moment}
+use Rattle.time_lines.proofs.DayLemmas.{day_of_moment}
+use Rattle.time_lines.specs.Day.{BeginsWithDay}
 use Rattle.time_lines.proofs.ShownLemmas.{none_shown, shown_local}
 use Rattle.time_lines.proofs.day.DayText.append_anew.Goals as goal
 use Rattle.time_lines.proofs.day.DayText.append_anew.Goals.{After-of-arg-1}
@@ -27,14 +28,8 @@ of-requires-clause-range c =
     let range : IsTimestampSecond (moved c.args.moment.now c.args.offset).seconds = c.in-Some.ensures.accepted.0 refl in
     subst IsTimestampSecond (second_is c) range
 
-pub of-requires-clause-year : goal.of-requires-clause-year
-of-requires-clause-year c = (begins c).year
-
-pub of-requires-clause-long : goal.of-requires-clause-long
-of-requires-clause-long c = (begins c).long
-
-pub of-requires-clause-text : goal.of-requires-clause-text
-of-requires-clause-text c = (begins c).front
+pub of-requires-clause-begins : goal.of-requires-clause-begins
+of-requires-clause-begins c = begins c
 
 pub returns-then-has_text : goal.returns-then-has_text
 returns-then-has_text c =

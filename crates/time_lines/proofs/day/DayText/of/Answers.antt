@@ -15,6 +15,6 @@ invariant_of-result c =
     let midnight = to_z w64 (of_z w64 (to_z w64 (of_z w64 s) -ℤ to_z w64 (of_z w64 c.rem_euclid.result))) in
     let start : midnight ≡ s -ℤ pos (k % 86_400) = omega (arith, ints, c.requires.range, rest) in
     record {
-      kept = day_kept s midnight k c.args.text.now c.copy_from_slice.new.self c.requires.range there start
-          (record { year = c.requires.year; front = c.requires.text; long = c.requires.long }) c.copy_from_slice.ensures.after;
+      kept = day_kept s midnight k c.args.text.now c.copy_from_slice.new.self c.requires.range there start c.requires.begins
+          c.copy_from_slice.ensures.after;
     }
