@@ -1,9 +1,9 @@
 -- An offset is its sign and the sizes of its parts.
-use Rattle.std.proofs.Common.{◌≡◌, ℕ, ◌||◌, Bool, ℤ, pos, negsuc, zero, suc, true, false, refl, arith, unsigned_abs}
+use Rattle.std.proofs.Common.{◌≡◌, ℕ, ◌||◌, Bool, ℤ, pos, negsuc, zero, suc, true, false, refl, sym, ap, ◌∙◌, arith, unsigned_abs}
 use Rattle.std.proofs.lemmas.Bool.Decides.{nat_tests}
 use Rattle.std.proofs.lemmas.Int.{ints}
 use Rattle.std.specs.Prelude.{◌≤ℤ◌, int_lt}
-use Rattle.time_below.specs.Offset.{HasNoOtherSign, IsOffset, Offset, is_negative, signed}
+use Rattle.time_below.specs.Offset.{HasNoOtherSign, IsOffset, Offset, is_negative, is_utc, signed}
 use Rattle.time_known.specs.WellKnown.{offset_by}
 
 -- a part that is not above zero is its size below zero
@@ -30,3 +30,12 @@ pub fields_are : (o : Offset) (is_below_zero : Bool) (hours minutes seconds : �
     → offset_by is_below_zero hours minutes seconds ≡ o
 fields_are o is_below_zero hours minutes seconds real negative h m s =
     rw (negative, h, m, s) (by_sizes o.hours o.minutes o.seconds real.1 real.2 real.3)
+
+-- the tests of its parts are those of the offset
+pub tests_are : (o : Offset) (hours minutes seconds : ℕ) (is_zero is_below_zero : Bool) → IsOffset o
+    → hours ≡ unsigned_abs o.hours → minutes ≡ unsigned_abs o.minutes → seconds ≡ unsigned_abs o.seconds
+    → is_zero ≡ is_utc o → is_below_zero ≡ is_negative o
+    → let p = offset_by is_below_zero hours minutes seconds in (is_zero ≡ is_utc p) × (is_below_zero ≡ is_negative p)
+tests_are o hours minutes seconds is_zero is_below_zero real h m s none below_it =
+    let same = fields_are o is_below_zero hours minutes seconds real below_it h m s in
+    (none ∙ ap is_utc (sym same), below_it ∙ ap is_negative (sym same))

@@ -68,8 +68,8 @@ impl OffsetFields {
     {
         let (hours, minutes, seconds) = offset.as_hms();
         OffsetFields {
-            is_zero: offset.is_utc(),
-            is_below_zero: offset.is_negative(),
+            is_zero: (hours == 0) & (minutes == 0) & (seconds == 0),
+            is_below_zero: (hours < 0) | (minutes < 0) | (seconds < 0),
             hours: ru8::within(hours.unsigned_abs()),
             minutes: ru8::within(minutes.unsigned_abs()),
             seconds: ru8::within(seconds.unsigned_abs()),
@@ -78,16 +78,16 @@ impl OffsetFields {
 
     /// Whether all parts are zero.
     #[inline(always)]
-    pub fn is_utc(self) -> bool
-        ensures { result ≡ is_utc self }
+    pub fn is_utc(&self) -> bool
+        ensures { result ≡ is_utc self.now }
     {
         self.is_zero
     }
 
     // Whether some part is below zero.
     #[inline(always)]
-    pub(crate) fn is_negative(self) -> bool
-        ensures { result ≡ is_negative self }
+    pub(crate) fn is_negative(&self) -> bool
+        ensures { result ≡ is_negative self.now }
     {
         self.is_below_zero
     }
@@ -95,8 +95,8 @@ impl OffsetFields {
     // The size of the hours.
     #[inline(always)]
     #[tactic(auto, using(time_below::proofs::OffsetLemmas::abs_signed))]
-    pub(crate) fn hours(self) -> ru8<0, 25>
-        ensures { result ≡ unsigned_abs self.hours }
+    pub(crate) fn hours(&self) -> ru8<0, 25>
+        ensures { result ≡ unsigned_abs self.now.hours }
     {
         self.hours
     }
@@ -104,8 +104,8 @@ impl OffsetFields {
     // The size of the minutes.
     #[inline(always)]
     #[tactic(auto, using(time_below::proofs::OffsetLemmas::abs_signed))]
-    pub(crate) fn minutes(self) -> ru8<0, 59>
-        ensures { result ≡ unsigned_abs self.minutes }
+    pub(crate) fn minutes(&self) -> ru8<0, 59>
+        ensures { result ≡ unsigned_abs self.now.minutes }
     {
         self.minutes
     }
@@ -113,8 +113,8 @@ impl OffsetFields {
     // The size of the seconds.
     #[inline(always)]
     #[tactic(auto, using(time_below::proofs::OffsetLemmas::abs_signed))]
-    pub(crate) fn seconds(self) -> ru8<0, 59>
-        ensures { result ≡ unsigned_abs self.seconds }
+    pub(crate) fn seconds(&self) -> ru8<0, 59>
+        ensures { result ≡ unsigned_abs self.now.seconds }
     {
         self.seconds
     }

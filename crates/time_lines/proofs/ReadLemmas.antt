@@ -22,7 +22,7 @@ use Rattle.time_read.proofs.Tails.{AreDecimals, decimals_of}
 use Rattle.time_read.proofs.PartLemmas.{reads_full_date}
 use Rattle.time_lines.specs.Number.{digit_count}
 use Rattle.std.proofs.Common.{Option, Some, None}
-use Rattle.std.specs.Prelude.{Result, Ok, Err, OnOk, IfSome, IfNone}
+use Rattle.std.specs.Prelude.{Result, OnOk, IfSome, IfNone}
 use Rattle.line_streams.specs.Filter.{Adds}
 use Rattle.time_below.specs.Moment.{Moment, IsMoment}
 use Rattle.time_lines.specs.Read.{NoText, NoTextBefore, moment_of_value, offset_length, tail_length, text_length}
