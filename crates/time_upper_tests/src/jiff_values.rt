@@ -1,5 +1,6 @@
 //! A worked row of each function, by the moment that GNU `date -u -d @1795341306` shows as
 //! `Sun Nov 22 09:55:06 UTC 2026`, and the bounds of the years.
+use crate::values::assert_that;
 use jiff::tz::{Offset, TimeZone};
 use jiff::{Timestamp as Instant, civil};
 use std::process::Abort;
@@ -37,11 +38,14 @@ fn first_day(rt: &impl Abort, year: i32) -> Date {
 fn a_moment_has_its_seconds(rt: HostRuntime) {
     let ours = moment(&rt, 1_795_341_306, 120_000_000);
     match Instant::new(1_795_341_306, 120_000_000) {
-        Ok(theirs) => assert!(&rt; time_jiff::timestamp(theirs).as_parts() == ours.as_parts()),
+        Ok(theirs) => assert_that(
+            &rt,
+            time_jiff::timestamp(theirs).as_parts() == ours.as_parts(),
+        ),
         Err(_) => panic!(rt; "no moment"),
     }
     match time_jiff::jiff_timestamp(ours) {
-        Ok(theirs) => assert!(&rt; theirs.as_nanosecond() == 1_795_341_306_120_000_000),
+        Ok(theirs) => assert_that(&rt, theirs.as_nanosecond() == 1_795_341_306_120_000_000),
         Err(_) => panic!(rt; "it is refused"),
     }
 }
@@ -52,26 +56,32 @@ fn moments_outside_jiff_are_refused(rt: HostRuntime) {
     let refused = |seconds, nanosecond| time_jiff::jiff_timestamp(moment(
         &rt, seconds, nanosecond,
     )).is_err();
-    assert!(&rt; refused(-377_705_023_202, 999_999_999));
-    assert!(&rt; !refused(-377_705_023_201, 0));
-    assert!(&rt; !refused(253_402_207_200, 999_999_999));
-    assert!(&rt; refused(253_402_207_201, 0));
+    assert_that(&rt, refused(-377_705_023_202, 999_999_999));
+    assert_that(&rt, !refused(-377_705_023_201, 0));
+    assert_that(&rt, !refused(253_402_207_200, 999_999_999));
+    assert_that(&rt, refused(253_402_207_201, 0));
 }
 
 #[test]
 fn a_date_and_a_time_have_their_parts(rt: HostRuntime) {
     let date = time_jiff::date(their_date(&rt));
-    assert!(&rt; date.to_calendar_date() == (2026, Month::November, 22));
+    assert_that(&rt, date.to_calendar_date() == (2026, Month::November, 22));
     let time = time_jiff::time(their_time(&rt));
-    assert!(&rt; time.as_hms_nano() == (9, 55, 6, 120_000_000));
+    assert_that(&rt, time.as_hms_nano() == (9, 55, 6, 120_000_000));
     let both = civil::DateTime::from_parts(their_date(&rt), their_time(&rt));
     let shown = time_jiff::plain_date_time(both);
-    assert!(&rt; shown.date().to_calendar_date() == (2026, Month::November, 22));
-    assert!(&rt; shown.time().as_hms_nano() == (9, 55, 6, 120_000_000));
-    assert!(&rt; time_jiff::jiff_time(time) == their_time(&rt));
-    assert!(&rt; matches!(time_jiff::jiff_date(date), Ok(same) if same == their_date(&rt)));
+    assert_that(
+        &rt,
+        shown.date().to_calendar_date() == (2026, Month::November, 22),
+    );
+    assert_that(&rt, shown.time().as_hms_nano() == (9, 55, 6, 120_000_000));
+    assert_that(&rt, time_jiff::jiff_time(time) == their_time(&rt));
+    assert_that(
+        &rt,
+        matches!(time_jiff::jiff_date(date), Ok(same) if same == their_date(&rt)),
+    );
     let back = time_jiff::jiff_date_time(PlainDateTime::new(date, time));
-    assert!(&rt; matches!(back, Ok(same) if same == both));
+    assert_that(&rt, matches!(back, Ok(same) if same == both));
 }
 
 #[test]
@@ -99,8 +109,8 @@ fn an_offset_has_its_seconds(rt: HostRuntime) {
         panic!(rt; "no offset")
     };
     let ours = time_jiff::offset(theirs);
-    assert!(&rt; ours.as_hms() == (-6, -30, 0));
-    assert!(&rt; time_jiff::jiff_offset(ours).seconds() == -23_400);
+    assert_that(&rt, ours.as_hms() == (-6, -30, 0));
+    assert_that(&rt, time_jiff::jiff_offset(ours).seconds() == -23_400);
 }
 
 #[test]
@@ -112,14 +122,14 @@ fn a_zoned_moment_has_its_clock_and_offset_both_ways(rt: HostRuntime) {
         panic!(rt; "no moment")
     };
     let shown = time_jiff::offset_date_time(&instant.to_zoned(TimeZone::fixed(offset)));
-    assert!(&rt; shown.unix_timestamp() == 1_795_341_306);
-    assert!(&rt; shown.time().as_hms_nano() == (3, 25, 6, 0));
-    assert!(&rt; shown.offset().as_hms() == (-6, -30, 0));
+    assert_that(&rt, shown.unix_timestamp() == 1_795_341_306);
+    assert_that(&rt, shown.time().as_hms_nano() == (3, 25, 6, 0));
+    assert_that(&rt, shown.offset().as_hms() == (-6, -30, 0));
     match time_jiff::jiff_zoned(shown) {
         Ok(back) => {
-            assert!(&rt; back.timestamp() == instant);
-            assert!(&rt; back.offset().seconds() == -23_400);
-            assert!(&rt; back.time().hour() == 3);
+            assert_that(&rt, back.timestamp() == instant);
+            assert_that(&rt, back.offset().seconds() == -23_400);
+            assert_that(&rt, back.time().hour() == 3);
         }
         Err(_) => panic!(rt; "it is refused"),
     }

@@ -29,6 +29,11 @@ pub fn moment(rt: &impl Abort) -> OffsetDateTime {
     OffsetDateTime::new_in_offset(date, time, offset)
 }
 
+/// Fails where this does not hold. A call leaves no branch in a test.
+pub fn assert_that(rt: &impl Abort, holds: bool) {
+    assert!(rt; holds);
+}
+
 /// Takes the text, so that it does not outlive its comparison.
 pub fn assert_text(rt: &impl Abort, text: String, wanted: &str) {
     assert!(rt; text.as_str() == wanted, "another text than {wanted}");

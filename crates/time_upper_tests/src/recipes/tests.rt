@@ -3,7 +3,6 @@ use super::{append_clock_of, append_instant, append_zoned};
 use jiff::Timestamp;
 use jiff::tz::TimeZone;
 use std::process::Abort;
-use std::test::Fail;
 
 /// The seconds since 1970 on both sides of each change of clocks in 2026, and what Berlin shows then.
 const CHANGES: &[(i64, &str)] = &[
@@ -27,34 +26,34 @@ fn instant(rt: &impl Abort, seconds: i64) -> Timestamp {
     }
 }
 
+/// Compares a line to which a text was appended, if it was.
+fn assert_line(rt: &impl Abort, has_text: bool, line: &[u8], wanted: &str) {
+    assert!(rt; has_text);
+    assert!(rt; line == wanted.as_bytes(), "another text than {wanted}");
+}
+
 #[test]
-fn a_zoned_moment_has_the_offset_of_its_zone(rt: HostRuntime) -> Result<(), Fail> {
+fn a_zoned_moment_has_the_offset_of_its_zone(rt: HostRuntime) {
     let mut line = Vec::new(rt.alloc());
     for (seconds, text) in CHANGES {
         line.clear();
         let zoned = instant(&rt, *seconds).to_zoned(berlin(&rt));
-        append_zoned(&mut line, &zoned)?;
-        assert!(&rt;
-            line.as_slice() == text.as_bytes(),
-            "another text than {text}"
-        );
+        let has_text = append_zoned(&mut line, &zoned).is_ok();
+        assert_line(&rt, has_text, line.as_slice(), text);
     }
-    Ok(())
 }
 
 #[test]
-fn a_moment_has_its_stamp_in_utc(rt: HostRuntime) -> Result<(), Fail> {
+fn a_moment_has_its_stamp_in_utc(rt: HostRuntime) {
     let mut line = Vec::new(rt.alloc());
-    append_instant(&mut line, instant(&rt, 1_774_746_000))?;
-    assert!(&rt; line.as_slice() == "2026-03-29T01:00:00Z".as_bytes());
-    Ok(())
+    let has_text = append_instant(&mut line, instant(&rt, 1_774_746_000)).is_ok();
+    assert_line(&rt, has_text, line.as_slice(), "2026-03-29T01:00:00Z");
 }
 
 #[test]
-fn a_clock_shows_the_day_of_its_zone(rt: HostRuntime) -> Result<(), Fail> {
+fn a_clock_shows_the_day_of_its_zone(rt: HostRuntime) {
     let mut line = Vec::new(rt.alloc());
     let zoned = instant(&rt, 1_774_746_000).to_zoned(berlin(&rt));
-    append_clock_of(&mut line, &zoned)?;
-    assert!(&rt; line.as_slice() == "Sunday, 29 March, 03:00".as_bytes());
-    Ok(())
+    let has_text = append_clock_of(&mut line, &zoned).is_ok();
+    assert_line(&rt, has_text, line.as_slice(), "Sunday, 29 March, 03:00");
 }
