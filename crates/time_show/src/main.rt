@@ -6,22 +6,10 @@
 //! status is 0 at the end of the input, and 1 after a read or a write that failed.
 #![tactic(auto)]
 
-mod bytes;
-mod command;
-mod fields;
-mod formats;
-mod laws;
-mod line_buffer;
-mod output;
-mod reply;
-mod run;
-#[cfg(test)]
-mod tests;
-mod value;
-
 use std::process::ExitCode;
+use time_answers::run::{run, status};
 
 fn main(rt: HostRuntime) -> ExitCode {
-    let outcome = run::run(rt.alloc(), &mut rt.stdin(), &mut rt.stdout());
-    ExitCode::from(run::status(&outcome))
+    let outcome = run(rt.alloc(), &mut rt.stdin(), &mut rt.stdout());
+    ExitCode::from(status(&outcome))
 }
