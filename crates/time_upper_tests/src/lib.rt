@@ -1,9 +1,7 @@
-//! Tests of the crates above the formatter by public calls: of `line_streams`, `time_answers`, `time_lines` and
-//! `time_jiff`, and of the lines of `docs/FROM.md` in Rattle. One library reads all crates below once.
+//! Tests of the crates above the formatter by public calls: of `line_streams`, `time_lines` and `time_jiff`, and
+//! of the lines of `docs/FROM.md` in Rattle. One library reads all crates below once.
 #![tactic(auto)]
 
-#[cfg(test)]
-mod answers;
 #[cfg(test)]
 mod from_jiff;
 #[cfg(test)]

@@ -1,11 +1,12 @@
 //! Readers that give few bytes, writers that take few, and ones that fail once: a run ends there, and makes
 //! no further call.
-use time_answers::run::ShowError;
-use crate::answers::{Sink, Source, assert_answers, assert_ends, assert_same, repeated};
+use crate::answers::{Sink, Source, assert_answers, assert_ends, repeated};
+use crate::format_texts::assert_same;
 use std::alloc::{AllocError, Global};
 use std::io::{ErrorKind, Read};
 use std::process::Abort;
 use std::test::Fail;
+use time_answers::run::ShowError;
 
 /// The stored run.
 const INPUT: &[u8] = b"time 9 55 6 120000000\ntime 0 0 0 0\ntime 24 0 0 0\ntime 1 2\n\

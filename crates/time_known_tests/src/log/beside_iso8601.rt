@@ -1,6 +1,5 @@
 //! Random moments, whose texts are those of ISO 8601 with as many decimals.
-ghost use Rattle.std.specs.Prelude.{◌<◌};
-
+use crate::random::below;
 use std::default::Default;
 use std::process::Abort;
 use std::test::Fail;
@@ -11,17 +10,6 @@ use time_known::Iso8601;
 use time_known::iso8601::{Config, TimePrecision};
 use time_log::Decimals::{Microseconds, Milliseconds, Nanoseconds};
 use time_log::{Decimals, LogTime};
-
-/// A number below the limit: the upper bits of a linear congruential generator.
-fn below(seed: &mut u64, limit: u32) -> u32
-    requires { 0 < limit }
-    ensures { result < limit }
-{
-    *seed = seed
-        .wrapping_mul(6_364_136_223_846_793_005)
-        .wrapping_add(1_442_695_040_888_963_407);
-    (*seed >> 33) as u32 % limit
-}
 
 /// The second after this one, or one near it, or one of the years 1 to 9998.
 fn next_second(seed: &mut u64, second: i64) -> i64 {

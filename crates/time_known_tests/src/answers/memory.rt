@@ -1,7 +1,8 @@
 //! The run when allocations fail.
 ghost use Rattle.std.specs.Prelude.{◌≤◌};
 
-use crate::answers::{assert_ends, assert_same};
+use crate::answers::assert_ends;
+use crate::format_texts::assert_same;
 use std::alloc::{AllocError, Global};
 use std::io;
 use std::io::Write;

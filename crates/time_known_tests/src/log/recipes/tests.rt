@@ -1,5 +1,5 @@
 //! The recipe, run.
-use crate::recipes::{append_line, times_of_log};
+use super::{append_line, times_of_log};
 use std::process::Abort;
 use std::test::Fail;
 use time_below::Timestamp;

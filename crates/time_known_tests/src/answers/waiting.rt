@@ -1,11 +1,11 @@
 //! A writer that never fails: any number of waiting bytes goes out.
-use time_answers::output::{OUTPUT_LIMIT, OutputBuffer};
-use time_answers::reply::Reply;
-use crate::answers::assert_same;
+use crate::format_texts::assert_same;
 use std::io;
 use std::io::Write;
 use std::process::Abort;
 use std::test::Fail;
+use time_answers::output::{OUTPUT_LIMIT, OutputBuffer};
+use time_answers::reply::Reply;
 
 /// The bytes of a formatted value's answer beside its text, where both numbers have one digit.
 const FRAME: usize = 8;

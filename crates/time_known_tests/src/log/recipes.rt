@@ -1,5 +1,4 @@
 //! The recipe of times of log lines in `docs/RECIPES.md`, which shows it word for word.
-#[cfg(test)]
 mod tests;
 
 use time_below::Timestamp;

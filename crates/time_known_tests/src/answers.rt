@@ -5,17 +5,12 @@ mod streams;
 mod values;
 mod waiting;
 
-use time_answers::run::{ShowError, run, status};
+use crate::format_texts::assert_same;
 use std::alloc::{AllocError, Global};
-use std::fmt::Debug;
 use std::io;
 use std::io::{ErrorKind, Read, Write};
 use std::process::Abort;
-
-/// One comparison for all types, so that no test proves it again.
-fn assert_same<T: PartialEq + Debug + Copy>(rt: &impl Abort, found: T, wanted: T) {
-    assert_eq!(rt; found, wanted);
-}
+use time_answers::run::{ShowError, run, status};
 
 /// Runs over the source, and compares how the run ends and its status. What is proved of the run is not
 /// handed on, so that no test proves more than it compares.

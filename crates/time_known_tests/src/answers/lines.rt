@@ -3,11 +3,12 @@ ghost use Rattle.std.specs.Prelude.{ℕ, List, IfOk};
 ghost use Rattle.time_answers.specs.Answer.{AreAnswers};
 ghost use Rattle.line_streams.specs.Lines.{lines_of};
 
-use time_answers::laws::lines_spell_their_text;
-use time_answers::run::{ShowError, run};
-use crate::answers::{assert_answers, assert_same, repeated};
+use crate::answers::{assert_answers, repeated};
+use crate::format_texts::assert_same;
 use std::alloc::Global;
 use std::test::Fail;
+use time_answers::laws::lines_spell_their_text;
+use time_answers::run::{ShowError, run};
 
 /// Rows of a line and its answer.
 macro_rules! rows {

@@ -1,6 +1,5 @@
 //! Values written by each format and read back.
-ghost use Rattle.std.specs.Prelude.{◌<◌};
-
+use crate::random::below;
 use std::default::Default;
 use std::process::Abort;
 use std::test::Fail;
@@ -8,17 +7,6 @@ use time_below::{Date, OffsetDateTime, Time, UtcDateTime, UtcOffset};
 use time_fmt::{DateState, Format, Formattable};
 use time_known::{Iso8601, Rfc3339, stamp_into};
 use time_read::rfc3339;
-
-/// A number below the limit: the upper bits of a linear congruential generator.
-fn below(seed: &mut u64, limit: u32) -> u32
-    requires { 0 < limit }
-    ensures { result < limit }
-{
-    *seed = seed
-        .wrapping_mul(6_364_136_223_846_793_005)
-        .wrapping_add(1_442_695_040_888_963_407);
-    (*seed >> 33) as u32 % limit
-}
 
 /// A value of the years 0 to 9,999 with an offset in whole minutes below 24 hours.
 fn value(seed: &mut u64) -> Option<OffsetDateTime> {

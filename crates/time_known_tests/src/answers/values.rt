@@ -1,11 +1,11 @@
 //! The values that numbers give, and the names of the parts that are out of range.
+use crate::format_texts::assert_same;
+use std::process::Abort;
 use time_answers::command::date_time_numbers;
 use time_answers::fields::Fields;
-use crate::answers::assert_same;
 use time_answers::value::{
     DateNumbers, DateTimeNumbers, OffsetNumbers, Part, TimeNumbers, date_time_value,
 };
-use std::process::Abort;
 use time_below::{Month, OffsetDateTime};
 
 /// The names of the parts, in the order of the fields.
