@@ -49,16 +49,42 @@ fn goes_on_after_a_refusal(rt: HostRuntime) {
     assert!(rt; all.iter().any(|text| *text == written));
 }
 
-/// The memory that is left, in vectors from 16 GiB down to 16 bytes, of which no byte is written.
+/// 16 GiB down to 16 bytes.
+const SIZES: &[usize] = &[
+    1 << 34,
+    1 << 32,
+    1 << 30,
+    1 << 28,
+    1 << 26,
+    1 << 24,
+    1 << 22,
+    1 << 20,
+    1 << 18,
+    1 << 16,
+    1 << 14,
+    1 << 12,
+    1 << 10,
+    1 << 8,
+    1 << 6,
+    1 << 4,
+];
+
+/// Takes vectors of this size until none is left.
+fn take_pieces(alloc: Global, taken: &mut Vec<Vec<u8>>, size: usize) -> Result<(), AllocError> {
+    for _ in 0..65_536 {
+        let Ok(piece) = Vec::with_capacity(alloc, size) else {
+            return Ok(());
+        };
+        taken.push(piece)?;
+    }
+    Ok(())
+}
+
+/// The memory that is left, in vectors of these sizes, of which no byte is written.
 fn all_that_is_left(alloc: Global) -> Result<Vec<Vec<u8>>, AllocError> {
     let mut taken = Vec::with_capacity(alloc, 1_048_576)?;
-    for bits in [34, 32, 30, 28, 26, 24, 22, 20, 18, 16, 14, 12, 10, 8, 6, 4] {
-        for _ in 0..65_536 {
-            let Ok(piece) = Vec::with_capacity(alloc, 1usize << bits) else {
-                break;
-            };
-            taken.push(piece)?;
-        }
+    for &size in SIZES {
+        take_pieces(alloc, &mut taken, size)?;
     }
     Ok(taken)
 }
