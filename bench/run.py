@@ -143,7 +143,7 @@ def lines(command, count):
 def copied(folder):
     """A copy of the repository, with what earlier checks left of the crates that are built."""
     shutil.copytree(TOP, folder, dirs_exist_ok=True, ignore=shutil.ignore_patterns(".git", "out", "target"))
-    for crate in [*LIBRARIES.split(), "time_show"]:
+    for crate in [*LIBRARIES.split(), "time_answers", "time_show"]:
         kept = [TOP / "crates" / crate / "out" / work for work in ("rlib", "incremental")]
         for work in [work for work in kept if work.exists()][:1]:
             if not (folder / work.relative_to(TOP)).exists():

@@ -22,7 +22,7 @@ RUST = {"movaliren": "bindings/rust", "movaliren_time": "bindings/rust-time"}
 HEADER = TOP / "bindings/c/movaliren.h"
 HEAD = """# The calls, by crate and type
 
-`docs/calls.py` makes this page from the sources, and `./gate --tests` compares the two. It has the public types, traits, functions, macros and constants of the libraries, with the first paragraph of each comment. Laws are left out, and so are constants that belong to a type. The choices of components and their constants stand in [COMPONENTS.md](COMPONENTS.md). *Traits* names derives and impls of a type, but not what a macro writes, as most impls of `Format` in Rust. The contract of a call stands in its file, which the heading of its type or module names. Where a call has conditions, *requires* names their clauses, and calls one without a name *a condition*.
+`docs/calls.py` makes this page from the sources, and `./gate --tests` compares the two. It has the public types, traits, functions, macros and constants of the libraries, with the first paragraph of each comment. Laws are left out, and so are constants that belong to a type, and `time_answers`, which the program `time_show` alone calls. The choices of components and their constants stand in [COMPONENTS.md](COMPONENTS.md). *Traits* names derives and impls of a type, but not what a macro writes, as most impls of `Format` in Rust. The contract of a call stands in its file, which the heading of its type or module names. Where a call has conditions, *requires* names their clauses, and calls one without a name *a condition*.
 
 The crates of Rust and the calls of the header of C stand at the end. `cargo doc` in `bindings/rust` and `bindings/rust-time` shows more, and so does the man page `movaliren(3)`.
 """

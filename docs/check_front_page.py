@@ -14,8 +14,8 @@ RECIPES = [
     "crates/time_known_tests/src/recipes.rt",
     "crates/time_describe_tests/src/recipes.rt",
     "crates/time_describe_tests/src/plans/recipes.rt",
-    "crates/time_log_tests/src/recipes.rt",
-    "crates/time_read_tests/src/recipes.rt",
+    "crates/time_known_tests/src/log/recipes.rt",
+    "crates/time_known_tests/src/read/recipes.rt",
     "crates/time_upper_tests/src/recipes.rt",
 ]
 

@@ -7,7 +7,7 @@ use std::fmt::Debug;
 use std::process::Abort;
 use time_below::format_description::modifier::{Day, Padding};
 use time_below::format_description::{BorrowedFormatItem as Item, Component, component_width};
-use time_below::{PlainDateTime, UtcDateTime};
+use time_below::{ComponentRange, PlainDateTime, UtcDateTime};
 use time_fmt::{ComponentProvider, ComputeMetadata, Format, Formattable};
 
 /// The day of the month, in two places.
@@ -25,8 +25,49 @@ pub(crate) fn assert_that(rt: &impl Abort, is_so: bool) {
     assert!(rt; is_so);
 }
 
+/// So many times a byte.
+pub(crate) fn repeated(rt: &impl Abort, alloc: Global, byte: u8, count: usize) -> Vec<u8> {
+    let Ok(bytes) = vec![in alloc; byte; count] else {
+        panic!(rt; "no memory");
+    };
+    bytes
+}
+
+/// A text of so many letters.
+pub(crate) fn long_text(rt: &impl Abort, alloc: Global, count: usize) -> String {
+    let Ok(text) = String::from_utf8(repeated(rt, alloc, b'x', count)) else {
+        panic!(rt; "no text");
+    };
+    text
+}
+
 /// What came of a text that was appended, of the same as a text of its own, and the state after both.
 type Answers<S> = (Result<usize, Format>, Result<String, Format>, S);
+
+/// Appends the text. Of the clauses of the call a test hands on the one that a second call needs.
+pub(crate) fn append_with<D: Formattable, V: ComponentProvider>(
+    output: &mut Vec<u8>,
+    item: &D,
+    value: &V,
+    state: &mut V::State,
+) -> Result<usize, Format>
+    requires { V.agrees state.old value.now }
+    ensures { V.agrees state.new value.now }
+{
+    item.format_into(output, value, state)
+}
+
+/// Makes the text. No clause is handed on.
+fn make_with<D: Formattable, V: ComponentProvider>(
+    alloc: Global,
+    item: &D,
+    value: &V,
+    state: &mut V::State,
+) -> Result<String, Format>
+    requires { V.agrees state.old value.now }
+{
+    item.format(alloc, value, state)
+}
 
 /// Appends the text by a fresh state, and makes it once more by the same.
 pub(crate) fn append_by<D: Formattable, V: ComponentProvider>(
@@ -36,8 +77,8 @@ pub(crate) fn append_by<D: Formattable, V: ComponentProvider>(
     value: &V,
 ) -> Answers<V::State> {
     let mut state = V::State::default();
-    let appended = item.format_into(output, value, &mut state);
-    let made = item.format(alloc, value, &mut state);
+    let appended = append_with(output, item, value, &mut state);
+    let made = make_with(alloc, item, value, &mut state);
     (appended, made, state)
 }
 
@@ -51,25 +92,10 @@ where
     V::State: Drop,
 {
     let mut state = V::State::default();
-    let appended = first.format_into(output, value, &mut state);
+    let appended = append_with(output, first, value, &mut state);
     let length = output.len();
-    (
-        appended,
-        length,
-        second.format_into(output, value, &mut state),
-    )
-}
-
-/// The text by a fresh state.
-pub(crate) fn made<D: Formattable, V: ComponentProvider>(
-    alloc: Global,
-    item: &D,
-    value: &V,
-) -> Result<String, Format>
-where
-    V::State: Drop,
-{
-    item.format(alloc, value, &mut V::State::default())
+    let written = append_with(output, second, value, &mut state);
+    (appended, length, written)
 }
 
 /// Does the same where the state is not looked at.
@@ -133,6 +159,26 @@ pub(crate) fn append<D: Formattable>(
     }
 }
 
+/// Does the same by an item, a description of one type that many tests have.
+pub(crate) fn append_item(
+    rt: &impl Abort,
+    alloc: Global,
+    output: &mut Vec<u8>,
+    item: &Item<'_>,
+    value: Value,
+) -> (Result<usize, Format>, Result<String, Format>) {
+    append(rt, alloc, output, item, value)
+}
+
+/// The text of an item, made of the value that has these numbers.
+pub(crate) fn made(rt: &impl Abort, alloc: Global, item: &Item<'_>, value: Value) -> String {
+    let mut output = Vec::new(alloc);
+    let (_, Ok(text)) = append_item(rt, alloc, &mut output, item, value) else {
+        panic!(rt; "no text");
+    };
+    text
+}
+
 /// The width of a description.
 pub(crate) fn measured<D: ComputeMetadata>(item: &D) -> usize {
     item.compute_metadata().max_bytes_needed
@@ -156,6 +202,17 @@ pub(crate) fn assert_value<D: Formattable>(
     assert_same(rt, formatted.as_str(), text);
 }
 
+/// Does the same of an item.
+pub(crate) fn assert_item(
+    rt: &impl Abort,
+    alloc: Global,
+    item: &Item<'_>,
+    value: Value,
+    texts: (&str, usize),
+) {
+    assert_value(rt, alloc, item, value, texts);
+}
+
 /// Compares the texts of descriptions and their widths, of one value.
 pub(crate) fn assert_items(
     rt: &impl Abort,
@@ -164,7 +221,7 @@ pub(crate) fn assert_items(
     rows: &[(Item<'_>, &str, usize)],
 ) {
     for (item, text, width) in rows {
-        assert_value(rt, alloc, item, value, (text, *width));
+        assert_item(rt, alloc, item, value, (text, *width));
     }
 }
 
@@ -176,7 +233,7 @@ pub(crate) fn assert_components(
     rows: &[(Component, &str, usize)],
 ) {
     for &(component, text, width) in rows {
-        assert_value(rt, alloc, &Item::Component(component), value, (text, width));
+        assert_item(rt, alloc, &Item::Component(component), value, (text, width));
     }
 }
 
@@ -186,7 +243,7 @@ pub(crate) type Rows = &'static [(Value, Component, &'static str)];
 pub(crate) fn assert_rows(rt: &impl Abort, alloc: Global, rows: Rows) {
     for &(value, component, text) in rows {
         let width = component_width(&component);
-        assert_value(rt, alloc, &Item::Component(component), value, (text, width));
+        assert_item(rt, alloc, &Item::Component(component), value, (text, width));
     }
 }
 
@@ -228,11 +285,24 @@ pub(crate) fn assert_refused_after(
 /// The name of the component that is refused, or why else there is no text.
 pub(crate) fn refusal_name<T>(answer: &Result<T, Format>) -> &'static str {
     match answer {
-        Err(Format::InvalidComponent(name)) => name,
-        Err(Format::InsufficientTypeInformation) => "insufficient",
-        Err(Format::ComponentRange(range)) if range.is_conditional() => range.name(),
-        Err(Format::ComponentRange(_)) => "unconditional",
-        Err(Format::OutOfMemory) => "memory",
+        Err(refusal) => name_of(refusal),
         Ok(_) => "none",
+    }
+}
+
+fn name_of(refusal: &Format) -> &'static str {
+    match refusal {
+        Format::InvalidComponent(name) => name,
+        Format::InsufficientTypeInformation => "insufficient",
+        Format::ComponentRange(range) => name_of_range(range),
+        Format::OutOfMemory => "memory",
+    }
+}
+
+fn name_of_range(range: &ComponentRange) -> &'static str {
+    if range.is_conditional() {
+        range.name()
+    } else {
+        "unconditional"
     }
 }

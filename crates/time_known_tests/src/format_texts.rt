@@ -17,8 +17,32 @@ pub(crate) fn assert_that(rt: &impl Abort, is_so: bool) {
     assert!(rt; is_so);
 }
 
-/// Appends the text by a fresh state, and makes it once more by the same. No clause is handed on, so that a
-/// test proves no more than it compares.
+/// Appends the text. Of the clauses of the call a test hands on the one that a second call needs.
+fn append_with<D: Formattable, V: ComponentProvider>(
+    output: &mut Vec<u8>,
+    format: &D,
+    value: &V,
+    state: &mut V::State,
+) -> Result<usize, Format>
+    requires { V.agrees state.old value.now }
+    ensures { V.agrees state.new value.now }
+{
+    format.format_into(output, value, state)
+}
+
+/// Makes the text. No clause is handed on, so that a test proves no more than it compares.
+fn make_with<D: Formattable, V: ComponentProvider>(
+    alloc: Global,
+    format: &D,
+    value: &V,
+    state: &mut V::State,
+) -> Result<String, Format>
+    requires { V.agrees state.old value.now }
+{
+    format.format(alloc, value, state)
+}
+
+/// Appends the text by a fresh state, and makes it once more by the same.
 fn append_of<D: Formattable, V: ComponentProvider>(
     alloc: Global,
     output: &mut Vec<u8>,
@@ -29,8 +53,8 @@ where
     V::State: Drop,
 {
     let mut state = V::State::default();
-    let appended = format.format_into(output, value, &mut state);
-    (appended, format.format(alloc, value, &mut state))
+    let appended = append_with(output, format, value, &mut state);
+    (appended, make_with(alloc, format, value, &mut state))
 }
 
 /// Appends the text of the value that has these numbers, and makes it once more. Each type of value stands here
@@ -122,10 +146,16 @@ pub(crate) fn assert_refused<D: Formattable>(
 /// component for its range.
 pub(crate) fn refusal_name<T>(answer: &Result<T, Format>) -> &'static str {
     match answer {
-        Err(Format::InvalidComponent(name)) => name,
-        Err(Format::InsufficientTypeInformation) => "insufficient",
-        Err(Format::ComponentRange(_)) => "range",
-        Err(Format::OutOfMemory) => "memory",
+        Err(refusal) => name_of(refusal),
         Ok(_) => "none",
+    }
+}
+
+fn name_of(refusal: &Format) -> &'static str {
+    match refusal {
+        Format::InvalidComponent(name) => name,
+        Format::InsufficientTypeInformation => "insufficient",
+        Format::ComponentRange(_) => "range",
+        Format::OutOfMemory => "memory",
     }
 }

@@ -1,8 +1,11 @@
-//! The rows of `time_known`, by public calls alone: texts, counts and refusals of the well-known formats,
-//! in a library of their own, so that `time_known` is not proved once more beside its tests. Recipes
-//! of `docs/RECIPES.md` stand here too.
+//! The rows of `time_known`, `time_read`, `time_log` and `time_answers`, by public calls alone: texts, counts and
+//! refusals of the well-known formats, texts read back, times of log lines, and answers to lines. They stand in a
+//! library of their own, so that those crates are not proved once more beside their tests. Recipes of
+//! `docs/RECIPES.md` stand here too.
 #![tactic(auto)]
 
+#[cfg(test)]
+mod answers;
 #[cfg(test)]
 mod exact_room;
 #[cfg(test)]
@@ -15,6 +18,12 @@ mod formats_as_parts;
 mod iso8601;
 #[cfg(test)]
 mod laws;
+#[cfg(test)]
+mod log;
+#[cfg(test)]
+mod random;
+#[cfg(test)]
+mod read;
 #[cfg(test)]
 mod recipes;
 #[cfg(test)]

@@ -6,22 +6,22 @@
 //! status is 0 at the end of the input, and 1 after a read or a write that failed.
 #![tactic(auto)]
 
-mod bytes;
-mod command;
-mod fields;
-mod formats;
-mod laws;
-mod line_buffer;
-mod output;
-mod reply;
-mod run;
-#[cfg(test)]
-mod tests;
-mod value;
+ghost use Rattle.std.specs.Prelude.{◌≡◌};
+ghost use Rattle.std.specs.Io.KnownBytes.{IsAtEnd};
 
+use std::alloc::Global;
+use std::io::{Read, Write};
 use std::process::ExitCode;
+use time_answers::run::{run, status};
+
+/// Answers the lines of the input, and returns the exit status: 0 at the end of the input alone.
+fn show<R: Read, W: Write>(alloc: Global, input: &mut R, output: &mut W) -> u8
+    ensures { result ≡ 0 → IsAtEnd (R.remaining input.new) }
+{
+    let outcome = run(alloc, input, output);
+    status(&outcome)
+}
 
 fn main(rt: HostRuntime) -> ExitCode {
-    let outcome = run::run(rt.alloc(), &mut rt.stdin(), &mut rt.stdout());
-    ExitCode::from(run::status(&outcome))
+    ExitCode::from(show(rt.alloc(), &mut rt.stdin(), &mut rt.stdout()))
 }

@@ -1,7 +1,7 @@
 //! What each component keeps in the state of a value, and its text by the third version.
 use crate::fmt::components_table::{COMPONENTS, DEPRECATED};
 use crate::provide::states::{Kept, state_with};
-use crate::texts::{assert_same, assert_that};
+use crate::texts::{append_with, assert_same, assert_that};
 use crate::values::wednesday;
 use std::alloc::Global;
 use std::process::Abort;
@@ -33,7 +33,8 @@ fn write<D: Formattable, V: ComponentProvider>(
     value: &V,
 ) -> (bool, V::State) {
     let mut state = V::State::default();
-    (item.format_into(output, value, &mut state).is_ok(), state)
+    let is_written = append_with(output, item, value, &mut state).is_ok();
+    (is_written, state)
 }
 
 /// Appends the text of the Wednesday, and compares what is kept.

@@ -1,5 +1,8 @@
 //! Allocations that fail.
-use crate::texts::{DAY, append, append_by, assert_same, assert_that, measured, refusal_name};
+use crate::texts::{
+    DAY, append_by, append_item, assert_same, assert_that, long_text, measured, refusal_name,
+    repeated,
+};
 use crate::values::{WEDNESDAY, wednesday};
 use std::alloc::{AllocError, Global};
 use std::process::Abort;
@@ -13,16 +16,33 @@ use time_provide::DateState;
 /// The width of each description: twice the smallest piece that is taken, so that nothing of it is left.
 const WIDTH: usize = 8_388_608;
 
-/// All addresses that are left, in pieces of 16 GiB down to 4 MiB, of which no byte is written.
+/// 16 GiB down to 4 MiB.
+const SIZES: &[usize] = &[
+    1 << 34,
+    1 << 32,
+    1 << 30,
+    1 << 28,
+    1 << 26,
+    1 << 24,
+    1 << 22,
+];
+
+/// Takes pieces of this size until none is left.
+fn take_pieces(alloc: Global, taken: &mut Vec<Vec<u8>>, size: usize) -> Result<(), AllocError> {
+    for _ in 0..65_536 {
+        let Ok(piece) = Vec::with_capacity(alloc, size) else {
+            return Ok(());
+        };
+        taken.push(piece)?;
+    }
+    Ok(())
+}
+
+/// All addresses that are left, in pieces of these sizes, of which no byte is written.
 fn all_that_is_left(alloc: Global) -> Result<Vec<Vec<u8>>, AllocError> {
     let mut taken = Vec::with_capacity(alloc, 65_536)?;
-    for bits in [34, 32, 30, 28, 26, 24, 22] {
-        for _ in 0..65_536 {
-            let Ok(piece) = Vec::with_capacity(alloc, 1usize << bits) else {
-                break;
-            };
-            taken.push(piece)?;
-        }
+    for &size in SIZES {
+        take_pieces(alloc, &mut taken, size)?;
     }
     Ok(taken)
 }
@@ -53,31 +73,29 @@ fn assert_refused<D: Formattable>(rt: &impl Abort, alloc: Global, item: &D) {
     assert_same(rt, output.as_slice(), b"before".as_slice());
     assert_same(rt, output.capacity(), capacity);
     let day = BorrowedFormatItem::Component(DAY);
-    let (written, _) = append(rt, alloc, &mut output, &day, WEDNESDAY);
+    let (written, _) = append_item(rt, alloc, &mut output, &day, WEDNESDAY);
     assert_that(rt, matches!(&written, Ok(2)));
     assert_same(rt, output.as_slice(), b"before12".as_slice());
 }
 
 #[test]
-fn a_refused_reservation_of_a_borrowed_tree_changes_nothing(rt: HostRuntime) -> Result<(), Fail> {
-    let bytes = vec![in rt.alloc(); b'x'; WIDTH]?;
+fn a_refused_reservation_of_a_borrowed_tree_changes_nothing(rt: HostRuntime) {
+    let bytes = repeated(&rt, rt.alloc(), b'x', WIDTH);
     let items = [BorrowedFormatItem::Literal(bytes.as_slice())];
     assert_refused(&rt, rt.alloc(), &BorrowedFormatItem::Compound(&items));
     assert_refused(&rt, rt.alloc(), &BorrowedItems(&items));
-    Ok(())
 }
 
 #[test]
-fn a_refused_reservation_of_the_third_version_changes_nothing(rt: HostRuntime) -> Result<(), Fail> {
-    let text = String::from_utf8(vec![in rt.alloc(); b'x'; WIDTH]?)?;
+fn a_refused_reservation_of_the_third_version_changes_nothing(rt: HostRuntime) {
+    let text = long_text(&rt, rt.alloc(), WIDTH);
     let inner = FormatDescriptionV3Inner::BorrowedLiteral(text.as_str());
     assert_refused(&rt, rt.alloc(), &FormatDescriptionV3::new(inner));
-    Ok(())
 }
 
 #[test]
 fn a_refused_reservation_of_an_owned_tree_changes_nothing(rt: HostRuntime) -> Result<(), Fail> {
-    let bytes = vec![in rt.alloc(); b'x'; WIDTH]?;
+    let bytes = repeated(&rt, rt.alloc(), b'x', WIDTH);
     let items = vec![in rt.alloc(); OwnedFormatItem::Literal(bytes)]?;
     assert_refused(&rt, rt.alloc(), &OwnedItems(items.as_slice()));
     assert_refused(&rt, rt.alloc(), &OwnedFormatItem::Compound(items));

@@ -1,7 +1,10 @@
 //! Long texts, long outputs, long lists and deep trees. Memory is available, so no call is out of memory.
 use crate::items::{Tree, one};
-use crate::texts::{DAY, append, assert_same, assert_that, assert_value, made, measured};
-use crate::values::{WEDNESDAY, wednesday};
+use crate::texts::{
+    DAY, append, append_item, assert_item, assert_same, assert_that, long_text, made, measured,
+    repeated,
+};
+use crate::values::WEDNESDAY;
 use std::alloc::{AllocError, Global};
 use std::process::Abort;
 use std::test::Fail;
@@ -15,51 +18,45 @@ const LONG: usize = 100_000;
 const BEYOND: usize = 1_500_000;
 
 #[test]
-fn a_text_of_a_hundred_thousand_bytes_is_written(rt: HostRuntime) -> Result<(), Fail> {
-    let text = String::from_utf8(vec![in rt.alloc(); b'x'; LONG]?)?;
+fn a_text_of_a_hundred_thousand_bytes_is_written(rt: HostRuntime) {
+    let text = long_text(&rt, rt.alloc(), LONG);
     let item = BorrowedFormatItem::StringLiteral(text.as_str());
-    assert_value(&rt, rt.alloc(), &item, WEDNESDAY, (text.as_str(), LONG));
-    Ok(())
+    assert_item(&rt, rt.alloc(), &item, WEDNESDAY, (text.as_str(), LONG));
 }
 
 #[test]
-fn a_text_stands_behind_a_megabyte(rt: HostRuntime) -> Result<(), Fail> {
-    let mut output = vec![in rt.alloc(); b'x'; BEYOND]?;
+fn a_text_stands_behind_a_megabyte(rt: HostRuntime) {
+    let mut output = repeated(&rt, rt.alloc(), b'x', BEYOND);
     let item = BorrowedFormatItem::Component(DAY);
-    let (answer, _) = append(&rt, rt.alloc(), &mut output, &item, WEDNESDAY);
+    let (answer, _) = append_item(&rt, rt.alloc(), &mut output, &item, WEDNESDAY);
     assert_that(&rt, matches!(&answer, Ok(2)));
     assert_same(&rt, output.len(), BEYOND + 2);
     assert_that(&rt, output.as_slice().ends_with(b"x12".as_slice()));
-    Ok(())
 }
 
 /// Appends a text of this many bytes to an output of as many that has no room left, and makes it as a text of its
 /// own. Neither is out of memory, or holds more bytes than it has.
-fn assert_power(rt: &impl Abort, alloc: Global, length: usize) -> Result<(), Fail> {
-    let letters = vec![in alloc; b'x'; length]?;
+fn assert_power(rt: &impl Abort, alloc: Global, length: usize) {
+    let letters = repeated(rt, alloc, b'x', length);
     let item = BorrowedFormatItem::Literal(letters.as_slice());
-    let mut output = vec![in alloc; b'y'; length]?;
-    let (Ok(count), Ok(text)) = append(rt, alloc, &mut output, &item, WEDNESDAY) else {
+    let mut output = repeated(rt, alloc, b'y', length);
+    let (Ok(count), Ok(text)) = append_item(rt, alloc, &mut output, &item, WEDNESDAY) else {
         panic!(rt; "no text of {length} bytes");
     };
-    assert_same(rt, (count, output.len()), (length, 2 * length));
+    let twice = length.saturating_mul(2);
+    assert_same(rt, (count, output.len()), (length, twice));
     assert_that(rt, output.as_slice().ends_with(letters.as_slice()));
     assert_that(rt, text.as_str().as_bytes() == letters.as_slice());
-    assert_that(
-        rt,
-        output.capacity() <= 2 * length && text.capacity() <= length,
-    );
-    Ok(())
+    assert_that(rt, output.capacity() <= twice && text.capacity() <= length);
 }
 
 #[test]
-fn a_text_of_each_power_of_two_up_to_a_megabyte_is_written(rt: HostRuntime) -> Result<(), Fail> {
+fn a_text_of_each_power_of_two_up_to_a_megabyte_is_written(rt: HostRuntime) {
     let mut length = 1usize;
     for _ in 0..=20 {
-        assert_power(&rt, rt.alloc(), length)?;
+        assert_power(&rt, rt.alloc(), length);
         length = length.saturating_mul(2);
     }
-    Ok(())
 }
 
 /// Compares the bytes with this many of these letters.
@@ -74,14 +71,11 @@ fn assert_repeated(rt: &impl Abort, bytes: &[u8], letter: &[u8], count: usize) {
 
 /// Each byte becomes one U+FFFD, of three bytes.
 #[test]
-fn each_byte_that_is_no_text_is_read_as_no_letter(rt: HostRuntime) -> Result<(), Fail> {
-    let bytes = vec![in rt.alloc(); 0xff; LONG]?;
+fn each_byte_that_is_no_text_is_read_as_no_letter(rt: HostRuntime) {
+    let bytes = repeated(&rt, rt.alloc(), 0xff, LONG);
     let item = BorrowedFormatItem::Literal(bytes.as_slice());
-    let Ok(text) = made(rt.alloc(), &item, &wednesday(&rt)) else {
-        panic!(rt; "no text");
-    };
+    let text = made(&rt, rt.alloc(), &item, WEDNESDAY);
     assert_repeated(&rt, text.as_str().as_bytes(), b"\xef\xbf\xbd", LONG);
-    Ok(())
 }
 
 #[test]

@@ -1,6 +1,6 @@
 //! Times of day.
 use crate::texts::{
-    Rows, append, assert_components, assert_items, assert_rows, assert_same, assert_that,
+    Rows, append_item, assert_components, assert_items, assert_rows, assert_same, assert_that,
 };
 use crate::values::Value::Time;
 use time_below::format_description::modifier::{Padding, SubsecondDigits, TrailingInput};
@@ -74,8 +74,8 @@ fn times_have_the_clock_and_as_many_decimals_as_asked_for(rt: HostRuntime) {
 fn a_second_text_stands_behind_the_first(rt: HostRuntime) {
     let value = Time(9, 55, 6, 0);
     let mut output = Vec::new(rt.alloc());
-    let (first, _) = append(&rt, rt.alloc(), &mut output, &HOUR, value);
-    let (second, _) = append(&rt, rt.alloc(), &mut output, &MINUTE, value);
+    let (first, _) = append_item(&rt, rt.alloc(), &mut output, &HOUR, value);
+    let (second, _) = append_item(&rt, rt.alloc(), &mut output, &MINUTE, value);
     assert_that(&rt, matches!(&first, Ok(2)) && matches!(&second, Ok(2)));
     assert_same(&rt, output.as_slice(), b"0955".as_slice());
 }

@@ -114,41 +114,33 @@ fn assert_optionals<K, T: Tree<K>>(
 }
 
 /// All that is compared of trees of a kind, at one call: each names what it asks of the kind once more.
-fn assert_trees<K, T: Tree<K>>(
-    rt: &impl Abort,
-    alloc: Global,
-    left_out: [(&str, usize); 2],
-) -> Result<(), AllocError> {
+fn assert_trees<K, T: Tree<K>>(rt: &impl Abort, alloc: Global, left_out: [(&str, usize); 2]) {
     assert_lists::<K, T>(rt, alloc);
-    assert_optionals::<K, T>(rt, alloc, left_out)?;
-    assert_levels::<K, T>(rt, alloc)?;
-    assert_linear::<K, T>(rt, alloc)
+    assert_that(rt, assert_optionals::<K, T>(rt, alloc, left_out).is_ok());
+    assert_that(rt, assert_levels::<K, T>(rt, alloc).is_ok());
+    assert_that(rt, assert_linear::<K, T>(rt, alloc).is_ok());
 }
 
 #[test]
-fn a_borrowed_tree_is_written(rt: HostRuntime) -> Result<(), Fail> {
+fn a_borrowed_tree_is_written(rt: HostRuntime) {
     let written = [("12", 2), ("November", 9)];
-    assert_trees::<Lent, Borrowed<'_>>(&rt, rt.alloc(), written)?;
-    Ok(())
+    assert_trees::<Lent, Borrowed<'_>>(&rt, rt.alloc(), written);
 }
 
 #[test]
-fn an_owned_tree_is_written(rt: HostRuntime) -> Result<(), Fail> {
+fn an_owned_tree_is_written(rt: HostRuntime) {
     let written = [("12", 2), ("November", 9)];
-    assert_trees::<Held, Owned>(&rt, rt.alloc(), written)?;
-    Ok(())
+    assert_trees::<Held, Owned>(&rt, rt.alloc(), written);
 }
 
 #[test]
-fn a_borrowed_tree_of_the_third_version_is_written(rt: HostRuntime) -> Result<(), Fail> {
-    assert_trees::<Lent, Inner<'_>>(&rt, rt.alloc(), [("", 0), ("", 0)])?;
-    Ok(())
+fn a_borrowed_tree_of_the_third_version_is_written(rt: HostRuntime) {
+    assert_trees::<Lent, Inner<'_>>(&rt, rt.alloc(), [("", 0), ("", 0)]);
 }
 
 #[test]
-fn an_owned_tree_of_the_third_version_is_written(rt: HostRuntime) -> Result<(), Fail> {
-    assert_trees::<Held, Inner<'_>>(&rt, rt.alloc(), [("", 0), ("", 0)])?;
-    Ok(())
+fn an_owned_tree_of_the_third_version_is_written(rt: HostRuntime) {
+    assert_trees::<Held, Inner<'_>>(&rt, rt.alloc(), [("", 0), ("", 0)]);
 }
 
 const DATE: &[Borrowed<'static>] = &[

@@ -1,0 +1,17 @@
+use Rattle.std.proofs.Common.{ℕ, Bor, List, []}
+use Rattle.std.proofs.lemmas.Result.{err_from_is_err_and}
+use Rattle.time_answers.proofs.OutputBufferLemmas.{Accepts-part, CutsOff-part}
+use Rattle.time_answers.proofs.output.OutputBuffer.append_each.Goals as goal
+
+pub loop-part-preserved : goal.loop-part-preserved
+loop-part-preserved g c =
+    let none : Bor (List ℕ) = record { ref_ptr = (0, 0); now = [] } in
+    Accepts-part c.args.parts.now c.loop-part.part-index none _ _ _ c.loop-part-test.true c.loop-part.invariant
+    c.in_ok-append.ensures.ok
+
+pub returns-in_err-append-clause-err : goal.returns-in_err-append-clause-err
+returns-in_err-append-clause-err g c =
+    let p = err_from_is_err_and c.from_residual.result c.from_residual.ensures.1 in
+    let none : Bor (List ℕ) = record { ref_ptr = (0, 0); now = [] } in
+    rw p.1 (CutsOff-part c.args.parts.now c.loop-part.part-index none _ _ _ c.loop-part-test.true c.loop-part.invariant
+    c.in_err-append.ensures.err)
