@@ -12,7 +12,7 @@ ghost use Rattle.std.specs.Io.KnownBytes.{IsAtEnd};
 use std::alloc::Global;
 use std::io::{Read, Write};
 use std::process::ExitCode;
-use time_answers::run::{run, status};
+pub use time_answers::run::{ShowError, run, status};
 
 /// Answers the lines of the input, and returns the exit status: 0 at the end of the input alone.
 fn show<R: Read, W: Write>(alloc: Global, input: &mut R, output: &mut W) -> u8
