@@ -1,7 +1,6 @@
 pub mod BatchLemmas
 pub mod DescribedLemmas
 pub mod FlatLemmas
-pub mod IsoLemmas
 pub mod ItemLemmas
 pub mod LogLemmas
 pub mod MeaningLemmas

@@ -1,5 +1,5 @@
 //! ISO 8601-1:2019, by its default configuration and by any other.
-ghost use Rattle.std.specs.Prelude.{◌≡◌, ◌≢◌, ◌≤◌, ◌++◌, IfErr, IfOk, None, Ok, drop, length};
+ghost use Rattle.std.specs.Prelude.{◌≡◌, ◌≢◌, ◌≤◌, IfErr, IfOk, Ok, length};
 ghost use Rattle.movaliren_c.specs.Answer.{IsAnswer, IsRefusedFor, IsText, IsWritten, gives};
 ghost use Rattle.movaliren_c.specs.Batch.{IsBatch};
 ghost use Rattle.movaliren_c.specs.Chosen.{choices_at, iso8601_by, separated};
@@ -250,17 +250,7 @@ impl<S: Source> Iso8601By<S> {
     }
 }
 
-/// The most bytes of a text by the configuration, or a few more.
-#[inline(always)]
-fn room_for(config: &Config) -> usize
-    ensures { iso8601_width config.now ≤ result }
-{
-    let (_date, _offset) = (config.date_width(), config.offset_width());
-    13 + config.time_width() + 6
-}
-
-/// Writes the text of the value, part by part, straight to a buffer that holds every text if nothing is refused once it is
-/// begun, as in UTC.
+/// Writes the text of the value to an array first, part by part, since one may be refused after others.
 #[inline(never)]
 fn write_parts(config: &Config, value: &OffsetDateTime, room: &mut [u8]) -> Result<usize, Reason>
     ensures { IsWritten result (iso8601_of config.now value.now) room.old room.new }
@@ -268,19 +258,6 @@ fn write_parts(config: &Config, value: &OffsetDateTime, room: &mut [u8]) -> Resu
     if config.formats_nothing() {
         return Err(Reason::Insufficient);
     }
-    if !value.offset().is_utc() || room_for(config) > room.len() {
-        return copy_parts(config, value, room);
-    }
-    put_at_once::<Brand>(config, value, room)
-}
-
-/// Writes it to an array first, since one part may be refused after others.
-#[cold]
-#[inline(never)]
-fn copy_parts(config: &Config, value: &OffsetDateTime, room: &mut [u8]) -> Result<usize, Reason>
-    requires { config.now.formatted_components ≢ FormattedComponents.None }
-    ensures { IsWritten result (iso8601_of config.now value.now) room.old room.new }
-{
     let mut line = [0u8; MOST_BYTES];
     let _width = config.width();
     match put_at_once::<Brand>(config, value, &mut line) {
@@ -289,9 +266,8 @@ fn copy_parts(config: &Config, value: &OffsetDateTime, room: &mut [u8]) -> Resul
     }
 }
 
-/// Puts the parts at the start of a buffer that holds them, up to what is refused. It is a call: as part of both callers
-/// its own calls would not be inlined. The configuration is copied first, so that no byte that is written may change it.
-#[inline(never)]
+/// Puts the parts at the start of a buffer that holds them, up to what is refused.
+#[inline(always)]
 #[tactic(auto, using(time_fmt::proofs::RoomLemmas::room_written))]
 fn put_at_once<B: Before>(
     config: &Config,
@@ -301,17 +277,13 @@ fn put_at_once<B: Before>(
     requires before { room.old ≡ B.before }
     requires some { config.now.formatted_components ≢ FormattedComponents.None }
     requires room { iso8601_width config.now ≤ length room.old }
-    ensures text { room.new ≡ (iso8601_of config.now value.now).bytes
-        ++ drop (length (iso8601_of config.now value.now).bytes) room.old }
-    ensures whole { IfOk result (λ _. (iso8601_of config.now value.now).refusal ≡ None) }
-    ensures count { IfOk result (λ n. n ≡ length (iso8601_of config.now value.now).bytes) }
+    ensures text { IfOk result (λ n. IsWritten (Ok n) (iso8601_of config.now value.now) room.old room.new) }
     ensures fits { IfOk result (λ n. n ≤ length room.old) }
     ensures refused { IfErr result (λ r. IsRefusedFor r (iso8601_of config.now value.now)) }
     ensures len { length room.new ≡ length room.old }
 {
-    let config = *config;
     let mut sink = RoomSink::<B>::new(room);
-    match put_parts(&mut sink, &config, value, &mut DateState::default()) {
+    match put_parts(&mut sink, config, value, &mut DateState::default()) {
         Ok(()) => Ok(sink.len()),
         Err(component) => Err(reason_for(component)),
     }

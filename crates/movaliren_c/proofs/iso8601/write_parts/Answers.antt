@@ -1,13 +1,17 @@
-use Rattle.std.proofs.Common.{◌≡◌, true}
-use Rattle.time_below.specs.Offset.{is_utc}
-use Rattle.time_below.proofs.OffsetLemmas.{utc_from_test}
-use Rattle.movaliren_c.proofs.IsoLemmas.{in_utc, written}
+use Rattle.std.proofs.Common.{◌≡◌, ℕ, List, None, Result, refl, sym}
+use Rattle.std.proofs.lemmas.List.{take_at}
+use Rattle.movaliren_c.specs.Answer.{IsWritten}
+use Rattle.movaliren_c.specs.declared.reason.Reason.{Reason}
+use Rattle.time_fmt.specs.Outcome.{Outcome, done}
 use Rattle.movaliren_c.proofs.iso8601.write_parts.Goals as goal
 
-pub returns : goal.returns
-returns c =
-    let config = c.args.config.now in
-    let utc : is_utc c.args.value.now.offset ≡ true = cc in
-    let put = c.put_at_once.ensures in
-    written c.put_at_once.result _ _ _ (in_utc config.formatted_components config c.args.value.now (utc_from_test _ utc))
-    put.text put.whole put.count put.refused
+-- the bytes of a completed outcome, copied, are its text
+copied_whole : (answer : Result ℕ Reason) (o : Outcome) (bytes before after : List ℕ) → bytes ≡ o.bytes
+    → o.refusal ≡ None → IsWritten answer (done bytes) before after → IsWritten answer o before after
+copied_whole answer o bytes before after same completed written =
+    let is : done bytes ≡ o = rw (same, ← completed) refl in rw (← is) written
+
+pub returns-in-Ok : goal.returns-in-Ok
+returns-in-Ok c =
+    let put = c.in-Ok.ensures.text in
+    copied_whole _ _ _ _ _ (rw put.2 (take_at _ _ _ (sym put.1))) put.0 c.copy_text.ensures.written
