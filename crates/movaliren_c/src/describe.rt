@@ -10,7 +10,7 @@ ghost use Rattle.time_below.specs.Facts.{facts_of_offset_date_time, facts_of_tim
 use crate::described::write_described;
 use crate::item::Item;
 use crate::item_room::ItemRoom;
-use crate::local_parts::{FirstState, value_there};
+use crate::local_parts::{FirstState, local_parts_at};
 use crate::made_item::NO_ITEM;
 use crate::moment::timestamp_value;
 use crate::reason::{Reason, answer_number};
@@ -57,7 +57,11 @@ pub extern "C" fn movaliren_brackets_local(
     ensures { Answers result (λ answer. IsText (described (few (bracket_items text.now))
         (local_value seconds nanosecond offset) facts_of_offset_date_time) answer room.old room.new) }
 {
-    answer_number(write_text::<Brackets, _>(text, value_there(seconds, nanosecond, offset), room))
+    answer_number(write_text::<Brackets, _>(
+        text,
+        local_parts_at(seconds, nanosecond, offset),
+        room,
+    ))
 }
 
 /// Reads the items of a text in the syntax of strftime into an array.
@@ -100,7 +104,11 @@ pub extern "C" fn movaliren_strftime_local(
     ensures { Answers result (λ answer. IsText (described (few (strftime_items text.now))
         (local_value seconds nanosecond offset) facts_of_offset_date_time) answer room.old room.new) }
 {
-    answer_number(write_text::<Strftime, _>(text, value_there(seconds, nanosecond, offset), room))
+    answer_number(write_text::<Strftime, _>(
+        text,
+        local_parts_at(seconds, nanosecond, offset),
+        room,
+    ))
 }
 
 /// Reads the items of a text into an array. If there are none, or they do not fit, the first item of the

@@ -10,7 +10,7 @@ ghost use Rattle.time_fmt.specs.Ends.{Ends};
 ghost use Rattle.time_fmt.specs.Sink.{Fits, Puts, Ready};
 
 use crate::item::{Item, Part, part_of, text_of};
-use crate::local_parts::{FirstState, dated_value};
+use crate::local_parts::{FirstState, local_parts_of};
 use crate::moment::{Moment, date_value, timestamp_value};
 use crate::reason::{Reason, answer_number, reason_of};
 use crate::room::copy_text;
@@ -59,7 +59,7 @@ pub extern "C" fn movaliren_format(
     ensures { Answers result (λ answer. IsDescribed texts.now items.now
         (moment_value moment.now) facts_of_offset_date_time answer room.old room.new) }
 {
-    answer_number(write_described(items, texts, dated_value(moment), room))
+    answer_number(write_described(items, texts, local_parts_of(moment), room))
 }
 
 /// The text of a moment in UTC.
@@ -450,8 +450,8 @@ fn write_apart<M: Modifier, S: Sink, V: ComponentProvider>(
     answer
 }
 
-/// Writes a literal if it fits, or else nothing. Most have one or two bytes, for which one test tells that there is
-/// room.
+/// Writes a literal if it and two bytes fit, or else nothing. Most have one or two bytes, for which one test tells that
+/// there is room.
 #[inline(always)]
 fn write_usual_text<S: Sink>(
     item: &Item,

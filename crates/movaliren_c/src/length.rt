@@ -9,7 +9,7 @@ ghost use Rattle.time_below.specs.Facts.{facts_of_date, facts_of_offset_date_tim
 
 use crate::described::{GREATEST_WIDTH, SHORT, first_reason, write_long};
 use crate::item::Item;
-use crate::local_parts::{FirstState, dated_value, value_there};
+use crate::local_parts::{FirstState, local_parts_at, local_parts_of};
 use crate::moment::{Moment, date_value, timestamp_value};
 use crate::reason::{Reason, answer_number};
 use std::marker::Brand;
@@ -20,7 +20,7 @@ pub extern "C" fn movaliren_format_length(items: &[Item], texts: &[u8], moment: 
     ensures { Answers result (λ answer. IsLength (described (trees_of texts.now items.now)
         (moment_value moment.now) facts_of_offset_date_time) answer) }
 {
-    answer_number(text_length(items, texts, dated_value(moment)))
+    answer_number(text_length(items, texts, local_parts_of(moment)))
 }
 
 /// The number of bytes of the text of a moment in UTC.
@@ -49,7 +49,7 @@ pub extern "C" fn movaliren_format_local_length(
     ensures { Answers result (λ answer. IsLength (described (trees_of texts.now items.now)
         (local_value seconds nanosecond offset) facts_of_offset_date_time) answer) }
 {
-    let value = value_there(seconds, nanosecond, offset);
+    let value = local_parts_at(seconds, nanosecond, offset);
     answer_number(text_length(items, texts, value))
 }
 

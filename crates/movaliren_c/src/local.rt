@@ -10,7 +10,7 @@ ghost use Rattle.time_known.specs.Iso8601.{iso8601_of};
 use crate::described::write_described;
 use crate::iso8601::{Iso8601, IsoConfig, iso8601_by};
 use crate::item::Item;
-use crate::local_parts::value_there;
+use crate::local_parts::local_parts_at;
 use crate::moment_text::{answer_at, texts_of};
 use crate::reason::answer_number;
 use crate::source::AtOffset;
@@ -61,6 +61,6 @@ pub extern "C" fn movaliren_format_local(
     ensures { Answers result (λ answer. IsDescribed texts.now items.now
         (local_value seconds nanosecond offset) facts_of_offset_date_time answer room.old room.new) }
 {
-    let value = value_there(seconds, nanosecond, offset);
+    let value = local_parts_at(seconds, nanosecond, offset);
     answer_number(write_described(items, texts, value, room))
 }

@@ -90,6 +90,7 @@ impl LocalParts {
         }
     }
 
+    /// The time of day.
     #[inline(always)]
     fn time(&self) -> Time
         ensures { result ≡ self.now.time }
@@ -98,6 +99,7 @@ impl LocalParts {
         Time::from_valid_hms_nano(parts.hour, parts.minute, parts.second, parts.nanosecond)
     }
 
+    /// The offset.
     #[inline(always)]
     fn offset(&self) -> UtcOffset
         ensures { result ≡ self.now.offset }
@@ -131,10 +133,10 @@ impl LocalParts {
     }
 }
 
-/// The value of the parts, or the first part that is outside its range, as `moment_value` says.
+/// The value of the parts, which are kept, or the first part that is outside its range.
 #[inline(always)]
 #[tactic(auto, using(crate::proofs::ReadLemmas::value_by_parts))]
-pub fn dated_value(moment: &Moment) -> Result<LocalParts, Reason>
+pub fn local_parts_of(moment: &Moment) -> Result<LocalParts, Reason>
     ensures { result ≡ moment_value moment.now }
 {
     match moment_value(moment) {
@@ -143,9 +145,9 @@ pub fn dated_value(moment: &Moment) -> Result<LocalParts, Reason>
     }
 }
 
-/// The local date and time this long after 1970 at an offset, as `local_value` says.
+/// The local date and time this long after 1970, at an offset of so many seconds east of UTC.
 #[inline(always)]
-pub fn value_there(seconds: i64, nanosecond: u32, east: i64) -> Result<LocalParts, Reason>
+pub fn local_parts_at(seconds: i64, nanosecond: u32, east: i64) -> Result<LocalParts, Reason>
     ensures { result ≡ local_value seconds nanosecond east }
 {
     match local_value(seconds, nanosecond, east) {

@@ -12,6 +12,7 @@ ghost use Rattle.std.specs.Io.KnownBytes.{IsAtEnd};
 use std::alloc::Global;
 use std::io::{Read, Write};
 use std::process::ExitCode;
+/// What the program does, how that fails, and the exit status of either.
 pub use time_answers::run::{ShowError, run, status};
 
 /// Answers the lines of the input, and returns the exit status: 0 at the end of the input alone.

@@ -1,6 +1,6 @@
 use Rattle.std.proofs.Common.{sym}
 use Rattle.movaliren_c.proofs.ReadLemmas.{value_by_parts}
-use Rattle.movaliren_c.proofs.local_parts.dated_value.Goals as goal
+use Rattle.movaliren_c.proofs.local_parts.local_parts_of.Goals as goal
 
 pub by_parts-requires : goal.by_parts-requires
 by_parts-requires c =
