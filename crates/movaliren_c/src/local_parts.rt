@@ -1,7 +1,7 @@
 //! Local dates and times whose month and day are known before a description asks for them.
 ghost use Rattle.std.specs.Prelude.{◌≡◌, true};
 ghost use Rattle.std.specs.Int.{IsInRange};
-ghost use Rattle.std.proofs.Common.{refl, rules};
+ghost use Rattle.std.proofs.Common.{rules};
 ghost use Rattle.movaliren_c.specs.Known.{AreHeld, AreKnown, Holds, offset_of_parts, time_of_parts};
 ghost use Rattle.movaliren_c.specs.Utc.{local_value};
 ghost use Rattle.movaliren_c.specs.Value.{moment_value};
@@ -265,23 +265,9 @@ impl ComponentProvider for LocalParts {
         (self.value().unix_timestamp(), self.time().as_hms_nano().3)
     }
 
-    ghost supplies_date = { λ value. refl };
+    ghost groups = { λ value. Prim.search rules };
 
-    ghost supplies_time = { λ value. refl };
-
-    ghost supplies_offset = { λ value. refl };
-
-    ghost supplies_timestamp = { λ value. refl };
-
-    ghost held = { λ state value supplied h. h };
-
-    ghost grown = { λ old new value supplied h g. g };
-
-    ghost keeps_grown = { λ before old new value k g. tt };
-
-    ghost keeps_same = { λ state. tt };
-
-    ghost fresh = { λ state value is_fresh. Prim.search rules };
+    ghost states = { λ value. Prim.search rules };
 }
 
 impl FirstState for LocalParts {

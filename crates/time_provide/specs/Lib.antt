@@ -1,3 +1,3 @@
 pub mod Agreement
-pub mod Kept
+pub mod Laws
 pub mod Real

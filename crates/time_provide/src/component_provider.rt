@@ -1,5 +1,5 @@
 //! The components of a value.
-ghost use Rattle.std.specs.Prelude.{◌≡◌, ◌≤◌, ◌<◌, Bool, IsTrue, is_some, unsigned_abs};
+ghost use Rattle.std.specs.Prelude.{◌≡◌, ◌≤◌, ◌<◌, Bool, IsTrue, unsigned_abs};
 ghost use Rattle.std.specs.Int.{IsInRange};
 ghost use Rattle.time_below.specs.Calendar.{IsDate};
 ghost use Rattle.time_below.specs.Facts.{Facts, date_facts, the_date, the_time, the_offset, the_moment};
@@ -8,6 +8,7 @@ ghost use Rattle.time_below.specs.Month.{month_number};
 ghost use Rattle.time_below.specs.Offset.{Offset, IsOffset, is_negative, is_utc};
 ghost use Rattle.time_below.specs.TimeOfDay.{TimeOfDay, IsTimeOfDay, period_of};
 ghost use Rattle.time_below.specs.Weekday.{days_from_monday};
+ghost use Rattle.time_provide.specs.Laws.{States, Supplies};
 ghost use Rattle.time_provide.specs.Real.{AgreesOnDate, AgreesOnTime, AgreesOnOffset, AgreesOnMoment};
 
 use crate::kept::Kept;
@@ -99,18 +100,13 @@ pub trait ComponentProvider {
         ensures nanosecond { (the_moment (facts self.now)).nanosecond ≡ result.1 }
         ensures real { IsNearMoment (the_moment (facts self.now)) };
 
-    // A state that agrees holds nothing but components of the date. It agrees with more of them, and
-    // keeps what a state before it held.
-    ghost held: { (state : Self.State) (value : Self) → IsTrue SUPPLIES_DATE → agrees state value
-        → Self.State.holds state (the_date (facts value)) };
+    // The groups that are there are those that the constants name.
+    ghost groups: { (value : Self)
+        → Supplies SUPPLIES_DATE SUPPLIES_TIME SUPPLIES_OFFSET SUPPLIES_TIMESTAMP (facts value) };
 
-    ghost grown: { (old new : Self.State) (value : Self) → IsTrue SUPPLIES_DATE → agrees old value
-        → Self.State.grows old new (the_date (facts value)) → agrees new value };
-
-    ghost keeps_grown: { (before old new : Self.State) (value : Self) → keeps before old
-        → Self.State.grows old new (the_date (facts value)) → keeps before new };
-
-    ghost keeps_same: { (state : Self.State) → keeps state state };
+    // What the state keeps of the date leaves it in agreement with the value.
+    ghost states: { (value : Self) → States Self.State.is_default Self.State.holds Self.State.grows keeps
+        (λ state. agrees state value) (the_date (facts value)) };
 
     /// The day of the month, 1 to 31.
     #[inline(always)]
@@ -375,17 +371,4 @@ pub trait ComponentProvider {
         let (seconds, nanosecond) = self.supplied_moment();
         moment::milliseconds(seconds, nanosecond)
     }
-
-    // The groups that are there are those that the constants name.
-    ghost supplies_date: { (value : Self) → is_some (facts value).date ≡ SUPPLIES_DATE };
-
-    ghost supplies_time: { (value : Self) → is_some (facts value).time ≡ SUPPLIES_TIME };
-
-    ghost supplies_offset: { (value : Self) → is_some (facts value).offset ≡ SUPPLIES_OFFSET };
-
-    ghost supplies_timestamp: { (value : Self) → is_some (facts value).moment ≡ SUPPLIES_TIMESTAMP };
-
-    // A fresh state agrees with every value.
-    ghost fresh: { (state : Self.State) (value : Self) → Self.State.is_default state
-        → agrees state value };
 }

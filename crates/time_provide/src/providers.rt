@@ -1,11 +1,11 @@
 //! The values that supply components, by their groups.
 ghost use Rattle.std.proofs.Common.{rules};
-ghost use Rattle.std.specs.Prelude.{◌≡◌, refl, true, false, pos};
+ghost use Rattle.std.specs.Prelude.{◌≡◌, true, false, pos};
 ghost use Rattle.time_below.specs.Facts.{date_facts, facts_of_date, facts_of_time, facts_of_plain_date_time, facts_of_offset, facts_of_utc_date_time, facts_of_offset_date_time, facts_of_timestamp};
 ghost use Rattle.time_below.specs.Offset.{utc};
 ghost use Rattle.time_provide.specs.Agreement.{Agrees, AgreesWithMoment, Keeps, KeepsOfMoment};
+ghost use Rattle.time_provide.specs.Laws.{kept_itself, kept_on};
 ghost use Rattle.time_provide.specs.Real.{midnight};
-ghost use Rattle.time_provide.specs.Kept.{keeps_on, keeps_itself, moment_keeps_on, moment_keeps_itself};
 
 use crate::component_provider::ComponentProvider;
 use crate::date_state::DateState;
@@ -89,29 +89,14 @@ impl ComponentProvider for Date {
     }
 
     fn supplied_moment(&self) -> (i64, u32)
-        ensures seconds { result.0 ≡ pos 0 }
-        ensures nanosecond { result.1 ≡ 0 }
+        ensures { result ≡ (pos 0, 0) }
     {
         (0, 0)
     }
 
-    ghost supplies_date = { λ value. refl };
+    ghost groups = { λ value. Prim.search rules };
 
-    ghost supplies_time = { λ value. refl };
-
-    ghost supplies_offset = { λ value. refl };
-
-    ghost supplies_timestamp = { λ value. refl };
-
-    ghost held = { λ state value supplied h. h };
-
-    ghost grown = { λ old new value supplied h g. g.0 };
-
-    ghost keeps_grown = { λ before old new value k g. keeps_on k g.1 };
-
-    ghost keeps_same = { keeps_itself };
-
-    ghost fresh = { λ state value is_fresh. Prim.search rules };
+    ghost states = { λ value. Prim.search (rules, kept_itself, kept_on) };
 }
 
 /// A time of day keeps nothing.
@@ -162,29 +147,14 @@ impl ComponentProvider for Time {
     }
 
     fn supplied_moment(&self) -> (i64, u32)
-        ensures seconds { result.0 ≡ pos 0 }
-        ensures nanosecond { result.1 ≡ 0 }
+        ensures { result ≡ (pos 0, 0) }
     {
         (0, 0)
     }
 
-    ghost supplies_date = { λ value. refl };
+    ghost groups = { λ value. Prim.search rules };
 
-    ghost supplies_time = { λ value. refl };
-
-    ghost supplies_offset = { λ value. refl };
-
-    ghost supplies_timestamp = { λ value. refl };
-
-    ghost held = { λ state value supplied h. tt };
-
-    ghost grown = { λ old new value supplied h g. tt };
-
-    ghost keeps_grown = { λ before old new value k g. tt };
-
-    ghost keeps_same = { λ state. tt };
-
-    ghost fresh = { λ state value is_fresh. tt };
+    ghost states = { λ value. Prim.search rules };
 }
 
 /// An offset keeps nothing.
@@ -237,29 +207,14 @@ impl ComponentProvider for UtcOffset {
     }
 
     fn supplied_moment(&self) -> (i64, u32)
-        ensures seconds { result.0 ≡ pos 0 }
-        ensures nanosecond { result.1 ≡ 0 }
+        ensures { result ≡ (pos 0, 0) }
     {
         (0, 0)
     }
 
-    ghost supplies_date = { λ value. refl };
+    ghost groups = { λ value. Prim.search rules };
 
-    ghost supplies_time = { λ value. refl };
-
-    ghost supplies_offset = { λ value. refl };
-
-    ghost supplies_timestamp = { λ value. refl };
-
-    ghost held = { λ state value supplied h. tt };
-
-    ghost grown = { λ old new value supplied h g. tt };
-
-    ghost keeps_grown = { λ before old new value k g. tt };
-
-    ghost keeps_same = { λ state. tt };
-
-    ghost fresh = { λ state value is_fresh. tt };
+    ghost states = { λ value. Prim.search rules };
 }
 
 /// A date with a time of day keeps what its date keeps.
@@ -311,29 +266,14 @@ impl ComponentProvider for PlainDateTime {
     }
 
     fn supplied_moment(&self) -> (i64, u32)
-        ensures seconds { result.0 ≡ pos 0 }
-        ensures nanosecond { result.1 ≡ 0 }
+        ensures { result ≡ (pos 0, 0) }
     {
         (0, 0)
     }
 
-    ghost supplies_date = { λ value. refl };
+    ghost groups = { λ value. Prim.search rules };
 
-    ghost supplies_time = { λ value. refl };
-
-    ghost supplies_offset = { λ value. refl };
-
-    ghost supplies_timestamp = { λ value. refl };
-
-    ghost held = { λ state value supplied h. h };
-
-    ghost grown = { λ old new value supplied h g. g.0 };
-
-    ghost keeps_grown = { λ before old new value k g. keeps_on k g.1 };
-
-    ghost keeps_same = { keeps_itself };
-
-    ghost fresh = { λ state value is_fresh. Prim.search rules };
+    ghost states = { λ value. Prim.search (rules, kept_itself, kept_on) };
 }
 
 /// A date and a time in UTC supply all groups.
@@ -386,23 +326,9 @@ impl ComponentProvider for UtcDateTime {
         (self.unix_timestamp(), self.time().as_hms_nano().3)
     }
 
-    ghost supplies_date = { λ value. refl };
+    ghost groups = { λ value. Prim.search rules };
 
-    ghost supplies_time = { λ value. refl };
-
-    ghost supplies_offset = { λ value. refl };
-
-    ghost supplies_timestamp = { λ value. refl };
-
-    ghost held = { λ state value supplied h. h };
-
-    ghost grown = { λ old new value supplied h g. g.0 };
-
-    ghost keeps_grown = { λ before old new value k g. keeps_on k g.1 };
-
-    ghost keeps_same = { keeps_itself };
-
-    ghost fresh = { λ state value is_fresh. Prim.search rules };
+    ghost states = { λ value. Prim.search (rules, kept_itself, kept_on) };
 }
 
 /// A local date and time with their offset supply all groups.
@@ -457,23 +383,9 @@ impl ComponentProvider for OffsetDateTime {
         (self.unix_timestamp(), self.time().as_hms_nano().3)
     }
 
-    ghost supplies_date = { λ value. refl };
+    ghost groups = { λ value. Prim.search rules };
 
-    ghost supplies_time = { λ value. refl };
-
-    ghost supplies_offset = { λ value. refl };
-
-    ghost supplies_timestamp = { λ value. refl };
-
-    ghost held = { λ state value supplied h. h };
-
-    ghost grown = { λ old new value supplied h g. g.0 };
-
-    ghost keeps_grown = { λ before old new value k g. keeps_on k g.1 };
-
-    ghost keeps_same = { keeps_itself };
-
-    ghost fresh = { λ state value is_fresh. Prim.search rules };
+    ghost states = { λ value. Prim.search (rules, kept_itself, kept_on) };
 }
 
 /// A moment supplies all groups in UTC, and keeps its date and its time.
@@ -527,21 +439,7 @@ impl ComponentProvider for Timestamp {
         self.as_parts()
     }
 
-    ghost supplies_date = { λ value. refl };
+    ghost groups = { λ value. Prim.search rules };
 
-    ghost supplies_time = { λ value. refl };
-
-    ghost supplies_offset = { λ value. refl };
-
-    ghost supplies_timestamp = { λ value. refl };
-
-    ghost held = { λ state value supplied h. h.date_state };
-
-    ghost grown = { λ old new value supplied h g. Prim.search rules };
-
-    ghost keeps_grown = { λ before old new value k g. moment_keeps_on k g.0 g.2 };
-
-    ghost keeps_same = { moment_keeps_itself };
-
-    ghost fresh = { λ state value is_fresh. Prim.search rules };
+    ghost states = { λ value. Prim.search (rules, kept_itself, kept_on) };
 }

@@ -13,9 +13,9 @@ pub returns-clause-puts : goal.returns-clause-puts
 returns-clause-puts g c =
     let value = c.args.value.now in
     let choices = c.args.config.now in
-    let law = g.met.V.ComponentProvider in
+    let groups = g.met.V.ComponentProvider.groups value in
     let there : has_groups (groups_of choices.formatted_components) (g.V.ComponentProvider.facts value) ≡ true =
-    rw (law.supplies_date value, law.supplies_time value, law.supplies_offset value) c.requires.supplied in
+    rw (groups.date, groups.time, groups.offset) c.requires.supplied in
     by_parts choices (g.V.ComponentProvider.facts value)
     (λ width outcome. PutsOutcome width (g.S.Sink.buffer c.args.output.now) (g.S.Sink.buffer c.put_each_part.new.output)
     c.put_each_part.result outcome) there c.requires.some c.put_each_part.ensures.puts
