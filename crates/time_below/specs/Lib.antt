@@ -1,4 +1,5 @@
 pub mod Calendar
+pub mod Clones
 pub mod ComponentRange
 pub mod Conversion
 pub mod Facts

@@ -1,10 +1,7 @@
 //! A clone of each value is that value.
 ghost use Rattle.std.specs.Prelude.{◌≡◌};
-ghost use Rattle.time_below.specs.Calendar.{OrdinalDate};
+ghost use Rattle.time_below.specs.Clones.{AreSame};
 ghost use Rattle.time_below.specs.ComponentRange.{range_refusal};
-ghost use Rattle.time_below.specs.Moment.{Moment, DateAndTime, OffsetDateAndTime};
-ghost use Rattle.time_below.specs.Offset.{Offset};
-ghost use Rattle.time_below.specs.TimeOfDay.{TimeOfDay};
 
 use crate::component_range::ComponentRange;
 use crate::date::Date;
@@ -21,14 +18,13 @@ use crate::weekday::Weekday;
 
 /// A clone of a value of the seven types is that value.
 pub fn clones_of_values()
-    ensures date { (v c : OrdinalDate) → ⟦<Date as Clone>⟧.is_clone v c → c ≡ v }
-    ensures time { (v c : TimeOfDay) → ⟦<Time as Clone>⟧.is_clone v c → c ≡ v }
-    ensures plain_date_time { (v c : DateAndTime) → ⟦<PlainDateTime as Clone>⟧.is_clone v c → c ≡ v }
-    ensures offset { (v c : Offset) → ⟦<UtcOffset as Clone>⟧.is_clone v c → c ≡ v }
-    ensures utc_date_time { (v c : DateAndTime) → ⟦<UtcDateTime as Clone>⟧.is_clone v c → c ≡ v }
-    ensures offset_date_time { (v c : OffsetDateAndTime)
-        → ⟦<OffsetDateTime as Clone>⟧.is_clone v c → c ≡ v }
-    ensures timestamp { (v c : Moment) → ⟦<Timestamp as Clone>⟧.is_clone v c → c ≡ v }
+    ensures date { AreSame ⟦<Date as Clone>⟧.is_clone }
+    ensures time { AreSame ⟦<Time as Clone>⟧.is_clone }
+    ensures plain_date_time { AreSame ⟦<PlainDateTime as Clone>⟧.is_clone }
+    ensures offset { AreSame ⟦<UtcOffset as Clone>⟧.is_clone }
+    ensures utc_date_time { AreSame ⟦<UtcDateTime as Clone>⟧.is_clone }
+    ensures offset_date_time { AreSame ⟦<OffsetDateTime as Clone>⟧.is_clone }
+    ensures timestamp { AreSame ⟦<Timestamp as Clone>⟧.is_clone }
 {}
 
 /// A clone of a name, or of a half of the day, is the same.
