@@ -120,51 +120,56 @@ pub enum Group {
     None,
 }
 
+// A component of one of these names, whatever its choices are.
+macro_rules! one_of {
+    ($($name:ident)+) => { $(Component::$name(_))|+ };
+}
+
+// A match with the width of each component that has the same one for all choices. The other arms follow.
+macro_rules! width_of {
+    ($component:expr, $($other:pat => $width:expr),+ $(,)?) => {
+        match $component {
+            Component::WeekdaySunday(_) | Component::WeekdayMonday(_) => 1,
+            one_of!(
+                Day MonthNumerical WeekNumberIso WeekNumberSunday WeekNumberMonday CalendarYearLastTwo
+                IsoYearLastTwo Hour12 Hour24 Minute Period Second OffsetMinute OffsetSecond WeekNumber
+                Hour
+            ) => 2,
+            one_of!(
+                MonthShort Ordinal WeekdayShort CalendarYearCenturyStandardRange
+                IsoYearCenturyStandardRange OffsetHour
+            ) => 3,
+            one_of!(
+                CalendarYearFullStandardRange CalendarYearCenturyExtendedRange IsoYearFullStandardRange
+                IsoYearCenturyExtendedRange
+            ) => 5,
+            Component::CalendarYearFullExtendedRange(_) | Component::IsoYearFullExtendedRange(_) => 7,
+            Component::MonthLong(_) | Component::WeekdayLong(_) => 9,
+            Component::UnixTimestampSecond(_) => 15,
+            Component::UnixTimestampMillisecond(_) => 18,
+            $($other => $width,)+
+        }
+    };
+}
+
 impl Component {
     /// The part of a value that the component is taken from.
     pub fn group(self) -> Group
         ensures { result ≡ group_of self }
     {
         match self {
-            Component::Day(_)
-            | Component::MonthShort(_)
-            | Component::MonthLong(_)
-            | Component::MonthNumerical(_)
-            | Component::Ordinal(_)
-            | Component::WeekdayShort(_)
-            | Component::WeekdayLong(_)
-            | Component::WeekdaySunday(_)
-            | Component::WeekdayMonday(_)
-            | Component::WeekNumberIso(_)
-            | Component::WeekNumberSunday(_)
-            | Component::WeekNumberMonday(_)
-            | Component::CalendarYearFullExtendedRange(_)
-            | Component::CalendarYearFullStandardRange(_)
-            | Component::CalendarYearCenturyExtendedRange(_)
-            | Component::CalendarYearCenturyStandardRange(_)
-            | Component::CalendarYearLastTwo(_)
-            | Component::IsoYearFullExtendedRange(_)
-            | Component::IsoYearFullStandardRange(_)
-            | Component::IsoYearCenturyExtendedRange(_)
-            | Component::IsoYearCenturyStandardRange(_)
-            | Component::IsoYearLastTwo(_)
-            | Component::Month(_)
-            | Component::Weekday(_)
-            | Component::WeekNumber(_)
-            | Component::Year(_) => Group::Date,
-            Component::Hour12(_)
-            | Component::Hour24(_)
-            | Component::Minute(_)
-            | Component::Period(_)
-            | Component::Second(_)
-            | Component::Subsecond(_)
-            | Component::Hour(_) => Group::Time,
-            Component::OffsetHour(_) | Component::OffsetMinute(_) | Component::OffsetSecond(_) => {
-                Group::Offset
-            }
-            Component::UnixTimestampSecond(_)
-            | Component::UnixTimestampMillisecond(_)
-            | Component::UnixTimestamp(_) => Group::Timestamp,
+            one_of!(
+                Day MonthShort MonthLong MonthNumerical Ordinal WeekdayShort WeekdayLong
+                WeekdaySunday WeekdayMonday WeekNumberIso WeekNumberSunday WeekNumberMonday
+                CalendarYearFullExtendedRange CalendarYearFullStandardRange
+                CalendarYearCenturyExtendedRange CalendarYearCenturyStandardRange
+                CalendarYearLastTwo IsoYearFullExtendedRange IsoYearFullStandardRange
+                IsoYearCenturyExtendedRange IsoYearCenturyStandardRange IsoYearLastTwo Month Weekday
+                WeekNumber Year
+            ) => Group::Date,
+            one_of!(Hour12 Hour24 Minute Period Second Subsecond Hour) => Group::Time,
+            one_of!(OffsetHour OffsetMinute OffsetSecond) => Group::Offset,
+            one_of!(UnixTimestampSecond UnixTimestampMillisecond UnixTimestamp) => Group::Timestamp,
             Component::Ignore(_) | Component::End(_) => Group::None,
         }
     }
@@ -193,45 +198,14 @@ impl Component {
 pub fn component_width(component: &Component) -> usize
     ensures { result ≡ component_width component.now }
 {
-    match component {
-        Component::WeekdaySunday(_) | Component::WeekdayMonday(_) => 1,
-        Component::Day(_)
-        | Component::MonthNumerical(_)
-        | Component::WeekNumberIso(_)
-        | Component::WeekNumberSunday(_)
-        | Component::WeekNumberMonday(_)
-        | Component::CalendarYearLastTwo(_)
-        | Component::IsoYearLastTwo(_)
-        | Component::Hour12(_)
-        | Component::Hour24(_)
-        | Component::Minute(_)
-        | Component::Period(_)
-        | Component::Second(_)
-        | Component::OffsetMinute(_)
-        | Component::OffsetSecond(_)
-        | Component::WeekNumber(_)
-        | Component::Hour(_) => 2,
-        Component::MonthShort(_)
-        | Component::Ordinal(_)
-        | Component::WeekdayShort(_)
-        | Component::CalendarYearCenturyStandardRange(_)
-        | Component::IsoYearCenturyStandardRange(_)
-        | Component::OffsetHour(_) => 3,
-        Component::CalendarYearFullStandardRange(_)
-        | Component::CalendarYearCenturyExtendedRange(_)
-        | Component::IsoYearFullStandardRange(_)
-        | Component::IsoYearCenturyExtendedRange(_) => 5,
-        Component::CalendarYearFullExtendedRange(_) | Component::IsoYearFullExtendedRange(_) => 7,
-        Component::MonthLong(_) | Component::WeekdayLong(_) => 9,
-        Component::UnixTimestampSecond(_) => 15,
-        Component::UnixTimestampMillisecond(_) => 18,
+    width_of!(component,
         Component::Subsecond(modifier) => subsecond_width(modifier.digits),
         Component::Ignore(_) | Component::End(_) => 0,
         Component::Month(modifier) => month_width(modifier.repr),
         Component::Weekday(modifier) => weekday_width(modifier.repr),
         Component::UnixTimestamp(modifier) => unix_timestamp_width(modifier.precision),
         Component::Year(modifier) => year_width(modifier.repr),
-    }
+    )
 }
 
 /// A bound of the width, the same whatever the choices are, so that the compiler makes a table of it.
@@ -239,47 +213,14 @@ pub fn component_width(component: &Component) -> usize
 pub fn component_bound(component: &Component) -> usize
     ensures { component_width component.now ≤ result }
 {
-    match component {
-        Component::WeekdaySunday(_)
-        | Component::WeekdayMonday(_)
-        | Component::Ignore(_)
-        | Component::End(_) => 1,
-        Component::Day(_)
-        | Component::MonthNumerical(_)
-        | Component::WeekNumberIso(_)
-        | Component::WeekNumberSunday(_)
-        | Component::WeekNumberMonday(_)
-        | Component::CalendarYearLastTwo(_)
-        | Component::IsoYearLastTwo(_)
-        | Component::Hour12(_)
-        | Component::Hour24(_)
-        | Component::Minute(_)
-        | Component::Period(_)
-        | Component::Second(_)
-        | Component::OffsetMinute(_)
-        | Component::OffsetSecond(_)
-        | Component::WeekNumber(_)
-        | Component::Hour(_) => 2,
-        Component::MonthShort(_)
-        | Component::Ordinal(_)
-        | Component::WeekdayShort(_)
-        | Component::CalendarYearCenturyStandardRange(_)
-        | Component::IsoYearCenturyStandardRange(_)
-        | Component::OffsetHour(_) => 3,
-        Component::CalendarYearFullStandardRange(_)
-        | Component::CalendarYearCenturyExtendedRange(_)
-        | Component::IsoYearFullStandardRange(_)
-        | Component::IsoYearCenturyExtendedRange(_) => 5,
-        Component::CalendarYearFullExtendedRange(_) | Component::IsoYearFullExtendedRange(_) => 7,
-        Component::MonthLong(_) | Component::WeekdayLong(_) => 9,
-        Component::UnixTimestampSecond(_) => 15,
-        Component::UnixTimestampMillisecond(_) => 18,
+    width_of!(component,
+        Component::Ignore(_) | Component::End(_) => 1,
         Component::Subsecond(_) => 9,
         Component::Month(_) => 9,
         Component::Weekday(_) => 9,
         Component::UnixTimestamp(_) => 18,
         Component::Year(_) => 7,
-    }
+    )
 }
 
 /// The most bytes that this many decimals of a second have.

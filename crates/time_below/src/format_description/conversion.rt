@@ -7,6 +7,13 @@ use crate::format_description::modifier::{
 };
 use crate::format_description::{Component, modifier};
 
+// A component with the choices of these names that a deprecated one has.
+macro_rules! current {
+    ($deprecated:ident as $name:ident: $($choice:ident),+) => {
+        Component::$name(modifier::$name { $($choice: $deprecated.$choice),+ })
+    };
+}
+
 // The number or the name of the month, by the choice.
 #[inline(never)]
 pub(crate) fn current_month(modifier: modifier::Month) -> Component
@@ -14,15 +21,9 @@ pub(crate) fn current_month(modifier: modifier::Month) -> Component
     ensures current { IsTrue (is_current result) }
 {
     match modifier.repr {
-        MonthRepr::Numerical => Component::MonthNumerical(modifier::MonthNumerical {
-            padding: modifier.padding,
-        }),
-        MonthRepr::Long => Component::MonthLong(modifier::MonthLong {
-            case_sensitive: modifier.case_sensitive,
-        }),
-        MonthRepr::Short => Component::MonthShort(modifier::MonthShort {
-            case_sensitive: modifier.case_sensitive,
-        }),
+        MonthRepr::Numerical => current!(modifier as MonthNumerical: padding),
+        MonthRepr::Long => current!(modifier as MonthLong: case_sensitive),
+        MonthRepr::Short => current!(modifier as MonthShort: case_sensitive),
     }
 }
 
@@ -33,18 +34,10 @@ pub(crate) fn current_weekday(modifier: modifier::Weekday) -> Component
     ensures current { IsTrue (is_current result) }
 {
     match modifier.repr {
-        WeekdayRepr::Short => Component::WeekdayShort(modifier::WeekdayShort {
-            case_sensitive: modifier.case_sensitive,
-        }),
-        WeekdayRepr::Long => Component::WeekdayLong(modifier::WeekdayLong {
-            case_sensitive: modifier.case_sensitive,
-        }),
-        WeekdayRepr::Sunday => Component::WeekdaySunday(modifier::WeekdaySunday {
-            one_indexed: modifier.one_indexed,
-        }),
-        WeekdayRepr::Monday => Component::WeekdayMonday(modifier::WeekdayMonday {
-            one_indexed: modifier.one_indexed,
-        }),
+        WeekdayRepr::Short => current!(modifier as WeekdayShort: case_sensitive),
+        WeekdayRepr::Long => current!(modifier as WeekdayLong: case_sensitive),
+        WeekdayRepr::Sunday => current!(modifier as WeekdaySunday: one_indexed),
+        WeekdayRepr::Monday => current!(modifier as WeekdayMonday: one_indexed),
     }
 }
 
@@ -55,15 +48,9 @@ pub(crate) fn current_week_number(modifier: modifier::WeekNumber) -> Component
     ensures current { IsTrue (is_current result) }
 {
     match modifier.repr {
-        WeekNumberRepr::Iso => Component::WeekNumberIso(modifier::WeekNumberIso {
-            padding: modifier.padding,
-        }),
-        WeekNumberRepr::Sunday => Component::WeekNumberSunday(modifier::WeekNumberSunday {
-            padding: modifier.padding,
-        }),
-        WeekNumberRepr::Monday => Component::WeekNumberMonday(modifier::WeekNumberMonday {
-            padding: modifier.padding,
-        }),
+        WeekNumberRepr::Iso => current!(modifier as WeekNumberIso: padding),
+        WeekNumberRepr::Sunday => current!(modifier as WeekNumberSunday: padding),
+        WeekNumberRepr::Monday => current!(modifier as WeekNumberMonday: padding),
     }
 }
 
@@ -74,12 +61,8 @@ pub(crate) fn current_hour(modifier: modifier::Hour) -> Component
     ensures current { IsTrue (is_current result) }
 {
     match modifier.is_12_hour_clock {
-        true => Component::Hour12(modifier::Hour12 {
-            padding: modifier.padding,
-        }),
-        false => Component::Hour24(modifier::Hour24 {
-            padding: modifier.padding,
-        }),
+        true => current!(modifier as Hour12: padding),
+        false => current!(modifier as Hour24: padding),
     }
 }
 
@@ -90,16 +73,10 @@ pub(crate) fn current_unix_timestamp(modifier: modifier::UnixTimestamp) -> Compo
     ensures current { IsTrue (is_current result) }
 {
     match modifier.precision {
-        UnixTimestampPrecision::Second => Component::UnixTimestampSecond(
-            modifier::UnixTimestampSecond {
-                sign_is_mandatory: modifier.sign_is_mandatory,
-            },
-        ),
-        UnixTimestampPrecision::Millisecond => Component::UnixTimestampMillisecond(
-            modifier::UnixTimestampMillisecond {
-                sign_is_mandatory: modifier.sign_is_mandatory,
-            },
-        ),
+        UnixTimestampPrecision::Second =>
+            current!(modifier as UnixTimestampSecond: sign_is_mandatory),
+        UnixTimestampPrecision::Millisecond =>
+            current!(modifier as UnixTimestampMillisecond: sign_is_mandatory),
     }
 }
 
@@ -110,63 +87,23 @@ pub(crate) fn current_year(modifier: modifier::Year) -> Component
     ensures current { IsTrue (is_current result) }
 {
     match (modifier.iso_week_based, modifier.repr, modifier.range) {
-        (true, YearRepr::Full, YearRange::Extended) => Component::IsoYearFullExtendedRange(
-            modifier::IsoYearFullExtendedRange {
-                padding: modifier.padding,
-                sign_is_mandatory: modifier.sign_is_mandatory,
-            },
-        ),
-        (true, YearRepr::Full, YearRange::Standard) => Component::IsoYearFullStandardRange(
-            modifier::IsoYearFullStandardRange {
-                padding: modifier.padding,
-                sign_is_mandatory: modifier.sign_is_mandatory,
-            },
-        ),
-        (true, YearRepr::Century, YearRange::Extended) => Component::IsoYearCenturyExtendedRange(
-            modifier::IsoYearCenturyExtendedRange {
-                padding: modifier.padding,
-                sign_is_mandatory: modifier.sign_is_mandatory,
-            },
-        ),
-        (true, YearRepr::Century, YearRange::Standard) => Component::IsoYearCenturyStandardRange(
-            modifier::IsoYearCenturyStandardRange {
-                padding: modifier.padding,
-                sign_is_mandatory: modifier.sign_is_mandatory,
-            },
-        ),
-        (true, YearRepr::LastTwo, _) => Component::IsoYearLastTwo(modifier::IsoYearLastTwo {
-            padding: modifier.padding,
-        }),
-        (false, YearRepr::Full, YearRange::Extended) => Component::CalendarYearFullExtendedRange(
-            modifier::CalendarYearFullExtendedRange {
-                padding: modifier.padding,
-                sign_is_mandatory: modifier.sign_is_mandatory,
-            },
-        ),
-        (false, YearRepr::Full, YearRange::Standard) => Component::CalendarYearFullStandardRange(
-            modifier::CalendarYearFullStandardRange {
-                padding: modifier.padding,
-                sign_is_mandatory: modifier.sign_is_mandatory,
-            },
-        ),
+        (true, YearRepr::Full, YearRange::Extended) =>
+            current!(modifier as IsoYearFullExtendedRange: padding, sign_is_mandatory),
+        (true, YearRepr::Full, YearRange::Standard) =>
+            current!(modifier as IsoYearFullStandardRange: padding, sign_is_mandatory),
+        (true, YearRepr::Century, YearRange::Extended) =>
+            current!(modifier as IsoYearCenturyExtendedRange: padding, sign_is_mandatory),
+        (true, YearRepr::Century, YearRange::Standard) =>
+            current!(modifier as IsoYearCenturyStandardRange: padding, sign_is_mandatory),
+        (true, YearRepr::LastTwo, _) => current!(modifier as IsoYearLastTwo: padding),
+        (false, YearRepr::Full, YearRange::Extended) =>
+            current!(modifier as CalendarYearFullExtendedRange: padding, sign_is_mandatory),
+        (false, YearRepr::Full, YearRange::Standard) =>
+            current!(modifier as CalendarYearFullStandardRange: padding, sign_is_mandatory),
         (false, YearRepr::Century, YearRange::Extended) =>
-            Component::CalendarYearCenturyExtendedRange(
-                modifier::CalendarYearCenturyExtendedRange {
-                    padding: modifier.padding,
-                    sign_is_mandatory: modifier.sign_is_mandatory,
-                },
-            ),
+            current!(modifier as CalendarYearCenturyExtendedRange: padding, sign_is_mandatory),
         (false, YearRepr::Century, YearRange::Standard) =>
-            Component::CalendarYearCenturyStandardRange(
-                modifier::CalendarYearCenturyStandardRange {
-                    padding: modifier.padding,
-                    sign_is_mandatory: modifier.sign_is_mandatory,
-                },
-            ),
-        (false, YearRepr::LastTwo, _) => Component::CalendarYearLastTwo(
-            modifier::CalendarYearLastTwo {
-                padding: modifier.padding,
-            },
-        ),
+            current!(modifier as CalendarYearCenturyStandardRange: padding, sign_is_mandatory),
+        (false, YearRepr::LastTwo, _) => current!(modifier as CalendarYearLastTwo: padding),
     }
 }
