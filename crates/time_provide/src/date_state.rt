@@ -20,9 +20,13 @@ pub struct DateState {
     pub(crate) iso_year: Option<Year>,
 }
 
-impl DateState {
+impl Kept for DateState {
+    ghost holds = { Agrees };
+
+    ghost grows = { λ old new date. Agrees new date × Keeps old new };
+
     // The day of the month. Where it is absent, it is kept with the month.
-    pub(crate) fn day(&mut self, date: Date) -> Day
+    fn kept_day(&mut self, date: Date) -> Day
         requires { Agrees self.old (date_facts date) }
         ensures value { result ≡ day_of date }
         ensures held { self.new ≡ record self.old { day = Some result; month = self.new.month } }
@@ -42,7 +46,7 @@ impl DateState {
     }
 
     // The month, which is kept.
-    pub(crate) fn month(&mut self, date: Date) -> Month
+    fn kept_month(&mut self, date: Date) -> Month
         requires { Agrees self.old (date_facts date) }
         ensures value { month_number result ≡ month_of date }
         ensures held { self.new ≡ record self.old { month = Some result } }
@@ -58,7 +62,7 @@ impl DateState {
     }
 
     // The week of the week calendar. Where it is absent, it is kept with its year.
-    pub(crate) fn iso_week(&mut self, date: Date) -> IsoWeekNumber
+    fn kept_iso_week(&mut self, date: Date) -> IsoWeekNumber
         requires { Agrees self.old (date_facts date) }
         ensures value { result ≡ iso_week_of date }
         ensures held { self.new
@@ -75,7 +79,7 @@ impl DateState {
     }
 
     // The year of the week calendar. Where it is absent, it is kept with the week.
-    pub(crate) fn iso_year(&mut self, date: Date) -> Year
+    fn kept_iso_year(&mut self, date: Date) -> Year
         requires { Agrees self.old (date_facts date) }
         ensures value { result ≡ iso_year_of date }
         ensures held { self.new
@@ -90,7 +94,9 @@ impl DateState {
         }
         self.fill_week(date).0
     }
+}
 
+impl DateState {
     // Keeps the year of the week calendar and the week.
     fn fill_week(&mut self, date: Date) -> (Year, IsoWeekNumber)
         requires { Agrees self.old (date_facts date) }
@@ -109,27 +115,5 @@ impl DateState {
         self.iso_year = Some(year);
         self.iso_week = Some(week);
         (year, week)
-    }
-}
-
-impl Kept for DateState {
-    ghost holds = { Agrees };
-
-    ghost grows = { λ old new date. Agrees new date × Keeps old new };
-
-    fn kept_day(&mut self, date: Date) -> Day {
-        self.day(date)
-    }
-
-    fn kept_month(&mut self, date: Date) -> Month {
-        self.month(date)
-    }
-
-    fn kept_iso_week(&mut self, date: Date) -> IsoWeekNumber {
-        self.iso_week(date)
-    }
-
-    fn kept_iso_year(&mut self, date: Date) -> Year {
-        self.iso_year(date)
     }
 }

@@ -57,18 +57,18 @@ impl Kept for TimestampState {
         × Agrees new.date_state date × Keeps old.date_state new.date_state };
 
     fn kept_day(&mut self, date: Date) -> Day {
-        self.date_state.day(date)
+        self.date_state.kept_day(date)
     }
 
     fn kept_month(&mut self, date: Date) -> Month {
-        self.date_state.month(date)
+        self.date_state.kept_month(date)
     }
 
     fn kept_iso_week(&mut self, date: Date) -> IsoWeekNumber {
-        self.date_state.iso_week(date)
+        self.date_state.kept_iso_week(date)
     }
 
     fn kept_iso_year(&mut self, date: Date) -> Year {
-        self.date_state.iso_year(date)
+        self.date_state.kept_iso_year(date)
     }
 }
