@@ -1,10 +1,14 @@
 -- Spare capacity at the end of a vector of bytes, and what is written into it.
-use Rattle.std.specs.Prelude.{ℕ, ◌≡◌, ◌+◌, ◌≤◌, ◌++◌, List, length, vec_len, vec_capacity, Vec}
+use Rattle.std.specs.Prelude.{ℕ, ◌≡◌, ◌+◌, ◌*◌, ◌≤◌, ◌++◌, List, length, max, vec_len, vec_capacity, Vec}
 use Rattle.std.specs.Global.{Global}
 
 -- the capacity leaves this many bytes after what is there
 abbrev pub HasRoom : Vec ℕ Global → ℕ → Type 0
 HasRoom output width = vec_len output + width ≤ vec_capacity output
+
+-- the capacity that one reservation of this many bytes makes: twice what it was, or what is needed if that is more
+abbrev pub grown_capacity : Vec ℕ Global → ℕ → ℕ
+grown_capacity output width = max (2 * vec_capacity output) (vec_len output + width)
 
 -- The text was appended, and the count is its length. The capacity is unchanged, so that the spare capacity shrinks by
 -- the bytes appended.

@@ -15,6 +15,16 @@ use crate::sink::Sink;
 use time_below::format_description::Component;
 use time_provide::ComponentProvider;
 
+// A match in which the choices of each of these components have this answer. The other arms follow.
+macro_rules! each {
+    ($component:ident, [$($name:ident)+], $part:ident => $answer:expr, $($other:pat => $rest:expr),+ $(,)?) => {
+        match $component {
+            $(Component::$name($part) => Some($answer),)+
+            $($other => $rest,)+
+        }
+    };
+}
+
 /// Appends the text of a component that is met often, whose writer becomes part of the loop over a list.
 /// Returns its refusal, if it is refused. Of any other component writes nothing and returns `None`.
 #[inline(always)]
@@ -29,26 +39,11 @@ pub fn write_often<S: Sink, V: ComponentProvider>(
         (λ answer. Ends (component_width component) (S.buffer output.old) (S.buffer output.new) answer
         (component_outcome component (V.facts value.now))) × V.agrees state.new value.now }
 {
-    match component {
-        Component::Day(part) => Some(write_part(part, output, value, state)),
-        Component::MonthShort(part) => Some(write_part(part, output, value, state)),
-        Component::MonthLong(part) => Some(write_part(part, output, value, state)),
-        Component::MonthNumerical(part) => Some(write_part(part, output, value, state)),
-        Component::WeekdayShort(part) => Some(write_part(part, output, value, state)),
-        Component::WeekdayMonday(part) => Some(write_part(part, output, value, state)),
-        Component::CalendarYearFullExtendedRange(part) => Some(write_part(
-            part, output, value, state,
-        )),
-        Component::Hour12(part) => Some(write_part(part, output, value, state)),
-        Component::Hour24(part) => Some(write_part(part, output, value, state)),
-        Component::Minute(part) => Some(write_part(part, output, value, state)),
-        Component::Period(part) => Some(write_part(part, output, value, state)),
-        Component::Second(part) => Some(write_part(part, output, value, state)),
-        Component::Subsecond(part) => Some(write_part(part, output, value, state)),
-        Component::OffsetHour(part) => Some(write_part(part, output, value, state)),
-        Component::OffsetMinute(part) => Some(write_part(part, output, value, state)),
-        _ => None,
-    }
+    each!(component, [
+        Day MonthShort MonthLong MonthNumerical WeekdayShort WeekdayMonday
+        CalendarYearFullExtendedRange Hour12 Hour24 Minute Period Second Subsecond OffsetHour
+        OffsetMinute
+    ], part => write_part(part, output, value, state), _ => None)
 }
 
 /// Appends the text of a component that is not deprecated. Returns its refusal, if it is refused. Of one
@@ -65,52 +60,15 @@ pub(crate) fn write_current<S: Sink, V: ComponentProvider>(
         (λ answer. Ends (component_width component) (S.buffer output.old) (S.buffer output.new) answer
         (component_outcome component (V.facts value.now))) × V.agrees state.new value.now }
 {
-    match component {
-        Component::Day(part) => Some(write_rare(part, output, value, state)),
-        Component::MonthShort(part) => Some(write_rare(part, output, value, state)),
-        Component::MonthLong(part) => Some(write_rare(part, output, value, state)),
-        Component::MonthNumerical(part) => Some(write_rare(part, output, value, state)),
-        Component::Ordinal(part) => Some(write_rare(part, output, value, state)),
-        Component::WeekdayShort(part) => Some(write_rare(part, output, value, state)),
-        Component::WeekdayLong(part) => Some(write_rare(part, output, value, state)),
-        Component::WeekdaySunday(part) => Some(write_rare(part, output, value, state)),
-        Component::WeekdayMonday(part) => Some(write_rare(part, output, value, state)),
-        Component::WeekNumberIso(part) => Some(write_rare(part, output, value, state)),
-        Component::WeekNumberSunday(part) => Some(write_rare(part, output, value, state)),
-        Component::WeekNumberMonday(part) => Some(write_rare(part, output, value, state)),
-        Component::CalendarYearFullExtendedRange(part) => Some(write_rare(
-            part, output, value, state,
-        )),
-        Component::CalendarYearFullStandardRange(part) => Some(write_rare(
-            part, output, value, state,
-        )),
-        Component::CalendarYearCenturyExtendedRange(part) => Some(write_rare(
-            part, output, value, state,
-        )),
-        Component::CalendarYearCenturyStandardRange(part) => Some(write_rare(
-            part, output, value, state,
-        )),
-        Component::CalendarYearLastTwo(part) => Some(write_rare(part, output, value, state)),
-        Component::IsoYearFullExtendedRange(part) => Some(write_rare(part, output, value, state)),
-        Component::IsoYearFullStandardRange(part) => Some(write_rare(part, output, value, state)),
-        Component::IsoYearCenturyExtendedRange(part) => Some(write_rare(
-            part, output, value, state,
-        )),
-        Component::IsoYearCenturyStandardRange(part) => Some(write_rare(
-            part, output, value, state,
-        )),
-        Component::IsoYearLastTwo(part) => Some(write_rare(part, output, value, state)),
-        Component::Hour12(part) => Some(write_rare(part, output, value, state)),
-        Component::Hour24(part) => Some(write_rare(part, output, value, state)),
-        Component::Minute(part) => Some(write_rare(part, output, value, state)),
-        Component::Period(part) => Some(write_rare(part, output, value, state)),
-        Component::Second(part) => Some(write_rare(part, output, value, state)),
-        Component::Subsecond(part) => Some(write_rare(part, output, value, state)),
-        Component::OffsetHour(part) => Some(write_rare(part, output, value, state)),
-        Component::OffsetMinute(part) => Some(write_rare(part, output, value, state)),
-        Component::OffsetSecond(part) => Some(write_rare(part, output, value, state)),
-        Component::UnixTimestampSecond(part) => Some(write_rare(part, output, value, state)),
-        Component::UnixTimestampMillisecond(part) => Some(write_rare(part, output, value, state)),
+    each!(component, [
+        Day MonthShort MonthLong MonthNumerical Ordinal WeekdayShort WeekdayLong WeekdaySunday
+        WeekdayMonday WeekNumberIso WeekNumberSunday WeekNumberMonday CalendarYearFullExtendedRange
+        CalendarYearFullStandardRange CalendarYearCenturyExtendedRange
+        CalendarYearCenturyStandardRange CalendarYearLastTwo IsoYearFullExtendedRange
+        IsoYearFullStandardRange IsoYearCenturyExtendedRange IsoYearCenturyStandardRange
+        IsoYearLastTwo Hour12 Hour24 Minute Period Second Subsecond OffsetHour OffsetMinute
+        OffsetSecond UnixTimestampSecond UnixTimestampMillisecond
+    ], part => write_rare(part, output, value, state),
         Component::Ignore(_) | Component::End(_) => Some(Ok(())),
         Component::Month(_)
         | Component::Weekday(_)
@@ -118,7 +76,7 @@ pub(crate) fn write_current<S: Sink, V: ComponentProvider>(
         | Component::Hour(_)
         | Component::UnixTimestamp(_)
         | Component::Year(_) => None,
-    }
+    )
 }
 
 // Appends the text of a component that is not deprecated, by a call that is not inlined, as of one that is

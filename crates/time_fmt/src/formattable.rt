@@ -1,10 +1,10 @@
 //! Descriptions of a text.
-ghost use Rattle.std.specs.Prelude.{◌≡◌, ◌≢◌, ℕ, List, ◌+◌, ◌*◌, ◌<◌, ◌≤◌, max, None, IsOk, OnOk, OnErr, IfOk, IfErr, IfSome, IsSome, IsSomeAnd, IsTrue, [], IsUtf8, string_bytes, vec_len, vec_capacity};
+ghost use Rattle.std.specs.Prelude.{◌≡◌, ◌≢◌, ℕ, List, ◌+◌, ◌<◌, ◌≤◌, None, IsOk, OnOk, OnErr, IfOk, IfErr, IfSome, IsSome, IsSomeAnd, IsTrue, [], IsUtf8, string_bytes, vec_len, vec_capacity};
 ghost use Rattle.time_below.specs.Facts.{Facts};
 ghost use Rattle.time_fmt.specs.Outcome.{Outcome, Names, Appends, Adds};
 ghost use Rattle.time_fmt.specs.Guarantee.{IsTextIf};
 ghost use Rattle.time_fmt.specs.Lossy.{lossy_text, IsRefusedOrText};
-ghost use Rattle.time_fmt.specs.Room.{HasRoom};
+ghost use Rattle.time_fmt.specs.Room.{HasRoom, grown_capacity};
 
 mod engine;
 mod in_room;
@@ -94,12 +94,10 @@ pub trait Formattable: ComputeMetadata {
         ensures in_place { HasRoom output.old (Self.width_of self.now)
             → vec_capacity output.new ≡ vec_capacity output.old }
         ensures grown { vec_capacity output.old ≤ vec_capacity output.new }
-        ensures bounded { vec_capacity output.new ≤ max (2 * vec_capacity output.old)
-            (vec_len output.old + Self.width_of self.now) }
+        ensures bounded { vec_capacity output.new ≤ grown_capacity output.old (Self.width_of self.now) }
         ensures doubled { result ≢ Err Format.OutOfMemory
             → vec_capacity output.old < vec_len output.old + Self.width_of self.now
-            → max (2 * vec_capacity output.old) (vec_len output.old + Self.width_of self.now)
-            ≤ vec_capacity output.new }
+            → grown_capacity output.old (Self.width_of self.now) ≤ vec_capacity output.new }
 
         // `OutOfMemory` changes nothing, and is never returned if the width fits.
         ensures unchanged { result ≡ Err Format.OutOfMemory → output.new.items ≡ output.old.items }
@@ -178,12 +176,10 @@ pub fn make_room(output: &mut Vec<u8>, width: usize) -> Result<(), AllocError>
     ensures in_place { HasRoom output.old width
         → IsOk result × (vec_capacity output.new ≡ vec_capacity output.old) }
     ensures grown { vec_capacity output.old ≤ vec_capacity output.new }
-    ensures bounded { vec_capacity output.new ≤ max (2 * vec_capacity output.old)
-        (vec_len output.old + width) }
+    ensures bounded { vec_capacity output.new ≤ grown_capacity output.old width }
     ensures refused { OnErr result (vec_capacity output.new ≡ vec_capacity output.old) }
     ensures doubled { OnOk result (vec_capacity output.old < vec_len output.old + width
-        → max (2 * vec_capacity output.old) (vec_len output.old + width)
-        ≤ vec_capacity output.new) }
+        → grown_capacity output.old width ≤ vec_capacity output.new) }
 {
     if width <= output.capacity() - output.len() {
         return Ok(());
@@ -201,11 +197,9 @@ fn grow(output: &mut Vec<u8>, width: usize) -> Result<(), AllocError>
     ensures len { vec_len output.new ≡ vec_len output.old }
     ensures room { OnOk result (HasRoom output.new width) }
     ensures grown { vec_capacity output.old ≤ vec_capacity output.new }
-    ensures bounded { vec_capacity output.new ≤ max (2 * vec_capacity output.old)
-        (vec_len output.old + width) }
+    ensures bounded { vec_capacity output.new ≤ grown_capacity output.old width }
     ensures refused { OnErr result (vec_capacity output.new ≡ vec_capacity output.old) }
-    ensures doubled { OnOk result (max (2 * vec_capacity output.old) (vec_len output.old + width)
-        ≤ vec_capacity output.new) }
+    ensures doubled { OnOk result (grown_capacity output.old width ≤ vec_capacity output.new) }
 {
     let (len, capacity) = (output.len(), output.capacity());
     output.reserve_exact(width.max(capacity.saturating_add(capacity - len)))

@@ -48,74 +48,56 @@ macro_rules! text {
     ($($parts:tt)+) => { $crate::text!(@[] [] $($parts)+) };
 }
 
+// Choices of these names, as they are where none are named.
+macro_rules! usual {
+    (padding) => { Padding::Zero };
+    (sign_is_mandatory) => { false };
+    (case_sensitive) => { true };
+    (is_uppercase) => { true };
+    ($name:ident: $($choice:ident),+) => { modifier::$name { $($choice: usual!($choice)),+ } };
+}
+
 /// The calendar year, -999,999 to 999,999, as `1997`, or a sign and all its digits from 10,000
 /// on.
-pub const YEAR: modifier::CalendarYearFullExtendedRange = modifier::CalendarYearFullExtendedRange {
-    padding: Padding::Zero,
-    sign_is_mandatory: false,
-};
+pub const YEAR: modifier::CalendarYearFullExtendedRange =
+    usual!(CalendarYearFullExtendedRange: padding, sign_is_mandatory);
 
 /// The calendar year, -9,999 to 9,999, as `1997`. Every other year is refused.
 pub const YEAR_STANDARD: modifier::CalendarYearFullStandardRange =
-    modifier::CalendarYearFullStandardRange {
-        padding: Padding::Zero,
-        sign_is_mandatory: false,
-    };
+    usual!(CalendarYearFullStandardRange: padding, sign_is_mandatory);
 
 /// The calendar year without its last two digits, as `19`.
 pub const YEAR_CENTURY: modifier::CalendarYearCenturyExtendedRange =
-    modifier::CalendarYearCenturyExtendedRange {
-        padding: Padding::Zero,
-        sign_is_mandatory: false,
-    };
+    usual!(CalendarYearCenturyExtendedRange: padding, sign_is_mandatory);
 
 /// The calendar year without its last two digits, -99 to 99, as `19`. Every other century is
 /// refused.
 pub const YEAR_CENTURY_STANDARD: modifier::CalendarYearCenturyStandardRange =
-    modifier::CalendarYearCenturyStandardRange {
-        padding: Padding::Zero,
-        sign_is_mandatory: false,
-    };
+    usual!(CalendarYearCenturyStandardRange: padding, sign_is_mandatory);
 
 /// The last two digits of the calendar year, as `97`.
-pub const YEAR_LAST_TWO: modifier::CalendarYearLastTwo = modifier::CalendarYearLastTwo {
-    padding: Padding::Zero,
-};
+pub const YEAR_LAST_TWO: modifier::CalendarYearLastTwo = usual!(CalendarYearLastTwo: padding);
 
 /// The month by its number, as `11`.
-pub const MONTH: modifier::MonthNumerical = modifier::MonthNumerical {
-    padding: Padding::Zero,
-};
+pub const MONTH: modifier::MonthNumerical = usual!(MonthNumerical: padding);
 
 /// The month's English name, as `November`.
-pub const MONTH_LONG: modifier::MonthLong = modifier::MonthLong {
-    case_sensitive: true,
-};
+pub const MONTH_LONG: modifier::MonthLong = usual!(MonthLong: case_sensitive);
 
 /// The first three letters of the month's English name, as `Nov`.
-pub const MONTH_SHORT: modifier::MonthShort = modifier::MonthShort {
-    case_sensitive: true,
-};
+pub const MONTH_SHORT: modifier::MonthShort = usual!(MonthShort: case_sensitive);
 
 /// The day of the month, as `12`.
-pub const DAY: modifier::Day = modifier::Day {
-    padding: Padding::Zero,
-};
+pub const DAY: modifier::Day = usual!(Day: padding);
 
 /// The day of the year (ISO 8601-1:2019, ordinal date), as `316`.
-pub const ORDINAL: modifier::Ordinal = modifier::Ordinal {
-    padding: Padding::Zero,
-};
+pub const ORDINAL: modifier::Ordinal = usual!(Ordinal: padding);
 
 /// The weekday's English name, as `Wednesday`.
-pub const WEEKDAY: modifier::WeekdayLong = modifier::WeekdayLong {
-    case_sensitive: true,
-};
+pub const WEEKDAY: modifier::WeekdayLong = usual!(WeekdayLong: case_sensitive);
 
 /// The first three letters of the weekday's English name, as `Wed`.
-pub const WEEKDAY_SHORT: modifier::WeekdayShort = modifier::WeekdayShort {
-    case_sensitive: true,
-};
+pub const WEEKDAY_SHORT: modifier::WeekdayShort = usual!(WeekdayShort: case_sensitive);
 
 /// The weekday by a digit, where Sunday is 1, as `4`.
 pub const WEEKDAY_SUNDAY: modifier::WeekdaySunday = modifier::WeekdaySunday { one_indexed: true };
@@ -124,78 +106,48 @@ pub const WEEKDAY_SUNDAY: modifier::WeekdaySunday = modifier::WeekdaySunday { on
 pub const WEEKDAY_MONDAY: modifier::WeekdayMonday = modifier::WeekdayMonday { one_indexed: true };
 
 /// The week of the week calendar (ISO 8601-1:2019, week date), as `46`.
-pub const WEEK_NUMBER: modifier::WeekNumberIso = modifier::WeekNumberIso {
-    padding: Padding::Zero,
-};
+pub const WEEK_NUMBER: modifier::WeekNumberIso = usual!(WeekNumberIso: padding);
 
 /// The week of the year, where week 1 begins on the first Sunday, as `45`.
-pub const WEEK_NUMBER_SUNDAY: modifier::WeekNumberSunday = modifier::WeekNumberSunday {
-    padding: Padding::Zero,
-};
+pub const WEEK_NUMBER_SUNDAY: modifier::WeekNumberSunday = usual!(WeekNumberSunday: padding);
 
 /// The week of the year, where week 1 begins on the first Monday, as `45`.
-pub const WEEK_NUMBER_MONDAY: modifier::WeekNumberMonday = modifier::WeekNumberMonday {
-    padding: Padding::Zero,
-};
+pub const WEEK_NUMBER_MONDAY: modifier::WeekNumberMonday = usual!(WeekNumberMonday: padding);
 
 /// The year of the week calendar (ISO 8601-1:2019, week date), as `1997`.
-pub const ISO_YEAR: modifier::IsoYearFullExtendedRange = modifier::IsoYearFullExtendedRange {
-    padding: Padding::Zero,
-    sign_is_mandatory: false,
-};
+pub const ISO_YEAR: modifier::IsoYearFullExtendedRange =
+    usual!(IsoYearFullExtendedRange: padding, sign_is_mandatory);
 
 /// The year of the week calendar, -9,999 to 9,999, as `1997`. Every other year is refused.
 pub const ISO_YEAR_STANDARD: modifier::IsoYearFullStandardRange =
-    modifier::IsoYearFullStandardRange {
-        padding: Padding::Zero,
-        sign_is_mandatory: false,
-    };
+    usual!(IsoYearFullStandardRange: padding, sign_is_mandatory);
 
 /// The year of the week calendar without its last two digits, as `19`.
 pub const ISO_YEAR_CENTURY: modifier::IsoYearCenturyExtendedRange =
-    modifier::IsoYearCenturyExtendedRange {
-        padding: Padding::Zero,
-        sign_is_mandatory: false,
-    };
+    usual!(IsoYearCenturyExtendedRange: padding, sign_is_mandatory);
 
 /// The year of the week calendar without its last two digits, -99 to 99, as `19`. Every other
 /// century is refused.
 pub const ISO_YEAR_CENTURY_STANDARD: modifier::IsoYearCenturyStandardRange =
-    modifier::IsoYearCenturyStandardRange {
-        padding: Padding::Zero,
-        sign_is_mandatory: false,
-    };
+    usual!(IsoYearCenturyStandardRange: padding, sign_is_mandatory);
 
 /// The last two digits of the year of the week calendar, as `97`.
-pub const ISO_YEAR_LAST_TWO: modifier::IsoYearLastTwo = modifier::IsoYearLastTwo {
-    padding: Padding::Zero,
-};
+pub const ISO_YEAR_LAST_TWO: modifier::IsoYearLastTwo = usual!(IsoYearLastTwo: padding);
 
 /// The hour, 0 to 23, as `09`.
-pub const HOUR: modifier::Hour24 = modifier::Hour24 {
-    padding: Padding::Zero,
-};
+pub const HOUR: modifier::Hour24 = usual!(Hour24: padding);
 
 /// The hour of the 12-hour clock, 1 to 12, as `09`.
-pub const HOUR_12: modifier::Hour12 = modifier::Hour12 {
-    padding: Padding::Zero,
-};
+pub const HOUR_12: modifier::Hour12 = usual!(Hour12: padding);
 
 /// The half of the day, as `AM`.
-pub const PERIOD: modifier::Period = modifier::Period {
-    is_uppercase: true,
-    case_sensitive: true,
-};
+pub const PERIOD: modifier::Period = usual!(Period: is_uppercase, case_sensitive);
 
 /// The minute, as `55`.
-pub const MINUTE: modifier::Minute = modifier::Minute {
-    padding: Padding::Zero,
-};
+pub const MINUTE: modifier::Minute = usual!(Minute: padding);
 
 /// The second, as `06`.
-pub const SECOND: modifier::Second = modifier::Second {
-    padding: Padding::Zero,
-};
+pub const SECOND: modifier::Second = usual!(Second: padding);
 
 /// The decimals of the second, as many as are needed, at least one, as `123456789`.
 pub const SUBSECOND: modifier::Subsecond = modifier::Subsecond {
@@ -218,10 +170,7 @@ pub const NINE_DECIMALS: modifier::Subsecond = modifier::Subsecond {
 };
 
 /// The hour of the offset from UTC, with a minus where the offset is negative, as `-06`, or `02`.
-pub const OFFSET_HOUR: modifier::OffsetHour = modifier::OffsetHour {
-    padding: Padding::Zero,
-    sign_is_mandatory: false,
-};
+pub const OFFSET_HOUR: modifier::OffsetHour = usual!(OffsetHour: padding, sign_is_mandatory);
 
 /// The hour of the offset from UTC after its sign, as `-06`, or `+02`.
 pub const SIGNED_OFFSET_HOUR: modifier::OffsetHour = modifier::OffsetHour {
@@ -230,22 +179,15 @@ pub const SIGNED_OFFSET_HOUR: modifier::OffsetHour = modifier::OffsetHour {
 };
 
 /// The minute of the offset from UTC, without a sign, as `30`.
-pub const OFFSET_MINUTE: modifier::OffsetMinute = modifier::OffsetMinute {
-    padding: Padding::Zero,
-};
+pub const OFFSET_MINUTE: modifier::OffsetMinute = usual!(OffsetMinute: padding);
 
 /// The second of the offset from UTC, without a sign, as `00`.
-pub const OFFSET_SECOND: modifier::OffsetSecond = modifier::OffsetSecond {
-    padding: Padding::Zero,
-};
+pub const OFFSET_SECOND: modifier::OffsetSecond = usual!(OffsetSecond: padding);
 
 /// The seconds since 1970-01-01T00:00:00 UTC, rounded down, as `879351906`.
-pub const UNIX_TIMESTAMP: modifier::UnixTimestampSecond = modifier::UnixTimestampSecond {
-    sign_is_mandatory: false,
-};
+pub const UNIX_TIMESTAMP: modifier::UnixTimestampSecond =
+    usual!(UnixTimestampSecond: sign_is_mandatory);
 
 /// The milliseconds since 1970-01-01T00:00:00 UTC, rounded toward zero, as `879351906123`.
 pub const UNIX_TIMESTAMP_MILLISECOND: modifier::UnixTimestampMillisecond =
-    modifier::UnixTimestampMillisecond {
-        sign_is_mandatory: false,
-    };
+    usual!(UnixTimestampMillisecond: sign_is_mandatory);

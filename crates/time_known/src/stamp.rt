@@ -1,7 +1,7 @@
 //! Stamps: texts of moments whose bytes are in the order of the moments.
-ghost use Rattle.std.specs.Prelude.{◌≡◌, ◌≢◌, ◌↔◌, ◌++◌, ◌+◌, ◌*◌, ◌<◌, ◌≤◌, max, codes, IsOk, IfOk, IfErr, OnErr, vec_len, vec_capacity};
+ghost use Rattle.std.specs.Prelude.{◌≡◌, ◌≢◌, ◌↔◌, ◌++◌, ◌+◌, ◌<◌, ◌≤◌, codes, IsOk, IfOk, IfErr, OnErr, vec_len, vec_capacity};
 ghost use Rattle.time_fmt.specs.Outcome.{Names, invalid_component};
-ghost use Rattle.time_fmt.specs.Room.{HasRoom};
+ghost use Rattle.time_fmt.specs.Room.{HasRoom, grown_capacity};
 ghost use Rattle.time_known.specs.Stamps.{HasStamp, IsStampYear, stamp_length, stamp_text, stamp_width};
 
 use crate::Iso8601;
@@ -34,12 +34,10 @@ pub fn stamp_into(output: &mut Vec<u8>, value: &UtcDateTime) -> Result<usize, Fo
     ensures in_place { HasRoom output.old stamp_width
         → vec_capacity output.new ≡ vec_capacity output.old }
     ensures grown { vec_capacity output.old ≤ vec_capacity output.new }
-    ensures bounded { vec_capacity output.new
-        ≤ max (2 * vec_capacity output.old) (vec_len output.old + stamp_width) }
+    ensures bounded { vec_capacity output.new ≤ grown_capacity output.old stamp_width }
     ensures doubled { result ≢ Err Format.OutOfMemory
         → vec_capacity output.old < vec_len output.old + stamp_width
-        → max (2 * vec_capacity output.old) (vec_len output.old + stamp_width)
-        ≤ vec_capacity output.new }
+        → grown_capacity output.old stamp_width ≤ vec_capacity output.new }
 
     // `OutOfMemory` leaves the capacity unchanged, and is never returned if the width fits.
     ensures same_capacity { result ≡ Err Format.OutOfMemory

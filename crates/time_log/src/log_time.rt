@@ -1,8 +1,8 @@
 //! The times of the lines of one log.
-ghost use Rattle.std.specs.Prelude.{◌≡◌, ◌≢◌, ◌↔◌, ◌+◌, ◌*◌, ◌<◌, ◌≤◌, ◌++◌, ◌+ℤ◌, pos, max, codes, nat_le, unsigned_abs, IsOk, IfOk, IfErr, OnErr, if◌then◌else◌, vec_len, vec_capacity};
+ghost use Rattle.std.specs.Prelude.{◌≡◌, ◌≢◌, ◌↔◌, ◌+◌, ◌<◌, ◌≤◌, ◌++◌, ◌+ℤ◌, pos, codes, nat_le, unsigned_abs, IsOk, IfOk, IfErr, OnErr, if◌then◌else◌, vec_len, vec_capacity};
 ghost use Rattle.time_below.specs.Offset.{offset_seconds, utc};
 ghost use Rattle.time_fmt.specs.Outcome.{Names, invalid_component};
-ghost use Rattle.time_fmt.specs.Room.{HasRoom};
+ghost use Rattle.time_fmt.specs.Room.{HasRoom, grown_capacity};
 ghost use Rattle.time_log.specs.LogText.{HasLogText, IsLogOffset, log_length, log_text};
 
 use crate::decimals::Decimals;
@@ -137,12 +137,10 @@ impl LogTime {
         ensures in_place { HasRoom output.old (log_length self.old)
             → vec_capacity output.new ≡ vec_capacity output.old }
         ensures grown { vec_capacity output.old ≤ vec_capacity output.new }
-        ensures bounded { vec_capacity output.new
-            ≤ max (2 * vec_capacity output.old) (vec_len output.old + log_length self.old) }
+        ensures bounded { vec_capacity output.new ≤ grown_capacity output.old (log_length self.old) }
         ensures doubled { IfOk result (λ _.
             vec_capacity output.old < vec_len output.old + log_length self.old
-            → max (2 * vec_capacity output.old) (vec_len output.old + log_length self.old)
-            ≤ vec_capacity output.new) }
+            → grown_capacity output.old (log_length self.old) ≤ vec_capacity output.new) }
         ensures room { HasRoom output.old (log_length self.old) → result ≢ Err Format.OutOfMemory }
     {
         let (second, nanosecond) = moment.as_parts();
