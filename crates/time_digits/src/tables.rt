@@ -23,13 +23,14 @@ pub const SPACE_PADDED_PAIRS: &str = " 0 1 2 3 4 5 6 7 8 9\
 6061626364656667686970717273747576777879\
 8081828384858687888990919293949596979899";
 
-// The `len` bytes of an ASCII table from `start` on.
+/// The `len` bytes of an ASCII table from `start` on.
 #[inline]
 #[tactic(auto, using(crate::proofs::TableLemmas::ascii_boundary))]
-pub(crate) fn piece_of(table: &'static str, start: usize, len: usize) -> &'static str
+pub fn piece_of(table: &'static str, start: usize, len: usize) -> &'static str
     requires ascii { IsTrue (is_ascii table.now) }
     requires within { start + len ≤ length table.now }
-    ensures { result.now ≡ take len (drop start table.now) }
+    ensures piece { result.now ≡ take len (drop start table.now) }
+    ensures length { length result.now ≡ len }
 {
     &table[start..start + len]
 }

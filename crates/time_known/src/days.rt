@@ -6,8 +6,8 @@ ghost use Rattle.time_digits.specs.Digits.{zero_padded};
 ghost use Rattle.time_fmt.specs.DateText.{month_name, short_name};
 ghost use Rattle.time_known.specs.Days.{dash, day_of_leap_year, month_and_day, month_and_day_in};
 
-use crate::pieces::piece;
 use time_below::is_leap_year;
+use time_digits::tables::piece_of;
 use time_digits::{ru8, ru16, two_digits_zero_padded};
 use time_provide::ranges::{Day, Ordinal, Year};
 
@@ -122,7 +122,7 @@ impl CalendarDay {
         match self {
             CalendarDay::OfLeapYear(day) => {
                 let row = 8 * (day.get() as usize - 1);
-                (piece(DAYS, row, 2), piece(DAYS, row + 2, 2))
+                (piece_of(DAYS, row, 2), piece_of(DAYS, row + 2, 2))
             }
             CalendarDay::OfMonth { month, day } => (
                 two_digits_zero_padded(month.expand()),
@@ -143,7 +143,7 @@ impl CalendarDay {
         match self {
             CalendarDay::OfLeapYear(day) => {
                 let row = 8 * (day.get() as usize - 1);
-                (piece(DAYS, row + 5, 1), piece(DAYS, row + 6, 2))
+                (piece_of(DAYS, row + 5, 1), piece_of(DAYS, row + 6, 2))
             }
             CalendarDay::OfMonth { month, day: _ } => month_letters(month),
         }
@@ -160,9 +160,9 @@ pub(crate) fn ordinal_digits(day: Ordinal, has_dash: bool) -> (&'static str, &'s
 {
     let row = 4 * (day.get() as usize - 1);
     if has_dash {
-        (piece(ORDINALS, row, 2), piece(ORDINALS, row + 2, 2))
+        (piece_of(ORDINALS, row, 2), piece_of(ORDINALS, row + 2, 2))
     } else {
-        (piece(ORDINALS, row + 1, 1), piece(ORDINALS, row + 2, 2))
+        (piece_of(ORDINALS, row + 1, 1), piece_of(ORDINALS, row + 2, 2))
     }
 }
 

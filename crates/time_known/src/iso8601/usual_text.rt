@@ -26,10 +26,10 @@ use crate::fields::{Fields, OffsetFields, accepted_fields, offset_of, time_of};
 use crate::iso8601::config::{Config, DecimalSign, Usual};
 use crate::iso8601::date::put_week;
 use crate::iso8601::time::{NANOSECONDS_PER_SECOND, put_long_division, put_to_second};
-use crate::pieces::piece;
 use crate::put::{put_date, put_offset};
 use crate::sink::{Text, append};
 use time_below::{Time, Weekday};
+use time_digits::tables::piece_of;
 use time_digits::{ru8, ru16};
 use time_fmt::Sink;
 use time_fmt::writers::{
@@ -330,7 +330,7 @@ fn put_nine_and_more<S: Sink>(output: &mut S, nanosecond: Nanoseconds, digits: u
 {
     write_nine_digits(output, nanosecond);
     if digits > 9 {
-        write_literal(output, piece(ZEROS, 0, digits as usize - 9).as_bytes());
+        write_literal(output, piece_of(ZEROS, 0, digits as usize - 9).as_bytes());
     }
 }
 

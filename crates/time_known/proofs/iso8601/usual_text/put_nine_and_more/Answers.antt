@@ -11,6 +11,6 @@ pub returns-then-digits-gt9 : goal.returns-then-digits-gt9
 returns-then-digits-gt9 g c =
     let n = c.args.nanosecond in
     let d = c.args.digits in
-    let zeros = c.piece.ensures.piece ∙ first_zeros (d - 9) (omega (arith, c.ranges.digits)) in
+    let zeros = c.piece_of.ensures.piece ∙ first_zeros (d - 9) (omega (arith, c.ranges.digits)) in
     let text = ap (λ text. fixed 9 n ++ text) zeros ∙ sym (nine_places n d c.requires.many) in
     record { puts = grind (arith, common_steps, text, joined_lengths) }
