@@ -15,20 +15,13 @@ use time_below::{Date, OffsetDateTime, PlainDateTime, Time, Timestamp, UtcDateTi
 
 /// The components that a value supplies are those of the definition for its type.
 pub fn values_supply_their_components()
-    ensures date { (v : OrdinalDate)
-        → ⟦<Date as ComponentProvider>⟧.facts v ≡ facts_of_date v }
-    ensures time { (v : TimeOfDay)
-        → ⟦<Time as ComponentProvider>⟧.facts v ≡ facts_of_time v }
-    ensures plain_date_time { (v : DateAndTime)
-        → ⟦<PlainDateTime as ComponentProvider>⟧.facts v ≡ facts_of_plain_date_time v }
-    ensures offset { (v : Offset)
-        → ⟦<UtcOffset as ComponentProvider>⟧.facts v ≡ facts_of_offset v }
-    ensures utc_date_time { (v : DateAndTime)
-        → ⟦<UtcDateTime as ComponentProvider>⟧.facts v ≡ facts_of_utc_date_time v }
-    ensures offset_date_time { (v : OffsetDateAndTime)
-        → ⟦<OffsetDateTime as ComponentProvider>⟧.facts v ≡ facts_of_offset_date_time v }
-    ensures timestamp { (v : Moment)
-        → ⟦<Timestamp as ComponentProvider>⟧.facts v ≡ facts_of_timestamp v }
+    ensures date { ⟦<Date as ComponentProvider>⟧.facts ≡ facts_of_date }
+    ensures time { ⟦<Time as ComponentProvider>⟧.facts ≡ facts_of_time }
+    ensures plain_date_time { ⟦<PlainDateTime as ComponentProvider>⟧.facts ≡ facts_of_plain_date_time }
+    ensures offset { ⟦<UtcOffset as ComponentProvider>⟧.facts ≡ facts_of_offset }
+    ensures utc_date_time { ⟦<UtcDateTime as ComponentProvider>⟧.facts ≡ facts_of_utc_date_time }
+    ensures offset_date_time { ⟦<OffsetDateTime as ComponentProvider>⟧.facts ≡ facts_of_offset_date_time }
+    ensures timestamp { ⟦<Timestamp as ComponentProvider>⟧.facts ≡ facts_of_timestamp }
 {}
 
 /// The state of a value that has a date agrees with it exactly if each entry is that component of the

@@ -75,9 +75,7 @@ impl<const MAX: u8> ri8<MAX> {
         requires greatest { MAX ≤ HIGH }
         ensures { result ≡ self.entry }
     {
-        ri8 {
-            number: self.number,
-        }
+        ri8::within(self.number)
     }
 
     /// Narrows the bounds to `-HIGH` to `HIGH`, or returns `None` if the number is outside.
@@ -160,9 +158,7 @@ impl<const MAX: u16> ri16<MAX> {
         requires greatest { MAX ≤ HIGH }
         ensures { result ≡ self.entry }
     {
-        ri16 {
-            number: self.number,
-        }
+        ri16::within(self.number)
     }
 
     /// Narrows the bounds to `-HIGH` to `HIGH`, or returns `None` if the number is outside.
@@ -245,9 +241,7 @@ impl<const MAX: u32> ri32<MAX> {
         requires greatest { MAX ≤ HIGH }
         ensures { result ≡ self.entry }
     {
-        ri32 {
-            number: self.number,
-        }
+        ri32::within(self.number)
     }
 
     /// Narrows the bounds to `-HIGH` to `HIGH`, or returns `None` if the number is outside.

@@ -59,9 +59,7 @@ impl<const MIN: u8, const MAX: u8> ru8<MIN, MAX> {
         requires greatest { MAX ≤ HIGH }
         ensures { result ≡ self.entry }
     {
-        ru8 {
-            number: self.number,
-        }
+        ru8::within(self.number)
     }
 
     /// Narrows the bounds to `LOW` to `HIGH`, or returns `None` if the number is outside.
@@ -129,9 +127,7 @@ impl<const MIN: u16, const MAX: u16> ru16<MIN, MAX> {
         requires greatest { MAX ≤ HIGH }
         ensures { result ≡ self.entry }
     {
-        ru16 {
-            number: self.number,
-        }
+        ru16::within(self.number)
     }
 
     /// Narrows the bounds to `LOW` to `HIGH`, or returns `None` if the number is outside.
@@ -199,9 +195,7 @@ impl<const MIN: u32, const MAX: u32> ru32<MIN, MAX> {
         requires greatest { MAX ≤ HIGH }
         ensures { result ≡ self.entry }
     {
-        ru32 {
-            number: self.number,
-        }
+        ru32::within(self.number)
     }
 
     /// Narrows the bounds to `LOW` to `HIGH`, or returns `None` if the number is outside.
