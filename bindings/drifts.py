@@ -30,7 +30,7 @@ PLACES = [
     ("config.rs", ENUM, r"^    [A-Z]\w+(?= = )|(?<= = )\d+(?=,$)"),
     ("config.rs", r".*", r"(?<=MAX_WIDTH: usize = )\d+"),
     ("description.rs", r"fn usual_flag.*?\n    \}", r"(?<=Kind::)\w+"),
-    ("parts.rt", r".*", r"(?<=: modifier::)\w+|(?<=one_indexed: )\w+|(?<=is_uppercase: )\w+"),
+    ("parts.rt", r".*", r"(?<=: modifier::)\w+|(?<=one_indexed: )\w+|(?<=is_uppercase\) => \{ )\w+|(?<=\(padding\) => \{ )\w+"),
     ("known.rs", r".*", r"\d+(?= bytes;)|(?<=\[u8; )\d+"),
     ("moment.rs", STRUCT, rf"\w+(?=: )|{TYPE}"),
     ("library.rt", r".*", r"(?<=result ≡ )\d+"),

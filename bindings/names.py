@@ -182,9 +182,10 @@ class Interfaces:
         """The kinds whose usual choices have the flag: by the header, the Rust crate, and the constants of parts. Of two
         constants of a component the first has the usual choices."""
         numbers_of = {name: int(number) for number, name in findall(r"(\d+) => component!\((\w+):", *self.rattle)}
-        constants = {}
-        for component, choices in findall(r"^pub const \w+: modifier::(\w+) =.*?\{(.*?)\};", self.parts):
-            constants.setdefault(component, set(re.findall(r"(\w+): ([\w:]+)", choices)))
+        constants, usual = {}, dict(findall(r"^ +\((\w+)\) => \{ (\S+) \};", self.parts))
+        for component, choices in findall(r"^pub const \w+: modifier::(\w+) =\s*(?:usual!\(\w+:|modifier::\w+ \{)(.*?)[)}];", self.parts):
+            found = re.findall(r"(\w+)(?:: ([\w:]+))?", choices)
+            constants.setdefault(component, {(name, value or usual[name]) for name, value in found})
         self.same("the components with constants", sorted(numbers_of), sorted(constants))
         flags = {("one_indexed", "true"), ("is_uppercase", "true"), ("sign_is_mandatory", "true")}
         others = {("padding", "Padding::Zero"), ("digits", "SubsecondDigits::OneOrMore")}

@@ -29,7 +29,7 @@ The crates of Rust and the calls of the header of C stand at the end. `cargo doc
 ITEM = re.compile(
     r"(?P<doc>(?:^///[^\n]*\n)*)(?P<attributes>(?:^#\[(?:[^\]]|\][^\n])*\]\n)*)"
     r"^pub (?P<kind>struct|enum|trait|const fn|fn|const|type) (?P<name>\w+)(?P<rest>[^\n]*)\n", re.M)
-MACRO = re.compile(r"(?P<doc>(?:^///[^\n]*\n)*)(?:^#\[[^\n]*\]\n)*^macro_rules! (?P<name>\w+)", re.M)
+MACRO = re.compile(r"(?P<doc>(?:^///[^\n]*\n)*)^#\[macro_export\]\nmacro_rules! (?P<name>\w+)", re.M)
 METHOD = re.compile(r"(?P<doc>(?:^    ///[^\n]*\n)*)(?:^    #\[[^\n]*\]\n)*^    (?P<how>(?:pub |final )*(?:const )?)fn ", re.M)
 FIELD = re.compile(r"(?P<doc>(?:^    ///[^\n]*\n)*)^    pub (?P<name>\w+): (?P<type>[^\n]*),\n", re.M)
 VARIANT = re.compile(r"(?P<doc>(?:^    ///[^\n]*\n)*)(?:^    #\[[^\n]*\]\n)*^    (?P<words>[A-Z]\w*(?:\([^\n]*\)| \{.*?\})?)(?: = \d+)?,$", re.M | re.S)
