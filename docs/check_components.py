@@ -24,13 +24,15 @@ USUAL = re.compile(r"^\| `([a-z_]+)` \| `(\w+)` \| `(.*?)` \|", re.M)
 ROW = re.compile(r"^\| `(\w+)` \|(?: (`[A-Z_0-9]+`|-) \|)? (`[a-z_]+.*?) \| .* \| (\d+) \| (-|`.*`) \|$", re.M)
 CONSTANT = re.compile(r"^\| `([A-Z_0-9]+)` \| `(\w+)` \| (.*) \|$", re.M)
 DEFINED = re.compile(r"^pub const (\w+): modifier::(\w+) =\s*modifier::\w+ \{(.*?)\};", re.S | re.M)
+GIVEN = re.compile(r"^ +\((\w+)\) => \{ (\S+) \};", re.M)
+BY_NAMES = re.compile(r"usual!\((\w+): (.*?)\);")
 TESTED = re.compile(r"Component::(\w+)\(\s*modifier::\w+ \{(.*?)\}\s*\),\s*\"(.*?)\",\s*(\d+),?\s*\)", re.S)
 TABLE = re.compile(r"^(?:pub\(super\) )?const (?:COMPONENTS|DEPRECATED): .*?^};$", re.S | re.M)
 LINE_TESTED = re.compile(r"^    (\w+) \{([^{}]*)\}\s+\"(.*?)\" (\d+),$", re.M)
 PART = re.compile(r"^        ([A-Z_0-9]+) (\w+) \"<", re.M)
 VARIANT = re.compile(r"((?: {4}///[^\n]*\n)+)    (\w+)\(modifier::\w+\),")
 STRUCT = re.compile(r"((?:///[^\n]*\n)+)#\[[^\n]*\]\npub struct (\w+) \{")
-ARM = re.compile(r"((?:\s*\|?\s*Component::\w+\(_\))+) => \{?\s*Group::(\w+)")
+ARM = re.compile(r"^ +(?:one_of!\()?([\w\s:|(_)]+?) => Group::(\w+)", re.M)
 NAME = re.compile(r"^\| `([a-z_]+)` \| (`[a-z_]+:.*?`)(?:, which is required)? \|$", re.M)
 SPELLED = re.compile(r"^\| (`\w+`(?:, `\w+`)?) \| `(\[.*?\])` \| (-|`%.*?`) \|$", re.M)
 SPELLED_TESTED = re.compile(r"^ {4}\(\s*\"(\[.*?\])\",\s*\"(.*?)\",\s*\"(.*?)\",?\s*\),$", re.M)
@@ -70,9 +72,17 @@ def shown():
     return sorted(rows + [(name, kind, choices(fields)) for name, kind, fields in CONSTANT.findall(page)])
 
 
+def written(call, values):
+    """The choices of a constant that names them alone, with their values."""
+    fields = ", ".join(f"{name}: {values[name]}" for name in call[2].split(", "))
+    return f"modifier::{call[1]} {{{fields}}};"
+
+
 def defined():
     code = (TOP / "crates/time_fmt/src/parts.rt").read_text()
-    return sorted((name, kind, choices(fields)) for name, kind, fields in DEFINED.findall(code))
+    values = dict(GIVEN.findall(code))
+    rows = DEFINED.findall(BY_NAMES.sub(lambda call: written(call, values), code))
+    return sorted((name, kind, choices(fields)) for name, kind, fields in rows)
 
 
 def parted():
@@ -105,7 +115,7 @@ def headed():
 def grouped():
     code = (BELOW / "component.rt").read_text()
     current = {name for name, _ in headed()}
-    groups = [(name, group) for names, group in ARM.findall(code) for name in re.findall(r"Component::(\w+)", names)]
+    groups = [(name, group) for names, group in ARM.findall(code) for name in re.findall(r"\w+", names)]
     return sorted((name, group) for name, group in groups if name in current)
 
 
