@@ -162,7 +162,10 @@ pub(crate) fn ordinal_digits(day: Ordinal, has_dash: bool) -> (&'static str, &'s
     if has_dash {
         (piece_of(ORDINALS, row, 2), piece_of(ORDINALS, row + 2, 2))
     } else {
-        (piece_of(ORDINALS, row + 1, 1), piece_of(ORDINALS, row + 2, 2))
+        (
+            piece_of(ORDINALS, row + 1, 1),
+            piece_of(ORDINALS, row + 2, 2),
+        )
     }
 }
 
