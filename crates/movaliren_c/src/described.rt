@@ -2,6 +2,7 @@
 ghost use Rattle.std.specs.Prelude.{◌≡◌, ◌≤◌, ◌<◌, ◌+◌, ◌∷◌, IfNone, IfOk, IfSome, IsFalse, IsTrue, MatchOption, Ok, [], length, slice_range};
 ghost use Rattle.movaliren_c.specs.Answer.{Answers};
 ghost use Rattle.movaliren_c.specs.Items.{EndsFirst, EndsItem, EndsRun, IsDescribed, IsPut, IsShown, PutsOrLoses, as_one, item_tree, part_tree, reason_before, trees_of, width_answer};
+ghost use Rattle.movaliren_c.specs.Utc.{local_value};
 ghost use Rattle.movaliren_c.specs.Value.{date_value, moment_value, timestamp_value};
 ghost use Rattle.time_below.specs.Facts.{Facts, facts_of_date, facts_of_offset_date_time, facts_of_timestamp};
 ghost use Rattle.time_below.specs.Width.{component_width, tree_width};
@@ -10,7 +11,7 @@ ghost use Rattle.time_fmt.specs.Ends.{Ends};
 ghost use Rattle.time_fmt.specs.Sink.{Fits, Puts, Ready};
 
 use crate::item::{Item, Part, part_of, text_of};
-use crate::local_parts::{FirstState, local_parts_of};
+use crate::local_parts::{FirstState, local_parts_at, local_parts_of};
 use crate::moment::{Moment, date_value, timestamp_value};
 use crate::reason::{Reason, answer_number, reason_of};
 use crate::room::copy_text;
@@ -75,6 +76,23 @@ pub extern "C" fn movaliren_format_utc(
         (timestamp_value seconds nanosecond) facts_of_timestamp answer room.old room.new) }
 {
     let value = timestamp_value(seconds, nanosecond);
+    answer_number(write_described(items, texts, value, room))
+}
+
+/// The text of a moment by a description, at an offset of this many seconds east of UTC.
+#[unsafe(no_mangle)]
+pub extern "C" fn movaliren_format_local(
+    items: &[Item],
+    texts: &[u8],
+    seconds: i64,
+    nanosecond: u32,
+    offset: i64,
+    room: &mut [u8],
+) -> isize
+    ensures { Answers result (λ answer. IsDescribed texts.now items.now
+        (local_value seconds nanosecond offset) facts_of_offset_date_time answer room.old room.new) }
+{
+    let value = local_parts_at(seconds, nanosecond, offset);
     answer_number(write_described(items, texts, value, room))
 }
 

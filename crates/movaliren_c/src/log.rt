@@ -9,8 +9,7 @@ ghost use Rattle.time_fmt.specs.Outcome.{done};
 ghost use Rattle.time_known.specs.Fields.{shown};
 ghost use Rattle.time_known.specs.WellKnown.{offset_text};
 
-use crate::iso8601::IsoConfig;
-use crate::local::movaliren_iso8601_by_local;
+use crate::iso8601::{IsoConfig, movaliren_iso8601_by_local};
 use crate::moment_text::put_at_start;
 use crate::reason::{Reason, answer_number};
 use crate::source::local_value;
