@@ -399,10 +399,10 @@ put_shown (Ok ts) f lost count old new before after put counted empty len fits a
 -- ---- no text
 
 -- no value
-pub no_value : {V : Type 0} (description : Result (List Tree) Reason) (r : Reason) (facts : V → Facts) (room : List ℕ)
-    → IsText (described {V = V} description (Err r) facts) (Err (reason_before description r)) room room
-no_value (Ok ts) r facts room = (refl, refl)
-no_value (Err invalid) r facts room = (refl, refl)
+pub no_value : {V : Type 0} (description : Result (List Tree) Reason) (r : Reason) (facts : V → Facts)
+    → described {V = V} description (Err r) facts ≡ Err (reason_before description r)
+no_value (Ok ts) r facts = refl
+no_value (Err invalid) r facts = refl
 
 -- too many bytes
 pub no_room : {V : Type 0} (description : Result (List Tree) Reason) (v : V) (facts : V → Facts) (count : ℕ)

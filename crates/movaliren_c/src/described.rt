@@ -290,10 +290,8 @@ where
     ensures { IsShown (trees_of texts.now items.now) (V.facts value.now) result room.old room.new }
 {
     let mut output = RoomSink::<B>::new(room);
-    match put_items::<RoomSink<'_, B>, V, HAS_RUNS>(items, texts, &mut output, value) {
-        Ok(lost) => Ok(output.len().saturating_add(lost)),
-        Err(reason) => Err(reason),
-    }
+    let lost = put_items::<RoomSink<'_, B>, V, HAS_RUNS>(items, texts, &mut output, value)?;
+    Ok(output.len().saturating_add(lost))
 }
 
 /// Writes the texts of the items into a sink, but for those that do not fit. Returns their number
@@ -540,10 +538,7 @@ fn write_item<S: Sink, V: ComponentProvider>(
         (S.buffer output.old) (S.buffer output.new) result }
     ensures agrees { V.agrees state.new value.now }
 {
-    match part_of(item, texts) {
-        Ok(part) => write_any(part, output, value, state),
-        Err(reason) => Err(reason),
-    }
+    write_any(part_of(item, texts)?, output, value, state)
 }
 
 /// Writes any part if its text fits, and returns the number of bytes that are lost if it does not.
@@ -597,10 +592,7 @@ fn width(items: &[Item], texts: &[u8]) -> Result<usize, Reason>
 {
     let mut sum = 0usize;
     for item in items {
-        match part_of(item, texts) {
-            Ok(part) => sum += part_width(part).min(GREATEST_WIDTH - sum),
-            Err(reason) => return Err(reason),
-        }
+        sum += part_width(part_of(item, texts)?).min(GREATEST_WIDTH - sum);
     }
     Ok(sum)
 }

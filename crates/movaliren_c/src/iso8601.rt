@@ -260,10 +260,7 @@ impl<S: Source> Iso8601By<S> {
         ensures { IsWritten result (iso8601_of (separated usual.now) value.now)
             room.old room.new }
     {
-        match separated_text(usual, value) {
-            Ok(text) => Ok(put_at_start(&text, room)),
-            Err(reason) => Err(reason),
-        }
+        Ok(put_at_start(&separated_text(usual, value)?, room))
     }
 
     /// Writes the text of the item by any configuration to the start of the buffer.
@@ -273,13 +270,8 @@ impl<S: Source> Iso8601By<S> {
         ensures { IsText (iso8601_by self.now.config (S.given self.now.source item.now))
             result room.old room.new }
     {
-        match config_at(&self.config) {
-            Ok(config) => match self.source.value(item) {
-                Ok(value) => write_parts(&config, &value, room),
-                Err(reason) => Err(reason),
-            },
-            Err(reason) => Err(reason),
-        }
+        let config = config_at(&self.config)?;
+        write_parts(&config, &self.source.value(item)?, room)
     }
 }
 
