@@ -35,7 +35,7 @@ nothing_behind x None = ap (λ (bs : List ℕ). record { bytes = bs; refusal = N
 pub alone : (a : Outcome) → join a (done []) ≡ a
 alone a = nothing_behind a.bytes a.refusal
 
-joined : (a b : List Tree) (f : Facts) → trees_outcome (trees (a ++ b)) f ≡ join (trees_outcome (trees a) f) (trees_outcome (trees b) f)
+pub joined : (a b : List Tree) (f : Facts) → trees_outcome (trees (a ++ b)) f ≡ join (trees_outcome (trees a) f) (trees_outcome (trees b) f)
 joined [] b f = refl
 joined (t ∷ ts) b f =
     ap (join (tree_outcome t f)) (joined ts b f)

@@ -49,12 +49,6 @@ shown_same c h f = refl
 nothing_shown : (c : Component) → is_shown c ≡ false → IsTrue (is_current c) → (f : Facts) → current_outcome c f ≡ done []
 nothing_shown (component.Ignore m) none h f = refl
 nothing_shown (component.End m) none h f = refl
-nothing_shown (component.Month m) none h f = let never : ⊥ = cc in absurd never
-nothing_shown (component.Weekday m) none h f = let never : ⊥ = cc in absurd never
-nothing_shown (component.WeekNumber m) none h f = let never : ⊥ = cc in absurd never
-nothing_shown (component.Hour m) none h f = let never : ⊥ = cc in absurd never
-nothing_shown (component.UnixTimestamp m) none h f = let never : ⊥ = cc in absurd never
-nothing_shown (component.Year m) none h f = let never : ⊥ = cc in absurd never
 nothing_shown c none h f = let never : ⊥ = cc in absurd never
 
 pub item_is_of : (text : List ℕ) (c : Component) (i : Item) → IsTrue (is_current (current_component c)) → IsItemOf (current_component c) i

@@ -6,6 +6,7 @@ use Rattle.movaliren_c.specs.declared.item.Item.{Item}
 use Rattle.movaliren_c.specs.declared.reason.Reason.{Reason}
 use Rattle.movaliren_c.specs.declared.reason.Reason.TheVariants as reason
 use Rattle.movaliren_c.specs.declared.syntax.Fault.{Fault}
+use Rattle.time_below.specs.Conversion.{is_current}
 use Rattle.time_below.specs.Facts.{Facts}
 use Rattle.time_below.specs.Tree.{Tree, trees}
 use Rattle.time_below.specs.declared.format_description.component.Component.{Component}
@@ -36,13 +37,7 @@ shown c = c
 abbrev pub is_shown : Component → Bool
 is_shown (component.Ignore m) = false
 is_shown (component.End m) = false
-is_shown (component.Month m) = false
-is_shown (component.Weekday m) = false
-is_shown (component.WeekNumber m) = false
-is_shown (component.Hour m) = false
-is_shown (component.UnixTimestamp m) = false
-is_shown (component.Year m) = false
-is_shown c = true
+is_shown c = is_current c
 
 -- an item of this component
 pub record IsItemOf (c : Component) (i : Item) : Type 0 where

@@ -1,7 +1,7 @@
 -- What a description that crosses as data means: a tree for each item, or the reason why there is
 -- none.
-use Rattle.std.specs.Prelude.{ℕ, ◌≡◌, ◌≢◌, ◌<◌, ◌≤◌, ◌⊎◌, ◌++◌, min, ◌+◌, ◌-◌, Bool, true, false, ◌==◌, ◌&&◌, nat_le, nat_lt, List, [], ◌∷◌, map, length, drop, None}
-use Rattle.std.specs.Prelude.{slice_range, Result, Ok, Err, IfOk, IsErr, IsOkAnd, if◌then◌else◌}
+use Rattle.std.specs.Prelude.{ℕ, ◌≡◌, ◌≢◌, ◌<◌, ◌≤◌, ◌++◌, min, ◌+◌, ◌-◌, Bool, true, false, ◌==◌, ◌&&◌, nat_le, nat_lt, List, [], ◌∷◌, map, length, drop, None}
+use Rattle.std.specs.Prelude.{slice_range, Result, Ok, Err, IfOk, IsOkAnd, if◌then◌else◌}
 use Rattle.movaliren_c.specs.Answer.{IsRefusedFor, IsText, gives}
 use Rattle.movaliren_c.specs.Value.{flag_at, numbered, with_value}
 use Rattle.movaliren_c.specs.declared.item.Item.{Item}
@@ -12,7 +12,7 @@ use Rattle.movaliren_c.specs.declared.reason.Reason.TheVariants as reason
 use Rattle.movaliren_c.specs.declared.run.Run.{Run}
 use Rattle.movaliren_c.specs.declared.run.Run.TheVariants as run
 use Rattle.time_below.specs.Facts.{Facts}
-use Rattle.time_below.specs.Tree.{Tree, trees, byte_literal, of_component}
+use Rattle.time_below.specs.Tree.{Tree, trees, all_of, byte_literal, of_component}
 use Rattle.time_below.specs.Width.{tree_width, trees_width}
 use Rattle.time_below.specs.declared.format_description.component.Component.{Component}
 use Rattle.time_below.specs.declared.format_description.component.Component.TheVariants as component
@@ -197,39 +197,31 @@ abbrev pub reason_before : Result (List Tree) Reason → Reason → Reason
 reason_before (Ok ts) r = r
 reason_before (Err invalid) r = invalid
 
--- a text is put, or its number of bytes is returned, which are too many
-abbrev pub FitsOrIsLost : Buffer → Buffer → ℕ → List ℕ → Type 0
-FitsOrIsLost old new lost text = ((lost ≡ 0) × Puts old new (length text) text)
-    ⊎ ((lost ≡ length text) × (0 < lost) × (old.capacity < old.len + lost) × (new ≡ old))
+-- A text was put, or it is longer than the room, and has so many bytes more than were put. Both numbers are up to the
+-- greatest `usize`.
+pub record PutsOrLoses (old new : Buffer) (lost : ℕ) (text : List ℕ) : Type 0 where
+  pub capacity : new.capacity ≡ old.capacity
+  pub lender : new.lender ≡ old.lender
+  pub small : lost ≤ 0xffff_ffff_ffff_ffff
+  pub counted : min (new.len + lost) 0xffff_ffff_ffff_ffff ≡ min (old.len + length text) 0xffff_ffff_ffff_ffff
+  pub put : lost ≡ 0 → Puts old new (length text) text
+  pub longer : 0 < lost → old.capacity < old.len + length text
 
--- so is the text of an outcome that is completed and within a width
-abbrev pub EndsOrIsLost : ℕ → Buffer → Buffer → Result ℕ Reason → Outcome → Type 0
-EndsOrIsLost width old new (Ok lost) o = (o.refusal ≡ None) × (length o.bytes ≤ width) × FitsOrIsLost old new lost o.bytes
-EndsOrIsLost width old new (Err r) o = IsRefusedFor r o
-
--- an item that is there ended so
+-- an item that is there ended
 abbrev pub EndsItem : Result Tree Reason → Facts → Buffer → Buffer → Result Unit Refused → Type 0
 EndsItem item f old new answer = IsOkAnd item (λ t. Ends (tree_width t) old new answer (tree_outcome t f))
 
--- an item is put or lost, is refused, or is not there
-abbrev pub ItemEndsOrIsLost : Result Tree Reason → Facts → Buffer → Buffer → Result ℕ Reason → Type 0
-ItemEndsOrIsLost (Ok t) f old new answer = EndsOrIsLost (tree_width t) old new answer (tree_outcome t f)
-ItemEndsOrIsLost (Err invalid) f old new answer = IsErr answer
+-- The outcome of a tree is completed, is within its width, and was put or is longer than the room. Or this is the reason
+-- why it is refused, or why there is no tree.
+abbrev pub IsPut : Result Tree Reason → Facts → Buffer → Buffer → Result ℕ Reason → Type 0
+IsPut (Ok t) f old new (Ok lost) = ((tree_outcome t f).refusal ≡ None) × (length (tree_outcome t f).bytes ≤ tree_width t)
+    × PutsOrLoses old new lost (tree_outcome t f).bytes
+IsPut (Ok t) f old new (Err r) = IsRefusedFor r (tree_outcome t f)
+IsPut (Err invalid) f old new answer = answer ≡ Err invalid
 
--- An outcome is completed and within a width. All of it was put into an empty buffer, or it is longer than the capacity,
--- and has so many bytes more than the buffer.
-pub record PutsOrLoses (width : ℕ) (old new : Buffer) (lost : ℕ) (o : Outcome) : Type 0 where
-  pub completed : o.refusal ≡ None
-  pub within : length o.bytes ≤ width
-  pub counted : min (new.len + lost) 0xffff_ffff_ffff_ffff ≡ min (length o.bytes) 0xffff_ffff_ffff_ffff
-  pub written : lost ≡ 0 → (new.bytes ≡ o.bytes) × (new.len ≡ length o.bytes)
-  pub longer : 0 < lost → old.capacity < length o.bytes
-
--- so was what a description gives for these facts, or this is the reason why there is none
-abbrev pub IsPut : Result (List Tree) Reason → Facts → Result ℕ Reason → Buffer → Buffer → Type 0
-IsPut (Ok ts) f (Ok lost) old new = PutsOrLoses (trees_width (trees ts)) old new lost (trees_outcome (trees ts) f)
-IsPut (Ok ts) f (Err r) old new = IsRefusedFor r (trees_outcome (trees ts) f)
-IsPut (Err invalid) f answer old new = answer ≡ Err invalid
+-- a description as one tree
+abbrev pub as_one : Result (List Tree) Reason → Result Tree Reason
+as_one description = with_value description (λ ts. Ok (all_of (trees ts)))
 
 -- an outcome is completed, is within a width and has so many bytes, which are at the start of a buffer that holds them
 pub record Shows (o : Outcome) (width count : ℕ) (before after : List ℕ) : Type 0 where

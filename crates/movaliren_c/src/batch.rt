@@ -71,16 +71,12 @@ fn write_line<W: Writer>(
     ensures fits { IfOk result (λ count. count ≤ length room.old) }
 {
     let most = room.len().saturating_sub(1);
-    match write_text_within(writer, item, room, most) {
-        Ok(count) => {
-            if count == room.len() {
-                return Err(Reason::NoRoom);
-            }
-            room[count] = end;
-            Ok(count + 1)
-        }
-        Err(reason) => Err(reason),
+    let count = write_text_within(writer, item, room, most)?;
+    if count == room.len() {
+        return Err(Reason::NoRoom);
     }
+    room[count] = end;
+    Ok(count + 1)
 }
 
 /// Writes the text of the item to the first bytes of the buffer.

@@ -57,11 +57,8 @@ pub extern "C" fn movaliren_brackets_local(
     ensures { Answers result (λ answer. IsText (described (few (bracket_items text.now))
         (local_value seconds nanosecond offset) facts_of_offset_date_time) answer room.old room.new) }
 {
-    answer_number(write_text::<Brackets, _>(
-        text,
-        local_parts_at(seconds, nanosecond, offset),
-        room,
-    ))
+    let value = local_parts_at(seconds, nanosecond, offset);
+    answer_number(write_text::<Brackets, _>(text, value, room))
 }
 
 /// Reads the items of a text in the syntax of strftime into an array.
@@ -104,11 +101,8 @@ pub extern "C" fn movaliren_strftime_local(
     ensures { Answers result (λ answer. IsText (described (few (strftime_items text.now))
         (local_value seconds nanosecond offset) facts_of_offset_date_time) answer room.old room.new) }
 {
-    answer_number(write_text::<Strftime, _>(
-        text,
-        local_parts_at(seconds, nanosecond, offset),
-        room,
-    ))
+    let value = local_parts_at(seconds, nanosecond, offset);
+    answer_number(write_text::<Strftime, _>(text, value, room))
 }
 
 /// Reads the items of a text into an array. If there are none, or they do not fit, the first item of the

@@ -1,7 +1,8 @@
 //! Descriptions that cross as data, whose texts allocate nothing.
 ghost use Rattle.std.specs.Prelude.{◌≡◌, ◌≤◌, ◌<◌, ◌+◌, ◌∷◌, IfNone, IfOk, IfSome, IsFalse, IsTrue, MatchOption, Ok, [], length, slice_range};
 ghost use Rattle.movaliren_c.specs.Answer.{Answers};
-ghost use Rattle.movaliren_c.specs.Items.{EndsFirst, EndsItem, EndsOrIsLost, EndsRun, FitsOrIsLost, IsDescribed, IsPut, IsShown, ItemEndsOrIsLost, item_tree, part_tree, reason_before, trees_of, width_answer};
+ghost use Rattle.movaliren_c.specs.Items.{EndsFirst, EndsItem, EndsRun, IsDescribed, IsPut, IsShown, PutsOrLoses, as_one, item_tree, part_tree, reason_before, trees_of, width_answer};
+ghost use Rattle.movaliren_c.specs.Utc.{local_value};
 ghost use Rattle.movaliren_c.specs.Value.{date_value, moment_value, timestamp_value};
 ghost use Rattle.time_below.specs.Facts.{Facts, facts_of_date, facts_of_offset_date_time, facts_of_timestamp};
 ghost use Rattle.time_below.specs.Width.{component_width, tree_width};
@@ -10,11 +11,11 @@ ghost use Rattle.time_fmt.specs.Ends.{Ends};
 ghost use Rattle.time_fmt.specs.Sink.{Fits, Puts, Ready};
 
 use crate::item::{Item, Part, part_of, text_of};
-use crate::local_parts::{FirstState, local_parts_of};
+use crate::local_parts::{FirstState, local_parts_at, local_parts_of};
 use crate::moment::{Moment, date_value, timestamp_value};
 use crate::reason::{Reason, answer_number, reason_of};
 use crate::room::copy_text;
-use crate::run::{Loop, Run, WithRuns, WithoutRuns, begins_with_run, head_of, run_of};
+use crate::run::{Run, begins_with_run, head_of, run_of};
 use std::marker::Brand;
 use time_below::format_description::modifier::Padding;
 use time_below::format_description::{component_width, modifier};
@@ -75,6 +76,23 @@ pub extern "C" fn movaliren_format_utc(
         (timestamp_value seconds nanosecond) facts_of_timestamp answer room.old room.new) }
 {
     let value = timestamp_value(seconds, nanosecond);
+    answer_number(write_described(items, texts, value, room))
+}
+
+/// The text of a moment by a description, at an offset of this many seconds east of UTC.
+#[unsafe(no_mangle)]
+pub extern "C" fn movaliren_format_local(
+    items: &[Item],
+    texts: &[u8],
+    seconds: i64,
+    nanosecond: u32,
+    offset: i64,
+    room: &mut [u8],
+) -> isize
+    ensures { Answers result (λ answer. IsDescribed texts.now items.now
+        (local_value seconds nanosecond offset) facts_of_offset_date_time answer room.old room.new) }
+{
+    let value = local_parts_at(seconds, nanosecond, offset);
     answer_number(write_described(items, texts, value, room))
 }
 
@@ -196,7 +214,7 @@ where
     }
 }
 
-/// Writes a date or a time of day into an empty sink, if the items are one, the value has it and the longest fits.
+/// Writes a date or a time of day into a sink, if the items are one, the value has it and the longest fits.
 /// Returns whether it was written.
 #[inline(always)]
 fn put_alone<S: Sink, V: FirstState>(
@@ -208,15 +226,13 @@ fn put_alone<S: Sink, V: FirstState>(
 where
     V::State: Drop,
     requires five { length items.now ≡ 5 }
-    requires empty { (S.buffer output.old).bytes ≡ [] }
-    requires len { (S.buffer output.old).len ≡ 0 }
-    ensures puts { IsTrue result → IsPut (trees_of texts.now items.now) (V.facts value.now) (Ok 0)
-        (S.buffer output.old) (S.buffer output.new) }
+    ensures puts { IsTrue result → IsPut (as_one (trees_of texts.now items.now)) (V.facts value.now)
+        (S.buffer output.old) (S.buffer output.new) (Ok 0) }
     ensures lender { (S.buffer output.new).lender ≡ (S.buffer output.old).lender }
     ensures nothing { IsFalse result → S.buffer output.new ≡ S.buffer output.old }
 {
     let mut state = value.first_state();
-    write_run::<WithRuns, S, V>(items, texts, output, value, &mut state)
+    write_run::<S, V, true>(items, texts, output, value, &mut state)
 }
 
 /// Writes the text of the items to the start of a buffer, or as much of it as fits, as `write_items` does, for
@@ -234,7 +250,7 @@ where
     requires before { room.old ≡ B.before }
     ensures { IsShown (trees_of texts.now items.now) (V.facts value.now) result room.old room.new }
 {
-    write_items::<B, WithoutRuns, V>(items, texts, value, room)
+    write_items::<B, V, false>(items, texts, value, room)
 }
 
 /// Writes the text of the items to the start of a buffer, or as much of it as fits, by the loop that is chosen
@@ -252,9 +268,9 @@ where
     ensures { IsShown (trees_of texts.now items.now) (V.facts value.now) result room.old room.new }
 {
     if begins_with_run(items) {
-        write_items::<B, WithRuns, V>(items, texts, value, room)
+        write_items::<B, V, true>(items, texts, value, room)
     } else {
-        write_items::<B, WithoutRuns, V>(items, texts, value, room)
+        write_items::<B, V, false>(items, texts, value, room)
     }
 }
 
@@ -262,7 +278,7 @@ where
 /// bytes of the whole text, up to the greatest `usize`.
 #[inline(never)]
 #[tactic(auto, using(time_fmt::proofs::RoomLemmas::room_written, crate::proofs::DescribedLemmas::put_shown))]
-fn write_items<B: Before, L: Loop, V: FirstState>(
+fn write_items<B: Before, V: FirstState, const HAS_RUNS: bool>(
     items: &[Item],
     texts: &[u8],
     value: &V,
@@ -274,16 +290,14 @@ where
     ensures { IsShown (trees_of texts.now items.now) (V.facts value.now) result room.old room.new }
 {
     let mut output = RoomSink::<B>::new(room);
-    match put_items::<L, RoomSink<'_, B>, V>(items, texts, &mut output, value) {
-        Ok(lost) => Ok(output.len().saturating_add(lost)),
-        Err(reason) => Err(reason),
-    }
+    let lost = put_items::<RoomSink<'_, B>, V, HAS_RUNS>(items, texts, &mut output, value)?;
+    Ok(output.len().saturating_add(lost))
 }
 
-/// Writes the texts of the items into an empty sink, but for those that do not fit. Returns their number
+/// Writes the texts of the items into a sink, but for those that do not fit. Returns their number
 /// of bytes, up to the greatest `usize`.
 #[inline(always)]
-fn put_items<L: Loop, S: Sink, V: FirstState>(
+fn put_items<S: Sink, V: FirstState, const HAS_RUNS: bool>(
     items: &[Item],
     texts: &[u8],
     output: &mut S,
@@ -291,17 +305,15 @@ fn put_items<L: Loop, S: Sink, V: FirstState>(
 ) -> Result<usize, Reason>
 where
     V::State: Drop,
-    requires empty { (S.buffer output.old).bytes ≡ [] }
-    requires len { (S.buffer output.old).len ≡ 0 }
-    ensures puts { IsPut (trees_of texts.now items.now) (V.facts value.now) result
-        (S.buffer output.old) (S.buffer output.new) }
+    ensures puts { IsPut (as_one (trees_of texts.now items.now)) (V.facts value.now)
+        (S.buffer output.old) (S.buffer output.new) result }
     ensures lender { IfOk result (λ _. (S.buffer output.new).lender ≡ (S.buffer output.old).lender) }
 {
     let mut state = value.first_state();
     let mut lost = 0usize;
     let mut left = items;
     while let [item, behind @ ..] = left {
-        if write_run::<L, S, V>(left, texts, output, value, &mut state) {
+        if write_run::<S, V, HAS_RUNS>(left, texts, output, value, &mut state) {
             left = &left[5..];
             continue;
         }
@@ -323,10 +335,11 @@ where
     Ok(lost)
 }
 
-/// Writes the date or the time of day at the front of the items, if there is one, the value has it and its text
-/// fits. Returns whether it was written. It becomes part of the loop.
+/// Writes the date or the time of day at the front of the items, if the loop looks for them, there is one, the value
+/// has it and its text fits. Returns whether it was written. It becomes part of the loop. Where that looks for them,
+/// each other item costs more.
 #[inline(always)]
-fn write_run<L: Loop, S: Sink, V: ComponentProvider>(
+fn write_run<S: Sink, V: ComponentProvider, const HAS_RUNS: bool>(
     items: &[Item],
     texts: &[u8],
     output: &mut S,
@@ -339,7 +352,7 @@ fn write_run<L: Loop, S: Sink, V: ComponentProvider>(
     ensures nothing { IsFalse result → S.buffer output.new ≡ S.buffer output.old }
     ensures agrees { V.agrees state.new value.now }
 {
-    if !L::HAS_RUNS {
+    if !HAS_RUNS {
         return false;
     }
     match run_of(items, texts) {
@@ -521,14 +534,11 @@ fn write_item<S: Sink, V: ComponentProvider>(
     state: &mut V::State,
 ) -> Result<usize, Reason>
     requires agrees { V.agrees state.old value.now }
-    ensures ends { ItemEndsOrIsLost (item_tree texts.now item.now) (V.facts value.now)
+    ensures put { IsPut (item_tree texts.now item.now) (V.facts value.now)
         (S.buffer output.old) (S.buffer output.new) result }
     ensures agrees { V.agrees state.new value.now }
 {
-    match part_of(item, texts) {
-        Ok(part) => write_any(part, output, value, state),
-        Err(reason) => Err(reason),
-    }
+    write_any(part_of(item, texts)?, output, value, state)
 }
 
 /// Writes any part if its text fits, and returns the number of bytes that are lost if it does not.
@@ -541,8 +551,8 @@ fn write_any<S: Sink, V: ComponentProvider>(
     state: &mut V::State,
 ) -> Result<usize, Reason>
     requires agrees { V.agrees state.old value.now }
-    ensures ends { EndsOrIsLost (tree_width (part_tree part.entry)) (S.buffer output.old)
-        (S.buffer output.new) result (tree_outcome (part_tree part.entry) (V.facts value.now)) }
+    ensures put { IsPut (Ok (part_tree part.entry)) (V.facts value.now)
+        (S.buffer output.old) (S.buffer output.new) result }
     ensures agrees { V.agrees state.new value.now }
 {
     let component = match part {
@@ -564,8 +574,9 @@ fn write_any<S: Sink, V: ComponentProvider>(
 }
 
 /// Writes a text if it fits, and returns the number of bytes that are lost if it does not.
+#[tactic(auto, using(crate::proofs::DescribedLemmas::put_once, crate::proofs::DescribedLemmas::lost_whole))]
 fn write_text<S: Sink>(output: &mut S, text: &[u8]) -> usize
-    ensures { FitsOrIsLost (S.buffer output.old) (S.buffer output.new) result text.now }
+    ensures { PutsOrLoses (S.buffer output.old) (S.buffer output.new) result text.now }
 {
     if text.len() > output.room() {
         return text.len();
@@ -581,10 +592,7 @@ fn width(items: &[Item], texts: &[u8]) -> Result<usize, Reason>
 {
     let mut sum = 0usize;
     for item in items {
-        match part_of(item, texts) {
-            Ok(part) => sum += part_width(part).min(GREATEST_WIDTH - sum),
-            Err(reason) => return Err(reason),
-        }
+        sum += part_width(part_of(item, texts)?).min(GREATEST_WIDTH - sum);
     }
     Ok(sum)
 }

@@ -3,7 +3,7 @@ ghost use Rattle.std.specs.Prelude.{◌≡◌, ◌≢◌, ◌≤◌, IfErr, IfOk
 ghost use Rattle.movaliren_c.specs.Answer.{IsAnswer, IsRefusedFor, IsText, IsWritten, gives};
 ghost use Rattle.movaliren_c.specs.Batch.{IsBatch};
 ghost use Rattle.movaliren_c.specs.Chosen.{choices_at, iso8601_by, separated};
-ghost use Rattle.movaliren_c.specs.Utc.{utc_value};
+ghost use Rattle.movaliren_c.specs.Utc.{local_value, utc_value};
 ghost use Rattle.movaliren_c.specs.Value.{moment_value};
 ghost use Rattle.time_fmt.specs.Outcome.{done};
 ghost use Rattle.time_known.specs.Config.{default_choices};
@@ -17,7 +17,7 @@ use crate::moment::{Moment, UtcMoment};
 use crate::moment_text::{Format, answer_at, put_at_start, texts_of};
 use crate::reason::{Reason, answer_number, reason_for};
 use crate::room::copy_text;
-use crate::source::{ByParts, InUtc, Source};
+use crate::source::{AtOffset, ByParts, InUtc, Source};
 use crate::writer::Writer;
 use config::separated_config_at;
 pub use config::{IsoConfig, config_at};
@@ -38,7 +38,7 @@ const MOST_BYTES: usize = 284;
 
 /// The format of ISO 8601 by its default configuration.
 #[derive(Clone, Copy)]
-pub struct Iso8601;
+struct Iso8601;
 
 impl Format for Iso8601 {
     type Text = SeparatedText;
@@ -96,6 +96,22 @@ pub extern "C" fn movaliren_iso8601_utc(seconds: i64, nanosecond: u32, room: &mu
     answer_at(&texts_of(Iso8601, InUtc), seconds, nanosecond, room)
 }
 
+/// The text of ISO 8601 of a moment by the default configuration, at an offset of this many seconds east
+/// of UTC.
+#[unsafe(no_mangle)]
+pub extern "C" fn movaliren_iso8601_local(
+    seconds: i64,
+    nanosecond: u32,
+    offset: i64,
+    room: &mut [u8],
+) -> isize
+    ensures { IsAnswer (gives (local_value seconds nanosecond offset) (iso8601_of default_choices))
+        result room.old room.new }
+{
+    let texts = texts_of(Iso8601, AtOffset { east: offset });
+    answer_at(&texts, seconds, nanosecond, room)
+}
+
 /// The texts of ISO 8601 of the moments by the default configuration, one after another, each ended
 /// by this byte.
 #[unsafe(no_mangle)]
@@ -123,7 +139,7 @@ pub extern "C" fn movaliren_iso8601_utc_batch(
 
 /// The format of ISO 8601 by a configuration, over the moments of a source.
 #[derive(Clone, Copy)]
-pub struct Iso8601By<S> {
+struct Iso8601By<S> {
     config: IsoConfig,
     source: S,
 }
@@ -146,7 +162,7 @@ impl<S: Source> Writer for Iso8601By<S> {
 }
 
 /// The texts of ISO 8601 by this configuration, of the moments of this source.
-pub fn iso8601_by<S: Source>(config: &IsoConfig, source: S) -> Iso8601By<S>
+fn iso8601_by<S: Source>(config: &IsoConfig, source: S) -> Iso8601By<S>
     ensures { result ≡ record { config = config.now; source = source } }
 {
     Iso8601By {
@@ -180,6 +196,23 @@ pub extern "C" fn movaliren_iso8601_by_utc(
         result room.old room.new }
 {
     answer_at(&iso8601_by(config, InUtc), seconds, nanosecond, room)
+}
+
+/// The text of ISO 8601 of a moment by a configuration, whose numbers are tested before the moment, at an
+/// offset of this many seconds east of UTC.
+#[unsafe(no_mangle)]
+pub extern "C" fn movaliren_iso8601_by_local(
+    config: &IsoConfig,
+    seconds: i64,
+    nanosecond: u32,
+    offset: i64,
+    room: &mut [u8],
+) -> isize
+    ensures { IsAnswer (iso8601_by config.now (local_value seconds nanosecond offset))
+        result room.old room.new }
+{
+    let texts = iso8601_by(config, AtOffset { east: offset });
+    answer_at(&texts, seconds, nanosecond, room)
 }
 
 /// The texts of ISO 8601 of the moments by a configuration, one after another, each ended by this
@@ -227,10 +260,7 @@ impl<S: Source> Iso8601By<S> {
         ensures { IsWritten result (iso8601_of (separated usual.now) value.now)
             room.old room.new }
     {
-        match separated_text(usual, value) {
-            Ok(text) => Ok(put_at_start(&text, room)),
-            Err(reason) => Err(reason),
-        }
+        Ok(put_at_start(&separated_text(usual, value)?, room))
     }
 
     /// Writes the text of the item by any configuration to the start of the buffer.
@@ -240,13 +270,8 @@ impl<S: Source> Iso8601By<S> {
         ensures { IsText (iso8601_by self.now.config (S.given self.now.source item.now))
             result room.old room.new }
     {
-        match config_at(&self.config) {
-            Ok(config) => match self.source.value(item) {
-                Ok(value) => write_parts(&config, &value, room),
-                Err(reason) => Err(reason),
-            },
-            Err(reason) => Err(reason),
-        }
+        let config = config_at(&self.config)?;
+        write_parts(&config, &self.source.value(item)?, room)
     }
 }
 

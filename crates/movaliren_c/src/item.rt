@@ -208,8 +208,5 @@ pub fn part_of<'a>(item: &Item, texts: &'a [u8]) -> Result<Part<'a>, Reason>
     if item.kind == 254 {
         return Ok(Part::Byte(item.byte));
     }
-    match component_of(item) {
-        Ok(component) => Ok(Part::Component(component)),
-        Err(reason) => Err(reason),
-    }
+    Ok(Part::Component(component_of(item)?))
 }

@@ -84,8 +84,6 @@ where
         Err(reason) => return Err(first_reason(items, texts, reason)),
     };
     let mut start = [0u8; SHORT];
-    match write_long::<Brand, V>(items, texts, &value, &mut start) {
-        Ok(count) => Ok(count.min(GREATEST_WIDTH)),
-        Err(reason) => Err(reason),
-    }
+    let count = write_long::<Brand, V>(items, texts, &value, &mut start)?;
+    Ok(count.min(GREATEST_WIDTH))
 }

@@ -16,7 +16,6 @@ mod item_room;
 pub mod laws;
 mod length;
 mod library;
-mod local;
 mod local_parts;
 mod log;
 mod made_item;

@@ -9,8 +9,7 @@ ghost use Rattle.time_fmt.specs.Outcome.{done};
 ghost use Rattle.time_known.specs.Fields.{shown};
 ghost use Rattle.time_known.specs.WellKnown.{offset_text};
 
-use crate::iso8601::IsoConfig;
-use crate::local::movaliren_iso8601_by_local;
+use crate::iso8601::{IsoConfig, movaliren_iso8601_by_local};
 use crate::moment_text::put_at_start;
 use crate::reason::{Reason, answer_number};
 use crate::source::local_value;
@@ -135,31 +134,12 @@ fn write_kept(
     ensures fits { IfOk result (λ count. count ≤ length room.old) }
 {
     let zone = &kept.zone[..kept.zone_len as usize];
-    write_around(&kept.head, zone, nanosecond, decimals, room)
-}
-
-/// Writes so many decimals of the nanosecond between two texts of at most 26 bytes, if they fit.
-#[inline(always)]
-fn write_around(
-    head: &[u8],
-    zone: &[u8],
-    nanosecond: Nanoseconds,
-    decimals: u8,
-    room: &mut [u8],
-) -> Result<usize, Reason>
-    requires head { length head.now ≡ 20 }
-    requires inside { length zone.now ≤ 6 }
-    requires few { decimals ≡ 3 ⊎ decimals ≡ 6 ⊎ decimals ≡ 9 }
-    ensures written { IsWritten result
-        (done (head.now ++ decimals_of nanosecond 1_000_000_000 decimals ++ zone.now)) room.old room.new }
-    ensures fits { IfOk result (λ count. count ≤ length room.old) }
-{
-    let (a, b) = (head.len(), decimals as usize);
+    let (a, b) = (kept.head.len(), decimals as usize);
     let count = a + b + zone.len();
     if count > room.len() {
         return Err(Reason::NoRoom);
     }
-    write_over(room, 0, head);
+    write_over(room, 0, &kept.head);
     write_decimals(room, a, nanosecond, decimals);
     write_zone(room, a + b, zone);
     Ok(count)

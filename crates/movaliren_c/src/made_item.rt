@@ -2,8 +2,6 @@
 ghost use Rattle.std.specs.Prelude.{◌≡◌, ◌≤◌, ◌+◌, ◌∷◌, [], ℕ, List, MatchOption, Ok, false, length, slice_range};
 ghost use Rattle.movaliren_c.specs.Described.{IsItem, IsItemOf, is_shown};
 ghost use Rattle.movaliren_c.specs.Items.{component_at, component_of, digits_at, padding_at};
-ghost use Rattle.movaliren_c.specs.Value.{flag_at};
-ghost use Rattle.movaliren_c.specs.declared.reason.Reason.TheVariants.{BadItem};
 ghost use Rattle.time_below.specs.Tree.{of_component};
 ghost use Rattle.time_describe.specs.Literal.{literal_of};
 
@@ -40,16 +38,6 @@ fn padding_number(padding: Padding) -> u8
 }
 
 #[inline(always)]
-fn flag_number(flag: bool) -> u8
-    ensures { flag_at result BadItem ≡ Ok flag }
-{
-    match flag {
-        false => 0,
-        true => 1,
-    }
-}
-
-#[inline(always)]
 fn digits_number(digits: SubsecondDigits) -> u8
     ensures { digits_at result ≡ Ok digits }
 {
@@ -77,7 +65,7 @@ fn item(kind: u32, padding: Padding, flag: bool, digits: SubsecondDigits) -> Ite
     Item {
         kind,
         padding: padding_number(padding),
-        flag: flag_number(flag),
+        flag: u8::from(flag),
         digits: digits_number(digits),
         ..NO_ITEM
     }

@@ -191,12 +191,7 @@ pub fn in_utc(moment: Timestamp) -> UtcDateTime
 pub fn value_in_utc(seconds: i64, nanosecond: u32) -> Result<OffsetDateTime, Reason>
     ensures { result ≡ utc_value seconds nanosecond }
 {
-    match timestamp_value(seconds, nanosecond) {
-        Ok(moment) => {
-            let value = in_utc(moment);
-            let offset = UtcOffset::from_valid_hms(0, 0, 0);
-            Ok(OffsetDateTime::new_in_offset(value.date(), value.time(), offset))
-        }
-        Err(reason) => Err(reason),
-    }
+    let value = in_utc(timestamp_value(seconds, nanosecond)?);
+    let offset = UtcOffset::from_valid_hms(0, 0, 0);
+    Ok(OffsetDateTime::new_in_offset(value.date(), value.time(), offset))
 }

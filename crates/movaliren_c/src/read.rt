@@ -1,7 +1,6 @@
 //! Texts of RFC 3339, read back as moments.
-ghost use Rattle.std.specs.Prelude.{◌≡◌, Ok};
-ghost use Rattle.movaliren_c.specs.Reading.{IsByParts, IsInUtc, IsRead, Leaves, Reads, flag_of, lenient_flag, place_of};
-ghost use Rattle.movaliren_c.specs.Value.{moment_value};
+ghost use Rattle.std.specs.Prelude.{◌≡◌};
+ghost use Rattle.movaliren_c.specs.Reading.{IsByParts, IsInUtc, IsRead, Leaves, Reads, lenient_flag, place_of};
 ghost use Rattle.time_below.specs.Moment.{OffsetDateAndTime};
 ghost use Rattle.time_known.specs.Rfc3339Grammar.{Rfc3339Spells};
 ghost use Rattle.time_read.specs.Lenient.{Rfc3339Means};
@@ -43,7 +42,22 @@ impl OfValue for Moment {
     ghost Holds = { IsByParts };
 
     fn of_value(value: OffsetDateTime) -> Moment {
-        moment_of(value)
+        let _in_range = value.date().ordinal();
+        let (year, month, day) = value.date().to_calendar_date();
+        let (hour, minute, second, nanosecond) = value.time().as_hms_nano();
+        let (offset_hours, offset_minutes, offset_seconds) = value.offset().as_hms();
+        Moment {
+            year,
+            nanosecond,
+            month: u8::from(month),
+            day,
+            hour,
+            minute,
+            second,
+            offset_hours,
+            offset_minutes,
+            offset_seconds,
+        }
     }
 }
 
@@ -53,46 +67,9 @@ impl OfValue for UtcMoment {
     fn of_value(value: OffsetDateTime) -> UtcMoment {
         UtcMoment {
             seconds: value.unix_timestamp(),
-            nanosecond: nanosecond_of(value),
+            nanosecond: value.time().as_hms_nano().3,
         }
     }
-}
-
-/// The parts of a value.
-fn moment_of(value: OffsetDateTime) -> Moment
-    ensures { moment_value result ≡ Ok value }
-{
-    let _in_range = value.date().ordinal();
-    let (year, month, day) = value.date().to_calendar_date();
-    let (hour, minute, second, nanosecond) = value.time().as_hms_nano();
-    let (offset_hours, offset_minutes, offset_seconds) = value.offset().as_hms();
-    Moment {
-        year,
-        nanosecond,
-        month: u8::from(month),
-        day,
-        hour,
-        minute,
-        second,
-        offset_hours,
-        offset_minutes,
-        offset_seconds,
-    }
-}
-
-/// The nanosecond of a value.
-fn nanosecond_of(value: OffsetDateTime) -> u32
-    ensures { result ≡ value.time.nanosecond }
-{
-    let (_, _, _, nanosecond) = value.time().as_hms_nano();
-    nanosecond
-}
-
-/// The number of a flag.
-fn flag_of(is_set: bool) -> u8
-    ensures { result ≡ flag_of is_set }
-{
-    u8::from(is_set)
 }
 
 /// Whether a profile takes small letters too.
@@ -124,7 +101,7 @@ fn place_of(error: NotRead) -> Place
         first,
         last,
         is_lenient,
-        is_second_60: flag_of(error.is_second_60),
+        is_second_60: u8::from(error.is_second_60),
     }
 }
 

@@ -17,27 +17,6 @@ pub enum Run {
     Time,
 }
 
-/// Whether the loop over a description looks for dates and times of day. Where it does, each other item costs
-/// more.
-pub trait Loop {
-    /// Whether it looks for them.
-    const HAS_RUNS: bool;
-}
-
-/// The loop that looks for them.
-pub struct WithRuns;
-
-impl Loop for WithRuns {
-    const HAS_RUNS: bool = true;
-}
-
-/// The loop that does not.
-pub struct WithoutRuns;
-
-impl Loop for WithoutRuns {
-    const HAS_RUNS: bool = false;
-}
-
 /// Whether one of the first two items begins a date or a time of day, as in most descriptions that have one.
 #[inline(always)]
 pub fn begins_with_run(items: &[Item]) -> bool {

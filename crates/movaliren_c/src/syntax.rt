@@ -30,9 +30,9 @@ impl Fault {
     {
         Fault {
             at: index,
-            items: 0,
             reason: number.0,
             byte: number.1,
+            ..Fault::many(0)
         }
     }
 

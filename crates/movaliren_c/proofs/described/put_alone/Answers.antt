@@ -8,4 +8,4 @@ returns-clause-puts g c = λ written.
     run_alone {agrees = g.V.ComponentProvider.agrees c.write_run.new.state c.args.value.now} (item_tree c.args.texts.now)
     c.args.items.now run.run run.first run.second (g.S.Sink.buffer c.args.output.now)
     (g.S.Sink.buffer c.write_run.new.output) (g.V.ComponentProvider.facts c.args.value.now) c.write_run.ensures.agrees
-    c.requires.five run.begin run.ends c.requires.empty c.requires.len
+    c.requires.five run.begin run.ends

@@ -1,8 +1,13 @@
 use Rattle.std.proofs.Common.{refl, arith}
 use Rattle.std.proofs.lemmas.List.{take_rest}
 use Rattle.movaliren_c.specs.Items.{trees_of}
-use Rattle.movaliren_c.proofs.DescribedLemmas.{SoFar, ended, ended_refused, one_more, run_more, stops_here}
+use Rattle.movaliren_c.proofs.DescribedLemmas.{SoFar, ended, ended_refused, nothing_so_far, one_more, run_more, stops_here}
 use Rattle.movaliren_c.proofs.described.put_items.Goals as goal
+
+pub loop-left-init : goal.loop-left-init
+loop-left-init g c =
+    nothing_so_far (g.S.Sink.buffer c.args.output.now) (g.V.ComponentProvider.facts c.args.value.now)
+    (trees_of c.args.texts.now c.args.items.now) c.first_state-state.ensures
 
 pub loop-left-preserved-then-write_run : goal.loop-left-preserved-then-write_run
 loop-left-preserved-then-write_run g c =
@@ -35,7 +40,7 @@ returns-in-Err-clause-puts g c =
     rw (c.write_run.ensures.nothing c.if-write_run.false) c.loop-left.invariant in
     rw c.first_reason-in-Err.ensures (stops_here _ c.loop-left.left.now _ _ _ _ _ _ _ _
     (trees_of c.args.texts.now c.args.items.now) _ c.in-len1-up.len_at_least refl
-    (rw (c.take_out-apart.ensures.taken, c.in-None.ensures.writes) at c.in-Err.ensures.ends) so_far)
+    (rw (c.take_out-apart.ensures.taken, c.in-None.ensures.writes) at c.in-Err.ensures.put) so_far)
 
 pub loop-left-preserved-in-Some-Ok : goal.loop-left-preserved-in-Some-Ok
 loop-left-preserved-in-Some-Ok g c =
@@ -48,7 +53,7 @@ loop-left-preserved-in-Some-Ok g c =
     (take_rest c.loop-left.left.now 1) refl c.in-Some-Ok.ensures.agrees
     (ended _ (g.V.ComponentProvider.facts c.args.value.now) (g.S.Sink.buffer c.write_run.new.output)
     (g.S.Sink.buffer c.write_usual.new.output) (rw c.in-Some-Ok.field-0-is at c.in-Some-Ok.ensures.writes))
-    (omega (arith, so_far.small)) so_far
+    (omega (arith, so_far.put.2.small)) so_far
 
 pub loop-left-preserved : goal.loop-left-preserved
 loop-left-preserved g c =
@@ -60,5 +65,5 @@ loop-left-preserved g c =
     (one_more {after = g.V.ComponentProvider.agrees c.write_item-answer.new.state c.args.value.now}
     _ c.loop-left.left.now _ _ _ _ _ _ _ _ _ _ (trees_of c.args.texts.now c.args.items.now) c.in-len1-up.len_at_least
     (take_rest c.loop-left.left.now 1) refl c.in-Ok.ensures.agrees
-    (rw (c.take_out-apart.ensures.taken, c.in-None.ensures.writes) at c.in-Ok.ensures.ends)
+    (rw (c.take_out-apart.ensures.taken, c.in-None.ensures.writes) at c.in-Ok.ensures.put)
     c.saturating_add-lost.ensures so_far)

@@ -1,4 +1,4 @@
-use Rattle.std.proofs.Common.{◌≡◌, ◌<◌, arith, length, rules}
+use Rattle.std.proofs.Common.{◌≡◌, ◌<◌, arith, length, refl, rules}
 use Rattle.std.proofs.lemmas.Grind.{common_steps}
 use Rattle.movaliren_c.specs.Items.{trees_of}
 use Rattle.movaliren_c.proofs.DescribedLemmas.{no_room, no_value}
@@ -7,7 +7,7 @@ use Rattle.movaliren_c.proofs.described.write_described.Goals as goal
 pub returns-in-Err : goal.returns-in-Err
 returns-in-Err g c =
     rw (c.in-Err.is, c.first_reason.ensures) (record {
-      text = no_value (trees_of c.args.texts.now c.args.items.now) c.in-Err.reason g.V.ComponentProvider.facts c.args.room.now;
+      text = rw (no_value (trees_of c.args.texts.now c.args.items.now) c.in-Err.reason g.V.ComponentProvider.facts) (refl, refl);
       within = tt;
     })
 

@@ -4,7 +4,7 @@ use Rattle.time_below.specs.Calendar.{OrdinalDate, day_of, month_of}
 use Rattle.time_below.specs.Offset.{Offset}
 use Rattle.time_below.specs.TimeOfDay.{TimeOfDay}
 use Rattle.movaliren_c.proofs.ReadLemmas.{value_of_parts}
-use Rattle.movaliren_c.proofs.read.moment_of.Goals as goal
+use Rattle.movaliren_c.proofs.read.MomentOfValue.of_value.Goals as goal
 
 pub returns : goal.returns
 returns c =
