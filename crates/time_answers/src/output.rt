@@ -157,16 +157,6 @@ impl OutputBuffer {
             (W.contents output.new) (joined parts.now)) }
     {
         self.make_room(output, joined_len(parts))?;
-        self.append_each(output, parts)
-    }
-
-    /// Accepts the parts, one after another.
-    fn append_each<W: Write>(&mut self, output: &mut W, parts: &[&[u8]]) -> Result<(), WriteFailed>
-        ensures ok { OnOk result (Accepts (buffered (W.contents output.old) self.old)
-            (buffered (W.contents output.new) self.new) (joined parts.now)) }
-        ensures err { OnErr result (CutsOff (buffered (W.contents output.old) self.old)
-            (W.contents output.new) (joined parts.now)) }
-    {
         for part in parts {
             self.append(output, part)?;
         }

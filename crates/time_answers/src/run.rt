@@ -47,25 +47,6 @@ fn reply_for<'a>(text: &'a mut Vec<u8>, formats: &Formats, line: &LineBuffer) ->
     }
 }
 
-/// Answers the line in the buffer.
-fn answer_line<W: Write>(
-    text: &mut Vec<u8>,
-    formats: &Formats,
-    line: &LineBuffer,
-    answers: &mut OutputBuffer,
-    output: &mut W,
-) -> Result<(), WriteFailed>
-    ensures ok { OnOk result (AcceptsAnswer
-        (state line.now (W.contents output.old) answers.old)
-        (state line.now (W.contents output.new) answers.new)) }
-    ensures err { OnErr result (CutsAnswerOff
-        (state line.now (W.contents output.old) answers.old)
-        (W.contents output.new)) }
-{
-    let reply = reply_for(text, formats, line);
-    answers.append_reply(output, reply)
-}
-
 /// Answers the line that these bytes end, and begins the next. Most lines stand whole in their block,
 /// and are answered where they stand.
 #[inline(always)]
@@ -90,7 +71,8 @@ fn end_line<W: Write>(
         return answers.append_reply(output, reply);
     }
     line.extend(bytes);
-    answer_line(text, formats, line, answers, output)?;
+    let reply = reply_for(text, formats, line);
+    answers.append_reply(output, reply)?;
     line.clear();
     Ok(())
 }
