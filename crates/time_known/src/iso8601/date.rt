@@ -61,6 +61,7 @@ pub fn format_date<V: ComponentProvider>(
 // Appends the date, where four digits hold its year; else it appends nothing. The compiler sees the
 // kind, and perhaps whether there are dashes, so that no other is tested.
 #[inline(always)]
+#[tactic(auto, using(crate::proofs::LengthLemmas::joined_lengths))]
 pub(super) fn write_date_by<V: ComponentProvider>(
     config: &Config,
     kind: DateKind,
@@ -80,25 +81,7 @@ pub(super) fn write_date_by<V: ComponentProvider>(
         (iso_date config.now (the_date (V.facts value.now)))) }
     ensures agrees { AgreesOnDate (V.agrees state.new value.now) (V.facts value.now) }
 {
-    append_short(config, has_dash, output, date_of(kind, value, state))
-}
-
-// Appends a date, where four digits hold its year.
-#[inline(always)]
-#[tactic(auto, using(crate::proofs::LengthLemmas::joined_lengths))]
-fn append_short(
-    config: &Config,
-    has_dash: bool,
-    output: &mut Vec<u8>,
-    date: DateParts,
-) -> Option<usize>
-    requires short { config.now.year_is_six_digits ≡ false }
-    requires dash { config.now.use_separators ≡ has_dash }
-    requires room { HasRoom output.old (date_parts_width config.now date) }
-    ensures appends { MatchOption result (output.new ≡ output.old)
-        (λ n. AppendsUpTo (date_parts_width config.now date) output.old output.new (Ok n)
-        (date_of_parts config.now date)) }
-{
+    let date = date_of(kind, value, state);
     let number = date.year.get();
     if number < 0 || number > 9_999 {
         return None;

@@ -139,31 +139,13 @@ fn put_units<S: Sink, const IS_ALONE: bool>(output: &mut S, config: &Config, tim
         TimePrecision::Minute { decimal_digits } => {
             put_to_minute(output, time, config.separator(":"), sign, decimal_digits)
         }
-        TimePrecision::Second { decimal_digits } => {
-            put_second::<S, IS_ALONE>(output, config, time, decimal_digits)
+        // The compiler knows each separator.
+        TimePrecision::Second { decimal_digits } if config.use_separators() => {
+            put_to_second(output, time, ":", sign, decimal_digits)
         }
-    }
-}
-
-// Puts the hour, the minute and the second by separators that the compiler knows, and decimals of the second.
-#[inline(always)]
-fn put_second<S: Sink, const IS_ALONE: bool>(
-    output: &mut S,
-    config: &Config,
-    time: Time,
-    digits: Option<ru8<1, 255>>,
-)
-    requires room { Fits (S.buffer output.old)
-        (units_width (TimePrecision.Second digits) config.now) }
-    ensures puts { PutsUpTo (units_width (TimePrecision.Second digits) config.now)
-        (S.buffer output.old) (S.buffer output.new)
-        (units_text (TimePrecision.Second digits) config.now time) }
-{
-    let sign = config.decimal_sign();
-    if config.use_separators() {
-        put_to_second(output, time, ":", sign, digits);
-    } else {
-        put_to_second(output, time, "", sign, digits);
+        TimePrecision::Second { decimal_digits } => {
+            put_to_second(output, time, "", sign, decimal_digits)
+        }
     }
 }
 

@@ -22,10 +22,3 @@ returns-clause-spelled g c =
     ∙ c.are_supplied_by.ensures.there value ∙ c.if-not-are_supplied_by.false in
     completed_reads c.write_parts.result c.self.inside.config c.args.self.now f c.self.view_is there
     c.write_parts.ensures.real c.write_parts.ensures.appends.appends
-
-pub returns-then-not-are_supplied_by-clause-text : goal.returns-then-not-are_supplied_by-clause-text
-returns-then-not-are_supplied_by-clause-text g c =
-    λ _. iso8601_utf8 c.args.self.now (g.V.ComponentProvider.facts c.args.value.now)
-
-pub returns-clause-text : goal.returns-clause-text
-returns-clause-text g c = λ _. iso8601_utf8 c.args.self.now (g.V.ComponentProvider.facts c.args.value.now)
