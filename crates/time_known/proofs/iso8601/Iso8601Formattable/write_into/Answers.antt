@@ -2,7 +2,6 @@ use Rattle.std.proofs.Common.{ap, sym, ◌∙◌}
 use Rattle.time_fmt.proofs.WriteLemmas.{appends_nothing}
 use Rattle.time_known.specs.declared.groups.Groups.{Groups}
 use Rattle.time_known.specs.Groups.{has_groups}
-use Rattle.time_known.proofs.GuaranteeLemmas.{iso8601_utf8}
 use Rattle.time_known.proofs.iso8601.GroupLemmas.{missing_group_refused}
 use Rattle.time_known.proofs.iso8601.ReadBackLemmas.{completed_reads}
 use Rattle.time_known.proofs.iso8601.Iso8601Formattable.write_into.Goals as goal
