@@ -109,13 +109,6 @@ BreaksOff-before lines more text b = record {
   unfinished = b.unfinished;
 }
 
--- answers of which only a beginning was written
-BreaksOff-unsent : (lines : List (List ℕ)) (text more : List ℕ) (a b : Option (List ℕ))
-    → AreAnswers lines (text ++ more) →
-    (cut : AppendsStart a b more) → BreaksOff lines (text ++ cut.sent)
-BreaksOff-unsent lines text more a b p cut =
-    BreaksOff-cut lines (text ++ cut.sent) cut.missing (rw (append_assoc, ← cut.in_order) p) cut.unfinished
-
 -- a buffer keeps what the line with more bytes is kept as
 kept_of-more : (line more : List ℕ) → kept_with (kept_of line) more ≡ kept_of (line ++ more)
 kept_of-more line more = grind (arith, common_steps)
@@ -295,7 +288,8 @@ is_cut bytes text block kept h1 h2 upto off =
       written = cut.5.went_out;
       breaks_off = rw lines
           (BreaksOff-before (whole_lines_of read) (whole_lines_of (unended_of read ++ cut.1)) (text ++ cut.5.sent)
-          (BreaksOff-unsent (whole_lines_of read) text cut.2 h1 h2 cut.4 cut.5));
+          (BreaksOff-cut (whole_lines_of read) (text ++ cut.5.sent) cut.5.missing (rw (append_assoc, ← cut.5.in_order) cut.4)
+          cut.5.unfinished));
     }
 
 -- The answers to a block are cut off.
