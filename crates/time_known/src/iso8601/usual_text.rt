@@ -306,7 +306,9 @@ fn put_decimals<S: Sink>(output: &mut S, nanosecond: Nanoseconds, digits: ru8<1,
         3 => {
             write_three_decimals(output, nanosecond);
         }
-        1 => put_one_decimal(output, nanosecond),
+        1 => {
+            format_single_digit(output, ru8::within((nanosecond.get() / 100_000_000) as u8));
+        }
         _ => {
             let rest = u64::from(nanosecond.get());
             put_long_division(output, rest, NANOSECONDS_PER_SECOND, digits);
@@ -327,15 +329,4 @@ fn put_nine_and_more<S: Sink>(output: &mut S, nanosecond: Nanoseconds, digits: u
     if digits > 9 {
         write_literal(output, piece(ZEROS, 0, digits as usize - 9).as_bytes());
     }
-}
-
-// Puts the first decimal.
-#[inline(always)]
-#[tactic(auto, using(crate::proofs::iso8601::LengthLemmas::first_decimal))]
-fn put_one_decimal<S: Sink>(output: &mut S, nanosecond: Nanoseconds)
-    requires room { Fits (S.buffer output.old) 1 }
-    ensures puts { Puts (S.buffer output.old) (S.buffer output.new) 1
-        (decimals nanosecond NANOSECONDS_PER_SECOND 1) }
-{
-    format_single_digit(output, ru8::within((nanosecond.get() / 100_000_000) as u8));
 }
