@@ -66,7 +66,7 @@ one_more_line fed line none one =
     ∙ rw none refl
 
 -- the bytes of a line and its line feed, taken from what is left
-next-line : (bytes fed rest : List ℕ) (end : ℕ) → bytes ≡ fed ++ rest → EndsAt rest end →
+pub next-line : (bytes fed rest : List ℕ) (end : ℕ) → bytes ≡ fed ++ rest → EndsAt rest end →
     bytes ≡ (fed ++ with_line_feed (take end rest)) ++ drop (end + 1) rest
 next-line bytes fed rest end whole ends =
     whole ∙ ap (λ more. fed ++ more) ends.whole

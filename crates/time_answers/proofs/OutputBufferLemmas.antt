@@ -4,28 +4,10 @@ use Rattle.std.proofs.Common.{Some, None, refl, ap, sym, ◌∙◌, append_assoc
 use Rattle.std.proofs.Math.Seq.{drop-cons}
 use Rattle.std.proofs.lemmas.Grind.{common_steps}
 use Rattle.std.proofs.lemmas.List.{take-append-drop, take_more}
-use Rattle.std.specs.Io.KnownBytes.{Appends, Keeps}
+use Rattle.std.proofs.KnownBytes.{Appends-nil, Appends-trans}
+use Rattle.std.specs.Io.KnownBytes.{Appends}
 use Rattle.time_digits.specs.Digits.{joined}
 use Rattle.time_answers.specs.OutputBuffer.{Output, buffered, Accepts, AppendsStart, CutsOff}
-
--- nothing is written
-pub Appends-none : (a : Option (List ℕ)) → Appends a a []
-Appends-none None = search rules
-Appends-none (Some a) = sym (append-nil a)
-
--- one text is written after another
-pub Appends-then : (a b c : Option (List ℕ)) (xs ys : List ℕ) → Appends a b xs → Appends b c ys → Appends a c (xs ++ ys)
-Appends-then None b c xs ys p q = search rules
-Appends-then (Some a) None c xs ys p q = absurd p
-Appends-then (Some a) (Some b) None xs ys p q = absurd q
-Appends-then (Some a) (Some b) (Some c) xs ys p q = rw (q, p, append_assoc)
-
--- an appended text stays if nothing more is written
-pub Appends-kept : (a b c : Option (List ℕ)) (xs : List ℕ) → Appends a b xs → Keeps b c → Appends a c xs
-Appends-kept None b c xs p q = search rules
-Appends-kept (Some a) None c xs p q = absurd p
-Appends-kept (Some a) (Some b) None xs p q = absurd q
-Appends-kept (Some a) (Some b) (Some c) xs p q = rw (q, p)
 
 -- bytes are left after a place before the end
 drop-some : (n : ℕ) (xs : List ℕ) → n < length xs → drop n xs ≢ []
@@ -59,12 +41,7 @@ AppendsStart-more a b xs ys p = record {
 
 -- nothing more is accepted
 pub Accepts-none : (o : Output) → Accepts o o []
-Accepts-none o = record { sent = []; went_out = Appends-none o.held; in_order = append-nil o.waiting }
-
--- bytes wait after those that wait
-pub Accepts-waits : (held : Option (List ℕ)) (waiting bytes : List ℕ)
-    → Accepts (buffered held waiting) (buffered held (waiting ++ bytes)) bytes
-Accepts-waits held waiting bytes = record { sent = []; went_out = Appends-none held; in_order = refl }
+Accepts-none o = record { sent = []; went_out = Appends-nil o.held; in_order = append-nil o.waiting }
 
 -- all that waits goes out
 pub Accepts-flushed : (a b : Option (List ℕ)) (waiting : List ℕ) → Appends a b waiting
@@ -80,7 +57,7 @@ Accepts-written a b bytes p = record { sent = bytes; went_out = p; in_order = sy
 pub Accepts-then : (a b c : Output) (xs ys : List ℕ) → Accepts a b xs → Accepts b c ys → Accepts a c (xs ++ ys)
 Accepts-then a b c xs ys p q = record {
   sent = p.sent ++ q.sent;
-  went_out = Appends-then a.held b.held c.held p.sent q.sent p.went_out q.went_out;
+  went_out = Appends-trans a.held b.held c.held p.sent q.sent p.went_out q.went_out;
   in_order = rw (
     ← append_assoc a.waiting xs ys,
     p.in_order,
@@ -96,7 +73,7 @@ pub CutsOff-after : (a b : Output) (held : Option (List ℕ)) (xs ys : List ℕ)
 CutsOff-after a b held xs ys p q = record {
   sent = p.sent ++ q.sent;
   missing = q.missing;
-  went_out = Appends-then a.held b.held held p.sent q.sent p.went_out q.went_out;
+  went_out = Appends-trans a.held b.held held p.sent q.sent p.went_out q.went_out;
   in_order = rw (
     ← append_assoc a.waiting xs ys,
     p.in_order,
@@ -117,7 +94,7 @@ pub CutsOff-flushed : (a b : Output) (held : Option (List ℕ)) (text : List ℕ
 CutsOff-flushed a b held text p q = record {
   sent = p.sent ++ q.sent;
   missing = q.missing;
-  went_out = Appends-then a.held b.held held p.sent q.sent p.went_out q.went_out;
+  went_out = Appends-trans a.held b.held held p.sent q.sent p.went_out q.went_out;
   in_order = rw (p.in_order, q.in_order, append_assoc p.sent q.sent q.missing);
   unfinished = q.unfinished;
 }

@@ -2,25 +2,28 @@
 use Rattle.std.proofs.Common.{ℕ, Ok, Err, ◌≡◌, ◌≢◌, ◌++◌, List, [], ◌∷◌, Option, Some, None, refl, ap, sym, ◌∙◌, arith}
 use Rattle.std.proofs.Common.{rules, append-nil, append_assoc, inl, inr}
 use Rattle.std.proofs.lemmas.Grind.{common_steps}
+use Rattle.std.proofs.KnownBytes.{Appends-trans, Consumes-trans}
 use Rattle.std.specs.Io.KnownBytes.{Appends, Consumes, IsAtEnd}
 use Rattle.time_answers.specs.declared.run.ShowError.TheVariants.{Write}
 use Rattle.time_answers.specs.Answer.{IsAnswer, AreAnswers, BreaksOff}
 use Rattle.time_answers.specs.LineBuffer.{kept_of, kept_with}
-use Rattle.line_streams.specs.Lines.{line_feed, lines_of, whole_lines_of, unended_of, last_line_of, IsOneLine}
+use Rattle.line_streams.specs.Lines.{line_feed, lines_of, whole_lines_of, unended_of, IsOneLine}
 use Rattle.time_answers.specs.OutputBuffer.{buffered, Accepts, AppendsStart, CutsOff}
 use Rattle.time_answers.specs.Run.{RunState, state, output_of, AnsweredUpTo, AcceptsAnswer, CutsAnswerOff, AnswersOn}
-use Rattle.time_answers.specs.Run.{CutsAnswersOff, AnswersRest, CutsRestOff, Ran}
-use Rattle.time_answers.proofs.OutputBufferLemmas.{Appends-then, Accepts-none, Accepts-flushed, Accepts-then}
+use Rattle.time_answers.specs.Run.{CutsAnswersOff, Ran}
+use Rattle.time_answers.proofs.OutputBufferLemmas.{Accepts-none, Accepts-flushed, Accepts-then}
 use Rattle.time_answers.proofs.OutputBufferLemmas.{CutsOff-after, CutsOff-flushed}
+use Rattle.line_streams.proofs.FilterLemmas.{Become-append, Become-one, last_is_one}
 use Rattle.line_streams.proofs.LinesLemmas.{lines_of-rest, whole_lines_of-append, whole_lines_of-fed, unended_of-fed}
 use Rattle.line_streams.proofs.LinesLemmas.{whole_lines_of-more, unended_of-more}
 
--- the answers to some lines, and the answer to one more
-pub AreAnswers-more : (lines : List (List ℕ)) (line text answer : List ℕ) →
-    AreAnswers lines text → IsAnswer line answer → AreAnswers (lines ++ line ∷ []) (text ++ answer)
-AreAnswers-more [] line text answer p h = (answer, [], rw (p, append-nil), h, refl)
-AreAnswers-more (first ∷ lines) line text answer p h =
-    (p.0, p.1 ++ answer, rw (p.2, append_assoc), p.3, AreAnswers-more lines line p.1 answer p.4 h)
+-- the answers to some lines, and the answer to the line that these bytes and a line feed complete
+line_answered : (before bytes text answer : List ℕ) → IsOneLine bytes → AreAnswers (whole_lines_of before) text
+    → IsAnswer (unended_of before ++ bytes) answer
+    → AreAnswers (whole_lines_of (before ++ (bytes ++ line_feed ∷ []))) (text ++ answer)
+line_answered before bytes text answer one p h =
+    rw (whole_lines_of-fed before bytes one) (Become-append IsAnswer (whole_lines_of before)
+    ((unended_of before ++ bytes) ∷ []) text answer p (Become-one IsAnswer (unended_of before ++ bytes) answer h))
 
 -- the first part of one of two equal texts ends at or after the end of the other's, or before it
 data Meets (xs ys us vs : List ℕ) : Type 0 where
@@ -106,13 +109,6 @@ BreaksOff-before lines more text b = record {
   unfinished = b.unfinished;
 }
 
--- answers of which only a beginning was written
-BreaksOff-unsent : (lines : List (List ℕ)) (text more : List ℕ) (a b : Option (List ℕ))
-    → AreAnswers lines (text ++ more) →
-    (cut : AppendsStart a b more) → BreaksOff lines (text ++ cut.sent)
-BreaksOff-unsent lines text more a b p cut =
-    BreaksOff-cut lines (text ++ cut.sent) cut.missing (rw (append_assoc, ← cut.in_order) p) cut.unfinished
-
 -- a buffer keeps what the line with more bytes is kept as
 kept_of-more : (line more : List ℕ) → kept_with (kept_of line) more ≡ kept_of (line ++ more)
 kept_of-more line more = grind (arith, common_steps)
@@ -162,8 +158,7 @@ AnswersOn-line bytes kept old new one with_bytes p before text upto =
       answer.2,
       record {
         rest = rw (unended_of-fed before bytes one);
-        answered = rw (whole_lines_of-fed before bytes one)
-            (AreAnswers-more (whole_lines_of before) (unended_of before ++ bytes) text answer.0 upto.answered answer.1);
+        answered = line_answered before bytes text answer.0 one upto.answered answer.1;
       },
     )
 
@@ -181,8 +176,7 @@ CutsAnswersOff-line bytes rest kept old held one with_bytes p before text upto =
       rest,
       answer.0,
       rw (append_assoc bytes (line_feed ∷ []) rest),
-      rw (whole_lines_of-fed before bytes one)
-          (AreAnswers-more (whole_lines_of before) (unended_of before ++ bytes) text answer.0 upto.answered answer.1),
+      line_answered before bytes text answer.0 one upto.answered answer.1,
       answer.2,
     )
 
@@ -234,81 +228,18 @@ CutsAnswersOff-flushed bytes a b held p q before text upto =
 kept-empty : (line : List ℕ) → Some [] ≡ kept_of line → line ≡ []
 kept-empty line e = grind (arith, common_steps)
 
--- a line that is not empty counts
-last_line_of-some : (line : List ℕ) → line ≢ [] → last_line_of line ≡ line ∷ []
-last_line_of-some [] some = absurd (some refl)
-last_line_of-some (b ∷ line) some = refl
-
--- bytes after the last line feed, of which a buffer keeps more than nothing, are a last line
+-- where a buffer keeps more than nothing of the last line, all lines are whole after one line feed more
 lines_of-kept : (bytes : List ℕ) (kept : Option (List ℕ)) → kept ≢ Some [] → kept ≡ kept_of (unended_of bytes) →
-    lines_of bytes ≡ whole_lines_of bytes ++ unended_of bytes ∷ []
+    lines_of bytes ≡ whole_lines_of (bytes ++ line_feed ∷ [])
 lines_of-kept bytes kept some is =
     lines_of-rest bytes
     ∙ ap (λ last. whole_lines_of bytes ++ last)
-    (last_line_of-some (unended_of bytes) (λ (e : unended_of bytes ≡ []). some (is ∙ ap kept_of e)))
-
--- all is answered if no bytes came after the last line feed
-pub AnswersRest-none : (s : RunState) → s.kept ≡ Some [] → AnswersRest s s
-AnswersRest-none s empty before text upto =
-    let rest : unended_of before ≡ [] = kept-empty (unended_of before) (sym empty ∙ upto.rest) in (
-      [],
-      rw (append-nil text, lines_of-rest before, rest, append-nil (whole_lines_of before)) upto.answered,
-      Accepts-none (output_of s),
-    )
-
--- a last line is answered
-AnswersRest-accepted : (a b : RunState) → a.kept ≢ Some [] → AcceptsAnswer a b → AnswersRest a b
-AnswersRest-accepted a b some p before text upto =
-    let answer : (answer : List ℕ) × IsAnswer (unended_of before) answer × Accepts (output_of a) (output_of b) answer =
-    p (unended_of before) upto.rest in (
-      answer.0,
-      rw (lines_of-kept before a.kept some upto.rest)
-          (AreAnswers-more (whole_lines_of before) (unended_of before) text answer.0 upto.answered answer.1),
-      answer.2,
-    )
-
--- a last line is answered, and its answer goes out
-pub AnswersRest-flushed : (a b : RunState) (held : Option (List ℕ)) → a.kept ≢ Some [] →
-    AcceptsAnswer a b → Appends b.held held b.waiting → AnswersRest a (state b.kept held [])
-AnswersRest-flushed a b held some p q before text upto =
-    let rest : (more : List ℕ) × AreAnswers (lines_of before) (text ++ more) × Accepts (output_of a) (output_of b)
-    more = AnswersRest-accepted a b some p before text upto in (
-      rest.0,
-      rest.1,
-      rw append-nil at (Accepts-then (output_of a) (output_of b) (buffered held []) rest.0 [] rest.2
-          (Accepts-flushed b.held held b.waiting q)),
-    )
-
--- the answer to a last line is cut off
-pub CutsRestOff-cut : (a : RunState) (held : Option (List ℕ)) → a.kept ≢ Some [] → CutsAnswerOff a held
-    → CutsRestOff a held
-CutsRestOff-cut a held some p before text upto =
-    let answer : (answer : List ℕ) × IsAnswer (unended_of before) answer × CutsOff (output_of a) held answer =
-    p (unended_of before) upto.rest in (
-      answer.0,
-      rw (lines_of-kept before a.kept some upto.rest)
-          (AreAnswers-more (whole_lines_of before) (unended_of before) text answer.0 upto.answered answer.1),
-      answer.2,
-    )
-
--- a last line is answered, and its answer is cut off as it goes out
-pub CutsRestOff-flushed : (a b : RunState) (held : Option (List ℕ)) → a.kept ≢ Some [] →
-    AcceptsAnswer a b → AppendsStart b.held held b.waiting → CutsRestOff a held
-CutsRestOff-flushed a b held some p q before text upto =
-    let rest : (more : List ℕ) × AreAnswers (lines_of before) (text ++ more) × Accepts (output_of a) (output_of b)
-    more = AnswersRest-accepted a b some p before text upto in
-    (rest.0, rest.1, CutsOff-flushed (output_of a) (output_of b) held rest.0 rest.2 q)
-
--- some bytes are read after others
-Consumes-then : (a b c : Option (List ℕ)) (xs ys : List ℕ) → Consumes a b xs → Consumes b c ys → Consumes a c (xs ++ ys)
-Consumes-then None b c xs ys p q = search rules
-Consumes-then (Some a) None c xs ys p q = absurd p
-Consumes-then (Some a) (Some b) None xs ys p q = absurd q
-Consumes-then (Some a) (Some b) (Some c) xs ys p q = rw (p, q, append_assoc)
+    (last_is_one (unended_of bytes) (λ (e : unended_of bytes ≡ []). some (is ∙ ap kept_of e)))
+    ∙ sym (rw append-nil at (whole_lines_of-fed bytes [] tt))
 
 -- the bytes consumed stay if nothing more is read
 Consumes-end : (a b c : Option (List ℕ)) (xs : List ℕ) → Consumes a b xs → Consumes b c [] → Consumes a c xs
-Consumes-end a b c xs p q = rw (append-nil xs) at (Consumes-then a b c xs [] p q)
+Consumes-end a b c xs p q = rw (append-nil xs) at (Consumes-trans a b c xs [] p q)
 
 -- A run so far: bytes were read, a text was written, and it answers them.
 pub record Running (left_before left_after held_before held_after kept : Option (List ℕ)) : Type 0 where
@@ -332,9 +263,33 @@ Running-on l0 l1 l2 h0 h1 h2 k1 k2 block run next on =
     record {
       bytes = run.bytes ++ block;
       text = run.text ++ more.0;
-      read = Consumes-then l0 l1 l2 run.bytes block run.read next;
-      written = Appends-then h0 h1 h2 run.text more.0 run.written (Accepts-sent h1 h2 more.0 more.1);
+      read = Consumes-trans l0 l1 l2 run.bytes block run.read next;
+      written = Appends-trans h0 h1 h2 run.text more.0 run.written (Accepts-sent h1 h2 more.0 more.1);
       answered = more.2;
+    }
+
+-- the answers to more bytes are cut off
+record IsCut (bytes text block : List ℕ) (held_before held_after : Option (List ℕ)) : Type 0 where
+  sent : List ℕ
+  written : Appends held_before held_after sent
+  breaks_off : BreaksOff (whole_lines_of (bytes ++ block)) (text ++ sent)
+
+is_cut : (bytes text block : List ℕ) (kept h1 h2 : Option (List ℕ)) → AnsweredUpTo bytes kept text
+    → CutsAnswersOff block (state kept h1 []) h2 → IsCut bytes text block h1 h2
+is_cut bytes text block kept h1 h2 upto off =
+    let cut : (first : List ℕ) × (others : List ℕ) × (more : List ℕ) × (block ≡ first ++ others)
+    × AreAnswers (whole_lines_of (bytes ++ first)) (text ++ more) × AppendsStart h1 h2 more = off bytes text upto in
+    let read = bytes ++ cut.0 in
+    let lines : whole_lines_of (bytes ++ block) ≡ whole_lines_of read ++ whole_lines_of (unended_of read ++ cut.1) =
+    ap (λ more. whole_lines_of (bytes ++ more)) cut.3
+    ∙ ap whole_lines_of (sym (append_assoc bytes cut.0 cut.1)) ∙ whole_lines_of-append read cut.1 in
+    record {
+      sent = cut.5.sent;
+      written = cut.5.went_out;
+      breaks_off = rw lines
+          (BreaksOff-before (whole_lines_of read) (whole_lines_of (unended_of read ++ cut.1)) (text ++ cut.5.sent)
+          (BreaksOff-cut (whole_lines_of read) (text ++ cut.5.sent) cut.5.missing (rw (append_assoc, ← cut.5.in_order) cut.4)
+          cut.5.unfinished));
     }
 
 -- The answers to a block are cut off.
@@ -342,50 +297,52 @@ pub Ran-cut : {T : Type 0} (l0 l1 l2 h0 h1 h2 k1 : Option (List ℕ)) (block : L
     → Consumes l1 l2 block →
     CutsAnswersOff block (state k1 h1 []) h2 → Ran {T = T} (Err Write) l0 l2 h0 h2
 Ran-cut l0 l1 l2 h0 h1 h2 k1 block run next off =
-    let cut : (first : List ℕ) × (others : List ℕ) × (more : List ℕ) × (block ≡ first ++ others)
-    × AreAnswers (whole_lines_of (run.bytes ++ first)) (run.text ++ more) × AppendsStart h1 h2 more =
-    off run.bytes run.text run.answered in
-    let read = run.bytes ++ cut.0 in
-    let lines : whole_lines_of (run.bytes ++ block)
-    ≡ whole_lines_of read ++ whole_lines_of (unended_of read ++ cut.1) =
-    ap (λ more. whole_lines_of (run.bytes ++ more)) cut.3
-    ∙ ap whole_lines_of (sym (append_assoc run.bytes cut.0 cut.1)) ∙ whole_lines_of-append read cut.1 in
+    let cut = is_cut run.bytes run.text block k1 h1 h2 run.answered off in
     record {
       bytes = run.bytes ++ block;
-      text = run.text ++ cut.5.sent;
-      read = Consumes-then l0 l1 l2 run.bytes block run.read next;
-      written = Appends-then h0 h1 h2 run.text cut.5.sent run.written cut.5.went_out;
-      shown = inl (rw lines
-          (BreaksOff-before (whole_lines_of read) (whole_lines_of (unended_of read ++ cut.1))
-          (run.text ++ cut.5.sent)
-          (BreaksOff-unsent (whole_lines_of read) run.text cut.2 h1 h2 cut.4 cut.5)));
+      text = run.text ++ cut.sent;
+      read = Consumes-trans l0 l1 l2 run.bytes block run.read next;
+      written = Appends-trans h0 h1 h2 run.text cut.sent run.written cut.written;
+      shown = inl cut.breaks_off;
     }
 
--- The input ended, and all its lines are answered.
-pub Ran-ended : {T : Type 0} (done : T) (l0 l1 l2 h0 h1 h2 k1 : Option (List ℕ)) → Running l0 l1 h0 h1 k1
-    → Consumes l1 l2 [] →
-    AnswersRest (state k1 h1 []) (state k1 h2 []) → Ran (Ok done) l0 l2 h0 h2
-Ran-ended done l0 l1 l2 h0 h1 h2 k1 run end rest =
-    let more : (more : List ℕ) × AreAnswers (lines_of run.bytes) (run.text ++ more) × Accepts (buffered h1 [])
-    (buffered h2 []) more = rest run.bytes run.text run.answered in
+-- The input ended, and no bytes came after the last line feed.
+pub Ran-ended : {T : Type 0} (done : T) (l0 l1 l2 h0 h1 k1 : Option (List ℕ)) → Running l0 l1 h0 h1 k1
+    → Consumes l1 l2 [] → k1 ≡ Some [] → Ran (Ok done) l0 l2 h0 h1
+Ran-ended done l0 l1 l2 h0 h1 k1 run end empty =
+    let none : unended_of run.bytes ≡ [] = kept-empty (unended_of run.bytes) (sym empty ∙ run.answered.rest) in
+    record {
+      bytes = run.bytes;
+      text = run.text;
+      read = Consumes-end l0 l1 l2 run.bytes run.read end;
+      written = run.written;
+      shown = rw (lines_of-rest run.bytes, none, append-nil (whole_lines_of run.bytes)) run.answered.answered;
+    }
+
+-- The input ended, and its last line is answered as one that a line feed ends.
+pub Ran-last : {T : Type 0} (done : T) (l0 l1 l2 h0 h1 h2 k1 k2 : Option (List ℕ)) → Running l0 l1 h0 h1 k1
+    → Consumes l1 l2 [] → k1 ≢ Some [] → AnswersOn (line_feed ∷ []) (state k1 h1 []) (state k2 h2 [])
+    → Ran (Ok done) l0 l2 h0 h2
+Ran-last done l0 l1 l2 h0 h1 h2 k1 k2 run end some on =
+    let more : (more : List ℕ) × Accepts (buffered h1 []) (buffered h2 []) more
+    × AnsweredUpTo (run.bytes ++ line_feed ∷ []) k2 (run.text ++ more) = on run.bytes run.text run.answered in
     record {
       bytes = run.bytes;
       text = run.text ++ more.0;
       read = Consumes-end l0 l1 l2 run.bytes run.read end;
-      written = Appends-then h0 h1 h2 run.text more.0 run.written (Accepts-sent h1 h2 more.0 more.2);
-      shown = more.1;
+      written = Appends-trans h0 h1 h2 run.text more.0 run.written (Accepts-sent h1 h2 more.0 more.1);
+      shown = rw (lines_of-kept run.bytes k1 some run.answered.rest) more.2.answered;
     }
 
 -- The input ended, and the answer to its last line is cut off.
 pub Ran-end_cut : {T : Type 0} (l0 l1 l2 h0 h1 h2 k1 : Option (List ℕ)) → Running l0 l1 h0 h1 k1 → Consumes l1 l2 [] →
-    IsAtEnd l2 → CutsRestOff (state k1 h1 []) h2 → Ran {T = T} (Err Write) l0 l2 h0 h2
-Ran-end_cut l0 l1 l2 h0 h1 h2 k1 run end ended off =
-    let cut : (more : List ℕ) × AreAnswers (lines_of run.bytes) (run.text ++ more) × AppendsStart h1 h2 more =
-    off run.bytes run.text run.answered in
+    IsAtEnd l2 → k1 ≢ Some [] → CutsAnswersOff (line_feed ∷ []) (state k1 h1 []) h2 → Ran {T = T} (Err Write) l0 l2 h0 h2
+Ran-end_cut l0 l1 l2 h0 h1 h2 k1 run end ended some off =
+    let cut = is_cut run.bytes run.text (line_feed ∷ []) k1 h1 h2 run.answered off in
     record {
       bytes = run.bytes;
-      text = run.text ++ cut.2.sent;
+      text = run.text ++ cut.sent;
       read = Consumes-end l0 l1 l2 run.bytes run.read end;
-      written = Appends-then h0 h1 h2 run.text cut.2.sent run.written cut.2.went_out;
-      shown = inr (ended, BreaksOff-unsent (lines_of run.bytes) run.text cut.0 h1 h2 cut.1 cut.2);
+      written = Appends-trans h0 h1 h2 run.text cut.sent run.written cut.written;
+      shown = inr (ended, rw (lines_of-kept run.bytes k1 some run.answered.rest) cut.breaks_off);
     }

@@ -1,5 +1,6 @@
 -- What a line is answered by.
 use Rattle.std.specs.Prelude.{ℕ, ◌≡◌, ◌≢◌, ◌^◌, ◌-◌, ◌⊎◌, Some, None, List, [], ◌∷◌, ◌++◌, length, min, codes, decimal}
+use Rattle.line_streams.specs.Filter.{Become}
 use Rattle.time_fmt.specs.Outcome.{Outcome, Refusal, insufficient, invalid_component, out_of_range}
 use Rattle.time_answers.specs.Asked.{Asked, no_command, no_value, formatted, asked_of}
 use Rattle.time_answers.specs.Value.{part_name}
@@ -49,9 +50,7 @@ IsAnswer line text = Answers (asked_of line) text
 
 -- the text is an answer to each line, one after another
 abbrev pub AreAnswers : List (List ℕ) → List ℕ → Type 0
-AreAnswers [] text = text ≡ []
-AreAnswers (line ∷ lines) text =
-    (answer : List ℕ) × (others : List ℕ) × (text ≡ answer ++ others) × IsAnswer line answer × AreAnswers lines others
+AreAnswers = Become IsAnswer
 
 -- the text answers some first lines, and then it is a beginning of an answer to the next, but not all of it
 pub record BreaksOff (lines : List (List ℕ)) (text : List ℕ) : Type 0 where

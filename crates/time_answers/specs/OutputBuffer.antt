@@ -1,5 +1,5 @@
 -- A buffer in front of a writer.
-use Rattle.std.specs.Prelude.{ℕ, ◌≡◌, ◌≢◌, ◌++◌, List, [], Option}
+use Rattle.std.specs.Prelude.{ℕ, ◌≡◌, ◌≢◌, ◌++◌, List, [], Option, Result, Ok, Err}
 use Rattle.std.specs.Io.KnownBytes.{Appends}
 
 -- the bytes that the writer holds, if it shows them, and those that wait to be written
@@ -27,3 +27,8 @@ pub record AppendsStart (old new : Option (List ℕ)) (text : List ℕ) : Type 0
 -- a beginning of what waited and the text was written, and not all of it
 abbrev pub CutsOff : Output → Option (List ℕ) → List ℕ → Type 0
 CutsOff old held text = AppendsStart old.held held (old.waiting ++ text)
+
+-- the text was accepted, or after an error it was cut off
+abbrev pub Takes : {T E : Type 0} → Result T E → Output → Output → List ℕ → Type 0
+Takes (Ok done) old new text = Accepts old new text
+Takes (Err error) old new text = CutsOff old new.held text

@@ -51,18 +51,6 @@ CutsAnswersOff bytes old held =
     (first : List ℕ) × (others : List ℕ) × (more : List ℕ) × (bytes ≡ first ++ others)
     × AreAnswers (whole_lines_of (before ++ first)) (text ++ more) × CutsOff (output_of old) held more
 
--- what was answered before is answered to its end, a last line without a line feed as well
-abbrev pub AnswersRest : RunState → RunState → Type 0
-AnswersRest old new =
-    (before text : List ℕ) → AnsweredUpTo before old.kept text →
-    (more : List ℕ) × AreAnswers (lines_of before) (text ++ more) × Accepts (output_of old) (output_of new) more
-
--- such an answer was cut off
-abbrev pub CutsRestOff : RunState → Option (List ℕ) → Type 0
-CutsRestOff old held =
-    (before text : List ℕ) → AnsweredUpTo before old.kept text →
-    (more : List ℕ) × AreAnswers (lines_of before) (text ++ more) × CutsOff (output_of old) held more
-
 -- What is written for these bytes of input, after which so much of it is left. After a failed write the answer that
 -- breaks off is that of a line with its line feed, or the input has ended.
 abbrev pub Shows : {T : Type 0} → Result T ShowError → Option (List ℕ) → List ℕ → List ℕ → Type 0

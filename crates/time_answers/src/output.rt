@@ -4,7 +4,7 @@ ghost use Rattle.std.specs.Io.KnownBytes.{Appends};
 ghost use Rattle.time_digits.specs.Digits.{joined};
 ghost use Rattle.time_answers.specs.declared.output.TheConstants.{OUTPUT_LIMIT, NUMBER_LIMIT, FRAME_LIMIT};
 ghost use Rattle.time_answers.specs.Answer.{ok_text, refused_text};
-ghost use Rattle.time_answers.specs.OutputBuffer.{buffered, Accepts, AppendsStart, CutsOff};
+ghost use Rattle.time_answers.specs.OutputBuffer.{buffered, Accepts, AppendsStart, Takes};
 ghost use Rattle.time_answers.specs.Reply.{reply_text};
 
 use crate::reply::Reply;
@@ -134,10 +134,8 @@ impl OutputBuffer {
 
     /// Accepts the bytes. What waits is written first if they do not fit.
     fn append<W: Write>(&mut self, output: &mut W, bytes: &[u8]) -> Result<(), WriteFailed>
-        ensures ok { OnOk result (Accepts (buffered (W.contents output.old) self.old)
-            (buffered (W.contents output.new) self.new) bytes.now) }
-        ensures err { OnErr result (CutsOff (buffered (W.contents output.old) self.old)
-            (W.contents output.new) bytes.now) }
+        ensures { Takes result (buffered (W.contents output.old) self.old)
+            (buffered (W.contents output.new) self.new) bytes.now }
     {
         self.make_room(output, bytes.len())?;
         if bytes.len() > self.room() {
@@ -151,22 +149,10 @@ impl OutputBuffer {
     /// Accepts the parts, one after another. Where they do not fit beside what waits, that goes out
     /// first: so they go out by one write if the buffer holds them and the writer takes them whole.
     fn append_all<W: Write>(&mut self, output: &mut W, parts: &[&[u8]]) -> Result<(), WriteFailed>
-        ensures ok { OnOk result (Accepts (buffered (W.contents output.old) self.old)
-            (buffered (W.contents output.new) self.new) (joined parts.now)) }
-        ensures err { OnErr result (CutsOff (buffered (W.contents output.old) self.old)
-            (W.contents output.new) (joined parts.now)) }
+        ensures { Takes result (buffered (W.contents output.old) self.old)
+            (buffered (W.contents output.new) self.new) (joined parts.now) }
     {
         self.make_room(output, joined_len(parts))?;
-        self.append_each(output, parts)
-    }
-
-    /// Accepts the parts, one after another.
-    fn append_each<W: Write>(&mut self, output: &mut W, parts: &[&[u8]]) -> Result<(), WriteFailed>
-        ensures ok { OnOk result (Accepts (buffered (W.contents output.old) self.old)
-            (buffered (W.contents output.new) self.new) (joined parts.now)) }
-        ensures err { OnErr result (CutsOff (buffered (W.contents output.old) self.old)
-            (W.contents output.new) (joined parts.now)) }
-    {
         for part in parts {
             self.append(output, part)?;
         }
@@ -245,10 +231,8 @@ impl OutputBuffer {
         width: usize,
         text: &[u8],
     ) -> Result<(), WriteFailed>
-        ensures ok { OnOk result (Accepts (buffered (W.contents output.old) self.old)
-            (buffered (W.contents output.new) self.new) (ok_text count width text.now)) }
-        ensures err { OnErr result (CutsOff (buffered (W.contents output.old) self.old)
-            (W.contents output.new) (ok_text count width text.now)) }
+        ensures { Takes result (buffered (W.contents output.old) self.old)
+            (buffered (W.contents output.new) self.new) (ok_text count width text.now) }
     {
         // Most texts are short and fit, so that nothing has to be written first.
         if text.len() <= SHORT_TEXT && self.room() >= SHORT_TEXT + FRAME_LIMIT {
@@ -267,10 +251,8 @@ impl OutputBuffer {
         width: usize,
         text: &[u8],
     ) -> Result<(), WriteFailed>
-        ensures ok { OnOk result (Accepts (buffered (W.contents output.old) self.old)
-            (buffered (W.contents output.new) self.new) (ok_text count width text.now)) }
-        ensures err { OnErr result (CutsOff (buffered (W.contents output.old) self.old)
-            (W.contents output.new) (ok_text count width text.now)) }
+        ensures { Takes result (buffered (W.contents output.old) self.old)
+            (buffered (W.contents output.new) self.new) (ok_text count width text.now) }
     {
         let count = u64_pad_none(count as u64);
         let width = u64_pad_none(width as u64);
@@ -294,10 +276,8 @@ impl OutputBuffer {
         output: &mut W,
         reply: Reply<'_>,
     ) -> Result<(), WriteFailed>
-        ensures ok { OnOk result (Accepts (buffered (W.contents output.old) self.old)
-            (buffered (W.contents output.new) self.new) (reply_text reply.entry)) }
-        ensures err { OnErr result (CutsOff (buffered (W.contents output.old) self.old)
-            (W.contents output.new) (reply_text reply.entry)) }
+        ensures { Takes result (buffered (W.contents output.old) self.old)
+            (buffered (W.contents output.new) self.new) (reply_text reply.entry) }
     {
         match reply {
             Reply::Formatted { count, width, text } => {
@@ -316,10 +296,8 @@ impl OutputBuffer {
         written: usize,
         name: &'static str,
     ) -> Result<(), WriteFailed>
-        ensures ok { OnOk result (Accepts (buffered (W.contents output.old) self.old)
-            (buffered (W.contents output.new) self.new) (refused_text written name.now)) }
-        ensures err { OnErr result (CutsOff (buffered (W.contents output.old) self.old)
-            (W.contents output.new) (refused_text written name.now)) }
+        ensures { Takes result (buffered (W.contents output.old) self.old)
+            (buffered (W.contents output.new) self.new) (refused_text written name.now) }
     {
         let written = u64_pad_none(written as u64);
         self.append_all(

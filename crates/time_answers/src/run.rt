@@ -4,7 +4,7 @@ ghost use Rattle.std.specs.Io.KnownBytes.{IsAtEnd};
 ghost use Rattle.time_answers.specs.Answer.{IsAnswer};
 ghost use Rattle.time_answers.specs.LineBuffer.{kept_of, kept_with};
 ghost use Rattle.time_answers.specs.Reply.{reply_text};
-ghost use Rattle.time_answers.specs.Run.{state, AcceptsAnswer, CutsAnswerOff, AnswersOn, CutsAnswersOff, AnswersRest, CutsRestOff, Ran};
+ghost use Rattle.time_answers.specs.Run.{state, AcceptsAnswer, CutsAnswerOff, AnswersOn, CutsAnswersOff, Ran};
 
 use crate::formats::Formats;
 use crate::line_buffer::LineBuffer;
@@ -47,25 +47,6 @@ fn reply_for<'a>(text: &'a mut Vec<u8>, formats: &Formats, line: &LineBuffer) ->
     }
 }
 
-/// Answers the line in the buffer.
-fn answer_line<W: Write>(
-    text: &mut Vec<u8>,
-    formats: &Formats,
-    line: &LineBuffer,
-    answers: &mut OutputBuffer,
-    output: &mut W,
-) -> Result<(), WriteFailed>
-    ensures ok { OnOk result (AcceptsAnswer
-        (state line.now (W.contents output.old) answers.old)
-        (state line.now (W.contents output.new) answers.new)) }
-    ensures err { OnErr result (CutsAnswerOff
-        (state line.now (W.contents output.old) answers.old)
-        (W.contents output.new)) }
-{
-    let reply = reply_for(text, formats, line);
-    answers.append_reply(output, reply)
-}
-
 /// Answers the line that these bytes end, and begins the next. Most lines stand whole in their block,
 /// and are answered where they stand.
 #[inline(always)]
@@ -90,7 +71,8 @@ fn end_line<W: Write>(
         return answers.append_reply(output, reply);
     }
     line.extend(bytes);
-    answer_line(text, formats, line, answers, output)?;
+    let reply = reply_for(text, formats, line);
+    answers.append_reply(output, reply)?;
     line.clear();
     Ok(())
 }
@@ -141,28 +123,6 @@ fn answer_block<W: Write>(
     Ok(())
 }
 
-/// Answers a last line that has no line feed, if it is not empty.
-fn answer_last<W: Write>(
-    text: &mut Vec<u8>,
-    formats: &Formats,
-    line: &LineBuffer,
-    output: &mut W,
-) -> Result<(), WriteFailed>
-    ensures ok { OnOk result (AnswersRest
-        (state line.now (W.contents output.old) [])
-        (state line.now (W.contents output.new) [])) }
-    ensures err { OnErr result (CutsRestOff
-        (state line.now (W.contents output.old) [])
-        (W.contents output.new)) }
-{
-    if !line.is_empty() {
-        let mut answer = OutputBuffer::new();
-        answer_line(text, formats, line, &mut answer, output)?;
-        answer.flush(output)?;
-    }
-    Ok(())
-}
-
 /// Answers each line of the input, one after another.
 ///
 /// `Ok` means that the input was read to its end and all its lines were answered. A failed read means
@@ -188,7 +148,10 @@ pub fn run<R: Read, W: Write>(alloc: Global, input: &mut R, output: &mut W) -> R
             Err(_) => return Err(ShowError::Read),
         };
         if count == 0 {
-            answer_last(&mut text, &formats, &line, output)?;
+            // A last line without its line feed is answered as if it had one.
+            if !line.is_empty() {
+                answer_block(&mut text, &formats, &mut line, b"\n", output)?;
+            }
             return Ok(());
         }
         answer_block(&mut text, &formats, &mut line, &block[..count], output)?;

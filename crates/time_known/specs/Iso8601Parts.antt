@@ -1,13 +1,17 @@
 -- The parts of a text of ISO 8601, one after another: each is empty where it is not written.
-use Rattle.std.specs.Prelude.{◌≡◌, ℕ, ◌+◌, ◌*◌, ◌++◌, Bool, List, length, [], codes, if◌then◌else◌}
+use Rattle.std.specs.Prelude.{◌≡◌, ℕ, ◌+◌, ◌*◌, ◌++◌, Bool, IsTrue, List, length, [], codes, if◌then◌else◌}
 use Rattle.time_fmt.specs.Outcome.{Outcome, done, join}
-use Rattle.time_known.specs.Config.{Choices, has_date, has_time, has_offset, separator, DateKind, FormattedComponents}
+use Rattle.time_known.specs.Config.{Choices, has_date, has_time, has_offset, groups_of, separator, DateKind}
+use Rattle.time_known.specs.Config.{FormattedComponents}
 use Rattle.time_known.specs.Days.{month_and_day}
+use Rattle.time_known.specs.Groups.{are_supplied}
 use Rattle.time_known.specs.Iso8601.{iso_date, iso_time_text, iso_offset, iso_year, year_of_kind, text_after_year, week_text}
 use Rattle.time_known.specs.Iso8601Width.{iso_date_width, iso_time_width, iso_offset_width, year_width, width_after_year}
 use Rattle.time_known.specs.Values.{Facts, DateFacts, the_date, the_time, the_offset}
 use Rattle.time_known.specs.WellKnown.{month_and_day_text}
 use Rattle.time_digits.specs.Digits.{zero_padded}
+use Rattle.time_provide.specs.Real.{AreReal}
+use Rattle.time_known.specs.declared.iso8601.config.FormattedComponents.TheVariants as components
 use Rattle.time_known.specs.declared.iso8601.parts.DateParts.{DateParts}
 use Rattle.time_known.specs.declared.iso8601.parts.RestOfDate.{RestOfDate}
 use Rattle.time_known.specs.declared.iso8601.parts.RestOfDate.TheVariants as rest
@@ -38,6 +42,14 @@ pub record AreOfDate (k : DateKind) (d : DateFacts) (p : DateParts) : Type 0 whe
   pub width : (c : Choices) → rest_width (length (separator c (codes "-"))) p.rest ≡ width_after_year k c
 
 -- ---- all parts
+
+-- the groups of the parts that are written are supplied
+abbrev pub SuppliesParts : Choices → Bool → Bool → Bool → Type 0
+SuppliesParts c date time offset = IsTrue (are_supplied (groups_of c.formatted_components) date time offset)
+
+-- the facts are real, where all parts are written
+abbrev pub IsRealWhole : Choices → Facts → Type 0
+IsRealWhole c f = c.formatted_components ≡ components.DateTimeOffset → AreReal f
 
 abbrev pub part_if : Bool → Outcome → Outcome
 part_if is_written part = if is_written then part else done []

@@ -1,7 +1,7 @@
 -- The text of ISO 8601 by the usual configurations, of a value of which nothing is refused.
 use Rattle.std.specs.Prelude.{ℕ, ◌++◌, Bool, false, List, codes, unsigned_abs, Option}
 use Rattle.time_digits.specs.Digits.{zero_padded}
-use Rattle.time_known.specs.Config.{Choices, separator, DecimalSign}
+use Rattle.time_known.specs.Config.{Choices, separator, DateKind, DecimalSign}
 use Rattle.time_known.specs.Iso8601.{decimal_part, text_after_year, year_of_kind}
 use Rattle.time_known.specs.Values.{Offset, TimeOfDay, DateFacts}
 use Rattle.time_known.specs.WellKnown.{clock_text, offset_text}
@@ -9,6 +9,7 @@ use Rattle.time_known.specs.declared.iso8601.config.DateKind.TheVariants as kind
 use Rattle.time_known.specs.declared.iso8601.config.FormattedComponents.TheVariants as components
 use Rattle.time_known.specs.declared.iso8601.config.OffsetPrecision.TheVariants as offset_precision
 use Rattle.time_known.specs.declared.iso8601.config.TimePrecision.TheVariants as precision
+use Rattle.time_known.specs.declared.iso8601.config.Usual.{Usual}
 
 -- the month and the day after four digits of the year, the time to the second or to decimals of it, and the offset to
 -- the minute
@@ -23,10 +24,9 @@ usual_choices has_separators decimal_digits decimal_sign = record {
   decimal_sign = decimal_sign;
 }
 
--- the same with a date by week and weekday
-abbrev pub week_choices : Bool → Option ℕ → DecimalSign → Choices
-week_choices has_separators decimal_digits decimal_sign =
-    record (usual_choices has_separators decimal_digits decimal_sign) { date_kind = kind.Week }
+-- the same as they were chosen, with a date of this kind
+abbrev pub choices_of : DateKind → Usual → Choices
+choices_of k u = record (usual_choices u.has_separators u.decimal_digits u.decimal_sign) { date_kind = k }
 
 -- the time of such a text
 abbrev pub usual_time_text : List ℕ → DecimalSign → Option ℕ → TimeOfDay → List ℕ

@@ -1,7 +1,7 @@
 -- By which function a text of ISO 8601 is written, so far as its configuration decides it.
 use Rattle.std.specs.Prelude.{◌≡◌, Bool, true, false, ℕ, Option, if◌then◌else◌}
 use Rattle.time_known.specs.Config.{Choices, DateKind, FormattedComponents, OffsetPrecision, TimePrecision}
-use Rattle.time_known.specs.UsualText.{usual_choices, week_choices}
+use Rattle.time_known.specs.UsualText.{choices_of}
 use Rattle.time_known.specs.declared.iso8601.config.DateKind.TheVariants as kind
 use Rattle.time_known.specs.declared.iso8601.config.FormattedComponents.TheVariants as components
 use Rattle.time_known.specs.declared.iso8601.config.OffsetPrecision.TheVariants as offset_precision
@@ -39,7 +39,7 @@ IsShortDate c k = (c.formatted_components ≡ components.Date) × (c.year_is_six
 
 -- what such a function says of the choices
 abbrev pub FitsUnusual : Choices → Unusual → Type 0
-FitsUnusual c (unusual.Week u) = c ≡ week_choices u.has_separators u.decimal_digits u.decimal_sign
+FitsUnusual c (unusual.Week u) = c ≡ choices_of kind.Week u
 FitsUnusual c unusual.CalendarDate = IsShortDate c kind.Calendar
 FitsUnusual c unusual.WeekDate = IsShortDate c kind.Week
 FitsUnusual c unusual.OrdinalDate = IsShortDate c kind.Ordinal × (c.use_separators ≡ true)
@@ -50,5 +50,5 @@ FitsUnusual c unusual.DateTime =
 FitsUnusual c unusual.Other = Unit
 
 abbrev pub FitsWay : Choices → Way → Type 0
-FitsWay c (way.Usual u) = c ≡ usual_choices u.has_separators u.decimal_digits u.decimal_sign
+FitsWay c (way.Usual u) = c ≡ choices_of kind.Calendar u
 FitsWay c (way.Unusual u) = FitsUnusual c u

@@ -2,11 +2,11 @@
 ghost use Rattle.std.specs.Prelude.{true};
 ghost use Rattle.time_below.specs.Weekday.{days_from_monday};
 ghost use Rattle.time_fmt.specs.Sink.{Fits};
-ghost use Rattle.time_known.specs.Fields.{shown, on_weekday};
+ghost use Rattle.time_known.specs.Fields.{on_weekday};
 ghost use Rattle.time_known.specs.Longest.{FillsRfc2822Width};
 ghost use Rattle.time_known.specs.ReadBack.{ReadsAs};
-ghost use Rattle.time_known.specs.Rfc2822.{rfc2822_text, rfc2822_outcome, named_date_text, day_text};
-ghost use Rattle.time_known.specs.Rfc2822.{rfc2822_width, named_date_width, date_width};
+ghost use Rattle.time_known.specs.Rfc2822.{rfc2822_text, rfc2822_outcome, named_date_text};
+ghost use Rattle.time_known.specs.Rfc2822.{rfc2822_width, named_date_width};
 ghost use Rattle.time_known.specs.Rfc2822Grammar.{Rfc2822Spells, to_whole_second};
 ghost use Rattle.time_known.specs.Sink.{PutsUpTo};
 
@@ -53,6 +53,7 @@ impl Formattable for Rfc2822 {
 
     // More than one caller would else call it for each text.
     #[inline(always)]
+    #[tactic(auto, using(crate::proofs::GuaranteeLemmas::rfc2822_utf8))]
     fn write_into<V: ComponentProvider>(
         &self,
         output: &mut Vec<u8>,
@@ -106,17 +107,6 @@ fn put_named_date<S: Sink>(output: &mut S, weekday: Weekday, fields: &Fields)
 {
     fmt_weekday_short(output, weekday, WEEKDAY_SHORT);
     write(output, ", ");
-    put_day(output, fields);
-}
-
-// Puts `date`.
-#[inline(always)]
-#[tactic(auto, using(crate::proofs::LengthLemmas::joined_lengths))]
-fn put_day<S: Sink>(output: &mut S, fields: &Fields)
-    requires room { Fits (S.buffer output.old) date_width }
-    ensures puts { PutsUpTo date_width (S.buffer output.old) (S.buffer output.new)
-        (day_text (shown fields.now).date) }
-{
     let (_, day) = fields.date.digits();
     write(output, day);
     write(output, " ");

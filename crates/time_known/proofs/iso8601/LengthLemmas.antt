@@ -35,8 +35,6 @@ one_of_second n h =
     let same : n / 100_000_000 ≡ n * 10 ^ 1 / 1_000_000_000 = omega arith in
     decimal_one (n / 100_000_000) (omega arith) ∙ ap (fixed 1) same
 
-pub ruleset first_decimal = (one_of_second, length-digit)
-
 -- the table has 246 zeros
 zeros_are : ZEROS.now ≡ replicate 246 48
 zeros_are = refl
@@ -60,7 +58,7 @@ first_zeros k h =
 pub ruleset table_of_zeros = (zeros_ascii, zeros_length, length-fixed)
 
 -- what the first digits of a nanosecond are decimals of
-pub ruleset decimals_of_second = (three_of_second, six_of_second)
+pub ruleset decimals_of_second = (one_of_second, three_of_second, six_of_second, length-digit)
 
 -- how long decimals and their sign are
 pub ruleset decimal_lengths = (length-fixed, length-decimal_sign, length-append, append_assoc)

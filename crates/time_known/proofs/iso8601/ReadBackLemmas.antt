@@ -4,12 +4,11 @@ use Rattle.std.specs.Prelude.{IfOk, OnOk}
 use Rattle.std.specs.Global.{Global}
 use Rattle.time_fmt.specs.declared.error.Format.{Format}
 use Rattle.time_fmt.specs.Outcome.{Outcome, Appends}
-use Rattle.time_provide.specs.Real.{AreReal}
 use Rattle.time_known.specs.Config.{Choices, groups_of}
 use Rattle.time_known.specs.Values.{Facts}
-use Rattle.time_known.specs.declared.iso8601.config.FormattedComponents.TheVariants as components
 use Rattle.time_known.specs.Groups.{has_groups}
 use Rattle.time_known.specs.Iso8601.{iso_of_groups, iso8601_outcome, iso8601_outcome_of}
+use Rattle.time_known.specs.Iso8601Parts.{IsRealWhole}
 use Rattle.time_known.specs.Iso8601Grammar.{Iso8601Spells, IsCanonicalIso8601, iso8601_reads_as}
 use Rattle.time_known.specs.ReadBack.{ReadsAs}
 use Rattle.time_known.specs.WellKnown.{of_all_groups}
@@ -20,8 +19,7 @@ use Rattle.time_known.proofs.ReadBackLemmas.{reads_as}
 
 -- completed bytes spell the value of their groups
 iso8601_reads : (c : Choices) (f : Facts) → has_groups (groups_of c.formatted_components) f ≡ true
-    → (c.formatted_components ≡ components.DateTimeOffset → AreReal f)
-    → (iso8601_outcome c f).refusal ≡ None
+    → IsRealWhole c f → (iso8601_outcome c f).refusal ≡ None
     → iso8601_reads_as c f (iso8601_outcome c f).bytes
 iso8601_reads c f there real complete w =
     let all = has_all f (ap (λ parts. has_groups (groups_of parts) f) (sym w.components) ∙ there) in
@@ -34,7 +32,7 @@ iso8601_reads c f there real complete w =
 -- a completed text spells the value
 pub completed_reads : {old new : Vec ℕ Global} (answer : Result ℕ Format) (read c : Choices) (f : Facts)
     → read ≡ c → has_groups (groups_of read.formatted_components) f ≡ true
-    → OnOk answer (read.formatted_components ≡ components.DateTimeOffset → AreReal f)
+    → OnOk answer (IsRealWhole read f)
     → Appends old new answer (iso8601_outcome read f)
     → IfOk answer (λ _. iso8601_reads_as c f (iso8601_outcome c f).bytes)
 completed_reads (Ok n) read c f e there real appends =

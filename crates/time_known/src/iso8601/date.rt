@@ -1,11 +1,10 @@
 //! The date of a text of ISO 8601-1:2019, section 5.2.
-ghost use Rattle.std.specs.Prelude.{◌≡◌, MatchOption, Ok, false, ◌+◌, ◌*◌, ◌++◌, length, pos, int_lt, unsigned_abs, true, IsTrue, not, ◌||◌};
+ghost use Rattle.std.specs.Prelude.{◌≡◌, MatchOption, Ok, false, ◌+◌, ◌*◌, ◌++◌, length, unsigned_abs, true, IsTrue, not, ◌||◌};
 ghost use Rattle.time_below.specs.Facts.{the_date};
 ghost use Rattle.time_digits.specs.Digits.{zero_padded};
 ghost use Rattle.time_fmt.specs.Outcome.{AppendsUpTo};
 ghost use Rattle.time_fmt.specs.Room.{HasRoom};
 ghost use Rattle.time_fmt.specs.Sink.{Fits, Puts};
-ghost use Rattle.time_fmt.specs.Text.{sign_text};
 ghost use Rattle.time_provide.specs.Real.{AgreesOnDate, AreFactsOfDate};
 ghost use Rattle.time_known.specs.Accepted.{PutsOutcome};
 ghost use Rattle.time_known.specs.Config.{has_date};
@@ -27,7 +26,7 @@ use time_fmt::writers::{
 };
 use time_fmt::{Format, Sink};
 use time_provide::ComponentProvider;
-use time_provide::ranges::{Ordinal, Year};
+use time_provide::ranges::Year;
 
 /// Appends the date, whether or not the configuration formats dates. The output needs spare
 /// capacity for its width. Allocates nothing.
@@ -61,6 +60,7 @@ pub fn format_date<V: ComponentProvider>(
 // Appends the date, where four digits hold its year; else it appends nothing. The compiler sees the
 // kind, and perhaps whether there are dashes, so that no other is tested.
 #[inline(always)]
+#[tactic(auto, using(crate::proofs::LengthLemmas::joined_lengths))]
 pub(super) fn write_date_by<V: ComponentProvider>(
     config: &Config,
     kind: DateKind,
@@ -80,25 +80,7 @@ pub(super) fn write_date_by<V: ComponentProvider>(
         (iso_date config.now (the_date (V.facts value.now)))) }
     ensures agrees { AgreesOnDate (V.agrees state.new value.now) (V.facts value.now) }
 {
-    append_short(config, has_dash, output, date_of(kind, value, state))
-}
-
-// Appends a date, where four digits hold its year.
-#[inline(always)]
-#[tactic(auto, using(crate::proofs::LengthLemmas::joined_lengths))]
-fn append_short(
-    config: &Config,
-    has_dash: bool,
-    output: &mut Vec<u8>,
-    date: DateParts,
-) -> Option<usize>
-    requires short { config.now.year_is_six_digits ≡ false }
-    requires dash { config.now.use_separators ≡ has_dash }
-    requires room { HasRoom output.old (date_parts_width config.now date) }
-    ensures appends { MatchOption result (output.new ≡ output.old)
-        (λ n. AppendsUpTo (date_parts_width config.now date) output.old output.new (Ok n)
-        (date_of_parts config.now date)) }
-{
+    let date = date_of(kind, value, state);
     let number = date.year.get();
     if number < 0 || number > 9_999 {
         return None;
@@ -195,13 +177,17 @@ fn put_date_parts<S: Sink>(
 
 // Puts the sign and six digits of the year, or four digits of one that has no more.
 #[inline(always)]
+#[tactic(auto, using(crate::proofs::LengthLemmas::sign_lengths))]
 fn put_year<S: Sink>(output: &mut S, year: Year, is_six_digits: bool) -> Result<(), OutOfRange>
     requires room { Fits (S.buffer output.old) (year_width is_six_digits) }
     ensures puts { PutsOutcome (year_width is_six_digits) (S.buffer output.old)
         (S.buffer output.new) result (iso_year is_six_digits year) }
 {
     if is_six_digits {
-        put_six_digits(output, year);
+        fmt_sign(output, year.get() < 0, true);
+        let [first, second, third] = six_digits_zero_padded(year.abs());
+        write(output, first);
+        put_both(output, second, third);
         return Ok(());
     }
     let number = year.get();
@@ -210,20 +196,6 @@ fn put_year<S: Sink>(output: &mut S, year: Year, is_six_digits: bool) -> Result<
     }
     format_four_digits_pad_zero(output, ru16::within(number.unsigned_abs() as u16));
     Ok(())
-}
-
-// Puts the sign and six digits of the year.
-#[inline(always)]
-#[tactic(auto, using(crate::proofs::LengthLemmas::sign_lengths))]
-fn put_six_digits<S: Sink>(output: &mut S, year: Year)
-    requires room { Fits (S.buffer output.old) 7 }
-    ensures puts { PutsUpTo 7 (S.buffer output.old) (S.buffer output.new)
-        (sign_text (int_lt year (pos 0)) true ++ zero_padded 6 (unsigned_abs year)) }
-{
-    fmt_sign(output, year.get() < 0, true);
-    let [first, second, third] = six_digits_zero_padded(year.abs());
-    write(output, first);
-    put_both(output, second, third);
 }
 
 // Puts what follows the year.
@@ -242,7 +214,10 @@ fn put_rest<S: Sink>(output: &mut S, rest: &RestOfDate, has_dash: bool)
             week.expand(),
             weekday.expand(),
         ),
-        RestOfDate::DayOfYear { day } => put_day_of_year(output, day, has_dash),
+        RestOfDate::DayOfYear { day } => {
+            let (first, rest) = ordinal_digits(day, has_dash);
+            put_both(output, first, rest);
+        }
     }
 }
 
@@ -282,15 +257,4 @@ fn digit(number: ru8<0, 9>) -> &'static str
     ensures length { length result.now ≡ 1 }
 {
     single_digit(number)
-}
-
-// Puts three digits of the day of the year, after a dash if it is wanted.
-#[inline(always)]
-fn put_day_of_year<S: Sink>(output: &mut S, day: Ordinal, has_dash: bool)
-    requires room { Fits (S.buffer output.old) (3 + length (dash has_dash)) }
-    ensures puts { PutsUpTo (3 + length (dash has_dash))
-        (S.buffer output.old) (S.buffer output.new) (dash has_dash ++ zero_padded 3 day) }
-{
-    let (first, rest) = ordinal_digits(day, has_dash);
-    put_both(output, first, rest);
 }

@@ -1,5 +1,5 @@
 //! The offset from UTC of a text of ISO 8601-1:2019, sections 5.3.3 and 5.3.4.
-ghost use Rattle.std.specs.Prelude.{IsTrue, not, ◌||◌, unsigned_abs};
+ghost use Rattle.std.specs.Prelude.{IsTrue, not, ◌||◌};
 ghost use Rattle.time_below.specs.Facts.{the_offset};
 ghost use Rattle.time_below.specs.Offset.{IsOffset};
 ghost use Rattle.time_fmt.specs.Outcome.{AppendsUpTo};
@@ -8,9 +8,9 @@ ghost use Rattle.time_fmt.specs.Sink.{Fits};
 ghost use Rattle.time_provide.specs.Real.{AgreesOnOffset};
 ghost use Rattle.time_known.specs.Accepted.{PutsOutcome};
 ghost use Rattle.time_known.specs.Config.{has_offset};
-ghost use Rattle.time_known.specs.Iso8601.{iso_offset, iso_minutes};
+ghost use Rattle.time_known.specs.Iso8601.{iso_offset};
 ghost use Rattle.time_known.specs.Iso8601Parts.{part_if, width_if};
-ghost use Rattle.time_known.specs.Iso8601Width.{minutes_width, iso_offset_width};
+ghost use Rattle.time_known.specs.Iso8601Width.{iso_offset_width};
 
 use crate::accepted::OutOfRange;
 use crate::fields::{OffsetFields, offset_of};
@@ -73,8 +73,10 @@ pub(super) fn put_offset_part<S: Sink, V: ComponentProvider>(
     }
 }
 
-// Puts `Z` for UTC where there is a time, else the sign, the hours and the minutes.
+// Puts `Z` for UTC where there is a time, else the sign, the hours and the minutes. Where the configuration has no minutes,
+// they are refused unless zero.
 #[inline(always)]
+#[tactic(auto, using(crate::proofs::LengthLemmas::joined_lengths))]
 fn put_offset_by<S: Sink>(
     output: &mut S,
     config: &Config,
@@ -92,23 +94,6 @@ fn put_offset_by<S: Sink>(
         return Err(OutOfRange::OffsetSecond);
     }
     put_offset_hours(output, offset);
-    put_minutes(output, config, offset)
-}
-
-// Puts the minutes, where the configuration has them; else they are refused unless zero.
-#[inline(always)]
-#[tactic(auto, using(crate::proofs::LengthLemmas::joined_lengths))]
-fn put_minutes<S: Sink>(
-    output: &mut S,
-    config: &Config,
-    offset: &OffsetFields,
-) -> Result<(), OutOfRange>
-    requires room { Fits (S.buffer output.old)
-        (minutes_width config.now.offset_precision config.now) }
-    ensures puts { PutsOutcome (minutes_width config.now.offset_precision config.now)
-        (S.buffer output.old) (S.buffer output.new) result
-        (iso_minutes config.now.offset_precision config.now (unsigned_abs offset.now.minutes)) }
-{
     match config.offset_precision() {
         OffsetPrecision::Minute => {
             if config.use_separators() {

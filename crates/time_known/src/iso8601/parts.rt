@@ -4,11 +4,9 @@ ghost use Rattle.time_below.specs.Facts.{the_date, the_time};
 ghost use Rattle.time_fmt.specs.Outcome.{AppendsUpTo, join};
 ghost use Rattle.time_fmt.specs.Room.{HasRoom};
 ghost use Rattle.time_fmt.specs.Sink.{Fits, vec_buffer};
-ghost use Rattle.time_provide.specs.Real.{AgreesOnDate, AreReal};
-ghost use Rattle.time_known.specs.Config.{groups_of};
-ghost use Rattle.time_known.specs.Groups.{are_supplied};
+ghost use Rattle.time_provide.specs.Real.{AgreesOnDate};
 ghost use Rattle.time_known.specs.Iso8601.{iso8601_outcome, iso_date, iso_time};
-ghost use Rattle.time_known.specs.Iso8601Parts.{parts_text, parts_width, AreOfDate};
+ghost use Rattle.time_known.specs.Iso8601Parts.{parts_text, parts_width, AreOfDate, IsRealWhole, SuppliesParts};
 ghost use Rattle.time_known.specs.Iso8601Width.{iso8601_width, iso_date_width, iso_time_width};
 ghost use Rattle.time_known.specs.Accepted.{AppendsAllOrNone, PutsOutcome};
 ghost use Rattle.time_known.specs.Ways.{FitsUnusual, FitsWay};
@@ -101,14 +99,12 @@ pub fn put_parts<S: Sink, V: ComponentProvider>(
     state: &mut V::State,
 ) -> Result<(), OutOfRange>
     requires some { config.now.formatted_components ≢ FormattedComponents.None }
-    requires supplied { IsTrue (are_supplied (groups_of config.now.formatted_components)
-        V.SUPPLIES_DATE V.SUPPLIES_TIME V.SUPPLIES_OFFSET) }
+    requires supplied { SuppliesParts config.now V.SUPPLIES_DATE V.SUPPLIES_TIME V.SUPPLIES_OFFSET }
     requires room { Fits (S.buffer output.old) (iso8601_width config.now) }
     requires agrees { V.agrees state.old value.now }
     ensures puts { PutsOutcome (iso8601_width config.now) (S.buffer output.old) (S.buffer output.new) result
         (iso8601_outcome config.now (V.facts value.now)) }
-    ensures real { OnOk result (config.now.formatted_components ≡ FormattedComponents.DateTimeOffset
-        → AreReal (V.facts value.now)) }
+    ensures real { OnOk result (IsRealWhole config.now (V.facts value.now)) }
     ensures agrees { V.agrees state.new value.now }
 {
     put_each_part(output, config, value, state)
@@ -122,15 +118,13 @@ fn put_each_part<S: Sink, V: ComponentProvider>(
     value: &V,
     state: &mut V::State,
 ) -> Result<(), OutOfRange>
-    requires supplied { IsTrue (are_supplied (groups_of config.now.formatted_components)
-        V.SUPPLIES_DATE V.SUPPLIES_TIME V.SUPPLIES_OFFSET) }
+    requires supplied { SuppliesParts config.now V.SUPPLIES_DATE V.SUPPLIES_TIME V.SUPPLIES_OFFSET }
     requires room { Fits (S.buffer output.old) (parts_width config.now.formatted_components config.now) }
     requires agrees { V.agrees state.old value.now }
     ensures puts { PutsOutcome (parts_width config.now.formatted_components config.now)
         (S.buffer output.old) (S.buffer output.new) result
         (parts_text config.now.formatted_components config.now (V.facts value.now)) }
-    ensures real { OnOk result (config.now.formatted_components ≡ FormattedComponents.DateTimeOffset
-        → AreReal (V.facts value.now)) }
+    ensures real { OnOk result (IsRealWhole config.now (V.facts value.now)) }
     ensures agrees { V.agrees state.new value.now }
 {
     put_date_part(output, config, value, state)?;
@@ -148,15 +142,12 @@ pub(super) fn write_parts<V: ComponentProvider>(
     state: &mut V::State,
 ) -> Result<usize, Format>
     requires way { FitsWay config.now way.now }
-    requires supplied { IsTrue (are_supplied (groups_of config.now.formatted_components)
-        V.SUPPLIES_DATE V.SUPPLIES_TIME V.SUPPLIES_OFFSET) }
+    requires supplied { SuppliesParts config.now V.SUPPLIES_DATE V.SUPPLIES_TIME V.SUPPLIES_OFFSET }
     requires room { HasRoom output.old (iso8601_width config.now) }
     requires agrees { V.agrees state.old value.now }
     ensures appends { AppendsUpTo (iso8601_width config.now) output.old output.new result
         (iso8601_outcome config.now (V.facts value.now)) }
-    ensures real { OnOk result
-        (config.now.formatted_components ≡ FormattedComponents.DateTimeOffset
-        → AreReal (V.facts value.now)) }
+    ensures real { OnOk result (IsRealWhole config.now (V.facts value.now)) }
     ensures agrees { V.agrees state.new value.now }
 {
     match write_by_way(config, way, output, value, state) {
@@ -184,14 +175,12 @@ fn write_each<V: ComponentProvider>(
     state: &mut V::State,
 ) -> Result<(), OutOfRange>
     requires some { config.now.formatted_components ≢ FormattedComponents.None }
-    requires supplied { IsTrue (are_supplied (groups_of config.now.formatted_components)
-        V.SUPPLIES_DATE V.SUPPLIES_TIME V.SUPPLIES_OFFSET) }
+    requires supplied { SuppliesParts config.now V.SUPPLIES_DATE V.SUPPLIES_TIME V.SUPPLIES_OFFSET }
     requires room { HasRoom output.old (iso8601_width config.now) }
     requires agrees { V.agrees state.old value.now }
     ensures puts { PutsOutcome (iso8601_width config.now) (vec_buffer output.old)
         (vec_buffer output.new) result (iso8601_outcome config.now (V.facts value.now)) }
-    ensures real { OnOk result (config.now.formatted_components ≡ FormattedComponents.DateTimeOffset
-        → AreReal (V.facts value.now)) }
+    ensures real { OnOk result (IsRealWhole config.now (V.facts value.now)) }
     ensures agrees { V.agrees state.new value.now }
 {
     let config = *config;
@@ -213,16 +202,13 @@ fn write_by_way<V: ComponentProvider>(
     state: &mut V::State,
 ) -> Option<Result<usize, OutOfRange>>
     requires way { FitsWay config.now way.now }
-    requires supplied { IsTrue (are_supplied (groups_of config.now.formatted_components)
-        V.SUPPLIES_DATE V.SUPPLIES_TIME V.SUPPLIES_OFFSET) }
+    requires supplied { SuppliesParts config.now V.SUPPLIES_DATE V.SUPPLIES_TIME V.SUPPLIES_OFFSET }
     requires room { HasRoom output.old (iso8601_width config.now) }
     requires agrees { V.agrees state.old value.now }
     ensures appends { MatchOption result (output.new ≡ output.old)
         (λ answer. AppendsAllOrNone (iso8601_width config.now) output.old output.new answer
         (iso8601_outcome config.now (V.facts value.now))) }
-    ensures real { IfSome result (λ answer. OnOk answer
-        (config.now.formatted_components ≡ FormattedComponents.DateTimeOffset
-        → AreReal (V.facts value.now))) }
+    ensures real { IfSome result (λ answer. OnOk answer (IsRealWhole config.now (V.facts value.now))) }
     ensures agrees { V.agrees state.new value.now }
 {
     match way {
@@ -246,16 +232,13 @@ fn write_unusual<V: ComponentProvider>(
     state: &mut V::State,
 ) -> Option<usize>
     requires fits { FitsUnusual config.now unusual.now }
-    requires supplied { IsTrue (are_supplied (groups_of config.now.formatted_components)
-        V.SUPPLIES_DATE V.SUPPLIES_TIME V.SUPPLIES_OFFSET) }
+    requires supplied { SuppliesParts config.now V.SUPPLIES_DATE V.SUPPLIES_TIME V.SUPPLIES_OFFSET }
     requires room { HasRoom output.old (iso8601_width config.now) }
     requires agrees { V.agrees state.old value.now }
     ensures appends { MatchOption result (output.new ≡ output.old)
         (λ n. AppendsUpTo (iso8601_width config.now) output.old output.new (Ok n)
         (iso8601_outcome config.now (V.facts value.now))) }
-    ensures real { OnSome result
-        (config.now.formatted_components ≡ FormattedComponents.DateTimeOffset
-        → AreReal (V.facts value.now)) }
+    ensures real { OnSome result (IsRealWhole config.now (V.facts value.now)) }
     ensures agrees { V.agrees state.new value.now }
 {
     match unusual {

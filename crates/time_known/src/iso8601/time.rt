@@ -4,7 +4,6 @@
 ghost use Rattle.std.specs.Prelude.{◌≡◌, Ok, ◌+◌, ◌*◌, ◌<◌, ◌≤◌, ◌++◌, [], length, IsTrue, not, ◌||◌, if◌then◌else◌};
 ghost use Rattle.time_below.specs.Facts.{the_time};
 ghost use Rattle.time_below.specs.TimeOfDay.{IsTimeOfDay};
-ghost use Rattle.time_digits.specs.Digits.{zero_padded};
 ghost use Rattle.time_fmt.specs.Decimals.{decimals};
 ghost use Rattle.time_fmt.specs.Outcome.{AppendsUpTo};
 ghost use Rattle.time_fmt.specs.Room.{HasRoom};
@@ -135,85 +134,27 @@ fn put_units<S: Sink, const IS_ALONE: bool>(output: &mut S, config: &Config, tim
 {
     let sign = config.decimal_sign();
     match config.time_precision() {
-        TimePrecision::Hour { decimal_digits } => put_to_hour(output, time, sign, decimal_digits),
+        TimePrecision::Hour { decimal_digits } => {
+            format_two_digits_pad_zero(output, ru8::within(time.hour()));
+            let rest = nanoseconds_of_hour(time);
+            put_decimals(output, rest, NANOSECONDS_PER_HOUR, sign, decimal_digits);
+        }
         TimePrecision::Minute { decimal_digits } => {
-            put_to_minute(output, time, config.separator(":"), sign, decimal_digits)
+            let (hour, minute, _, _) = time.as_hms_nano();
+            format_two_digits_pad_zero(output, ru8::within(hour));
+            write(output, config.separator(":"));
+            format_two_digits_pad_zero(output, ru8::within(minute));
+            let rest = nanoseconds_of_minute(time);
+            put_decimals(output, rest, NANOSECONDS_PER_MINUTE, sign, decimal_digits);
+        }
+        // The compiler knows each separator.
+        TimePrecision::Second { decimal_digits } if config.use_separators() => {
+            put_to_second(output, time, ":", sign, decimal_digits)
         }
         TimePrecision::Second { decimal_digits } => {
-            put_second::<S, IS_ALONE>(output, config, time, decimal_digits)
+            put_to_second(output, time, "", sign, decimal_digits)
         }
     }
-}
-
-// Puts the hour, the minute and the second by separators that the compiler knows, and decimals of the second.
-#[inline(always)]
-fn put_second<S: Sink, const IS_ALONE: bool>(
-    output: &mut S,
-    config: &Config,
-    time: Time,
-    digits: Option<ru8<1, 255>>,
-)
-    requires room { Fits (S.buffer output.old)
-        (units_width (TimePrecision.Second digits) config.now) }
-    ensures puts { PutsUpTo (units_width (TimePrecision.Second digits) config.now)
-        (S.buffer output.old) (S.buffer output.new)
-        (units_text (TimePrecision.Second digits) config.now time) }
-{
-    let sign = config.decimal_sign();
-    if config.use_separators() {
-        put_to_second(output, time, ":", sign, digits);
-    } else {
-        put_to_second(output, time, "", sign, digits);
-    }
-}
-
-// Puts the hour, and decimals of it.
-#[inline(always)]
-fn put_to_hour<S: Sink>(output: &mut S, time: Time, sign: DecimalSign, digits: Option<ru8<1, 255>>)
-    requires room { Fits (S.buffer output.old) (2 + decimal_part_width digits) }
-    ensures puts { PutsUpTo (2 + decimal_part_width digits)
-        (S.buffer output.old) (S.buffer output.new)
-        (zero_padded 2 time.hour ++ decimal_part sign digits
-        (nanoseconds_of_hour time) NANOSECONDS_PER_HOUR) }
-{
-    format_two_digits_pad_zero(output, ru8::within(time.hour()));
-    put_decimals(
-        output,
-        nanoseconds_of_hour(time),
-        NANOSECONDS_PER_HOUR,
-        sign,
-        digits,
-    );
-}
-
-// Puts the hour and the minute, the separator between them, and decimals of the minute.
-#[inline(always)]
-fn put_to_minute<S: Sink>(
-    output: &mut S,
-    time: Time,
-    colon: &str,
-    sign: DecimalSign,
-    digits: Option<ru8<1, 255>>,
-)
-    requires room { Fits (S.buffer output.old)
-        (4 + length colon.now + decimal_part_width digits) }
-    ensures puts { PutsUpTo (4 + length colon.now + decimal_part_width digits)
-        (S.buffer output.old) (S.buffer output.new)
-        (zero_padded 2 time.hour ++ colon.now ++ zero_padded 2 time.minute
-        ++ decimal_part sign digits (nanoseconds_of_minute time)
-        NANOSECONDS_PER_MINUTE) }
-{
-    let (hour, minute, _, _) = time.as_hms_nano();
-    format_two_digits_pad_zero(output, ru8::within(hour));
-    write(output, colon);
-    format_two_digits_pad_zero(output, ru8::within(minute));
-    put_decimals(
-        output,
-        nanoseconds_of_minute(time),
-        NANOSECONDS_PER_MINUTE,
-        sign,
-        digits,
-    );
 }
 
 // Puts the hour, the minute and the second, the separator between them, and decimals of the second.

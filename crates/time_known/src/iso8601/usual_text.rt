@@ -15,9 +15,10 @@ ghost use Rattle.time_known.specs.Iso8601.{decimal_part, iso_of_groups, week_tex
 ghost use Rattle.time_known.specs.Iso8601Width.{decimal_part_width, iso8601_width};
 ghost use Rattle.time_known.specs.Sink.{PutsUpTo};
 ghost use Rattle.time_known.specs.Stamps.{stamp_length};
-ghost use Rattle.time_known.specs.UsualText.{usual_choices, usual_text, usual_time_text, week_choices};
+ghost use Rattle.time_known.specs.UsualText.{choices_of, usual_choices, usual_text, usual_time_text};
 ghost use Rattle.time_known.specs.WellKnown.{offset_text, date_text};
 ghost use Rattle.time_known.specs.Config.{default_choices};
+ghost use Rattle.time_known.specs.declared.iso8601.config.DateKind.TheVariants.{Calendar, Week};
 ghost use Rattle.time_known.specs.Values.{utc};
 ghost use Rattle.time_below.specs.Weekday.{days_from_monday};
 
@@ -49,8 +50,7 @@ pub(super) fn write_usual<V: ComponentProvider>(
     value: &V,
     state: &mut V::State,
 ) -> Option<Result<usize, OutOfRange>>
-    requires usual { config.now
-        ≡ usual_choices usual.now.has_separators usual.now.decimal_digits usual.now.decimal_sign }
+    requires usual { config.now ≡ choices_of Calendar usual.now }
     requires supplied { AreAllSupplied V.SUPPLIES_DATE V.SUPPLIES_TIME V.SUPPLIES_OFFSET }
     requires room { HasRoom output.old (iso8601_width config.now) }
     requires agrees { V.agrees state.old value.now }
@@ -80,8 +80,7 @@ pub(super) fn write_usual_week<V: ComponentProvider>(
     value: &V,
     state: &mut V::State,
 ) -> Option<usize>
-    requires usual { config.now
-        ≡ week_choices usual.now.has_separators usual.now.decimal_digits usual.now.decimal_sign }
+    requires usual { config.now ≡ choices_of Week usual.now }
     requires supplied { AreAllSupplied V.SUPPLIES_DATE V.SUPPLIES_TIME V.SUPPLIES_OFFSET }
     requires room { HasRoom output.old (iso8601_width config.now) }
     requires agrees { V.agrees state.old value.now }
@@ -117,12 +116,10 @@ struct UsualText {
 }
 
 impl Text for UsualText {
-    ghost width = { λ t. iso8601_width
-        (usual_choices t.usual.has_separators t.usual.decimal_digits t.usual.decimal_sign) };
+    ghost width = { λ t. iso8601_width (choices_of Calendar t.usual) };
 
-    ghost text = { λ t. usual_text
-        (usual_choices t.usual.has_separators t.usual.decimal_digits t.usual.decimal_sign)
-        t.usual.decimal_digits (shown t.fields).date t.fields.time t.fields.offset };
+    ghost text = { λ t. usual_text (choices_of Calendar t.usual) t.usual.decimal_digits
+        (shown t.fields).date t.fields.time t.fields.offset };
 
     #[inline(always)]
     fn put_into<S: Sink>(&self, output: &mut S) {
@@ -146,12 +143,10 @@ struct WeekText {
 }
 
 impl Text for WeekText {
-    ghost width = { λ t. iso8601_width
-        (week_choices t.usual.has_separators t.usual.decimal_digits t.usual.decimal_sign) };
+    ghost width = { λ t. iso8601_width (choices_of Week t.usual) };
 
-    ghost text = { λ t. usual_text
-        (week_choices t.usual.has_separators t.usual.decimal_digits t.usual.decimal_sign)
-        t.usual.decimal_digits (by_week t.year t.week (days_from_monday t.weekday)) t.time t.offset };
+    ghost text = { λ t. usual_text (choices_of Week t.usual) t.usual.decimal_digits
+        (by_week t.year t.week (days_from_monday t.weekday)) t.time t.offset };
 
     #[inline(always)]
     fn put_into<S: Sink>(&self, output: &mut S) {
@@ -311,7 +306,9 @@ fn put_decimals<S: Sink>(output: &mut S, nanosecond: Nanoseconds, digits: ru8<1,
         3 => {
             write_three_decimals(output, nanosecond);
         }
-        1 => put_one_decimal(output, nanosecond),
+        1 => {
+            format_single_digit(output, ru8::within((nanosecond.get() / 100_000_000) as u8));
+        }
         _ => {
             let rest = u64::from(nanosecond.get());
             put_long_division(output, rest, NANOSECONDS_PER_SECOND, digits);
@@ -332,15 +329,4 @@ fn put_nine_and_more<S: Sink>(output: &mut S, nanosecond: Nanoseconds, digits: u
     if digits > 9 {
         write_literal(output, piece_of(ZEROS, 0, digits as usize - 9).as_bytes());
     }
-}
-
-// Puts the first decimal.
-#[inline(always)]
-#[tactic(auto, using(crate::proofs::iso8601::LengthLemmas::first_decimal))]
-fn put_one_decimal<S: Sink>(output: &mut S, nanosecond: Nanoseconds)
-    requires room { Fits (S.buffer output.old) 1 }
-    ensures puts { Puts (S.buffer output.old) (S.buffer output.new) 1
-        (decimals nanosecond NANOSECONDS_PER_SECOND 1) }
-{
-    format_single_digit(output, ru8::within((nanosecond.get() / 100_000_000) as u8));
 }

@@ -1,7 +1,7 @@
 //! The most bytes of a text, which its configuration decides.
 ghost use Rattle.std.specs.Prelude.{◌≡◌, ◌≤◌};
-ghost use Rattle.time_known.specs.Iso8601Width.{iso8601_width, iso_date_width, iso_time_width, iso_offset_width, units_width, decimal_part_width};
-ghost use Rattle.time_known.specs.UsualText.{usual_choices};
+ghost use Rattle.time_known.specs.Iso8601Width.{iso8601_width, iso_date_width, iso_time_width, iso_offset_width, decimal_part_width};
+ghost use Rattle.time_known.specs.UsualText.{choices_of};
 ghost use Rattle.time_known.specs.Ways.{FitsWay};
 
 use crate::iso8601::config::{
@@ -93,8 +93,7 @@ impl Usual {
     /// The most bytes of a text by these choices: 20 to 281.
     #[inline(always)]
     pub fn width(&self) -> usize
-        ensures width { result ≡ iso8601_width
-            (usual_choices self.now.has_separators self.now.decimal_digits self.now.decimal_sign) }
+        ensures width { result ≡ iso8601_width (choices_of DateKind.Calendar self.now) }
         ensures most { result ≤ 281 }
     {
         let signs = if self.has_separators { 25 } else { 20 };

@@ -1,7 +1,8 @@
 use Rattle.std.proofs.Common.{◌≡◌, ◌≤◌, ℕ, List, ◌++◌, length, take, drop, ◌+◌, ◌-◌, arith, ap, append-nil}
 use Rattle.std.proofs.lemmas.Grind.{common_steps, pieces}
 use Rattle.std.proofs.Math.Seq.{take-add}
-use Rattle.time_answers.proofs.OutputBufferLemmas.{Appends-then, Appends-kept, AppendsStart-at}
+use Rattle.std.proofs.KnownBytes.{Appends-trans, Appends-kept}
+use Rattle.time_answers.proofs.OutputBufferLemmas.{AppendsStart-at}
 use Rattle.time_answers.proofs.output.write_bytes.Goals as goal
 
 -- the bytes taken so far, and the next ones
@@ -18,14 +19,14 @@ pub returns-in-Ok-eq0-clause-err : goal.returns-in-Ok-eq0-clause-err
 returns-in-Ok-eq0-clause-err g c =
     let none = rw c.in-Ok-eq0.field-0-test at c.in-Ok-eq0.ensures.bytes in
     AppendsStart-at _ _ c.args.bytes.now c.loop-done.done c.loop-done-test.true
-    (rw append-nil at (Appends-then _ _ _ _ _ c.loop-done.invariant.written none))
+    (rw append-nil at (Appends-trans _ _ _ _ _ c.loop-done.invariant.written none))
 
 pub loop-done-preserved : goal.loop-done-preserved
 loop-done-preserved g c = record {
   in_range = taken-fits c.args.bytes.now c.loop-done.done c.in-Ok.count c.loop-done.invariant.in_range
       c.in-Ok.ensures.bound;
   written = rw (taken-more c.args.bytes.now c.loop-done.done c.in-Ok.count c.loop-done.invariant.in_range)
-      (Appends-then _ _ _ _ _ c.loop-done.invariant.written c.in-Ok.ensures.bytes);
+      (Appends-trans _ _ _ _ _ c.loop-done.invariant.written c.in-Ok.ensures.bytes);
   untouched = λ e. absurd (omega (arith, ap length e));
 }
 

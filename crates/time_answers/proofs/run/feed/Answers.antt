@@ -4,17 +4,11 @@ use Rattle.std.proofs.lemmas.Result.{err_from_is_err_and}
 use Rattle.time_answers.specs.LineBuffer.{kept_with}
 use Rattle.line_streams.specs.Lines.{line_feed, EndsAt, IsOneLine}
 use Rattle.time_answers.specs.Run.{state, AcceptsAnswer, CutsAnswerOff, AnswersOn, CutsAnswersOff}
+use Rattle.line_streams.proofs.FilterLemmas.{next-line}
 use Rattle.line_streams.proofs.LinesLemmas.{line-found, slice-end}
 use Rattle.time_answers.proofs.RunLemmas.{AnswersOn-none, AnswersOn-then, AnswersOn-kept, AnswersOn-line}
 use Rattle.time_answers.proofs.RunLemmas.{CutsAnswersOff-line, CutsAnswersOff-after}
 use Rattle.time_answers.proofs.run.feed.Goals as goal
-
--- the bytes of a line and its line feed, taken from what is left
-next-line : (bytes fed rest : List ℕ) (end : ℕ) → bytes ≡ fed ++ rest → EndsAt rest end →
-    bytes ≡ (fed ++ (take end rest ++ line_feed ∷ [])) ++ drop (end + 1) rest
-next-line bytes fed rest end whole ends =
-    whole ∙ ap (λ more. fed ++ more) ends.whole
-    ∙ sym (append_assoc fed (take end rest ++ line_feed ∷ []) (drop (end + 1) rest))
 
 -- one more line is answered
 line_is_answered : (bytes fed rest : List ℕ) (end : ℕ) (k0 k1 k2 k3 h0 h1 h2 : Option (List ℕ)) (w0 w1 w2 : List ℕ) →

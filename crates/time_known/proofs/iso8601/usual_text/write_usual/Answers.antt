@@ -1,6 +1,6 @@
 use Rattle.time_known.specs.Fields.{Shown}
 use Rattle.time_known.specs.Groups.{at_groups}
-use Rattle.time_known.specs.UsualText.{usual_choices, usual_text}
+use Rattle.time_known.specs.UsualText.{choices_of, usual_text}
 use Rattle.time_known.specs.Values.{the_date, the_time, the_offset}
 use Rattle.time_known.specs.declared.iso8601.config.DateKind.TheVariants as kind
 use Rattle.time_known.proofs.AcceptedLemmas.{usual_accepted}
@@ -11,7 +11,7 @@ pub returns-in-Ok-clause-appends : goal.returns-in-Ok-clause-appends
 returns-in-Ok-clause-appends g c =
     let f = g.V.ComponentProvider.facts c.args.value.now in
     let u = c.args.usual.now in
-    let choices = usual_choices u.has_separators u.decimal_digits u.decimal_sign in
+    let choices = choices_of kind.Calendar u in
     let text = at_groups (usual_text choices u.decimal_digits) f in
     rw (
       usual_accepted c.args.config.now kind.Calendar u.has_separators u.decimal_digits u.decimal_sign (the_date f) (the_time f)

@@ -14,9 +14,6 @@ use Rattle.time_known.proofs.Rfc2822Lemmas.{rfc2822_is_written}
 use Rattle.time_known.proofs.SinkLemmas.{appended_as}
 use Rattle.time_known.proofs.rfc2822.Rfc2822Formattable.write_into.Goals as goal
 
-pub returns-then-not-are_supplied_by-clause-text : goal.returns-then-not-are_supplied_by-clause-text
-returns-then-not-are_supplied_by-clause-text g c = λ _. rfc2822_utf8 (g.V.ComponentProvider.facts c.args.value.now)
-
 pub returns-in-Ok : goal.returns-in-Ok
 returns-in-Ok g c =
     let value = c.args.value.now in
@@ -47,6 +44,3 @@ returns-in-Err-clause-appends g c =
     (unsigned_abs (the_offset f).seconds) text c.accepted_fields.ensures.offset.0.0 in
     rw (outcome_of_all f all rfc2822_of_groups ∙ sym hours ∙ c.in-Err.ensures.refused text)
     (appends_nothing _ _ _ c.name.ensures)
-
-pub returns-in-Err-clause-text : goal.returns-in-Err-clause-text
-returns-in-Err-clause-text g c = λ _. rfc2822_utf8 (g.V.ComponentProvider.facts c.args.value.now)

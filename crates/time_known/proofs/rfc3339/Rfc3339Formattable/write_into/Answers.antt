@@ -12,9 +12,6 @@ use Rattle.time_known.proofs.Rfc3339Lemmas.{rfc3339_is_written}
 use Rattle.time_known.proofs.SinkLemmas.{appended_as}
 use Rattle.time_known.proofs.rfc3339.Rfc3339Formattable.write_into.Goals as goal
 
-pub returns-then-not-are_supplied_by-clause-text : goal.returns-then-not-are_supplied_by-clause-text
-returns-then-not-are_supplied_by-clause-text g c = λ _. rfc3339_utf8 (g.V.ComponentProvider.facts c.args.value.now)
-
 pub returns-in-Ok : goal.returns-in-Ok
 returns-in-Ok g c =
     let value = c.args.value.now in
@@ -37,6 +34,3 @@ returns-in-Err-clause-appends g c =
     let all = has_all f (c.are_supplied_by.ensures.there value ∙ c.if-not-are_supplied_by.false) in
     rw (outcome_of_all f all rfc3339_of_groups ∙ c.in-Err.ensures.refused (at_groups rfc3339_text f))
     (appends_nothing _ _ _ c.name.ensures)
-
-pub returns-in-Err-clause-text : goal.returns-in-Err-clause-text
-returns-in-Err-clause-text g c = λ _. rfc3339_utf8 (g.V.ComponentProvider.facts c.args.value.now)

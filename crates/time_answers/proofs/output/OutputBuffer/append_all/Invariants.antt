@@ -1,7 +1,7 @@
 use Rattle.std.proofs.Common.{take}
 use Rattle.time_digits.specs.Digits.{joined}
 use Rattle.time_answers.specs.OutputBuffer.{Accepts, buffered}
-use Rattle.time_answers.proofs.output.OutputBuffer.append_each.Given as goal
+use Rattle.time_answers.proofs.output.OutputBuffer.append_all.Given as goal
 
 abbrev pub invariant-loop-part : goal.invariant-loop-part
 invariant-loop-part g l =
