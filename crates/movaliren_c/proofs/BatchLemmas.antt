@@ -1,13 +1,12 @@
 -- A batch, item by item.
 use Rattle.std.proofs.Common.{◌≡◌, ◌<◌, ◌≤◌, ◌+◌, ◌-◌, ℕ, List, [], ◌∷◌, ◌++◌, length, take, drop, get_or, set}
-use Rattle.std.proofs.Common.{None, Some, Result, Ok, Err, refl, sym, ap, ◌∙◌, ⊎_elim, inl, inr, arith, length-append, subst}
+use Rattle.std.proofs.Common.{Result, Ok, Err, sym, ap, ◌∙◌, arith, length-append}
 use Rattle.std.proofs.lemmas.List.{take-append-drop}
 use Rattle.std.proofs.lemmas.Grind.{common_steps}
 use Rattle.std.proofs.lemmas.Option.{slice_get-get_or}
 use Rattle.movaliren_c.specs.Answer.{Explains, IsRefusedFor, IsText}
-use Rattle.movaliren_c.specs.Batch.{ended, Stand, Stops, StopsAt, lines}
+use Rattle.movaliren_c.specs.Batch.{ended, Stand, Stops, StopsAt}
 use Rattle.movaliren_c.specs.declared.reason.Reason.{Reason}
-use Rattle.movaliren_c.specs.declared.reason.Reason.TheVariants as reason
 use Rattle.time_fmt.specs.Outcome.{Outcome, join, done}
 use Rattle.time_fmt.proofs.WriteLemmas.{join_done, join_refused, some_of}
 
@@ -36,12 +35,7 @@ pub stops_at_item : {A : Type 0} (n : ℕ) (items : List A) (line : A → Result
     → take bytes later ≡ take bytes room
     → Stand n items line bytes before later × StopsAt r n items line (length (drop bytes before))
 stops_at_item n items line bytes before room later item r inside is s h same =
-    let k = stopped_line (line item) r (drop bytes room) (drop bytes later) h in
-    let e = same_room room later bytes same k.1 in
-    let b = bytes_after_front (lines line (take n items)) before room bytes s.counted s.written in (
-      rw e s,
-      rw (slice_get-get_or items n item inside ∙ ap Some (sym is)) (subst (λ rest. Stops r (line item) (length rest)) b k.0),
-    )
+    grind (arith, stopped_line, same_room, bytes_after_front, slice_get-get_or)
 
 -- ---- the byte that ends a text
 
@@ -66,38 +60,21 @@ pub ended_text : (asked : Result Outcome Reason) (n e most : ℕ) (room mid : Li
     → n < length mid → IsText asked (Ok n) (take most room) (take most mid)
     → drop most mid ≡ drop most room → IsText (ended e asked) (Ok (n + 1)) room (set mid n e)
 ended_text (Ok o) n e most room mid fits inside h behind_it =
-    let whole = in_front o.bytes room mid n most h.1 fits h.2 behind_it in
-    rw (join_done o (done (e ∷ [])) h.0) (
-      refl,
-      omega (arith, h.1, length-append o.bytes (e ∷ [])),
-      placed_end o.bytes room mid n e h.1 inside whole,
-    )
+    grind (arith, in_front, join_done, length-append, placed_end)
 ended_text (Err r) n e most room mid fits inside h behind_it = absurd (let same = h.0 in cc)
 
 -- what is refused first is refused of both
 pub refused_first : (a b : Outcome) (r : Reason) → IsRefusedFor r a → IsRefusedFor r (join a b)
-refused_first a b r h =
-    let some = some_of _ a.refusal h in
-    rw (join_refused a b some.0 some.1) h
+refused_first a b r h = grind (arith, some_of, join_refused)
 
 -- the reason for no text is the reason for no text with an end, in a buffer of one byte more
 explains_ended : (r : Reason) (o : Outcome) (e room : ℕ) → Explains r o (room - 1)
     → Explains r (join o (done (e ∷ []))) room
-explains_ended r o e room h =
-    ⊎_elim (λ (short : (r ≡ reason.NoRoom) × (o.refusal ≡ None) × (room - 1 < length o.bytes)).
-    let whole = join_done o (done (e ∷ [])) short.1 in
-    inl (short.0, rw whole refl, rw whole (omega (arith, short.2, length-append o.bytes (e ∷ [])))))
-    (λ (refused : IsRefusedFor r o). inr (refused_first o (done (e ∷ [])) r refused))
-    h
+explains_ended r o e room h = grind (arith, join_done, length-append, refused_first)
 
 -- a reason, and no end
 pub ended_stops : (asked : Result Outcome Reason) (r : Reason) (e most : ℕ) (room mid : List ℕ)
     → most ≡ length room - 1 → IsText asked (Err r) (take most room) (take most mid)
     → drop most mid ≡ drop most room → IsText (ended e asked) (Err r) room mid
-ended_stops (Ok o) r e most room mid is h behind_it =
-    let front : length (take most room) ≡ length room - 1 = grind (arith, common_steps) in (
-      same_room room mid most h.0 behind_it,
-      explains_ended r o e (length room) (subst (λ n. Explains
-          r o n) front h.1),
-    )
+ended_stops (Ok o) r e most room mid is h behind_it = grind (arith, common_steps, same_room, explains_ended)
 ended_stops (Err q) r e most room mid is h behind_it = (h.0, same_room room mid most h.1 behind_it)

@@ -1,6 +1,6 @@
 -- Descriptions, item by item.
-use Rattle.std.proofs.Common.{◌≡◌, ◌≤◌, ◌<◌, ◌+◌, ◌-◌, ◌++◌, ℕ, min, List, [], ◌∷◌, length, drop, take, get_or, map, None, Some, Option, IfOk, Result, Ok, Err}
-use Rattle.std.proofs.Common.{zero, suc, ⊎_elim, inl, refl, sym, ap, ◌∙◌, arith, append_assoc, length-append, subst}
+use Rattle.std.proofs.Common.{◌≡◌, ◌≤◌, ◌<◌, ◌+◌, ◌-◌, ◌++◌, ℕ, min, List, [], ◌∷◌, length, drop, take, get_or, map, None, Some, IfOk, Result, Ok, Err}
+use Rattle.std.proofs.Common.{zero, suc, refl, sym, ap, ◌∙◌, arith, append_assoc, length-append, subst}
 use Rattle.std.proofs.Common.{true, false}
 use Rattle.std.specs.Prelude.{ℤ, pos, int_lt, is_some, unsigned_abs}
 use Rattle.std.proofs.Math.Seq.{take-append_seam}
@@ -26,7 +26,7 @@ use Rattle.time_fmt.specs.declared.error.Format.{Format}
 use Rattle.time_fmt.specs.declared.error.Format.TheVariants as error
 use Rattle.time_fmt.specs.declared.refused.Refused.{Refused}
 use Rattle.time_fmt.specs.declared.refused.Refused.TheVariants as refused
-use Rattle.time_fmt.specs.Outcome.{IsAtTheStart, Names, Outcome, Refusal, done, join}
+use Rattle.time_fmt.specs.Outcome.{IsAtTheStart, Names, Outcome, done, join}
 use Rattle.time_fmt.specs.Runs.{date_run, year_text}
 use Rattle.time_fmt.specs.Sink.{Buffer, Puts}
 use Rattle.time_fmt.proofs.RunLemmas.{date_ends}
@@ -45,14 +45,12 @@ pub next_there : {I A : Type 0} (f : I → Result A Reason) (items : List I) (i 
     → i < length items → f (get_or items i d) ≡ Ok a
     → list_of (map f (drop i items)) ≡ with_value (list_of (map f (drop (i + 1) items))) (λ others.
     Ok (a ∷ others))
-next_there f items i d a inside there = next_of f items i d inside ∙ ap (λ x. list_of (x ∷ map f
-    (drop (i + 1) items))) there
+next_there f items i d a inside there = grind (arith, common_steps, next_of)
 
 pub next_not_there : {I A : Type 0} (f : I → Result A Reason) (items : List I) (i : ℕ) (d : I) (r :
     Reason)
     → i < length items → f (get_or items i d) ≡ Err r → list_of (map f (drop i items)) ≡ Err r
-next_not_there f items i d r inside none = next_of f items i d inside ∙ ap (λ x. list_of (x ∷ map f
-    (drop (i + 1) items))) none
+next_not_there f items i d r inside none = grind (arith, common_steps, next_of)
 
 -- ---- widths
 
@@ -66,11 +64,7 @@ summed_rest : (greatest sum : ℕ) (t : Tree) (rest : Result (List Tree) Reason)
     → with_value (with_value rest (λ others. Ok (t ∷ others))) (λ ts. Ok (min (sum + trees_width
     (trees ts)) greatest)) ≡ with_value rest (λ ts. Ok (min (min (sum + tree_width t) greatest +
     trees_width (trees ts)) greatest))
-summed_rest greatest sum t (Ok ts) =
-    let w = trees_width (trees ts) in
-    let e : min (sum + (tree_width t + w)) greatest ≡ min (min (sum + tree_width t) greatest + w)
-    greatest = omega arith in
-    ap Ok e
+summed_rest greatest sum t (Ok ts) = grind arith
 summed_rest greatest sum t (Err r) = refl
 
 -- one item more
@@ -80,17 +74,7 @@ pub summed_more : {I : Type 0} (f : I → Result Tree Reason) (items : List I) (
     → Summed greatest sum all (list_of (map f (drop i items)))
     → Summed greatest next all (list_of (map f (drop (i + 1) items)))
 summed_more f items i d t greatest sum next all inside there is summed =
-    let rest = list_of (map f (drop (i + 1) items)) in
-    let step = next_there f items i d t inside there in
-    record {
-      fits = omega (arith, is);
-      same =
-          summed.same ∙ ap (λ left. with_value left (λ ts. Ok (min (sum + trees_width (trees ts))
-          greatest))) step
-          ∙ summed_rest greatest sum t rest
-          ∙ ap (λ s. with_value rest (λ ts. Ok (min (s + trees_width (trees ts)) greatest))) (sym
-          is);
-    }
+    grind (arith, common_steps, next_there, summed_rest)
 
 -- ---- texts
 
@@ -308,9 +292,7 @@ standard_date_ends r x y f old new is there small beside_year most put =
 -- a list of one component is the component
 pub in_array : (o : Outcome) (count : ℕ) (old new : List ℕ) → IsAtTheStart old new (Ok count) (join o (done []))
     → (o.refusal ≡ None) × (take count new ≡ o.bytes) × (length o.bytes ≡ count)
-in_array o count old new put =
-    let is : IsAtTheStart old new (Ok count) o = rw (alone o) at put in
-    (is.counted.0, rw (is.counted.1, is.written) (take-append_seam o.bytes (drop (length o.bytes) old)), sym is.counted.1)
+in_array o count old new put = grind (arith, alone, take-append_seam)
 
 -- ---- the end
 
@@ -409,8 +391,5 @@ pub no_room : {V : Type 0} (description : Result (List Tree) Reason) (v : V) (fa
     (room before after : List ℕ) → IsShown description (facts v) (Ok count) before after → length room < count
     → IsText (described description (Ok v) facts) (Err reason.NoRoom) room room
     × IfOk description (λ ts. IsWithinWidth (trees_width (trees ts)) (length room) (Err reason.NoRoom))
-no_room (Ok ts) v facts count room before after shown many = (
-  (refl, inl (refl, shown.completed, omega (arith, shown.counted, many))),
-  record { within = tt; fits = λ fits. absurd (omega (arith, fits, many, shown.counted, shown.within)) },
-)
+no_room (Ok ts) v facts count room before after shown many = grind arith
 no_room (Err invalid) v facts count room before after shown many = absurd (let e = shown in cc)

@@ -158,10 +158,7 @@ closed_by None false here differ = rw (eq-eqb here here refl) refl
 
 pub closed_hidden : (fs : List Frame) (f : Frame) (hidden : Option ℕ) (depth : ℕ) → hidden ≡ hidden_at (f ∷ fs) → depth ≡ length fs
     → closed_at hidden depth ≡ hidden_at fs
-closed_hidden fs f hidden depth same deep =
-    ap (λ (o : Option ℕ). closed_at o depth) same
-    ∙ ap (closed_at (hidden_at (f ∷ fs))) deep
-    ∙ closed_by (hidden_at fs) (is_nil f.lists) (length fs) (λ h. let lt = hidden_below fs (length fs) h in omega (arith, lt))
+closed_hidden fs f hidden depth same deep = grind (arith, closed_by, hidden_below)
 
 list_closed : (fs : List Frame) (lists items inner : List Tree)
     → shown_in fs (flat_items items ++ first_shown lists (flat_items inner))
@@ -182,9 +179,7 @@ item_shown nests.First (t ∷ ts) left item is = let same : first_of (more t (tr
 
 pub ended_shown : (fs : List Frame) (nest : Nest) (items lists : List Tree) (left : ℕ) (item : Tree) → nested nest lists left ≡ Ok item
     → shown_in fs (flat_items items ++ first_shown lists []) ≡ shown_in fs (flat_items (items ++ item ∷ []))
-ended_shown fs nest items lists left item is =
-    ap (λ (v : List Tree). shown_in fs (flat_items items ++ v)) (item_shown nest lists left item is ∙ sym (append-nil (flat item)))
-    ∙ ap (shown_in fs) (sym (flat_more items (item ∷ [])))
+ended_shown fs nest items lists left item is = grind (arith, item_shown, append-nil, flat_more)
 
 pub begun_shown : (fs : List Frame) (items : List Tree) → shown_in fs (flat_items items) ≡ shown_in fs (flat_items items ++ first_shown [] [])
 begun_shown fs items = ap (shown_in fs) (sym (append-nil (flat_items items)))

@@ -1,16 +1,16 @@
 -- What is kept for the times of log lines.
-use Rattle.std.proofs.Common.{◌≡◌, ◌∙◌, ℕ, ◌<◌, ℤ, Bool, true, false, List, [], ◌++◌, append_assoc, refl, ap, arith, ◌⊎◌, inl, inr}
-use Rattle.std.proofs.Common.{unsigned_abs, Result, Ok, Err, Some}
-use Rattle.std.proofs.Common.{◌+◌, ◌-◌, ◌≤◌, drop, length, length-append, length-drop, sym, take, w64, FitsSigned, of_z, to_z}
+use Rattle.std.proofs.Common.{◌≡◌, ◌∙◌, ℕ, ◌<◌, ℤ, Bool, true, false, List, [], ◌++◌, append_assoc, refl, ap, arith}
+use Rattle.std.proofs.Common.{◌⊎◌, inl, inr, unsigned_abs, Result, Ok, Err, Some, ◌+◌, ◌-◌, ◌≤◌, drop, length}
+use Rattle.std.proofs.Common.{length-append, length-drop, sym, take, w64, FitsSigned, of_z, to_z}
 use Rattle.std.proofs.lemmas.Bool.{lt-ltb}
 use Rattle.std.proofs.lemmas.Int.{to_z-of_z}
 use Rattle.std.proofs.Math.ListN.{length-take}
 use Rattle.std.proofs.lemmas.List.{append-nil, drop-drop, drop_all, drop_at, take-append-drop, take_all, take_at}
-use Rattle.std.specs.Prelude.{◌+ℤ◌, codes, nat_lt}
+use Rattle.std.specs.Prelude.{◌+ℤ◌, codes}
 use Rattle.movaliren_c.specs.Answer.{IsAnswer, IsWritten, answer_number, gives}
 use Rattle.movaliren_c.specs.Chosen.{iso8601_by}
 use Rattle.movaliren_c.specs.Log.{Remembers, head_of, log_choices, log_config}
-use Rattle.movaliren_c.specs.Utc.{east_value, local_there, local_value}
+use Rattle.movaliren_c.specs.Utc.{local_there, local_value}
 use Rattle.movaliren_c.specs.Value.{checked, is_in_years, timestamp_value, with_value}
 use Rattle.movaliren_c.specs.declared.reason.Reason.{Reason}
 use Rattle.movaliren_c.specs.declared.reason.Reason.TheVariants as reason
@@ -36,9 +36,7 @@ at n v = record v { time = record v.time { nanosecond = n } }
 there : (b : Bool) (s : ℤ) (m n : ℕ) (o : Offset) (v : OffsetDateAndTime)
     → checked b reason.NoPlaceForYear (Ok (local_at (record { seconds = s; nanosecond = m }) o)) ≡ Ok v
     → checked b reason.NoPlaceForYear (Ok (local_at (record { seconds = s; nanosecond = n }) o)) ≡ Ok (at n v)
-there true s m n o v h =
-    let same : local_at (record { seconds = s; nanosecond = m }) o ≡ v = (let e = h in cc) in
-    rw (← same) refl
+there true s m n o v h = grind arith
 there false s m n o v h = absurd (let e = h in cc)
 
 at_offset : (e : Result Offset Reason) (s : ℤ) (m n : ℕ) (v : OffsetDateAndTime)
@@ -57,9 +55,7 @@ in_years false e s m n v h = absurd (let x = h in cc)
 later : (s east : ℤ) (n : ℕ) (v : OffsetDateAndTime) → local_value s 0 east ≡ Ok v → n < 1_000_000_000
     → local_value s n east ≡ Ok (at n v)
 unfolding local_value timestamp_value
-later s east n v h small =
-    let below : nat_lt n 1_000_000_000 ≡ true = lt-ltb n 1_000_000_000 small in
-    rw below (in_years (is_in_years s) (east_value east) s 0 n v h)
+later s east n v h small = grind (arith, lt-ltb, in_years)
 
 -- ---- texts of one second
 
@@ -87,9 +83,7 @@ remembered s east v f value accepted shown = λ n d small.
 pub kept_bytes : (s o : ℤ) (before after head zone : List ℕ) (n k : ℕ) → FitsSigned w64 s → FitsSigned w64 o → Remembers s o before after
     → n ≡ length head → take n head ≡ before → take k zone ≡ after
     → Remembers (to_z w64 (of_z w64 s)) (to_z w64 (of_z w64 o)) head (take k zone)
-kept_bytes s o before after head zone n k small low remembers long first last =
-    let whole : head ≡ before = sym (take_all n head (omega (arith, long))) ∙ first in
-    rw (to_z-of_z w64 s small, to_z-of_z w64 o low, whole, last) remembers
+kept_bytes s o before after head zone n k small low remembers long first last = grind (arith, take_all, to_z-of_z)
 
 -- ---- what is written
 
@@ -108,10 +102,7 @@ pub kept_text : (d n : ℕ) (second seconds kept offset : ℤ) (before after byt
     → IsWritten answer (done (before ++ bytes ++ after)) old new
     → IsAnswer (iso8601_by (log_config d) (local_value seconds n offset)) number old new
 kept_text d n second seconds kept offset before after bytes answer number old new remembers same there small few is digits written =
-    let text : iso8601_by (log_config d) (local_value seconds n offset)
-    ≡ Ok (done (before ++ decimals n 1_000_000_000 d ++ after)) =
-    chosen d (local_value seconds n offset) few ∙ rw (← same, ← there) (remembers n d small) in
-    rw text (answer, is, rw (← digits) written)
+    grind (arith, chosen, there)
 
 -- a piece is all of its bytes
 pub whole_piece : (n : ℕ) (xs : List ℕ) → length xs ≡ n → take n xs ≡ xs

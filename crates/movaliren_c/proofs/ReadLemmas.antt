@@ -1,7 +1,6 @@
 -- The parts of a value give that value.
-use Rattle.std.proofs.Common.{T, ◌≡◌, ℕ, suc, zero, ℤ, pos, negsuc, Bool, true, false, refl, sym, subst, ap, ◌∙◌, ◌≤◌, Result, Ok, arith}
-use Rattle.std.specs.Prelude.{◌&&◌, ◌<ℤ◌, ◌≤ℤ◌, int_le, int_lt, nat_lt, unsigned_abs}
-use Rattle.std.proofs.lemmas.Float.{T_from_true}
+use Rattle.std.proofs.Common.{T, ◌≡◌, ℕ, suc, zero, ℤ, pos, negsuc, Bool, true, false, refl, subst, ◌≤◌, Result, Ok, arith}
+use Rattle.std.specs.Prelude.{◌&&◌, ◌<ℤ◌, ◌≤ℤ◌, unsigned_abs}
 use Rattle.std.proofs.lemmas.Bool.Decides.{nat_tests}
 use Rattle.std.specs.Int.{IsInRange}
 use Rattle.std.proofs.lemmas.Bool.{and_parts, le-leb, leb-true, lt-ltb}
@@ -9,13 +8,13 @@ use Rattle.movaliren_c.specs.Known.{IsDayOf, offset_of_parts, time_of_parts}
 use Rattle.movaliren_c.specs.Value.{checked, date_value, is_alike, is_offset_part, moment_value, offset_value, time_value}
 use Rattle.movaliren_c.specs.declared.moment.Moment.{Moment}
 use Rattle.movaliren_c.specs.declared.reason.Reason.{Reason}
-use Rattle.movaliren_c.specs.declared.reason.Reason.TheVariants as reason
-use Rattle.time_below.specs.Calendar.{IsDate, IsDayOfMonth, IsYear, OrdinalDate, date_of, day_of, days_in_month, is_leap_year, month_of}
+use Rattle.time_below.specs.Calendar.{IsDate, IsDayOfMonth, IsYear, OrdinalDate, date_of, day_of, month_of}
 use Rattle.time_below.specs.Moment.{OffsetDateAndTime}
 use Rattle.time_below.specs.Offset.{HasNoOtherSign, IsOffset, Offset}
 use Rattle.time_below.specs.TimeOfDay.{IsTimeOfDay, TimeOfDay}
 use Rattle.time_below.proofs.MonthLemmas.{date_of-month_and_day, day_of-date_of, month_length, month_of-date_of}
 use Rattle.movaliren_c.proofs.MeaningLemmas.{same_value, test_that_passed, value_of_given}
+use Rattle.std.proofs.lemmas.Grind.{common_steps}
 
 go : {A : Type 0} (test : Bool) (r : Reason) (rest : Result A Reason) → test ≡ true → checked test r rest ≡ rest
 go test r rest h = rw h refl
@@ -27,10 +26,7 @@ both a b x y = rw (x, y) refl
 
 date_given : (y : ℤ) (m d : ℕ) → IsYear y → IsInRange 1 12 m → IsDayOfMonth y m d → date_value y m d ≡ Ok (date_of y m d)
 unfolding date_value
-date_given y m d year month day =
-    go _ _ _ (le-leb (unsigned_abs y) 999_999 year)
-    ∙ go _ _ _ (both _ _ (le-leb 1 m month.0) (le-leb m 12 month.1))
-    ∙ go _ _ _ (both _ _ (le-leb 1 d day.0) (le-leb d (days_in_month (is_leap_year y) m) day.1))
+date_given y m d year month day = grind (arith, go, le-leb, both)
 
 same_parts : (y z : ℤ) (m n d e : ℕ) → y ≡ z → m ≡ n → d ≡ e → date_of y m d ≡ date_of z n e
 same_parts y z m n d e year month day = rw (year, month, day) refl
@@ -38,8 +34,7 @@ same_parts y z m n d e year month day = rw (year, month, day) refl
 date_of_value : (y : ℤ) (m d : ℕ) (date : OrdinalDate) → y ≡ date.year → m ≡ month_of date → d ≡ day_of date
     → IsYear y → IsInRange 1 12 m → IsDayOfMonth y m d → IsDate date → date_value y m d ≡ Ok date
 date_of_value y m d date year month day is_year is_month is_day real =
-    date_given y m d is_year is_month is_day
-    ∙ ap Ok (same_parts y date.year m (month_of date) d (day_of date) year month day ∙ date_of-month_and_day date real)
+    grind (arith, date_given, same_parts, date_of-month_and_day)
 
 -- ---- times
 
@@ -49,35 +44,22 @@ same_time h m s n t a b c d = rw (a, b, c, d) refl
 
 time_of_value : (m : Moment) (t : TimeOfDay) → m.hour ≡ t.hour → m.minute ≡ t.minute → m.second ≡ t.second
     → m.nanosecond ≡ t.nanosecond → IsTimeOfDay t → time_value m ≡ Ok t
-time_of_value m t a b c d real =
-    go _ _ _ (lt-ltb m.hour 24 (omega (arith, a, real.0)))
-    ∙ go _ _ _ (lt-ltb m.minute 60 (omega (arith, b, real.1)))
-    ∙ go _ _ _ (lt-ltb m.second 60 (omega (arith, c, real.2)))
-    ∙ go _ _ _ (lt-ltb m.nanosecond 1_000_000_000 (omega (arith, d, real.3)))
-    ∙ ap Ok (same_time m.hour m.minute m.second m.nanosecond t a b c d)
+time_of_value m t a b c d real = grind (arith, go, lt-ltb, same_time)
 
 -- ---- offsets
 
 not_below : (n m : ℕ) → is_alike (pos (suc n)) (pos m) ≡ true
-not_below n m =
-    let one : int_lt (pos (suc n)) (pos 0) ≡ false = grind (arith, nat_tests) in
-    let other : int_lt (pos m) (pos 0) ≡ false = grind (arith, nat_tests) in
-    let above : int_lt (pos 0) (pos (suc n)) ≡ true = grind (arith, nat_tests) in
-    rw (one, other, above) refl
+not_below n m = grind (arith, nat_tests)
 
 is_above : (n : ℕ) → pos 0 <ℤ pos (suc n)
-is_above n =
-    let above : int_lt (pos 0) (pos (suc n)) ≡ true = grind (arith, nat_tests) in
-    record { lt = T_from_true _ above }
+is_above n = grind (arith, nat_tests)
 
 false_from_T : (b : Bool) → b ≡ false → T b → ⊥
 false_from_T true h t = absurd (let e = h in cc)
 false_from_T false h t = t
 
 not_under : (m : ℕ) → pos (suc m) ≤ℤ pos 0 → ⊥
-not_under m h =
-    let not : int_le (pos (suc m)) (pos 0) ≡ false = grind (arith, nat_tests) in
-    false_from_T _ not h.le
+not_under m h = grind (arith, nat_tests, false_from_T)
 
 alike : (a b : ℤ) → HasNoOtherSign a b → is_alike a b ≡ true
 alike (pos zero) b h = refl
@@ -89,8 +71,7 @@ alike (negsuc n) (negsuc m) h = refl
 
 part_given : (greatest : ℕ) (a b part : ℤ) → unsigned_abs part ≤ greatest → HasNoOtherSign a part → HasNoOtherSign b part
     → is_offset_part greatest a b part ≡ true
-part_given greatest a b part size first second =
-    both _ _ (both _ _ (le-leb (unsigned_abs part) greatest size) (alike a part first)) (alike b part second)
+part_given greatest a b part size first second = grind (arith, both, le-leb, alike)
 
 same_offset : (h m s : ℤ) (o : Offset) → h ≡ o.hours → m ≡ o.minutes → s ≡ o.seconds
     → ◌≡◌ {A = Offset} (record { hours = h; minutes = m; seconds = s }) o
@@ -101,18 +82,7 @@ of_zero x = (λ above. absurd above.lt, λ below. absurd below.lt)
 
 pub offset_of_value : (m : Moment) (o : Offset) → m.offset_hours ≡ o.hours → m.offset_minutes ≡ o.minutes
     → m.offset_seconds ≡ o.seconds → IsOffset o → offset_value m ≡ Ok o
-offset_of_value m o a b c real =
-    let hours : is_offset_part 25 (pos 0) (pos 0) m.offset_hours ≡ true =
-    ap (λ (x : ℤ). is_offset_part 25 (pos 0) (pos 0) x) a ∙ (part_given 25 (pos 0) (pos 0) o.hours real.0.0 (of_zero o.hours) (of_zero o.hours)) in
-    let minutes : is_offset_part 59 m.offset_hours (pos 0) m.offset_minutes ≡ true =
-    ap (λ (x : ℤ). is_offset_part 59 x (pos 0) m.offset_minutes) a
-    ∙ ap (λ (x : ℤ). is_offset_part 59 o.hours (pos 0) x) b ∙ (part_given 59 o.hours (pos 0) o.minutes real.0.1 real.1 (of_zero o.minutes)) in
-    let seconds : is_offset_part 59 m.offset_hours m.offset_minutes m.offset_seconds ≡ true =
-    ap (λ (x : ℤ). is_offset_part 59 x m.offset_minutes m.offset_seconds) a
-    ∙ ap (λ (x : ℤ). is_offset_part 59 o.hours x m.offset_seconds) b
-    ∙ ap (λ (x : ℤ). is_offset_part 59 o.hours o.minutes x) c ∙ (part_given 59 o.hours o.minutes o.seconds real.0.2 real.2 real.3) in
-    go _ _ _ hours ∙ go _ _ _ minutes ∙ go _ _ _ seconds
-    ∙ ap Ok (same_offset m.offset_hours m.offset_minutes m.offset_seconds o a b c)
+offset_of_value m o a b c real = grind (arith, common_steps, part_given, of_zero, go, same_offset)
 
 -- ---- values
 
@@ -136,22 +106,17 @@ value_of_parts y mo d h mi s n oh om os v p q r is_year is_month is_day real a b
 day_of_date : (y : ℤ) (m d : ℕ) (date : OrdinalDate) → date_value y m d ≡ Ok date → IsDayOf m d date
 unfolding date_value
 day_of_date y m d date h =
-    let year = test_that_passed _ _ _ date h in
-    let month = test_that_passed _ _ _ date year.1 in
-    let day = test_that_passed _ _ _ date month.1 in
-    let in_year = and_parts _ _ month.0 in
-    let in_month = and_parts _ _ day.0 in
-    let first = leb-true 1 m in_year.0 in
-    let last = leb-true m 12 in_year.1 in
-    let one = leb-true 1 d in_month.0 in
-    let within = leb-true d (days_in_month (is_leap_year y) m) in_month.1 in
-    let same = same_value (date_of y m d) date day.1 in
-    record {
-      month_range = (first, last);
-      day_range = (one, omega (arith, within, month_length (is_leap_year y) m));
-      month = ap month_of (sym same) ∙ month_of-date_of y m d first last one within;
-      day = ap day_of (sym same) ∙ day_of-date_of y m d first last one within;
-    }
+    grind (
+      arith,
+      common_steps,
+      test_that_passed,
+      and_parts,
+      leb-true,
+      same_value,
+      month_length,
+      month_of-date_of,
+      day_of-date_of,
+    )
 
 -- what a value is by its parts
 pub record IsByParts (m : Moment) (v : OffsetDateAndTime) : Type 0 where
@@ -160,29 +125,10 @@ pub record IsByParts (m : Moment) (v : OffsetDateAndTime) : Type 0 where
   pub offset : v.offset ≡ offset_of_parts m
 
 time_by_parts : (m : Moment) (t : TimeOfDay) → time_value m ≡ Ok t → t ≡ time_of_parts m
-time_by_parts m t h =
-    let whole : Result TimeOfDay Reason = Ok (time_of_parts m) in
-    let last = checked (nat_lt m.nanosecond 1_000_000_000) reason.Nanosecond whole in
-    let third = checked (nat_lt m.second 60) reason.Second last in
-    let second = checked (nat_lt m.minute 60) reason.Minute third in
-    let after_hour = (test_that_passed (nat_lt m.hour 24) reason.Hour second t h).1 in
-    let after_minute = (test_that_passed (nat_lt m.minute 60) reason.Minute third t after_hour).1 in
-    let after_second = (test_that_passed (nat_lt m.second 60) reason.Second last t after_minute).1 in
-    let after_all = (test_that_passed (nat_lt m.nanosecond 1_000_000_000) reason.Nanosecond whole t after_second).1 in
-    sym (same_value (time_of_parts m) t after_all)
+time_by_parts m t h = grind (arith, test_that_passed, same_value)
 
 offset_by_parts : (m : Moment) (o : Offset) → offset_value m ≡ Ok o → o ≡ offset_of_parts m
-offset_by_parts m o h =
-    let hours = is_offset_part 25 (pos 0) (pos 0) m.offset_hours in
-    let minutes = is_offset_part 59 m.offset_hours (pos 0) m.offset_minutes in
-    let seconds = is_offset_part 59 m.offset_hours m.offset_minutes m.offset_seconds in
-    let whole : Result Offset Reason = Ok (offset_of_parts m) in
-    let last = checked seconds reason.OffsetSeconds whole in
-    let second = checked minutes reason.OffsetMinutes last in
-    let after_hours = (test_that_passed hours reason.OffsetHours second o h).1 in
-    let after_minutes = (test_that_passed minutes reason.OffsetMinutes last o after_hours).1 in
-    let after_all = (test_that_passed seconds reason.OffsetSeconds whole o after_minutes).1 in
-    sym (same_value (offset_of_parts m) o after_all)
+offset_by_parts m o h = grind (arith, test_that_passed, same_value)
 
 -- a value that there is has its parts
 pub value_by_parts : (m : Moment) (v : OffsetDateAndTime) → moment_value m ≡ Ok v → IsByParts m v

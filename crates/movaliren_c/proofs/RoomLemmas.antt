@@ -1,5 +1,5 @@
 -- Texts that are copied to the start of a buffer.
-use Rattle.std.proofs.Common.{◌≡◌, ℕ, ◌+◌, ◌-◌, ◌≤◌, List, ◌++◌, length, take, drop, sym, ap, ◌∙◌, length-drop, zero-add, arith}
+use Rattle.std.proofs.Common.{◌≡◌, ℕ, ◌+◌, ◌-◌, ◌≤◌, List, ◌++◌, length, take, drop, sym, ap, ◌∙◌, length-drop, arith}
 use Rattle.std.proofs.lemmas.List.{length-take-le, take-append-drop, take-take, take_rest, drop-drop}
 
 -- a text of which the first bytes were written, and then the last ones
@@ -25,12 +25,4 @@ pub ends_copied : (k : ℕ) (text old mid new : List ℕ) → k ≤ length text 
     → (let rest = length text - k in let last = take (length text - rest) (drop rest text) in drop (rest + length last) new ≡ drop (rest + length last) mid)
     → new ≡ text ++ drop (length text) old
 ends_copied k text old mid new most half start behind end after =
-    let rest = length text - k in
-    let count : 0 + length (take k text) ≡ k = zero-add (length (take k text)) ∙ length-take-le k text most in
-    let start : take k mid ≡ take k text = rw count at start in
-    let behind : drop k mid ≡ drop k old = rw count at behind in
-    let last : take (length text - rest) (drop rest text) ≡ drop rest text = take_rest text rest in
-    let whole : rest + length (drop rest text) ≡ length text = omega (arith, length-drop rest text) in
-    let end : take (length text) new ≡ take rest mid ++ drop rest text = rw (last, whole) at end in
-    let after : drop (length text) new ≡ drop (length text) mid = rw (last, whole) at after in
-    joined_ends (length text) k rest text old mid new most (omega arith) start behind end after
+    grind (arith, length-take-le, take_rest, length-drop, joined_ends)

@@ -1,11 +1,12 @@
 -- The calendar on numbers that are not negative: years and days are counted from -999999-01-01.
-use Rattle.std.proofs.Common.{◌≡◌, ℕ, zero, suc, ◌+◌, ◌-◌, ◌*◌, ◌/◌, ◌%◌, ◌<◌, ◌≤◌, Bool, refl, sym, ap, ◌∙◌, arith, ℤ}
-use Rattle.std.proofs.Common.{pos, negsuc, ◌+ℤ◌, ◌-ℤ◌, ◌*ℤ◌, unsigned_abs, to_z-of_z}
+use Rattle.std.proofs.Common.{◌≡◌, ℕ, ◌+◌, ◌-◌, ◌*◌, ◌/◌, ◌%◌, ◌<◌, ◌≤◌, refl, ap, arith, ℤ}
+use Rattle.std.proofs.Common.{pos, ◌+ℤ◌, ◌-ℤ◌, ◌*ℤ◌, unsigned_abs, to_z-of_z}
 use Rattle.std.proofs.lemmas.Int.{ints}
 use Rattle.std.specs.Int.{int_div_euclid, int_rem_euclid}
 use Rattle.time_below.specs.Calendar.{OrdinalDate, day_number, days_in_year, weekday_of, date_at, thursday_of}
 use Rattle.time_below.specs.Calendar.{days_before, greatest_year}
 use Rattle.time_below.specs.Moment.{utc_date, second_of_day, day_seconds, unix_day, seconds_before}
+use Rattle.std.proofs.lemmas.Grind.{common_steps}
 
 -- the days of n years of the calendar that begin where 400 years begin
 abbrev pub days_of_years : ℕ → ℕ
@@ -17,49 +18,20 @@ past_days p =
     pos 365 *ℤ p +ℤ int_div_euclid p (pos 4) -ℤ int_div_euclid p (pos 100) +ℤ int_div_euclid p
     (pos 400)
 
--- the days of the years that are past, moved to the start 1,000,000 years earlier
-past_days-shift : (p : ℤ) (n : ℕ) → p +ℤ pos 1_000_000 ≡ pos n
-    → past_days p +ℤ pos days_before ≡ pos (days_of_years n)
-past_days-shift (pos a) n e =
-    let h : n ≡ a + 1_000_000 = omega (arith, ints) in
-    rw h (omega (arith, ints))
-past_days-shift (negsuc a) n e =
-    let h : n + suc a ≡ 1_000_000 = omega (arith, ints) in
-    omega (arith, ints)
-
 -- the day number of a date, by the days from the start
 pub day_number_from_start : (d : OrdinalDate) (n : ℕ) → d.year +ℤ pos greatest_year ≡ pos n
     → 1 ≤ d.ordinal → day_number d +ℤ pos days_before ≡ pos (days_of_years n + d.ordinal - 1)
-day_number_from_start d n e one =
-    omega (arith, ints, past_days-shift (d.year -ℤ pos 1) n (omega (arith, ints)))
+day_number_from_start d n e one = grind (arith, ints)
 
 -- the days before the start are whole weeks
 pub weekday_from_start : (z : ℤ) (n : ℕ) → pos n ≡ z +ℤ pos days_before
     → unsigned_abs (int_rem_euclid z (pos 7)) ≡ n % 7
-weekday_from_start (pos a) n e =
-    let h : n ≡ a + days_before = omega (arith, ints) in
-    rw h (omega arith)
-weekday_from_start (negsuc a) n e =
-    let h : n + suc a ≡ days_before = omega (arith, ints) in
-    omega arith
+weekday_from_start z n h = grind (arith, common_steps, ints)
 
 -- the same where each year counts as one day, since 365 days are 52 weeks and a day
 pub weekday_by_years : (d : OrdinalDate) (n : ℕ) → d.year +ℤ pos greatest_year ≡ pos n
     → 1 ≤ d.ordinal → weekday_of d ≡ ((n + 100) * 5 / 4 - (n + 100) / 100 * 3 / 4 + d.ordinal) % 7
-weekday_by_years d n e one =
-    let there = day_number_from_start d n e one in
-    weekday_from_start (day_number d) (days_of_years n + d.ordinal - 1) (sym there) ∙ omega (arith, one)
-
--- whole cycles of 400 years and the days after them, counted from 10,000 cycles earlier
-cycle-parts : (q : ℤ) (n : ℕ) → q +ℤ pos 1_460_970_000 ≡ pos n
-    → (int_div_euclid q (pos 146_097) +ℤ pos 10_000 ≡ pos (n / 146_097))
-    × (unsigned_abs (int_rem_euclid q (pos 146_097)) ≡ n % 146_097)
-cycle-parts (pos a) n e =
-    let h : n ≡ a + 1_460_970_000 = omega (arith, ints) in
-    rw h (omega (arith, ints), omega arith)
-cycle-parts (negsuc a) n e =
-    let h : n + suc a ≡ 1_460_970_000 = omega (arith, ints) in
-    (omega (arith, ints), omega arith)
+weekday_by_years d n e one = grind (arith, common_steps, day_number_from_start, weekday_from_start)
 
 -- the whole years in n days from the start, and the days left
 abbrev pub years_at : ℕ → ℕ
@@ -78,12 +50,7 @@ same_date y x o p e f = rw (e, f) refl
 pub date_at_shifted : (z : ℤ) (n : ℕ) → z +ℤ pos days_before ≡ pos n
     → date_at z ≡ record { year = pos (years_at n) -ℤ pos greatest_year; ordinal = place_at n + 1 }
 unfolding date_at
-date_at_shifted z n e =
-    let parts = cycle-parts (pos 4 *ℤ z +ℤ pos 3) (4 * n + 3) (omega (arith, ints)) in
-    let day : 4 * (unsigned_abs (int_rem_euclid (pos 4 *ℤ z +ℤ pos 3) (pos 146_097)) / 4) + 3
-    ≡ (4 * n + 3) % 146_097 / 4 * 4 + 3 =
-    omega arith in
-    same_date _ _ _ _ (rw day (omega (arith, ints))) (rw day refl)
+date_at_shifted z n e = grind (arith, ints, same_date)
 
 -- the date of this many days from the start
 pub date_at_from_start : (n : ℕ)
@@ -97,22 +64,14 @@ date_at_from_start n = date_at_shifted (pos n -ℤ pos days_before) n (omega (ar
 -- the Thursday of the week, by the days from the start
 pub thursday_from_start : (d : OrdinalDate) (n : ℕ) → pos n ≡ day_number d +ℤ pos days_before
     → date_at (pos (n - n % 7 + 3) -ℤ pos days_before) ≡ thursday_of d
-thursday_from_start d n e =
-    let same : pos (n - n % 7 + 3) -ℤ pos days_before ≡ day_number d +ℤ pos 3 -ℤ pos (weekday_of d) =
-    omega (arith, ints, weekday_from_start (day_number d) n e) in
-    ap date_at same
+thursday_from_start d n e = grind (arith, common_steps, ints, weekday_from_start)
 
 pub ruleset thursday_facts = (thursday_from_start, to_z-of_z)
 
 -- the UTC day of a second is that of the whole days from the start
 pub utc_day : (s : ℤ) (n : ℕ) → s +ℤ pos seconds_before ≡ pos n
     → pos (n / day_seconds) -ℤ pos days_before ≡ int_div_euclid s (pos day_seconds) +ℤ pos unix_day
-utc_day (pos a) n e =
-    let h : n ≡ a + seconds_before = omega (arith, ints) in
-    omega (arith, ints)
-utc_day (negsuc a) n e =
-    let h : n + suc a ≡ seconds_before = omega (arith, ints) in
-    omega (arith, ints)
+utc_day s n h = grind (arith, common_steps, ints)
 
 -- the date of a second in UTC, counted from the first second of the range
 pub utc_date_from_start : (s : ℤ) (n : ℕ) → s +ℤ pos seconds_before ≡ pos n
@@ -122,12 +81,7 @@ utc_date_from_start s n e = ap date_at (utc_day s n e)
 -- the second of the UTC day is the rest of those days
 pub second_from_start : (s : ℤ) (n : ℕ) → s +ℤ pos seconds_before ≡ pos n
     → second_of_day s ≡ n % day_seconds
-second_from_start (pos a) n e =
-    let h : n ≡ a + seconds_before = omega (arith, ints) in
-    rw h (omega arith)
-second_from_start (negsuc a) n e =
-    let h : n + suc a ≡ seconds_before = omega (arith, ints) in
-    omega arith
+second_from_start s n h = grind (arith, common_steps, ints)
 
 -- no year has more than 366 days
 pub days_below : (y : ℤ) → days_in_year y ≤ 366
@@ -135,8 +89,7 @@ days_below y = grind arith
 
 -- a remainder by seven is below seven
 below_seven : (z : ℤ) → unsigned_abs (int_rem_euclid z (pos 7)) < 7
-below_seven (pos a) = omega arith
-below_seven (negsuc a) = omega arith
+below_seven z = grind (arith, common_steps)
 
 -- a weekday is one of seven
 pub weekday_below : (d : OrdinalDate) → weekday_of d < 7

@@ -1,6 +1,6 @@
 -- The UTC date and time of a moment, and its milliseconds.
-use Rattle.std.proofs.Common.{◌≡◌, ℕ, ◌+◌, ◌*◌, ◌/◌, ◌%◌, ◌<◌, refl, sym, ap, ◌∙◌, arith, ℤ, pos, negsuc, ◌+ℤ◌, ◌-ℤ◌}
-use Rattle.std.proofs.Common.{◌*ℤ◌, unsigned_abs}
+use Rattle.std.proofs.Common.{◌≡◌, ℕ, ◌+◌, ◌*◌, ◌/◌, ◌%◌, ◌<◌, refl, ap, ◌∙◌, arith, ℤ, pos, ◌+ℤ◌, ◌-ℤ◌, ◌*ℤ◌}
+use Rattle.std.proofs.Common.{unsigned_abs, rules}
 use Rattle.std.proofs.lemmas.Int.{ints}
 use Rattle.std.specs.Int.{int_div_euclid}
 use Rattle.time_below.specs.Calendar.{OrdinalDate, IsDate, IsDayNumber, day_number, date_at, days_before, days_in_all}
@@ -8,24 +8,19 @@ use Rattle.time_below.specs.TimeOfDay.{TimeOfDay, IsTimeOfDay, seconds_from_midn
 use Rattle.time_below.specs.Offset.{Offset, AreOffsetParts, IsOffset, offset_seconds}
 use Rattle.time_below.specs.Moment.{Moment, DateAndTime, OffsetDateAndTime, IsMoment, IsTimestampSecond}
 use Rattle.time_below.specs.Moment.{IsNearTimestampSecond, unix_seconds, local_unix_seconds, utc_date, utc_time}
-use Rattle.time_below.specs.Moment.{utc_date_and_time, second_of_day, day_seconds, unix_day, seconds_before}
-use Rattle.time_below.specs.Moment.{seconds_in_all, moved, local_at}
+use Rattle.time_below.specs.Moment.{utc_date_and_time, second_of_day, day_seconds, unix_day, seconds_before, moved}
+use Rattle.time_below.specs.Moment.{local_at}
 use Rattle.time_below.proofs.CalendarLemmas.{utc_day, second_from_start}
 use Rattle.time_below.proofs.YearLemmas.{IsDayNumber-day_number, IsDate-date_at, date_at-day_number, day_number_back}
 use Rattle.time_below.proofs.YearLemmas.{days_from_start, days_before_end, is_day_number}
+use Rattle.std.proofs.lemmas.Grind.{common_steps}
 
 -- the seconds from -999999-01-01
 
 -- a second of a timestamp is not before the start
 seconds_from_start : (s : ℤ) → IsTimestampSecond s
     → s +ℤ pos seconds_before ≡ pos (unsigned_abs (s +ℤ pos seconds_before))
-seconds_from_start (pos a) h = refl
-seconds_from_start (negsuc a) h = omega (arith, ints)
-
--- no second of the range is after its end
-seconds_before_end : (s : ℤ) (n : ℕ) → IsTimestampSecond s → s +ℤ pos seconds_before ≡ pos n
-    → n < seconds_in_all
-seconds_before_end s n h e = omega (arith, ints)
+seconds_from_start s h = grind (arith, common_steps, ints)
 
 -- the day number of a second
 abbrev day_of_second : ℤ → ℤ
@@ -37,31 +32,19 @@ day_shifted z n e = omega (arith, ints)
 
 -- the day of a second is one of the calendar
 day_within : (s : ℤ) → IsTimestampSecond s → IsDayNumber (day_of_second s)
-day_within s h =
-    let n = unsigned_abs (s +ℤ pos seconds_before) in
-    let e = seconds_from_start s h in
-    is_day_number (day_of_second s) (n / day_seconds) (day_shifted _ (n / day_seconds) (utc_day s n e))
-    (omega (arith, seconds_before_end s n h e))
+day_within s h = grind (arith, seconds_from_start, is_day_number, day_shifted, utc_day, ints)
 
 -- the UTC date of a moment is one of the calendar
 pub IsDate-utc_date : (m : Moment) → IsMoment m → IsDate (utc_date m.seconds)
 IsDate-utc_date m h = IsDate-date_at (day_of_second m.seconds) (day_within m.seconds h.0)
 
--- a second of a day is a time of day
-time_within : (passed nanosecond : ℕ) → passed < day_seconds → nanosecond < 1_000_000_000
-    → IsTimeOfDay (time_at passed nanosecond)
-time_within passed nanosecond h k = (omega arith, omega arith, omega arith, k)
-
 -- a second lies in its day
 second_within : (s : ℤ) → IsTimestampSecond s → second_of_day s < day_seconds
-second_within s h =
-    let n = unsigned_abs (s +ℤ pos seconds_before) in
-    omega (arith, second_from_start s n (seconds_from_start s h))
+second_within s h = grind (arith, second_from_start, seconds_from_start)
 
 -- the UTC time of a moment is a time of day
 pub IsTimeOfDay-utc_time : (m : Moment) → IsMoment m → IsTimeOfDay (utc_time m)
-IsTimeOfDay-utc_time m h =
-    time_within (second_of_day m.seconds) m.nanosecond (second_within m.seconds h.0) h.1
+IsTimeOfDay-utc_time m h = grind (arith, second_within)
 
 -- the seconds from midnight to the time this many seconds after it
 seconds_of_time_at : (passed nanosecond : ℕ)
@@ -102,8 +85,7 @@ equal_parts_make_equal_times h a m b s c n hours minutes seconds = rw (hours, mi
 -- a time is the one this many seconds after midnight
 time_at-seconds_from_midnight : (t : TimeOfDay) → IsTimeOfDay t
     → time_at (seconds_from_midnight t) t.nanosecond ≡ t
-time_at-seconds_from_midnight t h =
-    equal_parts_make_equal_times _ t.hour _ t.minute _ t.second t.nanosecond (omega arith) (omega arith) (omega arith)
+time_at-seconds_from_midnight t h = grind (arith, equal_parts_make_equal_times)
 
 -- a time of day ends within its day
 within_day : (t : TimeOfDay) → IsTimeOfDay t → seconds_from_midnight t < day_seconds
@@ -163,15 +145,7 @@ same_date_and_time d e t u same alike = rw (same, alike) refl
 -- the UTC date and time of a moment are the only ones that have its seconds
 pub only_utc : (m : Moment) (t : DateAndTime) → IsDate t.date → IsTimeOfDay t.time
     → unix_seconds t ≡ m.seconds → t.time.nanosecond ≡ m.nanosecond → t ≡ utc_date_and_time m
-only_utc m t h r seconds nanosecond =
-    let back = day_back t h r in
-    let date = sym (ap utc_date seconds) ∙ back.0 in
-    let passed = sym (ap second_of_day seconds) ∙ back.1 in
-    let time =
-    ap (λ p. time_at p m.nanosecond) passed
-    ∙ ap (time_at (seconds_from_midnight t.time)) (sym nanosecond)
-    ∙ time_at-seconds_from_midnight t.time r in
-    sym (same_date_and_time (utc_date m.seconds) t.date (utc_time m) t.time date time)
+only_utc m t h r seconds nanosecond = grind (arith, day_back, time_at-seconds_from_midnight, same_date_and_time)
 
 -- a local date and time
 
@@ -188,9 +162,7 @@ near_timestamp_second s o h k = (omega (arith, ints), omega (arith, ints))
 pub IsNearTimestampSecond-local_unix_seconds : (t : OffsetDateAndTime) → IsDate t.date
     → IsTimeOfDay t.time → IsOffset t.offset → IsNearTimestampSecond (local_unix_seconds t)
 IsNearTimestampSecond-local_unix_seconds t h r o =
-    let same : DateAndTime = record { date = t.date; time = t.time } in
-    near_timestamp_second (unix_seconds same) (offset_seconds t.offset) (IsTimestampSecond-unix_seconds same h r)
-    (offset_within t.offset o.0)
+    search (rules, arith, common_steps, near_timestamp_second, IsTimestampSecond-unix_seconds, offset_within)
 
 -- the seconds by clocks, less how far they are ahead
 less_offset : (all s e : ℤ) → all ≡ s +ℤ e → all -ℤ e ≡ s

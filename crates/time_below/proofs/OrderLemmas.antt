@@ -1,6 +1,5 @@
 -- The order of dates and times: by their parts, as by their seconds and nanoseconds.
-use Rattle.std.proofs.Common.{◌≡◌, ℕ, zero, suc, ◌+◌, ◌-◌, ◌*◌, ◌<◌, ◌≤◌, ◌⊎◌, Bool, refl, sym, ap, ap₂, subst, ◌∙◌}
-use Rattle.std.proofs.Common.{arith, ⊎_elim, inl, inr}
+use Rattle.std.proofs.Common.{◌≡◌, ℕ, suc, ◌+◌, ◌-◌, ◌*◌, ◌<◌, ◌≤◌, ◌⊎◌, Bool, refl, sym, ap, subst, ◌∙◌, arith}
 use Rattle.std.proofs.Common.{ℤ, pos, ◌+ℤ◌, ◌<ℤ◌, unsigned_abs}
 use Rattle.std.specs.Prelude.{◌↔◌}
 use Rattle.std.proofs.lemmas.Int.{ints}
@@ -15,20 +14,17 @@ use Rattle.time_below.specs.Moment.{DateAndTime, unix_seconds}
 use Rattle.time_below.specs.TimeOfDay.{IsTimeOfDay, seconds_from_midnight}
 use Rattle.time_below.proofs.CalendarLemmas.{days_of_years, day_number_from_start}
 use Rattle.time_below.proofs.MonthLemmas.{months_grow, month_of_date, day_of_date, date_of-month_and_day}
+use Rattle.std.proofs.lemmas.Grind.{common_steps}
 
 -- ---- two numbers
 
 -- the order of joins does not matter for three comparisons
 pub then_assoc : (o p q : Ordering) → ordering_then (ordering_then o p) q ≡ ordering_then o (ordering_then p q)
-then_assoc Less p q = refl
-then_assoc Equal p q = refl
-then_assoc Greater p q = refl
+then_assoc o p q = grind (arith, common_steps)
 
 -- a comparison that an equal one follows is itself
 pub then_equal : (o : Ordering) → ordering_then o Equal ≡ o
-then_equal Less = refl
-then_equal Equal = refl
-then_equal Greater = refl
+then_equal o = grind (arith, common_steps)
 
 -- a lesser number compares as less
 pub cmp_less : (a b : ℕ) → a < b → nat_cmp a b ≡ Less
@@ -50,10 +46,7 @@ pub data Trichotomy (a b : ℕ) : Type 0 where
 
 -- any two numbers are less, equal or greater
 pub trichotomy : (a b : ℕ) → Trichotomy a b
-trichotomy a b =
-    ⊎_elim (λ (h : a < b). less h)
-    (λ (h : b ≤ a). ⊎_elim (λ (k : b < a). greater k) (λ (k : a ≤ b). equal (omega arith)) (cases_lt b a))
-    (cases_lt a b)
+trichotomy a b = grind (arith, cases_lt)
 
 -- the first pair decides, and then the second, as one pair of numbers made of both does
 pub record IsJoined (a b p q m n : ℕ) : Type 0 where
@@ -66,23 +59,12 @@ pub record IsJoined (a b p q m n : ℕ) : Type 0 where
 -- two pairs compare as the numbers that they join to
 pub joined_cmp : (a b p q m n : ℕ) (rest : Ordering) → IsJoined a b p q m n
     → ordering_then (nat_cmp a b) (ordering_then (nat_cmp p q) rest) ≡ ordering_then (nat_cmp m n) rest
-joined_cmp a b p q m n rest j = by (trichotomy a b) (trichotomy p q) where
-  by : Trichotomy a b → Trichotomy p q → ordering_then (nat_cmp a b) (ordering_then (nat_cmp p q) rest)
-      ≡ ordering_then (nat_cmp m n) rest
-  by (less h) k = rw (cmp_less a b h, cmp_less m n (j.first_less h)) refl
-  by (greater h) k = rw (cmp_greater a b h, cmp_greater m n (j.first_greater h)) refl
-  by (equal h) (less k) = rw (cmp_equal a b h, cmp_less p q k, cmp_less m n (j.less h k)) refl
-  by (equal h) (equal k) = rw (cmp_equal a b h, cmp_equal p q k, cmp_equal m n (j.equal h k)) refl
-  by (equal h) (greater k) = rw (cmp_equal a b h, cmp_greater p q k, cmp_greater m n (j.greater h k)) refl
+joined_cmp a b p q m n rest j = grind (arith, common_steps, trichotomy, cmp_less, cmp_greater, cmp_equal)
 
 -- what follows a pair matters where the pair is equal
 pub then_where_equal : (a b : ℕ) (x y : Ordering) → (a ≡ b → x ≡ y)
     → ordering_then (nat_cmp a b) x ≡ ordering_then (nat_cmp a b) y
-then_where_equal a b x y h = by (trichotomy a b) where
-  by : Trichotomy a b → ordering_then (nat_cmp a b) x ≡ ordering_then (nat_cmp a b) y
-  by (less k) = rw (cmp_less a b k) refl
-  by (greater k) = rw (cmp_greater a b k) refl
-  by (equal k) = ap (ordering_then (nat_cmp a b)) (h k)
+then_where_equal a b x y h = grind (arith, common_steps, trichotomy, cmp_less, cmp_greater)
 
 -- ---- days, hours and seconds
 
@@ -90,8 +72,7 @@ then_where_equal a b x y h = by (trichotomy a b) where
 months_more : (is_leap : Bool) (m : ℕ) → 1 ≤ m
     → days_of_months is_leap m ≡ days_of_months is_leap (m - 1) + days_in_month is_leap m
 unfolding days_of_months
-months_more is_leap zero h = absurd (omega arith)
-months_more is_leap (suc m) h = let e : suc m - 1 ≡ m = omega arith in rw e refl
+months_more is_leap m h = grind (arith, common_steps)
 
 -- a later month has later days
 month_later : (is_leap : Bool) (m n d e : ℕ) → 1 ≤ m → m < n → d ≤ days_in_month is_leap m → 1 ≤ e
@@ -231,18 +212,7 @@ ordinals_cmp : (v w : DateAndTime) → IsFromYearZero v → IsFromYearZero w →
     → ordering_then (nat_cmp (month_of v.date) (month_of w.date))
     (ordering_then (nat_cmp (day_of v.date) (day_of w.date)) rest)
     ≡ ordering_then (nat_cmp v.date.ordinal w.date.ordinal) rest
-ordinals_cmp v w h k rest e =
-    let vm = month_of_date v.date h.date in
-    let wm = month_of_date w.date k.date in
-    let vd = day_of_date v.date h.date in
-    let wd = day_of_date w.date k.date in
-    let years : v.date.year ≡ w.date.year = h.year ∙ ap pos e ∙ sym k.year in
-    let leap : is_leap_year w.date.year ≡ is_leap_year v.date.year = ap is_leap_year (sym years) in
-    let P : Bool → Type 0 = λ b. day_of w.date ≤ days_in_month b (month_of w.date) in
-    let Q : Bool → Type 0 = λ b. w.date.ordinal ≡ days_of_months b (month_of w.date - 1) + day_of w.date in
-    ordinal_cmp (is_leap_year v.date.year) (month_of v.date) (month_of w.date) (day_of v.date)
-    (day_of w.date) rest vm.0 wm.0 vd.0 wd.0 vd.1 (subst P leap wd.1)
-    ∙ ap₂ (λ i j. ordering_then (nat_cmp i j) rest) (sym (ordinal_is v h)) (sym (subst Q leap (ordinal_is w k)))
+ordinals_cmp v w h k rest e = grind (arith, month_of_date, day_of_date, ordinal_cmp, ordinal_is)
 
 -- the parts compare as the seconds, and then the nanoseconds
 parts_total : (v w : DateAndTime) → IsFromYearZero v → IsFromYearZero w
@@ -271,8 +241,7 @@ IsPairLess a b m n = (a < b) ⊎ ((a ≡ b) × (m < n))
 
 -- what is not less in the first number, nor in the second where the first are equal, is not less
 not_pair_less : (a b m n : ℕ) → b ≤ a → (a ≡ b → n ≤ m) → IsPairLess a b m n → ⊥
-not_pair_less a b m n first second h =
-    ⊎_elim (λ (l : a < b). omega arith) (λ (l : (a ≡ b) × (m < n)). let k = second l.0 in omega (arith, l.1)) h
+not_pair_less a b m n first second h = omega arith
 
 -- greater is not less
 greater_not : Greater ≡ Less → ⊥
@@ -288,22 +257,8 @@ pair_cmp a b m n = ordering_then (nat_cmp a b) (ordering_then (nat_cmp m n) Equa
 
 -- two pairs of numbers compare as less exactly if the first pair is less
 pair_less : (a b m n : ℕ) → pair_cmp a b m n ≡ Less ↔ IsPairLess a b m n
-pair_less a b m n = by (trichotomy a b) (trichotomy m n) where
-  by : Trichotomy a b → Trichotomy m n → pair_cmp a b m n ≡ Less ↔ IsPairLess a b m n
-  by (less h) k = (λ e. inl h, λ p. rw (cmp_less a b h) refl)
-  by (greater h) k = (
-    λ e. absurd (greater_not (rw (cmp_greater a b h) at e)),
-    λ p. absurd (not_pair_less a b m n (omega arith) (λ s. omega arith) p),
-  )
-  by (equal h) (less k) = (λ e. inr (h, k), λ p. rw (cmp_equal a b h, cmp_less m n k) refl)
-  by (equal h) (equal k) = (
-    λ e. absurd (equal_not (rw (cmp_equal a b h, cmp_equal m n k) at e)),
-    λ p. absurd (not_pair_less a b m n (omega arith) (λ s. omega arith) p),
-  )
-  by (equal h) (greater k) = (
-    λ e. absurd (greater_not (rw (cmp_equal a b h, cmp_greater m n k) at e)),
-    λ p. absurd (not_pair_less a b m n (omega arith) (λ s. omega arith) p),
-  )
+pair_less a b m n =
+    grind (arith, common_steps, trichotomy, cmp_less, greater_not, cmp_greater, not_pair_less, cmp_equal, equal_not)
 
 -- the seconds of a moment, counted from -999999-01-01
 seconds_from_start : (v : DateAndTime) → IsFromYearZero v
@@ -316,12 +271,7 @@ seconds_from_start v h =
 -- moments keep their order when they are counted from another start
 moment_order : (m n : ℕ) (y z : ℤ) (a b c : ℕ) → y +ℤ pos c ≡ pos a → z +ℤ pos c ≡ pos b
     → IsPairLess a b m n ↔ ((y <ℤ z) ⊎ ((y ≡ z) × (m < n)))
-moment_order m n y z a b c e f = (
-  λ h. ⊎_elim (λ (l : a < b). inl (omega (arith, ints)))
-      (λ (l : (a ≡ b) × (m < n)). inr (omega (arith, ints), l.1)) h,
-  λ h. ⊎_elim (λ (l : y <ℤ z). inl (omega (arith, ints)))
-      (λ (l : (y ≡ z) × (m < n)). inr (omega (arith, ints), l.1)) h,
-)
+moment_order m n y z a b c e f = grind (arith, ints)
 
 -- dates and times are in the order of their seconds, and then of their nanoseconds
 pub date_and_time_order : (v w : DateAndTime) → IsFromYearZero v → IsFromYearZero w

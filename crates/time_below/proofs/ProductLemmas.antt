@@ -1,7 +1,8 @@
 -- The month of a day of the year by one product, by computing each day.
-use Rattle.std.proofs.Common.{◌≡◌, ℕ, ◌+◌, ◌-◌, ◌*◌, ◌/◌, ◌%◌, ◌<◌, ◌≤◌, Bool, true, false, if◌then◌else◌, refl, arith}
+use Rattle.std.proofs.Common.{◌≡◌, ℕ, ◌+◌, ◌-◌, ◌*◌, ◌/◌, ◌%◌, ◌<◌, ◌≤◌, Bool, true, false, if◌then◌else◌, arith}
 use Rattle.time_below.specs.Calendar.{days_of_months, last_begun}
 use Rattle.time_below.proofs.MonthLemmas.{same_below, day_in_month, month_length}
+use Rattle.std.proofs.lemmas.Grind.{common_steps}
 
 -- the month of the days from its first, from 1 January or from 1 March
 abbrev pub month_by_product : ℕ → ℕ
@@ -15,44 +16,32 @@ days_by_product month = (month * 3917 - 3866) / 128
 late_month : (is_leap : Bool) (days : ℕ) → days < 307
     → last_begun is_leap 12 (days + (if is_leap then 60 else 59)) ≡ month_by_product days + 2
 unfolding last_begun days_of_months
-late_month true days h =
-    same_below (λ d. last_begun true 12 (d + 60)) (λ d. month_by_product d + 2) 307 refl days h
-late_month false days h =
-    same_below (λ d. last_begun false 12 (d + 59)) (λ d. month_by_product d + 2) 307 refl days h
+late_month true days h = grind (arith, common_steps, same_below)
+late_month false days h = grind (arith, common_steps, same_below)
 
 -- the product finds January and February
 pub early_month : (is_leap : Bool) (days : ℕ) → days < (if is_leap then 61 else 60)
     → last_begun is_leap 12 days ≡ month_by_product days
 unfolding last_begun days_of_months
-early_month true days h = same_below (last_begun true 12) month_by_product 61 refl days h
-early_month false days h = same_below (last_begun false 12) month_by_product 60 refl days h
+early_month is_leap days h = grind (arith, common_steps, same_below)
 
 -- the product finds the days before a month from March on
 late_days : (is_leap : Bool) (month : ℕ) → month < 10
     → days_of_months is_leap (month + 2) ≡ (if is_leap then 60 else 59) + days_by_product (month + 1)
 unfolding days_of_months
-late_days true month h =
-    same_below (λ m. days_of_months true (m + 2)) (λ m. 60 + days_by_product (m + 1)) 10 refl month h
-late_days false month h =
-    same_below (λ m. days_of_months false (m + 2)) (λ m. 59 + days_by_product (m + 1)) 10 refl month h
+late_days is_leap month h = grind (arith, common_steps, same_below)
 
 -- the product finds the days before January and February
 pub early_days : (is_leap : Bool) (month : ℕ) → month < 2
     → days_of_months is_leap month ≡ days_by_product (month + 1)
 unfolding days_of_months
-early_days true month h = same_below (days_of_months true) (λ m. days_by_product (m + 1)) 2 refl month h
-early_days false month h = same_below (days_of_months false) (λ m. days_by_product (m + 1)) 2 refl month h
+early_days is_leap month h = grind (arith, common_steps, same_below)
 
 -- the product finds the month of a day of the year from March on
 pub late_begun : (is_leap : Bool) (ordinal : ℕ) → (if is_leap then 60 else 59) < ordinal
     → ordinal ≤ (if is_leap then 366 else 365)
     → last_begun is_leap 12 ordinal ≡ month_by_product (ordinal - (if is_leap then 60 else 59)) + 2
-late_begun true ordinal after within =
-    let e : ordinal - 60 + 60 ≡ ordinal = omega arith in
-    rw e at (late_month true (ordinal - 60) (omega arith))
-late_begun false ordinal after within =
-    let e : ordinal - 59 + 59 ≡ ordinal = omega arith in
-    rw e at (late_month false (ordinal - 59) (omega arith))
+late_begun is_leap ordinal h k = grind (arith, common_steps, late_month)
 
 -- the days before a month from March on, the month counted from January
 pub late_passed : (is_leap : Bool) (month : ℕ) → 1 ≤ month → month ≤ 10
@@ -66,6 +55,4 @@ pub ruleset month_facts = (late_begun, early_month, late_passed, early_days, day
 
 -- the first three bits of the product are the rest by seven
 pub rest_facts : (n : ℕ) → n < 100_000_000 → n * 613_566_757 % 4_294_967_296 / 536_870_912 ≡ n % 7
-rest_facts n h =
-    let split : n ≡ 7 * (n / 7) + n % 7 = omega arith in
-    omega arith
+rest_facts n h = omega arith

@@ -2,8 +2,8 @@
 use Rattle.std.proofs.Common.{◌≡◌, ℕ, zero, suc, ◌+◌, ◌-◌, ◌/◌, ◌%◌, ◌≤◌, ◌==◌, if◌then◌else◌, sym, ap, ap₂, ◌∙◌, arith}
 use Rattle.std.proofs.Common.{ℤ, pos, ◌+ℤ◌, unsigned_abs}
 use Rattle.std.proofs.lemmas.Bool.Decides.{nat_tests}
-use Rattle.time_below.specs.Calendar.{OrdinalDate, IsDate, IsYear, day_number, weekday_of, days_of_name}
-use Rattle.time_below.specs.Calendar.{monday_based_week_of, sunday_based_week_of, from_sunday, greatest_year}
+use Rattle.time_below.specs.Calendar.{OrdinalDate, IsDate, IsYear, weekday_of, days_of_name, monday_based_week_of}
+use Rattle.time_below.specs.Calendar.{sunday_based_week_of, from_sunday, greatest_year}
 use Rattle.time_below.proofs.CalendarLemmas.{days_of_years, day_number_from_start, weekday_from_start}
 use Rattle.time_below.proofs.YearLemmas.{years_from_start}
 
@@ -32,15 +32,11 @@ start_of y = days_of_years (unsigned_abs (y +ℤ pos greatest_year))
 -- the weekday of a day of a year
 weekday_in_year : (d : OrdinalDate) → IsYear d.year → 1 ≤ d.ordinal
     → weekday_of d ≡ (start_of d.year + d.ordinal - 1) % 7
-weekday_in_year d year one =
-    let there = day_number_from_start d (unsigned_abs (d.year +ℤ pos greatest_year)) (years_from_start d.year year) one
-    in
-    weekday_from_start (day_number d) (start_of d.year + d.ordinal - 1) (sym there)
+weekday_in_year d year one = grind (arith, day_number_from_start, years_from_start, weekday_from_start)
 
 -- the weekday of the day after the first n days of a year
 weekday_after : (y : ℤ) → IsYear y → (n : ℕ) → weekday_of (record { year = y; ordinal = suc n }) ≡ (start_of y + n) % 7
-weekday_after y year n = weekday_in_year (record { year = y; ordinal = suc n }) year (omega arith)
-    ∙ ap (λ k. k % 7) (omega arith)
+weekday_after y year n = omega (arith, weekday_in_year)
 
 -- a Sunday is at place 6 of a week from Monday, and at place 0 of one from Sunday
 sunday_is_first : (place n : ℕ) → ((place + n) % 7 == 6) ≡ ((place + 1 + n) % 7 == 0)
@@ -52,13 +48,7 @@ week_before k one = omega arith
 
 -- the weeks that begin on Monday count the Mondays
 pub mondays_counted : (d : OrdinalDate) → IsDate d → monday_based_week_of d ≡ days_of_name 0 d.year d.ordinal
-mondays_counted d h =
-    let place = start_of d.year in
-    let count = days_of_name_counted 0 d.year place (λ n. ap (λ k. k == 0) (weekday_after d.year h.0 n)) d.ordinal in
-    let day = weekday_in_year d h.0 h.1.0 in
-    let same : weekday_of d ≡ (place + d.ordinal + 6) % 7 = day
-    ∙ week_before (place + d.ordinal) (omega (arith, h.1.0)) in
-    ap (λ k. (d.ordinal + 6 - k) / 7) same ∙ sym count
+mondays_counted d h = grind (arith, days_of_name_counted, weekday_after, weekday_in_year, week_before)
 
 -- the weeks that begin on Sunday count the Sundays
 pub sundays_counted : (d : OrdinalDate) → IsDate d → sunday_based_week_of d ≡ days_of_name 6 d.year d.ordinal

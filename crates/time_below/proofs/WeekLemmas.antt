@@ -1,5 +1,6 @@
 -- The Thursday of each week, and the one date of a day of the week calendar.
 use Rattle.std.proofs.Common.{◌≡◌, ℕ, ◌+◌, ◌-◌, ◌/◌, ◌%◌, ◌≤◌, sym, ap, ◌∙◌, arith, ℤ, pos, ◌+ℤ◌, ◌-ℤ◌, unsigned_abs}
+use Rattle.std.proofs.Common.{rules}
 use Rattle.std.proofs.lemmas.Int.{ints}
 use Rattle.std.specs.Int.{IsInRange, int_rem_euclid}
 use Rattle.time_below.specs.Calendar.{OrdinalDate, IsDate, IsYear, IsDayNumber, day_number, weekday_of, thursday_of}
@@ -7,6 +8,7 @@ use Rattle.time_below.specs.Calendar.{iso_year_of, iso_week_of, days_before, gre
 use Rattle.time_below.proofs.CalendarLemmas.{days_of_years, day_number_from_start, weekday_from_start}
 use Rattle.time_below.proofs.YearLemmas.{years_from_start, days_from_start, days_before_end, is_day_number}
 use Rattle.time_below.proofs.YearLemmas.{IsDayNumber-day_number, IsDate-date_at, day_number_back, same_day_number}
+use Rattle.std.proofs.lemmas.Grind.{common_steps}
 
 -- the day number of the Thursday in the week of a day
 abbrev thursday_number : ℤ → ℤ
@@ -19,17 +21,11 @@ thursday_shifted z n e = omega (arith, ints, weekday_from_start z n (sym e))
 
 -- the Thursday of the first week and that of the last are in range
 thursday_within : (z : ℤ) → IsDayNumber z → IsDayNumber (thursday_number z)
-thursday_within z h =
-    let n = unsigned_abs (z +ℤ pos days_before) in
-    let e = days_from_start z h in
-    is_day_number (thursday_number z) (n - n % 7 + 3) (thursday_shifted z n e)
-    (omega (arith, days_before_end z n h e))
+thursday_within z h = grind (arith, days_from_start, is_day_number, thursday_shifted, days_before_end)
 
 -- the Thursday of the week of a date is one of the calendar
 IsDate-thursday_of : (d : OrdinalDate) → IsDate d → IsDate (thursday_of d)
-IsDate-thursday_of d h =
-    IsDate-date_at (thursday_number (day_number d))
-    (thursday_within (day_number d) (IsDayNumber-day_number d h))
+IsDate-thursday_of d h = search (rules, arith, common_steps, IsDate-date_at, thursday_within, IsDayNumber-day_number)
 
 -- the year of the week calendar is one of the calendar
 pub iso_year_of_date : (d : OrdinalDate) → IsDate d → IsYear (iso_year_of d)

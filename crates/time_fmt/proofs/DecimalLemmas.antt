@@ -1,6 +1,6 @@
 -- The first decimals of the second are the digits of a smaller number.
-use Rattle.std.proofs.Common.{◌≡◌, ℕ, ◌+◌, ◌-◌, ◌*◌, ◌/◌, ◌%◌, ◌^◌, ◌<◌, ◌≤◌, List, ◌++◌, length, take, drop, decimal}
-use Rattle.std.proofs.Common.{sym, ap, ◌∙◌, refl, arith, length-append, append_assoc}
+use Rattle.std.proofs.Common.{◌≡◌, ℕ, ◌+◌, ◌*◌, ◌/◌, ◌%◌, ◌^◌, ◌<◌, ◌≤◌, List, ◌++◌, length, take, decimal}
+use Rattle.std.proofs.Common.{sym, ap, ◌∙◌, arith, length-append, append_assoc}
 use Rattle.std.proofs.lemmas.List.{take-append-le, take_all}
 use Rattle.std.proofs.Math.ListN.{length-take}
 use Rattle.time_below.specs.declared.format_description.modifier.SubsecondDigits.{SubsecondDigits}
@@ -20,8 +20,7 @@ take_front xs ys k h = let le : k ≤ length xs = omega arith in take-append-le 
 
 -- the first j of j + k digits
 pub take-fixed : (j k n : ℕ) → take j (fixed (j + k) n) ≡ fixed j (n / 10 ^ k)
-take-fixed j k n = rw (fixed-append j k n)
-    (take_front (fixed j (n / 10 ^ k)) (fixed k n) j (length-fixed j (n / 10 ^ k)))
+take-fixed j k n = grind (arith, fixed-append, take_front, length-fixed)
 
 -- they are j
 pub length-first : (j k n : ℕ) → length (take j (fixed (j + k) n)) ≡ j

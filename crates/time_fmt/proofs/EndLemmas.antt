@@ -1,6 +1,6 @@
 -- How a text of the engine ends: by the text or the refusal of a component, and as the answer of a public call.
-use Rattle.std.proofs.Common.{◌≡◌, refl, sym, subst, arith, ℕ, ◌-◌, ◌≤◌, true, false, List, length}
-use Rattle.std.proofs.Common.{Option, IsSomeAnd, Result, Ok, Err, Vec, vec_len}
+use Rattle.std.proofs.Common.{◌≡◌, arith, ℕ, ◌-◌, ◌≤◌, true, false, List, length}
+use Rattle.std.proofs.Common.{Result, Ok, Err, Vec, vec_len}
 use Rattle.std.proofs.lemmas.List.{append-nil}
 use Rattle.std.specs.Global.{Global}
 use Rattle.std.specs.Prelude.{nat_le}
@@ -9,44 +9,24 @@ use Rattle.time_fmt.specs.declared.refused.Refused.{Refused}
 use Rattle.time_fmt.specs.declared.refused.Refused.TheVariants as reason
 use Rattle.time_fmt.specs.Ends.{Ends, refusal_of}
 use Rattle.time_fmt.specs.Kind.{in_standard_range}
-use Rattle.time_fmt.specs.Outcome.{Outcome, Refusal, Names, Appends, done, refused}
+use Rattle.time_fmt.specs.Outcome.{Outcome, Names, Appends, done, refused}
 use Rattle.time_fmt.specs.Sink.{Buffer, Puts, vec_buffer}
+use Rattle.std.proofs.lemmas.Grind.{common_steps}
 
 -- what ends within a width ends within a greater one
 pub ends_within : {width greatest : ℕ} {answer : Result Unit Refused} {o : Outcome} {old new : Buffer}
     → Ends width old new answer o → width ≤ greatest → Ends greatest old new answer o
-ends_within ends fits = record {
-  appended = ends.appended;
-  refusal = ends.refusal;
-  grown = ends.grown;
-  capacity = ends.capacity;
-  lender = ends.lender;
-  within = omega (arith, ends.within, fits);
-}
+ends_within ends fits = grind arith
 
 -- a text that was written ends complete
 pub whole_text : {width n : ℕ} {text : List ℕ} {old new : Buffer} → Puts old new n text → length text ≤ width
     → Ends width old new (Ok tt) (done text)
-whole_text w h = record {
-  appended = w.appended;
-  refusal = refl;
-  grown = w.grown;
-  capacity = w.capacity;
-  lender = w.lender;
-  within = omega (arith, w.grown, h);
-}
+whole_text w h = grind arith
 
 -- what is refused has no bytes
 pub ends_refused : {width : ℕ} (output : Buffer) (r : Refused)
     → Ends width output output (Err r) (refused (refusal_of r))
-ends_refused output r = record {
-  appended = sym (append-nil output.bytes);
-  refusal = refl;
-  grown = omega arith;
-  capacity = refl;
-  lender = refl;
-  within = omega arith;
-}
+ends_refused output r = grind (arith, append-nil)
 
 -- a year or a century in the standard range is written
 pub in_range : {width count : ℕ} (greatest n : ℕ) (text : List ℕ) {old new : Buffer} → n ≤ greatest
@@ -58,31 +38,18 @@ in_range greatest n text below w h = let is : nat_le n greatest ≡ true = grind
 pub beyond_range : {width : ℕ} (greatest n : ℕ) (text : List ℕ) (output : Buffer)
     → (n ≤ greatest → false ≡ true)
     → Ends width output output (Err reason.YearOutOfRange) (in_standard_range greatest n text)
-beyond_range greatest n text output never =
-    let not : nat_le n greatest ≡ false = grind (arith, never) in rw not (ends_refused output reason.YearOutOfRange)
+beyond_range greatest n text output never = grind (arith, common_steps, ends_refused)
 
 -- ---- what a public call answers
 
 -- a text without a refusal is answered by its number of bytes
 pub complete : {width : ℕ} {o : Outcome} {u : Unit} (old new : Vec ℕ Global)
     → Ends width (vec_buffer old) (vec_buffer new) (Ok u) o → Appends old new (Ok (vec_len new - vec_len old)) o
-complete old new ends = record {
-  appended = ends.appended;
-  counted = (sym ends.refusal, omega (arith, ends.grown));
-  named = tt;
-  grown = ends.grown;
-  capacity = ends.capacity;
-}
+complete old new ends = grind arith
 
 -- one with a refusal by the error of that name
 pub stopped : {width : ℕ} {o : Outcome} {reason : Refused} (error : Format) (old new : Vec ℕ Global)
     → Ends width (vec_buffer old) (vec_buffer new) (Err reason) o → Names error (refusal_of reason) → Appends old new (Err error) o
-stopped error old new ends names = record {
-  appended = ends.appended;
-  counted = tt;
-  named = subst (λ (r : Option Refusal). IsSomeAnd r (Names error)) ends.refusal names;
-  grown = ends.grown;
-  capacity = ends.capacity;
-}
+stopped error old new ends names = grind arith
 
 pub ruleset answered = (complete, stopped)

@@ -1,20 +1,20 @@
 -- Nodes one after another: what is written so far, and then the outcome of what is left, is the outcome of all.
-use Rattle.std.proofs.Common.{◌≡◌, refl, ap, sym, ◌∙◌, arith, ℕ, ◌+◌, ◌≤◌, ◌++◌, List, [], ◌∷◌, map, drop, length}
+use Rattle.std.proofs.Common.{◌≡◌, ap, sym, ◌∙◌, arith, ℕ, ◌+◌, ◌≤◌, ◌++◌, List, [], ◌∷◌, map, drop, length}
 use Rattle.std.proofs.Common.{append_assoc, length-append, subst, Some, None, Result, Ok, Err}
 use Rattle.std.specs.Prelude.{slice_get}
 use Rattle.std.proofs.lemmas.List.{append-nil, at_drop_all}
 use Rattle.time_below.specs.Facts.{Facts}
-use Rattle.time_below.specs.Tree.{Tree, Trees, trees, byte_literal, all_of, first_of, nothing, end, more}
+use Rattle.time_below.specs.Tree.{Tree, Trees, trees, byte_literal, all_of, first_of, nothing, more}
 use Rattle.time_below.specs.Width.{tree_width, trees_width, are_guaranteed_text}
 use Rattle.time_fmt.specs.declared.refused.Refused.{Refused}
 use Rattle.time_fmt.specs.Description.{tree_outcome, trees_outcome}
-use Rattle.time_fmt.specs.Ends.{refusal_of}
 use Rattle.time_fmt.specs.Guarantee.{IsTextIf, AppendsTree}
 use Rattle.time_fmt.specs.Outcome.{Outcome, Refusal}
 use Rattle.time_fmt.specs.Sink.{Buffer, Fits, Puts}
 use Rattle.time_fmt.proofs.EndLemmas.{whole_text}
 use Rattle.time_fmt.proofs.WriteLemmas.{join_refused, join_done}
 use Rattle.time_fmt.proofs.GuaranteeLemmas.{text_more, text_stops, empty_utf8}
+use Rattle.std.proofs.lemmas.Grind.{common_steps}
 
 -- a list was written so far without a refusal: its rest is the rest of the outcome, and fits the capacity
 pub record Along (agrees : Type 0) (old now : Buffer) (f : Facts) (all left : Trees) (all_size left_size : ℕ)
@@ -34,27 +34,13 @@ pub record Along (agrees : Type 0) (old now : Buffer) (f : Facts) (all left : Tr
 -- nothing is written before the first node
 pub along_from_the_start : {agrees : Type 0} (output : Buffer) (f : Facts) (all : Trees) (size : ℕ) → agrees
     → Fits output (trees_width all) → Along agrees output output f all all size size
-along_from_the_start output f all size agrees room =
-    record {
-      state = agrees;
-      size = omega arith;
-      bytes = refl;
-      refusal = refl;
-      grown = refl;
-      room = room;
-      within = omega arith;
-      capacity = refl;
-      lender = refl;
-      text = λ h. h;
-    }
+along_from_the_start output f all size agrees room = grind arith
 
 -- the next node fits the capacity
 pub room_for_next : {agrees : Type 0} {all_size left_size : ℕ} (old now : Buffer) (f : Facts)
     (all left others : Trees) (t : Tree) →
     Along agrees old now f all left all_size left_size → left ≡ more t others → Fits now (tree_width t)
-room_for_next old now f all left others t along next =
-    let width : trees_width left ≡ tree_width t + trees_width others = ap trees_width next in
-    omega (arith, along.room, width)
+room_for_next old now f all left others t along next = grind arith
 
 -- the outcome of a list is that of its next node after what was written
 pub record StopsAt (old mid : Buffer) (all first : Outcome) : Type 0 where
@@ -67,14 +53,7 @@ pub stops_along : {agrees : Type 0} {all_size left_size : ℕ} (r : Refusal) (ol
     (all left others : Trees) (t : Tree) →
     Along agrees old mid f all left all_size left_size → left ≡ more t others → (tree_outcome t f).refusal ≡ Some r
     → StopsAt old mid (trees_outcome all f) (tree_outcome t f)
-stops_along r old mid f all left others t along next refused =
-    let same : trees_outcome left f ≡ tree_outcome t f = ap (λ ts. trees_outcome ts f) next
-    ∙ join_refused (tree_outcome t f) (trees_outcome others f) r refused in
-    record {
-      bytes = along.bytes ∙ ap (λ (o : Outcome). mid.bytes ++ o.bytes) same;
-      refusal = along.refusal ∙ ap (λ (o : Outcome). o.refusal) same;
-      grown = omega (arith, along.grown, ap (λ (o : Outcome). length o.bytes) same);
-    }
+stops_along r old mid f all left others t along next refused = grind (arith, join_refused)
 
 -- a list ends with a node that is refused
 pub list_refused : {agrees : Type 0} {all_size left_size : ℕ} {reason : Refused} (old mid new : Buffer)
@@ -82,23 +61,7 @@ pub list_refused : {agrees : Type 0} {all_size left_size : ℕ} {reason : Refuse
     Along agrees old mid f all left all_size left_size → left ≡ more t others
     → AppendsTree t f mid new (Err reason) → AppendsTree (all_of all) f old new (Err reason)
 list_refused {reason = reason} old mid new f all left others t along next step =
-    let r = refusal_of reason in
-    let refused : (tree_outcome t f).refusal ≡ Some r = sym step.ends.refusal in
-    let stops = stops_along r old mid f all left others t along next refused in
-    let width : trees_width left ≡ tree_width t + trees_width others = ap trees_width next in
-    let P : Trees → Type 0 = λ ts. IsTextIf (are_guaranteed_text ts) (trees_outcome ts f) in
-    let text = text_stops t others f step.text (join_refused (tree_outcome t f) (trees_outcome others f) r refused) in
-    record {
-      ends = record {
-        appended = step.ends.appended ∙ sym stops.bytes;
-        refusal = step.ends.refusal ∙ sym stops.refusal;
-        grown = omega (arith, step.ends.grown, stops.grown);
-        capacity = step.ends.capacity ∙ along.capacity;
-        lender = step.ends.lender ∙ along.lender;
-        within = omega (arith, along.within, width, step.ends.within);
-      };
-      text = along.text (subst P (sym next) text);
-    }
+    grind (arith, stops_along, text_stops, join_refused)
 
 -- what was written before a node, and what the node wrote, is followed by what is left
 pub written_along : {agrees agrees_after : Type 0} {all_size left_size rest_size : ℕ} (old mid new : Buffer)
@@ -136,50 +99,21 @@ pub all_along : {A agrees : Type 0} {all_size left_size : ℕ} (tree : A → Tre
     (old now : Buffer) (f : Facts) → length nodes ≤ i
     → Along agrees old now f (trees (map tree nodes)) (trees (map tree (drop i nodes))) all_size left_size
     → AppendsTree (all_of (trees (map tree nodes))) f old now (Ok tt)
-all_along tree nodes i old now f past along =
-    let none : trees (map tree (drop i nodes)) ≡ end = at_drop_all (λ xs. trees (map tree xs)) nodes i past in
-    let bytes : (trees_outcome (trees (map tree (drop i nodes))) f).bytes ≡ [] =
-    ap (λ ts. (trees_outcome ts f).bytes) none in
-    let P : Trees → Type 0 = λ ts. IsTextIf (are_guaranteed_text ts) (trees_outcome ts f) in
-    record {
-      ends = record {
-        appended = sym (along.bytes ∙ ap (λ bs. now.bytes ++ bs) bytes ∙ append-nil now.bytes);
-        refusal = sym (along.refusal ∙ ap (λ ts. (trees_outcome ts f).refusal) none);
-        grown = omega (arith, along.grown, ap length bytes);
-        capacity = along.capacity;
-        lender = along.lender;
-        within = omega (arith, along.within);
-      };
-      text = along.text (subst P (sym none) (λ _. empty_utf8));
-    }
+all_along tree nodes i old now f past along = grind (arith, common_steps, at_drop_all, append-nil, empty_utf8)
 
 -- bytes are appended whole
 pub appends_bytes : {count : ℕ} {old new : Buffer} (bytes : List ℕ) (f : Facts) → Puts old new count bytes
     → AppendsTree (byte_literal bytes) f old new (Ok tt)
-appends_bytes bytes f w = record {
-  ends = whole_text w (omega arith);
-  text = λ guaranteed. let never : ⊥ = cc in absurd never;
-}
+appends_bytes bytes f w = grind (arith, whole_text)
 
 -- where there is nothing, nothing is appended
 pub nothing_appends : (output : Buffer) (f : Facts) → AppendsTree nothing f output output (Ok tt)
-nothing_appends output f = record {
-  ends = record {
-    appended = sym (append-nil output.bytes);
-    refusal = refl;
-    grown = omega arith;
-    capacity = refl;
-    lender = refl;
-    within = omega arith;
-  };
-  text = λ _. empty_utf8;
-}
+nothing_appends output f = grind (arith, append-nil, empty_utf8)
 
 -- the first of no nodes appends nothing
 pub no_first : {A : Type 0} (tree : A → Tree) (nodes : List A) (output : Buffer) (f : Facts)
     → slice_get nodes 0 ≡ None → AppendsTree (first_of (trees (map tree nodes))) f output output (Ok tt)
-no_first tree [] output f none =
-    let same = nothing_appends output f in record { ends = same.ends; text = same.text }
+no_first tree [] output f none = grind (arith, common_steps, nothing_appends)
 no_first tree (x ∷ xs) output f none = let no : ⊥ = cc in absurd no
 
 -- the first of a list that begins with x appends what x does
@@ -187,8 +121,4 @@ pub first_appends : {A : Type 0} {answer : Result Unit Refused} (tree : A → Tr
     (old new : Buffer) (f : Facts) → slice_get nodes 0 ≡ Some x → AppendsTree (tree x) f old new answer
     → AppendsTree (first_of (trees (map tree nodes))) f old new answer
 first_appends tree [] x old new f h appends = let no : ⊥ = cc in absurd no
-first_appends {A} {answer} tree (y ∷ ys) x old new f h appends =
-    let same : y ≡ x = cc in
-    let P : A → Type 0 = λ z. AppendsTree (tree z) f old new answer in
-    let first = subst P (sym same) appends in
-    record { ends = first.ends; text = first.text }
+first_appends {A} {answer} tree (y ∷ ys) x old new f h appends = grind arith

@@ -1,14 +1,13 @@
 -- Texts of components are ASCII, and texts one after another are UTF-8 where each of them is.
-use Rattle.std.proofs.Common.{◌≡◌, ℕ, ◌-◌, ◌<◌, Bool, true, false, ◌&&◌, nat_lt, List, []}
-use Rattle.std.proofs.Common.{IsAscii, IsUtf8, IsTrue, MatchOption, Option, Some, None, if◌then◌else◌, refl, arith, Result}
-use Rattle.std.specs.Prelude.{codes, nat_le}
+use Rattle.std.proofs.Common.{◌≡◌, ℕ, Bool, true, false, ◌&&◌, nat_lt, List, [], IsAscii, IsUtf8}
+use Rattle.std.proofs.Common.{MatchOption, Option, Some, None, refl, arith, Result}
+use Rattle.std.specs.Prelude.{codes}
 use Rattle.std.specs.List.{list_all}
 use Rattle.std.proofs.lemmas.Bool.{and_parts, ltb-true}
 use Rattle.std.proofs.lemmas.List.Elements.{All-weaker}
 use Rattle.std.proofs.lemmas.List.Sums.{AllPass-from_list_all}
 use Rattle.std.proofs.lemmas.Str.{IsAscii-append, IsAscii-take, IsUtf8-append, IsUtf8-from_ascii}
 use Rattle.std.proofs.lemmas.Str.Ascii.{IsAscii-from_all, IsAscii-nil}
-use Rattle.time_below.specs.ComponentRange.{conditional_range}
 use Rattle.time_below.specs.Conversion.{current_component}
 use Rattle.time_below.specs.declared.period.Period.{Period}
 use Rattle.time_below.specs.declared.period.Period.TheVariants.{Am, Pm}
@@ -18,21 +17,20 @@ use Rattle.time_below.specs.declared.format_description.modifier.Padding.TheVari
 use Rattle.time_below.specs.declared.format_description.modifier.SubsecondDigits.{SubsecondDigits}
 use Rattle.time_below.specs.declared.format_description.modifier.SubsecondDigits.TheVariants as digits
 use Rattle.time_below.specs.Facts.{Facts}
-use Rattle.time_below.specs.Group.{group_of}
 use Rattle.time_below.specs.Tree.{Tree, Trees, of_component, more}
 use Rattle.time_below.specs.Width.{component_width, is_guaranteed_text, are_guaranteed_text, subsecond_width}
 use Rattle.time_digits.specs.Digits.{fixed}
 use Rattle.time_digits.proofs.DigitLemmas.{IsAscii-fixed}
 use Rattle.time_digits.proofs.FractionLemmas.{IsAscii-trimmed_fraction}
 use Rattle.time_digits.proofs.LengthLemmas.{IsAscii-padded, IsAscii-number}
-use Rattle.time_fmt.specs.DateText.{month_names, month_name, weekday_names, weekday_name, indexed}
-use Rattle.time_fmt.specs.Description.{has_group, kind_of, supplied_outcome, current_outcome, component_outcome}
+use Rattle.time_fmt.specs.DateText.{month_name, weekday_name, indexed}
+use Rattle.time_fmt.specs.Description.{current_outcome, component_outcome}
 use Rattle.time_fmt.specs.Description.{tree_outcome, trees_outcome}
 use Rattle.time_fmt.specs.Ends.{Ends}
 use Rattle.time_fmt.specs.Guarantee.{IsTextIf, AppendsLeaf}
 use Rattle.time_fmt.specs.Kind as kind
 use Rattle.time_fmt.specs.Kind.{Kind, kind_text, kind_outcome}
-use Rattle.time_fmt.specs.Outcome.{Outcome, done, refused, join, insufficient, out_of_range}
+use Rattle.time_fmt.specs.Outcome.{Outcome, join}
 use Rattle.time_fmt.specs.Sink.{Buffer}
 use Rattle.time_fmt.specs.Text.{padded_text, sign_text, period_text, subsecond_text}
 use Rattle.time_fmt.specs.declared.refused.Refused.{Refused}
@@ -42,9 +40,7 @@ use Rattle.time_fmt.proofs.TextLemmas.{passes_at}
 
 -- a text that passes the test is ASCII
 pub ascii_test : (bs : List ℕ) → list_all (λ b. nat_lt b 128) bs ≡ true → IsAscii bs
-ascii_test bs h =
-    IsAscii-from_all bs (All-weaker (λ b. IsTrue (nat_lt b 128)) (λ b. b < 128) (λ b. ltb-true b 128) bs
-    (AllPass-from_list_all (λ b. nat_lt b 128) bs h))
+ascii_test bs h = grind (arith, IsAscii-from_all, All-weaker, ltb-true, AllPass-from_list_all)
 
 -- a number in its places is ASCII
 IsAscii-padded_text : (p : Padding) (places n : ℕ) → IsAscii (padded_text p places n)
@@ -60,13 +56,11 @@ IsAscii-sign_text false false = IsAscii-nil
 
 -- the name of a month is ASCII
 pub IsAscii-month_name : (m : ℕ) → IsAscii (month_name m)
-IsAscii-month_name m =
-    ascii_test (month_name m) (passes_at (list_all (λ b. nat_lt b 128)) month_names (m - 1) refl refl)
+IsAscii-month_name m = grind (arith, ascii_test, passes_at)
 
 -- the name of a weekday is ASCII
 pub IsAscii-weekday_name : (w : ℕ) → IsAscii (weekday_name w)
-IsAscii-weekday_name w =
-    ascii_test (weekday_name w) (passes_at (list_all (λ b. nat_lt b 128)) weekday_names w refl refl)
+IsAscii-weekday_name w = grind (arith, ascii_test, passes_at)
 
 -- the half of a day is ASCII
 IsAscii-period_text : (p : Period) (is_uppercase : Bool) → IsAscii (period_text p is_uppercase)
@@ -85,8 +79,7 @@ IsAscii-subsecond_text d n = IsAscii-take (fixed 9 n) (subsecond_width d) (IsAsc
 -- each kind of text is ASCII
 IsAscii-kind_text : (k : Kind) → IsAscii (kind_text k)
 IsAscii-kind_text (kind.number p places n) = IsAscii-padded_text p places n
-IsAscii-kind_text (kind.signed n w p places m) =
-    IsAscii-append (sign_text n w) (padded_text p places m) (IsAscii-sign_text n w) (IsAscii-padded_text p places m)
+IsAscii-kind_text (kind.signed n w p places m) = grind (arith, IsAscii-append, IsAscii-sign_text, IsAscii-padded_text)
 IsAscii-kind_text (kind.limited greatest n k) = IsAscii-kind_text k
 IsAscii-kind_text (kind.month n) = IsAscii-month_name n
 IsAscii-kind_text (kind.weekday n) = IsAscii-weekday_name n
@@ -98,18 +91,12 @@ IsAscii-kind_text kind.empty = IsAscii-nil
 
 -- a number that is limited to its range is ASCII
 IsAscii-kind_outcome : (k : Kind) → IsAscii (kind_outcome k).bytes
-IsAscii-kind_outcome (kind.limited greatest n k) =
-    elim (nat_le n greatest) as
-    (λ b. IsAscii (if b then done (kind_text k) else refused (out_of_range (conditional_range (codes "year")))).bytes)
-    [ true ↦ IsAscii-kind_text k | false ↦ IsAscii-nil ]
+IsAscii-kind_outcome (kind.limited greatest n k) = grind (arith, IsAscii-kind_text, IsAscii-nil)
 IsAscii-kind_outcome k = IsAscii-kind_text k
 
 -- the text of a component is ASCII, with or without its group
 pub ascii_current : (c : Component) (f : Facts) → IsAscii (current_outcome c f).bytes
-ascii_current c f =
-    elim (has_group (group_of c) f) as
-    (λ b. IsAscii (if b then supplied_outcome c f else refused insufficient).bytes)
-    [ true ↦ IsAscii-kind_outcome (kind_of c f) | false ↦ IsAscii-nil ]
+ascii_current c f = grind (arith, IsAscii-kind_outcome, IsAscii-nil)
 
 -- ---- outcomes one after another
 
@@ -138,9 +125,7 @@ leaf_of_written (Some answer) c f old new same ends = record { ends = ends; text
 pub text_more : (t : Tree) (ts : Trees) (f : Facts) → IsTextIf (is_guaranteed_text t) (tree_outcome t f)
     → IsTextIf (are_guaranteed_text ts) (trees_outcome ts f)
     → IsTextIf (are_guaranteed_text (more t ts)) (trees_outcome (more t ts) f)
-text_more t ts f first others h =
-    let both = and_parts (is_guaranteed_text t) (are_guaranteed_text ts) h in
-    joined_utf8 (tree_outcome t f) (trees_outcome ts f) (first both.0) (others both.1)
+text_more t ts f first others h = grind (arith, and_parts, joined_utf8)
 
 -- a list that stops at its first tree is a text if that tree is one
 pub text_stops : (t : Tree) (ts : Trees) (f : Facts) → IsTextIf (is_guaranteed_text t) (tree_outcome t f)

@@ -1,5 +1,5 @@
 -- How long the texts of numbers of a known size are.
-use Rattle.std.proofs.Common.{◌≡◌, ◌∙◌, ℕ, ◌+◌, ◌/◌, ◌%◌, ◌^◌, ◌<◌, ◌≤◌, ◌++◌, length, decimal, ap, ap₂, sym, arith}
+use Rattle.std.proofs.Common.{◌≡◌, ◌∙◌, ℕ, ◌+◌, ◌/◌, ◌%◌, ◌^◌, ◌<◌, ◌≤◌, ◌++◌, length, decimal, ap₂, sym, arith}
 use Rattle.std.proofs.Common.{length-append, append_assoc}
 use Rattle.std.proofs.lemmas.Fmt.{length-decimal-le}
 use Rattle.time_below.specs.declared.format_description.modifier.Padding.{Padding}
@@ -55,8 +55,7 @@ four_and_four n h =
 -- a number by its first digits and its last eight
 pub before_eight : (n : ℕ) → 100_000_000 ≤ n → n < 2 ^ 64
     → decimal (n / 100_000_000) ++ fixed 8 (n % 100_000_000) ≡ decimal n
-before_eight n low high =
-    ap (λ xs. decimal (n / 100_000_000) ++ xs) (fixed-mod 8 n) ∙ sym (decimal-split 8 n low high)
+before_eight n low high = grind (arith, fixed-mod, decimal-split)
 
 -- it has eight more than they have
 pub longer_by_eight : (n : ℕ) → 100_000_000 ≤ n → n < 2 ^ 64
@@ -66,9 +65,7 @@ longer_by_eight = length-decimal_quotient 8
 -- a number by its first digits and its last four
 pub before_four : (n : ℕ) → 10_000 ≤ n → n < 2 ^ 64
     → decimal (n / 10_000) ++ zero_padded 4 (n % 10_000) ≡ decimal n
-before_four n low high =
-    ap (λ xs. decimal (n / 10_000) ++ xs) (zero_padded_is 3 (n % 10_000) (omega arith) (omega arith) ∙ fixed-mod 4 n)
-    ∙ sym (decimal-split 4 n low high)
+before_four n low high = grind (arith, zero_padded_is, fixed-mod, decimal-split)
 
 -- it has four more than they have
 pub longer_by_four : (n : ℕ) → 10_000 ≤ n → n < 2 ^ 64 → length (decimal n) ≡ length (decimal (n / 10_000)) + 4

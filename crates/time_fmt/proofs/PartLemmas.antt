@@ -9,6 +9,7 @@ use Rattle.time_below.specs.Width.{trees_width, is_guaranteed_text, are_guarante
 use Rattle.time_fmt.specs.Description.{tree_outcome, trees_outcome}
 use Rattle.time_fmt.specs.Outcome.{Outcome, Refusal, done, join}
 use Rattle.time_fmt.specs.Parts.{both_lists, PairMeansBothLists, ItemMeansItsList}
+use Rattle.std.proofs.lemmas.Grind.{common_steps}
 
 -- joining outcomes is associative
 joins_regrouped : (x : List ℕ) (r : Option Refusal) (y : List ℕ) (s : Option Refusal) (c : Outcome)
@@ -58,8 +59,4 @@ pair_means_both_lists first second width other_width is_guaranteed is_other ts u
 }
 
 pub item_means_its_list : ItemMeansItsList
-item_means_its_list t = record {
-  outcome = outcome_of_item t;
-  width = omega arith;
-  text = and_true (is_guaranteed_text t);
-}
+item_means_its_list t = grind (arith, common_steps, outcome_of_item, and_true)

@@ -11,13 +11,8 @@ none_as_long (x ∷ xs) h = let never : ⊥ = omega (arith, h) in absurd never
 -- what follows the text is as it was before; of an empty buffer nothing does
 pub room_written : (n : ℕ) (old now bytes : List ℕ) → bytes ≡ take n now → n ≡ length bytes → length now ≡ length old
     → (0 < length now → drop n now ≡ drop n old) → now ≡ bytes ++ drop (length bytes) old
-room_written n old [] bytes text count long behind =
-    let none : old ≡ [] = none_as_long old (sym long) in
-    let parts : take n [] ++ drop n [] ≡ [] = take-append-drop n [] in
-    sym (rw (← count, text, none) parts)
-room_written n old (b ∷ bs) bytes text count long behind =
-    let parts : take n (b ∷ bs) ++ drop n (b ∷ bs) ≡ b ∷ bs = take-append-drop n (b ∷ bs) in
-    sym (rw (← count, text) (rw (behind (omega arith)) at parts))
+room_written n old [] bytes text count long behind = grind (arith, none_as_long, take-append-drop)
+room_written n old (b ∷ bs) bytes text count long behind = grind (arith, take-append-drop)
 
 -- bytes that are written over others
 pub ruleset written_over = (take-put_mid, drop-put_mid, drop-drop)

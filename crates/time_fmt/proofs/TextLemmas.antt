@@ -1,8 +1,8 @@
 -- How long each kind of text is.
-use Rattle.std.proofs.Common.{◌≡◌, ℕ, zero, suc, ◌+◌, ◌-◌, ◌^◌, ◌<◌, ◌≤◌, Bool, true, false, ◌&&◌, List, [], ◌∷◌, ◌++◌}
+use Rattle.std.proofs.Common.{◌≡◌, ℕ, zero, suc, ◌+◌, ◌-◌, ◌^◌, ◌<◌, ◌≤◌, Bool, true, false, List, [], ◌∷◌, ◌++◌}
 use Rattle.std.proofs.Common.{IsTrue, length, replicate, refl, sym, ◌∙◌, decimal, arith, length-append, append_assoc}
 use Rattle.std.specs.List.{list_all}
-use Rattle.std.specs.Prelude.{slice_index_or, nat_le, nat_lt, ◌||◌}
+use Rattle.std.specs.Prelude.{slice_index_or, nat_lt, ◌||◌}
 use Rattle.std.proofs.lemmas.Bool.{and_parts, le-ltb, leb-true, lt-ltb}
 use Rattle.std.proofs.lemmas.Fmt.{length-decimal-le}
 use Rattle.std.proofs.lemmas.List.{length-replicate}
@@ -15,9 +15,10 @@ use Rattle.time_below.specs.Weekday.{days_from_monday}
 use Rattle.time_digits.specs.Digits.{padded, zero_padded}
 use Rattle.time_digits.proofs.DigitLemmas.{decimal_longer, padded_whole}
 use Rattle.time_digits.proofs.LengthLemmas.{length-padded, length-padded-le}
-use Rattle.time_fmt.specs.DateText.{month_names, month_name, weekday_names, weekday_name, short_name, indexed}
+use Rattle.time_fmt.specs.DateText.{month_name, weekday_name, short_name, indexed}
 use Rattle.time_fmt.specs.Text.{padded_text, sign_text}
 use Rattle.time_fmt.proofs.EndLemmas.{whole_text, in_range, beyond_range}
+use Rattle.std.proofs.lemmas.Grind.{common_steps}
 
 -- ---- numbers
 
@@ -104,8 +105,7 @@ signed_within is_negative is_wanted p places most n h some below fits =
 -- a century or an hour of an offset: two digits, and at most four
 pub signed_two : (is_negative is_wanted : Bool) (p : Padding) (n : ℕ) → n < 100
     → length (sign_text is_negative is_wanted ++ padded_text p 2 n) ≤ 3
-signed_two is_negative is_wanted p n h =
-    signed_within is_negative is_wanted p 2 2 n (omega arith) (omega arith) (omega arith) (omega arith)
+signed_two is_negative is_wanted p n h = grind (arith, signed_within)
 
 pub signed_two_to_four : (is_negative is_wanted : Bool) (p : Padding) (n : ℕ) → n < 10_000
     → length (sign_text is_negative is_wanted ++ padded_text p 2 n) ≤ 5
@@ -115,8 +115,7 @@ signed_two_to_four is_negative is_wanted p n h =
 -- a year: four digits, and at most six
 pub signed_four : (is_negative is_wanted : Bool) (p : Padding) (n : ℕ) → n < 10_000
     → length (sign_text is_negative is_wanted ++ padded_text p 4 n) ≤ 5
-signed_four is_negative is_wanted p n h =
-    signed_within is_negative is_wanted p 4 4 n (omega arith) (omega arith) (omega arith) (omega arith)
+signed_four is_negative is_wanted p n h = grind (arith, signed_within)
 
 pub signed_four_to_six : (is_negative is_wanted : Bool) (p : Padding) (n : ℕ) → n < 1_000_000
     → length (sign_text is_negative is_wanted ++ padded_text p 4 n) ≤ 7
@@ -141,18 +140,15 @@ pub passes_at : (test : List ℕ → Bool) (names : List (List ℕ)) (i : ℕ) �
     → IsTrue (test (slice_index_or names i []))
 passes_at test [] i none all = none
 passes_at test (name ∷ names) zero none all = (and_parts (test name) (list_all test names) all).0
-passes_at test (name ∷ names) (suc i) none all =
-    passes_at test names i none (and_parts (test name) (list_all test names) all).1
+passes_at test (name ∷ names) (suc i) none all = grind (arith, common_steps, and_parts)
 
 -- no name of a month is longer than September
 pub length-month_name : (n : ℕ) → length (month_name n) ≤ 9
-length-month_name n =
-    leb-true (length (month_name n)) 9 (passes_at (λ name. nat_le (length name) 9) month_names (n - 1) refl refl)
+length-month_name n = grind (arith, leb-true, passes_at)
 
 -- no name of a weekday is longer than Wednesday
 pub length-weekday_name : (n : ℕ) → length (weekday_name n) ≤ 9
-length-weekday_name n =
-    leb-true (length (weekday_name n)) 9 (passes_at (λ name. nat_le (length name) 9) weekday_names n refl refl)
+length-weekday_name n = grind (arith, leb-true, passes_at)
 
 -- a short name has three letters at most
 pub length-short_name : (name : List ℕ) → length (short_name name) ≤ 3
@@ -175,8 +171,7 @@ length-monday_digit one_indexed w = length-indexed one_indexed (days_from_monday
 -- a weekday that is counted from Sunday has one digit
 pub length-sunday_digit : (one_indexed : Bool) (w : Weekday)
     → length (decimal (indexed one_indexed (from_sunday (days_from_monday w)))) ≤ 1
-length-sunday_digit one_indexed w = length-indexed one_indexed (from_sunday (days_from_monday w))
-    (omega (arith, days_in_week w))
+length-sunday_digit one_indexed w = omega (arith, length-indexed, days_in_week)
 
 -- ---- what a writer of a component cites
 

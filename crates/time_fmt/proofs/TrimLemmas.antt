@@ -1,5 +1,5 @@
 -- A fraction whose last digits are zeros from some place on, and no zero before them.
-use Rattle.std.proofs.Common.{◌≡◌, ◌≢◌, ℕ, suc, ◌+◌, ◌-◌, ◌/◌, ◌%◌, ◌^◌, ◌<◌, ◌≤◌, List, [], ◌∷◌, ◌++◌, ⊎_elim, length}
+use Rattle.std.proofs.Common.{◌≡◌, ◌≢◌, ℕ, suc, ◌+◌, ◌-◌, ◌/◌, ◌%◌, ◌^◌, ◌<◌, ◌≤◌, List, ◌++◌, ⊎_elim, length}
 use Rattle.std.proofs.Common.{take, get_or, replicate, sym, ap, ◌∙◌, arith}
 use Rattle.std.proofs.lemmas.Bool.{cases_lt}
 use Rattle.std.proofs.lemmas.List.{get_or_append_left, get_or-append_right, get_or-replicate}
@@ -7,9 +7,8 @@ use Rattle.std.proofs.Math.Seq.{get_or-append_seam}
 use Rattle.time_digits.specs.Digits.{fixed}
 use Rattle.time_digits.specs.Fraction.{trimmed_fraction}
 use Rattle.time_digits.proofs.DigitLemmas.{fixed_step, fixed_digits, fixed-append, fixed-mod, fixed-zero}
-use Rattle.time_digits.proofs.FractionLemmas.{only_trimmed_fraction}
+use Rattle.time_digits.proofs.FractionLemmas.{only_trimmed_fraction, length-trimmed_fraction}
 use Rattle.time_digits.proofs.LengthLemmas.{length-fixed}
-use Rattle.time_digits.proofs.FractionLemmas.{length-trimmed_fraction}
 use Rattle.time_fmt.proofs.EndLemmas.{whole_text}
 use Rattle.time_fmt.proofs.DecimalLemmas.{take-fixed, length-first, length-subsecond_text, nine_decimals}
 
@@ -21,18 +20,12 @@ filled_at j k n nine zeros =
 
 -- the last of these first digits
 last_digit : (i m : ℕ) (ds : List ℕ) → get_or (fixed (suc i) m ++ ds) i 0 ≡ 48 + m % 10
-last_digit i m ds =
-    let end : get_or (fixed i (m / 10) ++ (48 + m % 10) ∷ []) (length (fixed i (m / 10))) 0 ≡ 48 + m % 10 =
-    get_or-append_seam (fixed i (m / 10)) (48 + m % 10) [] 0 in
-    get_or_append_left (fixed (suc i) m) ds 0 i (omega (arith, length-fixed (suc i) m))
-    ∙ ap (λ bs. get_or bs i 0) (fixed_step i m) ∙ (rw (length-fixed i (m / 10)) at end)
+last_digit i m ds = grind (arith, get_or-append_seam, get_or_append_left, length-fixed, fixed_step)
 
 -- a shorter text has a zero in its place
 zero_behind : (text : List ℕ) (i : ℕ) → length text ≤ i → i < 9
     → get_or (text ++ replicate (9 - length text) 48) i 0 ≡ 48
-zero_behind text i le lt =
-    get_or-append_right text (replicate (9 - length text) 48) (length text) i 0 (λ _. length text) le
-    ∙ get_or-replicate (9 - length text) (i - length text) 48 0 (omega arith)
+zero_behind text i le lt = grind (arith, get_or-append_right, get_or-replicate)
 
 -- the trimmed fraction is its digits up to the last one that is no zero
 pub trimmed_at : (i k n : ℕ) → suc i + k ≡ 9 → n % 10 ^ k ≡ 0 → n / 10 ^ k % 10 ≢ 0

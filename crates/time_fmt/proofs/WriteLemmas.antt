@@ -1,7 +1,7 @@
 -- Texts that were written one after another are one text, and one text is what an outcome appends; so are
 -- outcomes.
-use Rattle.std.proofs.Common.{◌≡◌, ℕ, ◌+◌, ◌-◌, ◌++◌, List, length, length-append, append_assoc}
-use Rattle.std.proofs.Common.{refl, sym, ap, ◌∙◌, arith, Option, Some, None, IsSomeAnd, Result, Ok, Err, Vec, vec_len}
+use Rattle.std.proofs.Common.{◌≡◌, ℕ, ◌+◌, ◌-◌, ◌++◌, length-append, append_assoc, refl}
+use Rattle.std.proofs.Common.{arith, Option, Some, None, IsSomeAnd, Result, Ok, Err, Vec, vec_len}
 use Rattle.std.proofs.lemmas.List.{append-nil}
 use Rattle.std.specs.Global.{Global}
 use Rattle.time_fmt.specs.declared.error.Format.{Format}
@@ -10,36 +10,17 @@ use Rattle.time_fmt.specs.Outcome.{Outcome, Refusal, Names, Appends, Adds, refus
 -- an outcome is added if it is appended after a reservation
 pub adds_after_room : {answer : Result ℕ Format} {o : Outcome} (old mid new : Vec ℕ Global) → mid.items ≡ old.items
     → vec_len mid ≡ vec_len old → Appends mid new answer o → Adds old new answer o
-adds_after_room {o = o} old mid new items len appends =
-    record {
-      appended = appends.appended ∙ ap (λ (xs : List ℕ). xs ++ o.bytes) items;
-      counted = appends.counted;
-      named = appends.named;
-      grown = appends.grown ∙ ap (λ (n : ℕ). n + length o.bytes) len;
-    }
+adds_after_room {o = o} old mid new items len appends = grind arith
 
 -- what is appended is as long as what the vector has grown by
 pub counted_by_length : {count : ℕ} {o : Outcome} {old new : Vec ℕ Global} (begin end : ℕ) → Appends old new (Ok count) o
     → begin ≡ vec_len old → end ≡ vec_len new → Appends old new (Ok (end - begin)) o
-counted_by_length begin end appends from to = record {
-  appended = appends.appended;
-  counted = (appends.counted.0, omega (arith, appends.grown, from, to));
-  named = tt;
-  grown = appends.grown;
-  capacity = appends.capacity;
-}
+counted_by_length begin end appends from to = grind arith
 
 -- a refusal before any byte appends nothing
 pub appends_nothing : (output : Vec ℕ Global) (e : Format) (r : Refusal) → Names e r
     → Appends output output (Err e) (refused r)
-appends_nothing output e r named =
-    record {
-      appended = sym (append-nil output.items);
-      counted = tt;
-      named = named;
-      grown = omega arith;
-      capacity = refl;
-    }
+appends_nothing output e r named = grind (arith, append-nil)
 
 -- a refusal that is named is there
 pub some_of : (P : Refusal → Type 0) (x : Option Refusal) → IsSomeAnd x P → (r : Refusal) × (x ≡ Some r)
@@ -58,31 +39,16 @@ join_done a b h = rw h refl
 -- a refusal of the first of two outcomes is that of both
 pub appends_first : {old new : Vec ℕ Global} {e : Format} (a b : Outcome) → Appends old new (Err e) a
     → Appends old new (Err e) (join a b)
-appends_first {e = e} a b first =
-    let r = some_of (Names e) a.refusal first.named in rw (join_refused a b r.0 r.1) first
+appends_first {e = e} a b first = grind (arith, some_of, join_refused)
 
 -- both are completed
 pub appends_both : {old mid new : Vec ℕ Global} {m n : ℕ} (a b : Outcome) → Appends old mid (Ok m) a
     → Appends mid new (Ok n) b
     → Appends old new (Ok (m + n)) (join a b)
-appends_both {old} a b first second = rw (join_done a b first.counted.0) (record {
-  appended = second.appended ∙ ap (λ (items : List ℕ). items ++ b.bytes) first.appended
-      ∙ append_assoc old.items a.bytes b.bytes;
-  counted = (second.counted.0, omega (arith, first.counted.1, second.counted.1, length-append a.bytes b.bytes));
-  named = tt;
-  grown = omega (arith, first.grown, second.grown, length-append a.bytes b.bytes);
-  capacity = second.capacity ∙ first.capacity;
-})
+appends_both {old} a b first second = grind (arith, join_done, append_assoc, length-append)
 
 -- the second is refused
 pub appends_second : {old mid new : Vec ℕ Global} {m : ℕ} {e : Format} (a b : Outcome) → Appends old mid (Ok m) a
     → Appends mid new (Err e) b
     → Appends old new (Err e) (join a b)
-appends_second {old} a b first second = rw (join_done a b first.counted.0) (record {
-  appended = second.appended ∙ ap (λ (items : List ℕ). items ++ b.bytes) first.appended
-      ∙ append_assoc old.items a.bytes b.bytes;
-  counted = tt;
-  named = second.named;
-  grown = omega (arith, first.grown, second.grown, length-append a.bytes b.bytes);
-  capacity = second.capacity ∙ first.capacity;
-})
+appends_second {old} a b first second = grind (arith, join_done, append_assoc, length-append)

@@ -1,9 +1,11 @@
-use Rattle.std.proofs.Common.{◌≡◌, ℕ, ℤ, ◌+ℤ◌, ◌<◌, unsigned_abs, w32, w64, to_z, of_z, arith, ap, sym, ◌∙◌, refl, subst}
+use Rattle.std.proofs.Common.{◌≡◌, ℕ, ℤ, ◌+ℤ◌, ◌<◌, unsigned_abs, w32, w64, to_z, of_z, arith, sym, ◌∙◌, refl, subst}
+use Rattle.std.proofs.Common.{rules}
 use Rattle.std.proofs.lemmas.Int.{ints}
 use Rattle.time_below.proofs.MomentLemmas.{local_unix_seconds-local_at}
 use Rattle.time_below.proofs.timestamp.Timestamp.checked_to_offset.Goals as goal
 use Rattle.time_below.specs.Moment.{Moment, IsMoment, IsTimestampSecond, moved}
 use Rattle.time_below.specs.Offset.{Offset, offset_seconds}
+use Rattle.std.proofs.lemmas.Grind.{common_steps}
 
 -- the sum as the code holds it
 abbrev held_sum : ℤ → ℤ → ℤ
@@ -20,15 +22,10 @@ same_moment x y n e = rw e refl
 moved_is : (s r : ℤ) (n : ℕ) (m : Moment) (o : Offset) → IsTimestampSecond s → unsigned_abs r < 93_600
     → ◌≡◌ {A = Moment} (record { seconds = s; nanosecond = n }) m → r ≡ offset_seconds o
     → ◌≡◌ {A = Moment} (record { seconds = held_sum s r; nanosecond = n }) (moved m o)
-moved_is s r n m o h k view ahead =
-    same_moment _ (s +ℤ r) n (held_sum_is s r h k)
-    ∙ rw ahead (ap (λ (x : Moment). moved x o) view)
+moved_is s r n m o h k view ahead = grind (arith, same_moment, held_sum_is)
 
 shown_in_ok : (c : goal.After-new_in_offset) → c.in-Ok.shown ≡ moved c.args.self c.args.offset
-shown_in_ok c =
-    c.in-Ok.ensures.value
-    ∙ moved_is c.self.inside.seconds c.whole_seconds.result c.self.inside.nanosecond c.args.self c.args.offset c.self.invariant.0
-    c.whole_seconds.ensures.range c.self.view_is c.whole_seconds.ensures.value
+shown_in_ok c = search (rules, arith, common_steps, moved_is)
 
 in_years : (c : goal.After-new_in_offset) → IsMoment (moved c.args.self c.args.offset)
 in_years c = subst IsMoment (sym c.in-Ok.ensures.value ∙ shown_in_ok c) (c.in-Ok.ensures.accepted.0 refl)
@@ -44,10 +41,4 @@ returns-in-Ok-clause-moment c =
     rw (returns-in-Ok-clause-value c) (local_unix_seconds-local_at c.args.self c.args.offset (in_years c))
 
 pub returns-in-Err-clause-accepted : goal.returns-in-Err-clause-accepted
-returns-in-Err-clause-accepted c =
-    let same = moved_is c.self.inside.seconds c.whole_seconds.result c.self.inside.nanosecond c.args.self c.args.offset
-    c.self.invariant.0 c.whole_seconds.ensures.range c.self.view_is c.whole_seconds.ensures.value in (
-      λ none. absurd (let e = none in cc),
-      λ years. c.in-Err.ensures.accepted.1
-          (subst IsTimestampSecond (sym (ap (λ (x : Moment). x.seconds) same)) years, c.self.invariant.1),
-    )
+returns-in-Err-clause-accepted c = grind (arith, common_steps, moved_is)
