@@ -42,10 +42,7 @@ IsAscii-fixed k n = IsAscii-from_digits (fixed k n) (fixed_digits k n)
 -- j + k digits are the last j of the quotient by 10 ^ k, and then the last k
 pub fixed-append : (j k n : ℕ) → fixed (j + k) n ≡ fixed j (n / 10 ^ k) ++ fixed k n
 unfolding fixed
-fixed-append j zero n =
-    let e : j + 0 ≡ j = omega arith in
-    let d : n / 1 ≡ n = omega arith in
-    rw (e, d, append-nil) refl
+fixed-append j zero n = grind (arith, append-nil)
 fixed-append j (suc k) n =
     let e : j + suc k ≡ suc (j + k) = omega arith in
     rw (e, fixed-append j k (n / 10), div-ten-pow n k, append_assoc) refl
@@ -67,9 +64,7 @@ fixed-mod (suc k) n =
 -- decimal text is the text of the rest and the last k digits, from 10 ^ k on
 pub decimal-split : (k n : ℕ) → 10 ^ k ≤ n → n < 2 ^ 64 → decimal n ≡ decimal (n / 10 ^ k) ++ fixed k n
 unfolding fixed
-decimal-split zero n low high =
-    let d : n / 1 ≡ n = omega arith in
-    rw (d, append-nil) refl
+decimal-split zero n low high = grind (arith, append-nil)
 decimal-split (suc k) n low high =
     let p : 10 ^ suc k ≡ 10 ^ k * 10 = pow-suc 10 k in
     let one : 1 ≤ 10 ^ k = one-le-pow k 10 (omega arith) in
@@ -120,9 +115,7 @@ fixed-zero (suc k) = rw (fixed-zero k, replicate-push k) refl
 -- a number that fits, padded with zeros, is its fixed digits
 pub zero_padded_is : (k n : ℕ) → n < 10 ^ suc k → n < 2 ^ 64 → zero_padded (suc k) n ≡ fixed (suc k) n
 unfolding fixed padded
-zero_padded_is zero n low high =
-    let m : n % 10 ≡ n = omega arith in
-    rw (decimal_digit n (omega arith), m) refl
+zero_padded_is zero n low high = grind (arith, decimal_digit)
 zero_padded_is (suc k) n low high =
     ⊎_elim (λ (h : n < 10).
     let z : n / 10 ≡ 0 = omega arith in

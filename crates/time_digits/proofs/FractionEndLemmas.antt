@@ -1,7 +1,6 @@
 -- Fractions without a zero at their end: the shortest is the only one, and where digits end in a text.
-use Rattle.std.proofs.Common.{◌≡◌, ◌≢◌, ℕ, suc, ◌+◌, ◌-◌, ◌^◌, ◌<◌, ◌≤◌, List, [], ◌∷◌, ◌++◌, length, length-append}
-use Rattle.std.proofs.Common.{append_assoc, take}
-use Rattle.std.proofs.Common.{get_or, replicate, refl, sym, ap, ap₂, subst, ◌∙◌, arith, ⊎_elim}
+use Rattle.std.proofs.Common.{◌≡◌, ◌≢◌, ℕ, ◌+◌, ◌-◌, ◌^◌, ◌<◌, ◌≤◌, List, [], ◌∷◌, ◌++◌, length, length-append}
+use Rattle.std.proofs.Common.{append_assoc, get_or, refl, sym, ap, ap₂, subst, ◌∙◌, arith}
 use Rattle.std.specs.Prelude.{codes}
 use Rattle.std.specs.Int.{IsInRange}
 use Rattle.std.specs.Str.Parse.{AllDigits, digits_value}
@@ -12,6 +11,7 @@ use Rattle.time_digits.specs.Digits.{fixed}
 use Rattle.time_digits.specs.Fraction.{trimmed_fraction, IsFraction, IsTrimmedFraction}
 use Rattle.time_digits.proofs.FractionLemmas.{trimmed_fraction_is, only_trimmed_fraction}
 use Rattle.time_digits.proofs.ValueLemmas.{fixed_value}
+use Rattle.std.proofs.lemmas.Grind.{common_steps}
 
 -- a text whose last byte is `0`
 abbrev pub EndsInZero : List ℕ → Type 0
@@ -19,12 +19,7 @@ EndsInZero text = (front : List ℕ) × (text ≡ front ++ codes "0")
 
 -- a text whose last byte is `0` ends in `0`
 ends_at : (text : List ℕ) → 1 ≤ length text → get_or text (length text - 1) 0 ≡ 48 → EndsInZero text
-ends_at text some e =
-    let k = length text - 1 in (
-      take k text,
-      sym (take_all (k + 1) text (omega arith)) ∙ take_more text k 0 (omega arith)
-          ∙ ap (λ b. take k text ++ b ∷ []) e,
-    )
+ends_at text some e = grind (arith, common_steps, take_all, take_more)
 
 -- the front of digits is digits
 pub digits_front : (a b : List ℕ) → AllDigits 10 (a ++ b) → AllDigits 10 a
@@ -34,39 +29,16 @@ digits_front (c ∷ cs) b h = (h.0, digits_front cs b h.1)
 -- digits that are longer than others of the same fraction end in `0`
 zero_at : {n : ℕ} (text other : List ℕ) → IsFraction text n → IsFraction other n → length other < length text
     → get_or text (length text - 1) 0 ≡ 48
-zero_at text other f g longer =
-    let k = length text - 1 in
-    let most = f.most in
-    let left = get_or_append_left text (replicate (9 - length text) 48) 0 k (omega arith) in
-    let right = get_or-append_right other (replicate (9 - length other) 48) (length other) k 0 refl (omega arith) in
-    let last = get_or-replicate (9 - length other) (k - length other) 48 0 (omega arith) in
-    sym left ∙ ap (λ t. get_or t k 0) (f.filled ∙ sym g.filled) ∙ right ∙ last
+zero_at text other f g longer = grind (arith, get_or_append_left, get_or-append_right, get_or-replicate)
 
 -- a fraction that does not end in `0` is the shortest
 pub unended_is_trimmed : {n : ℕ} (text : List ℕ) → IsFraction text n → ¬ EndsInZero text
     → text ≡ trimmed_fraction n
-unended_is_trimmed {n} text f unended =
-    (only_trimmed_fraction n).1 text (record {
-      fraction = f;
-      shortest = λ other g.
-          ⊎_elim (λ (longer : length other < length text).
-          absurd (unended (ends_at text f.some (zero_at text other f g longer))))
-          (λ (h : length text ≤ length other). h) (cases_lt (length other) (length text));
-    })
+unended_is_trimmed {n} text f unended = grind (arith, only_trimmed_fraction, ends_at, zero_at, cases_lt)
 
 -- a text without one zero at its end is the same fraction
 fraction_one_zero_less : {n : ℕ} (front : List ℕ) → 1 ≤ length front → IsFraction (front ++ codes "0") n → IsFraction front n
-fraction_one_zero_less front some f =
-    let long : length (front ++ codes "0") ≡ length front + 1 = length-append front (codes "0") in
-    let most = f.most in
-    let more : 9 - length front ≡ suc (9 - length (front ++ codes "0")) = omega arith in
-    record {
-      digits = digits_front front (codes "0") f.digits;
-      some = some;
-      most = omega arith;
-      filled = ap (λ k. front ++ replicate k 48) more
-          ∙ sym (append_assoc front (codes "0") (replicate (9 - length (front ++ codes "0")) 48)) ∙ f.filled;
-    }
+fraction_one_zero_less front some f = grind (arith, length-append, digits_front, append_assoc)
 
 -- the fraction `0` alone is zero
 lone_zero : (n : ℕ) → n < 10 ^ 9 → IsFraction (codes "0") n → n ≡ 0
@@ -107,20 +79,8 @@ pub record IsAfterFraction (text : List ℕ) : Type 0 where
 pub digits_end : (a b x y : List ℕ) → AllDigits 10 a → AllDigits 10 b → IsAfterFraction x → IsAfterFraction y
     → a ++ x ≡ b ++ y → a ≡ b
 digits_end [] [] x y p q h k e = refl
-digits_end [] (c ∷ cs) x y p q h k e =
-    let same : c ≡ h.first = ap (λ s. get_or s 0 0) (sym e ∙ h.is) in
-    absurd (h.no_digit (
-      let d = digit_from_value c q.0 in omega arith,
-      let d = digit_from_value c q.0 in
-          omega arith,
-    ))
-digits_end (c ∷ cs) [] x y p q h k e =
-    let same : c ≡ k.first = ap (λ s. get_or s 0 0) (e ∙ k.is) in
-    absurd (k.no_digit (
-      let d = digit_from_value c p.0 in omega arith,
-      let d = digit_from_value c p.0 in
-          omega arith,
-    ))
+digits_end [] (c ∷ cs) x y p q h k e = grind (arith, digit_from_value)
+digits_end (c ∷ cs) [] x y p q h k e = grind (arith, digit_from_value)
 digits_end (c ∷ cs) (d ∷ ds) x y p q h k e =
     let first : c ≡ d = cc in
     let rest : cs ++ x ≡ ds ++ y = cc in

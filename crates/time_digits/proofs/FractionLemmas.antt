@@ -1,10 +1,11 @@
 -- Decimals without the zeros at their end.
 use Rattle.std.proofs.Common.{◌≡◌, ℕ, zero, suc, ◌+◌, ◌-◌, ◌/◌, ◌%◌, ◌≤◌, ◌==◌, ◌&&◌, true, false, List, [], ◌∷◌, ◌++◌}
-use Rattle.std.proofs.Common.{length, take, drop, replicate, refl, sym, ap, ◌∙◌, arith, ⊎_elim, IsAscii}
-use Rattle.std.proofs.Common.{◌*◌, ◌^◌, ◌<◌, ap₂}
+use Rattle.std.proofs.Common.{length, take, drop, replicate, refl, sym, ap, ◌∙◌, arith, ⊎_elim, IsAscii, ◌*◌, ◌^◌, ◌<◌}
+use Rattle.std.proofs.Common.{ap₂}
 use Rattle.std.specs.Str.Parse.{AllDigits}
 use Rattle.std.proofs.lemmas.Bool.{cases_Bool, and_parts, eqb-true}
 use Rattle.std.proofs.lemmas.Fmt.{IsAscii-from_digits}
+use Rattle.std.proofs.lemmas.Grind.{common_steps}
 use Rattle.std.proofs.lemmas.List.{append_cancel_right, take_at}
 use Rattle.std.proofs.lemmas.Nat.{pow-add, div-mul-add}
 use Rattle.std.proofs.Math.Nat.{one-le-pow}
@@ -113,19 +114,11 @@ trimmed_fraction_is n =
 
 -- there is one shortest text, since two are as long and filled alike
 same_fraction : (n : ℕ) (text other : List ℕ) → IsTrimmedFraction text n → IsTrimmedFraction other n → text ≡ other
-same_fraction n text other s t =
-    let one : length text ≡ length other = omega (arith, s.shortest other t.fraction, t.shortest text s.fraction) in
-    let end = replicate (9 - length other) 48 in
-    let first : text ++ end ≡ fixed 9 n = rw one at s.fraction.filled in
-    append_cancel_right text other end (first ∙ sym t.fraction.filled)
+same_fraction n text other s t = grind (arith, append_cancel_right)
 
 -- the trimmed fraction is the shortest text, and no other is
 pub only_trimmed_fraction : (n : ℕ) → IsOnlyTrimmedFraction n
-only_trimmed_fraction n = (
-  trimmed_fraction_is n,
-  λ text h. same_fraction n text (trimmed_fraction n) h
-      (trimmed_fraction_is n),
-)
+only_trimmed_fraction n = grind (arith, trimmed_fraction_is, same_fraction)
 
 -- the bytes of a trimmed fraction are digits, so ASCII
 pub IsAscii-trimmed_fraction : (n : ℕ) → IsAscii (trimmed_fraction n)
@@ -143,9 +136,7 @@ without_last_zeros-take ds =
 
 -- a trimmed text, by the zeros that end it after its first byte
 trimmed-take : (d : ℕ) (ds : List ℕ) → trimmed (d ∷ ds) ≡ take (suc (length ds) - last_zeros ds) (d ∷ ds)
-trimmed-take d ds =
-    let count : suc (length ds) - last_zeros ds ≡ suc (length ds - last_zeros ds) = omega (arith, last_zeros-le ds) in
-    rw count (ap (λ bs. d ∷ bs) (without_last_zeros-take ds))
+trimmed-take d ds = grind (arith, last_zeros-le, without_last_zeros-take)
 
 -- nine digits are one and eight
 fixed-nine : (n : ℕ) → fixed 9 n ≡ (48 + n / 100_000_000 % 10) ∷ fixed 8 n
@@ -153,25 +144,18 @@ fixed-nine n = fixed-append 1 8 n ∙ ap (λ bs. bs ++ fixed 8 n) (fixed-one (n 
 
 -- the last eight of nine digits
 pub last_of_nine : (n : ℕ) (bs : List ℕ) → bs ≡ fixed 9 n → drop (length bs - 8) bs ≡ fixed 8 n
-last_of_nine n bs digits =
-    let one : length bs - 8 ≡ 1 = omega (arith, ap length digits, length-fixed 9 n) in
-    rw one (ap (drop 1) (digits ∙ fixed-nine n))
+last_of_nine n bs digits = grind (arith, length-fixed, fixed-nine)
 
 -- the trimmed fraction is the nine digits without the zeros that end the last eight
 pub trimmed_fraction-take : (n : ℕ) → trimmed_fraction n ≡ take (9 - last_zeros (fixed 8 n)) (fixed 9 n)
 unfolding trimmed_fraction
-trimmed_fraction-take n =
-    rw (fixed-nine n) (rw (length-fixed 8 n) at (trimmed-take (48 + n / 100_000_000 % 10) (fixed 8 n)))
+trimmed_fraction-take n = grind (arith, common_steps, fixed-nine, length-fixed, trimmed-take)
 
 -- ---- more than nine places
 
 -- a multiple is divided without a remainder
 multiple_divided : (n p : ℕ) → 0 < p → (n * p / p ≡ n) × (n * p % p ≡ 0)
-multiple_divided n p h =
-    let q = div-mul-add n p 0 h in
-    let e : n * p + 0 ≡ n * p = omega arith in
-    let d : n * p / p ≡ n = rw e at q in
-    (d, grind (arith, d))
+multiple_divided n p h = grind (arith, div-mul-add)
 
 -- the places beyond the ninth are zeros, for a number over 10 ^ 9
 pub nine_places : (n d : ℕ) → 9 ≤ d → fixed d (n * 10 ^ d / 1_000_000_000) ≡ fixed 9 n ++ replicate (d - 9) 48

@@ -1,6 +1,6 @@
 -- How long the texts of numbers are, and that padded ones are ASCII.
-use Rattle.std.proofs.Common.{◌≡◌, ℕ, zero, suc, ◌+◌, ◌-◌, ◌*◌, ◌/◌, ◌%◌, ◌^◌, ◌<◌, ◌≤◌, List, [], ◌∷◌, length}
-use Rattle.std.proofs.Common.{replicate, true, false, ap, ⊎_elim, arith, length-append, decimal, IsAscii}
+use Rattle.std.proofs.Common.{◌≡◌, ℕ, zero, suc, ◌+◌, ◌-◌, ◌*◌, ◌/◌, ◌%◌, ◌^◌, ◌<◌, ◌≤◌, List, [], ◌∷◌, length, true}
+use Rattle.std.proofs.Common.{false, ap, ⊎_elim, arith, length-append, decimal, IsAscii}
 use Rattle.std.proofs.Math.Nat.{pow-suc, one-le-pow, div-le_self}
 use Rattle.std.proofs.lemmas.Bool.{cases_Bool}
 use Rattle.std.proofs.lemmas.Fmt.{decimal_digit, decimal_step, decimal_nonempty, length-decimal-le}
@@ -14,6 +14,7 @@ use Rattle.std.specs.Prelude.{Bool, nat_lt, ◌==◌, if◌then◌else◌}
 use Rattle.time_digits.specs.Digits.{fixed, padded}
 use Rattle.time_digits.specs.Fraction.{are_zeros, without_last_zeros, last_zeros, trimmed, trimmed_fraction}
 use Rattle.time_digits.proofs.DivisionLemmas.{div-ten-pow}
+use Rattle.std.proofs.lemmas.Grind.{common_steps}
 
 -- ---- fixed digits
 
@@ -32,9 +33,7 @@ some_digit n fits = omega (arith, decimal_nonempty n fits)
 -- a number from 10 ^ k on has k digits more than its quotient by 10 ^ k
 pub length-decimal_quotient : (k n : ℕ) → 10 ^ k ≤ n → n < 2 ^ 64 → length (decimal n)
     ≡ length (decimal (n / 10 ^ k)) + k
-length-decimal_quotient zero n low fits =
-    let all : n / 1 ≡ n = omega arith in
-    rw all (omega arith)
+length-decimal_quotient zero n low fits = grind arith
 length-decimal_quotient (suc k) n low fits =
     let power : 10 ^ suc k ≡ 10 ^ k * 10 = pow-suc 10 k in
     let one = one-le-pow k 10 (omega arith) in
@@ -53,12 +52,7 @@ decimal_longer k n low fits = omega (
 
 -- a number has k + 1 digits, from 10 ^ k on and below the next power
 pub length-decimal : (k n : ℕ) → 10 ^ k ≤ n → n < 10 ^ suc k → n < 2 ^ 64 → length (decimal n) ≡ suc k
-length-decimal k n low high fits = omega (
-  arith,
-  decimal_longer k n low fits,
-  length-decimal-le (suc k) n (omega arith)
-      high fits,
-)
+length-decimal k n low high fits = grind (arith, decimal_longer, length-decimal-le)
 
 -- a number has one digit below 10, at most two below 100, and more from there on
 pub length-digit : (n : ℕ) → n < 10 → length (decimal n) ≡ 1
@@ -95,9 +89,7 @@ length-before_none n below = omega (arith, length-decimal_four n below)
 
 -- a number has k + 1 digits, if 10 ^ k is the greatest power of ten within it, as the logarithm has it
 pub length-decimal_at : (k n : ℕ) → 10 ^ k ≤ n → n < 10 * 10 ^ k → n < 2 ^ 64 → length (decimal n) ≡ k + 1
-length-decimal_at k n low high fits =
-    let p : 10 ^ suc k ≡ 10 ^ k * 10 = pow-suc 10 k in
-    omega (arith, length-decimal k n low (omega arith) fits)
+length-decimal_at k n low high fits = grind (arith, pow-suc, length-decimal)
 
 -- zero has one digit and no logarithm
 pub length-decimal_zero : (n : ℕ) → n ≡ 0 → length (decimal n) ≡ 1
@@ -110,22 +102,12 @@ pub ruleset count_facts = (length-decimal_at, length-decimal_zero)
 -- a number that fits has all the places
 pub length-padded : (fill k n : ℕ) → length (decimal n) ≤ k → length (padded fill k n) ≡ k
 unfolding padded
-length-padded fill k n fits =
-    omega (
-      arith,
-      length-append (replicate {A = ℕ} (k - length (decimal n)) fill) (decimal n),
-      length-replicate (k - length (decimal n)) fill,
-    )
+length-padded fill k n fits = grind (arith, length-append, length-replicate)
 
 -- a padded text is no longer than the longer of its places and its digits
 pub length-padded-le : (fill k n most : ℕ) → k ≤ most → length (decimal n) ≤ most → length (padded fill k n) ≤ most
 unfolding padded
-length-padded-le fill k n most places digits =
-    omega (
-      arith,
-      length-append (replicate {A = ℕ} (k - length (decimal n)) fill) (decimal n),
-      length-replicate (k - length (decimal n)) fill,
-    )
+length-padded-le fill k n most places digits = grind (arith, length-append, length-replicate)
 
 -- a digit is ASCII
 IsAscii-glyph : (d : ℕ) → d < 10 → IsAscii (digit_glyph false d ∷ [])
@@ -151,9 +133,7 @@ IsAscii-number n = IsAscii-onto 64 n [] IsAscii-nil
 pub IsAscii-padded : (fill k n : ℕ) → fill < 128 → IsAscii (padded fill k n)
 unfolding padded
 IsAscii-padded fill k n low =
-    let front = replicate {A = ℕ} (k - length (decimal n)) fill in
-    IsAscii-append front (decimal n)
-    (IsAscii-from_all front (All-replicate (λ b. b < 128) (k - length (decimal n)) fill low)) (IsAscii-number n)
+    grind (arith, common_steps, IsAscii-append, IsAscii-from_all, All-replicate, IsAscii-number)
 
 -- ---- trimmed fractions
 

@@ -1,6 +1,6 @@
 -- Texts in pieces: what precedes the last digits, and then these.
 use Rattle.std.proofs.Common.{◌≡◌, ℕ, suc, ◌+◌, ◌-◌, ◌/◌, ◌%◌, ◌^◌, ◌<◌, ◌≤◌, List, [], ◌∷◌, ◌++◌, length, refl, sym}
-use Rattle.std.proofs.Common.{ap, ap₂, ◌∙◌, arith, append_assoc, get_or, decimal}
+use Rattle.std.proofs.Common.{ap₂, ◌∙◌, arith, append_assoc, get_or, decimal}
 use Rattle.std.proofs.Math.Nat.{one-le-pow, div-le_self}
 use Rattle.std.proofs.lemmas.List.{append-nil}
 use Rattle.std.specs.Borrow.{Bor}
@@ -14,16 +14,12 @@ use Rattle.time_digits.proofs.LengthLemmas.{length-four_whole, length-before_fou
 
 -- the last k places of n, with zeros
 last_zero_padded : (k n : ℕ) → n < 2 ^ 64 → zero_padded (suc k) (n % 10 ^ suc k) ≡ fixed (suc k) n
-last_zero_padded k n h =
-    let one = one-le-pow (suc k) 10 (omega arith) in
-    let below : n % 10 ^ suc k < 10 ^ suc k = omega arith in
-    zero_padded_is k (n % 10 ^ suc k) below (omega arith) ∙ fixed-mod (suc k) n
+last_zero_padded k n h = grind (arith, one-le-pow, zero_padded_is, fixed-mod)
 
 -- n in j + k + 1 places is its quotient in j places and the last ones, from 10 ^ (k + 1) on
 split_pieces : (fill j k n : ℕ) → 10 ^ suc k ≤ n → n < 2 ^ 64 → padded fill j (n / 10 ^ suc k)
     ++ zero_padded (suc k) (n % 10 ^ suc k) ≡ padded fill (j + suc k) n
-split_pieces fill j k n low h = ap (λ bs. padded fill j (n / 10 ^ suc k) ++ bs) (last_zero_padded k n h)
-    ∙ sym (padded-split fill j (suc k) n low h)
+split_pieces fill j k n low h = grind (arith, last_zero_padded, padded-split)
 
 -- n with zeros is its quotient with zeros and the last places, for each n that fits
 zero_pieces : (j k n : ℕ) → n / 10 ^ suc k < 10 ^ suc j → n < 10 ^ suc (j + suc k) → n < 2 ^ 64
@@ -165,8 +161,7 @@ pub five_pieces_taken_over : (first last : List (Bor (List ℕ))) (d : Bor (List
 five_pieces_taken_over [] last d e f = cc
 five_pieces_taken_over (x ∷ []) last d e f = cc
 five_pieces_taken_over (x ∷ y ∷ []) last d e f = cc
-five_pieces_taken_over (x ∷ y ∷ z ∷ []) last d e f =
-    rw (two_pieces_taken_over last d f, append-nil, append_assoc, append_assoc) refl
+five_pieces_taken_over (x ∷ y ∷ z ∷ []) last d e f = grind (arith, two_pieces_taken_over, append-nil, append_assoc)
 five_pieces_taken_over (x ∷ y ∷ z ∷ w ∷ more) last d e f = cc
 
 -- a piece before such two keeps its own length

@@ -19,9 +19,7 @@ same_below f g n e i h =
 
 -- the test says that the bytes are ASCII
 pub ascii_test : (bs : List ℕ) → list_all (λ b. nat_lt b 128) bs ≡ true → IsAscii bs
-ascii_test bs h =
-    IsAscii-from_all bs (All-weaker (λ b. IsTrue (nat_lt b 128)) (λ b. b < 128) (λ b. ltb-true b 128) bs
-    (AllPass-from_list_all (λ b. nat_lt b 128) bs h))
+ascii_test bs h = grind (arith, IsAscii-from_all, All-weaker, ltb-true, AllPass-from_list_all)
 
 -- an ASCII text may be cut at any place
 pub ascii_boundary : (bs : List ℕ) (i : ℕ) → IsTrue (is_ascii bs) → i ≤ length bs → IsCharBoundary bs i

@@ -10,6 +10,7 @@ use Rattle.time_digits.specs.Digits.{fixed}
 use Rattle.time_digits.proofs.DigitLemmas.{fixed-mod, zero_padded_is, padded_whole, decimal_one, decimal-split}
 use Rattle.time_digits.proofs.LengthLemmas.{length-fixed, decimal_longer, length-decimal_word}
 use Rattle.time_digits.proofs.WriteLemmas.{put_at, length-put_at, drop-put_at}
+use Rattle.std.proofs.lemmas.Grind.{common_steps}
 
 -- ---- what a turn takes off a number
 
@@ -67,15 +68,7 @@ pub record IsPending (value rest start : ℕ) (bytes : List ℕ) : Type 0 where
 -- all digits are left before the first turn
 pub nothing_written : (value : ℕ) (bytes : List ℕ) → value < 2 ^ 64 → length bytes ≡ 20 → IsPending value value 20 bytes
 nothing_written value bytes fits size =
-    let none : drop 20 bytes ≡ [] = drop_all 20 bytes (omega arith) in
-    record {
-      size = size;
-      within = omega arith;
-      below = omega arith;
-      room = length-significant_digits_word value fits;
-      text =
-          rw (none, append-nil) refl;
-    }
+    grind (arith, common_steps, drop_all, length-significant_digits_word, append-nil)
 
 -- a turn of k + 1 digits fits if more than k of them are left
 pub places_left : (k value rest start : ℕ) (bytes : List ℕ) → IsPending value rest start bytes → 10 ^ k ≤ rest
@@ -115,10 +108,7 @@ no_digit_left value start bytes p some = p.text ∙ significant_digits_some valu
 zero_has_nothing_written : (value rest start : ℕ) (bytes : List ℕ) → IsPending value rest start bytes → value ≡ 0
     → (start ≡ 20)
     × (drop start bytes ≡ [])
-zero_has_nothing_written value rest start bytes p none =
-    let left : rest ≡ 0 = omega (arith, p.below) in
-    let nothing : drop start bytes ≡ [] = rw (left, none) at p.text in
-    (omega (arith, ap length nothing, length-drop start bytes, p.size, p.within), nothing)
+zero_has_nothing_written value rest start bytes p none = grind (arith, length-drop)
 
 -- one digit is left, or the number is zero, whose digit is
 abbrev pub IsLast : ℕ → ℕ → Type 0
@@ -128,9 +118,7 @@ IsLast value rest = (rest ≢ 0) ⊎ ((rest ≡ 0) × (value ≡ 0))
 pub last_place : (value rest start : ℕ) (bytes : List ℕ) → IsPending value rest start bytes → rest ≤ 9
     → IsLast value rest → 1 ≤ start
 last_place value rest start bytes p one (inl some) = places_left 0 value rest start bytes p (omega arith) (omega arith)
-last_place value rest start bytes p one (inr none) =
-    let left = zero_has_nothing_written value rest start bytes p none.1 in
-    omega (arith, left.0)
+last_place value rest start bytes p one (inr none) = grind (arith, zero_has_nothing_written)
 
 -- the last digit completes the text
 pub all_written : (value rest start : ℕ) (bytes after : List ℕ) → IsPending value rest start bytes → rest ≤ 9
@@ -145,14 +133,4 @@ all_written value rest start bytes after p one (inl some) written =
     (rw (sym digit) at written)) in
     no_digit_left value (start - 1) after done (omega (arith, p.below))
 all_written value rest start bytes after p one (inr none) written =
-    let left = zero_has_nothing_written value rest start bytes p none.1 in
-    let end : start - 1 + 1 ≡ start = omega (arith, left.0) in
-    rw (
-      written,
-      drop-put_at (start - 1) 1 bytes (fixed 1 rest) (omega (arith, p.size, p.within)),
-      end,
-      left.1,
-      append-nil,
-      none.1,
-      none.0,
-    ) (sym (decimal_one 0 (omega arith)))
+    grind (arith, zero_has_nothing_written, drop-put_at, append-nil, decimal_one)

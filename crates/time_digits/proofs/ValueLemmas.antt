@@ -1,7 +1,6 @@
 -- The decimal values of digits.
 use Rattle.std.proofs.Common.{◌≡◌, ℕ, zero, suc, ◌+◌, ◌*◌, ◌/◌, ◌%◌, ◌^◌, ◌<◌, ◌≤◌, List, [], ◌∷◌, ◌++◌, length, take}
-use Rattle.std.proofs.Common.{get_or}
-use Rattle.std.proofs.Common.{refl, sym, ap, ◌∙◌, arith}
+use Rattle.std.proofs.Common.{get_or, refl, sym, ap, ◌∙◌, arith}
 use Rattle.std.specs.Str.Parse.{AllDigits, digits_value}
 use Rattle.std.specs.Char.{digit_value}
 use Rattle.std.proofs.lemmas.Str.{digit_value_digit}
@@ -15,10 +14,7 @@ use Rattle.time_digits.proofs.DigitLemmas.{fixed_step}
 -- ten times a value and a digit have one fixed digit more
 one_more_digit : (k v d : ℕ) (front : List ℕ) → d < 10 → fixed k v ≡ front
     → fixed (suc k) (v * 10 + d) ≡ front ++ (48 + d) ∷ []
-one_more_digit k v d front h e =
-    let rest : (v * 10 + d) / 10 ≡ v = omega arith in
-    let last : (v * 10 + d) % 10 ≡ d = omega arith in
-    fixed_step k (v * 10 + d) ∙ rw (rest, last, e) refl
+one_more_digit k v d front h e = grind (arith, fixed_step)
 
 -- the first k digits are those of their value
 pub fixed_take : (k : ℕ) (text : List ℕ) → k ≤ length text → AllDigits 10 text

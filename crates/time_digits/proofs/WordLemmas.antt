@@ -2,7 +2,7 @@
 use Rattle.std.proofs.Common.{◌≡◌, ℕ, zero, suc, ◌+◌, ◌-◌, ◌*◌, ◌/◌, ◌^◌, ◌<◌, ◌≤◌, ◌≢◌, ◌==◌, List, [], ◌∷◌, length}
 use Rattle.std.proofs.Common.{get_or, refl, sym, ap, ◌∙◌, arith, true, false, ⊎_elim, w64}
 use Rattle.std.specs.Int.{to_le_bytes, from_le_bytes, leading_zeros, IsInRange}
-use Rattle.std.specs.Int.Bits.{bit_xor, xor_zero_r}
+use Rattle.std.specs.Int.Bits.{bit_xor}
 use Rattle.std.specs.Str.Parse.{AllDigits}
 use Rattle.std.proofs.Math.Nat.{pow-suc, pow-le-pow_right}
 use Rattle.std.proofs.lemmas.Bool.{cases_Bool, cases_lt, and_parts, eqb-true}
@@ -13,6 +13,7 @@ use Rattle.time_digits.specs.Fraction.{are_zeros, without_last_zeros, last_zeros
 use Rattle.time_digits.proofs.DigitLemmas.{IsAscii-fixed}
 use Rattle.time_digits.proofs.FractionLemmas.{zeros_none, not_zeros}
 use Rattle.time_digits.proofs.LengthLemmas.{length-fixed, length-without_last_zeros, last_zeros-le}
+use Rattle.std.proofs.lemmas.Grind.{common_steps}
 
 -- the word that bytes spell, the lowest one first
 abbrev word_of : List ℕ → ℕ
@@ -31,11 +32,7 @@ values_word (d ∷ ds) = values_word ds * 256 + (d - 48)
 
 -- the exclusive or of a digit with the digit 0 is its value
 xor_digit : (d : ℕ) → IsInRange 48 57 d → bit_xor d 48 ≡ d - 48
-xor_digit d h =
-    let e : 3 * 2 ^ 4 + (d - 48) ≡ d = omega arith in
-    let high : bit_xor (3 * 2 ^ 4 + (d - 48)) (3 * 2 ^ 4 + 0) ≡ 0 * 2 ^ 4 + bit_xor (d - 48) 0 =
-    xor_block 4 3 3 (d - 48) 0 (omega arith) (omega arith) in
-    omega (arith, rw (e, xor_zero_r) at high)
+xor_digit d h = grind (arith, common_steps, xor_block)
 
 -- the exclusive or of a word of digits with as many zeros is the word of their values
 xor_digits : (ds : List ℕ) → AllDigits 10 ds → bit_xor (word_of ds) (zeros_word (length ds)) ≡ values_word ds
@@ -86,10 +83,7 @@ values_below (d ∷ ds) h =
 values_above : (ds : List ℕ) (m : ℕ) → AllDigits 10 ds → length (without_last_zeros ds) ≡ suc m
     → 2 ^ (8 * m) ≤ values_word ds
 values_above [] m h e = cc
-values_above (d ∷ ds) zero h e =
-    ⊎_elim (λ (all : are_zeros (d ∷ ds) ≡ true). absurd (omega (arith, rw (zeros_none d ds all) at e)))
-    (λ (some : are_zeros (d ∷ ds) ≡ false). values_some (d ∷ ds) h some)
-    (cases_Bool (are_zeros (d ∷ ds)))
+values_above (d ∷ ds) zero h e = grind (arith, zeros_none, values_some, cases_Bool)
 values_above (d ∷ ds) (suc m) h e =
     ⊎_elim (λ (all : are_zeros (d ∷ ds) ≡ true). absurd (omega (arith, rw (zeros_none d ds all) at e)))
     (λ (some : are_zeros (d ∷ ds) ≡ false).

@@ -1,11 +1,12 @@
 -- Digits that are written into bytes.
 use Rattle.std.proofs.Common.{◌≡◌, ℕ, ◌+◌, ◌/◌, ◌%◌, ◌<◌, ◌≤◌, List, [], ◌∷◌, ◌++◌, length, take, drop, set, get_or}
-use Rattle.std.proofs.Common.{refl, sym, ap, ◌∙◌, arith, append_assoc, length-append, length-drop, length-set}
+use Rattle.std.proofs.Common.{refl, sym, ap, ◌∙◌, arith, append_assoc, length-append, length-drop}
 use Rattle.std.proofs.lemmas.List.{append-nil, take-append-drop, take-set, drop-set, drop-drop, drop_all, take_at}
 use Rattle.std.proofs.lemmas.List.{drop_at, length-take-le}
 use Rattle.time_digits.specs.Digits.{fixed, zero_padded}
 use Rattle.time_digits.proofs.DigitLemmas.{fixed-append, fixed-mod, zero_padded_is, decimal_one}
 use Rattle.time_digits.proofs.LengthLemmas.{length-fixed}
+use Rattle.std.proofs.lemmas.Grind.{common_steps}
 
 -- xs in the place of the k bytes from a on
 abbrev pub put_at : ℕ → ℕ → List ℕ → List ℕ → List ℕ
@@ -14,19 +15,11 @@ put_at a k bs xs = take a bs ++ xs ++ drop (a + k) bs
 -- a write of as many bytes keeps the length
 pub length-put_at : (a k : ℕ) (bs xs : List ℕ) → a + k ≤ length bs → length xs ≡ k
     → length (put_at a k bs xs) ≡ length bs
-length-put_at a k bs xs room width =
-    omega (
-      arith,
-      length-append (take a bs ++ xs) (drop (a + k) bs),
-      length-append (take a bs) xs,
-      length-take-le a bs (omega arith),
-      length-drop (a + k) bs,
-    )
+length-put_at a k bs xs room width = grind (arith, length-append, length-take-le, length-drop)
 
 -- the bytes from the place of a write on are what is written, and then what followed it
 pub drop-put_at : (a k : ℕ) (bs xs : List ℕ) → a ≤ length bs → drop a (put_at a k bs xs) ≡ xs ++ drop (a + k) bs
-drop-put_at a k bs xs room =
-    rw append_assoc (drop_at (take a bs) (xs ++ drop (a + k) bs) a (length-take-le a bs room))
+drop-put_at a k bs xs room = grind (arith, append_assoc, drop_at, length-take-le)
 
 -- a write right after another is one write of both
 puts_one_after_the_other : (a j k : ℕ) (bs xs ys : List ℕ) → a + j + k ≤ length bs → length xs ≡ j
@@ -66,10 +59,7 @@ pub two_bytes_put : (a : ℕ) (bs ds zs : List ℕ) → a + 2 ≤ length bs → 
 two_bytes_put a bs [] zs room two same = cc
 two_bytes_put a bs (x ∷ []) zs room two same = absurd (omega arith)
 two_bytes_put a bs (x ∷ y ∷ []) zs room two same =
-    rw (← same)
-    (set_byte_is_put (a + 1) y (set bs a x) (omega (arith, length-set bs a x))
-    ∙ ap (λ b. put_at (a + 1) 1 b (y ∷ [])) (set_byte_is_put a x bs (omega arith))
-    ∙ puts_one_after_the_other a 1 1 bs (x ∷ []) (y ∷ []) (omega arith) refl)
+    grind (arith, common_steps, set_byte_is_put, puts_one_after_the_other)
 two_bytes_put a bs (x ∷ y ∷ z ∷ more) zs room two same = absurd (omega arith)
 
 -- two places with zeros are two fixed digits
@@ -88,9 +78,7 @@ two_pairs n = ap (λ bs. fixed 2 (n / 100) ++ bs) (fixed-mod 2 n) ∙ sym (fixed
 -- two pairs written one after the other are four digits written
 pub four_written : (a n : ℕ) (bs : List ℕ) → a + 4 ≤ length bs
     → put_at (a + 2) 2 (put_at a 2 bs (fixed 2 (n / 100))) (fixed 2 (n % 100)) ≡ put_at a 4 bs (fixed 4 n)
-four_written a n bs room =
-    puts_one_after_the_other a 2 2 bs (fixed 2 (n / 100)) (fixed 2 (n % 100)) (omega arith) (length-fixed 2 (n / 100))
-    ∙ ap (put_at a 4 bs) (two_pairs n)
+four_written a n bs room = grind (arith, puts_one_after_the_other, length-fixed, two_pairs)
 
 -- one digit and two groups of four are nine digits
 one_and_two_fours : (n : ℕ) → fixed 1 (n / 10_000 / 10_000) ++ fixed 4 (n / 10_000 % 10_000) ++ fixed 4 (n % 10_000)
