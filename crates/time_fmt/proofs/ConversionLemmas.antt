@@ -12,13 +12,7 @@ use Rattle.time_fmt.specs.Outcome.{refused, insufficient}
 
 -- a component that is not deprecated stays
 pub current_is_kept : (c : Component) → IsTrue (is_current c) → current_component c ≡ c
-current_is_kept (component.Month m) h = let never : ⊥ = cc in absurd never
-current_is_kept (component.Weekday m) h = let never : ⊥ = cc in absurd never
-current_is_kept (component.WeekNumber m) h = let never : ⊥ = cc in absurd never
-current_is_kept (component.Hour m) h = let never : ⊥ = cc in absurd never
-current_is_kept (component.UnixTimestamp m) h = let never : ⊥ = cc in absurd never
-current_is_kept (component.Year m) h = let never : ⊥ = cc in absurd never
-current_is_kept c h = refl
+current_is_kept c h = grind (arith, common_steps)
 
 -- its outcome is what it shows of a value that supplies its group, and a refusal of any other
 pub outcome_with_group : (c : Component) (f : Facts) → IsTrue (is_current c) → true ≡ has_group (group_of c) f

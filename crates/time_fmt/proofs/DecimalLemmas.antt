@@ -13,6 +13,7 @@ use Rattle.time_digits.proofs.FractionLemmas.{length-trimmed_fraction}
 use Rattle.time_fmt.specs.Decimals.{decimals}
 use Rattle.time_fmt.specs.Text.{subsecond_text}
 use Rattle.time_fmt.proofs.NumberLemmas.{two_zeros, four_zeros, six_zeros}
+use Rattle.std.proofs.lemmas.Grind.{common_steps}
 
 -- the first bytes of two texts are those of the first
 take_front : (xs ys : List ℕ) (k : ℕ) → length xs ≡ k → take k (xs ++ ys) ≡ xs
@@ -115,5 +116,4 @@ pub ruleset two_parts = (seven_parts, length-digit, six_zeros, length-append, ap
 
 -- the decimals have no more bytes than their width
 pub length-subsecond_text : (d : SubsecondDigits) (n : ℕ) → length (subsecond_text d n) ≤ subsecond_width d
-length-subsecond_text digits.OneOrMore n = length-trimmed_fraction n
-length-subsecond_text d n = omega (arith, length-take (subsecond_width d) (fixed 9 n))
+length-subsecond_text d n = grind (arith, common_steps, length-trimmed_fraction, length-take)

@@ -1,6 +1,5 @@
 -- How a text of the engine ends: by the text or the refusal of a component, and as the answer of a public call.
-use Rattle.std.proofs.Common.{◌≡◌, arith, ℕ, ◌-◌, ◌≤◌, true, false, List, length}
-use Rattle.std.proofs.Common.{Result, Ok, Err, Vec, vec_len}
+use Rattle.std.proofs.Common.{◌≡◌, arith, ℕ, ◌-◌, ◌≤◌, true, false, List, length, Result, Ok, Err, Vec, vec_len}
 use Rattle.std.proofs.lemmas.List.{append-nil}
 use Rattle.std.specs.Global.{Global}
 use Rattle.std.specs.Prelude.{nat_le}

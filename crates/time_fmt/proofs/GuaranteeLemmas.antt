@@ -1,7 +1,6 @@
 -- Texts of components are ASCII, and texts one after another are UTF-8 where each of them is.
-use Rattle.std.proofs.Common.{◌≡◌, ℕ, Bool, true, false, ◌&&◌, nat_lt, List, [], IsAscii, IsUtf8}
-use Rattle.std.proofs.Common.{MatchOption, Option, Some, None, refl, arith, Result}
-use Rattle.std.specs.Prelude.{codes}
+use Rattle.std.proofs.Common.{◌≡◌, ℕ, Bool, true, ◌&&◌, nat_lt, List, [], IsAscii, IsUtf8, MatchOption, Option, Some}
+use Rattle.std.proofs.Common.{None, arith, Result}
 use Rattle.std.specs.List.{list_all}
 use Rattle.std.proofs.lemmas.Bool.{and_parts, ltb-true}
 use Rattle.std.proofs.lemmas.List.Elements.{All-weaker}
@@ -10,7 +9,6 @@ use Rattle.std.proofs.lemmas.Str.{IsAscii-append, IsAscii-take, IsUtf8-append, I
 use Rattle.std.proofs.lemmas.Str.Ascii.{IsAscii-from_all, IsAscii-nil}
 use Rattle.time_below.specs.Conversion.{current_component}
 use Rattle.time_below.specs.declared.period.Period.{Period}
-use Rattle.time_below.specs.declared.period.Period.TheVariants.{Am, Pm}
 use Rattle.time_below.specs.declared.format_description.component.Component.{Component}
 use Rattle.time_below.specs.declared.format_description.modifier.Padding.{Padding}
 use Rattle.time_below.specs.declared.format_description.modifier.Padding.TheVariants as padding
@@ -24,8 +22,7 @@ use Rattle.time_digits.proofs.DigitLemmas.{IsAscii-fixed}
 use Rattle.time_digits.proofs.FractionLemmas.{IsAscii-trimmed_fraction}
 use Rattle.time_digits.proofs.LengthLemmas.{IsAscii-padded, IsAscii-number}
 use Rattle.time_fmt.specs.DateText.{month_name, weekday_name, indexed}
-use Rattle.time_fmt.specs.Description.{current_outcome, component_outcome}
-use Rattle.time_fmt.specs.Description.{tree_outcome, trees_outcome}
+use Rattle.time_fmt.specs.Description.{current_outcome, component_outcome, tree_outcome, trees_outcome}
 use Rattle.time_fmt.specs.Ends.{Ends}
 use Rattle.time_fmt.specs.Guarantee.{IsTextIf, AppendsLeaf}
 use Rattle.time_fmt.specs.Kind as kind
@@ -35,6 +32,7 @@ use Rattle.time_fmt.specs.Sink.{Buffer}
 use Rattle.time_fmt.specs.Text.{padded_text, sign_text, period_text, subsecond_text}
 use Rattle.time_fmt.specs.declared.refused.Refused.{Refused}
 use Rattle.time_fmt.proofs.TextLemmas.{passes_at}
+use Rattle.std.proofs.lemmas.Grind.{common_steps}
 
 -- ---- texts
 
@@ -44,15 +42,11 @@ ascii_test bs h = grind (arith, IsAscii-from_all, All-weaker, ltb-true, AllPass-
 
 -- a number in its places is ASCII
 IsAscii-padded_text : (p : Padding) (places n : ℕ) → IsAscii (padded_text p places n)
-IsAscii-padded_text padding.Space places n = IsAscii-padded 32 places n (omega arith)
-IsAscii-padded_text padding.Zero places n = IsAscii-padded 48 places n (omega arith)
-IsAscii-padded_text padding.None places n = IsAscii-number n
+IsAscii-padded_text p places n = grind (arith, common_steps, IsAscii-padded, IsAscii-number)
 
 -- a sign is ASCII
 pub IsAscii-sign_text : (is_negative is_wanted : Bool) → IsAscii (sign_text is_negative is_wanted)
-IsAscii-sign_text true is_wanted = ascii_test (codes "-") refl
-IsAscii-sign_text false true = ascii_test (codes "+") refl
-IsAscii-sign_text false false = IsAscii-nil
+IsAscii-sign_text is_negative is_wanted = grind (arith, common_steps, ascii_test, IsAscii-nil)
 
 -- the name of a month is ASCII
 pub IsAscii-month_name : (m : ℕ) → IsAscii (month_name m)
@@ -64,10 +58,7 @@ IsAscii-weekday_name w = grind (arith, ascii_test, passes_at)
 
 -- the half of a day is ASCII
 IsAscii-period_text : (p : Period) (is_uppercase : Bool) → IsAscii (period_text p is_uppercase)
-IsAscii-period_text Am true = ascii_test (codes "AM") refl
-IsAscii-period_text Am false = ascii_test (codes "am") refl
-IsAscii-period_text Pm true = ascii_test (codes "PM") refl
-IsAscii-period_text Pm false = ascii_test (codes "pm") refl
+IsAscii-period_text p is_uppercase = grind (arith, common_steps, ascii_test)
 
 -- decimals of the second are ASCII
 IsAscii-subsecond_text : (d : SubsecondDigits) (n : ℕ) → IsAscii (subsecond_text d n)
@@ -118,8 +109,7 @@ pub leaf_of_written : {N : Type 0} (written : Option (Result Unit Refused)) (c :
     (old new : Buffer) → (N → new ≡ old)
     → MatchOption written N (λ answer. Ends (component_width c) old new answer (component_outcome c f))
     → AppendsLeaf (of_component c) f old new written
-leaf_of_written None c f old new same nothing = same nothing
-leaf_of_written (Some answer) c f old new same ends = record { ends = ends; text = λ _. text_of_component c f }
+leaf_of_written written c f old new h k = grind (arith, common_steps, text_of_component)
 
 -- a list has a text if its first tree has one, and so have the others
 pub text_more : (t : Tree) (ts : Trees) (f : Facts) → IsTextIf (is_guaranteed_text t) (tree_outcome t f)

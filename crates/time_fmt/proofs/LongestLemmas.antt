@@ -11,7 +11,6 @@ use Rattle.time_below.specs.declared.format_description.modifier.Padding.{Paddin
 use Rattle.time_below.specs.declared.format_description.modifier.SubsecondDigits.{SubsecondDigits}
 use Rattle.time_below.specs.declared.format_description.modifier.SubsecondDigits.TheVariants as chosen
 use Rattle.time_below.specs.declared.period.Period.{Period}
-use Rattle.time_below.specs.declared.period.Period.TheVariants.{Am, Pm}
 use Rattle.time_below.specs.Facts.{facts_of_offset_date_time}
 use Rattle.time_below.specs.Moment.{OffsetDateAndTime}
 use Rattle.time_below.specs.Width.{component_width, subsecond_width}
@@ -25,12 +24,12 @@ use Rattle.time_fmt.specs.Kind.{Kind, kind_text}
 use Rattle.time_fmt.specs.Longest.{ReachesWidth, longest_extended, longest_standard}
 use Rattle.time_fmt.specs.Text.{padded_text, period_text, subsecond_text}
 use Rattle.time_fmt.proofs.TextLemmas.{no_padding}
+use Rattle.std.proofs.lemmas.Grind.{common_steps}
 
 -- decimals of the second, as many as are chosen, or nine
 length-subseconds : (decimals : SubsecondDigits) → length (subsecond_text decimals 123_456_789) ≡ subsecond_width decimals
 unfolding fixed last_zeros trimmed_fraction
-length-subseconds chosen.OneOrMore = refl
-length-subseconds decimals = refl
+length-subseconds decimals = grind (arith, common_steps)
 
 -- whether a text fills a width, for any padding, case and sign
 abbrev fills_width : Kind → ℕ → Bool
@@ -50,14 +49,10 @@ number_fills p places n width enough e = grind (arith, no_padding, leb-true)
 
 -- a weekday by a digit, and the half of a day
 digit_fills : (one_indexed : Bool) (days : ℕ) → days < 9 → length (decimal (indexed one_indexed days)) ≡ 1
-digit_fills true days h = length-digit (days + 1) (omega arith)
-digit_fills false days h = length-digit days (omega arith)
+digit_fills one_indexed days h = grind (arith, common_steps, length-digit)
 
 half_day_fills : (p : Period) (is_uppercase : Bool) → length (period_text p is_uppercase) ≡ 2
-half_day_fills Am true = refl
-half_day_fills Am false = refl
-half_day_fills Pm true = refl
-half_day_fills Pm false = refl
+half_day_fills p is_uppercase = grind (arith, common_steps)
 
 -- it has then this many bytes
 text_fills : (k : Kind) (width : ℕ) → IsTrue (fills_width k width) → length (kind_text k) ≡ width

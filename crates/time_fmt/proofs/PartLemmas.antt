@@ -1,6 +1,5 @@
 -- Outcomes, widths and guarantees of lists one after another.
-use Rattle.std.proofs.Common.{◌≡◌, ℕ, ◌+◌, Bool, true, false, ◌&&◌, List, [], refl, sym, ap, ◌∙◌, arith, append_assoc}
-use Rattle.std.proofs.Common.{Option, Some, None}
+use Rattle.std.proofs.Common.{◌≡◌, ℕ, ◌+◌, Bool, true, ◌&&◌, List, [], refl, ap, ◌∙◌, arith, append_assoc, Option}
 use Rattle.std.proofs.lemmas.List.{append-nil}
 use Rattle.time_below.proofs.NodeLemmas.{and_assoc}
 use Rattle.time_below.specs.Facts.{Facts}
@@ -15,15 +14,12 @@ use Rattle.std.proofs.lemmas.Grind.{common_steps}
 joins_regrouped : (x : List ℕ) (r : Option Refusal) (y : List ℕ) (s : Option Refusal) (c : Outcome)
     → join (join (record { bytes = x; refusal = r }) (record { bytes = y; refusal = s })) c
     ≡ join (record { bytes = x; refusal = r }) (join (record { bytes = y; refusal = s }) c)
-joins_regrouped x (Some r) y s c = refl
-joins_regrouped x None y (Some s) c = refl
-joins_regrouped x None y None c = ap (λ (bs : List ℕ). record { bytes = bs; refusal = c.refusal }) (append_assoc x y c.bytes)
+joins_regrouped x r y s c = grind (arith, common_steps, append_assoc)
 
 -- nothing more
 join_nothing : (x : List ℕ) (r : Option Refusal)
     → record { bytes = x; refusal = r } ≡ join (record { bytes = x; refusal = r }) (done [])
-join_nothing x (Some r) = refl
-join_nothing x None = ap (λ (bs : List ℕ). record { bytes = bs; refusal = None }) (sym (append-nil x))
+join_nothing x r = grind (arith, common_steps, append-nil)
 
 outcome_of_item : (t : Tree) (f : Facts) → tree_outcome t f ≡ trees_outcome (more t end) f
 outcome_of_item t f = join_nothing (tree_outcome t f).bytes (tree_outcome t f).refusal
@@ -48,8 +44,7 @@ guarantee_of_pair (more t ts) us =
     ∙ ap (λ b. is_guaranteed_text t && b) (guarantee_of_pair ts us)
 
 and_true : (b : Bool) → b ≡ (b && true)
-and_true true = refl
-and_true false = refl
+and_true b = grind (arith, common_steps)
 
 pub pair_means_both_lists : PairMeansBothLists
 pair_means_both_lists first second width other_width is_guaranteed is_other ts us a b = record {

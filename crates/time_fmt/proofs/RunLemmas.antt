@@ -1,6 +1,5 @@
 -- How long dates and times of day are, and that they are what their parts give.
-use Rattle.std.proofs.Common.{◌≡◌, ℕ, ◌≤◌, ◌++◌, ◌∷◌, [], true, false, List, Ok, length}
-use Rattle.std.proofs.Common.{arith}
+use Rattle.std.proofs.Common.{◌≡◌, ℕ, ◌≤◌, ◌++◌, ◌∷◌, [], true, false, List, Ok, length, arith}
 use Rattle.std.proofs.lemmas.List.{append-nil}
 use Rattle.std.specs.Prelude.{ℤ, is_some, unsigned_abs}
 use Rattle.time_below.specs.declared.format_description.component.Component.TheVariants as component

@@ -1,5 +1,5 @@
 -- How long each kind of text is.
-use Rattle.std.proofs.Common.{◌≡◌, ℕ, zero, suc, ◌+◌, ◌-◌, ◌^◌, ◌<◌, ◌≤◌, Bool, true, false, List, [], ◌∷◌, ◌++◌}
+use Rattle.std.proofs.Common.{◌≡◌, ℕ, ◌+◌, ◌-◌, ◌^◌, ◌<◌, ◌≤◌, Bool, true, List, [], ◌++◌}
 use Rattle.std.proofs.Common.{IsTrue, length, replicate, refl, sym, ◌∙◌, decimal, arith, length-append, append_assoc}
 use Rattle.std.specs.List.{list_all}
 use Rattle.std.specs.Prelude.{slice_index_or, nat_lt, ◌||◌}
@@ -25,9 +25,7 @@ use Rattle.std.proofs.lemmas.Grind.{common_steps}
 -- a number has no more bytes than its places and its digits
 pub length-padded_text : (p : Padding) (places width n : ℕ) → places ≤ width → length (decimal n) ≤ width
     → length (padded_text p places n) ≤ width
-length-padded_text padding.Space places width n h d = length-padded-le 32 places n width h d
-length-padded_text padding.Zero places width n h d = length-padded-le 48 places n width h d
-length-padded_text padding.None places width n h d = d
+length-padded_text p places width n h k = grind (arith, common_steps, length-padded-le)
 
 -- a number below 100 fits two places
 pub two_places : (p : Padding) (n : ℕ) → n < 100 → length (padded_text p 2 n) ≤ 2
@@ -57,9 +55,7 @@ pub ruleset zeros_before = (places_of, zero_padded_is_zeros, length-zeros, appen
 
 -- digits that fill their places stand alone
 pub no_padding : (p : Padding) (places n : ℕ) → places ≤ length (decimal n) → padded_text p places n ≡ decimal n
-no_padding padding.Space places n h = padded_whole 32 places n h
-no_padding padding.Zero places n h = padded_whole 48 places n h
-no_padding padding.None places n h = refl
+no_padding p places n h = grind (arith, common_steps, padded_whole)
 
 -- a year from 10,000 on, and a century from 100 on
 pub whole_year : (p : Padding) (n : ℕ) → 10_000 ≤ n → n < 2 ^ 64 → padded_text p 4 n ≡ zero_padded 4 n
@@ -72,20 +68,16 @@ whole_century p n low high = let long = decimal_longer 2 n low high in no_paddin
 
 -- a century of two digits has the sign that is wanted, and a longer one has a sign
 pub small_century : (is_wanted : Bool) (n : ℕ) → n < 100 → (is_wanted || nat_lt 99 n) ≡ is_wanted
-small_century true n few = refl
-small_century false n few = le-ltb 99 n (omega arith)
+small_century is_wanted n h = grind (arith, common_steps, le-ltb)
 
 pub great_century : (is_wanted : Bool) (n : ℕ) → 100 ≤ n → (is_wanted || nat_lt 99 n) ≡ true
-great_century true n many = refl
-great_century false n many = lt-ltb 99 n (omega arith)
+great_century is_wanted n h = grind (arith, common_steps, lt-ltb)
 
 -- ---- numbers after their signs
 
 -- a sign has one byte at most
 pub length-sign_text : (is_negative is_wanted : Bool) → length (sign_text is_negative is_wanted) ≤ 1
-length-sign_text true is_wanted = omega arith
-length-sign_text false true = omega arith
-length-sign_text false false = omega arith
+length-sign_text is_negative is_wanted = grind (arith, common_steps)
 
 -- one text after another
 pub ruleset signed_parts = (length-append, append_assoc)
@@ -138,9 +130,7 @@ signed_milliseconds is_negative is_wanted n h =
 -- a test that no bytes and all names of a list pass is passed by the one at any place
 pub passes_at : (test : List ℕ → Bool) (names : List (List ℕ)) (i : ℕ) → IsTrue (test []) → IsTrue (list_all test names)
     → IsTrue (test (slice_index_or names i []))
-passes_at test [] i none all = none
-passes_at test (name ∷ names) zero none all = (and_parts (test name) (list_all test names) all).0
-passes_at test (name ∷ names) (suc i) none all = grind (arith, common_steps, and_parts)
+passes_at test names i h k = grind (arith, common_steps, and_parts, common_steps)
 
 -- no name of a month is longer than September
 pub length-month_name : (n : ℕ) → length (month_name n) ≤ 9
@@ -160,8 +150,7 @@ days_in_week w = grind arith
 
 -- a number of days below seven, counted from 0 or from 1 on
 length-indexed : (one_indexed : Bool) (days : ℕ) → days ≤ 6 → length (decimal (indexed one_indexed days)) ≤ 1
-length-indexed true days h = length-decimal-le 1 (days + 1) (omega arith) (omega arith) (omega arith)
-length-indexed false days h = length-decimal-le 1 days (omega arith) (omega arith) (omega arith)
+length-indexed one_indexed days h = grind (arith, common_steps, length-decimal-le)
 
 -- a weekday is one digit, from Monday
 pub length-monday_digit : (one_indexed : Bool) (w : Weekday)

@@ -1,11 +1,12 @@
 -- Texts that were written one after another are one text, and one text is what an outcome appends; so are
 -- outcomes.
-use Rattle.std.proofs.Common.{◌≡◌, ℕ, ◌+◌, ◌-◌, ◌++◌, length-append, append_assoc, refl}
-use Rattle.std.proofs.Common.{arith, Option, Some, None, IsSomeAnd, Result, Ok, Err, Vec, vec_len}
+use Rattle.std.proofs.Common.{◌≡◌, ℕ, ◌+◌, ◌-◌, ◌++◌, length-append, append_assoc, refl, arith, Option, Some, None}
+use Rattle.std.proofs.Common.{IsSomeAnd, Result, Ok, Err, Vec, vec_len}
 use Rattle.std.proofs.lemmas.List.{append-nil}
 use Rattle.std.specs.Global.{Global}
 use Rattle.time_fmt.specs.declared.error.Format.{Format}
 use Rattle.time_fmt.specs.Outcome.{Outcome, Refusal, Names, Appends, Adds, refused, join}
+use Rattle.std.proofs.lemmas.Grind.{common_steps}
 
 -- an outcome is added if it is appended after a reservation
 pub adds_after_room : {answer : Result ℕ Format} {o : Outcome} (old mid new : Vec ℕ Global) → mid.items ≡ old.items
@@ -24,8 +25,7 @@ appends_nothing output e r named = grind (arith, append-nil)
 
 -- a refusal that is named is there
 pub some_of : (P : Refusal → Type 0) (x : Option Refusal) → IsSomeAnd x P → (r : Refusal) × (x ≡ Some r)
-some_of P None h = absurd h
-some_of P (Some r) h = (r, refl)
+some_of P x h = grind (arith, common_steps)
 
 -- nothing follows what is refused
 pub join_refused : (a b : Outcome) (r : Refusal) → a.refusal ≡ Some r → join a b ≡ a
