@@ -4,6 +4,7 @@ use Rattle.std.specs.Prelude.{IsTrue, nat_le, slice_range, ◌==◌, ◌≢◌}
 use Rattle.std.specs.Str.{is_utf8}
 use Rattle.std.proofs.lemmas.Bool.{le-leb, leb-true, leb-false}
 use Rattle.std.proofs.lemmas.List.{append-nil, length-append, take_more_set}
+use Rattle.movaliren_c.specs.Answer.{IsText}
 use Rattle.movaliren_c.specs.Described.{AreItems, DescribeNothing, Describes, HoldsIn, HoldsItems, HoldsListsIn, IsHeld, IsItem, IsItemOf, Leaves, LeavesItems, bracket_items, bracket_number, few_in, fault_at, is_shown, no_item, of_brackets, of_strftime, shown, strftime_items, strftime_number}
 use Rattle.movaliren_c.specs.Flat.{closed_at, flat, flat_items, hidden_at, or_at, shown_in}
 use Rattle.movaliren_c.specs.Items.{component_of, date_component, described, item_tree, trees_of}
@@ -279,12 +280,22 @@ given_by true text all count room most items old new value facts small test h =
 given_by false text all count room most items old new value facts small test h = absurd (let e = h.0 in cc)
 
 -- the items give what the text does, of which there may be more than the array has room for
-pub text_given : {A : Type 0} (text : List ℕ) (d : Result (List Tree) Fault) (count most : ℕ) (items : List Item) (old new : Fault) (value : Result A Reason)
+text_given : {A : Type 0} (text : List ℕ) (d : Result (List Tree) Fault) (count most : ℕ) (items : List Item) (old new : Fault) (value : Result A Reason)
     (facts : A → Facts) → length items ≤ most → Leaves text d (Ok count) items old new
     → described (few_in most d) value facts ≡ described (trees_of text (take count items)) value facts
 text_given text (Ok all) count most items old new value facts small h =
     given_by (nat_le (length all) (length items)) text all count (length items) most items old new value facts small refl h
 text_given text (Err f) count most items old new value facts small h = absurd (let e = h.0 in cc)
+
+-- so a text of the items is one of the text
+pub text_shown : {A : Type 0} (text : List ℕ) (d : Result (List Tree) Fault) (count most : ℕ) (items : List Item) (old new : Fault)
+    (value : Result A Reason) (facts : A → Facts) (answer : Result ℕ Reason) (before after : List ℕ) → length items ≤ most
+    → Leaves text d (Ok count) items old new
+    → IsText (described (trees_of text (take count items)) value facts) answer before after
+    → IsText (described (few_in most d) value facts) answer before after
+text_shown text d count most items old new value facts answer before after small h =
+    subst (λ (o : Result Outcome Reason). IsText o answer before after)
+    (sym (text_given text d count most items old new value facts small h))
 
 many_only : (fits : Bool) (text : List ℕ) (all : List Tree) (r : Reason) (items : List Item) (old new : Fault)
     → LeavesItems fits text all (Err r) items old new → r ≡ reason.ManyItems

@@ -5,7 +5,7 @@ use Rattle.std.specs.Prelude.{int_le, nat_lt}
 use Rattle.std.proofs.lemmas.Bool.{and_parts}
 use Rattle.std.proofs.lemmas.Bool.Decides.{nat_tests}
 use Rattle.std.proofs.lemmas.Int.{ints}
-use Rattle.movaliren_c.specs.Utc.{Means, value_at, with_offset, utc_value, east_value, local_there, local_value}
+use Rattle.movaliren_c.specs.Utc.{Means, with_offset, utc_value, east_value, local_there, local_value}
 use Rattle.movaliren_c.specs.Value.{checked, last_second, with_value, timestamp_value}
 use Rattle.movaliren_c.specs.declared.reason.Reason.{Reason}
 use Rattle.time_below.specs.Moment.{Moment, OffsetDateAndTime, IsMoment, local_at, moved, seconds_before, unix_seconds, utc_date_and_time}
@@ -44,14 +44,14 @@ is_moment s n m h =
     let real : IsMoment (record { seconds = s; nanosecond = n }) = ((omega (arith, ints), omega (arith, ints)), grind (arith, nat_tests)) in
     (subst IsMoment same real, sym (ap (λ (x : Moment). x.seconds) same), sym (ap (λ (x : Moment). x.nanosecond) same))
 
--- a date and time of a real moment, and its offset
-at_offset : (s : ℤ) (n : ℕ) (o : Offset) (t : OffsetDateAndTime) → value_at s n o ≡ Ok t
-    → (m : Moment) × IsMoment m × (m.seconds ≡ s) × (m.nanosecond ≡ n) × (t ≡ with_offset o (utc_date_and_time m))
-unfolding value_at
-at_offset s n o t h =
-    let given = value_of_given (timestamp_value s n) (λ m. Ok (with_offset o (utc_date_and_time m))) t h in
+-- a date and time in UTC of a real moment
+in_utc : (s : ℤ) (n : ℕ) (t : OffsetDateAndTime) → utc_value s n ≡ Ok t
+    → (m : Moment) × IsMoment m × (m.seconds ≡ s) × (m.nanosecond ≡ n) × (t ≡ with_offset utc (utc_date_and_time m))
+unfolding utc_value
+in_utc s n t h =
+    let given = value_of_given (timestamp_value s n) (λ m. Ok (with_offset utc (utc_date_and_time m))) t h in
     let m = is_moment s n given.0 given.1 in
-    (given.0, m.0, m.1, m.2, sym (same_value (with_offset o (utc_date_and_time given.0)) t given.2))
+    (given.0, m.0, m.1, m.2, sym (same_value (with_offset utc (utc_date_and_time given.0)) t given.2))
 
 -- ---- what they mean
 
@@ -98,7 +98,7 @@ less_none s = omega (arith, ints)
 
 pub utc_means : (s : ℤ) (n : ℕ) (t : OffsetDateAndTime) → utc_value s n ≡ Ok t → Means s n (pos 0) t
 utc_means s n t h =
-    let at = at_offset s n utc t h in
+    let at = in_utc s n t h in
     let m = at.0 in
     let P : OffsetDateAndTime → Type 0 = Means s n (pos 0) in
     let means : P (with_offset utc (utc_date_and_time m)) = record {
