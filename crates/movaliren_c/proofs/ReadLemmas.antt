@@ -91,15 +91,14 @@ value_given : (m : Moment) (v : OffsetDateAndTime) → date_value m.year m.month
 unfolding moment_value
 value_given m v date time offset = rw (date, time, offset) refl
 
-pub value_of_parts : (y : ℤ) (mo d h mi s n : ℕ) (oh om os : ℤ) (v : OffsetDateAndTime) → y ≡ v.date.year → mo ≡ month_of v.date
-    → d ≡ day_of v.date → IsYear y → IsInRange 1 12 mo → IsDayOfMonth y mo d → IsDate v.date
-    → h ≡ v.time.hour → mi ≡ v.time.minute → s ≡ v.time.second → n ≡ v.time.nanosecond → IsTimeOfDay v.time
-    → oh ≡ v.offset.hours → om ≡ v.offset.minutes → os ≡ v.offset.seconds → IsOffset v.offset
-    → moment_value (record { year = y; nanosecond = n; month = mo; day = d; hour = h; minute = mi; second = s; offset_hours = oh; offset_minutes = om; offset_seconds = os })
-    ≡ Ok v
-value_of_parts y mo d h mi s n oh om os v p q r is_year is_month is_day real a b c e time i j k offset =
-    let m : Moment = record { year = y; nanosecond = n; month = mo; day = d; hour = h; minute = mi; second = s; offset_hours = oh; offset_minutes = om; offset_seconds = os } in
-    value_given m v (date_of_value y mo d v.date p q r is_year is_month is_day real) (time_of_value m v.time a b c e time) (offset_of_value m v.offset i j k offset)
+pub value_of_parts : (m : Moment) (v : OffsetDateAndTime) → m.year ≡ v.date.year → m.month ≡ month_of v.date
+    → m.day ≡ day_of v.date → IsYear m.year → IsInRange 1 12 m.month → IsDayOfMonth m.year m.month m.day → IsDate v.date
+    → m.hour ≡ v.time.hour → m.minute ≡ v.time.minute → m.second ≡ v.time.second → m.nanosecond ≡ v.time.nanosecond
+    → IsTimeOfDay v.time → m.offset_hours ≡ v.offset.hours → m.offset_minutes ≡ v.offset.minutes
+    → m.offset_seconds ≡ v.offset.seconds → IsOffset v.offset → moment_value m ≡ Ok v
+value_of_parts m v p q r is_year is_month is_day real a b c e time i j k offset =
+    value_given m v (date_of_value m.year m.month m.day v.date p q r is_year is_month is_day real)
+    (time_of_value m v.time a b c e time) (offset_of_value m v.offset i j k offset)
 
 -- ---- the parts of a local date and time
 

@@ -7,19 +7,21 @@ use Rattle.time_below.specs.Calendar.{IsDate}
 use Rattle.time_below.specs.Moment.{Moment, DateAndTime, OffsetDateAndTime, local_at, local_unix_seconds, utc_date_and_time}
 use Rattle.time_below.specs.Offset.{Offset, IsOffset, offset_of_seconds, offset_seconds, utc}
 use Rattle.time_below.specs.TimeOfDay.{IsTimeOfDay}
+use Rattle.time_fmt.specs.Outcome.{Outcome}
+use Rattle.time_known.specs.Stamps.{stamp_of}
 
 -- a date and time, and this offset
 abbrev pub with_offset : Offset → DateAndTime → OffsetDateAndTime
 with_offset o v = record { date = v.date; time = v.time; offset = o }
 
--- the date and time so long after 1970, and this offset
-unfoldable pub value_at : ℤ → ℕ → Offset → Result OffsetDateAndTime Reason
-value_at seconds nanosecond o =
-    with_value (timestamp_value seconds nanosecond) (λ m. Ok (with_offset o (utc_date_and_time m)))
+-- the date and time in UTC so long after 1970
+unfoldable pub utc_value : ℤ → ℕ → Result OffsetDateAndTime Reason
+utc_value seconds nanosecond =
+    with_value (timestamp_value seconds nanosecond) (λ m. Ok (with_offset utc (utc_date_and_time m)))
 
--- a moment in UTC
-abbrev pub utc_value : ℤ → ℕ → Result OffsetDateAndTime Reason
-utc_value seconds nanosecond = value_at seconds nanosecond utc
+-- the stamp of a value in UTC
+abbrev pub utc_stamp_of : OffsetDateAndTime → Outcome
+utc_stamp_of v = stamp_of (record { date = v.date; time = v.time })
 
 -- an offset of at most 25:59:59 either way, by its seconds east of UTC
 abbrev pub east_value : ℤ → Result Offset Reason

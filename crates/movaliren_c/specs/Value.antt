@@ -6,7 +6,7 @@ use Rattle.movaliren_c.specs.declared.reason.Reason.TheVariants as reason
 use Rattle.movaliren_c.specs.declared.moment.Moment.{Moment}
 use Rattle.time_below.specs.Calendar.{OrdinalDate, date_of, days_in_month, is_leap_year}
 use Rattle.time_below.specs.Moment as moments
-use Rattle.time_below.specs.Moment.{DateAndTime, OffsetDateAndTime, seconds_before, utc_date_and_time}
+use Rattle.time_below.specs.Moment.{OffsetDateAndTime, seconds_before}
 use Rattle.time_below.specs.Offset.{Offset}
 use Rattle.time_below.specs.TimeOfDay.{TimeOfDay}
 
@@ -90,8 +90,3 @@ timestamp_value seconds nanosecond =
     checked (is_in_years seconds) reason.MomentSeconds
     (checked (nat_lt nanosecond 1_000_000_000) reason.Nanosecond
     (Ok (record { seconds = seconds; nanosecond = nanosecond })))
-
--- its date and time in UTC
-abbrev pub stamp_value : ℤ → ℕ → Result DateAndTime Reason
-stamp_value seconds nanosecond =
-    with_value (timestamp_value seconds nanosecond) (λ m. Ok (utc_date_and_time m))

@@ -187,7 +187,7 @@ pub fn in_utc(moment: Timestamp) -> UtcDateTime
 
 /// The date and time in UTC this long after 1970.
 #[inline(always)]
-#[tactic(auto, unfolding(crate::specs::Utc::value_at))]
+#[tactic(auto, unfolding(crate::specs::Utc::utc_value))]
 pub fn value_in_utc(seconds: i64, nanosecond: u32) -> Result<OffsetDateTime, Reason>
     ensures { result ≡ utc_value seconds nanosecond }
 {

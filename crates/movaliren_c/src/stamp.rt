@@ -1,8 +1,8 @@
 //! Stamps: texts of moments in UTC whose bytes are in the order of the moments.
 ghost use Rattle.movaliren_c.specs.Answer.{IsAnswer, gives};
 ghost use Rattle.movaliren_c.specs.Batch.{IsBatch};
-ghost use Rattle.movaliren_c.specs.Value.{stamp_value};
-ghost use Rattle.time_known.specs.Stamps.{stamp_length, stamp_of};
+ghost use Rattle.movaliren_c.specs.Utc.{utc_stamp_of, utc_value};
+ghost use Rattle.time_known.specs.Stamps.{stamp_length};
 
 use crate::batch::{Progress, write_lines};
 use crate::moment::UtcMoment;
@@ -27,7 +27,7 @@ impl Format for Stamp {
 
     const WIDTH: usize = 30;
 
-    ghost outcome = { λ _ v. stamp_of (record { date = v.date; time = v.time }) };
+    ghost outcome = { λ _. utc_stamp_of };
 
     #[inline(always)]
     fn text(self, value: &OffsetDateTime) -> Result<StampText, Reason> {
@@ -39,12 +39,12 @@ impl Format for Stamp {
     }
 }
 
+/// Without this step a stamp costs an instruction more.
 impl Writer for Stamp {
     type Item = UtcMoment;
 
-    ghost asked = { λ _ moment. gives (stamp_value moment.seconds moment.nanosecond) stamp_of };
+    ghost asked = { λ _ moment. gives (utc_value moment.seconds moment.nanosecond) utc_stamp_of };
 
-    #[tactic(auto, unfolding(crate::specs::Utc::value_at, crate::specs::Value::timestamp_value))]
     fn write(&self, moment: &UtcMoment, room: &mut [u8]) -> Result<usize, Reason> {
         texts_of(*self, InUtc).write(moment, room)
     }
@@ -53,7 +53,7 @@ impl Writer for Stamp {
 /// The stamp of a moment.
 #[unsafe(no_mangle)]
 pub extern "C" fn movaliren_stamp(seconds: i64, nanosecond: u32, room: &mut [u8]) -> isize
-    ensures { IsAnswer (gives (stamp_value seconds nanosecond) stamp_of) result room.old room.new }
+    ensures { IsAnswer (gives (utc_value seconds nanosecond) utc_stamp_of) result room.old room.new }
 {
     answer_at(&Stamp, seconds, nanosecond, room)
 }
@@ -61,7 +61,7 @@ pub extern "C" fn movaliren_stamp(seconds: i64, nanosecond: u32, room: &mut [u8]
 /// The stamps of the moments, one after another, each ended by this byte.
 #[unsafe(no_mangle)]
 pub extern "C" fn movaliren_stamp_batch(moments: &[UtcMoment], end: u8, room: &mut [u8]) -> Progress
-    ensures { IsBatch moments.now end (λ m. gives (stamp_value m.seconds m.nanosecond) stamp_of)
+    ensures { IsBatch moments.now end (λ m. gives (utc_value m.seconds m.nanosecond) utc_stamp_of)
         result room.old room.new }
 {
     write_lines(&Stamp, moments, end, room)

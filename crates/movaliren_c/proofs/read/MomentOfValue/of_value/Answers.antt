@@ -19,7 +19,7 @@ returns c =
     let hours = to_z-of_z w8 c.as_hms-offset_hours.result.0 hours_fit in
     let minutes = to_z-of_z w8 c.as_hms-offset_hours.result.1 minutes_fit in
     let seconds = to_z-of_z w8 c.as_hms-offset_hours.result.2 seconds_fit in
-    value_of_parts _ _ _ _ _ _ _ _ _ _ c.args.value
+    value_of_parts _ c.args.value
     (year ∙ date.year ∙ ap (λ (d : OrdinalDate). d.year) c.date-2.ensures)
     (c.from.ensures.value ∙ date.month ∙ ap month_of c.date-2.ensures)
     (date.day ∙ ap day_of c.date-2.ensures)
