@@ -288,8 +288,8 @@ is_cut bytes text block kept h1 h2 upto off =
       written = cut.5.went_out;
       breaks_off = rw lines
           (BreaksOff-before (whole_lines_of read) (whole_lines_of (unended_of read ++ cut.1)) (text ++ cut.5.sent)
-          (BreaksOff-cut (whole_lines_of read) (text ++ cut.5.sent) cut.5.missing (rw (append_assoc, ← cut.5.in_order) cut.4)
-          cut.5.unfinished));
+          (BreaksOff-cut (whole_lines_of read) (text ++ cut.5.sent) cut.5.missing
+          (rw (append_assoc, ← cut.5.in_order) cut.4) cut.5.unfinished));
     }
 
 -- The answers to a block are cut off.
@@ -336,7 +336,8 @@ Ran-last done l0 l1 l2 h0 h1 h2 k1 k2 run end some on =
 
 -- The input ended, and the answer to its last line is cut off.
 pub Ran-end_cut : {T : Type 0} (l0 l1 l2 h0 h1 h2 k1 : Option (List ℕ)) → Running l0 l1 h0 h1 k1 → Consumes l1 l2 [] →
-    IsAtEnd l2 → k1 ≢ Some [] → CutsAnswersOff (line_feed ∷ []) (state k1 h1 []) h2 → Ran {T = T} (Err Write) l0 l2 h0 h2
+    IsAtEnd l2 → k1 ≢ Some [] → CutsAnswersOff (line_feed ∷ []) (state k1 h1 []) h2
+    → Ran {T = T} (Err Write) l0 l2 h0 h2
 Ran-end_cut l0 l1 l2 h0 h1 h2 k1 run end ended some off =
     let cut = is_cut run.bytes run.text (line_feed ∷ []) k1 h1 h2 run.answered off in
     record {

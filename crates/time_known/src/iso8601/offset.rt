@@ -73,8 +73,8 @@ pub(super) fn put_offset_part<S: Sink, V: ComponentProvider>(
     }
 }
 
-// Puts `Z` for UTC where there is a time, else the sign, the hours and the minutes. Where the configuration has no minutes,
-// they are refused unless zero.
+// Puts `Z` for UTC where there is a time, else the sign, the hours and the minutes. Where the configuration has no
+// minutes, they are refused unless zero.
 #[inline(always)]
 #[tactic(auto, using(crate::proofs::LengthLemmas::joined_lengths))]
 fn put_offset_by<S: Sink>(
