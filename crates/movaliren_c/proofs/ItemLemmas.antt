@@ -1,11 +1,11 @@
 -- Items of a text, in an array and in what they show.
-use Rattle.std.proofs.Common.{◌≡◌, ◌<◌, ◌≤◌, ◌+◌, ◌++◌, ℕ, min, ◌-◌, Bool, true, false, List, [], ◌∷◌, length, take, set, Option, Some, None, is_some, Result, Ok, Err, refl, sym, ap, ◌∙◌, subst, arith, ne_eqb}
+use Rattle.std.proofs.Common.{◌≡◌, ◌<◌, ◌≤◌, ◌+◌, ◌++◌, ℕ, min, Bool, true, false, List, [], ◌∷◌, length, take, set, Option, Some, None, is_some, Result, Ok, Err, refl, sym, ap, ◌∙◌, subst, arith, ne_eqb}
 use Rattle.std.specs.Prelude.{IsTrue, nat_le, slice_range, ◌==◌, ◌≢◌}
 use Rattle.std.specs.Str.{is_utf8}
 use Rattle.std.proofs.lemmas.Bool.{le-leb, leb-true, leb-false}
 use Rattle.std.proofs.lemmas.List.{append-nil, length-append, take_more_set}
 use Rattle.movaliren_c.specs.Answer.{IsText}
-use Rattle.movaliren_c.specs.Described.{AreItems, DescribeNothing, Describes, HoldsIn, HoldsItems, HoldsListsIn, IsHeld, IsItem, IsItemOf, Leaves, LeavesItems, bracket_items, bracket_number, few_in, fault_at, is_shown, no_item, of_brackets, of_strftime, shown, strftime_items, strftime_number}
+use Rattle.movaliren_c.specs.Described.{AreItems, DescribeNothing, Describes, HoldsIn, HoldsItems, HoldsListsIn, IsHeld, IsItem, IsItemOf, Leaves, LeavesItems, bracket_items, bracket_number, few_in, fault_at, is_shown, no_item, of_brackets, shown, strftime_items, strftime_number}
 use Rattle.movaliren_c.specs.Flat.{closed_at, flat, flat_items, hidden_at, or_at, shown_in}
 use Rattle.movaliren_c.specs.Items.{component_of, date_component, described, item_tree, trees_of}
 use Rattle.movaliren_c.specs.declared.item.Item.{Item}
@@ -75,10 +75,7 @@ literal_outcome : (bytes : List ℕ) (f : Facts) → done bytes ≡ tree_outcome
 literal_outcome bytes f = literal_by (is_utf8 bytes) bytes f refl
 
 text_there : (text : List ℕ) (start len : ℕ) → start + len ≤ length text → item_tree text (text_of start len) ≡ Ok (byte_literal (slice_range text start (start + len)))
-text_there text start len fits =
-    let starts : nat_le start (length text) ≡ true = le-leb _ _ (omega arith) in
-    let ends : nat_le len (length text - start) ≡ true = le-leb _ _ (omega arith) in
-    rw (starts, ends) refl
+text_there text start len fits = grind (arith, le-leb)
 
 pub text_is : (text : List ℕ) (start len : ℕ) → start + len ≤ length text → IsItem text (text_of start len) (literal_of (slice_range text start (start + len)))
 text_is text start len fits = record {
@@ -112,20 +109,7 @@ pub item_put : (text : List ℕ) (array new : List Item) (count total : ℕ) (ts
     → total ≡ min (count + 1) 0xffff_ffff_ffff_ffff → IsItem text i t → HoldsItems text array count ts
     → HoldsItems text new total (ts ++ t ∷ [])
 item_put text array new count total ts i t stored same bound sum is-one holds =
-    let long : length (ts ++ t ∷ []) ≡ length ts + 1 = length-append ts (t ∷ []) in
-    record {
-      counted = omega (arith, sum, holds.counted, long);
-      held = λ fits.
-          let room : length ts < length array = omega (arith, fits, long, same) in
-          let at : count ≡ length ts = omega (arith, holds.counted, room, bound) in
-          let inside : count < length array = omega (arith, at, room) in
-          let is : take (length (ts ++ t ∷ [])) new ≡ take (length ts) array ++ i ∷ [] =
-          ap (λ (n : ℕ). take n new) long ∙ ap (take (length ts + 1)) (stored inside ∙ ap (λ (n : ℕ). set array n i) at)
-          ∙ take_more_set array (length ts) i room in
-          let few : length ts ≤ length array = omega (arith, room) in
-          subst (λ (v : List Item). AreItems text v (ts ++ t ∷ [])) (sym is)
-          (items_more text (take (length ts) array) ts i t (holds.held few) is-one);
-    }
+    grind (arith, length-append, take_more_set, items_more)
 
 -- items that show what the trees do are a description that does
 pub describes : (text : List ℕ) (is : List Item) (ts : List Tree) → AreItems text is ts → Describes text is ts
@@ -160,17 +144,12 @@ none_held text array count hidden none shown = record { hidden = shown; held = r
 pub strftime_held : (text : List ℕ) (array : List Item) (count : ℕ) (hidden : Option ℕ) → IsFound (strftime.described text) (HoldsIn text [] array count hidden)
     → IsHeld text (strftime_items text) array count
 unfolding strftime_items
-strftime_held text array count hidden found = record {
-  all = found.0;
-  is = ap (of_strftime (length text)) found.1;
-  held = subst (λ (v : List Tree). HoldsItems text array count v) (leaves_flat found.0 found.2) found.3.held;
-}
+strftime_held text array count hidden found = grind (arith, leaves_flat)
 
 pub strftime_faulty : (text : List ℕ) (reason : StrftimeReason) (index : ℕ) → Says (length text) (strftime.described text) (error.Invalid reason index)
     → strftime_items text ≡ Err (fault_at index (strftime_number reason))
 unfolding strftime_items
-strftime_faulty text reason index says =
-    ap (of_strftime (length text)) says.1 ∙ ap (λ (at : ℕ). Err (fault_at at (strftime_number reason))) (sym says.2)
+strftime_faulty text reason index says = grind arith
 
 pub brackets_held : (text : List ℕ) (array : List Item) (count : ℕ) (hidden : Option ℕ)
     → bracket_found.IsFound (reading.described text) (HoldsIn text [] array count hidden) → IsHeld text (bracket_items text) array count
@@ -180,8 +159,7 @@ brackets_held text array count hidden found = record { all = flat_items found.0;
 pub brackets_faulty : (text : List ℕ) (reason : bracket_reasons.Reason) (index : ℕ)
     → bracket_says.Says (length text) (reading.described text) (bracket_error.Invalid reason index) → bracket_items text ≡ Err (fault_at index (bracket_number reason))
 unfolding bracket_items
-brackets_faulty text reason index says =
-    ap (of_brackets (length text)) says.1 ∙ ap (λ (at : ℕ). Err (fault_at at (bracket_number reason))) (sym says.2)
+brackets_faulty text reason index says = grind arith
 
 -- ---- items in open lists
 
@@ -193,26 +171,17 @@ none_there (Some n) is = absurd cc
 pub put_shown : (text : List ℕ) (fs : List Frame) (new : List Item) (total : ℕ) (hidden : Option ℕ) (items : List Tree) (t : Tree) → is_some hidden ≡ false → flat t ≡ t ∷ []
     → hidden ≡ hidden_at fs → HoldsItems text new total (shown_in fs (flat_items items) ++ t ∷ []) → HoldsIn text fs new total hidden (items ++ t ∷ [])
 put_shown text fs new total hidden items t some leaf kept more =
-    let same : shown_in fs (flat_items (items ++ t ∷ [])) ≡ shown_in fs (flat_items items) ++ t ∷ [] =
-    ap (shown_in fs) (flat_more items (t ∷ []) ∙ ap (λ (v : List Tree). flat_items items ++ v) (append-nil (flat t) ∙ leaf))
-    ∙ shown_more fs (flat_items items) (t ∷ []) (sym kept ∙ none_there hidden some) in
-    record { hidden = kept; held = subst (λ (v : List Tree). HoldsItems text new total v) (sym same) more }
+    grind (arith, flat_more, append-nil, shown_more, none_there)
 
 -- and makes no difference where one is not
 pub put_hidden : (text : List ℕ) (fs : List Frame) (array : List Item) (count : ℕ) (hidden : Option ℕ) (items : List Tree) (t : Tree) → is_some hidden ≡ true
     → HoldsIn text fs array count hidden items → HoldsIn text fs array count hidden (items ++ t ∷ [])
 put_hidden text fs array count None items t some holds = absurd cc
-put_hidden text fs array count (Some d) items t some holds = record {
-  hidden = holds.hidden;
-  held = subst (λ (v : List Tree). HoldsItems text array count v) (shown_hidden fs (flat_items items) (flat_items (items ++ t ∷ [])) d (sym holds.hidden)) holds.held;
-}
+put_hidden text fs array count (Some d) items t some holds = grind (arith, shown_hidden)
 
 pub begun : (text : List ℕ) (fs : List Frame) (array : List Item) (count : ℕ) (hidden : Option ℕ) (items : List Tree) → HoldsIn text fs array count hidden items
     → HoldsListsIn text fs items array count hidden []
-begun text fs array count hidden items holds = record {
-  hidden = holds.hidden;
-  held = subst (λ (v : List Tree). HoldsItems text array count v) (begun_shown fs items) holds.held;
-}
+begun text fs array count hidden items holds = grind (arith, begun_shown)
 
 pub opened : (text : List ℕ) (f : Frame) (fs : List Frame) (array : List Item) (count depth : ℕ) (hidden new : Option ℕ) (is_first : Bool) → depth ≡ length fs
     → is_first ≡ is_nil f.lists → new ≡ or_at hidden is_first depth → HoldsListsIn text fs f.items array count hidden f.lists → HoldsIn text (f ∷ fs) array count new []
@@ -224,23 +193,16 @@ opened text f fs array count depth hidden new is_first deep first is holds = rec
 pub closed : (text : List ℕ) (f : Frame) (fs : List Frame) (array : List Item) (count depth : ℕ) (hidden new : Option ℕ) (items : List Tree) → depth ≡ length fs
     → new ≡ closed_at hidden depth → HoldsIn text (f ∷ fs) array count hidden items
     → HoldsListsIn text fs f.items array count new (f.lists ++ all_of (trees items) ∷ [])
-closed text f fs array count depth hidden new items deep is holds = record {
-  hidden = is ∙ closed_hidden fs f hidden depth holds.hidden deep;
-  held = subst (λ (v : List Tree). HoldsItems text array count v) (closed_shown fs f items) holds.held;
-}
+closed text f fs array count depth hidden new items deep is holds = grind (arith, closed_hidden, closed_shown)
 
 pub ended : (text : List ℕ) (fs : List Frame) (nest : Nest) (items lists : List Tree) (array : List Item) (count left : ℕ) (hidden : Option ℕ) (item : Tree)
     → HoldsListsIn text fs items array count hidden lists → reading.nested nest lists left ≡ Ok item → HoldsIn text fs array count hidden (items ++ item ∷ [])
-ended text fs nest items lists array count left hidden item holds is = record {
-  hidden = holds.hidden;
-  held = subst (λ (v : List Tree). HoldsItems text array count v) (ended_shown fs nest items lists left item is) holds.held;
-}
+ended text fs nest items lists array count left hidden item holds is = grind (arith, ended_shown)
 
 -- how many items there are, of which none is a list
 pub counted_leaves : (text : List ℕ) (array : List Item) (count : ℕ) (hidden : Option ℕ) (all : List Tree) → IsTrue (are_leaves all)
     → HoldsIn text [] array count hidden all → count ≡ min (length all) 0xffff_ffff_ffff_ffff
-counted_leaves text array count hidden all leaves holds =
-    holds.held.counted ∙ ap (λ (v : List Tree). min (length v) 0xffff_ffff_ffff_ffff) (leaves_flat all leaves)
+counted_leaves text array count hidden all leaves holds = grind (arith, leaves_flat)
 
 -- ---- what a call leaves
 
@@ -251,11 +213,7 @@ complete_by false text all array count old test same le are = absurd (omega (ari
 
 pub left_complete : (text : List ℕ) (d : Result (List Tree) Fault) (array : List Item) (count : ℕ) (old : Fault) → IsHeld text d array count
     → count ≤ length array → length array < 0xffff_ffff_ffff_ffff → Leaves text d (Ok count) array old old
-left_complete text d array count old held le bound =
-    let same : count ≡ length held.all = omega (arith, held.held.counted, le, bound) in
-    let fits : length held.all ≤ length array = omega (arith, same, le) in
-    subst (λ (r : Result (List Tree) Fault). Leaves text r (Ok count) array old old) (sym held.is)
-    (complete_by (nat_le (length held.all) (length array)) text held.all array count old refl same le (held.held.held fits))
+left_complete text d array count old held le bound = grind (arith, complete_by)
 
 -- ---- a text that is formatted at once
 
@@ -269,14 +227,7 @@ given_by : {A : Type 0} (fits : Bool) (text : List ℕ) (all : List Tree) (count
     (facts : A → Facts) → room ≤ most → nat_le (length all) room ≡ fits → LeavesItems fits text all (Ok count) items old new
     → described (few_in most (Ok all)) value facts ≡ described (trees_of text (take count items)) value facts
 given_by true text all count room most items old new value facts small test h =
-    let same : count ≡ length all = let e = h.0 in cc in
-    let inside : length all ≤ room = leb-true (length all) room test in
-    let test : nat_le (length all) most ≡ true = le-leb (length all) most (omega (arith, inside, small)) in
-    let few : few_in most (Ok all) ≡ Ok all = rw test refl in
-    ap (λ (d : Result (List Tree) Reason). described d value facts) few
-    ∙ same_by h.1.description all value facts h.1.same
-    ∙ ap (λ (d : Result (List Tree) Reason). described d value facts) (sym h.1.there)
-    ∙ ap (λ (n : ℕ). described (trees_of text (take n items)) value facts) (sym same)
+    grind (arith, leb-true, le-leb, same_by)
 given_by false text all count room most items old new value facts small test h = absurd (let e = h.0 in cc)
 
 -- the items give what the text does, of which there may be more than the array has room for
@@ -305,20 +256,16 @@ many_only false text all r items old new h = let e = h.0 in cc
 refused_by : (fits : Bool) (text : List ℕ) (all : List Tree) (r : Reason) (room : ℕ) (items : List Item) (old new : Fault) → nat_le (length all) room ≡ fits
     → LeavesItems fits text all (Err r) items old new → few_in room (Ok all) ≡ Err r
 refused_by true text all r room items old new test h = absurd (let e = h.0 in cc)
-refused_by false text all r room items old new test h =
-    let many : few_in room (Ok all) ≡ Err reason.ManyItems = rw test refl in
-    many ∙ ap Err (sym (many_only false text all r items old new h))
+refused_by false text all r room items old new test h = grind (arith, many_only)
 
 -- or there is the same reason for none
 pub text_refused : (text : List ℕ) (d : Result (List Tree) Fault) (r : Reason) (items : List Item) (old new : Fault) → Leaves text d (Err r) items old new
     → few_in (length items) d ≡ Err r
 text_refused text (Ok all) r items old new h = refused_by (nat_le (length all) (length items)) text all r (length items) items old new refl h
-text_refused text (Err f) r items old new h =
-    let same : r ≡ reason.BadDescription = let e = h.0 in cc in ap Err (sym same)
+text_refused text (Err f) r items old new h = grind arith
 
 -- a fault is the same, however many items there may be
 pub text_faulty : (text : List ℕ) (d : Result (List Tree) Fault) (r : Reason) (most : ℕ) (items : List Item) (old new : Fault)
     → r ≢ reason.ManyItems → Leaves text d (Err r) items old new → few_in most d ≡ Err r
 text_faulty text (Ok all) r most items old new other h = absurd (other (many_only (nat_le (length all) (length items)) text all r items old new h))
-text_faulty text (Err f) r most items old new other h =
-    let same : r ≡ reason.BadDescription = let e = h.0 in cc in ap Err (sym same)
+text_faulty text (Err f) r most items old new other h = grind arith

@@ -1,15 +1,14 @@
 -- What a local date and time means.
-use Rattle.std.proofs.Common.{◌≡◌, ℕ, ℤ, pos, neg_ℤ, ◌+ℤ◌, ◌-ℤ◌, unsigned_abs, Bool, true, false}
+use Rattle.std.proofs.Common.{◌≡◌, ℕ, ℤ, pos, ◌-ℤ◌, Bool, true, false}
 use Rattle.std.proofs.Common.{Result, Ok, Err, refl, sym, ap, ◌∙◌, subst, arith}
-use Rattle.std.specs.Prelude.{int_le, nat_lt}
 use Rattle.std.proofs.lemmas.Bool.{and_parts}
 use Rattle.std.proofs.lemmas.Bool.Decides.{nat_tests}
 use Rattle.std.proofs.lemmas.Int.{ints}
 use Rattle.movaliren_c.specs.Utc.{Means, with_offset, utc_value, east_value, local_there, local_value}
-use Rattle.movaliren_c.specs.Value.{checked, last_second, with_value, timestamp_value}
+use Rattle.movaliren_c.specs.Value.{checked, with_value, timestamp_value}
 use Rattle.movaliren_c.specs.declared.reason.Reason.{Reason}
-use Rattle.time_below.specs.Moment.{Moment, OffsetDateAndTime, IsMoment, local_at, moved, seconds_before, unix_seconds, utc_date_and_time}
-use Rattle.time_below.specs.Offset.{Offset, IsOffset, offset_of_seconds, offset_seconds, utc}
+use Rattle.time_below.specs.Moment.{Moment, OffsetDateAndTime, IsMoment, local_at, moved, unix_seconds, utc_date_and_time}
+use Rattle.time_below.specs.Offset.{Offset, IsOffset, offset_seconds, utc}
 use Rattle.time_below.proofs.MomentLemmas.{IsDate-utc_date, IsTimeOfDay-utc_time, unix_seconds-utc, local_unix_seconds-local_at, only_local_at}
 use Rattle.time_below.proofs.OffsetLemmas.{IsOffset-of_seconds, offset_back, one_offset_of_seconds}
 
@@ -33,16 +32,7 @@ same_value a b h = let e = h in cc
 is_moment : (s : ℤ) (n : ℕ) (m : Moment) → timestamp_value s n ≡ Ok m
     → IsMoment m × (m.seconds ≡ s) × (m.nanosecond ≡ n)
 unfolding timestamp_value
-is_moment s n m h =
-    let first = test_that_passed _ _ _ m h in
-    let second = test_that_passed _ _ _ m first.1 in
-    let same = same_value (record { seconds = s; nanosecond = n }) m second.1 in
-    let range = and_parts _ _ first.0 in
-    let low : int_le (neg_ℤ (pos seconds_before)) s ≡ true = range.0 in
-    let high : int_le s (pos last_second) ≡ true = range.1 in
-    let below : nat_lt n 1_000_000_000 ≡ true = second.0 in
-    let real : IsMoment (record { seconds = s; nanosecond = n }) = ((omega (arith, ints), omega (arith, ints)), grind (arith, nat_tests)) in
-    (subst IsMoment same real, sym (ap (λ (x : Moment). x.seconds) same), sym (ap (λ (x : Moment). x.nanosecond) same))
+is_moment s n m h = grind (arith, test_that_passed, same_value, and_parts, ints, nat_tests)
 
 -- a date and time in UTC of a real moment
 in_utc : (s : ℤ) (n : ℕ) (t : OffsetDateAndTime) → utc_value s n ≡ Ok t
@@ -57,21 +47,12 @@ in_utc s n t h =
 
 -- the offset of so many seconds is one, and has so many seconds
 offset_of : (east : ℤ) (o : Offset) → east_value east ≡ Ok o → IsOffset o × (offset_seconds o ≡ east)
-offset_of east o h =
-    let test = test_that_passed _ _ _ o h in
-    let below : nat_lt (unsigned_abs east) 93_600 ≡ true = test.0 in
-    let same : offset_of_seconds east ≡ o = same_value (offset_of_seconds east) o test.1 in
-    (subst IsOffset same (IsOffset-of_seconds east (grind (arith, nat_tests))), sym (ap offset_seconds same) ∙ offset_back east)
+offset_of east o h = grind (arith, test_that_passed, same_value, IsOffset-of_seconds, nat_tests, offset_back)
 
 -- the local date and time of a moment
 local_of : (m : Moment) (o : Offset) (t : OffsetDateAndTime) → IsMoment m → local_there m o ≡ Ok t
     → IsMoment (moved m o) × (t ≡ local_at m o)
-local_of m o t real h =
-    let test = test_that_passed _ _ _ t h in
-    let range = and_parts _ _ test.0 in
-    let low : int_le (neg_ℤ (pos seconds_before)) (m.seconds +ℤ offset_seconds o) ≡ true = range.0 in
-    let high : int_le (m.seconds +ℤ offset_seconds o) (pos last_second) ≡ true = range.1 in
-    (((omega (arith, ints), omega (arith, ints)), real.1), sym (same_value (local_at m o) t test.1))
+local_of m o t real h = grind (arith, test_that_passed, and_parts, ints, same_value)
 
 pub local_means : (s : ℤ) (n : ℕ) (east : ℤ) (t : OffsetDateAndTime) → local_value s n east ≡ Ok t → Means s n east t
 unfolding local_value
