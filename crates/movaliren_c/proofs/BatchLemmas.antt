@@ -1,6 +1,6 @@
 -- A batch, item by item.
-use Rattle.std.proofs.Common.{◌≡◌, ◌<◌, ◌≤◌, ◌+◌, ◌-◌, ℕ, List, [], ◌∷◌, ◌++◌, length, take, drop, get_or, set}
-use Rattle.std.proofs.Common.{Result, Ok, Err, sym, ap, ◌∙◌, arith, length-append}
+use Rattle.std.proofs.Common.{◌≡◌, ◌<◌, ◌≤◌, ◌+◌, ◌-◌, ℕ, List, [], ◌∷◌, ◌++◌, length, take, drop, get_or, set, Result}
+use Rattle.std.proofs.Common.{Ok, Err, sym, ap, ◌∙◌, arith, length-append}
 use Rattle.std.proofs.lemmas.List.{take-append-drop}
 use Rattle.std.proofs.lemmas.Grind.{common_steps}
 use Rattle.std.proofs.lemmas.Option.{slice_get-get_or}
@@ -13,8 +13,7 @@ use Rattle.time_fmt.proofs.WriteLemmas.{join_done, join_refused, some_of}
 -- what a reason says of it
 stopped_line : (v : Result Outcome Reason) (r : Reason) (before after : List ℕ)
     → IsText v (Err r) before after → Stops r v (length before) × (after ≡ before)
-stopped_line (Ok o) r before after h = (h.1, h.0)
-stopped_line (Err e) r before after h = (let same = h.0 in cc, h.1)
+stopped_line v r before after h = grind (arith, common_steps)
 
 -- a buffer is unchanged if its front and the rest are
 same_room : (room later : List ℕ) (b : ℕ) → take b later ≡ take b room → drop b later ≡ drop b room
@@ -59,9 +58,8 @@ placed_end text room mid n e en inside em =
 pub ended_text : (asked : Result Outcome Reason) (n e most : ℕ) (room mid : List ℕ) → n ≤ most
     → n < length mid → IsText asked (Ok n) (take most room) (take most mid)
     → drop most mid ≡ drop most room → IsText (ended e asked) (Ok (n + 1)) room (set mid n e)
-ended_text (Ok o) n e most room mid fits inside h behind_it =
-    grind (arith, in_front, join_done, length-append, placed_end)
-ended_text (Err r) n e most room mid fits inside h behind_it = absurd (let same = h.0 in cc)
+ended_text asked n e most room mid h k l p =
+    grind (arith, common_steps, in_front, join_done, length-append, placed_end)
 
 -- what is refused first is refused of both
 pub refused_first : (a b : Outcome) (r : Reason) → IsRefusedFor r a → IsRefusedFor r (join a b)
@@ -76,5 +74,4 @@ explains_ended r o e room h = grind (arith, join_done, length-append, refused_fi
 pub ended_stops : (asked : Result Outcome Reason) (r : Reason) (e most : ℕ) (room mid : List ℕ)
     → most ≡ length room - 1 → IsText asked (Err r) (take most room) (take most mid)
     → drop most mid ≡ drop most room → IsText (ended e asked) (Err r) room mid
-ended_stops (Ok o) r e most room mid is h behind_it = grind (arith, common_steps, same_room, explains_ended)
-ended_stops (Err q) r e most room mid is h behind_it = (h.0, same_room room mid most h.1 behind_it)
+ended_stops asked r e most room mid h k l = grind (arith, common_steps, same_room, explains_ended)

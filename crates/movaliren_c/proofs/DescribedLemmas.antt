@@ -64,8 +64,7 @@ summed_rest : (greatest sum : ℕ) (t : Tree) (rest : Result (List Tree) Reason)
     → with_value (with_value rest (λ others. Ok (t ∷ others))) (λ ts. Ok (min (sum + trees_width
     (trees ts)) greatest)) ≡ with_value rest (λ ts. Ok (min (min (sum + tree_width t) greatest +
     trees_width (trees ts)) greatest))
-summed_rest greatest sum t (Ok ts) = grind arith
-summed_rest greatest sum t (Err r) = refl
+summed_rest greatest sum t rest = grind (arith, common_steps)
 
 -- one item more
 pub summed_more : {I : Type 0} (f : I → Result Tree Reason) (items : List I) (i : ℕ) (d : I) (t :
@@ -322,9 +321,7 @@ stops_here g items d (Err q) old now mid new lost f all r some is ends so_far =
 
 reason_of_refused : (refused : Refused) (e : Format) (r : Reason) → Names e (refusal_of refused) → IsReasonFor r e
     → Refuses r (refusal_of refused)
-reason_of_refused refused.Unsupplied error.InsufficientTypeInformation r names is = rw is tt
-reason_of_refused refused.YearOutOfRange (error.ComponentRange range) r names is = rw is tt
-reason_of_refused refused e r names is = grind (arith, common_steps)
+reason_of_refused refused e r h k = grind (arith, common_steps)
 
 -- a refusal that is named ends an item
 pub ended_refused : (next : Result Tree Reason) (f : Facts) (now new : Buffer) (answer : Result Unit Refused)
@@ -391,5 +388,4 @@ pub no_room : {V : Type 0} (description : Result (List Tree) Reason) (v : V) (fa
     (room before after : List ℕ) → IsShown description (facts v) (Ok count) before after → length room < count
     → IsText (described description (Ok v) facts) (Err reason.NoRoom) room room
     × IfOk description (λ ts. IsWithinWidth (trees_width (trees ts)) (length room) (Err reason.NoRoom))
-no_room (Ok ts) v facts count room before after shown many = grind arith
-no_room (Err invalid) v facts count room before after shown many = absurd (let e = shown in cc)
+no_room description v facts count room before after h k = grind (arith, common_steps)

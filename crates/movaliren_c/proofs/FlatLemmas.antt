@@ -1,5 +1,5 @@
 -- Lists in one another, one after the other.
-use Rattle.std.proofs.Common.{◌≡◌, ◌<◌, ◌+◌, ◌++◌, ℕ, Bool, true, false, List, [], ◌∷◌, length, Option, Some, None, Ok, refl, sym, ap, ◌∙◌, append_assoc, arith, eq-eqb}
+use Rattle.std.proofs.Common.{◌≡◌, ◌<◌, ◌+◌, ◌++◌, ℕ, Bool, true, List, [], ◌∷◌, length, Option, Some, None, Ok, refl, sym, ap, ◌∙◌, append_assoc, arith}
 use Rattle.std.specs.Prelude.{◌&&◌, IsTrue, nat_eq}
 use Rattle.std.proofs.lemmas.Bool.{eqb-true}
 use Rattle.std.proofs.lemmas.List.{append-nil}
@@ -14,23 +14,21 @@ use Rattle.time_describe.specs.declared.pieces.Nest.{Nest}
 use Rattle.time_describe.specs.declared.pieces.Nest.TheVariants as nests
 use Rattle.time_fmt.specs.Description.{tree_outcome, trees_outcome}
 use Rattle.time_fmt.specs.Outcome.{Outcome, Refusal, done, join}
+use Rattle.std.proofs.lemmas.Grind.{common_steps}
 
 -- ---- outcomes
 
 regrouped : (x : List ℕ) (r : Option Refusal) (y : List ℕ) (s : Option Refusal) (c : Outcome)
     → join (join (record { bytes = x; refusal = r }) (record { bytes = y; refusal = s })) c
     ≡ join (record { bytes = x; refusal = r }) (join (record { bytes = y; refusal = s }) c)
-regrouped x (Some r) y s c = refl
-regrouped x None y (Some s) c = refl
-regrouped x None y None c = ap (λ (bs : List ℕ). record { bytes = bs; refusal = c.refusal }) (append_assoc x y c.bytes)
+regrouped x r y s c = grind (arith, common_steps, append_assoc)
 
 join_assoc : (a b c : Outcome) → join (join a b) c ≡ join a (join b c)
 join_assoc a b c = regrouped a.bytes a.refusal b.bytes b.refusal c
 
 nothing_behind : (x : List ℕ) (r : Option Refusal)
     → join (record { bytes = x; refusal = r }) (done []) ≡ record { bytes = x; refusal = r }
-nothing_behind x (Some r) = refl
-nothing_behind x None = ap (λ (bs : List ℕ). record { bytes = bs; refusal = None }) (append-nil x)
+nothing_behind x r = grind (arith, common_steps, append-nil)
 
 pub alone : (a : Outcome) → join a (done []) ≡ a
 alone a = nothing_behind a.bytes a.refusal
@@ -67,23 +65,16 @@ flat_more (t ∷ ts) b = ap (λ (v : List Tree). flat t ++ v) (flat_more ts b) �
 
 literal_by : (b : Bool) (bytes : List ℕ) → is_utf8 bytes ≡ b → flat (literal_of bytes) ≡ literal_of bytes ∷ []
 unfolding literal_of
-literal_by true bytes is = rw is refl
-literal_by false bytes is = rw is refl
+literal_by b bytes h = grind (arith, common_steps)
 
 pub flat_literal : (bytes : List ℕ) → flat (literal_of bytes) ≡ literal_of bytes ∷ []
 flat_literal bytes = literal_by (is_utf8 bytes) bytes refl
 
 both : (x y : Bool) → x && y ≡ true → (x ≡ true) × (y ≡ true)
-both true y is = (refl, is)
-both false y is = absurd cc
+both x y h = grind (arith, common_steps)
 
 leaf_flat : (t : Tree) → is_leaf t ≡ true → flat t ≡ t ∷ []
-leaf_flat (byte_literal bytes) is = refl
-leaf_flat (text_literal text) is = refl
-leaf_flat (of_component c) is = refl
-leaf_flat (all_of ts) is = absurd cc
-leaf_flat (first_of ts) is = absurd cc
-leaf_flat nothing is = absurd cc
+leaf_flat t h = grind (arith, common_steps)
 
 -- without lists they are as they were
 pub leaves_flat : (all : List Tree) → IsTrue (are_leaves all) → flat_items all ≡ all
@@ -95,15 +86,12 @@ leaves_flat (t ∷ ts) leaves =
 -- ---- what is shown in open lists
 
 visible_by : (o : Option ℕ) (first : Bool) (here : ℕ) → or_at o first here ≡ None → (o ≡ None) × (first ≡ true)
-visible_by (Some d) first here e = absurd cc
-visible_by None true here e = (refl, refl)
-visible_by None false here e = absurd cc
+visible_by o first here h = grind (arith, common_steps)
 
 more_step : (fs : List Frame) (lists items a b : List Tree) → is_nil lists ≡ true
     → ((x : List Tree) → shown_in fs (x ++ b) ≡ shown_in fs x ++ b)
     → shown_in fs (flat_items items ++ first_shown lists (a ++ b)) ≡ shown_in fs (flat_items items ++ first_shown lists a) ++ b
-more_step fs [] items a b none later = ap (shown_in fs) (sym (append_assoc (flat_items items) a b)) ∙ later (flat_items items ++ a)
-more_step fs (t ∷ ts) items a b none later = absurd cc
+more_step fs lists items a b h k = grind (arith, common_steps, append_assoc)
 
 -- where each list is the first in its brackets, more items are shown
 pub shown_more : (fs : List Frame) (a b : List Tree) → hidden_at fs ≡ None → shown_in fs (a ++ b) ≡ shown_in fs a ++ b
@@ -113,14 +101,12 @@ shown_more (f ∷ fs) a b is =
     more_step fs f.lists f.items a b w.1 (λ x. shown_more fs x b w.0)
 
 outer_hidden : (o : Option ℕ) (here d : ℕ) → or_at o true here ≡ Some d → o ≡ Some d
-outer_hidden (Some e) here d is = is
-outer_hidden None here d is = absurd cc
+outer_hidden o here d h = grind (arith, common_steps)
 
 hidden_step : (fs : List Frame) (lists items a b : List Tree) (d : ℕ) → or_at (hidden_at fs) (is_nil lists) (length fs) ≡ Some d
     → ((x y : List Tree) → hidden_at fs ≡ Some d → shown_in fs x ≡ shown_in fs y)
     → shown_in fs (flat_items items ++ first_shown lists a) ≡ shown_in fs (flat_items items ++ first_shown lists b)
-hidden_step fs [] items a b d is later = later (flat_items items ++ a) (flat_items items ++ b) (outer_hidden (hidden_at fs) (length fs) d is)
-hidden_step fs (t ∷ ts) items a b d is later = refl
+hidden_step fs lists items a b d h k = grind (arith, common_steps, outer_hidden)
 
 -- where one is not, they are not
 pub shown_hidden : (fs : List Frame) (a b : List Tree) (d : ℕ) → hidden_at fs ≡ Some d → shown_in fs a ≡ shown_in fs b
@@ -128,9 +114,7 @@ shown_hidden [] a b d is = absurd cc
 shown_hidden (f ∷ fs) a b d is = hidden_step fs f.lists f.items a b d is (λ x y h. shown_hidden fs x y d h)
 
 below_by : (o : Option ℕ) (first : Bool) (here d : ℕ) → or_at o first here ≡ Some d → (o ≡ Some d → d < here) → d < here + 1
-below_by (Some e) first here d is later = let h = later is in omega (arith, h)
-below_by None true here d is later = absurd cc
-below_by None false here d is later = let same : here ≡ d = cc in omega (arith, same)
+below_by o first here d h k = grind (arith, common_steps)
 
 -- the outermost of those is in fewer lists
 hidden_below : (fs : List Frame) (d : ℕ) → hidden_at fs ≡ Some d → d < length fs
@@ -148,13 +132,10 @@ opened_hidden hidden fs f is_first depth same deep first =
     ∙ ap (or_at (hidden_at fs) (is_nil f.lists)) deep
 
 closed_place : (same : Bool) (d here : ℕ) → nat_eq d here ≡ same → (Some d ≡ Some here → ⊥) → closed_at (Some d) here ≡ Some d
-closed_place true d here test differ = absurd (differ (ap Some (eqb-true d here test)))
-closed_place false d here test differ = rw test refl
+closed_place same d here h k = grind (arith, common_steps, eqb-true)
 
 closed_by : (o : Option ℕ) (first : Bool) (here : ℕ) → (o ≡ Some here → ⊥) → closed_at (or_at o first here) here ≡ o
-closed_by (Some d) first here differ = closed_place (nat_eq d here) d here refl differ
-closed_by None true here differ = refl
-closed_by None false here differ = rw (eq-eqb here here refl) refl
+closed_by o first here h = grind (arith, common_steps, closed_place)
 
 pub closed_hidden : (fs : List Frame) (f : Frame) (hidden : Option ℕ) (depth : ℕ) → hidden ≡ hidden_at (f ∷ fs) → depth ≡ length fs
     → closed_at hidden depth ≡ hidden_at fs
@@ -163,8 +144,7 @@ closed_hidden fs f hidden depth same deep = grind (arith, closed_by, hidden_belo
 list_closed : (fs : List Frame) (lists items inner : List Tree)
     → shown_in fs (flat_items items ++ first_shown lists (flat_items inner))
     ≡ shown_in fs (flat_items items ++ first_shown (lists ++ all_of (trees inner) ∷ []) [])
-list_closed fs [] items inner = refl
-list_closed fs (t ∷ ts) items inner = refl
+list_closed fs lists items inner = grind (arith, common_steps)
 
 pub closed_shown : (fs : List Frame) (f : Frame) (inner : List Tree)
     → shown_in (f ∷ fs) (flat_items inner) ≡ shown_in fs (flat_items f.items ++ first_shown (f.lists ++ all_of (trees inner) ∷ []) [])
@@ -172,10 +152,7 @@ closed_shown fs f inner = list_closed fs f.lists f.items inner
 
 -- the item that brackets are
 item_shown : (nest : Nest) (lists : List Tree) (left : ℕ) (item : Tree) → nested nest lists left ≡ Ok item → first_shown lists [] ≡ flat item
-item_shown nests.Optional [] left item is = absurd cc
-item_shown nests.Optional (t ∷ ts) left item is = let same : t ≡ item = cc in ap flat same
-item_shown nests.First [] left item is = let same : first_of end ≡ item = cc in ap flat same
-item_shown nests.First (t ∷ ts) left item is = let same : first_of (more t (trees ts)) ≡ item = cc in ap flat same
+item_shown nest lists left item h = grind (arith, common_steps)
 
 pub ended_shown : (fs : List Frame) (nest : Nest) (items lists : List Tree) (left : ℕ) (item : Tree) → nested nest lists left ≡ Ok item
     → shown_in fs (flat_items items ++ first_shown lists []) ≡ shown_in fs (flat_items (items ++ item ∷ []))

@@ -1,5 +1,5 @@
 -- Items of a text, in an array and in what they show.
-use Rattle.std.proofs.Common.{◌≡◌, ◌<◌, ◌≤◌, ◌+◌, ◌++◌, ℕ, min, Bool, true, false, List, [], ◌∷◌, length, take, set, Option, Some, None, is_some, Result, Ok, Err, refl, sym, ap, ◌∙◌, subst, arith, ne_eqb}
+use Rattle.std.proofs.Common.{◌≡◌, ◌<◌, ◌≤◌, ◌+◌, ◌++◌, ℕ, min, Bool, true, false, List, [], ◌∷◌, length, take, set, Option, None, is_some, Result, Ok, Err, refl, sym, ap, ◌∙◌, subst, arith, ne_eqb}
 use Rattle.std.specs.Prelude.{IsTrue, nat_le, slice_range, ◌==◌, ◌≢◌}
 use Rattle.std.specs.Str.{is_utf8}
 use Rattle.std.proofs.lemmas.Bool.{le-leb, leb-true, leb-false}
@@ -33,18 +33,13 @@ use Rattle.time_describe.specs.declared.strftime.fault.StrftimeReason.{StrftimeR
 use Rattle.time_fmt.specs.Description.{current_outcome, tree_outcome, trees_outcome}
 use Rattle.time_fmt.specs.Outcome.{Outcome, done, join}
 use Rattle.movaliren_c.proofs.FlatLemmas.{begun_shown, closed_hidden, closed_shown, ended_shown, flat_more, leaves_flat, opened_hidden, shown_hidden, shown_more}
+use Rattle.std.proofs.lemmas.Grind.{common_steps}
 
 -- ---- one item
 
 -- what parsers alone read makes no difference
 shown_same : (c : Component) → IsTrue (is_current c) → (f : Facts) → current_outcome (current_component (shown c)) f ≡ current_outcome c f
-shown_same (component.Month m) h f = let never : ⊥ = cc in absurd never
-shown_same (component.Weekday m) h f = let never : ⊥ = cc in absurd never
-shown_same (component.WeekNumber m) h f = let never : ⊥ = cc in absurd never
-shown_same (component.Hour m) h f = let never : ⊥ = cc in absurd never
-shown_same (component.UnixTimestamp m) h f = let never : ⊥ = cc in absurd never
-shown_same (component.Year m) h f = let never : ⊥ = cc in absurd never
-shown_same c h f = refl
+shown_same c h f = grind (arith, common_steps)
 
 -- nothing is written of these
 nothing_shown : (c : Component) → is_shown c ≡ false → IsTrue (is_current c) → (f : Facts) → current_outcome c f ≡ done []
@@ -68,8 +63,7 @@ text_of start len = record { kind = 255; padding = 0; flag = 0; digits = 0; byte
 
 literal_by : (b : Bool) (bytes : List ℕ) (f : Facts) → is_utf8 bytes ≡ b → done bytes ≡ tree_outcome (literal_of bytes) f
 unfolding literal_of
-literal_by true bytes f is = rw is refl
-literal_by false bytes f is = rw is refl
+literal_by b bytes f h = grind (arith, common_steps)
 
 literal_outcome : (bytes : List ℕ) (f : Facts) → done bytes ≡ tree_outcome (literal_of bytes) f
 literal_outcome bytes f = literal_by (is_utf8 bytes) bytes f refl
@@ -164,8 +158,7 @@ brackets_faulty text reason index says = grind arith
 -- ---- items in open lists
 
 none_there : (o : Option ℕ) → is_some o ≡ false → o ≡ None
-none_there None is = refl
-none_there (Some n) is = absurd cc
+none_there o h = grind (arith, common_steps)
 
 -- one item more is shown where each list is the first in its brackets
 pub put_shown : (text : List ℕ) (fs : List Frame) (new : List Item) (total : ℕ) (hidden : Option ℕ) (items : List Tree) (t : Tree) → is_some hidden ≡ false → flat t ≡ t ∷ []
@@ -176,8 +169,7 @@ put_shown text fs new total hidden items t some leaf kept more =
 -- and makes no difference where one is not
 pub put_hidden : (text : List ℕ) (fs : List Frame) (array : List Item) (count : ℕ) (hidden : Option ℕ) (items : List Tree) (t : Tree) → is_some hidden ≡ true
     → HoldsIn text fs array count hidden items → HoldsIn text fs array count hidden (items ++ t ∷ [])
-put_hidden text fs array count None items t some holds = absurd cc
-put_hidden text fs array count (Some d) items t some holds = grind (arith, shown_hidden)
+put_hidden text fs array count hidden items t h k = grind (arith, common_steps, shown_hidden)
 
 pub begun : (text : List ℕ) (fs : List Frame) (array : List Item) (count : ℕ) (hidden : Option ℕ) (items : List Tree) → HoldsIn text fs array count hidden items
     → HoldsListsIn text fs items array count hidden []
@@ -208,8 +200,7 @@ counted_leaves text array count hidden all leaves holds = grind (arith, leaves_f
 
 complete_by : (fits : Bool) (text : List ℕ) (all : List Tree) (array : List Item) (count : ℕ) (old : Fault) → nat_le (length all) (length array) ≡ fits
     → count ≡ length all → count ≤ length array → AreItems text (take (length all) array) all → LeavesItems fits text all (Ok count) array old old
-complete_by true text all array count old test same le are = (ap Ok same, describes text (take (length all) array) all are, refl)
-complete_by false text all array count old test same le are = absurd (omega (arith, leb-false _ _ test, same, le))
+complete_by fits text all array count old h k l p = grind (arith, common_steps, describes, leb-false)
 
 pub left_complete : (text : List ℕ) (d : Result (List Tree) Fault) (array : List Item) (count : ℕ) (old : Fault) → IsHeld text d array count
     → count ≤ length array → length array < 0xffff_ffff_ffff_ffff → Leaves text d (Ok count) array old old
@@ -226,9 +217,7 @@ same_by description all (Err r) facts same = refl
 given_by : {A : Type 0} (fits : Bool) (text : List ℕ) (all : List Tree) (count room most : ℕ) (items : List Item) (old new : Fault) (value : Result A Reason)
     (facts : A → Facts) → room ≤ most → nat_le (length all) room ≡ fits → LeavesItems fits text all (Ok count) items old new
     → described (few_in most (Ok all)) value facts ≡ described (trees_of text (take count items)) value facts
-given_by true text all count room most items old new value facts small test h =
-    grind (arith, leb-true, le-leb, same_by)
-given_by false text all count room most items old new value facts small test h = absurd (let e = h.0 in cc)
+given_by fits text all count room most items old new value facts h k l = grind (arith, common_steps, leb-true, le-leb, same_by)
 
 -- the items give what the text does, of which there may be more than the array has room for
 text_given : {A : Type 0} (text : List ℕ) (d : Result (List Tree) Fault) (count most : ℕ) (items : List Item) (old new : Fault) (value : Result A Reason)
@@ -250,22 +239,18 @@ text_shown text d count most items old new value facts answer before after small
 
 many_only : (fits : Bool) (text : List ℕ) (all : List Tree) (r : Reason) (items : List Item) (old new : Fault)
     → LeavesItems fits text all (Err r) items old new → r ≡ reason.ManyItems
-many_only true text all r items old new h = absurd (let e = h.0 in cc)
-many_only false text all r items old new h = let e = h.0 in cc
+many_only fits text all r items old new h = grind (arith, common_steps)
 
 refused_by : (fits : Bool) (text : List ℕ) (all : List Tree) (r : Reason) (room : ℕ) (items : List Item) (old new : Fault) → nat_le (length all) room ≡ fits
     → LeavesItems fits text all (Err r) items old new → few_in room (Ok all) ≡ Err r
-refused_by true text all r room items old new test h = absurd (let e = h.0 in cc)
-refused_by false text all r room items old new test h = grind (arith, many_only)
+refused_by fits text all r room items old new h k = grind (arith, common_steps, many_only)
 
 -- or there is the same reason for none
 pub text_refused : (text : List ℕ) (d : Result (List Tree) Fault) (r : Reason) (items : List Item) (old new : Fault) → Leaves text d (Err r) items old new
     → few_in (length items) d ≡ Err r
-text_refused text (Ok all) r items old new h = refused_by (nat_le (length all) (length items)) text all r (length items) items old new refl h
-text_refused text (Err f) r items old new h = grind arith
+text_refused text d r items old new h = grind (arith, common_steps, refused_by)
 
 -- a fault is the same, however many items there may be
 pub text_faulty : (text : List ℕ) (d : Result (List Tree) Fault) (r : Reason) (most : ℕ) (items : List Item) (old new : Fault)
     → r ≢ reason.ManyItems → Leaves text d (Err r) items old new → few_in most d ≡ Err r
-text_faulty text (Ok all) r most items old new other h = absurd (other (many_only (nat_le (length all) (length items)) text all r items old new h))
-text_faulty text (Err f) r most items old new other h = grind arith
+text_faulty text d r most items old new h k = grind (arith, common_steps, many_only)

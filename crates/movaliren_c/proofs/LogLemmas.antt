@@ -1,22 +1,22 @@
 -- What is kept for the times of log lines.
-use Rattle.std.proofs.Common.{◌≡◌, ◌∙◌, ℕ, ◌<◌, ℤ, Bool, true, false, List, [], ◌++◌, append_assoc, refl, ap, arith}
-use Rattle.std.proofs.Common.{◌⊎◌, inl, inr, unsigned_abs, Result, Ok, Err, Some, ◌+◌, ◌-◌, ◌≤◌, drop, length}
-use Rattle.std.proofs.Common.{length-append, length-drop, sym, take, w64, FitsSigned, of_z, to_z}
+use Rattle.std.proofs.Common.{◌≡◌, ◌∙◌, ℕ, ◌<◌, ℤ, Bool, true, List, [], ◌++◌, append_assoc, refl, ap, arith, ◌⊎◌}
+use Rattle.std.proofs.Common.{unsigned_abs, Result, Ok, Some, ◌+◌, ◌-◌, ◌≤◌, drop, length, length-append, length-drop}
+use Rattle.std.proofs.Common.{sym, take, w64, FitsSigned, of_z, to_z}
 use Rattle.std.proofs.lemmas.Bool.{lt-ltb}
 use Rattle.std.proofs.lemmas.Int.{to_z-of_z}
 use Rattle.std.proofs.Math.ListN.{length-take}
 use Rattle.std.proofs.lemmas.List.{append-nil, drop-drop, drop_all, drop_at, take-append-drop, take_all, take_at}
-use Rattle.std.specs.Prelude.{◌+ℤ◌, codes}
+use Rattle.std.specs.Prelude.{codes}
 use Rattle.movaliren_c.specs.Answer.{IsAnswer, IsWritten, answer_number, gives}
 use Rattle.movaliren_c.specs.Chosen.{iso8601_by}
 use Rattle.movaliren_c.specs.Log.{Remembers, head_of, log_choices, log_config}
 use Rattle.movaliren_c.specs.Utc.{local_there, local_value}
-use Rattle.movaliren_c.specs.Value.{checked, is_in_years, timestamp_value, with_value}
+use Rattle.movaliren_c.specs.Value.{checked, timestamp_value, with_value}
 use Rattle.movaliren_c.specs.declared.reason.Reason.{Reason}
 use Rattle.movaliren_c.specs.declared.reason.Reason.TheVariants as reason
 use Rattle.time_below.specs.Facts.{date_facts}
 use Rattle.time_below.specs.Moment.{OffsetDateAndTime, local_at}
-use Rattle.time_below.specs.Offset.{Offset, offset_seconds}
+use Rattle.time_below.specs.Offset.{Offset}
 use Rattle.time_fmt.specs.Decimals.{decimals}
 use Rattle.time_fmt.specs.Outcome.{done}
 use Rattle.time_known.proofs.AcceptedLemmas.{usual_accepted}
@@ -26,6 +26,7 @@ use Rattle.time_known.specs.Iso8601.{iso8601_of}
 use Rattle.time_known.specs.WellKnown.{clock_text, offset_text, date_text}
 use Rattle.time_known.specs.declared.iso8601.config.DateKind.TheVariants as kind
 use Rattle.time_known.specs.declared.iso8601.config.DecimalSign.TheVariants as sign
+use Rattle.std.proofs.lemmas.Grind.{common_steps}
 
 -- ---- moments of one second
 
@@ -36,20 +37,17 @@ at n v = record v { time = record v.time { nanosecond = n } }
 there : (b : Bool) (s : ℤ) (m n : ℕ) (o : Offset) (v : OffsetDateAndTime)
     → checked b reason.NoPlaceForYear (Ok (local_at (record { seconds = s; nanosecond = m }) o)) ≡ Ok v
     → checked b reason.NoPlaceForYear (Ok (local_at (record { seconds = s; nanosecond = n }) o)) ≡ Ok (at n v)
-there true s m n o v h = grind arith
-there false s m n o v h = absurd (let e = h in cc)
+there b s m n o v h = grind (arith, common_steps)
 
 at_offset : (e : Result Offset Reason) (s : ℤ) (m n : ℕ) (v : OffsetDateAndTime)
     → with_value e (λ o. local_there (record { seconds = s; nanosecond = m }) o) ≡ Ok v
     → with_value e (λ o. local_there (record { seconds = s; nanosecond = n }) o) ≡ Ok (at n v)
-at_offset (Ok o) s m n v h = there (is_in_years (s +ℤ offset_seconds o)) s m n o v h
-at_offset (Err r) s m n v h = absurd (let e = h in cc)
+at_offset e s m n v h = grind (arith, common_steps, there)
 
 in_years : (b : Bool) (e : Result Offset Reason) (s : ℤ) (m n : ℕ) (v : OffsetDateAndTime)
     → with_value (checked b reason.MomentSeconds (Ok (record { seconds = s; nanosecond = m }))) (λ i. with_value e (λ o. local_there i o)) ≡ Ok v
     → with_value (checked b reason.MomentSeconds (Ok (record { seconds = s; nanosecond = n }))) (λ i. with_value e (λ o. local_there i o)) ≡ Ok (at n v)
-in_years true e s m n v h = at_offset e s m n v h
-in_years false e s m n v h = absurd (let x = h in cc)
+in_years b e s m n v h = grind (arith, common_steps, at_offset)
 
 -- the value of each moment of a second that has one
 later : (s east : ℤ) (n : ℕ) (v : OffsetDateAndTime) → local_value s 0 east ≡ Ok v → n < 1_000_000_000
@@ -91,9 +89,7 @@ kept_bytes s o before after head zone n k small low remembers long first last = 
 chosen : (d : ℕ) (value : Result OffsetDateAndTime Reason) → (d ≡ 3) ⊎ ((d ≡ 6) ⊎ (d ≡ 9))
     → iso8601_by (log_config d) value ≡ gives value (iso8601_of (log_choices d))
 unfolding iso8601_by
-chosen d value (inl three) = rw three refl
-chosen d value (inr (inl six)) = rw six refl
-chosen d value (inr (inr nine)) = rw nine refl
+chosen d value h = grind (arith, common_steps)
 
 -- what is kept is the text of a moment of its second
 pub kept_text : (d n : ℕ) (second seconds kept offset : ℤ) (before after bytes : List ℕ) (answer : Result ℕ Reason)

@@ -1,6 +1,6 @@
 -- What a local date and time means.
-use Rattle.std.proofs.Common.{◌≡◌, ℕ, ℤ, pos, ◌-ℤ◌, Bool, true, false}
-use Rattle.std.proofs.Common.{Result, Ok, Err, refl, sym, ap, ◌∙◌, subst, arith}
+use Rattle.std.proofs.Common.{◌≡◌, ℕ, ℤ, pos, ◌-ℤ◌, Bool, true}
+use Rattle.std.proofs.Common.{Result, Ok, refl, sym, ap, ◌∙◌, subst, arith}
 use Rattle.std.proofs.lemmas.Bool.{and_parts}
 use Rattle.std.proofs.lemmas.Bool.Decides.{nat_tests}
 use Rattle.std.proofs.lemmas.Int.{ints}
@@ -11,18 +11,17 @@ use Rattle.time_below.specs.Moment.{Moment, OffsetDateAndTime, IsMoment, local_a
 use Rattle.time_below.specs.Offset.{Offset, IsOffset, offset_seconds, utc}
 use Rattle.time_below.proofs.MomentLemmas.{IsDate-utc_date, IsTimeOfDay-utc_time, unix_seconds-utc, local_unix_seconds-local_at, only_local_at}
 use Rattle.time_below.proofs.OffsetLemmas.{IsOffset-of_seconds, offset_back, one_offset_of_seconds}
+use Rattle.std.proofs.lemmas.Grind.{common_steps}
 
 -- ---- what a value that there is comes of
 
 pub value_of_given : {A B : Type 0} (value : Result A Reason) (next : A → Result B Reason) (b : B)
     → with_value value next ≡ Ok b → (a : A) × (value ≡ Ok a) × (next a ≡ Ok b)
-value_of_given (Ok a) next b h = (a, refl, h)
-value_of_given (Err r) next b h = absurd (let e = h in cc)
+value_of_given value next b h = grind (arith, common_steps)
 
 pub test_that_passed : {A : Type 0} (test : Bool) (r : Reason) (rest : Result A Reason) (a : A)
     → checked test r rest ≡ Ok a → (test ≡ true) × (rest ≡ Ok a)
-test_that_passed true r rest a h = (refl, h)
-test_that_passed false r rest a h = absurd (let e = h in cc)
+test_that_passed test r rest a h = grind (arith, common_steps)
 
 pub same_value : {A : Type 0} (a b : A) → ◌≡◌ {A = Result A Reason} (Ok a) (Ok b) → a ≡ b
 same_value a b h = let e = h in cc

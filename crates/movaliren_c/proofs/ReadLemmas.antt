@@ -1,5 +1,5 @@
 -- The parts of a value give that value.
-use Rattle.std.proofs.Common.{T, ◌≡◌, ℕ, suc, zero, ℤ, pos, negsuc, Bool, true, false, refl, subst, ◌≤◌, Result, Ok, arith}
+use Rattle.std.proofs.Common.{T, ◌≡◌, ℕ, suc, ℤ, pos, Bool, true, false, refl, subst, ◌≤◌, Result, Ok, arith}
 use Rattle.std.specs.Prelude.{◌&&◌, ◌<ℤ◌, ◌≤ℤ◌, unsigned_abs}
 use Rattle.std.proofs.lemmas.Bool.Decides.{nat_tests}
 use Rattle.std.specs.Int.{IsInRange}
@@ -55,19 +55,13 @@ is_above : (n : ℕ) → pos 0 <ℤ pos (suc n)
 is_above n = grind (arith, nat_tests)
 
 false_from_T : (b : Bool) → b ≡ false → T b → ⊥
-false_from_T true h t = absurd (let e = h in cc)
-false_from_T false h t = t
+false_from_T b h k = grind (arith, common_steps)
 
 not_under : (m : ℕ) → pos (suc m) ≤ℤ pos 0 → ⊥
 not_under m h = grind (arith, nat_tests, false_from_T)
 
 alike : (a b : ℤ) → HasNoOtherSign a b → is_alike a b ≡ true
-alike (pos zero) b h = refl
-alike (pos (suc n)) (pos m) h = not_below n m
-alike (pos (suc n)) (negsuc m) h = absurd (h.0 (is_above n)).le
-alike (negsuc n) (pos zero) h = refl
-alike (negsuc n) (pos (suc m)) h = absurd (not_under m (h.1 (record { lt = tt })))
-alike (negsuc n) (negsuc m) h = refl
+alike a b h = grind (arith, common_steps, not_below, is_above, not_under)
 
 part_given : (greatest : ℕ) (a b part : ℤ) → unsigned_abs part ≤ greatest → HasNoOtherSign a part → HasNoOtherSign b part
     → is_offset_part greatest a b part ≡ true
@@ -104,18 +98,17 @@ value_of_parts m v p q r is_year is_month is_day real a b c e time i j k offset 
 
 day_of_date : (y : ℤ) (m d : ℕ) (date : OrdinalDate) → date_value y m d ≡ Ok date → IsDayOf m d date
 unfolding date_value
-day_of_date y m d date h =
-    grind (
-      arith,
-      common_steps,
-      test_that_passed,
-      and_parts,
-      leb-true,
-      same_value,
-      month_length,
-      month_of-date_of,
-      day_of-date_of,
-    )
+day_of_date y m d date h = grind (
+  arith,
+  common_steps,
+  test_that_passed,
+  and_parts,
+  leb-true,
+  same_value,
+  month_length,
+  month_of-date_of,
+  day_of-date_of,
+)
 
 -- what a value is by its parts
 pub record IsByParts (m : Moment) (v : OffsetDateAndTime) : Type 0 where

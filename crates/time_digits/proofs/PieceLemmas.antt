@@ -127,8 +127,7 @@ five_or_six_digits n low h = sym (decimal-split 4 n low h)
 
 -- a number below 100,000 with zeros: its first digit, and the last four
 pub five_zero_padded : (n : ℕ) → n < 100_000 → decimal (n / 10_000) ++ fixed 4 n ≡ zero_padded 5 n
-five_zero_padded n h =
-    rw (last_four_digits n (omega arith), one_place 48 (n / 10_000) (omega arith)) at
+five_zero_padded n h = rw (last_four_digits n (omega arith), one_place 48 (n / 10_000) (omega arith)) at
     (zero_pieces 0 3 n (omega arith) h (omega arith))
 
 -- a number below 1,000,000 with zeros: its first pair, and the last four digits

@@ -86,13 +86,12 @@ pub ruleset signed_parts = (length-append, append_assoc)
 signed_within : (is_negative is_wanted : Bool) (p : Padding) (places most n : ℕ) → places ≤ most → 0 < most
     → n < 10 ^ most → n < 2 ^ 64
     → length (sign_text is_negative is_wanted ++ padded_text p places n) ≤ most + 1
-signed_within is_negative is_wanted p places most n h some below fits =
-    omega (
-      arith,
-      length-append (sign_text is_negative is_wanted) (padded_text p places n),
-      length-sign_text is_negative is_wanted,
-      length-padded_text p places most n h (length-decimal-le most n some below fits),
-    )
+signed_within is_negative is_wanted p places most n h some below fits = omega (
+  arith,
+  length-append (sign_text is_negative is_wanted) (padded_text p places n),
+  length-sign_text is_negative is_wanted,
+  length-padded_text p places most n h (length-decimal-le most n some below fits),
+)
 
 -- a century or an hour of an offset: two digits, and at most four
 pub signed_two : (is_negative is_wanted : Bool) (p : Padding) (n : ℕ) → n < 100

@@ -5,11 +5,10 @@ use Rattle.movaliren_c.proofs.DescribedLemmas.{no_room, no_value}
 use Rattle.movaliren_c.proofs.described.write_described.Goals as goal
 
 pub returns-in-Err : goal.returns-in-Err
-returns-in-Err g c =
-    rw (c.in-Err.is, c.first_reason.ensures) (record {
-      text = rw (no_value (trees_of c.args.texts.now c.args.items.now) c.in-Err.reason g.V.ComponentProvider.facts) (refl, refl);
-      within = tt;
-    })
+returns-in-Err g c = rw (c.in-Err.is, c.first_reason.ensures) (record {
+  text = rw (no_value (trees_of c.args.texts.now c.args.items.now) c.in-Err.reason g.V.ComponentProvider.facts) (refl, refl);
+  within = tt;
+})
 
 pub returns-in-Ok-3 : goal.returns-in-Ok-3
 returns-in-Ok-3 g c =

@@ -117,15 +117,13 @@ write_node-returns-in-Nothing-clause-appends g t c =
     rw (← c.in-Nothing.ensures.tree) (nothing_appends (g.S.Sink.buffer c.args.output.now) _)
 
 pub write_node-returns-in-Component-clause-appends : goal.write_node-returns-in-Component-clause-appends
-write_node-returns-in-Component-clause-appends g t c =
-    rw (← c.in-Component.ensures.tree) (record {
-      ends = c.end_component.ensures.ends;
-      text = λ _. text_of_component c.in-Component.component (g.V.ComponentProvider.facts c.args.value.now);
-    })
+write_node-returns-in-Component-clause-appends g t c = rw (← c.in-Component.ensures.tree) (record {
+  ends = c.end_component.ensures.ends;
+  text = λ _. text_of_component c.in-Component.component (g.V.ComponentProvider.facts c.args.value.now);
+})
 
 pub write_node-returns-in-Some-clause-appends : goal.write_node-returns-in-Some-clause-appends
-write_node-returns-in-Some-clause-appends g t c =
-    rw (← c.in-First.ensures.tree)
+write_node-returns-in-Some-clause-appends g t c = rw (← c.in-First.ensures.tree)
     (first_appends g.T.Node.tree c.in-First.nodes.now c.in-Some.node.now (g.S.Sink.buffer c.args.output.now) (g.S.Sink.buffer c.write_node.new.output) _
     (sym c.in-Some.ensures.value) c.write_node.ensures.appends)
 
