@@ -1,6 +1,6 @@
 -- The numbers of a command.
-use Rattle.std.proofs.Common.{ℕ, ℤ, ◌≡◌, ◌≢◌, ◌+◌, ◌<◌, true, false, List, [], ◌∷◌, ◌++◌, length, take, drop}
-use Rattle.std.proofs.Common.{get_or, Option, Some, None, ⊎_elim, refl, ap, sym, ◌∙◌, add-one, arith}
+use Rattle.std.proofs.Common.{ℕ, ℤ, ◌≡◌, ◌≢◌, ◌+◌, ◌<◌, true, false, List, [], ◌∷◌, ◌++◌, length, take, drop, get_or}
+use Rattle.std.proofs.Common.{Option, Some, None, ⊎_elim, refl, add-one, arith}
 use Rattle.std.proofs.Math.Seq.{drop-cons}
 use Rattle.std.proofs.lemmas.Bool.{cases_lt}
 use Rattle.std.proofs.lemmas.List.{take-append-drop}
@@ -13,12 +13,13 @@ use Rattle.time_answers.specs.declared.value.DateNumbers.{DateNumbers}
 use Rattle.time_answers.specs.declared.value.OffsetNumbers.{OffsetNumbers}
 use Rattle.time_answers.specs.declared.value.TimeNumbers.{TimeNumbers}
 use Rattle.time_answers.specs.Command.{onto_date, onto_time, onto_offset, time_numbers, date_time_numbers, utc_numbers}
-use Rattle.time_answers.specs.Asked.{no_command, asked_after, asked_of_fields}
 use Rattle.time_answers.specs.Command.{named}
+use Rattle.time_answers.specs.Asked.{no_command, asked_after, asked_of_fields}
 use Rattle.time_answers.specs.declared.command.Name.{Name}
 use Rattle.time_answers.specs.declared.command.Name.TheVariants as name
 use Rattle.time_answers.proofs.FieldsLemmas.{is_space, parts-none}
-use Rattle.time_answers.specs.Fields.{space, fields_of, Lacks, number_of, onto_numbers, numbers_of}
+use Rattle.time_answers.specs.Fields.{space, fields_of, Lacks, onto_numbers, numbers_of}
+use Rattle.std.proofs.lemmas.Grind.{common_steps}
 
 -- fewer than four numbers are no time of day
 pub too_few_for_time_of_day : (numbers : Option (List ℤ)) → Lacks 4 numbers → time_numbers numbers ≡ None
@@ -28,15 +29,12 @@ too_few_for_time_of_day numbers lacks = refl
 -- a number after a time of day makes no time of day
 number_after_time_of_day : (n : Option ℤ) (numbers : Option (List ℤ)) (time : TimeNumbers)
     → time_numbers (onto_time time (onto_numbers n numbers)) ≡ None
-number_after_time_of_day None numbers time = refl
-number_after_time_of_day (Some n) None time = refl
-number_after_time_of_day (Some n) (Some xs) time = refl
+number_after_time_of_day n numbers time = grind (arith, common_steps)
 
 pub fields_after_time_of_day : (fields : List (List ℕ)) (time : TimeNumbers) → fields ≢ []
     → time_numbers (onto_time time (numbers_of fields)) ≡ None
 fields_after_time_of_day [] time some = absurd (some refl)
-fields_after_time_of_day (field ∷ fields) time some =
-    number_after_time_of_day (number_of field) (numbers_of fields) time
+fields_after_time_of_day (field ∷ fields) time some = grind (arith, number_after_time_of_day)
 
 -- fewer than three numbers are no date and time in UTC
 pub too_few_for_utc_date_time : (numbers : Option (List ℤ)) → Lacks 3 numbers → utc_numbers numbers ≡ None
@@ -64,43 +62,27 @@ too_few_after_time date time numbers lacks = refl
 number_after_offset : (n : Option ℤ) (numbers : Option (List ℤ)) (date : DateNumbers) (time : TimeNumbers)
     (offset : OffsetNumbers)
     → date_time_numbers (onto_date date (onto_time time (onto_offset offset (onto_numbers n numbers)))) ≡ None
-number_after_offset None numbers date time offset = refl
-number_after_offset (Some n) None date time offset = refl
-number_after_offset (Some n) (Some xs) date time offset = refl
+number_after_offset n numbers date time offset = grind (arith, common_steps)
 
 pub fields_after_offset : (fields : List (List ℕ)) (date : DateNumbers) (time : TimeNumbers) (offset : OffsetNumbers)
     → fields ≢ []
     → date_time_numbers (onto_date date (onto_time time (onto_offset offset (numbers_of fields)))) ≡ None
 fields_after_offset [] date time offset some = absurd (some refl)
-fields_after_offset (field ∷ fields) date time offset some =
-    number_after_offset (number_of field) (numbers_of fields) date time offset
+fields_after_offset (field ∷ fields) date time offset some = grind (arith, number_after_offset)
 
 -- the first field is not this name, if the line does not begin with the name and a space
 other_name_than_the_first_field : (name field rest line : List ℕ) → line ≡ field ++ space ∷ rest
     → ((others : List ℕ) → line ≢ name ++ space ∷ others) → bytes_eq field name ≡ false
-other_name_than_the_first_field name field rest line e other =
-    elim (bytes_eq field name) as (λ b. bytes_eq field name ≡ b → b ≡ false) [
-      | true ↦ λ same. absurd (other rest (e ∙ ap (λ f. f ++ space ∷ rest) ((bytes_eq-Decides field name).0 same)))
-      | false ↦ λ _. refl
-    ] refl
+other_name_than_the_first_field name field rest line e other = grind (arith, bytes_eq-Decides)
 
 -- a line up to its first space, and what follows
 splits_at_space : (line : List ℕ) (i : ℕ) → i < length line → is_space (get_or line i 0) ≡ true →
     line ≡ take i line ++ space ∷ drop (i + 1) line
-splits_at_space line i lt here =
-    let is : get_or line i 0 ≡ space = grind arith in
-    sym (take-append-drop i line)
-    ∙ ap (λ rest. take i line ++ rest) (drop-cons line i 0 lt ∙ rw (is, add-one) refl)
+splits_at_space line i lt here = grind (arith, take-append-drop, drop-cons, add-one)
 
 -- a name alone is no command
 name_without_numbers : (found : Option Name) → asked_after found (numbers_of []) ≡ no_command
-name_without_numbers None = refl
-name_without_numbers (Some name.Time) = refl
-name_without_numbers (Some name.Rfc3339) = refl
-name_without_numbers (Some name.Rfc2822) = refl
-name_without_numbers (Some name.Iso) = refl
-name_without_numbers (Some name.IsoComma) = refl
-name_without_numbers (Some name.Stamp) = refl
+name_without_numbers found = grind (arith, common_steps)
 
 -- a line that begins with no name and a space is no command
 pub line_without_name : (line : List ℕ) → ((rest : List ℕ) → line ≢ codes "time " ++ rest)

@@ -1,5 +1,5 @@
 -- The fields of a line, and the numbers that digits spell.
-use Rattle.std.proofs.Common.{ℕ, not, ◌⊎◌, inl, inr, ⊎_elim, false, ◌==◌, ◌≡◌, ◌+◌, ◌-◌, ◌*◌, ◌^◌, ◌<◌, ◌≤◌, Bool, true}
+use Rattle.std.proofs.Common.{ℕ, ◌⊎◌, inl, inr, ⊎_elim, false, ◌==◌, ◌≡◌, ◌+◌, ◌-◌, ◌*◌, ◌^◌, ◌<◌, ◌≤◌, Bool, true}
 use Rattle.std.proofs.Common.{List, [], ◌∷◌, length, take, drop, get_or, Some, None, refl, ap, ◌∙◌, arith, rules}
 use Rattle.std.proofs.lemmas.Int.Digits.{digits_value_more}
 use Rattle.std.proofs.lemmas.Bool.{cases_lt}
@@ -16,6 +16,7 @@ use Rattle.std.specs.Int.{IsInRange}
 use Rattle.std.specs.List.{slice_split, list_all, position_or_len}
 use Rattle.std.specs.Str.Parse.{digits_value}
 use Rattle.time_answers.specs.Fields.{space, fields_of, is_natural, natural_of, LeadingDigits, FirstNatural}
+use Rattle.std.proofs.lemmas.Grind.{common_steps}
 
 -- a list has one part if nothing is found
 pub parts-none : (p : ℕ → Bool) (xs : List ℕ) → length xs ≤ position_or_len p xs → slice_split p xs ≡ xs ∷ []
@@ -92,17 +93,13 @@ digit_no_space b h = grind arith
 digit_at : (text : List ℕ) (count k : ℕ) → list_all is_ascii_digit (take count text) ≡ true → k < count
     → count ≤ length text →
     is_ascii_digit (get_or text k 0) ≡ true
-digit_at text count k h lt le =
-    rw (← get_or-take count text k 0 lt)
-    (All-get_or (λ x. is_ascii_digit x ≡ true) (take count text) k 0 (omega (arith, length-take count text))
-    (AllPass-from_list_all is_ascii_digit (take count text) h))
+digit_at text count k h lt le = grind (arith, get_or-take, All-get_or, length-take, AllPass-from_list_all)
 
 -- first digits are no number if another byte follows them, or a byte follows nine
 no_natural : (field : List ℕ) (count : ℕ) → count < length field
     → (count ≡ 9) ⊎ (is_ascii_digit (get_or field count 0) ≡ false) →
     natural_of field ≡ None
-no_natural field count lt (inl nine) = grind arith
-no_natural field count lt (inr other) = rw (list_all_at is_ascii_digit field count 0 lt other) (grind arith)
+no_natural field count h k = grind (arith, common_steps, list_all_at)
 
 -- no space stands among first digits
 no_space : (text : List ℕ) (count k : ℕ) → list_all is_ascii_digit (take count text) ≡ true → count ≤ length text
@@ -113,10 +110,7 @@ no_space text count k h le lt = digit_no_space _ (digit_at text count k h lt le)
 -- digits up to the end of their field are a number
 natural_of_digits : (text : List ℕ) (value count : ℕ) → LeadingDigits text value count → 0 < count
     → natural_of (take count text) ≡ Some value
-natural_of_digits text value count read some =
-    rw read.spelled
-    (natural-whole (take count text) (omega (arith, read.inside, length-take count text))
-    (omega (arith, read.short, length-take count text)) read.digits)
+natural_of_digits text value count read some = grind (arith, natural-whole, length-take)
 
 -- digits up to the end of the text are its first number, and nothing is left
 pub natural_last : (text : List ℕ) (value count : ℕ) → LeadingDigits text value count → 0 < count → count ≡ length text
@@ -148,10 +142,7 @@ no_natural_before : (text : List ℕ) (value count : ℕ) → LeadingDigits text
     → count < position_or_len is_space text →
     natural_of (take (position_or_len is_space text) text) ≡ None
 no_natural_before text value count read lt =
-    let k = position_or_len is_space text in
-    let inside : count < length (take k text) =
-    omega (arith, length-take k text, prefix_len-le-length (λ x. not (is_space x)) text) in
-    no_natural (take k text) count inside (rw (get_or-take k text count 0 lt) read.ended)
+    grind (arith, common_steps, length-take, prefix_len-le-length, no_natural, get_or-take)
 
 -- the byte at the place of the first space is a space
 space_at_its_place : (text : List ℕ) → position_or_len is_space text < length text

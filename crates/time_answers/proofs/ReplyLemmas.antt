@@ -1,5 +1,5 @@
 -- A time of day by its parts, and answers by equal outcomes.
-use Rattle.std.proofs.Common.{ℕ, ◌≡◌, List, [], ◌++◌, Result, Ok, Err, ap, append_assoc, append-nil, refl, subst}
+use Rattle.std.proofs.Common.{ℕ, ◌≡◌, List, [], ◌++◌, Result, ap, append_assoc, append-nil, refl, arith}
 use Rattle.std.specs.Prelude.{codes}
 use Rattle.time_below.specs.Facts.{Facts, facts_of_time}
 use Rattle.time_below.specs.TimeOfDay.{TimeOfDay}
@@ -10,7 +10,8 @@ use Rattle.time_fmt.specs.Description.{component_outcome, tree_outcome}
 use Rattle.time_fmt.specs.Outcome.{Outcome, done, join}
 use Rattle.time_answers.specs.declared.value.Part.{Part}
 use Rattle.time_answers.specs.Answer.{Answers}
-use Rattle.time_answers.specs.Asked.{asked_value, formatted, time_tree}
+use Rattle.time_answers.specs.Asked.{asked_value, time_tree}
+use Rattle.std.proofs.lemmas.Grind.{common_steps}
 
 -- the hour, the minute, the second and the decimals, put together in pairs
 abbrev time_parts : Facts → Outcome
@@ -34,6 +35,4 @@ time_by_parts t = ap done (in_pairs _ (codes ":") _ (codes ":") _ (codes ".") _)
 pub same_answers : {V : Type 0} (width : ℕ) (by other : V → Outcome) (value : Result V Part) (text : List ℕ)
     → ((v : V) → by v ≡ other v) → Answers (asked_value width by value) text
     → Answers (asked_value width other value) text
-same_answers width by other (Ok v) text same answers =
-    let P : Outcome → Type 0 = λ outcome. Answers (formatted width outcome) text in subst P (same v) answers
-same_answers width by other (Err part) text same answers = answers
+same_answers width by other value text h k = grind (arith, common_steps)

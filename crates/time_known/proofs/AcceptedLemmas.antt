@@ -1,18 +1,17 @@
 -- Formats that have a place for each hour of an offset, and what the usual texts of ISO 8601 have a place for.
-use Rattle.std.proofs.Common.{◌≡◌, ℕ, ◌≤◌, Bool, true, false, List, ◌++◌, refl, ap, arith, ℤ, unsigned_abs}
-use Rattle.std.proofs.Common.{nat_lt, Option, Some, None}
+use Rattle.std.proofs.Common.{◌≡◌, ℕ, ◌≤◌, Bool, true, false, List, refl, ap, arith, ℤ, unsigned_abs, nat_lt, Option}
+use Rattle.std.proofs.Common.{Some}
 use Rattle.std.proofs.lemmas.Bool.Decides.{nat_tests}
 use Rattle.std.proofs.lemmas.Grind.{common_steps}
 use Rattle.std.specs.Prelude.{codes, if◌then◌else◌}
 use Rattle.time_below.specs.Offset.{is_utc}
-use Rattle.time_digits.specs.Digits.{zero_padded}
 use Rattle.time_fmt.specs.Outcome.{Outcome, done, refused, join, invalid_component}
 use Rattle.time_known.specs.Accepted.{checked_text, component_name, refused_for}
-use Rattle.time_known.specs.Config.{Choices, separator, DecimalSign, DateKind}
-use Rattle.time_known.specs.Iso8601.{iso_of_groups, iso_time_text, text_after_year, year_of_kind}
+use Rattle.time_known.specs.Config.{Choices, DecimalSign, DateKind}
+use Rattle.time_known.specs.Iso8601.{iso_of_groups, year_of_kind}
 use Rattle.time_known.specs.UsualText.{usual_choices, usual_text}
 use Rattle.time_known.specs.Values.{DateFacts, Offset, TimeOfDay}
-use Rattle.time_known.specs.WellKnown.{refused_if, is_outside, offset_hours_text}
+use Rattle.time_known.specs.WellKnown.{refused_if, is_outside}
 use Rattle.time_known.specs.declared.accepted.OutOfRange.{OutOfRange}
 use Rattle.time_known.specs.declared.iso8601.config.DateKind.TheVariants as kind
 use Rattle.time_known.proofs.OutcomeLemmas.{above_not, test_is_passed}
@@ -38,10 +37,7 @@ pub usual_accepted : (c : Choices) (k : DateKind) (has_separators : Bool) (digit
     → checked_text 0 25 (year_of_kind k d) (unsigned_abs o.hours) (unsigned_abs o.seconds) text ≡ done text
     → iso_of_groups c d t o ≡ done (usual_text c digits d t o)
 usual_accepted c k has_separators digits sign d t o text e accepted =
-    let year = test_is_passed _ _ _ text accepted in
-    let hours = test_is_passed _ _ _ text year.done in
-    let seconds = test_is_passed _ _ _ text hours.done in
-    usual_passes c k has_separators digits sign d t o e year.right seconds.right
+    grind (arith, common_steps, test_is_passed, usual_passes)
 
 -- UTC has no seconds
 no_seconds : (o : Offset) → is_utc o ≡ true → nat_lt 0 (unsigned_abs o.seconds) ≡ false
@@ -57,13 +53,10 @@ refusal_is : (outside zed seconds : Bool) (year after time zero hours minutes te
     else refused_if seconds (codes "offset_second") (join (done hours) (done minutes))))).refusal
     ≡ Some (invalid_component name)
 refusal_is true zed seconds year after time zero hours minutes text name h e = ap (λ (o : Outcome). o.refusal) e
-refusal_is false true true year after time zero hours minutes text name h e =
-    absurd (let none : true ≡ false = h refl in cc)
-refusal_is false true false year after time zero hours minutes text name h e =
-    absurd (let none : None ≡ Some (invalid_component name) = ap (λ (o : Outcome). o.refusal) e in cc)
+refusal_is false true true year after time zero hours minutes text name h e = grind arith
+refusal_is false true false year after time zero hours minutes text name h e = grind arith
 refusal_is false false true year after time zero hours minutes text name h e = ap (λ (o : Outcome). o.refusal) e
-refusal_is false false false year after time zero hours minutes text name h e =
-    absurd (let none : None ≡ Some (invalid_component name) = ap (λ (o : Outcome). o.refusal) e in cc)
+refusal_is false false false year after time zero hours minutes text name h e = grind arith
 
 -- what is refused of the year and the offset is refused by the text with separators
 pub usual_refused : (digits : Option ℕ) (sign : DecimalSign) (d : DateFacts) (t : TimeOfDay) (o : Offset)
@@ -71,9 +64,4 @@ pub usual_refused : (digits : Option ℕ) (sign : DecimalSign) (d : DateFacts) (
     → checked_text 0 25 d.year (unsigned_abs o.hours) (unsigned_abs o.seconds) text ≡ refused_for component
     → (iso_of_groups (usual_choices true digits sign) d t o).refusal
     ≡ Some (invalid_component (component_name component))
-usual_refused digits sign d t o text component hour e =
-    let c = usual_choices true digits sign in
-    refusal_is (is_outside 0 9_999 d.year) (is_utc o) (nat_lt 0 (unsigned_abs o.seconds))
-    (zero_padded 4 (unsigned_abs d.year)) (text_after_year kind.Calendar c d) (iso_time_text c t) (codes "Z")
-    (offset_hours_text o) (separator c (codes ":") ++ zero_padded 2 (unsigned_abs o.minutes)) text (component_name component)
-    (no_seconds o) (rw (any_hour 0 d.year (unsigned_abs o.hours) (unsigned_abs o.seconds) text hour) at e)
+usual_refused digits sign d t o text component hour e = grind (arith, refusal_is, no_seconds, any_hour)

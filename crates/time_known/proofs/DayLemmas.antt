@@ -13,6 +13,7 @@ use Rattle.time_digits.specs.Digits.{is_ascii, padded, zero_padded}
 use Rattle.time_fmt.specs.DateText.{month_name, short_name}
 use Rattle.time_known.specs.Days.{dash, month_and_day_in, day_of_leap_year}
 use Rattle.time_known.specs.declared.days.TheConstants.{DAYS, ORDINALS}
+use Rattle.std.proofs.lemmas.Grind.{common_steps}
 
 -- what each row of a table says, one row after another
 rows : {X : Type 0} → ℕ → (List ℕ → X) → ℕ → List ℕ → List X
@@ -113,9 +114,6 @@ pub same_month_and_day : (is_leap : Bool) (ordinal : ℕ) → IsInRange 1 (if is
     → month_and_day_in true (day_of_leap_year is_leap ordinal) ≡ month_and_day_in is_leap ordinal
 unfolding days_of_months last_begun
 same_month_and_day true ordinal h = refl
-same_month_and_day false ordinal h =
-    let e : ordinal - 1 + 1 ≡ ordinal = omega arith in
-    rw e at (same_below (λ n. month_and_day_in true (day_of_leap_year false (n + 1)))
-    (λ n. month_and_day_in false (n + 1)) 365 refl (ordinal - 1) (omega arith))
+same_month_and_day false ordinal h = grind (arith, common_steps, same_below)
 
 pub ruleset days_of_years = (same_month_and_day)

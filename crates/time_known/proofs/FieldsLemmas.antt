@@ -1,5 +1,5 @@
 -- An offset is its sign and the sizes of its parts.
-use Rattle.std.proofs.Common.{◌≡◌, ℕ, ◌||◌, Bool, ℤ, pos, negsuc, zero, suc, true, false, refl, sym, ap, ◌∙◌, arith, unsigned_abs}
+use Rattle.std.proofs.Common.{◌≡◌, ℕ, ◌||◌, Bool, ℤ, pos, negsuc, zero, suc, true, refl, arith, unsigned_abs}
 use Rattle.std.proofs.lemmas.Bool.Decides.{nat_tests}
 use Rattle.std.proofs.lemmas.Int.{ints}
 use Rattle.std.specs.Prelude.{◌≤ℤ◌, int_lt}
@@ -15,9 +15,7 @@ below (negsuc n) h = refl
 by_sizes : (h m s : ℤ) → HasNoOtherSign h m → HasNoOtherSign h s → HasNoOtherSign m s
     → offset_by (int_lt h (pos 0) || int_lt m (pos 0) || int_lt s (pos 0)) (unsigned_abs h) (unsigned_abs m) (unsigned_abs s)
     ≡ record { hours = h; minutes = m; seconds = s }
-by_sizes (pos a) (pos b) (pos c) p q r =
-    let above : int_lt (pos a) (pos 0) || int_lt (pos b) (pos 0) || int_lt (pos c) (pos 0) ≡ false = grind (arith, nat_tests) in
-    rw above refl
+by_sizes (pos a) (pos b) (pos c) p q r = grind (arith, nat_tests)
 by_sizes (negsuc a) m s p q r = rw (below m (p.1 (omega (arith, ints))), below s (q.1 (omega (arith, ints)))) refl
 by_sizes (pos zero) (negsuc b) s p q r = rw (below s (r.1 (omega (arith, ints)))) refl
 by_sizes (pos (suc a)) (negsuc b) s p q r = absurd (omega (arith, ints))
@@ -28,14 +26,11 @@ by_sizes (pos (suc a)) (pos b) (negsuc c) p q r = absurd (omega (arith, ints))
 pub fields_are : (o : Offset) (is_below_zero : Bool) (hours minutes seconds : ℕ) → IsOffset o → is_below_zero ≡ is_negative o
     → hours ≡ unsigned_abs o.hours → minutes ≡ unsigned_abs o.minutes → seconds ≡ unsigned_abs o.seconds
     → offset_by is_below_zero hours minutes seconds ≡ o
-fields_are o is_below_zero hours minutes seconds real negative h m s =
-    rw (negative, h, m, s) (by_sizes o.hours o.minutes o.seconds real.1 real.2 real.3)
+fields_are o is_below_zero hours minutes seconds real negative h m s = grind (arith, by_sizes)
 
 -- the tests of its parts are those of the offset
 pub tests_are : (o : Offset) (hours minutes seconds : ℕ) (is_zero is_below_zero : Bool) → IsOffset o
     → hours ≡ unsigned_abs o.hours → minutes ≡ unsigned_abs o.minutes → seconds ≡ unsigned_abs o.seconds
     → is_zero ≡ is_utc o → is_below_zero ≡ is_negative o
     → let p = offset_by is_below_zero hours minutes seconds in (is_zero ≡ is_utc p) × (is_below_zero ≡ is_negative p)
-tests_are o hours minutes seconds is_zero is_below_zero real h m s none below_it =
-    let same = fields_are o is_below_zero hours minutes seconds real below_it h m s in
-    (none ∙ ap is_utc (sym same), below_it ∙ ap is_negative (sym same))
+tests_are o hours minutes seconds is_zero is_below_zero real h m s none below_it = grind (arith, fields_are)

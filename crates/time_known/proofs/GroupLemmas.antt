@@ -1,5 +1,5 @@
 -- Facts that have the groups that are needed, and the outcome that these give.
-use Rattle.std.proofs.Common.{◌≡◌, Bool, true, false, refl, ◌∙◌, Option, Some, None}
+use Rattle.std.proofs.Common.{◌≡◌, Bool, true, false, refl, ◌∙◌, Option, Some, None, arith}
 use Rattle.std.proofs.lemmas.Bool.{and_parts}
 use Rattle.std.specs.Prelude.{◌||◌, not, is_some}
 use Rattle.time_below.specs.Facts.{group_or}
@@ -40,10 +40,7 @@ pub record HasNeeded (needed : Groups) (f : Facts) : Type 0 where
   pub offset : needed.offset ≡ true → is_some f.offset ≡ true
 
 pub has_needed : (needed : Groups) (f : Facts) → has_groups needed f ≡ true → HasNeeded needed f
-has_needed needed f h =
-    let first = and_parts _ _ h in
-    let two = and_parts _ _ first.0 in
-    record { date = needed_is_supplied _ _ two.0; time = needed_is_supplied _ _ two.1; offset = needed_is_supplied _ _ first.1 }
+has_needed needed f h = grind (arith, and_parts, needed_is_supplied)
 
 -- all three are needed
 abbrev pub all_groups : Groups
@@ -57,9 +54,7 @@ pub record HasAll (f : Facts) : Type 0 where
 
 -- a value has all three groups if all are needed
 pub has_all : (f : Facts) → has_groups all_groups f ≡ true → HasAll f
-has_all f h =
-    let needed = has_needed all_groups f h in
-    record { date = needed.date refl; time = needed.time refl; offset = needed.offset refl }
+has_all f h = grind (arith, has_needed)
 
 -- what they give is the outcome
 pub outcome_of_all : (f : Facts) → HasAll f → (outcome : DateFacts → TimeOfDay → Offset → Outcome)

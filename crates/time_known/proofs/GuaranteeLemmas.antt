@@ -28,6 +28,7 @@ use Rattle.time_known.specs.Iso8601.{text_after_year, units_text, decimal_part, 
 use Rattle.time_known.specs.Rfc2822.{rfc2822_outcome}
 use Rattle.time_known.specs.Rfc3339.{rfc3339_outcome}
 use Rattle.time_known.specs.WellKnown.{refused_if}
+use Rattle.std.proofs.lemmas.Grind.{common_steps}
 
 -- a text that is ASCII
 record Ascii (bytes : List ℕ) : Type 0 where
@@ -70,9 +71,7 @@ ascii_refused_if c name o h = ascii_either_outcome c (refused (invalid_component
 
 -- one outcome after another
 ascii_join : (a b : Outcome) → Ascii a.bytes → Ascii b.bytes → Ascii (join a b).bytes
-ascii_join a b p q =
-    elim a.refusal as (λ r. Ascii (join (record { bytes = a.bytes; refusal = r }) b).bytes)
-    [ None ↦ ascii_append p q | Some r ↦ p ]
+ascii_join a b p q = grind (arith, common_steps, ascii_append)
 
 -- what a group gives, whether it is there or not
 ascii_of_group : {G : Type 0} (group : Option G) (outcome : G → Outcome) → ((g : G) → Ascii (outcome g).bytes)

@@ -1,6 +1,5 @@
 -- Pieces that are put into a sink one after another.
-use Rattle.std.proofs.Common.{◌≡◌, ℕ, ◌+◌, ◌≤◌, List, ◌++◌, length, ap, ◌∙◌, arith, length-append, append_assoc}
-use Rattle.std.proofs.Common.{subst, Result, Vec}
+use Rattle.std.proofs.Common.{◌≡◌, ℕ, ◌+◌, ◌≤◌, List, ◌++◌, length, arith, length-append, append_assoc, Result, Vec}
 use Rattle.std.specs.Global.{Global}
 use Rattle.time_fmt.specs.Outcome.{AppendsUpTo, done}
 use Rattle.time_fmt.specs.Sink.{Buffer, Puts}
@@ -9,38 +8,19 @@ use Rattle.time_known.specs.Sink.{PutsUpTo}
 
 -- a text that was put has at most so many bytes as it has
 pub puts_up_to : {n : ℕ} {old new : Buffer} {text : List ℕ} → Puts old new n text → PutsUpTo (length text) old new text
-puts_up_to p = record {
-  put = p.appended;
-  grown = p.grown;
-  capacity = p.capacity;
-  lender = p.lender;
-  within = omega arith;
-}
+puts_up_to p = grind arith
 
 -- one after the other
 pub puts_then : {a b : ℕ} {old mid new : Buffer} {first last : List ℕ} → PutsUpTo a old mid first
     → PutsUpTo b mid new last → PutsUpTo (a + b) old new (first ++ last)
-puts_then {old = old} {first = first} {last = last} p q = record {
-  put = q.put ∙ ap (λ (bytes : List ℕ). bytes ++ last) p.put ∙ append_assoc old.bytes first last;
-  grown = omega (arith, length-append first last, p.grown, q.grown);
-  capacity = q.capacity ∙ p.capacity;
-  lender = q.lender ∙ p.lender;
-  within = omega (arith, length-append first last, p.within, q.within);
-}
+puts_then {old = old} {first = first} {last = last} p q = grind (arith, append_assoc, length-append)
 
 -- what is appended by one value is appended by any that is equal
 pub appended_as : {A : Type 0} {a b : A} {width : ℕ} {old new : Vec ℕ Global} {answer : Result ℕ Format}
     (text : A → List ℕ) → a ≡ b → AppendsUpTo width old new answer (done (text a))
     → AppendsUpTo width old new answer (done (text b))
-appended_as {width = width} {old = old} {new = new} {answer = answer} text e w =
-    subst (λ x. AppendsUpTo width old new answer (done (text x))) e w
+appended_as {width = width} {old = old} {new = new} {answer = answer} text e w = grind arith
 
 -- a text of at most this many bytes has at most as many as any greater number
 pub puts_up_to_more : {a b : ℕ} {old new : Buffer} {text : List ℕ} → PutsUpTo a old new text → a ≤ b → PutsUpTo b old new text
-puts_up_to_more p h = record {
-  put = p.put;
-  grown = p.grown;
-  capacity = p.capacity;
-  lender = p.lender;
-  within = omega (arith, p.within, h);
-}
+puts_up_to_more p h = grind arith

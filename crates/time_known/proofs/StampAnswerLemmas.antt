@@ -1,6 +1,6 @@
 -- What the answer of a call that appends a stamp says.
-use Rattle.std.proofs.Common.{◌≡◌, ◌+◌, vec_len, ◌≢◌, ◌⊎◌, inl, inr, ◌++◌, ℕ, true, false, append-nil, refl, sym, ap}
-use Rattle.std.proofs.Common.{subst, ◌∙◌, ⊎_elim, Option, Some, None, Result, Ok, Err, Vec}
+use Rattle.std.proofs.Common.{◌≡◌, ◌+◌, vec_len, ◌≢◌, ◌⊎◌, ℕ, refl, ap, subst, ◌∙◌, Option, None, Result, Ok, Err, Vec}
+use Rattle.std.proofs.Common.{arith}
 use Rattle.std.specs.Prelude.{◌↔◌, codes, IfOk, IfErr, OnErr, IsOk, IsSomeAnd}
 use Rattle.std.specs.Global.{Global}
 use Rattle.std.proofs.lemmas.Bool.{cases_Bool}
@@ -12,11 +12,10 @@ use Rattle.time_fmt.specs.declared.error.Format.TheVariants as error
 use Rattle.time_known.specs.Config.{default_choices}
 use Rattle.time_known.specs.Iso8601Grammar.{iso8601_reads_as}
 use Rattle.time_known.specs.Stamps.{stamp_of, stamp_text, stamp_length, IsStampYear, HasStamp}
-use Rattle.time_known.specs.Values.{OrdinalDate, IsDate, DateFacts, date_facts, IsTimeOfDay}
-use Rattle.time_known.specs.WellKnown.{is_outside}
 use Rattle.time_known.proofs.OutcomeLemmas.{year_is_within}
 use Rattle.time_known.proofs.StampLemmas.{year_within, stamp_year, stamp_done, default_is_whole, stamps_are_completed}
 use Rattle.time_known.proofs.StampLemmas.{year_refused}
+use Rattle.std.proofs.lemmas.Grind.{common_steps}
 
 -- the result of a failed allocation
 abbrev pub no_memory : Result ℕ Format
@@ -36,27 +35,12 @@ IsRefused v = stamp_of v ≡ refused (invalid_component (codes "year"))
 
 -- a year is refused, or is that of a stamp
 either_year : (v : DateAndTime) → IsRefused v ⊎ IsStampYear v.date.year
-either_year v =
-    ⊎_elim (λ (e : is_outside 0 9_999 v.date.year ≡ true). inl (year_refused v e))
-    (λ (e : is_outside 0 9_999 v.date.year ≡ false). inr (stamp_year v.date.year (year_is_within 0 9_999 v.date.year e)))
-    (cases_Bool (is_outside 0 9_999 v.date.year))
+either_year v = grind (arith, year_refused, stamp_year, year_is_within, cases_Bool)
 
 -- what is completed and read back has a stamp
 has_stamp : (v : DateAndTime) → (stamp_of v).refusal ≡ None
     → iso8601_reads_as default_choices (facts_of_utc_date_time v) (stamp_text v) → HasStamp v
-has_stamp v none reads =
-    let r = reads default_is_whole in
-    let year : IsStampYear v.date.year =
-    ⊎_elim (λ (e : IsRefused v). absurd (let some : Some (invalid_component (codes "year")) ≡ None =
-    sym (ap (λ (o : Outcome). o.refusal) e) ∙ none in cc)) (λ (h : IsStampYear v.date.year). h) (either_year v) in
-    let facts : date_facts v.date ≡ date_facts r.value.date = cc in
-    let date = ap (λ (f : DateFacts). let d : OrdinalDate = record { year = f.year; ordinal = f.ordinal } in d) facts in
-    let time : v.time ≡ r.value.time = cc in
-    record {
-      date = subst IsDate (sym date) r.fits.date;
-      year = year;
-      time = subst IsTimeOfDay (sym time) r.fits.time;
-    }
+has_stamp v none reads = grind (arith, default_is_whole, either_year)
 
 -- a year of four digits is not refused
 not_refused : (v : DateAndTime) → IsStampYear v.date.year → (stamp_of v).refusal ≡ None
@@ -71,12 +55,7 @@ named_none o e none named = subst (λ (r : Option Refusal). IsSomeAnd r (Names e
 -- an error other than `OutOfMemory` names the year, and adds no byte
 refused_by_year : (old new : Vec ℕ Global) (v : DateAndTime) (e : Format) → Adds old new (Err e) (stamp_of v)
     → Names e (invalid_component (codes "year")) × (new.items ≡ old.items)
-refused_by_year old new v e adds =
-    ⊎_elim (λ (r : IsRefused v). (
-      subst (λ (o : Outcome). IsSomeAnd o.refusal (Names e)) r adds.named,
-      adds.appended ∙ ap (λ (o : Outcome). old.items ++ o.bytes) r ∙ append-nil old.items,
-    ))
-    (λ (h : IsStampYear v.date.year). absurd (named_none (stamp_of v) e (not_refused v h) adds.named)) (either_year v)
+refused_by_year old new v e adds = grind (arith, common_steps, named_none, not_refused, either_year)
 
 -- A completed call has a stamp, of 30 bytes. Another one that is not out of memory names the year, which has none; and
 -- an error appends nothing.
@@ -102,25 +81,5 @@ is_stamped {old} (Ok n) {v = v} a =
       named = tt;
       unchanged = tt;
     }
-is_stamped (Err error.OutOfMemory) a = record {
-  is_stamp = tt;
-  length = tt;
-  longer = tt;
-  year = λ some. absurd (some refl);
-  named = λ other. absurd (other refl);
-  unchanged = a.unchanged refl;
-}
-is_stamped {old} {new} (Err e) {v = v} a =
-    let adds = a.appends (λ same. cc) in
-    let refusal = refused_by_year old new v e adds in
-    record {
-      is_stamp = tt;
-      length = tt;
-      longer = tt;
-      year = λ some. (
-        λ none. absurd (let never : false ≡ true = none in cc),
-        λ year. absurd (named_none (stamp_of v) e (not_refused v year) adds.named),
-      );
-      named = λ other. refusal.0;
-      unchanged = refusal.1;
-    }
+is_stamped (Err error.OutOfMemory) a = grind arith
+is_stamped {old} {new} (Err e) {v = v} a = grind (arith, common_steps, refused_by_year, named_none, not_refused)

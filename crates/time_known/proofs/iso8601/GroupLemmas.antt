@@ -1,5 +1,5 @@
 -- Which groups of a value a text of ISO 8601 is made of.
-use Rattle.std.proofs.Common.{◌≡◌, ℕ, false, refl, sym, ap, subst, ◌∙◌, arith, Result, Vec}
+use Rattle.std.proofs.Common.{◌≡◌, ℕ, false, refl, arith, Result, Vec}
 use Rattle.std.specs.Global.{Global}
 use Rattle.std.proofs.lemmas.Grind.{common_steps}
 use Rattle.time_fmt.specs.declared.error.Format.{Format}
@@ -23,14 +23,11 @@ lacking_of _ c f h = grind (arith, common_steps, of_unsupplied_group)
 pub missing_group_refused : (c read : Choices) (f : Facts) (needed : Groups) → read ≡ c
     → needed ≡ groups_of read.formatted_components → has_groups needed f ≡ false
     → iso8601_outcome c f ≡ refused insufficient
-missing_group_refused c read f needed e groups h =
-    ap (λ (choices : Choices). iso8601_outcome choices f) (sym e)
-    ∙ lacking_of read.formatted_components read f (ap (λ (g : Groups). has_groups g f) (sym groups) ∙ h)
+missing_group_refused c read f needed e groups h = grind (arith, lacking_of)
 
 -- what is appended by the parts that are chosen is appended by the choices
 pub by_choice : {old new : Vec ℕ Global} {answer : Result ℕ Format} (c : Choices) (f : Facts)
     (parts : FormattedComponents) → c.formatted_components ≡ parts
     → AppendsUpTo (iso8601_width_of parts c) old new answer (iso8601_outcome_of parts c f)
     → AppendsUpTo (iso8601_width c) old new answer (iso8601_outcome c f)
-by_choice {old} {new} {answer} c f parts e h =
-    subst (λ p. AppendsUpTo (iso8601_width_of p c) old new answer (iso8601_outcome_of p c f)) (sym e) h
+by_choice {old} {new} {answer} c f parts e h = grind arith

@@ -1,9 +1,9 @@
 -- How long numbers and decimals of ISO 8601 are: what functions that write them name.
-use Rattle.std.proofs.Common.{◌≡◌, ℕ, ◌+◌, ◌-◌, ◌*◌, ◌/◌, ◌^◌, ◌<◌, ◌≤◌, true, length, length-append, append_assoc, decimal}
+use Rattle.std.proofs.Common.{◌≡◌, ℕ, ◌+◌, ◌-◌, ◌/◌, ◌<◌, ◌≤◌, true, length, length-append, append_assoc, decimal}
 use Rattle.std.proofs.Common.{refl, sym, ap, ◌∙◌, arith, take, replicate}
 use Rattle.std.proofs.lemmas.Fmt.{length-decimal-le}
 use Rattle.std.proofs.lemmas.List.{length-replicate, replicate-append-replicate, take-append-le, take_all}
-use Rattle.time_digits.specs.Digits.{fixed, is_ascii, zero_padded}
+use Rattle.time_digits.specs.Digits.{is_ascii, zero_padded}
 use Rattle.time_digits.proofs.DigitLemmas.{decimal_one, length-fixed, padded_whole}
 use Rattle.time_digits.proofs.LengthLemmas.{length-padded, length-digit}
 use Rattle.time_fmt.specs.Decimals.{decimals}
@@ -31,9 +31,7 @@ length-decimal_sign Comma = refl
 
 -- the first decimal of a second
 pub one_of_second : (n : ℕ) → n < 1_000_000_000 → decimal (n / 100_000_000) ≡ decimals n 1_000_000_000 1
-one_of_second n h =
-    let same : n / 100_000_000 ≡ n * 10 ^ 1 / 1_000_000_000 = omega arith in
-    decimal_one (n / 100_000_000) (omega arith) ∙ ap (fixed 1) same
+one_of_second n h = grind (arith, decimal_one)
 
 -- the table has 246 zeros
 zeros_are : ZEROS.now ≡ replicate 246 48

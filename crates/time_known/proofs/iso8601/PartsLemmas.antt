@@ -1,14 +1,13 @@
 -- The parts that are written, one after another, give the outcome and the width of the choices.
-use Rattle.std.proofs.Common.{◌≡◌, ◌≢◌, ℕ, List, [], refl, sym, ap, subst, ◌∙◌, arith, Option, Some, None, true}
+use Rattle.std.proofs.Common.{◌≡◌, ◌≢◌, ℕ, List, [], refl, ap, ◌∙◌, arith, Option, Some, None, true}
 use Rattle.std.proofs.lemmas.List.{append-nil}
 use Rattle.time_fmt.specs.Outcome.{Outcome, Refusal, done, join}
 use Rattle.time_known.specs.Config.{Choices, groups_of, FormattedComponents}
 use Rattle.time_known.specs.Groups.{has_groups}
-use Rattle.time_known.specs.Iso8601.{iso8601_outcome, iso8601_outcome_of, iso_date, iso_time_text}
-use Rattle.time_known.specs.Iso8601Parts.{date_of_parts, date_parts_width, AreOfDate}
-use Rattle.time_known.specs.Iso8601Parts.{parts_text, parts_width}
+use Rattle.time_known.specs.Iso8601.{iso8601_outcome, iso8601_outcome_of, iso_date}
+use Rattle.time_known.specs.Iso8601Parts.{date_of_parts, date_parts_width, AreOfDate, parts_text, parts_width}
 use Rattle.time_known.specs.Iso8601Width.{iso8601_width, iso8601_width_of, iso_date_width}
-use Rattle.time_known.specs.Values.{Facts, DateFacts, the_date, the_time}
+use Rattle.time_known.specs.Values.{Facts, DateFacts}
 use Rattle.time_known.specs.declared.iso8601.config.FormattedComponents.TheVariants as components
 use Rattle.time_known.specs.declared.iso8601.parts.DateParts.{DateParts}
 use Rattle.time_known.proofs.GroupLemmas.{HasNeeded, has_needed, of_supplied}
@@ -34,17 +33,11 @@ join_with_nothing o = at o.bytes o.refusal where
 text_by : (parts : FormattedComponents) (c : Choices) (f : Facts) → HasNeeded (groups_of parts) f
     → parts ≢ components.None → iso8601_outcome_of parts c f ≡ parts_text parts c f
 text_by components.None c f needed some = absurd (some refl)
-text_by components.Date c f needed some =
-    of_supplied f.date _ _ (needed.date refl) ∙ sym (join_with_nothing (iso_date c (the_date f)))
-text_by components.Time c f needed some =
-    of_supplied f.time _ _ (needed.time refl) ∙ ap done (sym (append-nil (iso_time_text c (the_time f))))
+text_by components.Date c f needed some = grind (arith, of_supplied, join_with_nothing)
+text_by components.Time c f needed some = grind (arith, of_supplied, append-nil)
 text_by components.Offset c f needed some = of_supplied f.offset _ _ (needed.offset refl)
-text_by components.DateTime c f needed some =
-    of_supplied f.date _ _ (needed.date refl) ∙ of_supplied f.time _ _ (needed.time refl)
-    ∙ ap (λ (text : List ℕ). join (iso_date c (the_date f)) (done text))
-    (sym (append-nil (iso_time_text c (the_time f))))
-text_by components.DateTimeOffset c f needed some =
-    of_supplied f.date _ _ (needed.date refl) ∙ of_supplied f.time _ _ (needed.time refl) ∙ of_supplied f.offset _ _ (needed.offset refl)
+text_by components.DateTime c f needed some = grind (arith, of_supplied, append-nil)
+text_by components.DateTimeOffset c f needed some = grind (arith, of_supplied)
 text_by components.TimeOffset c f needed some = of_supplied f.time _ _ (needed.time refl) ∙ of_supplied f.offset _ _ (needed.offset refl)
 
 -- the parts have the width of the text
@@ -58,7 +51,4 @@ pub by_parts : (c : Choices) (f : Facts) (Holds : ℕ → Outcome → Type 0)
     → has_groups (groups_of c.formatted_components) f ≡ true → c.formatted_components ≢ components.None
     → Holds (parts_width c.formatted_components c) (parts_text c.formatted_components c f)
     → Holds (iso8601_width c) (iso8601_outcome c f)
-by_parts c f Holds there some h =
-    let text = sym (text_by c.formatted_components c f (has_needed (groups_of c.formatted_components) f there) some) in
-    subst (Holds (iso8601_width c)) text
-    (subst (λ (n : ℕ). Holds n (parts_text c.formatted_components c f)) (width_by c.formatted_components c some) h)
+by_parts c f Holds there some h = grind (arith, text_by, has_needed, width_by)

@@ -19,8 +19,7 @@ returns-then-text-count-ne-SPACE-clause-value c =
     (inr (omega (arith, c.leading_digits-value.ensures.inside), grind arith))
 
 pub returns-clause-value : goal.returns-clause-value
-returns-clause-value c =
-    rw (slice-end (c.leading_digits-value.result.1 + 1) c.args.text.now)
+returns-clause-value c = rw (slice-end (c.leading_digits-value.result.1 + 1) c.args.text.now)
     (natural_before _ _ _ c.leading_digits-value.ensures (omega arith)
     (omega (arith, c.leading_digits-value.ensures.inside)) (grind arith))
 

@@ -1,4 +1,4 @@
-use Rattle.std.proofs.Common.{ℕ, List, [], ◌∷◌, ◌++◌, ◌≡◌, ◌+◌, ◌-◌, length, take, drop, Option, Some, None, refl, ap, sym}
+use Rattle.std.proofs.Common.{ℕ, List, [], ◌∷◌, ◌++◌, ◌≡◌, ◌+◌, ◌-◌, length, take, drop, Option, Some, None, refl, ap}
 use Rattle.std.proofs.Common.{◌∙◌, append_assoc}
 use Rattle.std.proofs.lemmas.Result.{err_from_is_err_and}
 use Rattle.time_answers.specs.LineBuffer.{kept_with}
@@ -38,8 +38,7 @@ line_is_cut_off bytes fed rest end k0 k1 k2 h0 h1 h2 w0 w1 whole ends kept on cu
 rest_is_kept : (bytes fed rest : List ℕ) (k0 k1 k2 h0 h1 : Option (List ℕ)) (w0 w1 : List ℕ) →
     bytes ≡ fed ++ rest → IsOneLine rest → k2 ≡ kept_with k1 rest →
     AnswersOn fed (state k0 h0 w0) (state k1 h1 w1) → AnswersOn bytes (state k0 h0 w0) (state k2 h1 w1)
-rest_is_kept bytes fed rest k0 k1 k2 h0 h1 w0 w1 whole one kept on =
-    rw (whole, kept)
+rest_is_kept bytes fed rest k0 k1 k2 h0 h1 w0 w1 whole one kept on = rw (whole, kept)
     (AnswersOn-then fed rest (state k0 h0 w0) (state k1 h1 w1) (state (kept_with k1 rest) h1 w1) on
     (AnswersOn-kept rest (state k1 h1 w1) one))
 
