@@ -26,25 +26,17 @@ seconds_from_start s h = grind (arith, common_steps, ints)
 abbrev day_of_second : ℤ → ℤ
 day_of_second s = int_div_euclid s (pos day_seconds) +ℤ pos unix_day
 
--- a day number, moved to the start
-day_shifted : (z : ℤ) (n : ℕ) → pos n -ℤ pos days_before ≡ z → z +ℤ pos days_before ≡ pos n
-day_shifted z n e = omega (arith, ints)
-
 -- the day of a second is one of the calendar
 day_within : (s : ℤ) → IsTimestampSecond s → IsDayNumber (day_of_second s)
-day_within s h = grind (arith, seconds_from_start, is_day_number, day_shifted, utc_day, ints)
+day_within s h = grind (arith, seconds_from_start, is_day_number, utc_day, ints)
 
 -- the UTC date of a moment is one of the calendar
 pub IsDate-utc_date : (m : Moment) → IsMoment m → IsDate (utc_date m.seconds)
 IsDate-utc_date m h = IsDate-date_at (day_of_second m.seconds) (day_within m.seconds h.0)
 
--- a second lies in its day
-second_within : (s : ℤ) → IsTimestampSecond s → second_of_day s < day_seconds
-second_within s h = grind (arith, second_from_start, seconds_from_start)
-
 -- the UTC time of a moment is a time of day
 pub IsTimeOfDay-utc_time : (m : Moment) → IsMoment m → IsTimeOfDay (utc_time m)
-IsTimeOfDay-utc_time m h = grind (arith, second_within)
+IsTimeOfDay-utc_time m h = grind (arith, second_from_start, seconds_from_start)
 
 -- the seconds from midnight to the time this many seconds after it
 seconds_of_time_at : (passed nanosecond : ℕ)

@@ -1,5 +1,5 @@
 -- The signs of an offset's parts.
-use Rattle.std.proofs.Common.{◌≡◌, ℕ, ◌+◌, ◌*◌, ◌/◌, ◌%◌, ◌<◌, ◌≤◌, ◌⊎◌, inl, inr, Bool, true, false, refl}
+use Rattle.std.proofs.Common.{◌≡◌, ℕ, ◌+◌, ◌<◌, ◌≤◌, ◌⊎◌, inl, inr, Bool, true, false, refl}
 use Rattle.std.proofs.Common.{ap, arith, ℤ, pos, neg_ℤ, ◌+ℤ◌, ◌*ℤ◌, ◌<ℤ◌, ◌≤ℤ◌, unsigned_abs, sym, ◌∙◌}
 use Rattle.std.specs.Prelude.{int_lt, ◌||◌}
 use Rattle.std.proofs.lemmas.Bool.{cases_lt}
@@ -106,10 +106,6 @@ abs_signed b n = grind (arith, common_steps, size_negated)
 pub signed_size : (y : ℤ) → y ≡ signed (int_lt y (pos 0)) (unsigned_abs y)
 signed_size y = grind (arith, common_steps, nat_tests)
 
--- a number of size zero is zero
-size_zero : (z : ℤ) → unsigned_abs z ≡ 0 → z ≡ pos 0
-size_zero z h = grind (arith, common_steps)
-
 -- two parts with one sign have the sign of the offset
 own_sign : (h m : ℤ) → HasNoOtherSign h m
     → (signed (int_lt h (pos 0) || int_lt m (pos 0) || false) (unsigned_abs h) ≡ h)
@@ -119,7 +115,7 @@ own_sign h m k = grind (arith, common_steps, nat_tests, ints)
 -- an offset without seconds is its sign, its hours and its minutes
 pub offset_is : (o : Offset) → IsOffset o → unsigned_abs o.seconds ≡ 0
     → o ≡ signed_offset (is_negative o) (unsigned_abs o.hours) (unsigned_abs o.minutes)
-offset_is o h e = grind (arith, size_zero, own_sign, same_parts)
+offset_is o h e = grind (arith, common_steps, own_sign, same_parts)
 
 -- an offset made with a sign has that sign, unless it is zero
 pub is_negative-signed_offset : (b : Bool) (h m : ℕ) → 0 < h + m → is_negative (signed_offset b h m) ≡ b
@@ -141,7 +137,7 @@ IsOffset-signed_offset b h m p q = grind (arith, abs_signed, parts_of_one_sign, 
 -- an offset without seconds has hours or minutes, or is zero
 pub some_or_zero : (o : Offset) → unsigned_abs o.seconds ≡ 0
     → (0 < unsigned_abs o.hours + unsigned_abs o.minutes) ⊎ (o ≡ utc)
-some_or_zero o e = grind (arith, same_parts, size_zero, cases_lt)
+some_or_zero o e = grind (arith, common_steps, same_parts, cases_lt)
 
 -- an offset with hours or minutes is not the offset zero
 pub not_utc : (o : Offset) → 0 < unsigned_abs o.hours + unsigned_abs o.minutes → o ≡ utc → ⊥
@@ -153,7 +149,7 @@ is_utc-not o some = grind (arith, nat_tests)
 
 -- an offset that the test calls UTC is zero
 pub utc_from_test : (o : Offset) → is_utc o ≡ true → o ≡ utc
-utc_from_test o e = grind (arith, nat_tests, same_parts, size_zero)
+utc_from_test o e = grind (arith, common_steps, nat_tests, same_parts)
 
 -- the offset zero is UTC
 pub is_utc-utc : (o : Offset) → o ≡ utc → is_utc o ≡ true
@@ -166,13 +162,9 @@ pub IsOffset-signed : (b : Bool) (h m s : ℕ) → h ≤ 25 → m ≤ 59 → s �
     → IsOffset (record { hours = signed b h; minutes = signed b m; seconds = signed b s })
 IsOffset-signed b h m s x y z = grind (arith, abs_signed, parts_of_one_sign)
 
--- a number is its hours, its minutes and its seconds
-parts_of_seconds : (n : ℕ) → 3600 * (n / 3600) + 60 * (n % 3600 / 60) + n % 60 ≡ n
-parts_of_seconds n = omega arith
-
 -- the offset of so many seconds has so many
 pub offset_back : (z : ℤ) → offset_seconds (offset_of_seconds z) ≡ z
-offset_back z = grind (arith, parts_of_seconds, signed_size)
+offset_back z = grind (arith, signed_size)
 
 -- less than 26 hours are an offset
 pub IsOffset-of_seconds : (z : ℤ) → unsigned_abs z < 93_600 → IsOffset (offset_of_seconds z)

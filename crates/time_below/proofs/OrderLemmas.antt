@@ -26,17 +26,9 @@ then_assoc o p q = grind (arith, common_steps)
 pub then_equal : (o : Ordering) → ordering_then o Equal ≡ o
 then_equal o = grind (arith, common_steps)
 
--- a lesser number compares as less
-pub cmp_less : (a b : ℕ) → a < b → nat_cmp a b ≡ Less
-cmp_less a b h = grind (arith, nat_tests)
-
 -- equal numbers compare as equal
 pub cmp_equal : (a b : ℕ) → a ≡ b → nat_cmp a b ≡ Equal
 cmp_equal a b h = grind (arith, nat_tests)
-
--- a greater number compares as greater
-pub cmp_greater : (a b : ℕ) → b < a → nat_cmp a b ≡ Greater
-cmp_greater a b h = grind (arith, nat_tests)
 
 -- one of two numbers is less, or they are equal
 pub data Trichotomy (a b : ℕ) : Type 0 where
@@ -59,12 +51,12 @@ pub record IsJoined (a b p q m n : ℕ) : Type 0 where
 -- two pairs compare as the numbers that they join to
 pub joined_cmp : (a b p q m n : ℕ) (rest : Ordering) → IsJoined a b p q m n
     → ordering_then (nat_cmp a b) (ordering_then (nat_cmp p q) rest) ≡ ordering_then (nat_cmp m n) rest
-joined_cmp a b p q m n rest j = grind (arith, common_steps, trichotomy, cmp_less, cmp_greater, cmp_equal)
+joined_cmp a b p q m n rest j = grind (arith, common_steps, trichotomy, cmp_equal, nat_tests)
 
 -- what follows a pair matters where the pair is equal
 pub then_where_equal : (a b : ℕ) (x y : Ordering) → (a ≡ b → x ≡ y)
     → ordering_then (nat_cmp a b) x ≡ ordering_then (nat_cmp a b) y
-then_where_equal a b x y h = grind (arith, common_steps, trichotomy, cmp_less, cmp_greater)
+then_where_equal a b x y h = grind (arith, common_steps, trichotomy, nat_tests)
 
 -- ---- days, hours and seconds
 
@@ -258,7 +250,7 @@ pair_cmp a b m n = ordering_then (nat_cmp a b) (ordering_then (nat_cmp m n) Equa
 -- two pairs of numbers compare as less exactly if the first pair is less
 pair_less : (a b m n : ℕ) → pair_cmp a b m n ≡ Less ↔ IsPairLess a b m n
 pair_less a b m n =
-    grind (arith, common_steps, trichotomy, cmp_less, greater_not, cmp_greater, not_pair_less, cmp_equal, equal_not)
+    grind (arith, common_steps, trichotomy, greater_not, not_pair_less, cmp_equal, equal_not, nat_tests)
 
 -- the seconds of a moment, counted from -999999-01-01
 seconds_from_start : (v : DateAndTime) → IsFromYearZero v

@@ -14,6 +14,7 @@ use Rattle.std.proofs.lemmas.Bool.{cases_lt}
 use Rattle.std.specs.Str.Parse.{AllDigits}
 use Rattle.time_digits.specs.Digits.{fixed, padded, zero_padded}
 use Rattle.time_digits.proofs.DivisionLemmas.{div-ten-pow}
+use Rattle.std.proofs.lemmas.Grind.{common_steps}
 pub use Rattle.time_digits.proofs.LengthLemmas.{length-fixed, decimal_longer}
 
 -- ---- fixed digits
@@ -103,8 +104,7 @@ padded-split fill j k n low high =
 
 -- a zero more at the end is a zero more in front
 replicate-push : (k : ℕ) → replicate {A = ℕ} k 48 ++ 48 ∷ [] ≡ 48 ∷ replicate {A = ℕ} k 48
-replicate-push zero = refl
-replicate-push (suc k) = ap (λ bs. 48 ∷ bs) (replicate-push k)
+replicate-push k = grind (arith, common_steps)
 
 -- the fixed digits of zero are zeros
 pub fixed-zero : (k : ℕ) → fixed k 0 ≡ replicate k 48

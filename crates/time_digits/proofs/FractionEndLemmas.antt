@@ -47,9 +47,7 @@ lone_zero n h f = sym (fixed_value 9 n h) ∙ sym (ap (digits_value 10) f.filled
 -- the shortest fraction of more than zero does not end in `0`, after any front
 not_ended : {n : ℕ} (text front : List ℕ) → text ≡ front ++ codes "0" → IsTrimmedFraction text n → 0 < n
     → n < 10 ^ 9 → ⊥
-not_ended {n} text [] e t some small =
-    let z : n ≡ 0 = lone_zero n small (subst (λ ds. IsFraction ds n) e t.fraction) in
-    omega arith
+not_ended {n} text [] e t some small = grind (arith, common_steps, lone_zero)
 not_ended {n} text (d ∷ ds) e t some small =
     let front = d ∷ ds in
     let long : length (front ++ codes "0") ≡ length front + 1 = length-append front (codes "0") in

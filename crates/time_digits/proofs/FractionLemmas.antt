@@ -1,5 +1,5 @@
 -- Decimals without the zeros at their end.
-use Rattle.std.proofs.Common.{◌≡◌, ℕ, zero, suc, ◌+◌, ◌-◌, ◌/◌, ◌%◌, ◌≤◌, ◌==◌, ◌&&◌, true, false, List, [], ◌∷◌, ◌++◌}
+use Rattle.std.proofs.Common.{◌≡◌, ℕ, zero, suc, ◌+◌, ◌-◌, ◌/◌, ◌%◌, ◌≤◌, ◌==◌, true, false, List, [], ◌∷◌, ◌++◌}
 use Rattle.std.proofs.Common.{length, take, drop, replicate, refl, sym, ap, ◌∙◌, arith, ⊎_elim, IsAscii, ◌*◌, ◌^◌, ◌<◌}
 use Rattle.std.proofs.Common.{ap₂}
 use Rattle.std.specs.Str.Parse.{AllDigits}
@@ -25,8 +25,7 @@ are_zeros-replicate zero = refl
 are_zeros-replicate (suc k) = are_zeros-replicate k
 
 are_zeros-append : (ds : List ℕ) (k : ℕ) → are_zeros (ds ++ replicate k 48) ≡ are_zeros ds
-are_zeros-append [] k = are_zeros-replicate k
-are_zeros-append (d ∷ ds) k = ap (λ b. (d == 48) && b) (are_zeros-append ds k)
+are_zeros-append ds k = grind (arith, common_steps, are_zeros-replicate)
 
 -- a text of zeros is so many zeros
 zeros_are : (ds : List ℕ) → are_zeros ds ≡ true → ds ≡ replicate (length ds) 48
@@ -48,8 +47,7 @@ not_zeros d ds e = rw e refl
 
 -- zeros without their last zeros are no digits
 without_last_zeros-replicate : (k : ℕ) → without_last_zeros (replicate k 48) ≡ []
-without_last_zeros-replicate zero = refl
-without_last_zeros-replicate (suc k) = zeros_none 48 (replicate k 48) (are_zeros-replicate k)
+without_last_zeros-replicate k = grind (arith, common_steps, zeros_none, are_zeros-replicate)
 
 -- more zeros at the end change nothing
 without_last_zeros-append : (ds : List ℕ) (k : ℕ) → without_last_zeros (ds ++ replicate k 48) ≡ without_last_zeros ds
@@ -78,8 +76,7 @@ digits_front (d ∷ ds) rest h = (h.0, digits_front ds rest h.1)
 
 -- more zeros at the end change nothing
 trimmed-append : (ds : List ℕ) (k : ℕ) → 1 ≤ length ds → trimmed (ds ++ replicate k 48) ≡ trimmed ds
-trimmed-append [] k some = absurd (omega arith)
-trimmed-append (d ∷ ds) k some = ap (λ bs. d ∷ bs) (without_last_zeros-append ds k)
+trimmed-append ds k h = grind (arith, common_steps, without_last_zeros-append)
 
 -- a trimmed text, filled with zeros again, is the text
 trimmed_filled : (ds : List ℕ) → trimmed ds ++ replicate (length ds - length (trimmed ds)) 48 ≡ ds

@@ -10,7 +10,7 @@ use Rattle.std.proofs.lemmas.Str.{IsAscii-append}
 use Rattle.std.proofs.lemmas.Str.Ascii.{IsAscii-from_all, IsAscii-nil}
 use Rattle.std.proofs.lemmas.Bool.Decides.{nat_tests}
 use Rattle.std.specs.Fmt.{digit_glyph, digits, digits_onto}
-use Rattle.std.specs.Prelude.{Bool, nat_lt, ◌==◌, if◌then◌else◌}
+use Rattle.std.specs.Prelude.{Bool, ◌==◌, if◌then◌else◌}
 use Rattle.time_digits.specs.Digits.{fixed, padded}
 use Rattle.time_digits.specs.Fraction.{are_zeros, without_last_zeros, last_zeros, trimmed, trimmed_fraction}
 use Rattle.time_digits.proofs.DivisionLemmas.{div-ten-pow}
@@ -111,8 +111,7 @@ length-padded-le fill k n most places digits = grind (arith, length-append, leng
 
 -- a digit is ASCII
 IsAscii-glyph : (d : ℕ) → d < 10 → IsAscii (digit_glyph false d ∷ [])
-IsAscii-glyph d small zero = let e : nat_lt d 10 ≡ true = grind (arith, nat_tests) in rw e (omega arith)
-IsAscii-glyph d small (suc i) = omega arith
+IsAscii-glyph x1 x2 x3 = grind (arith, common_steps, nat_tests)
 
 -- digits in front of an ASCII text are ASCII, for any number of digits
 IsAscii-onto : (k n : ℕ) (text : List ℕ) → IsAscii text → IsAscii (digits_onto k 10 false n text)
@@ -152,12 +151,10 @@ last_zeros-le ds = omega arith
 
 -- a trimmed text is no longer, and is empty only if the text was
 pub length-trimmed : (ds : List ℕ) → length (trimmed ds) ≤ length ds
-length-trimmed [] = omega arith
-length-trimmed (d ∷ ds) = omega (arith, length-without_last_zeros ds)
+length-trimmed ds = grind (arith, common_steps, length-without_last_zeros)
 
 pub trimmed_some : (ds : List ℕ) → 1 ≤ length ds → 1 ≤ length (trimmed ds)
-trimmed_some [] some = absurd (omega arith)
-trimmed_some (d ∷ ds) some = omega arith
+trimmed_some ds h = grind (arith, common_steps)
 
 -- a trimmed fraction has at most nine digits
 pub length-trimmed_fraction : (n : ℕ) → length (trimmed_fraction n) ≤ 9

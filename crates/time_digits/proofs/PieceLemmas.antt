@@ -1,5 +1,5 @@
 -- Texts in pieces: what precedes the last digits, and then these.
-use Rattle.std.proofs.Common.{◌≡◌, ℕ, suc, ◌+◌, ◌-◌, ◌/◌, ◌%◌, ◌^◌, ◌<◌, ◌≤◌, List, [], ◌∷◌, ◌++◌, length, refl, sym}
+use Rattle.std.proofs.Common.{◌≡◌, ℕ, suc, ◌+◌, ◌-◌, ◌/◌, ◌%◌, ◌^◌, ◌<◌, ◌≤◌, List, [], ◌∷◌, ◌++◌, length, sym}
 use Rattle.std.proofs.Common.{ap₂, ◌∙◌, arith, append_assoc, get_or, decimal}
 use Rattle.std.proofs.Math.Nat.{one-le-pow, div-le_self}
 use Rattle.std.proofs.lemmas.List.{append-nil}
@@ -11,6 +11,7 @@ use Rattle.time_digits.proofs.DigitLemmas.{padded-split, zero_padded_is}
 use Rattle.time_digits.proofs.LengthLemmas.{some_digit, length-fixed, length-digit, decimal_longer, length-decimal_two}
 use Rattle.time_digits.proofs.LengthLemmas.{length-decimal_three, length-decimal_four, length-three_whole}
 use Rattle.time_digits.proofs.LengthLemmas.{length-four_whole, length-before_four, length-before_none, length-padded}
+use Rattle.std.proofs.lemmas.Grind.{common_steps}
 
 -- the last k places of n, with zeros
 last_zero_padded : (k n : ℕ) → n < 2 ^ 64 → zero_padded (suc k) (n % 10 ^ suc k) ≡ fixed (suc k) n
@@ -144,10 +145,7 @@ nine_fixed n h = rw (zero_padded_is 4 (n / 10_000) (omega arith) (omega arith)) 
 pub two_pieces_taken_over : (last : List (Bor (List ℕ))) (d : Bor (List ℕ)) → piece_lengths last ≡ 2 ∷ 2 ∷ []
     → (get_or last 0 d).now
     ++ ((get_or last 1 d).now ++ []) ≡ joined last
-two_pieces_taken_over [] d e = cc
-two_pieces_taken_over (x ∷ []) d e = cc
-two_pieces_taken_over (x ∷ y ∷ []) d e = refl
-two_pieces_taken_over (x ∷ y ∷ z ∷ more) d e = cc
+two_pieces_taken_over last d h = grind (arith, common_steps)
 
 -- three of one list and two of another are both lists
 pub five_pieces_taken_over : (first last : List (Bor (List ℕ))) (d : Bor (List ℕ))
@@ -157,20 +155,13 @@ pub five_pieces_taken_over : (first last : List (Bor (List ℕ))) (d : Bor (List
     ++ ((get_or first 1 d).now
     ++ ((get_or first 2 d).now ++ ((get_or last 0 d).now ++ ((get_or last 1 d).now ++ [])))) ≡ joined first
     ++ joined last
-five_pieces_taken_over [] last d e f = cc
-five_pieces_taken_over (x ∷ []) last d e f = cc
-five_pieces_taken_over (x ∷ y ∷ []) last d e f = cc
-five_pieces_taken_over (x ∷ y ∷ z ∷ []) last d e f = grind (arith, two_pieces_taken_over, append-nil, append_assoc)
-five_pieces_taken_over (x ∷ y ∷ z ∷ w ∷ more) last d e f = cc
+five_pieces_taken_over first last d h k = grind (arith, common_steps, two_pieces_taken_over, append-nil, append_assoc)
 
 -- a piece before such two keeps its own length
 pub lengths_before : (front n : ℕ) (last : List (Bor (List ℕ))) (d : Bor (List ℕ)) → piece_lengths last ≡ 2 ∷ 2 ∷ []
     → front ≡ length (decimal n) - 4
     → front ∷ length (get_or last 0 d).now ∷ length (get_or last 1 d).now ∷ [] ≡ (length (decimal n) - 4) ∷ 2 ∷ 2 ∷ []
-lengths_before front n [] d e f = cc
-lengths_before front n (x ∷ []) d e f = cc
-lengths_before front n (x ∷ y ∷ []) d e f = cc
-lengths_before front n (x ∷ y ∷ z ∷ more) d e f = cc
+lengths_before front n last d h k = grind (arith, common_steps)
 
 -- lemmas for the calls of more places
 pub ruleset six_places = (

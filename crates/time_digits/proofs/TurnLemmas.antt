@@ -1,6 +1,6 @@
 -- A number that is written from its last digits on, so many a turn.
 use Rattle.std.proofs.Common.{◌≡◌, ℕ, zero, suc, ◌+◌, ◌-◌, ◌/◌, ◌%◌, ◌^◌, ◌<◌, ◌≤◌, ◌≢◌, List, [], ◌++◌, length, drop}
-use Rattle.std.proofs.Common.{refl, sym, ap, ◌∙◌, arith, append_assoc, length-append, length-drop, decimal, ⊎_elim, ◌⊎◌}
+use Rattle.std.proofs.Common.{sym, ap, ◌∙◌, arith, append_assoc, length-append, length-drop, decimal, ⊎_elim, ◌⊎◌}
 use Rattle.std.proofs.Common.{inl, inr, subst}
 use Rattle.std.proofs.Math.Nat.{one-le-pow, div-le_self}
 use Rattle.std.proofs.lemmas.List.{append-nil, drop_all}
@@ -21,8 +21,7 @@ significant_digits (suc n) = decimal (suc n)
 
 -- another number has its decimal text
 significant_digits_some : (n : ℕ) → 0 < n → significant_digits n ≡ decimal n
-significant_digits_some zero some = absurd (omega arith)
-significant_digits_some (suc n) some = refl
+significant_digits_some n h = grind (arith, common_steps)
 
 -- significant digits are those of the quotient by 10 ^ (k + 1) and the last k + 1, from 10 ^ k on
 significant_digits-split : (k n : ℕ) → 10 ^ k ≤ n → n < 2 ^ 64
@@ -52,8 +51,7 @@ length-significant_digits k n low fits =
 
 -- a number of 64 bits has at most 20
 length-significant_digits_word : (n : ℕ) → n < 2 ^ 64 → length (significant_digits n) ≤ 20
-length-significant_digits_word zero fits = omega arith
-length-significant_digits_word (suc n) fits = length-decimal_word (suc n) fits
+length-significant_digits_word n h = grind (arith, common_steps, length-decimal_word)
 
 -- ---- turns
 

@@ -49,18 +49,12 @@ set_byte_is_put a x bs room = sym (take-append-drop a (set bs a x))
 -- the byte of a text of one, set at a
 pub one_byte_put : (a : ℕ) (bs ds zs : List ℕ) → a + 1 ≤ length bs → length ds ≡ 1 → ds ≡ zs → set bs a (get_or ds 0 0)
     ≡ put_at a 1 bs zs
-one_byte_put a bs [] zs room one same = cc
-one_byte_put a bs (x ∷ []) zs room one same = rw (← same) (set_byte_is_put a x bs (omega arith))
-one_byte_put a bs (x ∷ y ∷ more) zs room one same = absurd (omega arith)
+one_byte_put a bs ds zs h k l = grind (arith, common_steps, set_byte_is_put)
 
 -- the bytes of a text of two, set at a and after it
 pub two_bytes_put : (a : ℕ) (bs ds zs : List ℕ) → a + 2 ≤ length bs → length ds ≡ 2 → ds ≡ zs
     → set (set bs a (get_or ds 0 0)) (a + 1) (get_or ds 1 0) ≡ put_at a 2 bs zs
-two_bytes_put a bs [] zs room two same = cc
-two_bytes_put a bs (x ∷ []) zs room two same = absurd (omega arith)
-two_bytes_put a bs (x ∷ y ∷ []) zs room two same =
-    grind (arith, common_steps, set_byte_is_put, puts_one_after_the_other)
-two_bytes_put a bs (x ∷ y ∷ z ∷ more) zs room two same = absurd (omega arith)
+two_bytes_put a bs ds zs h k l = grind (arith, common_steps, set_byte_is_put, puts_one_after_the_other)
 
 -- two places with zeros are two fixed digits
 pub two_fixed : (n : ℕ) → n < 100 → zero_padded 2 n ≡ fixed 2 n

@@ -9,11 +9,11 @@ use Rattle.time_below.specs.Width.{tree_width, trees_width, are_guaranteed_text}
 use Rattle.time_fmt.specs.declared.refused.Refused.{Refused}
 use Rattle.time_fmt.specs.Description.{tree_outcome, trees_outcome}
 use Rattle.time_fmt.specs.Guarantee.{IsTextIf, AppendsTree}
-use Rattle.time_fmt.specs.Outcome.{Outcome, Refusal}
+use Rattle.time_fmt.specs.Outcome.{Outcome}
 use Rattle.time_fmt.specs.Sink.{Buffer, Fits, Puts}
 use Rattle.time_fmt.proofs.EndLemmas.{whole_text}
 use Rattle.time_fmt.proofs.WriteLemmas.{join_refused, join_done}
-use Rattle.time_fmt.proofs.GuaranteeLemmas.{text_more, text_stops, empty_utf8}
+use Rattle.time_fmt.proofs.GuaranteeLemmas.{text_more, empty_utf8}
 use Rattle.std.proofs.lemmas.Grind.{common_steps}
 
 -- a list was written so far without a refusal: its rest is the rest of the outcome, and fits the capacity
@@ -48,20 +48,12 @@ pub record StopsAt (old mid : Buffer) (all first : Outcome) : Type 0 where
   pub refusal : all.refusal ≡ first.refusal
   pub grown : old.len + length all.bytes ≡ mid.len + length first.bytes
 
--- so is it where that node is refused
-pub stops_along : {agrees : Type 0} {all_size left_size : ℕ} (r : Refusal) (old mid : Buffer) (f : Facts)
-    (all left others : Trees) (t : Tree) →
-    Along agrees old mid f all left all_size left_size → left ≡ more t others → (tree_outcome t f).refusal ≡ Some r
-    → StopsAt old mid (trees_outcome all f) (tree_outcome t f)
-stops_along r old mid f all left others t along next refused = grind (arith, join_refused)
-
 -- a list ends with a node that is refused
 pub list_refused : {agrees : Type 0} {all_size left_size : ℕ} {reason : Refused} (old mid new : Buffer)
     (f : Facts) (all left others : Trees) (t : Tree) →
     Along agrees old mid f all left all_size left_size → left ≡ more t others
     → AppendsTree t f mid new (Err reason) → AppendsTree (all_of all) f old new (Err reason)
-list_refused {reason = reason} old mid new f all left others t along next step =
-    grind (arith, stops_along, text_stops, join_refused)
+list_refused {reason = reason} old mid new f all left others t along next step = grind (arith, join_refused)
 
 -- what was written before a node, and what the node wrote, is followed by what is left
 pub written_along : {agrees agrees_after : Type 0} {all_size left_size rest_size : ℕ} (old mid new : Buffer)

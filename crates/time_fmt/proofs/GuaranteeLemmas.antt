@@ -117,12 +117,6 @@ pub text_more : (t : Tree) (ts : Trees) (f : Facts) → IsTextIf (is_guaranteed_
     → IsTextIf (are_guaranteed_text (more t ts)) (trees_outcome (more t ts) f)
 text_more t ts f first others h = grind (arith, and_parts, joined_utf8)
 
--- a list that stops at its first tree is a text if that tree is one
-pub text_stops : (t : Tree) (ts : Trees) (f : Facts) → IsTextIf (is_guaranteed_text t) (tree_outcome t f)
-    → join (tree_outcome t f) (trees_outcome ts f) ≡ tree_outcome t f
-    → IsTextIf (are_guaranteed_text (more t ts)) (trees_outcome (more t ts) f)
-text_stops t ts f first stops h = rw stops (first (and_parts (is_guaranteed_text t) (are_guaranteed_text ts) h).0)
-
 -- one outcome after another is a text where both are
 pub text_both : (p q : Bool) (a b : Outcome) → IsTextIf p a → IsTextIf q b → IsTextIf (p && q) (join a b)
 text_both p q a b first second h = let both = and_parts p q h in joined_utf8 a b (first both.0) (second both.1)

@@ -1,5 +1,5 @@
 -- Each width is reached by one of the two longest values.
-use Rattle.std.proofs.Common.{◌≡◌, ℕ, ◌+◌, ◌<◌, Bool, true, false, ◌&&◌, nat_lt, inl, inr, length, refl, ◌∙◌, arith}
+use Rattle.std.proofs.Common.{◌≡◌, ℕ, ◌+◌, Bool, true, false, ◌&&◌, nat_lt, inl, inr, length, refl, ◌∙◌, arith}
 use Rattle.std.proofs.Common.{IsTrue, decimal, length-append}
 use Rattle.std.proofs.lemmas.Bool.{and_parts, eqb-true, leb-true, ltb-true}
 use Rattle.std.specs.Fmt.{digits}
@@ -7,7 +7,6 @@ use Rattle.std.specs.Prelude.{◌==◌, nat_le}
 use Rattle.time_below.specs.Calendar.{days_of_months, last_begun, date_at}
 use Rattle.time_below.specs.declared.format_description.component.Component.{Component}
 use Rattle.time_below.specs.declared.format_description.component.Component.TheVariants as component
-use Rattle.time_below.specs.declared.format_description.modifier.Padding.{Padding}
 use Rattle.time_below.specs.declared.format_description.modifier.SubsecondDigits.{SubsecondDigits}
 use Rattle.time_below.specs.declared.format_description.modifier.SubsecondDigits.TheVariants as chosen
 use Rattle.time_below.specs.declared.period.Period.{Period}
@@ -17,12 +16,11 @@ use Rattle.time_below.specs.Width.{component_width, subsecond_width}
 use Rattle.time_digits.specs.Digits.{fixed}
 use Rattle.time_digits.specs.Fraction.{last_zeros, trimmed_fraction}
 use Rattle.time_digits.proofs.LengthLemmas.{length-digit}
-use Rattle.time_fmt.specs.DateText.{indexed}
 use Rattle.time_fmt.specs.Description.{kind_of}
 use Rattle.time_fmt.specs.Kind as kind
 use Rattle.time_fmt.specs.Kind.{Kind, kind_text}
 use Rattle.time_fmt.specs.Longest.{ReachesWidth, longest_extended, longest_standard}
-use Rattle.time_fmt.specs.Text.{padded_text, period_text, subsecond_text}
+use Rattle.time_fmt.specs.Text.{period_text, subsecond_text}
 use Rattle.time_fmt.proofs.TextLemmas.{no_padding}
 use Rattle.std.proofs.lemmas.Grind.{common_steps}
 
@@ -42,26 +40,18 @@ fills_width (kind.half_day p is_uppercase) width = 2 == width
 fills_width (kind.decimals d n) width = false
 fills_width k width = length (kind_text k) == width
 
--- a number whose digits fill its places
-number_fills : (p : Padding) (places n width : ℕ) → IsTrue (nat_le places (length (decimal n)))
-    → length (decimal n) ≡ width → length (padded_text p places n) ≡ width
-number_fills p places n width enough e = grind (arith, no_padding, leb-true)
-
--- a weekday by a digit, and the half of a day
-digit_fills : (one_indexed : Bool) (days : ℕ) → days < 9 → length (decimal (indexed one_indexed days)) ≡ 1
-digit_fills one_indexed days h = grind (arith, common_steps, length-digit)
-
 half_day_fills : (p : Period) (is_uppercase : Bool) → length (period_text p is_uppercase) ≡ 2
 half_day_fills p is_uppercase = grind (arith, common_steps)
 
 -- it has then this many bytes
 text_fills : (k : Kind) (width : ℕ) → IsTrue (fills_width k width) → length (kind_text k) ≡ width
-text_fills (kind.number p places n) width h = grind (arith, and_parts, number_fills, eqb-true)
+text_fills (kind.number p places n) width h = grind (arith, and_parts, eqb-true, no_padding, leb-true)
 text_fills (kind.signed true is_wanted p places n) width h =
-    grind (arith, and_parts, length-append, number_fills, eqb-true)
+    grind (arith, and_parts, length-append, eqb-true, no_padding, leb-true)
 text_fills (kind.signed false is_wanted p places n) width h = cc
 text_fills (kind.limited greatest n k) width h = text_fills k width (and_parts (nat_le n greatest) (fills_width k width) h).1
-text_fills (kind.digit one_indexed days) width h = grind (arith, and_parts, digit_fills, ltb-true, eqb-true)
+text_fills (kind.digit one_indexed days) width h =
+    grind (arith, common_steps, and_parts, ltb-true, eqb-true, length-digit)
 text_fills (kind.half_day p is_uppercase) width h = half_day_fills p is_uppercase ∙ eqb-true 2 width h
 text_fills (kind.decimals d n) width h = cc
 text_fills k width h = eqb-true (length (kind_text k)) width h

@@ -3,7 +3,7 @@ use Rattle.std.proofs.Common.{◌≡◌, ℕ, ◌+◌, Bool, true, ◌&&◌, Lis
 use Rattle.std.proofs.lemmas.List.{append-nil}
 use Rattle.time_below.proofs.NodeLemmas.{and_assoc}
 use Rattle.time_below.specs.Facts.{Facts}
-use Rattle.time_below.specs.Tree.{Tree, Trees, end, more}
+use Rattle.time_below.specs.Tree.{Trees, end, more}
 use Rattle.time_below.specs.Width.{trees_width, is_guaranteed_text, are_guaranteed_text}
 use Rattle.time_fmt.specs.Description.{tree_outcome, trees_outcome}
 use Rattle.time_fmt.specs.Outcome.{Outcome, Refusal, done, join}
@@ -20,9 +20,6 @@ joins_regrouped x r y s c = grind (arith, common_steps, append_assoc)
 join_nothing : (x : List ℕ) (r : Option Refusal)
     → record { bytes = x; refusal = r } ≡ join (record { bytes = x; refusal = r }) (done [])
 join_nothing x r = grind (arith, common_steps, append-nil)
-
-outcome_of_item : (t : Tree) (f : Facts) → tree_outcome t f ≡ trees_outcome (more t end) f
-outcome_of_item t f = join_nothing (tree_outcome t f).bytes (tree_outcome t f).refusal
 
 outcome_of_pair : (ts us : Trees) (f : Facts)
     → join (trees_outcome ts f) (trees_outcome us f) ≡ trees_outcome (both_lists ts us) f
@@ -54,4 +51,4 @@ pair_means_both_lists first second width other_width is_guaranteed is_other ts u
 }
 
 pub item_means_its_list : ItemMeansItsList
-item_means_its_list t = grind (arith, common_steps, outcome_of_item, and_true)
+item_means_its_list t = grind (arith, common_steps, and_true)

@@ -1,17 +1,13 @@
 -- A text at the start of a buffer, and what follows it.
-use Rattle.std.proofs.Common.{◌≡◌, ℕ, ◌+◌, ◌-◌, ◌<◌, ◌≤◌, List, [], ◌++◌, length, take, drop, sym, ap, ◌∙◌, arith}
+use Rattle.std.proofs.Common.{◌≡◌, ℕ, ◌+◌, ◌-◌, ◌<◌, ◌≤◌, List, ◌++◌, length, take, drop, sym, ap, ◌∙◌, arith}
 use Rattle.std.proofs.lemmas.List.{take-append-drop, drop-drop}
 use Rattle.std.proofs.lemmas.Slice.{take-put_mid, drop-put_mid}
 use Rattle.std.proofs.lemmas.Grind.{common_steps}
 
--- no bytes are as long as none
-none_as_long : (xs : List ℕ) → length xs ≡ 0 → xs ≡ []
-none_as_long xs h = grind (arith, common_steps)
-
 -- what follows the text is as it was before; of an empty buffer nothing does
 pub room_written : (n : ℕ) (old now bytes : List ℕ) → bytes ≡ take n now → n ≡ length bytes → length now ≡ length old
     → (0 < length now → drop n now ≡ drop n old) → now ≡ bytes ++ drop (length bytes) old
-room_written n old now bytes h k l p = grind (arith, common_steps, none_as_long, take-append-drop)
+room_written n old now bytes h k l p = grind (arith, common_steps, take-append-drop)
 
 -- bytes that are written over others
 pub ruleset written_over = (take-put_mid, drop-put_mid, drop-drop)

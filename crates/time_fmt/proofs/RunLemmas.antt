@@ -1,5 +1,5 @@
 -- How long dates and times of day are, and that they are what their parts give.
-use Rattle.std.proofs.Common.{◌≡◌, ℕ, ◌≤◌, ◌++◌, ◌∷◌, [], true, false, List, Ok, length, arith}
+use Rattle.std.proofs.Common.{◌≡◌, ℕ, ◌≤◌, ◌∷◌, [], true, false, Ok, length, arith}
 use Rattle.std.proofs.lemmas.List.{append-nil}
 use Rattle.std.specs.Prelude.{ℤ, is_some, unsigned_abs}
 use Rattle.time_below.specs.declared.format_description.component.Component.TheVariants as component
@@ -27,10 +27,6 @@ length-year year small = omega (arith, signed_four_to_six)
 abbrev three : Outcome → ℕ → Outcome → ℕ → Outcome → Outcome
 three a x b y c = join a (join (done (x ∷ [])) (join b (join (done (y ∷ [])) (join c (done [])))))
 
-three_done : (x y : ℕ) (a b c : List ℕ) (first second third : Outcome) → first ≡ done a → second ≡ done b → third ≡ done c
-    → three first x second y third ≡ done (a ++ (x ∷ (b ++ (y ∷ c))))
-three_done x y a b c first second third is_a is_b is_c = grind (arith, append-nil)
-
 -- a date that was written is its year, its month and its day
 pub date_ends : {count : ℕ} (x y : ℕ) (f : Facts) (old new : Buffer) → is_some f.date ≡ true → count ≤ 13
     → Puts old new count (date_run x y (the_date f))
@@ -38,7 +34,7 @@ pub date_ends : {count : ℕ} (x y : ℕ) (f : Facts) (old new : Buffer) → is_
     (component_outcome (component.CalendarYearFullExtendedRange (record { padding = padding.Zero; sign_is_mandatory = false })) f)
     x (component_outcome (component.MonthNumerical (record { padding = padding.Zero })) f)
     y (component_outcome (component.Day (record { padding = padding.Zero })) f))
-date_ends x y f old new there most put = grind (arith, three_done, whole_text)
+date_ends x y f old new there most put = grind (arith, whole_text, append-nil)
 
 -- so is a time of day its hour, its minute and its second
 pub time_ends : {count : ℕ} (x y : ℕ) (f : Facts) (old new : Buffer) → is_some f.time ≡ true → count ≤ 8
@@ -47,4 +43,4 @@ pub time_ends : {count : ℕ} (x y : ℕ) (f : Facts) (old new : Buffer) → is_
     (component_outcome (component.Hour24 (record { padding = padding.Zero })) f)
     x (component_outcome (component.Minute (record { padding = padding.Zero })) f)
     y (component_outcome (component.Second (record { padding = padding.Zero })) f))
-time_ends x y f old new there most put = grind (arith, three_done, whole_text)
+time_ends x y f old new there most put = grind (arith, whole_text, append-nil)
