@@ -1,11 +1,10 @@
 -- Formats that have a place for each hour of an offset, and what the usual texts of ISO 8601 have a place for.
-use Rattle.std.proofs.Common.{◌≡◌, ℕ, ◌≤◌, Bool, true, false, List, refl, ap, arith, ℤ, unsigned_abs, nat_lt, Option}
-use Rattle.std.proofs.Common.{Some}
+use Rattle.std.proofs.Common.{◌≡◌, ℕ, ◌≤◌, Bool, true, false, List, refl, arith, ℤ, unsigned_abs, nat_lt, Option, Some}
 use Rattle.std.proofs.lemmas.Bool.Decides.{nat_tests}
 use Rattle.std.proofs.lemmas.Grind.{common_steps}
 use Rattle.std.specs.Prelude.{codes, if◌then◌else◌}
 use Rattle.time_below.specs.Offset.{is_utc}
-use Rattle.time_fmt.specs.Outcome.{Outcome, done, refused, join, invalid_component}
+use Rattle.time_fmt.specs.Outcome.{done, refused, join, invalid_component}
 use Rattle.time_known.specs.Accepted.{checked_text, component_name, refused_for}
 use Rattle.time_known.specs.Config.{Choices, DecimalSign, DateKind}
 use Rattle.time_known.specs.Iso8601.{iso_of_groups, year_of_kind}
@@ -52,11 +51,7 @@ refusal_is : (outside zed seconds : Bool) (year after time zero hours minutes te
     (if zed then done zero
     else refused_if seconds (codes "offset_second") (join (done hours) (done minutes))))).refusal
     ≡ Some (invalid_component name)
-refusal_is true zed seconds year after time zero hours minutes text name h e = ap (λ (o : Outcome). o.refusal) e
-refusal_is false true true year after time zero hours minutes text name h e = grind arith
-refusal_is false true false year after time zero hours minutes text name h e = grind arith
-refusal_is false false true year after time zero hours minutes text name h e = ap (λ (o : Outcome). o.refusal) e
-refusal_is false false false year after time zero hours minutes text name h e = grind arith
+refusal_is outside zed seconds year after time zero hours minutes text name h k = grind (arith, common_steps)
 
 -- what is refused of the year and the offset is refused by the text with separators
 pub usual_refused : (digits : Option ℕ) (sign : DecimalSign) (d : DateFacts) (t : TimeOfDay) (o : Offset)

@@ -1,5 +1,5 @@
 -- Configurations of ISO 8601 are equal exactly if all their fields are.
-use Rattle.std.proofs.Common.{◌≡◌, ℕ, true, refl, ap, subst, Option, Some, None}
+use Rattle.std.proofs.Common.{◌≡◌, ℕ, true, refl, subst, Option, arith}
 use Rattle.std.specs.Cmp.{booleans_Decides}
 use Rattle.std.proofs.lemmas.Bool.{and_parts, eqb-true}
 use denote.Enum.Bare.{same_true}
@@ -12,21 +12,17 @@ use Rattle.time_known.specs.contracts.iso8601.config.FormattedComponents as form
 use Rattle.time_known.specs.contracts.iso8601.config.OffsetPrecision as offset_precision
 use Rattle.time_known.specs.contracts.iso8601.config.TimePrecisionPartialEq.TheImpl as of_time_precision
 use Rattle.time_known.specs.declared.iso8601.config.TimePrecision.TheVariants as precision
+use Rattle.std.proofs.lemmas.Grind.{common_steps}
 
 -- ---- precisions of a time
 
 -- the decimals are read in the same way at each unit
 same_decimals : (d e : Option ℕ) → of_time_precision.ghosts.eq (precision.Hour d) (precision.Hour e) ≡ true → d ≡ e
-same_decimals None None h = refl
-same_decimals (Some d) (Some e) h = ap Some (eqb-true d e h)
-same_decimals _ _ h = cc
+same_decimals d e h = grind (arith, common_steps, eqb-true)
 
 -- precisions that are found equal have the same unit and decimals
 same_precision : (a b : TimePrecision) → of_time_precision.ghosts.eq a b ≡ true → a ≡ b
-same_precision (precision.Hour d) (precision.Hour e) h = ap precision.Hour (same_decimals d e h)
-same_precision (precision.Minute d) (precision.Minute e) h = ap precision.Minute (same_decimals d e h)
-same_precision (precision.Second d) (precision.Second e) h = ap precision.Second (same_decimals d e h)
-same_precision _ _ h = cc
+same_precision a b h = grind (arith, common_steps, same_decimals)
 
 -- ---- configurations
 

@@ -1,27 +1,20 @@
 -- An offset is its sign and the sizes of its parts.
-use Rattle.std.proofs.Common.{◌≡◌, ℕ, ◌||◌, Bool, ℤ, pos, negsuc, zero, suc, true, refl, arith, unsigned_abs}
+use Rattle.std.proofs.Common.{◌≡◌, ℕ, ◌||◌, Bool, ℤ, pos, true, arith, unsigned_abs}
 use Rattle.std.proofs.lemmas.Bool.Decides.{nat_tests}
 use Rattle.std.proofs.lemmas.Int.{ints}
 use Rattle.std.specs.Prelude.{◌≤ℤ◌, int_lt}
 use Rattle.time_below.specs.Offset.{HasNoOtherSign, IsOffset, Offset, is_negative, is_utc, signed}
 use Rattle.time_known.specs.WellKnown.{offset_by}
+use Rattle.std.proofs.lemmas.Grind.{common_steps}
 
 -- a part that is not above zero is its size below zero
 below : (y : ℤ) → y ≤ℤ pos 0 → signed true (unsigned_abs y) ≡ y
-below (pos zero) h = refl
-below (pos (suc n)) h = absurd (omega (arith, ints))
-below (negsuc n) h = refl
+below y h = grind (arith, common_steps, ints)
 
 by_sizes : (h m s : ℤ) → HasNoOtherSign h m → HasNoOtherSign h s → HasNoOtherSign m s
     → offset_by (int_lt h (pos 0) || int_lt m (pos 0) || int_lt s (pos 0)) (unsigned_abs h) (unsigned_abs m) (unsigned_abs s)
     ≡ record { hours = h; minutes = m; seconds = s }
-by_sizes (pos a) (pos b) (pos c) p q r = grind (arith, nat_tests)
-by_sizes (negsuc a) m s p q r = rw (below m (p.1 (omega (arith, ints))), below s (q.1 (omega (arith, ints)))) refl
-by_sizes (pos zero) (negsuc b) s p q r = rw (below s (r.1 (omega (arith, ints)))) refl
-by_sizes (pos (suc a)) (negsuc b) s p q r = absurd (omega (arith, ints))
-by_sizes (pos zero) (pos zero) (negsuc c) p q r = refl
-by_sizes (pos zero) (pos (suc b)) (negsuc c) p q r = absurd (omega (arith, ints))
-by_sizes (pos (suc a)) (pos b) (negsuc c) p q r = absurd (omega (arith, ints))
+by_sizes h m s k l p = grind (arith, common_steps, nat_tests, below, ints)
 
 pub fields_are : (o : Offset) (is_below_zero : Bool) (hours minutes seconds : ℕ) → IsOffset o → is_below_zero ≡ is_negative o
     → hours ≡ unsigned_abs o.hours → minutes ≡ unsigned_abs o.minutes → seconds ≡ unsigned_abs o.seconds

@@ -1,5 +1,5 @@
 -- Facts that have the groups that are needed, and the outcome that these give.
-use Rattle.std.proofs.Common.{◌≡◌, Bool, true, false, refl, ◌∙◌, Option, Some, None, arith}
+use Rattle.std.proofs.Common.{◌≡◌, Bool, true, false, ◌∙◌, Option, Some, arith}
 use Rattle.std.proofs.lemmas.Bool.{and_parts}
 use Rattle.std.specs.Prelude.{◌||◌, not, is_some}
 use Rattle.time_below.specs.Facts.{group_or}
@@ -9,29 +9,25 @@ use Rattle.time_known.specs.Values.{Facts, DateFacts, Offset, TimeOfDay}
 use Rattle.time_known.specs.declared.groups.Groups.{Groups}
 use Rattle.time_known.specs.Groups.{has_groups, at_groups}
 use Rattle.time_known.specs.WellKnown.{of_all_groups}
+use Rattle.std.proofs.lemmas.Grind.{common_steps}
 
 -- a group that is there is the one that is named
 pub some_group_or : {G : Type 0} (other : G) (x : Option G) → is_some x ≡ true → x ≡ Some (group_or other x)
-some_group_or other (Some group) h = refl
-some_group_or other None h = cc
+some_group_or other x h = grind (arith, common_steps)
 
 -- a group that is not there is refused
 pub of_unsupplied_group : {G : Type 0} (group : Option G) (outcome : G → Outcome) → is_some group ≡ false
     → of_group group outcome ≡ refused insufficient
-of_unsupplied_group None outcome h = refl
-of_unsupplied_group (Some g) outcome h = cc
+of_unsupplied_group group outcome h = grind (arith, common_steps)
 
 -- one that is there gives the outcome
 pub of_supplied : {G : Type 0} (group : Option G) (other : G) (outcome : G → Outcome) → is_some group ≡ true
     → of_group group outcome ≡ outcome (group_or other group)
-of_supplied None other outcome h = cc
-of_supplied (Some g) other outcome h = refl
+of_supplied group other outcome h = grind (arith, common_steps)
 
 -- a group that is needed and supplied is there
 needed_is_supplied : (is_there is_needed : Bool) → (is_there || not is_needed) ≡ true → is_needed ≡ true → is_there ≡ true
-needed_is_supplied true is_needed h e = refl
-needed_is_supplied false true h e = cc
-needed_is_supplied false false h e = cc
+needed_is_supplied is_there is_needed h k = grind (arith, common_steps)
 
 -- the groups that are needed are there
 pub record HasNeeded (needed : Groups) (f : Facts) : Type 0 where

@@ -55,15 +55,13 @@ ascii_byte_before {b} {bytes} below h = ascii_append {a = b ∷ []} (known_ascii
 
 -- one of two texts
 ascii_either : {a b : List ℕ} (c : Bool) → Ascii a → Ascii b → Ascii (if c then a else b)
-ascii_either true p q = p
-ascii_either false p q = q
+ascii_either c h k = grind (arith, common_steps)
 
 -- ---- outcomes
 
 -- one of two outcomes
 ascii_either_outcome : (c : Bool) (a b : Outcome) → Ascii a.bytes → Ascii b.bytes → Ascii (if c then a else b).bytes
-ascii_either_outcome true a b p q = p
-ascii_either_outcome false a b p q = q
+ascii_either_outcome c a b h k = grind (arith, common_steps)
 
 -- an outcome after a test, whether it refuses or not
 ascii_refused_if : (c : Bool) (name : List ℕ) (o : Outcome) → Ascii o.bytes → Ascii (refused_if c name o).bytes

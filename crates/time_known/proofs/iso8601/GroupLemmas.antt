@@ -1,5 +1,5 @@
 -- Which groups of a value a text of ISO 8601 is made of.
-use Rattle.std.proofs.Common.{◌≡◌, ℕ, false, refl, arith, Result, Vec}
+use Rattle.std.proofs.Common.{◌≡◌, ℕ, false, arith, Result, Vec}
 use Rattle.std.specs.Global.{Global}
 use Rattle.std.proofs.lemmas.Grind.{common_steps}
 use Rattle.time_fmt.specs.declared.error.Format.{Format}
@@ -16,8 +16,7 @@ use Rattle.time_known.proofs.GroupLemmas.{of_unsupplied_group}
 -- facts that lack a group which is formatted are refused
 lacking_of : (parts : FormattedComponents) (c : Choices) (f : Facts) → has_groups (groups_of parts) f ≡ false
     → iso8601_outcome_of parts c f ≡ refused insufficient
-lacking_of components.None c f h = refl
-lacking_of _ c f h = grind (arith, common_steps, of_unsupplied_group)
+lacking_of parts c f h = grind (arith, common_steps, of_unsupplied_group)
 
 -- a value without a needed group is refused, by choices that the test reads once more
 pub missing_group_refused : (c read : Choices) (f : Facts) (needed : Groups) → read ≡ c

@@ -9,8 +9,8 @@ use Rattle.time_digits.proofs.LengthLemmas.{length-padded, length-digit}
 use Rattle.time_fmt.specs.Decimals.{decimals}
 use Rattle.time_fmt.proofs.DecimalLemmas.{three_of_second, six_of_second}
 use Rattle.time_known.specs.Config.{decimal_sign_text, DecimalSign}
-use Rattle.time_known.specs.declared.iso8601.config.DecimalSign.TheVariants.{Point, Comma}
 use Rattle.time_known.specs.declared.iso8601.usual_text.TheConstants.{ZEROS}
+use Rattle.std.proofs.lemmas.Grind.{common_steps}
 
 -- ---- lengths
 
@@ -26,8 +26,7 @@ pub ruleset one_digit = (padded_digit, length-digit)
 
 -- the decimal sign is one byte
 pub length-decimal_sign : (s : DecimalSign) → length (decimal_sign_text s) ≡ 1
-length-decimal_sign Point = refl
-length-decimal_sign Comma = refl
+length-decimal_sign s = grind (arith, common_steps)
 
 -- the first decimal of a second
 pub one_of_second : (n : ℕ) → n < 1_000_000_000 → decimal (n / 100_000_000) ≡ decimals n 1_000_000_000 1

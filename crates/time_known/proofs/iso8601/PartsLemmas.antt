@@ -1,7 +1,7 @@
 -- The parts that are written, one after another, give the outcome and the width of the choices.
-use Rattle.std.proofs.Common.{◌≡◌, ◌≢◌, ℕ, List, [], refl, ap, ◌∙◌, arith, Option, Some, None, true}
+use Rattle.std.proofs.Common.{◌≡◌, ◌≢◌, ℕ, [], arith, None, true}
 use Rattle.std.proofs.lemmas.List.{append-nil}
-use Rattle.time_fmt.specs.Outcome.{Outcome, Refusal, done, join}
+use Rattle.time_fmt.specs.Outcome.{Outcome, done, join}
 use Rattle.time_known.specs.Config.{Choices, groups_of, FormattedComponents}
 use Rattle.time_known.specs.Groups.{has_groups}
 use Rattle.time_known.specs.Iso8601.{iso8601_outcome, iso8601_outcome_of, iso_date}
@@ -11,6 +11,7 @@ use Rattle.time_known.specs.Values.{Facts, DateFacts}
 use Rattle.time_known.specs.declared.iso8601.config.FormattedComponents.TheVariants as components
 use Rattle.time_known.specs.declared.iso8601.parts.DateParts.{DateParts}
 use Rattle.time_known.proofs.GroupLemmas.{HasNeeded, has_needed, of_supplied}
+use Rattle.std.proofs.lemmas.Grind.{common_steps}
 
 -- ---- dates
 
@@ -23,28 +24,17 @@ by_date c d p Holds parts h = rw (← parts.year, ← parts.text c, ← parts.wi
 
 -- an empty text after an outcome changes nothing
 join_with_nothing : (o : Outcome) → join o (done []) ≡ o
-join_with_nothing o = at o.bytes o.refusal where
-  at : (bytes : List ℕ) (refusal : Option Refusal)
-      → join (record { bytes = bytes; refusal = refusal }) (done []) ≡ record { bytes = bytes; refusal = refusal }
-  at bytes None = ap done (append-nil bytes)
-  at bytes (Some r) = refl
+join_with_nothing o = grind (arith, common_steps, append-nil)
 
 -- the outcome of a value with the groups that are needed joins its parts
 text_by : (parts : FormattedComponents) (c : Choices) (f : Facts) → HasNeeded (groups_of parts) f
     → parts ≢ components.None → iso8601_outcome_of parts c f ≡ parts_text parts c f
-text_by components.None c f needed some = absurd (some refl)
-text_by components.Date c f needed some = grind (arith, of_supplied, join_with_nothing)
-text_by components.Time c f needed some = grind (arith, of_supplied, append-nil)
-text_by components.Offset c f needed some = of_supplied f.offset _ _ (needed.offset refl)
-text_by components.DateTime c f needed some = grind (arith, of_supplied, append-nil)
-text_by components.DateTimeOffset c f needed some = grind (arith, of_supplied)
-text_by components.TimeOffset c f needed some = of_supplied f.time _ _ (needed.time refl) ∙ of_supplied f.offset _ _ (needed.offset refl)
+text_by parts c f h k = grind (arith, common_steps, of_supplied, join_with_nothing, append-nil)
 
 -- the parts have the width of the text
 pub width_by : (parts : FormattedComponents) (c : Choices) → parts ≢ components.None
     → parts_width parts c ≡ iso8601_width_of parts c
-width_by components.None c some = absurd (some refl)
-width_by _ c some = omega arith
+width_by parts c h = grind (arith, common_steps)
 
 -- what holds of the width and the text of the parts holds of those of the choices
 pub by_parts : (c : Choices) (f : Facts) (Holds : ℕ → Outcome → Type 0)
