@@ -8,6 +8,8 @@ use Rattle.std.proofs.KnownBytes.{Appends-nil, Appends-trans}
 use Rattle.std.specs.Io.KnownBytes.{Appends}
 use Rattle.time_digits.specs.Digits.{joined}
 use Rattle.time_answers.specs.OutputBuffer.{Output, buffered, Accepts, AppendsStart, CutsOff}
+use Rattle.std.proofs.Common.{◌∷◌}
+use Rattle.std.proofs.Common.{◌∙◌}
 
 -- bytes are left after a place before the end
 drop-some : (n : ℕ) (xs : List ℕ) → n < length xs → drop n xs ≢ []
@@ -15,12 +17,19 @@ drop-some n xs lt e = let len : length (drop n xs) ≡ length {A = ℕ} [] = ap 
 
 -- a list that begins with some bytes has some
 append-some : (xs ys : List ℕ) → xs ≢ [] → xs ++ ys ≢ []
-append-some xs ys h = grind (arith, common_steps)
+append-some [] ys some = absurd (some refl)
+append-some (x ∷ xs) ys some = λ (e : x ∷ (xs ++ ys) ≡ []). cc
 
 -- the first bytes were written, and bytes are left
 pub AppendsStart-at : (a b : Option (List ℕ)) (bytes : List ℕ) (done : ℕ) → done < length bytes
     → Appends a b (take done bytes) → AppendsStart a b bytes
-AppendsStart-at a b bytes done lt p = grind (arith, take-append-drop, drop-some)
+AppendsStart-at a b bytes done lt p = record {
+  sent = take done bytes;
+  missing = drop done bytes;
+  went_out = p;
+  in_order = sym (take-append-drop done bytes);
+  unfinished = drop-some done bytes lt;
+}
 
 -- a beginning of a text, and not all of it, is one of a longer text
 pub AppendsStart-more : (a b : Option (List ℕ)) (xs ys : List ℕ) → AppendsStart a b xs → AppendsStart a b (xs ++ ys)
@@ -65,28 +74,38 @@ joined-append xs ys = grind (arith, common_steps, append_assoc)
 -- the parts before a part, the part, and those after it
 joined-at : (parts : List (Bor (List ℕ))) (i : ℕ) (d : Bor (List ℕ)) → i < length parts →
     joined parts ≡ joined (take i parts) ++ ((get_or parts i d).now ++ joined (drop (suc i) parts))
-joined-at parts i d lt = grind (arith, drop-cons, take-append-drop, joined-append)
+joined-at parts i d lt =
+    let whole : take i parts ++ get_or parts i d ∷ drop (suc i) parts ≡ parts =
+    rw (← drop-cons parts i d lt) (take-append-drop i parts) in
+    sym (ap joined whole) ∙ joined-append (take i parts) (get_or parts i d ∷ drop (suc i) parts)
 
 -- the parts up to a part, and the part
 joined-more : (parts : List (Bor (List ℕ))) (i : ℕ) (d : Bor (List ℕ)) → i < length parts →
     joined (take (i + 1) parts) ≡ joined (take i parts) ++ (get_or parts i d).now
-joined-more parts i d lt = grind (arith, take_more, joined-append)
+joined-more parts i d lt =
+    ap joined (take_more parts i d lt)
+    ∙ joined-append (take i parts) (get_or parts i d ∷ [])
+    ∙ ap (λ part. joined (take i parts) ++ part) (append-nil (get_or parts i d).now)
 
 -- the length of the parts up to a part, and that of the part
 pub length-joined-more : (parts : List (Bor (List ℕ))) (i : ℕ) (d : Bor (List ℕ)) → i < length parts →
     length (joined (take (i + 1) parts)) ≡ length (joined (take i parts)) + length (get_or parts i d).now
-length-joined-more parts i d lt = grind (arith, joined-more, length-append)
+length-joined-more parts i d lt =
+    rw (joined-more parts i d lt) (length-append (joined (take i parts)) (get_or parts i d).now)
 
 -- the parts up to a part are accepted, and the part is
 pub Accepts-part : (parts : List (Bor (List ℕ))) (i : ℕ) (d : Bor (List ℕ)) (a b c : Output) → i < length parts →
     Accepts a b (joined (take i parts)) → Accepts b c (get_or parts i d).now → Accepts a c (joined (take (i + 1) parts))
-Accepts-part parts i d a b c lt p q = grind (arith, joined-more, Accepts-then)
+Accepts-part parts i d a b c lt p q =
+    rw (joined-more parts i d lt) (Accepts-then a b c (joined (take i parts)) (get_or parts i d).now p q)
 
 -- the parts up to a part are accepted, and the part is cut off
 pub CutsOff-part : (parts : List (Bor (List ℕ))) (i : ℕ) (d : Bor (List ℕ)) (a b : Output) (held : Option (List ℕ))
     → i < length parts →
     Accepts a b (joined (take i parts)) → CutsOff b held (get_or parts i d).now → CutsOff a held (joined parts)
-CutsOff-part parts i d a b held lt p q = grind (arith, joined-at, CutsOff-after, CutsOff-more)
+CutsOff-part parts i d a b held lt p q = rw (joined-at parts i d lt)
+    (CutsOff-after a b held (joined (take i parts)) ((get_or parts i d).now ++ joined (drop (suc i) parts)) p
+    (CutsOff-more b held (get_or parts i d).now (joined (drop (suc i) parts)) q))
 
 -- one text after another
 pub ruleset one_after_another = (append_assoc, length-append)

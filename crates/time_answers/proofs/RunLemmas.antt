@@ -16,12 +16,17 @@ use Rattle.time_answers.proofs.OutputBufferLemmas.{CutsOff-after, CutsOff-flushe
 use Rattle.line_streams.proofs.FilterLemmas.{Become-append, Become-one, last_is_one}
 use Rattle.line_streams.proofs.LinesLemmas.{lines_of-rest, whole_lines_of-append, whole_lines_of-fed, unended_of-fed}
 use Rattle.line_streams.proofs.LinesLemmas.{whole_lines_of-more, unended_of-more}
+use Rattle.std.proofs.Common.{refl}
+use Rattle.std.proofs.Common.{inl}
+use Rattle.time_answers.specs.OutputBuffer.{CutsOff}
 
 -- the answers to some lines, and the answer to the line that these bytes and a line feed complete
 line_answered : (before bytes text answer : List ℕ) → IsOneLine bytes → AreAnswers (whole_lines_of before) text
     → IsAnswer (unended_of before ++ bytes) answer
     → AreAnswers (whole_lines_of (before ++ (bytes ++ line_feed ∷ []))) (text ++ answer)
-line_answered before bytes text answer one p h = grind (arith, whole_lines_of-fed, Become-append, Become-one)
+line_answered before bytes text answer one p h =
+    rw (whole_lines_of-fed before bytes one) (Become-append IsAnswer (whole_lines_of before)
+    ((unended_of before ++ bytes) ∷ []) text answer p (Become-one IsAnswer (unended_of before ++ bytes) answer h))
 
 -- the first part of one of two equal texts ends at or after the end of the other's, or before it
 data Meets (xs ys us vs : List ℕ) : Type 0 where
@@ -30,31 +35,66 @@ data Meets (xs ys us vs : List ℕ) : Type 0 where
 
 -- one more equal byte at the front of both texts keeps where their parts end
 meets-cons : (b c : ℕ) (xs ys us vs : List ℕ) → b ≡ c → Meets xs ys us vs → Meets (b ∷ xs) ys (c ∷ us) vs
-meets-cons b c xs ys us vs h k = grind (arith, common_steps)
+meets-cons b c xs ys us vs e (later more p q) = later more (rw (e, p)) q
+meets-cons b c xs ys us vs e (earlier more p some) = earlier more (rw (e, p)) some
 
 -- one of the two holds of any two equal texts
 equal_texts_meet : (xs ys us vs : List ℕ) → xs ++ ys ≡ us ++ vs → Meets xs ys us vs
-equal_texts_meet xs ys us vs h = grind (arith, common_steps, meets-cons)
+equal_texts_meet xs ys [] vs e = later xs refl (sym e)
+equal_texts_meet [] ys (u ∷ us) vs e = earlier (u ∷ us) refl (λ (h : u ∷ us ≡ []). cc)
+equal_texts_meet (x ∷ xs) ys (u ∷ us) vs e =
+    let heads : x ≡ u = cc in
+    let tails : xs ++ ys ≡ us ++ vs = cc in
+    meets-cons x u xs ys us vs heads (equal_texts_meet xs ys us vs tails)
 
 -- the answer to the first line lacks its end
 BreaksOff-first : (line answer start missing : List ℕ) (lines : List (List ℕ)) →
     IsAnswer line answer → answer ≡ start ++ missing → missing ≢ [] → BreaksOff (line ∷ lines) start
-BreaksOff-first line answer start missing lines h e some = grind arith
+BreaksOff-first line answer start missing lines h e some = record {
+  first = [];
+  next = line;
+  others = lines;
+  in_order = refl;
+  done = [];
+  start = start;
+  missing = missing;
+  whole = refl;
+  answered = refl;
+  begun = rw (← e) h;
+  unfinished = some;
+}
 
 -- the first line is answered, and the answers to the others break off
 BreaksOff-later : (line answer text start : List ℕ) (lines : List (List ℕ)) →
     IsAnswer line answer → BreaksOff lines text → start ≡ answer ++ text → BreaksOff (line ∷ lines) start
-BreaksOff-later line answer text start lines h b e = grind (arith, append_assoc)
+BreaksOff-later line answer text start lines h b e = record {
+  first = line ∷ b.first;
+  next = b.next;
+  others = b.others;
+  in_order = ap (λ rest. line ∷ rest) b.in_order;
+  done = answer ++ b.done;
+  start = b.start;
+  missing = b.missing;
+  whole = e ∙ rw (b.whole, append_assoc);
+  answered = (answer, b.done, refl, h, b.answered);
+  begun = b.begun;
+  unfinished = b.unfinished;
+}
 
 -- what follows something in an empty text is empty
 no_text : (start missing : List ℕ) → start ++ missing ≡ [] → missing ≡ []
-no_text start missing h = grind (arith, common_steps)
+no_text [] missing e = e
+no_text (b ∷ start) missing e = cc
 
 -- a text that lacks its end answers some first lines, and begins an answer to the next
 BreaksOff-cut : (lines : List (List ℕ)) (start missing : List ℕ) → AreAnswers lines (start ++ missing) → missing ≢ []
     → BreaksOff lines start
 BreaksOff-cut [] start missing p some = absurd (some (no_text start missing p))
-BreaksOff-cut (line ∷ lines) start missing p some = grind (arith, equal_texts_meet, BreaksOff-later, BreaksOff-first)
+BreaksOff-cut (line ∷ lines) start missing p some = elim (equal_texts_meet start missing p.0 p.1 p.2) [
+  | later more e rest ↦ BreaksOff-later line p.0 more start lines p.3
+      (BreaksOff-cut lines more missing (rw (← rest) p.4) some) e
+  | earlier more e unfinished ↦ BreaksOff-first line p.0 start more lines p.3 e unfinished
+]
 
 -- a text that breaks off in some lines breaks off before more lines
 BreaksOff-before : (lines more : List (List ℕ)) (text : List ℕ) → BreaksOff lines text → BreaksOff (lines ++ more) text
@@ -71,13 +111,28 @@ AnswersOn-none s before text upto = ([], Accepts-none (output_of s), rw (append-
 -- some bytes are answered after others
 pub AnswersOn-then : (xs ys : List ℕ) (a b c : RunState) → AnswersOn xs a b → AnswersOn ys b c
     → AnswersOn (xs ++ ys) a c
-AnswersOn-then xs ys a b c p q before text upto = grind (arith, Accepts-then, append_assoc)
+AnswersOn-then xs ys a b c p q before text upto =
+    let first : (more : List ℕ) × Accepts (output_of a) (output_of b) more × AnsweredUpTo (before ++ xs) b.kept
+    (text ++ more) = p before text upto in
+    let second : (more : List ℕ) × Accepts (output_of b) (output_of c) more × AnsweredUpTo ((before ++ xs) ++ ys)
+    c.kept ((text ++ first.0) ++ more) =
+    q (before ++ xs) (text ++ first.0) first.2 in (
+      first.0 ++ second.0,
+      Accepts-then (output_of a) (output_of b) (output_of c) first.0 second.0 first.1 second.1,
+      rw (← append_assoc before xs ys, ← append_assoc text first.0 second.0) second.2,
+    )
 
 -- bytes with no line feed are kept
 pub AnswersOn-kept : (bytes : List ℕ) (s : RunState) → IsOneLine bytes
     → AnswersOn bytes s (state (kept_with s.kept bytes) s.held s.waiting)
-AnswersOn-kept bytes s one before text upto =
-    grind (arith, Accepts-none, unended_of-more, kept_of-more, whole_lines_of-more)
+AnswersOn-kept bytes s one before text upto = (
+  [],
+  Accepts-none (output_of s),
+  record {
+    rest = rw (upto.rest, unended_of-more before bytes one) (kept_of-more (unended_of before) bytes);
+    answered = rw (whole_lines_of-more before bytes one, append-nil text) upto.answered;
+  },
+)
 
 -- the bytes complete the line, the line is answered, and a new one begins
 pub AnswersOn-line : (bytes : List ℕ) (kept : Option (List ℕ)) (old new : RunState) → IsOneLine bytes
@@ -92,22 +147,62 @@ pub CutsAnswersOff-line : (bytes rest : List ℕ) (kept : Option (List ℕ)) (ol
     → IsOneLine bytes → old.kept ≡ kept_with kept bytes →
     CutsAnswerOff old held → CutsAnswersOff (bytes ++ line_feed ∷ rest) (state kept old.held old.waiting) held
 CutsAnswersOff-line bytes rest kept old held one with_bytes p before text upto =
-    grind (arith, kept_of-more, append_assoc, line_answered)
+    let is : old.kept ≡ kept_of (unended_of before ++ bytes) = with_bytes
+    ∙ rw upto.rest (kept_of-more (unended_of before) bytes) in
+    let answer : (answer : List ℕ) × IsAnswer (unended_of before ++ bytes) answer × CutsOff (output_of old) held
+    answer =
+    p (unended_of before ++ bytes) is in (
+      bytes ++ line_feed ∷ [],
+      rest,
+      answer.0,
+      rw (append_assoc bytes (line_feed ∷ []) rest),
+      line_answered before bytes text answer.0 one upto.answered answer.1,
+      answer.2,
+    )
 
 -- some bytes are answered, and the answers to others are cut off
 pub CutsAnswersOff-after : (xs ys : List ℕ) (a b : RunState) (held : Option (List ℕ)) →
     AnswersOn xs a b → CutsAnswersOff ys b held → CutsAnswersOff (xs ++ ys) a held
-CutsAnswersOff-after xs ys a b held p q before text upto = grind (arith, append_assoc, CutsOff-after)
+CutsAnswersOff-after xs ys a b held p q before text upto =
+    let so_far : (more : List ℕ) × Accepts (output_of a) (output_of b) more × AnsweredUpTo (before ++ xs) b.kept
+    (text ++ more) = p before text upto in
+    let cut : (first : List ℕ) × (others : List ℕ) × (more : List ℕ) × (ys ≡ first ++ others)
+    × AreAnswers (whole_lines_of ((before ++ xs) ++ first)) ((text ++ so_far.0) ++ more) × CutsOff (output_of b) held
+    more =
+    q (before ++ xs) (text ++ so_far.0) so_far.2 in (
+      xs ++ cut.0,
+      cut.1,
+      so_far.0 ++ cut.2,
+      rw (append_assoc xs cut.0 cut.1, ← cut.3),
+      rw (← append_assoc before xs cut.0, ← append_assoc text so_far.0 cut.2) cut.4,
+      CutsOff-after (output_of a) (output_of b) held so_far.0 cut.2 so_far.1 cut.5,
+    )
 
 -- the bytes that wait after answered ones go out
 pub AnswersOn-flushed : (bytes : List ℕ) (a b : RunState) (held : Option (List ℕ)) →
     AnswersOn bytes a b → Appends b.held held b.waiting → AnswersOn bytes a (state b.kept held [])
-AnswersOn-flushed bytes a b held p q before text upto = grind (arith, Accepts-then, Accepts-flushed)
+AnswersOn-flushed bytes a b held p q before text upto =
+    let on : (more : List ℕ) × Accepts (output_of a) (output_of b) more × AnsweredUpTo (before ++ bytes) b.kept
+    (text ++ more) = p before text upto in (
+      on.0,
+      rw append-nil at (Accepts-then (output_of a) (output_of b) (buffered held []) on.0 [] on.1
+          (Accepts-flushed b.held held b.waiting q)),
+      on.2,
+    )
 
 -- the bytes that wait after answered ones are cut off
 pub CutsAnswersOff-flushed : (bytes : List ℕ) (a b : RunState) (held : Option (List ℕ)) →
     AnswersOn bytes a b → AppendsStart b.held held b.waiting → CutsAnswersOff bytes a held
-CutsAnswersOff-flushed bytes a b held p q before text upto = grind (arith, CutsOff-flushed)
+CutsAnswersOff-flushed bytes a b held p q before text upto =
+    let on : (more : List ℕ) × Accepts (output_of a) (output_of b) more × AnsweredUpTo (before ++ bytes) b.kept
+    (text ++ more) = p before text upto in (
+      bytes,
+      [],
+      on.0,
+      sym (append-nil bytes),
+      on.2.answered,
+      CutsOff-flushed (output_of a) (output_of b) held on.0 on.1 q,
+    )
 
 -- what is kept of a line shows whether it is empty
 kept-empty : (line : List ℕ) → Some [] ≡ kept_of line → line ≡ []
@@ -116,7 +211,11 @@ kept-empty line e = grind (arith, common_steps)
 -- where a buffer keeps more than nothing of the last line, all lines are whole after one line feed more
 lines_of-kept : (bytes : List ℕ) (kept : Option (List ℕ)) → kept ≢ Some [] → kept ≡ kept_of (unended_of bytes) →
     lines_of bytes ≡ whole_lines_of (bytes ++ line_feed ∷ [])
-lines_of-kept bytes kept some is = grind (arith, lines_of-rest, last_is_one, whole_lines_of-fed)
+lines_of-kept bytes kept some is =
+    lines_of-rest bytes
+    ∙ ap (λ last. whole_lines_of bytes ++ last)
+    (last_is_one (unended_of bytes) (λ (e : unended_of bytes ≡ []). some (is ∙ ap kept_of e)))
+    ∙ sym (rw append-nil at (whole_lines_of-fed bytes [] tt))
 
 -- the bytes consumed stay if nothing more is read
 Consumes-end : (a b c : Option (List ℕ)) (xs : List ℕ) → Consumes a b xs → Consumes b c [] → Consumes a c xs
@@ -168,19 +267,43 @@ is_cut bytes text block kept h1 h2 upto off =
 pub Ran-cut : {T : Type 0} (l0 l1 l2 h0 h1 h2 k1 : Option (List ℕ)) (block : List ℕ) → Running l0 l1 h0 h1 k1
     → Consumes l1 l2 block →
     CutsAnswersOff block (state k1 h1 []) h2 → Ran {T = T} (Err Write) l0 l2 h0 h2
-Ran-cut l0 l1 l2 h0 h1 h2 k1 block run next off = grind (arith, is_cut, Consumes-trans, Appends-trans)
+Ran-cut l0 l1 l2 h0 h1 h2 k1 block run next off =
+    let cut = is_cut run.bytes run.text block k1 h1 h2 run.answered off in
+    record {
+      bytes = run.bytes ++ block;
+      text = run.text ++ cut.sent;
+      read = Consumes-trans l0 l1 l2 run.bytes block run.read next;
+      written = Appends-trans h0 h1 h2 run.text cut.sent run.written cut.written;
+      shown = inl cut.breaks_off;
+    }
 
 -- The input ended, and no bytes came after the last line feed.
 pub Ran-ended : {T : Type 0} (done : T) (l0 l1 l2 h0 h1 k1 : Option (List ℕ)) → Running l0 l1 h0 h1 k1
     → Consumes l1 l2 [] → k1 ≡ Some [] → Ran (Ok done) l0 l2 h0 h1
-Ran-ended done l0 l1 l2 h0 h1 k1 run end empty = grind (arith, kept-empty, Consumes-end, lines_of-rest)
+Ran-ended done l0 l1 l2 h0 h1 k1 run end empty =
+    let none : unended_of run.bytes ≡ [] = kept-empty (unended_of run.bytes) (sym empty ∙ run.answered.rest) in
+    record {
+      bytes = run.bytes;
+      text = run.text;
+      read = Consumes-end l0 l1 l2 run.bytes run.read end;
+      written = run.written;
+      shown = rw (lines_of-rest run.bytes, none, append-nil (whole_lines_of run.bytes)) run.answered.answered;
+    }
 
 -- The input ended, and its last line is answered as one that a line feed ends.
 pub Ran-last : {T : Type 0} (done : T) (l0 l1 l2 h0 h1 h2 k1 k2 : Option (List ℕ)) → Running l0 l1 h0 h1 k1
     → Consumes l1 l2 [] → k1 ≢ Some [] → AnswersOn (line_feed ∷ []) (state k1 h1 []) (state k2 h2 [])
     → Ran (Ok done) l0 l2 h0 h2
 Ran-last done l0 l1 l2 h0 h1 h2 k1 k2 run end some on =
-    grind (arith, Consumes-end, Appends-trans, Accepts-sent, lines_of-kept)
+    let more : (more : List ℕ) × Accepts (buffered h1 []) (buffered h2 []) more
+    × AnsweredUpTo (run.bytes ++ line_feed ∷ []) k2 (run.text ++ more) = on run.bytes run.text run.answered in
+    record {
+      bytes = run.bytes;
+      text = run.text ++ more.0;
+      read = Consumes-end l0 l1 l2 run.bytes run.read end;
+      written = Appends-trans h0 h1 h2 run.text more.0 run.written (Accepts-sent h1 h2 more.0 more.1);
+      shown = rw (lines_of-kept run.bytes k1 some run.answered.rest) more.2.answered;
+    }
 
 -- The input ended, and the answer to its last line is cut off.
 pub Ran-end_cut : {T : Type 0} (l0 l1 l2 h0 h1 h2 k1 : Option (List ℕ)) → Running l0 l1 h0 h1 k1 → Consumes l1 l2 [] →
