@@ -34,7 +34,7 @@ zero_at text other f g longer = grind (arith, get_or_append_left, get_or-append_
 -- a fraction that does not end in `0` is the shortest
 pub unended_is_trimmed : {n : ℕ} (text : List ℕ) → IsFraction text n → ¬ EndsInZero text
     → text ≡ trimmed_fraction n
-unended_is_trimmed {n} text f unended = grind (arith, only_trimmed_fraction, ends_at, zero_at, cases_lt)
+unended_is_trimmed text f unended = grind (arith, only_trimmed_fraction, ends_at, zero_at, cases_lt)
 
 -- a text without one zero at its end is the same fraction
 fraction_one_zero_less : {n : ℕ} (front : List ℕ) → 1 ≤ length front → IsFraction (front ++ codes "0") n → IsFraction front n
@@ -47,7 +47,7 @@ lone_zero n h f = sym (fixed_value 9 n h) ∙ sym (ap (digits_value 10) f.filled
 -- the shortest fraction of more than zero does not end in `0`, after any front
 not_ended : {n : ℕ} (text front : List ℕ) → text ≡ front ++ codes "0" → IsTrimmedFraction text n → 0 < n
     → n < 10 ^ 9 → ⊥
-not_ended {n} text [] e t some small = grind (arith, common_steps, lone_zero)
+not_ended text [] e t some small = grind (arith, common_steps, lone_zero)
 not_ended {n} text (d ∷ ds) e t some small =
     let front = d ∷ ds in
     let long : length (front ++ codes "0") ≡ length front + 1 = length-append front (codes "0") in

@@ -111,7 +111,7 @@ length-padded-le fill k n most places digits = grind (arith, length-append, leng
 
 -- a digit is ASCII
 IsAscii-glyph : (d : ℕ) → d < 10 → IsAscii (digit_glyph false d ∷ [])
-IsAscii-glyph x1 x2 x3 = grind (arith, common_steps, nat_tests)
+IsAscii-glyph d h k = grind (arith, common_steps, nat_tests)
 
 -- digits in front of an ASCII text are ASCII, for any number of digits
 IsAscii-onto : (k n : ℕ) (text : List ℕ) → IsAscii text → IsAscii (digits_onto k 10 false n text)

@@ -53,7 +53,7 @@ pub list_refused : {agrees : Type 0} {all_size left_size : ℕ} {reason : Refuse
     (f : Facts) (all left others : Trees) (t : Tree) →
     Along agrees old mid f all left all_size left_size → left ≡ more t others
     → AppendsTree t f mid new (Err reason) → AppendsTree (all_of all) f old new (Err reason)
-list_refused {reason = reason} old mid new f all left others t along next step = grind (arith, join_refused)
+list_refused old mid new f all left others t along next step = grind (arith, join_refused)
 
 -- what was written before a node, and what the node wrote, is followed by what is left
 pub written_along : {agrees agrees_after : Type 0} {all_size left_size rest_size : ℕ} (old mid new : Buffer)
@@ -113,4 +113,4 @@ pub first_appends : {A : Type 0} {answer : Result Unit Refused} (tree : A → Tr
     (old new : Buffer) (f : Facts) → slice_get nodes 0 ≡ Some x → AppendsTree (tree x) f old new answer
     → AppendsTree (first_of (trees (map tree nodes))) f old new answer
 first_appends tree [] x old new f h appends = let no : ⊥ = cc in absurd no
-first_appends {A} {answer} tree (y ∷ ys) x old new f h appends = grind arith
+first_appends tree (y ∷ ys) x old new f h appends = grind arith

@@ -129,7 +129,7 @@ signed_milliseconds is_negative is_wanted n h =
 -- a test that no bytes and all names of a list pass is passed by the one at any place
 pub passes_at : (test : List ℕ → Bool) (names : List (List ℕ)) (i : ℕ) → IsTrue (test []) → IsTrue (list_all test names)
     → IsTrue (test (slice_index_or names i []))
-passes_at test names i h k = grind (arith, common_steps, and_parts, common_steps)
+passes_at test names i h k = grind (arith, common_steps, and_parts)
 
 -- no name of a month is longer than September
 pub length-month_name : (n : ℕ) → length (month_name n) ≤ 9

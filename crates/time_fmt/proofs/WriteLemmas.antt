@@ -11,7 +11,7 @@ use Rattle.std.proofs.lemmas.Grind.{common_steps}
 -- an outcome is added if it is appended after a reservation
 pub adds_after_room : {answer : Result ℕ Format} {o : Outcome} (old mid new : Vec ℕ Global) → mid.items ≡ old.items
     → vec_len mid ≡ vec_len old → Appends mid new answer o → Adds old new answer o
-adds_after_room {o = o} old mid new items len appends = grind arith
+adds_after_room old mid new items len appends = grind arith
 
 -- what is appended is as long as what the vector has grown by
 pub counted_by_length : {count : ℕ} {o : Outcome} {old new : Vec ℕ Global} (begin end : ℕ) → Appends old new (Ok count) o
@@ -39,16 +39,16 @@ join_done a b h = rw h refl
 -- a refusal of the first of two outcomes is that of both
 pub appends_first : {old new : Vec ℕ Global} {e : Format} (a b : Outcome) → Appends old new (Err e) a
     → Appends old new (Err e) (join a b)
-appends_first {e = e} a b first = grind (arith, some_of, join_refused)
+appends_first a b first = grind (arith, some_of, join_refused)
 
 -- both are completed
 pub appends_both : {old mid new : Vec ℕ Global} {m n : ℕ} (a b : Outcome) → Appends old mid (Ok m) a
     → Appends mid new (Ok n) b
     → Appends old new (Ok (m + n)) (join a b)
-appends_both {old} a b first second = grind (arith, join_done, append_assoc, length-append)
+appends_both a b first second = grind (arith, join_done, append_assoc, length-append)
 
 -- the second is refused
 pub appends_second : {old mid new : Vec ℕ Global} {m : ℕ} {e : Format} (a b : Outcome) → Appends old mid (Ok m) a
     → Appends mid new (Err e) b
     → Appends old new (Err e) (join a b)
-appends_second {old} a b first second = grind (arith, join_done, append_assoc, length-append)
+appends_second a b first second = grind (arith, join_done, append_assoc, length-append)

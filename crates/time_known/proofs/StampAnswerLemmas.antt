@@ -82,4 +82,4 @@ is_stamped {old} (Ok n) {v = v} a =
       unchanged = tt;
     }
 is_stamped (Err error.OutOfMemory) a = grind arith
-is_stamped {old} {new} (Err e) {v = v} a = grind (arith, common_steps, refused_by_year, named_none, not_refused)
+is_stamped (Err e) a = grind (arith, common_steps, refused_by_year, named_none, not_refused)

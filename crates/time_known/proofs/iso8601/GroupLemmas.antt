@@ -29,4 +29,4 @@ pub by_choice : {old new : Vec ℕ Global} {answer : Result ℕ Format} (c : Cho
     (parts : FormattedComponents) → c.formatted_components ≡ parts
     → AppendsUpTo (iso8601_width_of parts c) old new answer (iso8601_outcome_of parts c f)
     → AppendsUpTo (iso8601_width c) old new answer (iso8601_outcome c f)
-by_choice {old} {new} {answer} c f parts e h = grind arith
+by_choice c f parts e h = grind arith
