@@ -82,22 +82,17 @@ joined-at parts i d lt =
 -- the parts up to a part, and the part
 joined-more : (parts : List (Bor (List ℕ))) (i : ℕ) (d : Bor (List ℕ)) → i < length parts →
     joined (take (i + 1) parts) ≡ joined (take i parts) ++ (get_or parts i d).now
-joined-more parts i d lt =
-    ap joined (take_more parts i d lt)
-    ∙ joined-append (take i parts) (get_or parts i d ∷ [])
-    ∙ ap (λ part. joined (take i parts) ++ part) (append-nil (get_or parts i d).now)
+joined-more parts i d lt = grind (arith, common_steps, take_more, joined-append)
 
 -- the length of the parts up to a part, and that of the part
 pub length-joined-more : (parts : List (Bor (List ℕ))) (i : ℕ) (d : Bor (List ℕ)) → i < length parts →
     length (joined (take (i + 1) parts)) ≡ length (joined (take i parts)) + length (get_or parts i d).now
-length-joined-more parts i d lt =
-    rw (joined-more parts i d lt) (length-append (joined (take i parts)) (get_or parts i d).now)
+length-joined-more parts i d lt = grind (arith, common_steps, joined-more, length-append)
 
 -- the parts up to a part are accepted, and the part is
 pub Accepts-part : (parts : List (Bor (List ℕ))) (i : ℕ) (d : Bor (List ℕ)) (a b c : Output) → i < length parts →
     Accepts a b (joined (take i parts)) → Accepts b c (get_or parts i d).now → Accepts a c (joined (take (i + 1) parts))
-Accepts-part parts i d a b c lt p q =
-    rw (joined-more parts i d lt) (Accepts-then a b c (joined (take i parts)) (get_or parts i d).now p q)
+Accepts-part parts i d a b c lt p q = grind (arith, common_steps, joined-more, Accepts-then)
 
 -- the parts up to a part are accepted, and the part is cut off
 pub CutsOff-part : (parts : List (Bor (List ℕ))) (i : ℕ) (d : Bor (List ℕ)) (a b : Output) (held : Option (List ℕ))

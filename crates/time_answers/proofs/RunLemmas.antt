@@ -1,6 +1,6 @@
 -- A run goes on from what it has answered.
-use Rattle.std.proofs.Common.{ℕ, Ok, Err, ◌≡◌, ◌≢◌, ◌++◌, List, [], ◌∷◌, Option, Some, ap, sym, ◌∙◌, arith}
-use Rattle.std.proofs.Common.{append-nil, append_assoc, inr}
+use Rattle.std.proofs.Common.{ℕ, Ok, Err, ◌≡◌, ◌≢◌, ◌++◌, List, [], ◌∷◌, Option, Some, sym, arith}
+use Rattle.std.proofs.Common.{append-nil, append_assoc}
 use Rattle.std.proofs.lemmas.Grind.{common_steps}
 use Rattle.std.proofs.KnownBytes.{Appends-trans, Consumes-trans}
 use Rattle.std.specs.Io.KnownBytes.{Appends, Consumes, IsAtEnd}
@@ -17,6 +17,8 @@ use Rattle.line_streams.proofs.FilterLemmas.{Become-append, Become-one, last_is_
 use Rattle.line_streams.proofs.LinesLemmas.{lines_of-rest, whole_lines_of-append, whole_lines_of-fed, unended_of-fed}
 use Rattle.line_streams.proofs.LinesLemmas.{whole_lines_of-more, unended_of-more}
 use Rattle.std.proofs.Common.{refl}
+use Rattle.std.proofs.Common.{ap, ◌∙◌}
+use Rattle.std.proofs.Common.{inr}
 use Rattle.std.proofs.Common.{inl}
 use Rattle.time_answers.specs.OutputBuffer.{CutsOff}
 
@@ -25,8 +27,7 @@ line_answered : (before bytes text answer : List ℕ) → IsOneLine bytes → Ar
     → IsAnswer (unended_of before ++ bytes) answer
     → AreAnswers (whole_lines_of (before ++ (bytes ++ line_feed ∷ []))) (text ++ answer)
 line_answered before bytes text answer one p h =
-    rw (whole_lines_of-fed before bytes one) (Become-append IsAnswer (whole_lines_of before)
-    ((unended_of before ++ bytes) ∷ []) text answer p (Become-one IsAnswer (unended_of before ++ bytes) answer h))
+    grind (arith, common_steps, whole_lines_of-fed, Become-append, Become-one)
 
 -- the first part of one of two equal texts ends at or after the end of the other's, or before it
 data Meets (xs ys us vs : List ℕ) : Type 0 where
@@ -111,28 +112,13 @@ AnswersOn-none s before text upto = ([], Accepts-none (output_of s), rw (append-
 -- some bytes are answered after others
 pub AnswersOn-then : (xs ys : List ℕ) (a b c : RunState) → AnswersOn xs a b → AnswersOn ys b c
     → AnswersOn (xs ++ ys) a c
-AnswersOn-then xs ys a b c p q before text upto =
-    let first : (more : List ℕ) × Accepts (output_of a) (output_of b) more × AnsweredUpTo (before ++ xs) b.kept
-    (text ++ more) = p before text upto in
-    let second : (more : List ℕ) × Accepts (output_of b) (output_of c) more × AnsweredUpTo ((before ++ xs) ++ ys)
-    c.kept ((text ++ first.0) ++ more) =
-    q (before ++ xs) (text ++ first.0) first.2 in (
-      first.0 ++ second.0,
-      Accepts-then (output_of a) (output_of b) (output_of c) first.0 second.0 first.1 second.1,
-      rw (← append_assoc before xs ys, ← append_assoc text first.0 second.0) second.2,
-    )
+AnswersOn-then xs ys a b c p q before text upto = grind (arith, common_steps, Accepts-then, append_assoc)
 
 -- bytes with no line feed are kept
 pub AnswersOn-kept : (bytes : List ℕ) (s : RunState) → IsOneLine bytes
     → AnswersOn bytes s (state (kept_with s.kept bytes) s.held s.waiting)
-AnswersOn-kept bytes s one before text upto = (
-  [],
-  Accepts-none (output_of s),
-  record {
-    rest = rw (upto.rest, unended_of-more before bytes one) (kept_of-more (unended_of before) bytes);
-    answered = rw (whole_lines_of-more before bytes one, append-nil text) upto.answered;
-  },
-)
+AnswersOn-kept bytes s one before text upto =
+    grind (arith, common_steps, Accepts-none, unended_of-more, kept_of-more, whole_lines_of-more)
 
 -- the bytes complete the line, the line is answered, and a new one begins
 pub AnswersOn-line : (bytes : List ℕ) (kept : Option (List ℕ)) (old new : RunState) → IsOneLine bytes
@@ -280,15 +266,7 @@ Ran-cut l0 l1 l2 h0 h1 h2 k1 block run next off =
 -- The input ended, and no bytes came after the last line feed.
 pub Ran-ended : {T : Type 0} (done : T) (l0 l1 l2 h0 h1 k1 : Option (List ℕ)) → Running l0 l1 h0 h1 k1
     → Consumes l1 l2 [] → k1 ≡ Some [] → Ran (Ok done) l0 l2 h0 h1
-Ran-ended done l0 l1 l2 h0 h1 k1 run end empty =
-    let none : unended_of run.bytes ≡ [] = kept-empty (unended_of run.bytes) (sym empty ∙ run.answered.rest) in
-    record {
-      bytes = run.bytes;
-      text = run.text;
-      read = Consumes-end l0 l1 l2 run.bytes run.read end;
-      written = run.written;
-      shown = rw (lines_of-rest run.bytes, none, append-nil (whole_lines_of run.bytes)) run.answered.answered;
-    }
+Ran-ended done l0 l1 l2 h0 h1 k1 run end empty = grind (arith, common_steps, kept-empty, Consumes-end, lines_of-rest)
 
 -- The input ended, and its last line is answered as one that a line feed ends.
 pub Ran-last : {T : Type 0} (done : T) (l0 l1 l2 h0 h1 h2 k1 k2 : Option (List ℕ)) → Running l0 l1 h0 h1 k1
