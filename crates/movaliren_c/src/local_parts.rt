@@ -268,6 +268,8 @@ impl ComponentProvider for LocalParts {
     ghost groups = { λ value. Prim.search rules };
 
     ghost states = { λ value. Prim.search rules };
+
+    ghost fresh = { λ state value is_fresh. Prim.search rules };
 }
 
 impl FirstState for LocalParts {

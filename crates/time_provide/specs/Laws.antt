@@ -11,12 +11,10 @@ pub record Supplies (DATE TIME OFFSET TIMESTAMP : Bool) (f : Facts) : Type 0 whe
   pub offset : is_some f.offset ≡ OFFSET
   pub timestamp : is_some f.moment ≡ TIMESTAMP
 
--- a fresh state agrees with the value, and one that agrees holds nothing but components of its date; where it grows by
--- more of them it agrees, and keeps what a state before it held
-pub record States {State : Type 0} (IsFresh : State → Type 0) (Holds : State → DateFacts → Type 0)
-    (Grows : State → State → DateFacts → Type 0) (Keeps : State → State → Type 0) (Agrees : State → Type 0)
-    (date : DateFacts) : Type 0 where
-  pub fresh : (state : State) → IsFresh state → Agrees state
+-- a state that agrees with the value holds nothing but components of its date; where it grows by more of them it agrees,
+-- and keeps what a state before it held
+pub record States {State : Type 0} (Holds : State → DateFacts → Type 0) (Grows : State → State → DateFacts → Type 0)
+    (Keeps : State → State → Type 0) (Agrees : State → Type 0) (date : DateFacts) : Type 0 where
   pub held : (state : State) → Agrees state → Holds state date
   pub grown : (old new : State) → Agrees old → Grows old new date → Agrees new
   pub keeps_grown : (before old new : State) → Keeps before old → Grows old new date → Keeps before new

@@ -105,8 +105,12 @@ pub trait ComponentProvider {
         → Supplies SUPPLIES_DATE SUPPLIES_TIME SUPPLIES_OFFSET SUPPLIES_TIMESTAMP (facts value) };
 
     // What the state keeps of the date leaves it in agreement with the value.
-    ghost states: { (value : Self) → States Self.State.is_default Self.State.holds Self.State.grows keeps
+    ghost states: { (value : Self) → States Self.State.holds Self.State.grows keeps
         (λ state. agrees state value) (the_date (facts value)) };
+
+    // A fresh state agrees with every value. Callers with a value of any type search for this law, so it stands alone.
+    ghost fresh: { (state : Self.State) (value : Self) → Self.State.is_default state
+        → agrees state value };
 
     /// The day of the month, 1 to 31.
     #[inline(always)]

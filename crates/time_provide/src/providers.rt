@@ -97,6 +97,8 @@ impl ComponentProvider for Date {
     ghost groups = { λ value. Prim.search rules };
 
     ghost states = { λ value. Prim.search (rules, kept_itself, kept_on) };
+
+    ghost fresh = { λ state value is_fresh. Prim.search rules };
 }
 
 /// A time of day keeps nothing.
@@ -155,6 +157,8 @@ impl ComponentProvider for Time {
     ghost groups = { λ value. Prim.search rules };
 
     ghost states = { λ value. Prim.search rules };
+
+    ghost fresh = { λ state value is_fresh. Prim.search rules };
 }
 
 /// An offset keeps nothing.
@@ -215,6 +219,8 @@ impl ComponentProvider for UtcOffset {
     ghost groups = { λ value. Prim.search rules };
 
     ghost states = { λ value. Prim.search rules };
+
+    ghost fresh = { λ state value is_fresh. Prim.search rules };
 }
 
 /// A date with a time of day keeps what its date keeps.
@@ -274,6 +280,8 @@ impl ComponentProvider for PlainDateTime {
     ghost groups = { λ value. Prim.search rules };
 
     ghost states = { λ value. Prim.search (rules, kept_itself, kept_on) };
+
+    ghost fresh = { λ state value is_fresh. Prim.search rules };
 }
 
 /// A date and a time in UTC supply all groups.
@@ -329,6 +337,8 @@ impl ComponentProvider for UtcDateTime {
     ghost groups = { λ value. Prim.search rules };
 
     ghost states = { λ value. Prim.search (rules, kept_itself, kept_on) };
+
+    ghost fresh = { λ state value is_fresh. Prim.search rules };
 }
 
 /// A local date and time with their offset supply all groups.
@@ -386,6 +396,8 @@ impl ComponentProvider for OffsetDateTime {
     ghost groups = { λ value. Prim.search rules };
 
     ghost states = { λ value. Prim.search (rules, kept_itself, kept_on) };
+
+    ghost fresh = { λ state value is_fresh. Prim.search rules };
 }
 
 /// A moment supplies all groups in UTC, and keeps its date and its time.
@@ -442,4 +454,6 @@ impl ComponentProvider for Timestamp {
     ghost groups = { λ value. Prim.search rules };
 
     ghost states = { λ value. Prim.search (rules, kept_itself, kept_on) };
+
+    ghost fresh = { λ state value is_fresh. Prim.search rules };
 }
