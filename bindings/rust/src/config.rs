@@ -84,7 +84,11 @@ pub enum DecimalSign {
 /// ```
 #[derive(Clone, Copy, Debug, PartialEq, Eq, Hash)]
 #[must_use]
-pub struct Iso8601By(IsoConfig);
+pub struct Iso8601By {
+    config: IsoConfig,
+    /// The width, which is computed when the configuration is made, so that a text does not cost it.
+    width: u16,
+}
 
 impl Default for Iso8601By {
     fn default() -> Self {
@@ -95,7 +99,7 @@ impl Default for Iso8601By {
 impl Iso8601By {
     /// Returns the configuration of [`Iso8601`](crate::Iso8601).
     pub const fn new() -> Self {
-        Iso8601By(IsoConfig {
+        Iso8601By::by(IsoConfig {
             components: Parts::DateTimeOffset as u8,
             date_kind: DateKind::Calendar as u8,
             time_precision: TimePrecision::Second as u8,
@@ -107,47 +111,68 @@ impl Iso8601By {
         })
     }
 
+    const fn by(config: IsoConfig) -> Self {
+        Iso8601By {
+            config,
+            width: width(&config) as u16,
+        }
+    }
+
     /// Sets the parts that are written.
-    pub const fn parts(mut self, parts: Parts) -> Self {
-        self.0.components = parts as u8;
-        self
+    pub const fn parts(self, parts: Parts) -> Self {
+        Iso8601By::by(IsoConfig {
+            components: parts as u8,
+            ..self.config
+        })
     }
 
     /// Sets the kind of date.
-    pub const fn date_kind(mut self, kind: DateKind) -> Self {
-        self.0.date_kind = kind as u8;
-        self
+    pub const fn date_kind(self, kind: DateKind) -> Self {
+        Iso8601By::by(IsoConfig {
+            date_kind: kind as u8,
+            ..self.config
+        })
     }
 
     /// Sets the smallest unit of the time, and the number of its decimals. 0 writes none.
-    pub const fn time_precision(mut self, precision: TimePrecision, decimals: u8) -> Self {
-        self.0.time_precision = precision as u8;
-        self.0.decimals = decimals;
-        self
+    pub const fn time_precision(self, precision: TimePrecision, decimals: u8) -> Self {
+        Iso8601By::by(IsoConfig {
+            time_precision: precision as u8,
+            decimals,
+            ..self.config
+        })
     }
 
     /// Sets the smallest unit of the offset.
-    pub const fn offset_precision(mut self, precision: OffsetPrecision) -> Self {
-        self.0.offset_precision = precision as u8;
-        self
+    pub const fn offset_precision(self, precision: OffsetPrecision) -> Self {
+        Iso8601By::by(IsoConfig {
+            offset_precision: precision as u8,
+            ..self.config
+        })
     }
 
     /// Sets whether separators are written.
-    pub const fn separators(mut self, use_separators: bool) -> Self {
-        self.0.use_separators = use_separators as u8;
-        self
+    pub const fn separators(self, use_separators: bool) -> Self {
+        Iso8601By::by(IsoConfig {
+            use_separators: use_separators as u8,
+            ..self.config
+        })
     }
 
     /// Sets whether the year has a sign and six digits, or four digits.
-    pub const fn six_digit_year(mut self, is_six_digits: bool) -> Self {
-        self.0.year_is_six_digits = is_six_digits as u8;
-        self
+    pub const fn six_digit_year(self, is_six_digits: bool) -> Self {
+        Iso8601By::by(IsoConfig {
+            year_is_six_digits: is_six_digits as u8,
+            ..self.config
+        })
     }
 
     /// Sets the sign before the decimals.
-    pub const fn decimal_sign(mut self, sign: DecimalSign) -> Self {
-        self.0.comma = sign as u8;
-        self
+    pub const fn decimal_sign(self, sign: DecimalSign) -> Self {
+        Iso8601By::by(IsoConfig {
+            comma: sign as u8,
+            ..self.config
+        })
     }
 
     /// The most bytes that a text of any configuration has.
@@ -157,46 +182,50 @@ impl Iso8601By {
     #[inline]
     #[must_use]
     pub const fn width(&self) -> usize {
-        let config = &self.0;
-        let has_date = matches!(config.components, 1 | 4 | 5);
-        let has_time = matches!(config.components, 2 | 4 | 5 | 6);
-        let has_offset = matches!(config.components, 3 | 5 | 6);
-        // Without a date before it or separators in it, a time begins with a letter.
-        let has_letter = has_time && (has_date || config.use_separators == 0);
-        let date = has_date as usize * self.date_width();
-        let time = has_letter as usize + has_time as usize * self.time_width();
-        date + time + has_offset as usize * self.offset_width()
-    }
-
-    /// The year, and after it four digits, a week with its letter and a weekday, or three digits.
-    const fn date_width(&self) -> usize {
-        let year = if self.0.year_is_six_digits == 1 { 7 } else { 4 };
-        let (rest, separators) = if self.0.date_kind == DateKind::Ordinal as u8 {
-            (3, 1)
-        } else {
-            (4, 2)
-        };
-        year + rest + separators * self.0.use_separators as usize
-    }
-
-    /// Two digits for each unit, and the decimals after their sign.
-    const fn time_width(&self) -> usize {
-        let separators = self.0.time_precision as usize;
-        let decimals = self.0.decimals as usize;
-        let sign = (decimals > 0) as usize;
-        2 + 2 * separators + separators * self.0.use_separators as usize + sign + decimals
-    }
-
-    /// The sign and two digits, and the minutes.
-    const fn offset_width(&self) -> usize {
-        let minutes = self.0.offset_precision as usize;
-        3 + minutes * (2 + self.0.use_separators as usize)
+        self.width as usize
     }
 
     #[inline]
     pub(crate) fn config(&self) -> &IsoConfig {
-        &self.0
+        &self.config
     }
+}
+
+/// The most bytes that a text has.
+const fn width(config: &IsoConfig) -> usize {
+    let has_date = matches!(config.components, 1 | 4 | 5);
+    let has_time = matches!(config.components, 2 | 4 | 5 | 6);
+    let has_offset = matches!(config.components, 3 | 5 | 6);
+    // Without a date before it or separators in it, a time begins with a letter.
+    let has_letter = has_time && (has_date || config.use_separators == 0);
+    let date = has_date as usize * date_width(config);
+    let time = has_letter as usize + has_time as usize * time_width(config);
+    date + time + has_offset as usize * offset_width(config)
+}
+
+/// The year, and after it four digits, a week with its letter and a weekday, or three digits.
+const fn date_width(config: &IsoConfig) -> usize {
+    let year = if config.year_is_six_digits == 1 { 7 } else { 4 };
+    let (rest, separators) = if config.date_kind == DateKind::Ordinal as u8 {
+        (3, 1)
+    } else {
+        (4, 2)
+    };
+    year + rest + separators * config.use_separators as usize
+}
+
+/// Two digits for each unit, and the decimals after their sign.
+const fn time_width(config: &IsoConfig) -> usize {
+    let separators = config.time_precision as usize;
+    let decimals = config.decimals as usize;
+    let sign = (decimals > 0) as usize;
+    2 + 2 * separators + separators * config.use_separators as usize + sign + decimals
+}
+
+/// The sign and two digits, and the minutes.
+const fn offset_width(config: &IsoConfig) -> usize {
+    let minutes = config.offset_precision as usize;
+    3 + minutes * (2 + config.use_separators as usize)
 }
 
 macro_rules! by_configuration {
