@@ -1,5 +1,6 @@
 -- Outcomes: bytes, and perhaps a refusal after them.
-use Rattle.std.specs.Prelude.{ℕ, ◌≡◌, ◌+◌, ◌≤◌, List, [], ◌++◌, length, drop, Option, Some, None, Result, IfOk, IfErr, IsSomeAnd}
+use Rattle.std.specs.Prelude.{ℕ, ◌≡◌, ◌+◌, ◌≤◌, Bool, true, false, List, [], ◌++◌, length, drop, Option, Some, None}
+use Rattle.std.specs.Prelude.{Result, Err, IfOk, IfErr, IsSomeAnd}
 use Rattle.std.specs.Prelude.{vec_len, vec_capacity, Vec}
 use Rattle.std.specs.Global.{Global}
 use Rattle.time_below.specs.ComponentRange.{RangeRefusal, range_refusal}
@@ -18,6 +19,11 @@ Names error.InsufficientTypeInformation insufficient = Unit {0}
 Names (error.InvalidComponent name) (invalid_component component) = name.now ≡ component
 Names (error.ComponentRange range) (out_of_range refusal) = range_refusal range ≡ refusal
 Names e r = ⊥
+
+-- whether the error is that memory was refused
+abbrev pub is_out_of_memory : Result ℕ Format → Bool
+is_out_of_memory (Err error.OutOfMemory) = true
+is_out_of_memory answer = false
 
 pub record Outcome : Type 0 where
   pub bytes : List ℕ

@@ -1,5 +1,5 @@
 -- Spare capacity at the end of a vector of bytes, and what is written into it.
-use Rattle.std.specs.Prelude.{ℕ, ◌≡◌, ◌+◌, ◌*◌, ◌≤◌, ◌++◌, List, length, max, vec_len, vec_capacity, Vec}
+use Rattle.std.specs.Prelude.{ℕ, ◌≡◌, ◌+◌, ◌*◌, ◌<◌, ◌≤◌, ◌++◌, Bool, true, false, List, length, max, vec_len, vec_capacity, Vec}
 use Rattle.std.specs.Global.{Global}
 
 -- the capacity leaves this many bytes after what is there
@@ -9,6 +9,15 @@ HasRoom output width = vec_len output + width ≤ vec_capacity output
 -- the capacity that one reservation of this many bytes makes: twice what it was, or what is needed if that is more
 abbrev pub grown_capacity : Vec ℕ Global → ℕ → ℕ
 grown_capacity output width = max (2 * vec_capacity output) (vec_len output + width)
+
+-- One reservation of this many bytes leads to the capacity: the same one where they fit or where the memory was refused,
+-- else what is needed, or twice what it was if that is more.
+pub record Reserves (output : Vec ℕ Global) (width capacity : ℕ) (is_refused : Bool) : Type 0 where
+  pub in_place : HasRoom output width → capacity ≡ vec_capacity output
+  pub grown : vec_capacity output ≤ capacity
+  pub bounded : capacity ≤ grown_capacity output width
+  pub doubled : is_refused ≡ false → vec_capacity output < vec_len output + width → grown_capacity output width ≤ capacity
+  pub refused : is_refused ≡ true → capacity ≡ vec_capacity output
 
 -- The text was appended, and the count is its length. The capacity is unchanged, so that the spare capacity shrinks by
 -- the bytes appended.

@@ -126,7 +126,7 @@ pub fn end_component<S: Sink, V: ComponentProvider>(
 /// A deprecated component has the text of the current one. Returns the number of bytes appended, or
 /// the refusal of the component, which has no bytes.
 #[inline]
-#[tactic(auto, using(crate::proofs::EndLemmas::answered, crate::proofs::GuaranteeLemmas::text_of_component))]
+#[tactic(auto, using(crate::proofs::EndLemmas::answered))]
 pub fn component_write_into<V: ComponentProvider>(
     component: &Component,
     output: &mut Vec<u8>,

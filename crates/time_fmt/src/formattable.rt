@@ -1,10 +1,10 @@
 //! Descriptions of a text.
-ghost use Rattle.std.specs.Prelude.{◌≡◌, ◌≢◌, ℕ, List, ◌+◌, ◌<◌, ◌≤◌, None, IsOk, OnOk, OnErr, IfOk, IfErr, IfSome, IsSome, IsSomeAnd, IsTrue, [], IsUtf8, string_bytes, vec_len, vec_capacity};
+ghost use Rattle.std.specs.Prelude.{◌≡◌, ◌≢◌, ℕ, List, ◌+◌, ◌<◌, ◌≤◌, None, IsOk, is_err, OnOk, IfOk, IfErr, IfSome, IsSome, IsSomeAnd, IsTrue, [], IsUtf8, string_bytes, vec_len, vec_capacity};
 ghost use Rattle.time_below.specs.Facts.{Facts};
-ghost use Rattle.time_fmt.specs.Outcome.{Outcome, Names, Appends, Adds};
+ghost use Rattle.time_fmt.specs.Outcome.{Outcome, Names, Appends, Adds, is_out_of_memory};
 ghost use Rattle.time_fmt.specs.Guarantee.{IsTextIf};
 ghost use Rattle.time_fmt.specs.Lossy.{lossy_text, IsRefusedOrText};
-ghost use Rattle.time_fmt.specs.Room.{HasRoom, grown_capacity};
+ghost use Rattle.time_fmt.specs.Room.{HasRoom, Reserves};
 
 mod engine;
 mod in_room;
@@ -88,21 +88,10 @@ pub trait Formattable: ComputeMetadata {
         ensures text { result ≢ Err Format.OutOfMemory
             → IsTextIf (Self.is_guaranteed self.now) (outcome_of self.now (V.facts value.now)) }
         ensures agrees { V.agrees state.new value.now }
-
-        // The capacity is unchanged if the width fits. Else it is what is needed or twice what it
-        // was, the greater of the two.
-        ensures in_place { HasRoom output.old (Self.width_of self.now)
-            → vec_capacity output.new ≡ vec_capacity output.old }
-        ensures grown { vec_capacity output.old ≤ vec_capacity output.new }
-        ensures bounded { vec_capacity output.new ≤ grown_capacity output.old (Self.width_of self.now) }
-        ensures doubled { result ≢ Err Format.OutOfMemory
-            → vec_capacity output.old < vec_len output.old + Self.width_of self.now
-            → grown_capacity output.old (Self.width_of self.now) ≤ vec_capacity output.new }
+        ensures reserves { Reserves output.old (Self.width_of self.now) (vec_capacity output.new) (is_out_of_memory result) }
 
         // `OutOfMemory` changes nothing, and is never returned if the width fits.
         ensures unchanged { result ≡ Err Format.OutOfMemory → output.new.items ≡ output.old.items }
-        ensures same_capacity { result ≡ Err Format.OutOfMemory
-            → vec_capacity output.new ≡ vec_capacity output.old }
         ensures same_state { result ≡ Err Format.OutOfMemory → state.new ≡ state.old }
         ensures too_wide { usize.MAX ≤ Self.width_of self.now → result ≡ Err Format.OutOfMemory }
         ensures room { HasRoom output.old (Self.width_of self.now)
@@ -173,13 +162,8 @@ pub fn make_room(output: &mut Vec<u8>, width: usize) -> Result<(), AllocError>
     ensures items { output.new.items ≡ output.old.items }
     ensures len { vec_len output.new ≡ vec_len output.old }
     ensures room { OnOk result (HasRoom output.new width) }
-    ensures in_place { HasRoom output.old width
-        → IsOk result × (vec_capacity output.new ≡ vec_capacity output.old) }
-    ensures grown { vec_capacity output.old ≤ vec_capacity output.new }
-    ensures bounded { vec_capacity output.new ≤ grown_capacity output.old width }
-    ensures refused { OnErr result (vec_capacity output.new ≡ vec_capacity output.old) }
-    ensures doubled { OnOk result (vec_capacity output.old < vec_len output.old + width
-        → grown_capacity output.old width ≤ vec_capacity output.new) }
+    ensures fits { HasRoom output.old width → IsOk result }
+    ensures reserves { Reserves output.old width (vec_capacity output.new) (is_err result) }
 {
     if width <= output.capacity() - output.len() {
         return Ok(());
@@ -196,10 +180,7 @@ fn grow(output: &mut Vec<u8>, width: usize) -> Result<(), AllocError>
     ensures items { output.new.items ≡ output.old.items }
     ensures len { vec_len output.new ≡ vec_len output.old }
     ensures room { OnOk result (HasRoom output.new width) }
-    ensures grown { vec_capacity output.old ≤ vec_capacity output.new }
-    ensures bounded { vec_capacity output.new ≤ grown_capacity output.old width }
-    ensures refused { OnErr result (vec_capacity output.new ≡ vec_capacity output.old) }
-    ensures doubled { OnOk result (grown_capacity output.old width ≤ vec_capacity output.new) }
+    ensures reserves { Reserves output.old width (vec_capacity output.new) (is_err result) }
 {
     let (len, capacity) = (output.len(), output.capacity());
     output.reserve_exact(width.max(capacity.saturating_add(capacity - len)))

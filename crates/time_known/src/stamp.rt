@@ -1,7 +1,7 @@
 //! Stamps: texts of moments whose bytes are in the order of the moments.
-ghost use Rattle.std.specs.Prelude.{◌≡◌, ◌≢◌, ◌↔◌, ◌++◌, ◌+◌, ◌<◌, ◌≤◌, codes, IsOk, IfOk, IfErr, OnErr, vec_len, vec_capacity};
-ghost use Rattle.time_fmt.specs.Outcome.{Names, invalid_component};
-ghost use Rattle.time_fmt.specs.Room.{HasRoom, grown_capacity};
+ghost use Rattle.std.specs.Prelude.{◌≡◌, ◌≢◌, ◌↔◌, ◌++◌, ◌+◌, codes, IsOk, IfOk, IfErr, OnErr, vec_len, vec_capacity};
+ghost use Rattle.time_fmt.specs.Outcome.{Names, invalid_component, is_out_of_memory};
+ghost use Rattle.time_fmt.specs.Room.{HasRoom, Reserves};
 ghost use Rattle.time_known.specs.Stamps.{HasStamp, IsStampYear, stamp_length, stamp_text, stamp_width};
 
 use crate::Iso8601;
@@ -30,18 +30,8 @@ pub fn stamp_into(output: &mut Vec<u8>, value: &UtcDateTime) -> Result<usize, Fo
         → Names e (invalid_component (codes "year"))) }
     ensures unchanged { OnErr result (output.new.items ≡ output.old.items) }
 
-    // The capacity is unchanged if the width fits. Else it grows to what is needed or is doubled.
-    ensures in_place { HasRoom output.old stamp_width
-        → vec_capacity output.new ≡ vec_capacity output.old }
-    ensures grown { vec_capacity output.old ≤ vec_capacity output.new }
-    ensures bounded { vec_capacity output.new ≤ grown_capacity output.old stamp_width }
-    ensures doubled { result ≢ Err Format.OutOfMemory
-        → vec_capacity output.old < vec_len output.old + stamp_width
-        → grown_capacity output.old stamp_width ≤ vec_capacity output.new }
-
-    // `OutOfMemory` leaves the capacity unchanged, and is never returned if the width fits.
-    ensures same_capacity { result ≡ Err Format.OutOfMemory
-        → vec_capacity output.new ≡ vec_capacity output.old }
+    // `OutOfMemory` is never returned if the width fits.
+    ensures reserves { Reserves output.old stamp_width (vec_capacity output.new) (is_out_of_memory result) }
     ensures room { HasRoom output.old stamp_width → result ≢ Err Format.OutOfMemory }
 {
     Iso8601::default().format_into(output, value, &mut DateState::default())

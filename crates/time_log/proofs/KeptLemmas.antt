@@ -33,6 +33,14 @@ pub for_new : (s : LogSettings) (m : Moment) (t u : Inside) (second : ℤ) (head
 for_new s m t u second head kept settings text year same =
     rw (same, ← settings) (record { settings = refl; fields = kept.fields; year = year; head = text })
 
+-- and it is that of its second
+pub kept_new : (m : Moment) (t u : Inside) (second : ℤ) (head : List ℕ) → IsKept t → second ≡ m.seconds
+    → head ≡ text_to_point (local_at m t.offset) → IsFourDigits (local_at m t.offset).date.year
+    → u ≡ record t { second = second; head = head } → IsKept u
+kept_new m t u second head kept at text year same =
+    rw (same, at)
+    (record { offset = kept.offset; fields = kept.fields; zone = kept.zone; length = kept.length; year = year; head = text })
+
 -- the text by what is kept
 pub text_for : (s : LogSettings) (m : Moment) (t : Inside) (old new : List ℕ) (nanosecond : ℕ) → IsFor s m t
     → nanosecond ≡ m.nanosecond

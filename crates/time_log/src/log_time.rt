@@ -1,8 +1,8 @@
 //! The times of the lines of one log.
-ghost use Rattle.std.specs.Prelude.{◌≡◌, ◌≢◌, ◌↔◌, ◌+◌, ◌<◌, ◌≤◌, ◌++◌, ◌+ℤ◌, pos, codes, nat_le, unsigned_abs, IsOk, IfOk, IfErr, OnErr, if◌then◌else◌, vec_len, vec_capacity};
+ghost use Rattle.std.specs.Prelude.{◌≡◌, ◌≢◌, ◌↔◌, ◌+◌, ◌<◌, ◌≤◌, ◌++◌, ◌+ℤ◌, pos, codes, nat_le, unsigned_abs, IsOk, is_err, IfOk, IfErr, OnErr, if◌then◌else◌, vec_len, vec_capacity};
 ghost use Rattle.time_below.specs.Offset.{offset_seconds, utc};
 ghost use Rattle.time_fmt.specs.Outcome.{Names, invalid_component};
-ghost use Rattle.time_fmt.specs.Room.{HasRoom, grown_capacity};
+ghost use Rattle.time_fmt.specs.Room.{HasRoom, Reserves};
 ghost use Rattle.time_log.specs.LogText.{HasLogText, IsLogOffset, log_length, log_text};
 
 use crate::decimals::Decimals;
@@ -131,16 +131,7 @@ impl LogTime {
         ensures named { IfErr result (λ e. e ≢ Format.OutOfMemory
             → Names e (invalid_component (codes "year"))) }
         ensures unchanged { OnErr result (output.new.items ≡ output.old.items) }
-        ensures same_capacity { OnErr result (vec_capacity output.new ≡ vec_capacity output.old) }
-
-        // The capacity is unchanged if the text fits. Else it grows to what is needed or is doubled.
-        ensures in_place { HasRoom output.old (log_length self.old)
-            → vec_capacity output.new ≡ vec_capacity output.old }
-        ensures grown { vec_capacity output.old ≤ vec_capacity output.new }
-        ensures bounded { vec_capacity output.new ≤ grown_capacity output.old (log_length self.old) }
-        ensures doubled { IfOk result (λ _.
-            vec_capacity output.old < vec_len output.old + log_length self.old
-            → grown_capacity output.old (log_length self.old) ≤ vec_capacity output.new) }
+        ensures reserves { Reserves output.old (log_length self.old) (vec_capacity output.new) (is_err result) }
         ensures room { HasRoom output.old (log_length self.old) → result ≢ Err Format.OutOfMemory }
     {
         let (second, nanosecond) = moment.as_parts();

@@ -146,7 +146,7 @@ impl<M: Modifier> Formattable for M {
     ghost outcome_of = { λ part. component_outcome (M.component_of part) };
 
     #[inline(always)]
-    #[tactic(auto, using(crate::proofs::EndLemmas::answered, crate::proofs::GuaranteeLemmas::text_of_component))]
+    #[tactic(auto, using(crate::proofs::EndLemmas::answered))]
     fn write_into<V: ComponentProvider>(
         &self,
         output: &mut Vec<u8>,

@@ -15,4 +15,4 @@ returns-in-Some-clause-ends g c =
     let current = c.current.ensures in
     let facts = g.V.ComponentProvider.facts c.args.value.now in
     let same = ap (λ d. current_outcome d facts) (ap current_component current.converted ∙ current_is_current c.args.component) in
-    ends_within (rw same at c.in-Some.ensures.writes.0) (rw (← current.converted) at (current_fits c.args.component))
+    ends_within {new = g.S.Sink.buffer c.write_current.new.output} (rw same at c.in-Some.ensures.writes.0) (rw (← current.converted) at (current_fits c.args.component))
