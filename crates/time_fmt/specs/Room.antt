@@ -1,5 +1,5 @@
 -- Spare capacity at the end of a vector of bytes, and what is written into it.
-use Rattle.std.specs.Prelude.{ℕ, ◌≡◌, ◌+◌, ◌*◌, ◌<◌, ◌≤◌, ◌++◌, Bool, true, false, List, length, max, vec_len, vec_capacity, Vec}
+use Rattle.std.specs.Prelude.{ℕ, ◌≡◌, ◌+◌, ◌*◌, ◌<◌, ◌≤◌, Bool, true, false, max, vec_len, vec_capacity, Vec}
 use Rattle.std.specs.Global.{Global}
 
 -- the capacity leaves this many bytes after what is there
@@ -18,11 +18,3 @@ pub record Reserves (output : Vec ℕ Global) (width capacity : ℕ) (is_refused
   pub bounded : capacity ≤ grown_capacity output width
   pub doubled : is_refused ≡ false → vec_capacity output < vec_len output + width → grown_capacity output width ≤ capacity
   pub refused : is_refused ≡ true → capacity ≡ vec_capacity output
-
--- The text was appended, and the count is its length. The capacity is unchanged, so that the spare capacity shrinks by
--- the bytes appended.
-pub record Writes (old new : Vec ℕ Global) (count : ℕ) (text : List ℕ) : Type 0 where
-  pub appended : new.items ≡ old.items ++ text
-  pub counted : count ≡ length text
-  pub grown : vec_len new ≡ vec_len old + length text
-  pub capacity : vec_capacity new ≡ vec_capacity old

@@ -3,7 +3,8 @@ ghost use Rattle.std.specs.Prelude.{◌≡◌, ◌+◌, ◌<◌, ◌≤◌, ◌+
 ghost use Rattle.time_below.specs.Moment.{IsMoment, IsNearTimestampSecond, IsTimestampSecond, moved, utc_date};
 ghost use Rattle.time_below.specs.Offset.{IsOffset, Offset};
 ghost use Rattle.time_below.specs.TimeOfDay.{time_at};
-ghost use Rattle.time_fmt.specs.Room.{HasRoom, Writes};
+ghost use Rattle.time_fmt.specs.Room.{HasRoom};
+ghost use Rattle.time_fmt.specs.Sink.{Puts, vec_buffer};
 ghost use Rattle.time_known.specs.Rfc3339.{rfc3339_outcome, time_secfrac_text};
 ghost use Rattle.time_known.specs.WellKnown.{clock_text, offset_text};
 ghost use Rattle.time_lines.specs.Day.{BeginsWithDay, IsDayText};
@@ -189,7 +190,7 @@ fn time_of(passed: i64, nanosecond: u32) -> Time
 fn push_each(output: &mut Vec<u8>, bytes: [u8; LENGTH])
     requires long { length bytes ≡ LENGTH }
     requires room { HasRoom output.old LENGTH }
-    ensures writes { Writes output.old output.new LENGTH bytes }
+    ensures writes { Puts (vec_buffer output.old) (vec_buffer output.new) LENGTH bytes }
 {
     for byte in bytes {
         output.push_reserved(byte);

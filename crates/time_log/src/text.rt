@@ -2,7 +2,8 @@
 ghost use Rattle.std.specs.Prelude.{◌≡◌, ◌+◌, ◌++◌, codes, length};
 ghost use Rattle.time_below.specs.Offset.{is_utc};
 ghost use Rattle.time_fmt.specs.Decimals.{decimals as decimals_of};
-ghost use Rattle.time_fmt.specs.Room.{HasRoom, Writes};
+ghost use Rattle.time_fmt.specs.Room.{HasRoom};
+ghost use Rattle.time_fmt.specs.Sink.{Puts, vec_buffer};
 ghost use Rattle.time_log.specs.LogText.{digits_of, zone_length};
 ghost use Rattle.time_known.specs.WellKnown.{offset_text};
 
@@ -24,7 +25,7 @@ pub(crate) fn append_text(
 )
     requires head { length head.now ≡ LENGTH }
     requires room { HasRoom output.old (LENGTH + digits_of decimals + zone_length (is_utc offset.now)) }
-    ensures writes { Writes output.old output.new
+    ensures writes { Puts (vec_buffer output.old) (vec_buffer output.new)
         (LENGTH + digits_of decimals + length (offset_text (codes ":") offset.now))
         (head.now ++ decimals_of nanosecond 1_000_000_000 (digits_of decimals)
         ++ offset_text (codes ":") offset.now) }
@@ -42,7 +43,7 @@ pub(crate) fn append_text(
 fn push_each(output: &mut Vec<u8>, bytes: [u8; LENGTH])
     requires long { length bytes ≡ LENGTH }
     requires room { HasRoom output.old LENGTH }
-    ensures writes { Writes output.old output.new LENGTH bytes }
+    ensures writes { Puts (vec_buffer output.old) (vec_buffer output.new) LENGTH bytes }
 {
     for byte in bytes {
         output.push_reserved(byte);

@@ -1,7 +1,8 @@
 //! The offset at the end of a text.
 ghost use Rattle.std.specs.Prelude.{◌≡◌, codes, if◌then◌else◌, length};
 ghost use Rattle.time_below.specs.Offset.{is_utc};
-ghost use Rattle.time_fmt.specs.Room.{HasRoom, Writes};
+ghost use Rattle.time_fmt.specs.Room.{HasRoom};
+ghost use Rattle.time_fmt.specs.Sink.{Puts, vec_buffer};
 ghost use Rattle.time_log.specs.LogText.{zone_length};
 ghost use Rattle.time_known.specs.WellKnown.{offset_text};
 
@@ -20,7 +21,7 @@ pub(crate) fn zone_len(offset: UtcOffset) -> usize
 #[inline(always)]
 pub(crate) fn put_zone(output: &mut Vec<u8>, offset: &OffsetFields)
     requires room { HasRoom output.old (zone_length (is_utc offset.now)) }
-    ensures writes { Writes output.old output.new (length (offset_text (codes ":") offset.now))
+    ensures writes { Puts (vec_buffer output.old) (vec_buffer output.new) (length (offset_text (codes ":") offset.now))
         (offset_text (codes ":") offset.now) }
 {
     if offset.is_utc() {
