@@ -1,14 +1,14 @@
 -- A completed text spells the value whose groups were formatted.
-use Rattle.std.proofs.Common.{◌≡◌, sym, ap, ◌∙◌, Some, None}
+use Rattle.std.proofs.Common.{◌≡◌, true, sym, ap, ◌∙◌, Some, None}
 use Rattle.time_fmt.specs.Outcome.{Outcome}
 use Rattle.time_provide.specs.Real.{AreReal, date_in}
+use Rattle.time_known.specs.Groups.{has_groups, all_groups, at_groups}
 use Rattle.time_known.specs.Laws.{IsValue, CompletedAreCanonical}
 use Rattle.time_known.specs.ReadBack.{ReadsAs}
 use Rattle.time_known.specs.Rules.{Rule}
 use Rattle.time_known.specs.Values.{Facts, DateFacts, date_facts, the_date, the_time, the_offset, OffsetDateAndTime}
 use Rattle.time_known.specs.Values.{Offset, TimeOfDay}
-use Rattle.time_known.specs.WellKnown.{of_all_groups}
-use Rattle.time_known.proofs.GroupLemmas.{HasAll, some_group_or, outcome_of_all}
+use Rattle.time_known.proofs.GroupLemmas.{some_group_or, has_all}
 use Rattle.time_known.proofs.OutcomeLemmas.{completed_by_bytes}
 
 -- the groups of a value that is real are those of a local date, a time and an offset, and a completed
@@ -16,15 +16,15 @@ use Rattle.time_known.proofs.OutcomeLemmas.{completed_by_bytes}
 pub reads_as : {kept : OffsetDateAndTime → OffsetDateAndTime} {Spells Canonical : OffsetDateAndTime → Rule}
     (of_groups : DateFacts → TimeOfDay → Offset → Outcome)
     → CompletedAreCanonical IsValue (λ v. of_groups (date_facts v.date) v.time v.offset) kept Spells Canonical
-    → (f : Facts) → HasAll f → AreReal f
-    → (of_all_groups f of_groups).refusal ≡ None
-    → ReadsAs kept Spells Canonical f (of_all_groups f of_groups).bytes
-reads_as of_groups law f all real complete =
-    let outcome = of_all_groups f of_groups in
+    → (f : Facts) → has_groups all_groups f ≡ true → AreReal f → (at_groups of_groups f).refusal ≡ None
+    → ReadsAs kept Spells Canonical f (at_groups of_groups f).bytes
+reads_as of_groups law f there real complete =
+    let all = has_all f there in
+    let outcome = at_groups of_groups f in
     let value : OffsetDateAndTime = record { date = date_in (the_date f); time = the_time f; offset = the_offset f } in
     let fits : IsValue value = record { date = real.date.date; time = real.time; offset = real.offset } in
     let same : of_groups (date_facts value.date) value.time value.offset ≡ outcome =
-    ap (λ d. of_groups d value.time value.offset) (sym real.date.components) ∙ sym (outcome_of_all f all of_groups) in
+    ap (λ d. of_groups d value.time value.offset) (sym real.date.components) in
     let read = law.completed outcome.bytes value fits (same ∙ completed_by_bytes outcome complete) in
     record {
       value = value;

@@ -9,7 +9,8 @@ use Rattle.time_below.specs.Moment.{DateAndTime}
 use Rattle.time_fmt.specs.Outcome.{Outcome, Refusal, Adds, Names, refused, invalid_component}
 use Rattle.time_fmt.specs.declared.error.Format.{Format}
 use Rattle.time_fmt.specs.declared.error.Format.TheVariants as error
-use Rattle.time_known.specs.Config.{default_choices}
+use Rattle.time_known.specs.Config.{Choices, default_choices}
+use Rattle.time_known.specs.Iso8601.{iso8601_outcome}
 use Rattle.time_known.specs.Iso8601Grammar.{iso8601_reads_as}
 use Rattle.time_known.specs.Stamps.{stamp_of, stamp_text, stamp_length, IsStampYear, HasStamp}
 use Rattle.time_known.proofs.OutcomeLemmas.{year_is_within}
@@ -21,10 +22,11 @@ use Rattle.std.proofs.lemmas.Grind.{common_steps}
 abbrev pub no_memory : Result ℕ Format
 no_memory = Err error.OutOfMemory
 
--- what the call says of its answer
-pub record Answered (old new : Vec ℕ Global) (answer : Result ℕ Format) (v : DateAndTime) : Type 0 where
-  pub appends : answer ≢ no_memory → Adds old new answer (stamp_of v)
-  pub spelled : IfOk answer (λ _. iso8601_reads_as default_choices (facts_of_utc_date_time v) (stamp_text v))
+-- what the call by these choices says of its answer
+pub record Answered (c : Choices) (old new : Vec ℕ Global) (answer : Result ℕ Format) (v : DateAndTime) : Type 0 where
+  pub appends : answer ≢ no_memory → Adds old new answer (iso8601_outcome c (facts_of_utc_date_time v))
+  pub spelled : IfOk answer (λ _. iso8601_reads_as c (facts_of_utc_date_time v)
+      (iso8601_outcome c (facts_of_utc_date_time v)).bytes)
   pub unchanged : answer ≡ no_memory → new.items ≡ old.items
 
 -- ---- dates and times
@@ -67,7 +69,8 @@ pub record IsStamped (old new : Vec ℕ Global) (answer : Result ℕ Format) (v 
   pub named : IfErr answer (λ e. e ≢ error.OutOfMemory → Names e (invalid_component (codes "year")))
   pub unchanged : OnErr answer (new.items ≡ old.items)
 
-pub is_stamped : {old new : Vec ℕ Global} (answer : Result ℕ Format) {v : DateAndTime} → Answered old new answer v
+pub is_stamped : {old new : Vec ℕ Global} (answer : Result ℕ Format) {v : DateAndTime}
+    → Answered default_choices old new answer v
     → IsStamped old new answer v
 is_stamped {old} (Ok n) {v = v} a =
     let adds = a.appends (λ e. cc) in

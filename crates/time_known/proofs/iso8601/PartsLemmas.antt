@@ -1,17 +1,21 @@
 -- The parts that are written, one after another, give the outcome and the width of the choices.
-use Rattle.std.proofs.Common.{◌≡◌, ◌≢◌, ℕ, [], arith, None, true}
+use Rattle.std.proofs.Common.{◌≡◌, ◌≢◌, ℕ, ◌+◌, true, [], append_assoc, length-append, arith, Result, Ok, Vec}
+use Rattle.std.specs.Global.{Global}
+use Rattle.std.proofs.lemmas.Grind.{common_steps}
 use Rattle.std.proofs.lemmas.List.{append-nil}
-use Rattle.time_fmt.specs.Outcome.{Outcome, done, join}
+use Rattle.time_fmt.specs.declared.error.Format.{Format}
+use Rattle.time_fmt.specs.Outcome.{AppendsUpTo, Outcome, done, join}
+use Rattle.time_fmt.specs.Sink.{Buffer}
+use Rattle.time_known.specs.Accepted.{PutsOutcome}
 use Rattle.time_known.specs.Config.{Choices, groups_of, FormattedComponents}
-use Rattle.time_known.specs.Groups.{has_groups}
-use Rattle.time_known.specs.Iso8601.{iso8601_outcome, iso8601_outcome_of, iso_date}
-use Rattle.time_known.specs.Iso8601Parts.{date_of_parts, date_parts_width, AreOfDate, parts_text, parts_width}
+use Rattle.time_known.specs.Groups.{has_groups, at_groups}
+use Rattle.time_known.specs.Iso8601.{iso8601_outcome, iso8601_outcome_of, iso_of_groups, iso_date, iso_time}
+use Rattle.time_known.specs.Iso8601Parts.{date_of_parts, date_parts_width, AreOfDate}
 use Rattle.time_known.specs.Iso8601Width.{iso8601_width, iso8601_width_of, iso_date_width}
-use Rattle.time_known.specs.Values.{Facts, DateFacts}
+use Rattle.time_known.specs.Values.{Facts, DateFacts, Offset, TimeOfDay}
+use Rattle.time_known.specs.declared.accepted.OutOfRange.{OutOfRange}
 use Rattle.time_known.specs.declared.iso8601.config.FormattedComponents.TheVariants as components
 use Rattle.time_known.specs.declared.iso8601.parts.DateParts.{DateParts}
-use Rattle.time_known.proofs.GroupLemmas.{HasNeeded, has_needed, of_supplied}
-use Rattle.std.proofs.lemmas.Grind.{common_steps}
 
 -- ---- dates
 
@@ -22,23 +26,41 @@ by_date c d p Holds parts h = rw (← parts.year, ← parts.text c, ← parts.wi
 
 -- ---- all parts
 
+-- parts that are written give the outcome, where their groups are supplied
+pub outcome_is : (c : Choices) (f : Facts) → c.formatted_components ≢ components.None
+    → has_groups (groups_of c.formatted_components) f ≡ true
+    → iso8601_outcome c f ≡ at_groups (iso_of_groups c.formatted_components c) f
+outcome_is c f some there = grind (arith, common_steps)
+
+-- three parts that are put, one after another, of which the last alone may be refused
+pub puts_three : {i j k : ℕ} {old mid last new : Buffer} {answer : Result Unit OutOfRange} {d t o : Outcome}
+    → PutsOutcome i old mid (Ok tt) d → PutsOutcome j mid last (Ok tt) t → PutsOutcome k last new answer o
+    → PutsOutcome (i + j + k) old new answer (join d (join t o))
+puts_three p q r = grind (arith, common_steps, append_assoc, length-append)
+
+-- ---- some parts
+
 -- an empty text after an outcome changes nothing
 join_with_nothing : (o : Outcome) → join o (done []) ≡ o
 join_with_nothing o = grind (arith, common_steps, append-nil)
 
--- the outcome of a value with the groups that are needed joins its parts
-text_by : (parts : FormattedComponents) (c : Choices) (f : Facts) → HasNeeded (groups_of parts) f
-    → parts ≢ components.None → iso8601_outcome_of parts c f ≡ parts_text parts c f
-text_by parts c f h k = grind (arith, common_steps, of_supplied, join_with_nothing, append-nil)
+-- a date or a time alone, and both without an offset
+pub date_alone : (c : Choices) (d : DateFacts) (t : TimeOfDay) (o : Offset) → iso_of_groups components.Date c d t o ≡ iso_date c d
+date_alone c d t o = grind (arith, common_steps, join_with_nothing)
 
--- the parts have the width of the text
-pub width_by : (parts : FormattedComponents) (c : Choices) → parts ≢ components.None
-    → parts_width parts c ≡ iso8601_width_of parts c
-width_by parts c h = grind (arith, common_steps)
+pub time_alone : (c : Choices) (d : DateFacts) (t : TimeOfDay) (o : Offset) → iso_of_groups components.Time c d t o ≡ iso_time c t
+time_alone c d t o = grind (arith, append-nil)
 
--- what holds of the width and the text of the parts holds of those of the choices
-pub by_parts : (c : Choices) (f : Facts) (Holds : ℕ → Outcome → Type 0)
-    → has_groups (groups_of c.formatted_components) f ≡ true → c.formatted_components ≢ components.None
-    → Holds (parts_width c.formatted_components c) (parts_text c.formatted_components c f)
-    → Holds (iso8601_width c) (iso8601_outcome c f)
-by_parts c f Holds there some h = grind (arith, text_by, has_needed, width_by)
+pub date_and_time : (c : Choices) (d : DateFacts) (t : TimeOfDay) (o : Offset)
+    → iso_of_groups components.DateTime c d t o ≡ join (iso_date c d) (iso_time c t)
+date_and_time c d t o = grind (arith, append-nil)
+
+-- what is appended by the parts that are chosen is appended by the choices
+pub by_choice : {old new : Vec ℕ Global} {answer : Result ℕ Format} (c : Choices) (f : Facts)
+    (parts : FormattedComponents) → c.formatted_components ≡ parts
+    → AppendsUpTo (iso8601_width_of parts c) old new answer (iso8601_outcome_of parts c f)
+    → AppendsUpTo (iso8601_width c) old new answer (iso8601_outcome c f)
+by_choice c f parts e h = grind arith
+
+-- some parts, written by a function of their own
+pub ruleset some_parts = (date_alone, time_alone, date_and_time, by_choice)

@@ -1,4 +1,6 @@
-use Rattle.time_known.proofs.StampAnswerLemmas.{IsStamped, is_stamped}
+use Rattle.std.proofs.Common.{subst}
+use Rattle.time_known.specs.Config.{Choices}
+use Rattle.time_known.proofs.StampAnswerLemmas.{Answered, IsStamped, is_stamped}
 use Rattle.time_known.proofs.stamp.stamp_into.Goals as goal
 use Rattle.time_known.proofs.stamp.stamp_into.Goals.{After-format_into}
 
@@ -6,8 +8,9 @@ use Rattle.time_known.proofs.stamp.stamp_into.Goals.{After-format_into}
 said : (c : After-format_into)
     → IsStamped c.args.output.now c.format_into.new.output c.format_into.result c.args.value.now
 said c =
-    let e = rw c.default.ensures at c.format_into.ensures in
-    is_stamped _ (record { appends = e.appends; spelled = e.spelled; unchanged = e.unchanged })
+    let e = c.format_into.ensures in
+    is_stamped _ (subst (λ (k : Choices). Answered k c.args.output.now c.format_into.new.output c.format_into.result
+    c.args.value.now) c.default.ensures (record { appends = e.appends; spelled = e.spelled; unchanged = e.unchanged }))
 
 pub returns-clause-length : goal.returns-clause-length
 returns-clause-length c = (said (goal.at.returns-clause-length c).After-format_into).length
