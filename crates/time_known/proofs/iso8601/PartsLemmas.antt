@@ -1,17 +1,15 @@
 -- The parts that are written, one after another, give the outcome and the width of the choices.
-use Rattle.std.proofs.Common.{◌≡◌, ◌≢◌, ℕ, ◌+◌, true, [], append_assoc, length-append, arith, Result, Ok, Vec}
-use Rattle.std.specs.Global.{Global}
+use Rattle.std.proofs.Common.{◌≡◌, ◌≢◌, ℕ, ◌+◌, true, [], append_assoc, length-append, arith, Result, Ok}
 use Rattle.std.proofs.lemmas.Grind.{common_steps}
 use Rattle.std.proofs.lemmas.List.{append-nil}
-use Rattle.time_fmt.specs.declared.error.Format.{Format}
-use Rattle.time_fmt.specs.Outcome.{AppendsUpTo, Outcome, done, join}
+use Rattle.time_fmt.specs.Outcome.{Outcome, done, join}
 use Rattle.time_fmt.specs.Sink.{Buffer}
 use Rattle.time_known.specs.Accepted.{PutsOutcome}
-use Rattle.time_known.specs.Config.{Choices, groups_of, FormattedComponents}
+use Rattle.time_known.specs.Config.{Choices, groups_of}
 use Rattle.time_known.specs.Groups.{has_groups, at_groups}
-use Rattle.time_known.specs.Iso8601.{iso8601_outcome, iso8601_outcome_of, iso_of_groups, iso_date, iso_time}
+use Rattle.time_known.specs.Iso8601.{iso8601_outcome, iso_of_groups, iso_date, iso_time}
 use Rattle.time_known.specs.Iso8601Parts.{date_of_parts, date_parts_width, AreOfDate}
-use Rattle.time_known.specs.Iso8601Width.{iso8601_width, iso8601_width_of, iso_date_width}
+use Rattle.time_known.specs.Iso8601Width.{iso_date_width}
 use Rattle.time_known.specs.Values.{Facts, DateFacts, Offset, TimeOfDay}
 use Rattle.time_known.specs.declared.accepted.OutOfRange.{OutOfRange}
 use Rattle.time_known.specs.declared.iso8601.config.FormattedComponents.TheVariants as components
@@ -55,12 +53,5 @@ pub date_and_time : (c : Choices) (d : DateFacts) (t : TimeOfDay) (o : Offset)
     → iso_of_groups components.DateTime c d t o ≡ join (iso_date c d) (iso_time c t)
 date_and_time c d t o = grind (arith, append-nil)
 
--- what is appended by the parts that are chosen is appended by the choices
-pub by_choice : {old new : Vec ℕ Global} {answer : Result ℕ Format} (c : Choices) (f : Facts)
-    (parts : FormattedComponents) → c.formatted_components ≡ parts
-    → AppendsUpTo (iso8601_width_of parts c) old new answer (iso8601_outcome_of parts c f)
-    → AppendsUpTo (iso8601_width c) old new answer (iso8601_outcome c f)
-by_choice c f parts e h = grind arith
-
 -- some parts, written by a function of their own
-pub ruleset some_parts = (date_alone, time_alone, date_and_time, by_choice)
+pub ruleset some_parts = (date_alone, time_alone, date_and_time)

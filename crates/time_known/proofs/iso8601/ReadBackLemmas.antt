@@ -7,7 +7,7 @@ use Rattle.time_fmt.specs.Outcome.{Outcome, Appends}
 use Rattle.time_known.specs.Config.{Choices, groups_of}
 use Rattle.time_known.specs.Values.{Facts}
 use Rattle.time_known.specs.Groups.{has_groups, at_groups}
-use Rattle.time_known.specs.Iso8601.{iso_of_groups, iso8601_outcome, iso8601_outcome_of}
+use Rattle.time_known.specs.Iso8601.{iso_of_groups, iso8601_outcome}
 use Rattle.time_known.specs.Iso8601Parts.{IsRealWhole}
 use Rattle.time_known.specs.Iso8601Grammar.{Iso8601Spells, IsCanonicalIso8601, iso8601_reads_as}
 use Rattle.time_known.specs.ReadBack.{ReadsAs}
@@ -23,7 +23,7 @@ iso8601_reads : (c : Choices) (f : Facts) → has_groups (groups_of c.formatted_
 iso8601_reads c f there real complete w =
     let all = ap (λ parts. has_groups (groups_of parts) f) (sym w.components) ∙ there in
     let same : iso8601_outcome c f ≡ at_groups (iso_of_groups components.DateTimeOffset c) f =
-    ap (λ parts. iso8601_outcome_of parts c f) w.components ∙ rw all refl in
+    rw (w.components, all) refl in
     let read = reads_as (iso_of_groups components.DateTimeOffset c) (completed_are_canonical (joined_is_written c w)) f all
     (real w.components) (sym (ap (λ (x : Outcome). x.refusal) same) ∙ complete) in
     subst (λ (x : Outcome). ReadsAs (λ v. v) (Iso8601Spells c) (IsCanonicalIso8601 c) f x.bytes) (sym same) read
