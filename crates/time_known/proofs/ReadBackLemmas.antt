@@ -1,5 +1,7 @@
 -- A completed text spells the value whose groups were formatted.
-use Rattle.std.proofs.Common.{◌≡◌, true, sym, ap, ◌∙◌, Some, None}
+use Rattle.std.proofs.Common.{◌≡◌, true, sym, ap, ◌∙◌, Some, None, arith}
+use Rattle.std.proofs.lemmas.Bool.{and_parts}
+use Rattle.std.proofs.lemmas.Grind.{common_steps}
 use Rattle.time_fmt.specs.Outcome.{Outcome}
 use Rattle.time_provide.specs.Real.{AreReal, date_in}
 use Rattle.time_known.specs.Groups.{has_groups, all_groups, at_groups}
@@ -8,8 +10,17 @@ use Rattle.time_known.specs.ReadBack.{ReadsAs}
 use Rattle.time_known.specs.Rules.{Rule}
 use Rattle.time_known.specs.Values.{Facts, DateFacts, date_facts, the_date, the_time, the_offset, OffsetDateAndTime}
 use Rattle.time_known.specs.Values.{Offset, TimeOfDay}
-use Rattle.time_known.proofs.GroupLemmas.{some_group_or, has_all}
 use Rattle.time_known.proofs.OutcomeLemmas.{completed_by_bytes}
+
+-- a date, a time and an offset are there
+record HasAll (f : Facts) : Type 0 where
+  date : f.date ≡ Some (the_date f)
+  time : f.time ≡ Some (the_time f)
+  offset : f.offset ≡ Some (the_offset f)
+
+-- they are, where all are needed and none is missing
+has_all : (f : Facts) → has_groups all_groups f ≡ true → HasAll f
+has_all f h = grind (arith, common_steps, and_parts)
 
 -- the groups of a value that is real are those of a local date, a time and an offset, and a completed
 -- text spells them
@@ -29,9 +40,9 @@ reads_as of_groups law f there real complete =
     record {
       value = value;
       fits = fits;
-      date = some_group_or _ f.date all.date ∙ ap Some real.date.components;
-      time = some_group_or _ f.time all.time;
-      offset = some_group_or _ f.offset all.offset;
+      date = all.date ∙ ap Some real.date.components;
+      time = all.time;
+      offset = all.offset;
       spelled = read.0;
       canonical = read.1;
     }

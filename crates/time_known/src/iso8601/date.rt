@@ -138,6 +138,7 @@ pub(super) fn put_date_part<S: Sink, V: ComponentProvider>(
 
 // Puts the value's date.
 #[inline(always)]
+#[tactic(auto, using(crate::proofs::iso8601::PartsLemmas::by_date))]
 fn put_date<S: Sink, V: ComponentProvider>(
     output: &mut S,
     config: &Config,

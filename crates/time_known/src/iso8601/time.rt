@@ -123,7 +123,8 @@ fn put_time<S: Sink, const IS_ALONE: bool>(
     put_units::<S, IS_ALONE>(output, config, time);
 }
 
-// Puts the whole units down to the precision, and decimals of the last one.
+// Puts the whole units down to the precision, and decimals of the last one. Those of a time alone are a function of their
+// own too.
 #[inline(always)]
 fn put_units<S: Sink, const IS_ALONE: bool>(output: &mut S, config: &Config, time: Time)
     requires room { Fits (S.buffer output.old)
