@@ -25,11 +25,3 @@ returns-in-Ok g c =
       text = λ _. rfc3339_utf8 f;
       agrees = search rules;
     }
-
-pub returns-in-Err-clause-appends : goal.returns-in-Err-clause-appends
-returns-in-Err-clause-appends g c =
-    let value = c.args.value.now in
-    let f = g.V.ComponentProvider.facts value in
-    let all = c.are_supplied_by.ensures.there value ∙ c.if-not-are_supplied_by.false in
-    rw (all, c.in-Err.ensures.refused (at_groups rfc3339_text f))
-    (appends_nothing _ _ _ c.name.ensures)
