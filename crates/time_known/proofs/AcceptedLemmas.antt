@@ -1,10 +1,12 @@
 -- Formats that have a place for each hour of an offset, and what the usual texts of ISO 8601 have a place for.
-use Rattle.std.proofs.Common.{◌≡◌, ℕ, ◌≤◌, Bool, true, false, List, refl, arith, ℤ, unsigned_abs, nat_lt, Option, Some}
+use Rattle.std.proofs.Common.{◌≡◌, ℕ, ◌≤◌, Bool, true, false, List, refl, arith, ℤ, unsigned_abs, nat_lt, Option, Some, Result, Vec}
+use Rattle.std.specs.Global.{Global}
+use Rattle.time_fmt.specs.declared.error.Format.{Format}
 use Rattle.std.proofs.lemmas.Bool.Decides.{nat_tests}
 use Rattle.std.proofs.lemmas.Grind.{common_steps}
 use Rattle.std.specs.Prelude.{codes, if◌then◌else◌}
 use Rattle.time_below.specs.Offset.{is_utc}
-use Rattle.time_fmt.specs.Outcome.{done, refused, join, invalid_component}
+use Rattle.time_fmt.specs.Outcome.{AppendsUpTo, done, refused, join, invalid_component}
 use Rattle.time_known.specs.Accepted.{checked_text, component_name, refused_for}
 use Rattle.time_known.specs.Config.{Choices, DecimalSign, DateKind}
 use Rattle.time_known.specs.Iso8601.{iso_of_groups, year_of_kind}
@@ -60,3 +62,9 @@ pub usual_refused : (digits : Option ℕ) (sign : DecimalSign) (d : DateFacts) (
     → (iso_of_groups components.DateTimeOffset (usual_choices true digits sign) d t o).refusal
     ≡ Some (invalid_component (component_name component))
 usual_refused digits sign d t o text component hour e = grind (arith, refusal_is, no_seconds, any_hour)
+
+-- what is appended by one value is appended by any that is equal
+pub appended_as : {A : Type 0} {a b : A} {width : ℕ} {old new : Vec ℕ Global} {answer : Result ℕ Format}
+    (text : A → List ℕ) → a ≡ b → AppendsUpTo width old new answer (done (text a))
+    → AppendsUpTo width old new answer (done (text b))
+appended_as text e w = grind arith

@@ -1,6 +1,6 @@
 use Rattle.std.proofs.Common.{subst}
 use Rattle.time_known.specs.Config.{Choices}
-use Rattle.time_known.proofs.StampAnswerLemmas.{Answered, IsStamped, is_stamped}
+use Rattle.time_known.proofs.StampLemmas.{Answered, IsStamped, is_stamped}
 use Rattle.time_known.proofs.stamp.stamp_into.Goals as goal
 use Rattle.time_known.proofs.stamp.stamp_into.Goals.{After-format_into}
 
