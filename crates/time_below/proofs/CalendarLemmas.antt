@@ -1,6 +1,6 @@
 -- The calendar on numbers that are not negative: years and days are counted from -999999-01-01.
 use Rattle.std.proofs.Common.{◌≡◌, ℕ, ◌+◌, ◌-◌, ◌*◌, ◌/◌, ◌%◌, ◌<◌, ◌≤◌, refl, ap, arith, ℤ}
-use Rattle.std.proofs.Common.{pos, ◌+ℤ◌, ◌-ℤ◌, ◌*ℤ◌, unsigned_abs, to_z-of_z}
+use Rattle.std.proofs.Common.{pos, ◌+ℤ◌, ◌-ℤ◌, unsigned_abs, to_z-of_z}
 use Rattle.std.proofs.lemmas.Int.{ints}
 use Rattle.std.specs.Int.{int_div_euclid, int_rem_euclid}
 use Rattle.time_below.specs.Calendar.{OrdinalDate, day_number, days_in_year, weekday_of, date_at, thursday_of}
@@ -11,12 +11,6 @@ use Rattle.std.proofs.lemmas.Grind.{common_steps}
 -- the days of n years of the calendar that begin where 400 years begin
 abbrev pub days_of_years : ℕ → ℕ
 days_of_years n = 365 * n + n / 4 - n / 100 + n / 400
-
--- the closed form over the years that are past
-abbrev past_days : ℤ → ℤ
-past_days p =
-    pos 365 *ℤ p +ℤ int_div_euclid p (pos 4) -ℤ int_div_euclid p (pos 100) +ℤ int_div_euclid p
-    (pos 400)
 
 -- the day number of a date, by the days from the start
 pub day_number_from_start : (d : OrdinalDate) (n : ℕ) → d.year +ℤ pos greatest_year ≡ pos n

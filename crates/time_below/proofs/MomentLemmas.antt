@@ -181,3 +181,6 @@ pub only_local_at : (m : Moment) (t : OffsetDateAndTime) → IsDate t.date → I
 only_local_at m t h r seconds nanosecond =
     at_same_offset t.date _ t.time _ t.offset
     (only_utc (moved m t.offset) (record { date = t.date; time = t.time }) h r (more_offset _ m.seconds _ seconds) nanosecond)
+
+-- what the laws of moments say
+pub ruleset laws_of_moments = (unix_seconds-utc, only_utc, local_unix_seconds-local_at, only_local_at)

@@ -1,25 +1,13 @@
 -- The signs of an offset's parts.
 use Rattle.std.proofs.Common.{◌≡◌, ℕ, ◌+◌, ◌<◌, ◌≤◌, ◌⊎◌, inl, inr, Bool, true, false, refl}
-use Rattle.std.proofs.Common.{ap, arith, ℤ, pos, neg_ℤ, ◌+ℤ◌, ◌*ℤ◌, ◌<ℤ◌, ◌≤ℤ◌, unsigned_abs, sym, ◌∙◌}
+use Rattle.std.proofs.Common.{ap, arith, ℤ, pos, neg_ℤ, ◌+ℤ◌, ◌*ℤ◌, ◌<ℤ◌, ◌≤ℤ◌, unsigned_abs}
 use Rattle.std.specs.Prelude.{int_lt, ◌||◌}
 use Rattle.std.proofs.lemmas.Bool.{cases_lt}
 use Rattle.std.proofs.lemmas.Bool.Decides.{nat_tests}
 use Rattle.std.proofs.lemmas.Int.{ints, by_lt_z}
-use Rattle.time_below.specs.Offset.{Offset, AreOffsetParts, HasNoOtherSign, IsOffset, Settles, signed_like, settled}
+use Rattle.time_below.specs.Offset.{Offset, AreOffsetParts, HasNoOtherSign, IsOffset}
 use Rattle.time_below.specs.Offset.{is_negative, is_utc, signed, signed_offset, utc, offset_of_seconds, offset_seconds}
 use Rattle.std.proofs.lemmas.Grind.{common_steps}
-
--- a part takes the sign of a first part above zero
-like_positive : (lead x : ℤ) → pos 0 <ℤ lead → signed_like lead x ≡ pos (unsigned_abs x)
-like_positive lead x h = grind (arith, ints)
-
--- a part takes the sign of a first part below zero
-like_negative : (lead x : ℤ) → lead <ℤ pos 0 → signed_like lead x ≡ neg_ℤ (pos (unsigned_abs x))
-like_negative lead x h = grind (arith, ints)
-
--- a first part of zero leaves a part unchanged
-like_zero : (lead x : ℤ) → lead ≡ pos 0 → signed_like lead x ≡ x
-like_zero lead x e = rw e refl
 
 -- two parts that are not below zero have one sign
 parts_above_zero_have_one_sign : (y z : ℤ) (a b : ℕ) → y ≡ pos a → z ≡ pos b → HasNoOtherSign y z
@@ -34,67 +22,14 @@ for_each_sign : (P : Type 0) (lead : ℤ) → (pos 0 <ℤ lead → P) → (lead 
     → (lead ≡ pos 0 → P) → P
 for_each_sign P lead above below at_zero = grind (arith, by_lt_z, ints)
 
--- a part that takes the sign of another has not the other sign
-no_other_sign : (lead x : ℤ) → HasNoOtherSign lead (signed_like lead x)
-no_other_sign lead x = grind (arith, ints, like_positive, like_negative)
-
 -- a number and its negative have one size
 size_negated : (n : ℕ) → unsigned_abs (neg_ℤ (pos n)) ≡ n
 size_negated n = grind (arith, common_steps)
-
--- a part that takes the sign of another keeps its size
-size_kept : (lead x : ℤ) → unsigned_abs (signed_like lead x) ≡ unsigned_abs x
-size_kept lead x = grind (arith, for_each_sign, like_positive, like_negative, size_negated, like_zero)
-
--- two parts that take the sign of a third have no opposite signs
-no_other_sign_among : (h m s : ℤ)
-    → HasNoOtherSign (signed_like h m) (signed_like h (signed_like m s))
-no_other_sign_among h m s =
-    for_each_sign (HasNoOtherSign (signed_like h m) (signed_like h (signed_like m s))) h
-    (λ k. parts_above_zero_have_one_sign _ _ (unsigned_abs m) (unsigned_abs (signed_like m s)) (like_positive h m k)
-    (like_positive h (signed_like m s) k))
-    (λ k. parts_below_zero_have_one_sign _ _ (unsigned_abs m) (unsigned_abs (signed_like m s)) (like_negative h m k)
-    (like_negative h (signed_like m s) k))
-    (λ k. rw k (no_other_sign m s))
-
--- parts in their ranges settle to an offset
-IsOffset-settled : (h m s : ℤ) → AreOffsetParts h m s → IsOffset (settled h m s)
-IsOffset-settled h m s parts = grind (arith, common_steps, size_kept, no_other_sign, no_other_sign_among)
-
--- the settled parts keep their sizes and the first sign, and none has the other sign
-pub Settles-settled : (h m s : ℤ) → Settles h m s (settled h m s)
-Settles-settled h m s = grind (arith, common_steps, size_kept, like_zero, no_other_sign, no_other_sign_among)
-
--- a number that is not below zero is its size
-above_zero_is_its_size : (y : ℤ) (n : ℕ) → pos 0 ≤ℤ y → unsigned_abs y ≡ n → y ≡ pos n
-above_zero_is_its_size y n h size = omega (arith, ints)
-
--- a part that is not above zero is its size below zero
-below_zero_is_its_size : (y : ℤ) (n : ℕ) → y ≤ℤ pos 0 → unsigned_abs y ≡ n → y ≡ neg_ℤ (pos n)
-below_zero_is_its_size y n h k = grind (arith, common_steps, ints)
-
--- a part of the size of x that has not the other sign, and is x where the lead is zero, takes the sign of the lead
-takes_sign_of_lead : (lead x y : ℤ) → HasNoOtherSign lead y → unsigned_abs y ≡ unsigned_abs x
-    → (lead ≡ pos 0 → y ≡ x) → y ≡ signed_like lead x
-takes_sign_of_lead lead x y sign size at_zero =
-    for_each_sign (y ≡ signed_like lead x) lead
-    (λ h. above_zero_is_its_size y (unsigned_abs x) (sign.0 h) size ∙ sym (like_positive lead x h))
-    (λ h. below_zero_is_its_size y (unsigned_abs x) (sign.1 h) size ∙ sym (like_negative lead x h))
-    (λ h. at_zero h ∙ sym (like_zero lead x h))
 
 -- equal parts make equal offsets
 same_parts : (h m s x y z : ℤ) → x ≡ h → y ≡ m → z ≡ s
     → ◌≡◌ {A = Offset} (record { hours = x; minutes = y; seconds = z }) (record { hours = h; minutes = m; seconds = s })
 same_parts h m s x y z hours minutes seconds = rw (hours, minutes, seconds) refl
-
--- three parts settle to one offset
-pub only_settled : (h m s : ℤ) (o : Offset) → Settles h m s o → o ≡ settled h m s
-only_settled h m s o k = grind (arith, common_steps, size_kept, takes_sign_of_lead, same_parts)
-
--- parts of an offset settle to themselves
-pub settled-same : (h m s : ℤ) → IsOffset (record { hours = h; minutes = m; seconds = s })
-    → ◌≡◌ {A = Offset} (settled h m s) (record { hours = h; minutes = m; seconds = s })
-settled-same h m s real = grind (arith, only_settled)
 
 -- ---- offsets without seconds
 

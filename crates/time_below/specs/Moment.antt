@@ -17,10 +17,6 @@ unix_day = 719_162
 abbrev pub seconds_before : ℕ
 seconds_before = 31_619_087_596_800
 
--- the seconds of the years -999,999 to 999,999
-abbrev pub seconds_in_all : ℕ
-seconds_in_all = 63_113_872_377_600
-
 -- the seconds since 1970, and the nanosecond counted forward from there
 pub record Moment : Type 0 where
   pub seconds : ℤ

@@ -66,6 +66,7 @@ pub fn metadata_of_texts(a: Metadata, b: Metadata, texts: &[Metadata], of_all: M
 {}
 
 /// Each date has one day number, and each day number from -999999-01-01 to 999999-12-31 one date.
+#[tactic(auto, using(crate::proofs::YearLemmas::laws_of_days))]
 pub fn one_date_for_each_day()
     ensures numbered { (d : OrdinalDate) → IsDate d → IsDayNumber (day_number d) }
     ensures dated { (n : ℤ) → IsDayNumber n → IsDate (date_at n) }
@@ -74,6 +75,7 @@ pub fn one_date_for_each_day()
 {}
 
 /// Day 0 is Monday 0001-01-01, and the day after a date has the next number and the next weekday.
+#[tactic(auto, using(crate::proofs::YearLemmas::laws_of_days))]
 pub fn days_follow_one_another()
     ensures begin { day_number (record { year = pos 1; ordinal = 1 }) ≡ pos 0 }
     ensures number { (d : OrdinalDate) → IsDate d
@@ -83,6 +85,7 @@ pub fn days_follow_one_another()
 {}
 
 /// Each date is that of its month and its day of the month, and of no others.
+#[tactic(auto, using(crate::proofs::MonthLemmas::laws_of_months))]
 pub fn one_date_for_each_day_of_month()
     ensures month { (d : OrdinalDate) → IsDate d → IsInRange 1 12 (month_of d) }
     ensures day { (d : OrdinalDate) → IsDate d → IsDayOfMonth d.year (month_of d) (day_of d) }
@@ -97,6 +100,7 @@ pub fn one_date_for_each_day_of_month()
 
 /// The year of the week calendar is that of a date, its weeks are 1 to 53, and a year, a week and a
 /// weekday have one date at most.
+#[tactic(auto, using(crate::proofs::WeekLemmas::iso_year_of_date, crate::proofs::WeekLemmas::iso_week_of_date))]
 pub fn one_date_for_each_day_of_week()
     ensures year { (d : OrdinalDate) → IsDate d → IsYear (iso_year_of d) }
     ensures week { (d : OrdinalDate) → IsDate d → IsInRange 1 53 (iso_week_of d) }
@@ -106,6 +110,7 @@ pub fn one_date_for_each_day_of_week()
 
 /// The Monday-based and the Sunday-based week of a date are the numbers of Mondays, and of Sundays,
 /// that its year has had by then, that day counted.
+#[tactic(auto, using(crate::proofs::WeekCountLemmas::mondays_counted, crate::proofs::WeekCountLemmas::sundays_counted))]
 pub fn weeks_count_their_first_days()
     ensures mondays { (d : OrdinalDate) → IsDate d
         → monday_based_week_of d ≡ days_of_name 0 d.year d.ordinal }
@@ -115,6 +120,7 @@ pub fn weeks_count_their_first_days()
 
 /// The UTC date and time of a moment have its Unix seconds, and no others do. Those of a date and
 /// time in UTC are a moment.
+#[tactic(auto, using(crate::proofs::MomentLemmas::laws_of_moments))]
 pub fn one_date_and_time_for_each_moment()
     ensures date { (m : Moment) → IsMoment m → IsDate (utc_date m.seconds) }
     ensures time { (m : Moment) → IsMoment m → IsTimeOfDay (utc_time m) }
@@ -134,6 +140,7 @@ pub fn one_sign_for_each_offset()
 {}
 
 /// Less than 26 hours either way are one offset.
+#[tactic(auto, using(crate::proofs::OffsetLemmas::offset_back))]
 pub fn one_offset_for_each_number_of_seconds()
     ensures offset { (s : ℤ) → unsigned_abs s < 93_600 → IsOffset (offset_of_seconds s) }
     ensures seconds { (s : ℤ) → offset_seconds (offset_of_seconds s) ≡ s }
@@ -141,6 +148,7 @@ pub fn one_offset_for_each_number_of_seconds()
 {}
 
 /// The date and time of a moment by clocks at an offset have its Unix seconds, and no others do.
+#[tactic(auto, using(crate::proofs::MomentLemmas::laws_of_moments))]
 pub fn one_local_date_and_time_for_each_moment()
     ensures seconds { (m : Moment) (o : Offset) → IsMoment (moved m o)
         → local_unix_seconds (local_at m o) ≡ m.seconds }

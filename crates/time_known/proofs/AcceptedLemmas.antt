@@ -1,10 +1,12 @@
 -- Formats that have a place for each hour of an offset, and what the usual texts of ISO 8601 have a place for.
-use Rattle.std.proofs.Common.{◌≡◌, ℕ, ◌≤◌, Bool, true, false, List, refl, arith, ℤ, unsigned_abs, nat_lt, Option, Some}
+use Rattle.std.proofs.Common.{◌≡◌, ℕ, ◌≤◌, Bool, true, false, List, refl, arith, ℤ, unsigned_abs, nat_lt, Option, Some, Result, Vec}
+use Rattle.std.specs.Global.{Global}
+use Rattle.time_fmt.specs.declared.error.Format.{Format}
 use Rattle.std.proofs.lemmas.Bool.Decides.{nat_tests}
 use Rattle.std.proofs.lemmas.Grind.{common_steps}
 use Rattle.std.specs.Prelude.{codes, if◌then◌else◌}
 use Rattle.time_below.specs.Offset.{is_utc}
-use Rattle.time_fmt.specs.Outcome.{done, refused, join, invalid_component}
+use Rattle.time_fmt.specs.Outcome.{AppendsUpTo, done, refused, join, invalid_component}
 use Rattle.time_known.specs.Accepted.{checked_text, component_name, refused_for}
 use Rattle.time_known.specs.Config.{Choices, DecimalSign, DateKind}
 use Rattle.time_known.specs.Iso8601.{iso_of_groups, year_of_kind}
@@ -12,7 +14,7 @@ use Rattle.time_known.specs.UsualText.{usual_choices, usual_text}
 use Rattle.time_known.specs.Values.{DateFacts, Offset, TimeOfDay}
 use Rattle.time_known.specs.WellKnown.{refused_if, is_outside}
 use Rattle.time_known.specs.declared.accepted.OutOfRange.{OutOfRange}
-use Rattle.time_known.specs.declared.iso8601.config.DateKind.TheVariants as kind
+use Rattle.time_known.specs.declared.iso8601.config.FormattedComponents.TheVariants as components
 use Rattle.time_known.proofs.OutcomeLemmas.{above_not, test_is_passed}
 
 -- no offset has more than 25 hours
@@ -26,7 +28,7 @@ any_hour first year hour second text h = rw (above_not 25 hour h) refl
 usual_passes : (c : Choices) (k : DateKind) (has_separators : Bool) (digits : Option ℕ) (sign : DecimalSign) (d : DateFacts)
     (t : TimeOfDay) (o : Offset) → c ≡ record (usual_choices has_separators digits sign) { date_kind = k }
     → is_outside 0 9_999 (year_of_kind k d) ≡ false → nat_lt 0 (unsigned_abs o.seconds) ≡ false
-    → iso_of_groups c d t o ≡ done (usual_text c digits d t o)
+    → iso_of_groups components.DateTimeOffset c d t o ≡ done (usual_text c digits d t o)
 usual_passes c k has_separators digits sign d t o e year seconds = grind (arith, common_steps)
 
 -- an accepted year and offset complete the text of these choices, with a date of this kind
@@ -34,7 +36,7 @@ pub usual_accepted : (c : Choices) (k : DateKind) (has_separators : Bool) (digit
     (d : DateFacts) (t : TimeOfDay) (o : Offset) (text : List ℕ)
     → c ≡ record (usual_choices has_separators digits sign) { date_kind = k }
     → checked_text 0 25 (year_of_kind k d) (unsigned_abs o.hours) (unsigned_abs o.seconds) text ≡ done text
-    → iso_of_groups c d t o ≡ done (usual_text c digits d t o)
+    → iso_of_groups components.DateTimeOffset c d t o ≡ done (usual_text c digits d t o)
 usual_accepted c k has_separators digits sign d t o text e accepted =
     grind (arith, common_steps, test_is_passed, usual_passes)
 
@@ -57,6 +59,12 @@ refusal_is outside zed seconds year after time zero hours minutes text name h k 
 pub usual_refused : (digits : Option ℕ) (sign : DecimalSign) (d : DateFacts) (t : TimeOfDay) (o : Offset)
     (text : List ℕ) (component : OutOfRange) → unsigned_abs o.hours ≤ 25
     → checked_text 0 25 d.year (unsigned_abs o.hours) (unsigned_abs o.seconds) text ≡ refused_for component
-    → (iso_of_groups (usual_choices true digits sign) d t o).refusal
+    → (iso_of_groups components.DateTimeOffset (usual_choices true digits sign) d t o).refusal
     ≡ Some (invalid_component (component_name component))
 usual_refused digits sign d t o text component hour e = grind (arith, refusal_is, no_seconds, any_hour)
+
+-- what is appended by one value is appended by any that is equal
+pub appended_as : {A : Type 0} {a b : A} {width : ℕ} {old new : Vec ℕ Global} {answer : Result ℕ Format}
+    (text : A → List ℕ) → a ≡ b → AppendsUpTo width old new answer (done (text a))
+    → AppendsUpTo width old new answer (done (text b))
+appended_as text e w = grind arith

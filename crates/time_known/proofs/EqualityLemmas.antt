@@ -1,5 +1,5 @@
 -- Configurations of ISO 8601 are equal exactly if all their fields are.
-use Rattle.std.proofs.Common.{◌≡◌, ℕ, true, refl, subst, Option, arith}
+use Rattle.std.proofs.Common.{◌≡◌, ℕ, true, subst, Option, arith}
 use Rattle.std.specs.Cmp.{booleans_Decides}
 use Rattle.std.proofs.lemmas.Bool.{and_parts, eqb-true}
 use denote.Enum.Bare.{same_true}

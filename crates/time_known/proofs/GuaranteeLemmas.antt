@@ -13,17 +13,15 @@ use Rattle.time_digits.proofs.LengthLemmas.{IsAscii-padded}
 use Rattle.time_digits.proofs.TableLemmas.{ascii_test}
 use Rattle.time_fmt.specs.Text.{sign_text}
 use Rattle.time_fmt.specs.DateText.{month_name, weekday_name, short_name}
-use Rattle.time_fmt.specs.Description.{of_group}
 use Rattle.time_fmt.specs.Outcome.{Outcome, refused, join, invalid_component}
 use Rattle.time_fmt.proofs.GuaranteeLemmas.{IsAscii-sign_text, IsAscii-month_name, IsAscii-weekday_name}
-use Rattle.time_known.specs.Config.{Choices, DateKind, DecimalSign, FormattedComponents, OffsetPrecision, TimePrecision}
+use Rattle.time_known.specs.Config.{Choices, DateKind, DecimalSign, OffsetPrecision, TimePrecision}
 use Rattle.time_known.specs.Values.{Facts, DateFacts, Offset, TimeOfDay}
 use Rattle.time_known.specs.declared.iso8601.config.DateKind.TheVariants as kind
 use Rattle.time_known.specs.declared.iso8601.config.DecimalSign.TheVariants as sign_of
-use Rattle.time_known.specs.declared.iso8601.config.FormattedComponents.TheVariants as components
 use Rattle.time_known.specs.declared.iso8601.config.OffsetPrecision.TheVariants as offset_precision
 use Rattle.time_known.specs.declared.iso8601.config.TimePrecision.TheVariants as precision
-use Rattle.time_known.specs.Iso8601.{iso8601_outcome, iso8601_outcome_of, iso_date, iso_time, iso_offset, iso_year}
+use Rattle.time_known.specs.Iso8601.{iso8601_outcome, iso_date, iso_time, iso_offset, iso_year}
 use Rattle.time_known.specs.Iso8601.{text_after_year, units_text, decimal_part, iso_minutes}
 use Rattle.time_known.specs.Rfc2822.{rfc2822_outcome}
 use Rattle.time_known.specs.Rfc3339.{rfc3339_outcome}
@@ -71,12 +69,6 @@ ascii_refused_if c name o h = ascii_either_outcome c (refused (invalid_component
 ascii_join : (a b : Outcome) → Ascii a.bytes → Ascii b.bytes → Ascii (join a b).bytes
 ascii_join a b p q = grind (arith, common_steps, ascii_append)
 
--- what a group gives, whether it is there or not
-ascii_of_group : {G : Type 0} (group : Option G) (outcome : G → Outcome) → ((g : G) → Ascii (outcome g).bytes)
-    → Ascii (of_group group outcome).bytes
-ascii_of_group None outcome each = ascii_empty
-ascii_of_group (Some g) outcome each = each g
-
 -- ---- texts
 
 ascii_zero_padded : (k n : ℕ) → Ascii (zero_padded k n)
@@ -104,11 +96,11 @@ ruleset ascii_text_lemmas = (ascii_empty, ascii_byte_before, ascii_append, ascii
 
 -- the bytes of each outcome of RFC 3339 are UTF-8
 pub rfc3339_utf8 : (f : Facts) → IsUtf8 (rfc3339_outcome f).bytes
-rfc3339_utf8 f = utf8_of_ascii (search (ascii_of_group, ascii_refused_if, ascii_text_lemmas) depth 25)
+rfc3339_utf8 f = utf8_of_ascii (search (ascii_either_outcome, ascii_refused_if, ascii_text_lemmas) depth 25)
 
 -- the bytes of each outcome of RFC 2822 are UTF-8
 pub rfc2822_utf8 : (f : Facts) → IsUtf8 (rfc2822_outcome f).bytes
-rfc2822_utf8 f = utf8_of_ascii (search (ascii_of_group, ascii_refused_if, ascii_text_lemmas) depth 25)
+rfc2822_utf8 f = utf8_of_ascii (search (ascii_either_outcome, ascii_refused_if, ascii_text_lemmas) depth 25)
 
 -- ---- ISO 8601
 
@@ -145,12 +137,8 @@ ascii_iso_offset : (c : Choices) (o : Offset) → Ascii (iso_offset c o).bytes
 ascii_iso_offset c o = search (ascii_either_outcome, ascii_refused_if, ascii_join, ascii_text_lemmas, ascii_minutes)
 
 -- the parts that are written, one after another
-ruleset ascii_outcome_lemmas = (ascii_empty, ascii_of_group, ascii_join, ascii_iso_date, ascii_iso_time, ascii_iso_offset)
-
-ascii_iso8601_outcome : (p : FormattedComponents) (c : Choices) (f : Facts) → Ascii (iso8601_outcome_of p c f).bytes
-ascii_iso8601_outcome components.None c f = search ascii_outcome_lemmas
-ascii_iso8601_outcome _ c f = search ascii_outcome_lemmas depth 8
+ruleset ascii_outcome_lemmas = (ascii_empty, ascii_either_outcome, ascii_join, ascii_iso_date, ascii_iso_time, ascii_iso_offset)
 
 -- the bytes of each outcome of ISO 8601 are UTF-8
 pub iso8601_utf8 : (c : Choices) (f : Facts) → IsUtf8 (iso8601_outcome c f).bytes
-iso8601_utf8 c f = utf8_of_ascii (ascii_iso8601_outcome c.formatted_components c f)
+iso8601_utf8 c f = utf8_of_ascii (search ascii_outcome_lemmas depth 12)

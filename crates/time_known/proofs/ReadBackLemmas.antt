@@ -1,37 +1,48 @@
 -- A completed text spells the value whose groups were formatted.
-use Rattle.std.proofs.Common.{◌≡◌, sym, ap, ◌∙◌, Some, None}
+use Rattle.std.proofs.Common.{◌≡◌, true, sym, ap, ◌∙◌, Some, None, arith}
+use Rattle.std.proofs.lemmas.Bool.{and_parts}
+use Rattle.std.proofs.lemmas.Grind.{common_steps}
 use Rattle.time_fmt.specs.Outcome.{Outcome}
 use Rattle.time_provide.specs.Real.{AreReal, date_in}
+use Rattle.time_known.specs.Groups.{has_groups, all_groups, at_groups}
 use Rattle.time_known.specs.Laws.{IsValue, CompletedAreCanonical}
 use Rattle.time_known.specs.ReadBack.{ReadsAs}
 use Rattle.time_known.specs.Rules.{Rule}
 use Rattle.time_known.specs.Values.{Facts, DateFacts, date_facts, the_date, the_time, the_offset, OffsetDateAndTime}
 use Rattle.time_known.specs.Values.{Offset, TimeOfDay}
-use Rattle.time_known.specs.WellKnown.{of_all_groups}
-use Rattle.time_known.proofs.GroupLemmas.{HasAll, some_group_or, outcome_of_all}
 use Rattle.time_known.proofs.OutcomeLemmas.{completed_by_bytes}
+
+-- a date, a time and an offset are there
+record HasAll (f : Facts) : Type 0 where
+  date : f.date ≡ Some (the_date f)
+  time : f.time ≡ Some (the_time f)
+  offset : f.offset ≡ Some (the_offset f)
+
+-- they are, where all are needed and none is missing
+has_all : (f : Facts) → has_groups all_groups f ≡ true → HasAll f
+has_all f h = grind (arith, common_steps, and_parts)
 
 -- the groups of a value that is real are those of a local date, a time and an offset, and a completed
 -- text spells them
 pub reads_as : {kept : OffsetDateAndTime → OffsetDateAndTime} {Spells Canonical : OffsetDateAndTime → Rule}
     (of_groups : DateFacts → TimeOfDay → Offset → Outcome)
     → CompletedAreCanonical IsValue (λ v. of_groups (date_facts v.date) v.time v.offset) kept Spells Canonical
-    → (f : Facts) → HasAll f → AreReal f
-    → (of_all_groups f of_groups).refusal ≡ None
-    → ReadsAs kept Spells Canonical f (of_all_groups f of_groups).bytes
-reads_as of_groups law f all real complete =
-    let outcome = of_all_groups f of_groups in
+    → (f : Facts) → has_groups all_groups f ≡ true → AreReal f → (at_groups of_groups f).refusal ≡ None
+    → ReadsAs kept Spells Canonical f (at_groups of_groups f).bytes
+reads_as of_groups law f there real complete =
+    let all = has_all f there in
+    let outcome = at_groups of_groups f in
     let value : OffsetDateAndTime = record { date = date_in (the_date f); time = the_time f; offset = the_offset f } in
     let fits : IsValue value = record { date = real.date.date; time = real.time; offset = real.offset } in
     let same : of_groups (date_facts value.date) value.time value.offset ≡ outcome =
-    ap (λ d. of_groups d value.time value.offset) (sym real.date.components) ∙ sym (outcome_of_all f all of_groups) in
+    ap (λ d. of_groups d value.time value.offset) (sym real.date.components) in
     let read = law.completed outcome.bytes value fits (same ∙ completed_by_bytes outcome complete) in
     record {
       value = value;
       fits = fits;
-      date = some_group_or _ f.date all.date ∙ ap Some real.date.components;
-      time = some_group_or _ f.time all.time;
-      offset = some_group_or _ f.offset all.offset;
+      date = all.date ∙ ap Some real.date.components;
+      time = all.time;
+      offset = all.offset;
       spelled = read.0;
       canonical = read.1;
     }

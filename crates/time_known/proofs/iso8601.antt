@@ -1,6 +1,5 @@
 -- ISO 8601 by a configuration, part by part and as a whole.
 pub mod DateLemmas
-pub mod GroupLemmas
 pub mod LengthLemmas
 pub mod OffsetLemmas
 pub mod PartsLemmas

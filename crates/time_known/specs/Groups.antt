@@ -1,5 +1,5 @@
 -- The groups of a value that a text is made of.
-use Rattle.std.specs.Prelude.{Bool, ◌&&◌, ◌||◌, not, is_some, IsTrue}
+use Rattle.std.specs.Prelude.{Bool, true, ◌&&◌, ◌||◌, not, is_some, IsTrue}
 use Rattle.time_known.specs.Values.{Facts, DateFacts, the_date, the_time, the_offset, Offset, TimeOfDay}
 use Rattle.time_known.specs.declared.groups.Groups.{Groups}
 
@@ -11,6 +11,10 @@ are_supplied needed date time offset =
 -- whether a value with these facts has each group that is needed
 abbrev pub has_groups : Groups → Facts → Bool
 has_groups needed f = are_supplied needed (is_some f.date) (is_some f.time) (is_some f.offset)
+
+-- all three are needed
+abbrev pub all_groups : Groups
+all_groups = record { date = true; time = true; offset = true }
 
 -- what the date, the time and the offset of a value that has all three give
 abbrev pub at_groups : {A : Type 0} → (DateFacts → TimeOfDay → Offset → A) → Facts → A

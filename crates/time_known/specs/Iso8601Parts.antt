@@ -1,13 +1,12 @@
--- The parts of a text of ISO 8601, one after another: each is empty where it is not written.
-use Rattle.std.specs.Prelude.{◌≡◌, ℕ, ◌+◌, ◌*◌, ◌++◌, Bool, IsTrue, List, length, [], codes, if◌then◌else◌}
+-- What the parts of a text of ISO 8601 are made of.
+use Rattle.std.specs.Prelude.{◌≡◌, ℕ, ◌+◌, ◌*◌, ◌++◌, Bool, IsTrue, List, length, codes}
 use Rattle.time_fmt.specs.Outcome.{Outcome, done, join}
-use Rattle.time_known.specs.Config.{Choices, has_date, has_time, has_offset, groups_of, separator, DateKind}
-use Rattle.time_known.specs.Config.{FormattedComponents}
+use Rattle.time_known.specs.Config.{Choices, groups_of, separator, DateKind}
 use Rattle.time_known.specs.Days.{month_and_day}
 use Rattle.time_known.specs.Groups.{are_supplied}
-use Rattle.time_known.specs.Iso8601.{iso_date, iso_time_text, iso_offset, iso_year, year_of_kind, text_after_year, week_text}
-use Rattle.time_known.specs.Iso8601Width.{iso_date_width, iso_time_width, iso_offset_width, year_width, width_after_year}
-use Rattle.time_known.specs.Values.{Facts, DateFacts, the_date, the_time, the_offset}
+use Rattle.time_known.specs.Iso8601.{iso_year, year_of_kind, text_after_year, week_text}
+use Rattle.time_known.specs.Iso8601Width.{year_width, width_after_year}
+use Rattle.time_known.specs.Values.{Facts, DateFacts}
 use Rattle.time_known.specs.WellKnown.{month_and_day_text}
 use Rattle.time_digits.specs.Digits.{zero_padded}
 use Rattle.time_provide.specs.Real.{AreReal}
@@ -50,21 +49,3 @@ SuppliesParts c date time offset = IsTrue (are_supplied (groups_of c.formatted_c
 -- the facts are real, where all parts are written
 abbrev pub IsRealWhole : Choices → Facts → Type 0
 IsRealWhole c f = c.formatted_components ≡ components.DateTimeOffset → AreReal f
-
-abbrev pub part_if : Bool → Outcome → Outcome
-part_if is_written part = if is_written then part else done []
-
-abbrev pub parts_text : FormattedComponents → Choices → Facts → Outcome
-parts_text p c f =
-    join (part_if (has_date p) (iso_date c (the_date f)))
-    (join (done (if has_time p then iso_time_text c (the_time f) else []))
-    (part_if (has_offset p) (iso_offset c (the_offset f))))
-
--- their widths
-abbrev pub width_if : Bool → ℕ → ℕ
-width_if is_written width = if is_written then width else 0
-
-abbrev pub parts_width : FormattedComponents → Choices → ℕ
-parts_width p c =
-    width_if (has_date p) (iso_date_width c) + width_if (has_time p) (iso_time_width c)
-    + width_if (has_offset p) (iso_offset_width c)

@@ -1,27 +1,20 @@
 -- The text of ISO 8601 by the usual configurations, of a value of which nothing is refused.
-use Rattle.std.specs.Prelude.{ℕ, ◌++◌, Bool, false, List, codes, unsigned_abs, Option}
+use Rattle.std.specs.Prelude.{ℕ, ◌++◌, Bool, List, codes, unsigned_abs, Option}
 use Rattle.time_digits.specs.Digits.{zero_padded}
-use Rattle.time_known.specs.Config.{Choices, separator, DateKind, DecimalSign}
+use Rattle.time_known.specs.Config.{Choices, default_choices, separator, DateKind, DecimalSign}
 use Rattle.time_known.specs.Iso8601.{decimal_part, text_after_year, year_of_kind}
 use Rattle.time_known.specs.Values.{Offset, TimeOfDay, DateFacts}
 use Rattle.time_known.specs.WellKnown.{clock_text, offset_text}
-use Rattle.time_known.specs.declared.iso8601.config.DateKind.TheVariants as kind
-use Rattle.time_known.specs.declared.iso8601.config.FormattedComponents.TheVariants as components
-use Rattle.time_known.specs.declared.iso8601.config.OffsetPrecision.TheVariants as offset_precision
 use Rattle.time_known.specs.declared.iso8601.config.TimePrecision.TheVariants as precision
 use Rattle.time_known.specs.declared.iso8601.config.Usual.{Usual}
 
 -- the month and the day after four digits of the year, the time to the second or to decimals of it, and the offset to
 -- the minute
 abbrev pub usual_choices : Bool → Option ℕ → DecimalSign → Choices
-usual_choices has_separators decimal_digits decimal_sign = record {
-  formatted_components = components.DateTimeOffset;
+usual_choices has_separators digits sign = record default_choices {
   use_separators = has_separators;
-  year_is_six_digits = false;
-  date_kind = kind.Calendar;
-  time_precision = precision.Second decimal_digits;
-  offset_precision = offset_precision.Minute;
-  decimal_sign = decimal_sign;
+  time_precision = precision.Second digits;
+  decimal_sign = sign;
 }
 
 -- the same as they were chosen, with a date of this kind

@@ -1,44 +1,43 @@
 -- The parts that are written, one after another, give the outcome and the width of the choices.
-use Rattle.std.proofs.Common.{◌≡◌, ◌≢◌, ℕ, [], arith, None, true}
+use Rattle.std.proofs.Common.{◌≡◌, ◌≢◌, ℕ, ◌+◌, Bool, append_assoc, length-append, arith, Result, Ok}
+use Rattle.std.proofs.lemmas.Grind.{common_steps}
 use Rattle.std.proofs.lemmas.List.{append-nil}
-use Rattle.time_fmt.specs.Outcome.{Outcome, done, join}
-use Rattle.time_known.specs.Config.{Choices, groups_of, FormattedComponents}
-use Rattle.time_known.specs.Groups.{has_groups}
-use Rattle.time_known.specs.Iso8601.{iso8601_outcome, iso8601_outcome_of, iso_date}
-use Rattle.time_known.specs.Iso8601Parts.{date_of_parts, date_parts_width, AreOfDate, parts_text, parts_width}
-use Rattle.time_known.specs.Iso8601Width.{iso8601_width, iso8601_width_of, iso_date_width}
+use Rattle.time_fmt.specs.Outcome.{Outcome, join}
+use Rattle.time_fmt.specs.Sink.{Buffer}
+use Rattle.time_known.specs.Accepted.{PutsOutcome}
+use Rattle.time_known.specs.Config.{Choices, DateKind}
+use Rattle.time_known.specs.Groups.{at_groups}
+use Rattle.time_known.specs.Iso8601.{iso8601_outcome, iso_of_groups, iso_date}
+use Rattle.time_known.specs.Iso8601Parts.{SuppliesParts, date_of_parts, date_parts_width, AreOfDate}
+use Rattle.time_known.specs.Iso8601Width.{iso_date_width}
+use Rattle.time_provide.specs.Laws.{Supplies}
 use Rattle.time_known.specs.Values.{Facts, DateFacts}
+use Rattle.time_known.specs.declared.accepted.OutOfRange.{OutOfRange}
 use Rattle.time_known.specs.declared.iso8601.config.FormattedComponents.TheVariants as components
 use Rattle.time_known.specs.declared.iso8601.parts.DateParts.{DateParts}
-use Rattle.time_known.proofs.GroupLemmas.{HasNeeded, has_needed, of_supplied}
-use Rattle.std.proofs.lemmas.Grind.{common_steps}
 
 -- ---- dates
 
--- what holds of the width and the text of the date's fields holds of those of the date
-pub by_date : (c : Choices) (d : DateFacts) (p : DateParts) (Holds : ℕ → Outcome → Type 0) → AreOfDate c.date_kind d p
-    → Holds (date_parts_width c p) (date_of_parts c p) → Holds (iso_date_width c) (iso_date c d)
-by_date c d p Holds parts h = rw (← parts.year, ← parts.text c, ← parts.width c) h
+-- the date's fields are put as the date
+pub by_date : {old new : Buffer} {answer : Result Unit OutOfRange} (c : Choices) (k : DateKind) (d : DateFacts) (p : DateParts)
+    → k ≡ c.date_kind → AreOfDate k d p → PutsOutcome (date_parts_width c p) old new answer (date_of_parts c p)
+    → PutsOutcome (iso_date_width c) old new answer (iso_date c d)
+by_date c k d p e parts h = grind arith
 
 -- ---- all parts
 
--- an empty text after an outcome changes nothing
-join_with_nothing : (o : Outcome) → join o (done []) ≡ o
-join_with_nothing o = grind (arith, common_steps, append-nil)
+-- parts that are written give the outcome, where their groups are supplied
+pub put_by_choice : {width : ℕ} {old new : Buffer} {answer : Result Unit OutOfRange} {date time offset moment : Bool}
+    (c : Choices) (f : Facts) → c.formatted_components ≢ components.None → SuppliesParts c date time offset
+    → Supplies date time offset moment f → PutsOutcome width old new answer (at_groups (iso_of_groups c.formatted_components c) f)
+    → PutsOutcome width old new answer (iso8601_outcome c f)
+put_by_choice c f some supplied groups h = grind (arith, common_steps)
 
--- the outcome of a value with the groups that are needed joins its parts
-text_by : (parts : FormattedComponents) (c : Choices) (f : Facts) → HasNeeded (groups_of parts) f
-    → parts ≢ components.None → iso8601_outcome_of parts c f ≡ parts_text parts c f
-text_by parts c f h k = grind (arith, common_steps, of_supplied, join_with_nothing, append-nil)
+-- three parts that are put, one after another, of which the last alone may be refused
+pub puts_three : {i j k : ℕ} {old mid last new : Buffer} {answer : Result Unit OutOfRange} {d t o : Outcome}
+    → PutsOutcome i old mid (Ok tt) d → PutsOutcome j mid last (Ok tt) t → PutsOutcome k last new answer o
+    → PutsOutcome (i + j + k) old new answer (join d (join t o))
+puts_three p q r = grind (arith, common_steps, append_assoc, length-append)
 
--- the parts have the width of the text
-pub width_by : (parts : FormattedComponents) (c : Choices) → parts ≢ components.None
-    → parts_width parts c ≡ iso8601_width_of parts c
-width_by parts c h = grind (arith, common_steps)
-
--- what holds of the width and the text of the parts holds of those of the choices
-pub by_parts : (c : Choices) (f : Facts) (Holds : ℕ → Outcome → Type 0)
-    → has_groups (groups_of c.formatted_components) f ≡ true → c.formatted_components ≢ components.None
-    → Holds (parts_width c.formatted_components c) (parts_text c.formatted_components c f)
-    → Holds (iso8601_width c) (iso8601_outcome c f)
-by_parts c f Holds there some h = grind (arith, text_by, has_needed, width_by)
+-- what a part that is not written leaves of the others
+pub ruleset some_parts = (append-nil)

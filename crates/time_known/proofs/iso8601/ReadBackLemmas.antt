@@ -1,18 +1,17 @@
 -- A completed text of ISO 8601 spells the value whose groups were formatted.
-use Rattle.std.proofs.Common.{◌≡◌, ℕ, true, sym, ap, subst, ◌∙◌, Ok, Err, None, Result, Vec}
+use Rattle.std.proofs.Common.{◌≡◌, ℕ, true, refl, sym, ap, subst, ◌∙◌, Ok, Err, None, Result, Vec}
 use Rattle.std.specs.Prelude.{IfOk, OnOk}
 use Rattle.std.specs.Global.{Global}
 use Rattle.time_fmt.specs.declared.error.Format.{Format}
 use Rattle.time_fmt.specs.Outcome.{Outcome, Appends}
 use Rattle.time_known.specs.Config.{Choices, groups_of}
 use Rattle.time_known.specs.Values.{Facts}
-use Rattle.time_known.specs.Groups.{has_groups}
-use Rattle.time_known.specs.Iso8601.{iso_of_groups, iso8601_outcome, iso8601_outcome_of}
+use Rattle.time_known.specs.Groups.{has_groups, at_groups}
+use Rattle.time_known.specs.Iso8601.{iso_of_groups, iso8601_outcome}
 use Rattle.time_known.specs.Iso8601Parts.{IsRealWhole}
 use Rattle.time_known.specs.Iso8601Grammar.{Iso8601Spells, IsCanonicalIso8601, iso8601_reads_as}
 use Rattle.time_known.specs.ReadBack.{ReadsAs}
-use Rattle.time_known.specs.WellKnown.{of_all_groups}
-use Rattle.time_known.proofs.GroupLemmas.{has_all}
+use Rattle.time_known.specs.declared.iso8601.config.FormattedComponents.TheVariants as components
 use Rattle.time_known.proofs.iso8601.WholeLemmas.{joined_is_written}
 use Rattle.time_known.proofs.LawLemmas.{completed_are_canonical}
 use Rattle.time_known.proofs.ReadBackLemmas.{reads_as}
@@ -22,11 +21,11 @@ iso8601_reads : (c : Choices) (f : Facts) → has_groups (groups_of c.formatted_
     → IsRealWhole c f → (iso8601_outcome c f).refusal ≡ None
     → iso8601_reads_as c f (iso8601_outcome c f).bytes
 iso8601_reads c f there real complete w =
-    let all = has_all f (ap (λ parts. has_groups (groups_of parts) f) (sym w.components) ∙ there) in
-    let same : iso8601_outcome c f ≡ of_all_groups f (iso_of_groups c) =
-    ap (λ parts. iso8601_outcome_of parts c f) w.components in
-    let read = reads_as (iso_of_groups c) (completed_are_canonical (joined_is_written c w)) f all (real w.components)
-    (sym (ap (λ (x : Outcome). x.refusal) same) ∙ complete) in
+    let all = ap (λ parts. has_groups (groups_of parts) f) (sym w.components) ∙ there in
+    let same : iso8601_outcome c f ≡ at_groups (iso_of_groups components.DateTimeOffset c) f =
+    rw (w.components, all) refl in
+    let read = reads_as (iso_of_groups components.DateTimeOffset c) (completed_are_canonical (joined_is_written c w)) f all
+    (real w.components) (sym (ap (λ (x : Outcome). x.refusal) same) ∙ complete) in
     subst (λ (x : Outcome). ReadsAs (λ v. v) (Iso8601Spells c) (IsCanonicalIso8601 c) f x.bytes) (sym same) read
 
 -- a completed text spells the value

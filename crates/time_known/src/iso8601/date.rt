@@ -4,14 +4,14 @@ ghost use Rattle.time_below.specs.Facts.{the_date};
 ghost use Rattle.time_digits.specs.Digits.{zero_padded};
 ghost use Rattle.time_fmt.specs.Outcome.{AppendsUpTo};
 ghost use Rattle.time_fmt.specs.Room.{HasRoom};
-ghost use Rattle.time_fmt.specs.Sink.{Fits, Puts};
+ghost use Rattle.time_fmt.specs.Sink.{Fits};
 ghost use Rattle.time_provide.specs.Real.{AgreesOnDate, AreFactsOfDate};
 ghost use Rattle.time_known.specs.Accepted.{PutsOutcome};
 ghost use Rattle.time_known.specs.Config.{has_date};
 ghost use Rattle.time_known.specs.Days.{dash};
-ghost use Rattle.time_known.specs.Iso8601.{iso_date, iso_year, week_text};
-ghost use Rattle.time_known.specs.Iso8601Parts.{date_of_parts, date_parts_width, part_if, rest_width, width_if, rest_text};
-ghost use Rattle.time_known.specs.Iso8601Width.{iso_date_width, year_width};
+ghost use Rattle.time_known.specs.Iso8601.{iso_date, iso_year, part_if, week_text};
+ghost use Rattle.time_known.specs.Iso8601Parts.{date_of_parts, date_parts_width, rest_width, rest_text};
+ghost use Rattle.time_known.specs.Iso8601Width.{iso_date_width, width_if, year_width};
 ghost use Rattle.time_known.specs.Sink.{PutsUpTo};
 
 use crate::accepted::OutOfRange;
@@ -138,6 +138,7 @@ pub(super) fn put_date_part<S: Sink, V: ComponentProvider>(
 
 // Puts the value's date.
 #[inline(always)]
+#[tactic(auto, using(crate::proofs::iso8601::PartsLemmas::by_date))]
 fn put_date<S: Sink, V: ComponentProvider>(
     output: &mut S,
     config: &Config,

@@ -8,9 +8,8 @@ ghost use Rattle.time_fmt.specs.Sink.{Fits};
 ghost use Rattle.time_provide.specs.Real.{AgreesOnOffset};
 ghost use Rattle.time_known.specs.Accepted.{PutsOutcome};
 ghost use Rattle.time_known.specs.Config.{has_offset};
-ghost use Rattle.time_known.specs.Iso8601.{iso_offset};
-ghost use Rattle.time_known.specs.Iso8601Parts.{part_if, width_if};
-ghost use Rattle.time_known.specs.Iso8601Width.{iso_offset_width};
+ghost use Rattle.time_known.specs.Iso8601.{iso_offset, part_if};
+ghost use Rattle.time_known.specs.Iso8601Width.{iso_offset_width, width_if};
 
 use crate::accepted::OutOfRange;
 use crate::fields::{OffsetFields, offset_of};

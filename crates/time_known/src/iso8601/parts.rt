@@ -6,7 +6,7 @@ ghost use Rattle.time_fmt.specs.Room.{HasRoom};
 ghost use Rattle.time_fmt.specs.Sink.{Fits, vec_buffer};
 ghost use Rattle.time_provide.specs.Real.{AgreesOnDate};
 ghost use Rattle.time_known.specs.Iso8601.{iso8601_outcome, iso_date, iso_time};
-ghost use Rattle.time_known.specs.Iso8601Parts.{parts_text, parts_width, AreOfDate, IsRealWhole, SuppliesParts};
+ghost use Rattle.time_known.specs.Iso8601Parts.{AreOfDate, IsRealWhole, SuppliesParts};
 ghost use Rattle.time_known.specs.Iso8601Width.{iso8601_width, iso_date_width, iso_time_width};
 ghost use Rattle.time_known.specs.Accepted.{AppendsAllOrNone, PutsOutcome};
 ghost use Rattle.time_known.specs.Ways.{FitsUnusual, FitsWay};
@@ -107,26 +107,6 @@ pub fn put_parts<S: Sink, V: ComponentProvider>(
     ensures real { OnOk result (IsRealWhole config.now (V.facts value.now)) }
     ensures agrees { V.agrees state.new value.now }
 {
-    put_each_part(output, config, value, state)
-}
-
-// Puts each part that is formatted, up to what has no place.
-#[inline(always)]
-fn put_each_part<S: Sink, V: ComponentProvider>(
-    output: &mut S,
-    config: &Config,
-    value: &V,
-    state: &mut V::State,
-) -> Result<(), OutOfRange>
-    requires supplied { SuppliesParts config.now V.SUPPLIES_DATE V.SUPPLIES_TIME V.SUPPLIES_OFFSET }
-    requires room { Fits (S.buffer output.old) (parts_width config.now.formatted_components config.now) }
-    requires agrees { V.agrees state.old value.now }
-    ensures puts { PutsOutcome (parts_width config.now.formatted_components config.now)
-        (S.buffer output.old) (S.buffer output.new) result
-        (parts_text config.now.formatted_components config.now (V.facts value.now)) }
-    ensures real { OnOk result (IsRealWhole config.now (V.facts value.now)) }
-    ensures agrees { V.agrees state.new value.now }
-{
     put_date_part(output, config, value, state)?;
     put_time_part(output, config, value, state);
     put_offset_part(output, config, value)
@@ -193,7 +173,7 @@ fn write_each<V: ComponentProvider>(
 // Appends by the function that the configuration decided, where nothing of the value is refused. It may refuse what
 // the text refuses before any byte; else it appends nothing.
 #[inline(always)]
-#[tactic(auto, using(crate::proofs::iso8601::GroupLemmas::by_choice))]
+#[tactic(auto, using(crate::proofs::iso8601::PartsLemmas::some_parts))]
 fn write_by_way<V: ComponentProvider>(
     config: &Config,
     way: &Way,
@@ -223,7 +203,7 @@ fn write_by_way<V: ComponentProvider>(
 // Appends an unusual text by the function that the configuration decided, where nothing of the value is refused; else it
 // appends nothing.
 #[inline(always)]
-#[tactic(auto, using(crate::proofs::iso8601::GroupLemmas::by_choice))]
+#[tactic(auto, using(crate::proofs::iso8601::PartsLemmas::some_parts))]
 fn write_unusual<V: ComponentProvider>(
     config: &Config,
     unusual: &Unusual,

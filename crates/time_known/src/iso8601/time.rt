@@ -1,7 +1,7 @@
 //! The time of day of a text of ISO 8601-1:2019, section 5.3.
 #![tactic(auto, using(crate::proofs::LengthLemmas::joined_lengths))]
 
-ghost use Rattle.std.specs.Prelude.{◌≡◌, Ok, ◌+◌, ◌*◌, ◌<◌, ◌≤◌, ◌++◌, [], length, IsTrue, not, ◌||◌, if◌then◌else◌};
+ghost use Rattle.std.specs.Prelude.{◌≡◌, Ok, ◌+◌, ◌*◌, ◌<◌, ◌≤◌, ◌++◌, length, IsTrue, not, ◌||◌};
 ghost use Rattle.time_below.specs.Facts.{the_time};
 ghost use Rattle.time_below.specs.TimeOfDay.{IsTimeOfDay};
 ghost use Rattle.time_fmt.specs.Decimals.{decimals};
@@ -9,10 +9,10 @@ ghost use Rattle.time_fmt.specs.Outcome.{AppendsUpTo};
 ghost use Rattle.time_fmt.specs.Room.{HasRoom};
 ghost use Rattle.time_fmt.specs.Sink.{Fits, Puts};
 ghost use Rattle.time_provide.specs.Real.{AgreesOnTime};
+ghost use Rattle.time_known.specs.Accepted.{PutsOutcome};
 ghost use Rattle.time_known.specs.Config.{has_time, has_time_letter, separator};
-ghost use Rattle.time_known.specs.Iso8601.{iso_time, iso_time_text, decimal_part, units_text, nanoseconds_of_hour, nanoseconds_of_minute};
-ghost use Rattle.time_known.specs.Iso8601Parts.{width_if};
-ghost use Rattle.time_known.specs.Iso8601Width.{iso_time_width, decimal_part_width, units_width};
+ghost use Rattle.time_known.specs.Iso8601.{iso_time, iso_time_text, decimal_part, part_if, units_text, nanoseconds_of_hour, nanoseconds_of_minute};
+ghost use Rattle.time_known.specs.Iso8601Width.{iso_time_width, decimal_part_width, units_width, width_if};
 ghost use Rattle.time_known.specs.Sink.{PutsUpTo};
 ghost use Rattle.time_known.specs.WellKnown.{clock_text};
 
@@ -91,9 +91,9 @@ pub(super) fn put_time_part<S: Sink, V: ComponentProvider>(
     requires room { Fits (S.buffer output.old)
         (width_if (has_time config.now.formatted_components) (iso_time_width config.now)) }
     requires agrees { V.agrees state.old value.now }
-    ensures puts { PutsUpTo (width_if (has_time config.now.formatted_components) (iso_time_width config.now))
-        (S.buffer output.old) (S.buffer output.new)
-        (if has_time config.now.formatted_components then iso_time_text config.now (the_time (V.facts value.now)) else []) }
+    ensures puts { PutsOutcome (width_if (has_time config.now.formatted_components) (iso_time_width config.now))
+        (S.buffer output.old) (S.buffer output.new) (Ok tt)
+        (part_if (has_time config.now.formatted_components) (iso_time config.now (the_time (V.facts value.now)))) }
     ensures real { IsTrue (has_time config.now.formatted_components) → IsTimeOfDay (the_time (V.facts value.now)) }
     ensures agrees { V.agrees state.new value.now }
 {
@@ -123,7 +123,8 @@ fn put_time<S: Sink, const IS_ALONE: bool>(
     put_units::<S, IS_ALONE>(output, config, time);
 }
 
-// Puts the whole units down to the precision, and decimals of the last one.
+// Puts the whole units down to the precision, and decimals of the last one. Those of a time alone are a function of their
+// own too.
 #[inline(always)]
 fn put_units<S: Sink, const IS_ALONE: bool>(output: &mut S, config: &Config, time: Time)
     requires room { Fits (S.buffer output.old)

@@ -19,6 +19,7 @@ ghost use Rattle.time_known.specs.UsualText.{choices_of, usual_choices, usual_te
 ghost use Rattle.time_known.specs.WellKnown.{offset_text, date_text};
 ghost use Rattle.time_known.specs.Config.{default_choices};
 ghost use Rattle.time_known.specs.declared.iso8601.config.DateKind.TheVariants.{Calendar, Week};
+ghost use Rattle.time_known.specs.declared.iso8601.config.FormattedComponents.TheVariants.{DateTimeOffset};
 ghost use Rattle.time_known.specs.Values.{utc};
 ghost use Rattle.time_below.specs.Weekday.{days_from_monday};
 
@@ -56,7 +57,7 @@ pub(super) fn write_usual<V: ComponentProvider>(
     requires agrees { V.agrees state.old value.now }
     ensures appends { MatchOption result (output.new ≡ output.old)
         (λ answer. AppendsAllOrNone (iso8601_width config.now) output.old output.new answer
-        (at_groups (iso_of_groups config.now) (V.facts value.now))) }
+        (at_groups (iso_of_groups DateTimeOffset config.now) (V.facts value.now))) }
     ensures real { IfSome result (λ answer. OnOk answer (AreReal (V.facts value.now))) }
     ensures agrees { V.agrees state.new value.now }
 {
@@ -86,7 +87,7 @@ pub(super) fn write_usual_week<V: ComponentProvider>(
     requires agrees { V.agrees state.old value.now }
     ensures appends { MatchOption result (output.new ≡ output.old)
         (λ n. AppendsUpTo (iso8601_width config.now) output.old output.new (Ok n)
-        (at_groups (iso_of_groups config.now) (V.facts value.now))) }
+        (at_groups (iso_of_groups DateTimeOffset config.now) (V.facts value.now))) }
     ensures real { OnSome result (AreReal (V.facts value.now)) }
     ensures agrees { V.agrees state.new value.now }
 {

@@ -1,6 +1,5 @@
 use Rattle.std.proofs.Common.{ℕ, ◌≤◌, unsigned_abs, arith, ℤ, w8, to_z, of_z}
 use Rattle.std.proofs.lemmas.Int.{to_z-of_z}
---dropped
 use Rattle.time_below.proofs.utc_offset.UtcOffset.from_ranged_hms.Goals as goal
 use Rattle.std.proofs.lemmas.Grind.{common_steps}
 

@@ -3,8 +3,7 @@ use Rattle.time_known.specs.Groups.{at_groups}
 use Rattle.time_known.specs.UsualText.{choices_of, usual_text}
 use Rattle.time_known.specs.Values.{the_date, the_time, the_offset}
 use Rattle.time_known.specs.declared.iso8601.config.DateKind.TheVariants as kind
-use Rattle.time_known.proofs.AcceptedLemmas.{usual_accepted}
-use Rattle.time_known.proofs.SinkLemmas.{appended_as}
+use Rattle.time_known.proofs.AcceptedLemmas.{appended_as, usual_accepted}
 use Rattle.time_known.proofs.iso8601.usual_text.write_usual.Goals as goal
 
 pub returns-in-Ok-clause-appends : goal.returns-in-Ok-clause-appends

@@ -1,46 +1,28 @@
-use Rattle.std.proofs.Common.{ap, sym, ◌∙◌, arith, rules, ℕ, unsigned_abs}
+use Rattle.std.proofs.Common.{ap, sym, ◌∙◌, unsigned_abs}
 use Rattle.time_fmt.specs.Outcome.{Outcome}
-use Rattle.time_fmt.proofs.WriteLemmas.{appends_nothing}
-use Rattle.time_known.specs.Fields.{Shown, on_weekday}
 use Rattle.time_known.specs.Groups.{at_groups}
 use Rattle.time_known.specs.Rfc2822.{rfc2822_of_groups, rfc2822_text}
 use Rattle.time_known.specs.Values.{the_date, the_offset}
 use Rattle.time_known.proofs.AcceptedLemmas.{any_hour}
-use Rattle.time_known.proofs.GroupLemmas.{has_all, outcome_of_all}
 use Rattle.time_known.proofs.GuaranteeLemmas.{rfc2822_utf8}
 use Rattle.time_known.proofs.LawLemmas.{completed_are_canonical}
 use Rattle.time_known.proofs.ReadBackLemmas.{reads_as}
 use Rattle.time_known.proofs.Rfc2822Lemmas.{rfc2822_is_written}
-use Rattle.time_known.proofs.SinkLemmas.{appended_as}
 use Rattle.time_known.proofs.rfc2822.Rfc2822Formattable.write_into.Goals as goal
 
-pub returns-in-Ok : goal.returns-in-Ok
-returns-in-Ok g c =
+pub returns-in-Ok-clause-spelled : goal.returns-in-Ok-clause-spelled
+returns-in-Ok-clause-spelled g c =
     let value = c.args.value.now in
     let f = g.V.ComponentProvider.facts value in
-    let all = has_all f (c.are_supplied_by.ensures.there value ∙ c.if-not-are_supplied_by.false) in
+    let all = c.are_supplied_by.ensures.there value ∙ c.if-not-are_supplied_by.false in
     let text = at_groups rfc2822_text f in
     let hours = any_hour 1900 (the_date f).year (unsigned_abs (the_offset f).hours)
     (unsigned_abs (the_offset f).seconds) text c.accepted_fields.ensures.offset.0.0 in
-    let completed = outcome_of_all f all rfc2822_of_groups ∙ sym hours ∙ c.in-Ok.ensures.accepted text in
-    record {
-      appends = rw completed (appended_as (λ (s : Shown). rfc2822_text (record s.date { weekday = (the_date f).weekday }) s.time s.offset) c.in-Ok.ensures.fields
-          (appended_as (λ (weekday : ℕ). rfc2822_text (on_weekday weekday c.in-Ok.fields) c.in-Ok.fields.time c.in-Ok.fields.offset)
-          c.weekday-weekday.ensures.value c.append.ensures.appends)).appends;
-      spelled = reads_as rfc2822_of_groups (completed_are_canonical rfc2822_is_written) f all c.in-Ok.ensures.real
-          (ap (λ (o : Outcome). o.refusal) completed);
-      within = omega arith;
-      text = λ _. rfc2822_utf8 f;
-      agrees = search rules;
-    }
+    rw all (reads_as rfc2822_of_groups (completed_are_canonical rfc2822_is_written) f all c.in-Ok.ensures.real
+    (ap (λ (o : Outcome). o.refusal) (sym hours ∙ c.in-Ok.ensures.accepted text)))
 
-pub returns-in-Err-clause-appends : goal.returns-in-Err-clause-appends
-returns-in-Err-clause-appends g c =
-    let value = c.args.value.now in
-    let f = g.V.ComponentProvider.facts value in
-    let all = has_all f (c.are_supplied_by.ensures.there value ∙ c.if-not-are_supplied_by.false) in
-    let text = at_groups rfc2822_text f in
-    let hours = any_hour 1900 (the_date f).year (unsigned_abs (the_offset f).hours)
-    (unsigned_abs (the_offset f).seconds) text c.accepted_fields.ensures.offset.0.0 in
-    rw (outcome_of_all f all rfc2822_of_groups ∙ sym hours ∙ c.in-Err.ensures.refused text)
-    (appends_nothing _ _ _ c.name.ensures)
+pub returns-in-Ok-clause-text : goal.returns-in-Ok-clause-text
+returns-in-Ok-clause-text g c = λ _. rfc2822_utf8 (g.V.ComponentProvider.facts c.args.value.now)
+
+pub returns-in-Err-clause-text : goal.returns-in-Err-clause-text
+returns-in-Err-clause-text g c = λ _. rfc2822_utf8 (g.V.ComponentProvider.facts c.args.value.now)

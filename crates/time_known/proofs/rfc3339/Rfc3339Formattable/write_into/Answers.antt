@@ -1,36 +1,16 @@
-use Rattle.std.proofs.Common.{ap, ◌∙◌, arith, rules}
+use Rattle.std.proofs.Common.{ap, ◌∙◌}
 use Rattle.time_fmt.specs.Outcome.{Outcome}
-use Rattle.time_fmt.proofs.WriteLemmas.{appends_nothing}
-use Rattle.time_known.specs.Fields.{Shown}
 use Rattle.time_known.specs.Groups.{at_groups}
 use Rattle.time_known.specs.Rfc3339.{rfc3339_of_groups, rfc3339_text}
-use Rattle.time_known.proofs.GroupLemmas.{has_all, outcome_of_all}
-use Rattle.time_known.proofs.GuaranteeLemmas.{rfc3339_utf8}
 use Rattle.time_known.proofs.LawLemmas.{completed_are_canonical}
 use Rattle.time_known.proofs.ReadBackLemmas.{reads_as}
 use Rattle.time_known.proofs.Rfc3339Lemmas.{rfc3339_is_written}
-use Rattle.time_known.proofs.SinkLemmas.{appended_as}
 use Rattle.time_known.proofs.rfc3339.Rfc3339Formattable.write_into.Goals as goal
 
-pub returns-in-Ok : goal.returns-in-Ok
-returns-in-Ok g c =
+pub returns-in-Ok-clause-spelled : goal.returns-in-Ok-clause-spelled
+returns-in-Ok-clause-spelled g c =
     let value = c.args.value.now in
     let f = g.V.ComponentProvider.facts value in
-    let all = has_all f (c.are_supplied_by.ensures.there value ∙ c.if-not-are_supplied_by.false) in
-    let completed = outcome_of_all f all rfc3339_of_groups ∙ c.in-Ok.ensures.accepted (at_groups rfc3339_text f) in
-    record {
-      appends = rw completed (appended_as (λ (s : Shown). rfc3339_text s.date s.time s.offset) c.in-Ok.ensures.fields c.append.ensures.appends).appends;
-      spelled = reads_as rfc3339_of_groups (completed_are_canonical rfc3339_is_written) f all c.in-Ok.ensures.real
-          (ap (λ (o : Outcome). o.refusal) completed);
-      within = omega arith;
-      text = λ _. rfc3339_utf8 f;
-      agrees = search rules;
-    }
-
-pub returns-in-Err-clause-appends : goal.returns-in-Err-clause-appends
-returns-in-Err-clause-appends g c =
-    let value = c.args.value.now in
-    let f = g.V.ComponentProvider.facts value in
-    let all = has_all f (c.are_supplied_by.ensures.there value ∙ c.if-not-are_supplied_by.false) in
-    rw (outcome_of_all f all rfc3339_of_groups ∙ c.in-Err.ensures.refused (at_groups rfc3339_text f))
-    (appends_nothing _ _ _ c.name.ensures)
+    let all = c.are_supplied_by.ensures.there value ∙ c.if-not-are_supplied_by.false in
+    rw all (reads_as rfc3339_of_groups (completed_are_canonical rfc3339_is_written) f all c.in-Ok.ensures.real
+    (ap (λ (o : Outcome). o.refusal) (c.in-Ok.ensures.accepted (at_groups rfc3339_text f))))
