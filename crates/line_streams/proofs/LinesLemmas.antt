@@ -202,6 +202,7 @@ line-found bytes (Some end) e =
     let found = position-Some (λ b. b == line_feed) bytes end 0 (sym e) in
     let feed : get_or bytes end 0 ≡ line_feed = is_line_feed (get_or bytes end 0) found.1 in
     record {
+      inside = found.0;
       front = ends-front bytes end e;
       line = take_more bytes end 0 found.0 ∙ ap (λ b. take end bytes ++ b ∷ []) feed;
       whole =

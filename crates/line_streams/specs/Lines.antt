@@ -1,5 +1,5 @@
 -- The lines of a text. A line ends at a line feed, and a last line without one counts if it is not empty.
-use Rattle.std.specs.Prelude.{ℕ, List, [], ◌∷◌, ◌+◌, ◌++◌, ◌≡◌, ◌≢◌, ◌==◌, take, drop, if◌then◌else◌}
+use Rattle.std.specs.Prelude.{ℕ, List, [], ◌∷◌, ◌+◌, ◌<◌, ◌++◌, ◌≡◌, ◌≢◌, ◌==◌, length, take, drop, if◌then◌else◌}
 use Rattle.std.specs.List.{flat_map, AllByRecursion, onto_first}
 
 -- the byte that ends a line
@@ -54,6 +54,7 @@ pub record LinesSpell (bytes : List ℕ) : Type 0 where
 
 -- the first line feed of a text is at this place
 pub record EndsAt (bytes : List ℕ) (end : ℕ) : Type 0 where
+  pub inside : end < length bytes
   pub front : IsOneLine (take end bytes)
   pub line : take (end + 1) bytes ≡ with_line_feed (take end bytes)
   pub whole : bytes ≡ with_line_feed (take end bytes) ++ drop (end + 1) bytes

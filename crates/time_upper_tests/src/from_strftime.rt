@@ -23,4 +23,5 @@ const ROWS: &[(&str, &str)] = &[
     ("%A, %-d %B", "Sunday, 22 November"),
     ("%G-W%V-%u", "2026-W47-7"),
     ("%H:%M:%S.%3N", "09:55:06.120"),
+    ("%a %e %b %Y %I:%M %p", "Sun 22 Nov 2026 09:55 AM"),
 ];

@@ -1,8 +1,7 @@
 //! From the Rust crates `time` and `chrono`.
-use crate::values::{assert_text, date, moment, offset, time};
+use crate::values::{assert_text, assert_that, date, instant, local, moment};
 use std::default::Default;
 use std::test::Fail;
-use time_below::{OffsetDateTime, Timestamp, UtcOffset};
 use time_digits::ru8;
 use time_fmt::TimestampState;
 use time_fmt::parts::*;
@@ -30,7 +29,7 @@ fn well_known_formats(rt: HostRuntime) -> Result<(), Fail> {
     assert_text(&rt, text, "2026-11-22T09:55:06.120-06:00");
     let mut out = Vec::new(alloc);
     let count = Rfc3339.format_into(&mut out, &moment, state)?;
-    assert!(&rt; count == 28);
+    assert_that(&rt, count == 28);
     Ok(())
 }
 
@@ -39,8 +38,8 @@ fn descriptions(rt: HostRuntime) -> Result<(), Fail> {
     let alloc = rt.alloc();
     let moment = moment(&rt);
     let state = &mut DateState::default();
-    let text = text!(YEAR, b"-", MONTH, b"-", DAY).format(alloc, &moment, state)?;
-    assert_text(&rt, text, "2026-11-22");
+    let text = text!(HOUR, b":", MINUTE).format(alloc, &moment, state)?;
+    assert_text(&rt, text, "09:55");
     Ok(())
 }
 
@@ -52,38 +51,22 @@ fn descriptions_from_a_text(rt: HostRuntime) -> Result<(), Fail> {
     let plan = Plan::parse(alloc, b"[hour]:[minute]:[second].[subsecond digits:3]")?;
     let text = plan.format(alloc, &moment, state)?;
     assert_text(&rt, text, "09:55:06.120");
-    let plan = Plan::parse_strftime(alloc, b"%a %e %b %Y %I:%M %p")?;
-    let text = plan.format(alloc, &moment, state)?;
-    assert_text(&rt, text, "Sun 22 Nov 2026 09:55 AM");
     Ok(())
 }
 
 #[test]
-fn a_local_moment_has_its_text(rt: HostRuntime) -> Result<(), Fail> {
-    let alloc = rt.alloc();
-    let (date, time, offset) = (date(&rt), time(&rt), offset(&rt));
-    let moment = OffsetDateTime::new_in_offset(date, time, offset);
-    let text = Rfc3339.format(alloc, &moment, &mut DateState::default())?;
-    assert_text(&rt, text, "2026-11-22T09:55:06.12-06:00");
-    assert!(&rt; date.ordinal() == 326 && date.iso_year_week().1 == 47);
-    Ok(())
+fn a_date_has_its_day_and_week(rt: HostRuntime) {
+    let date = date(&rt);
+    assert_that(&rt, date.ordinal() == 326);
+    assert_that(&rt, date.iso_year_week().1 == 47);
 }
 
 #[test]
 fn an_instant_has_its_texts(rt: HostRuntime) -> Result<(), Fail> {
     let alloc = rt.alloc();
-    let Ok(instant) = Timestamp::new(1_795_362_906, 120_000_000) else {
-        panic!(&rt; "no instant")
-    };
-    let text = Rfc3339.format(alloc, &instant, &mut TimestampState::default())?;
+    let text = Rfc3339.format(alloc, &instant(&rt), &mut TimestampState::default())?;
     assert_text(&rt, text, "2026-11-22T15:55:06.12Z");
-    let Ok(offset) = UtcOffset::from_whole_seconds(-21_600) else {
-        panic!(&rt; "no offset")
-    };
-    let Some(local) = instant.checked_to_offset(offset) else {
-        panic!(&rt; "no local date and time")
-    };
-    let text = Rfc3339.format(alloc, &local, &mut DateState::default())?;
+    let text = Rfc3339.format(alloc, &local(&rt), &mut DateState::default())?;
     assert_text(&rt, text, "2026-11-22T09:55:06.12-06:00");
     Ok(())
 }
@@ -91,8 +74,8 @@ fn an_instant_has_its_texts(rt: HostRuntime) -> Result<(), Fail> {
 #[test]
 fn texts_are_read(rt: HostRuntime) -> Result<(), Fail> {
     let moment = rfc3339::read(b"2026-11-22T09:55:06.12-06:00")?;
-    assert!(&rt; moment.unix_timestamp() == 1_795_362_906);
+    assert_that(&rt, moment.unix_timestamp() == 1_795_362_906);
     let moment = rfc3339::read_lenient(b"2026-11-22t09:55:06.12-06:00")?;
-    assert!(&rt; moment.unix_timestamp() == 1_795_362_906);
+    assert_that(&rt, moment.unix_timestamp() == 1_795_362_906);
     Ok(())
 }

@@ -1,6 +1,6 @@
 //! A worked row of each function, by the moment that GNU `date -u -d @1795341306` shows as
 //! `Sun Nov 22 09:55:06 UTC 2026`, and the bounds of the years.
-use crate::values::assert_that;
+use crate::values::{assert_at, assert_that};
 use jiff::tz::{Offset, TimeZone};
 use jiff::{Timestamp as Instant, civil};
 use std::process::Abort;
@@ -17,6 +17,20 @@ fn their_time(rt: &impl Abort) -> civil::Time {
     match civil::Time::new(9, 55, 6, 120_000_000) {
         Ok(time) => time,
         Err(_) => panic!(rt; "no time"),
+    }
+}
+
+fn their_moment(rt: &impl Abort, nanosecond: i32) -> Instant {
+    match Instant::new(1_795_341_306, nanosecond) {
+        Ok(moment) => moment,
+        Err(_) => panic!(rt; "no moment"),
+    }
+}
+
+fn their_offset(rt: &impl Abort) -> Offset {
+    match Offset::from_seconds(-23_400) {
+        Ok(offset) => offset,
+        Err(_) => panic!(rt; "no offset"),
     }
 }
 
@@ -37,17 +51,16 @@ fn first_day(rt: &impl Abort, year: i32) -> Date {
 #[test]
 fn a_moment_has_its_seconds(rt: HostRuntime) {
     let ours = moment(&rt, 1_795_341_306, 120_000_000);
-    match Instant::new(1_795_341_306, 120_000_000) {
-        Ok(theirs) => assert_that(
-            &rt,
-            time_jiff::timestamp(theirs).as_parts() == ours.as_parts(),
-        ),
-        Err(_) => panic!(rt; "no moment"),
-    }
-    match time_jiff::jiff_timestamp(ours) {
-        Ok(theirs) => assert_that(&rt, theirs.as_nanosecond() == 1_795_341_306_120_000_000),
-        Err(_) => panic!(rt; "it is refused"),
-    }
+    let theirs = their_moment(&rt, 120_000_000);
+    assert_that(
+        &rt,
+        time_jiff::timestamp(theirs).as_parts() == ours.as_parts(),
+    );
+    assert_that(
+        &rt,
+        matches!(time_jiff::jiff_timestamp(ours), Ok(same) if same == theirs),
+    );
+    assert_that(&rt, theirs.as_nanosecond() == 1_795_341_306_120_000_000);
 }
 
 /// The ends of jiff's moments: `date -u` shows -9999-01-02 01:59:59 and 9999-12-30 22:00:00.
@@ -68,6 +81,15 @@ fn a_date_and_a_time_have_their_parts(rt: HostRuntime) {
     assert_that(&rt, date.to_calendar_date() == (2026, Month::November, 22));
     let time = time_jiff::time(their_time(&rt));
     assert_that(&rt, time.as_hms_nano() == (9, 55, 6, 120_000_000));
+    assert_that(&rt, time_jiff::jiff_time(time) == their_time(&rt));
+    assert_that(
+        &rt,
+        matches!(time_jiff::jiff_date(date), Ok(same) if same == their_date(&rt)),
+    );
+}
+
+#[test]
+fn a_date_with_a_time_has_the_parts_of_both(rt: HostRuntime) {
     let both = civil::DateTime::from_parts(their_date(&rt), their_time(&rt));
     let shown = time_jiff::plain_date_time(both);
     assert_that(
@@ -75,12 +97,7 @@ fn a_date_and_a_time_have_their_parts(rt: HostRuntime) {
         shown.date().to_calendar_date() == (2026, Month::November, 22),
     );
     assert_that(&rt, shown.time().as_hms_nano() == (9, 55, 6, 120_000_000));
-    assert_that(&rt, time_jiff::jiff_time(time) == their_time(&rt));
-    assert_that(
-        &rt,
-        matches!(time_jiff::jiff_date(date), Ok(same) if same == their_date(&rt)),
-    );
-    let back = time_jiff::jiff_date_time(PlainDateTime::new(date, time));
+    let back = time_jiff::jiff_date_time(shown);
     assert_that(&rt, matches!(back, Ok(same) if same == both));
 }
 
@@ -94,33 +111,26 @@ fn years_outside_jiff_are_refused(rt: HostRuntime) {
         (10_000, true),
     ] {
         let date = first_day(&rt, year);
-        assert!(&rt; time_jiff::jiff_date(date).is_err() == refused, "at {year}");
+        assert_at(&rt, year, time_jiff::jiff_date(date).is_err() == refused);
         let both = PlainDateTime::new(date, time);
-        assert!(&rt;
+        assert_at(
+            &rt,
+            year,
             time_jiff::jiff_date_time(both).is_err() == refused,
-            "at {year}"
         );
     }
 }
 
 #[test]
 fn an_offset_has_its_seconds(rt: HostRuntime) {
-    let Ok(theirs) = Offset::from_seconds(-23_400) else {
-        panic!(rt; "no offset")
-    };
-    let ours = time_jiff::offset(theirs);
+    let ours = time_jiff::offset(their_offset(&rt));
     assert_that(&rt, ours.as_hms() == (-6, -30, 0));
     assert_that(&rt, time_jiff::jiff_offset(ours).seconds() == -23_400);
 }
 
 #[test]
 fn a_zoned_moment_has_its_clock_and_offset_both_ways(rt: HostRuntime) {
-    let (Ok(offset), Ok(instant)) = (
-        Offset::from_seconds(-23_400),
-        Instant::from_second(1_795_341_306),
-    ) else {
-        panic!(rt; "no moment")
-    };
+    let (offset, instant) = (their_offset(&rt), their_moment(&rt, 0));
     let shown = time_jiff::offset_date_time(&instant.to_zoned(TimeZone::fixed(offset)));
     assert_that(&rt, shown.unix_timestamp() == 1_795_341_306);
     assert_that(&rt, shown.time().as_hms_nano() == (3, 25, 6, 0));
@@ -149,9 +159,6 @@ fn zoned_moments_outside_jiff_are_refused(rt: HostRuntime) {
             panic!(rt; "no time")
         };
         let moment = OffsetDateTime::new_in_offset(date, time, offset);
-        assert!(&rt;
-            time_jiff::jiff_zoned(moment).is_err() == refused,
-            "at {second}"
-        );
+        assert_that(&rt, time_jiff::jiff_zoned(moment).is_err() == refused);
     }
 }

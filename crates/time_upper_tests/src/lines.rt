@@ -1,4 +1,5 @@
 //! Lines and what they become. The texts of moments are those of GNU `date -u`.
+use crate::values::assert_that;
 use line_streams::LineJob;
 use std::alloc::Global;
 use std::io;
@@ -22,8 +23,20 @@ fn assert_becomes<J: LineJob>(
 ) {
     let mut output = Vec::new(alloc);
     assert!(rt; job.prepare().is_ok());
-    assert!(rt; job.append(&mut output, line).is_ok());
-    assert!(rt; output.as_slice() == wanted);
+    assert_that(rt, job.append(&mut output, line).is_ok());
+    assert_that(rt, output.as_slice() == wanted);
+}
+
+/// What each of these lines becomes, one after another.
+fn assert_each_becomes<J: LineJob>(
+    rt: &impl Abort,
+    alloc: Global,
+    job: &mut J,
+    rows: &[(&[u8], &[u8])],
+) {
+    for (line, wanted) in rows {
+        assert_becomes(rt, alloc, job, line, wanted);
+    }
 }
 
 fn unix_job<S: Shown + Drop>(shown: S) -> UnixJob<S> {
@@ -85,14 +98,17 @@ const PASSED: &[&[u8]] = &[
 #[test]
 fn the_first_number_is_replaced(rt: HostRuntime) {
     let mut job = unix_job(Rfc3339InPlace::new(Utc));
-    for (line, wanted) in SECONDS {
-        assert_becomes(&rt, rt.alloc(), &mut job, line, wanted);
-    }
-    assert!(rt; job.passed == 0);
+    assert_each_becomes(&rt, rt.alloc(), &mut job, SECONDS);
+    assert_that(&rt, job.passed == 0);
+}
+
+#[test]
+fn a_line_without_a_number_passes(rt: HostRuntime) {
+    let mut job = unix_job(Rfc3339InPlace::new(Utc));
     for line in PASSED {
         assert_becomes(&rt, rt.alloc(), &mut job, line, line);
     }
-    assert!(rt; job.passed == PASSED.len() as u64);
+    assert_that(&rt, job.passed == PASSED.len() as u64);
 }
 
 /// Units, the digits that a number has at least, lines, and what they become.
@@ -170,62 +186,50 @@ fn the_clock_of_a_place_is_shown(rt: HostRuntime) {
     );
 }
 
-/// Lines of days that follow each other and come again, so that a day is kept, and what they become in UTC
-/// and 14 hours west of it. Those of the year 10000 pass.
-const DAYS: &[(&[u8], &[u8], &[u8])] = &[
-    (
-        b"1700006399\n",
-        b"2023-11-14T23:59:59Z\n",
-        b"2023-11-14T09:59:59-14:00\n",
-    ),
-    (
-        b"1700006400.5\n",
-        b"2023-11-15T00:00:00.5Z\n",
-        b"2023-11-14T10:00:00.5-14:00\n",
-    ),
+/// Lines of days that follow each other and come again, so that a day is kept, and what they become. One of
+/// the year 10000 passes.
+const DAYS: &[(&[u8], &[u8])] = &[
+    (b"1700006399\n", b"2023-11-14T23:59:59Z\n"),
+    (b"1700006400.5\n", b"2023-11-15T00:00:00.5Z\n"),
     (
         b"1700006399.999999999\n",
         b"2023-11-14T23:59:59.999999999Z\n",
+    ),
+    (b"-100000000\n", b"1966-10-31T14:13:20Z\n"),
+    (b"-100000801\n", b"1966-10-31T13:59:59Z\n"),
+    (b"253402300799\n", b"9999-12-31T23:59:59Z\n"),
+    (b"253402300800\n", b"253402300800\n"),
+    (b"1700006401\n", b"2023-11-15T00:00:01Z\n"),
+];
+
+/// The same lines, and what they become 14 hours west of UTC.
+const DAYS_IN_THE_WEST: &[(&[u8], &[u8])] = &[
+    (b"1700006399\n", b"2023-11-14T09:59:59-14:00\n"),
+    (b"1700006400.5\n", b"2023-11-14T10:00:00.5-14:00\n"),
+    (
+        b"1700006399.999999999\n",
         b"2023-11-14T09:59:59.999999999-14:00\n",
     ),
-    (
-        b"-100000000\n",
-        b"1966-10-31T14:13:20Z\n",
-        b"1966-10-31T00:13:20-14:00\n",
-    ),
-    (
-        b"-100000801\n",
-        b"1966-10-31T13:59:59Z\n",
-        b"1966-10-30T23:59:59-14:00\n",
-    ),
-    (
-        b"253402300799\n",
-        b"9999-12-31T23:59:59Z\n",
-        b"9999-12-31T09:59:59-14:00\n",
-    ),
-    (
-        b"253402300800\n",
-        b"253402300800\n",
-        b"9999-12-31T10:00:00-14:00\n",
-    ),
-    (
-        b"1700006401\n",
-        b"2023-11-15T00:00:01Z\n",
-        b"2023-11-14T10:00:01-14:00\n",
-    ),
+    (b"-100000000\n", b"1966-10-31T00:13:20-14:00\n"),
+    (b"-100000801\n", b"1966-10-30T23:59:59-14:00\n"),
+    (b"253402300799\n", b"9999-12-31T09:59:59-14:00\n"),
+    (b"253402300800\n", b"9999-12-31T10:00:00-14:00\n"),
+    (b"1700006401\n", b"2023-11-14T10:00:01-14:00\n"),
 ];
 
 #[test]
 fn a_day_that_is_kept_changes_no_text(rt: HostRuntime) {
-    let Ok(west) = UtcOffset::from_hms(-14, 0, 0) else {
+    let mut job = unix_job(Rfc3339InPlace::new(Utc));
+    assert_each_becomes(&rt, rt.alloc(), &mut job, DAYS);
+}
+
+#[test]
+fn a_day_that_is_kept_changes_no_text_in_the_west(rt: HostRuntime) {
+    let Ok(offset) = UtcOffset::from_hms(-14, 0, 0) else {
         panic!(rt; "no offset")
     };
-    let mut in_utc = unix_job(Rfc3339InPlace::new(Utc));
-    let mut in_west = unix_job(Rfc3339InPlace::new(AtOffset { offset: west }));
-    for (line, utc, local) in DAYS {
-        assert_becomes(&rt, rt.alloc(), &mut in_utc, line, utc);
-        assert_becomes(&rt, rt.alloc(), &mut in_west, line, local);
-    }
+    let mut job = unix_job(Rfc3339InPlace::new(AtOffset { offset }));
+    assert_each_becomes(&rt, rt.alloc(), &mut job, DAYS_IN_THE_WEST);
 }
 
 #[test]
@@ -235,7 +239,7 @@ fn an_offset_with_seconds_has_no_text(rt: HostRuntime) {
     };
     let mut job = unix_job(Rfc3339InPlace::new(AtOffset { offset }));
     assert_becomes(&rt, rt.alloc(), &mut job, b"1700000000\n", b"1700000000\n");
-    assert!(rt; job.passed == 1);
+    assert_that(&rt, job.passed == 1);
 }
 
 /// Lines with a text of RFC 3339, and what they become by the seconds since 1970.
@@ -268,10 +272,8 @@ fn the_first_text_is_replaced(rt: HostRuntime) {
         reader: LenientReader::new(),
         passed: 0,
     };
-    for (line, wanted) in TEXTS {
-        assert_becomes(&rt, rt.alloc(), &mut job, line, wanted);
-    }
-    assert!(rt; job.passed == 4);
+    assert_each_becomes(&rt, rt.alloc(), &mut job, TEXTS);
+    assert_that(&rt, job.passed == 4);
 }
 
 /// A clock that stands.

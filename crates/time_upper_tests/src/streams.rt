@@ -1,6 +1,7 @@
 //! Runs over a source and a sink in memory, which give and take few bytes and may fail once.
 ghost use Rattle.std.specs.Prelude.{None};
 
+use crate::values::assert_that;
 use line_streams::{Exchange, FilterError, LineJob, run};
 use std::alloc::{AllocError, Global};
 use std::process::Abort;
@@ -104,9 +105,9 @@ fn assert_run(
     written: &[u8],
 ) {
     let ended = run(alloc, &mut Quote, memory);
-    assert!(rt; ended == outcome);
-    assert!(rt; memory.sink.as_slice() == written);
-    assert!(rt; memory.waiting == 0);
+    assert_that(rt, ended == outcome);
+    assert_that(rt, memory.sink.as_slice() == written);
+    assert_that(rt, memory.waiting == 0);
 }
 
 #[test]
@@ -145,13 +146,11 @@ fn a_run_ends_at_a_call_that_fails(rt: HostRuntime) {
 
 #[test]
 fn a_line_may_be_longer_than_a_read(rt: HostRuntime) -> Result<(), Fail> {
-    let mut text = vec![in rt.alloc(); b'x'; 200_000]?;
-    text.push(b'\n')?;
-    let mut quoted = Vec::new(rt.alloc());
-    quoted.push(b'>')?;
-    quoted.extend_from_slice(text.as_slice())?;
+    let mut quoted = vec![in rt.alloc(); b'>'; 200_000]?;
+    quoted.push(b'\n')?;
+    let text = &quoted.as_slice()[1..];
     for step in [1_000, 65_536] {
-        let mut memory = Memory::new(rt.alloc(), text.as_slice(), step);
+        let mut memory = Memory::new(rt.alloc(), text, step);
         assert_run(&rt, &mut memory, rt.alloc(), Ok(()), quoted.as_slice());
     }
     Ok(())
@@ -161,5 +160,5 @@ fn a_line_may_be_longer_than_a_read(rt: HostRuntime) -> Result<(), Fail> {
 fn nothing_becomes_nothing(rt: HostRuntime) {
     let mut memory = Memory::new(rt.alloc(), b"", 8);
     assert_run(&rt, &mut memory, rt.alloc(), Ok(()), b"");
-    assert!(rt; memory.writes == 0);
+    assert_that(&rt, memory.writes == 0);
 }

@@ -1,6 +1,6 @@
 //! The values of the page, and the comparison of texts.
 use std::process::Abort;
-use time_below::{Date, Month, OffsetDateTime, Time, UtcOffset};
+use time_below::{Date, Month, OffsetDateTime, Time, Timestamp, UtcOffset};
 
 pub fn date(rt: &impl Abort) -> Date {
     let Ok(date) = Date::from_calendar_date(2026, Month::November, 22) else {
@@ -29,9 +29,34 @@ pub fn moment(rt: &impl Abort) -> OffsetDateTime {
     OffsetDateTime::new_in_offset(date, time, offset)
 }
 
+/// The same moment in UTC.
+pub fn instant(rt: &impl Abort) -> Timestamp {
+    let Ok(instant) = Timestamp::new(1_795_362_906, 120_000_000) else {
+        panic!(rt; "no instant")
+    };
+    instant
+}
+
+/// What a clock six hours behind UTC shows of it.
+pub fn local(rt: &impl Abort) -> OffsetDateTime {
+    let Ok(offset) = UtcOffset::from_whole_seconds(-21_600) else {
+        panic!(rt; "no offset")
+    };
+    let instant = instant(rt);
+    let Some(local) = instant.checked_to_offset(offset) else {
+        panic!(rt; "no local date and time")
+    };
+    local
+}
+
 /// Fails where this does not hold. A call leaves no branch in a test.
 pub fn assert_that(rt: &impl Abort, holds: bool) {
     assert!(rt; holds);
+}
+
+/// Fails where this does not hold of the row with this number.
+pub fn assert_at(rt: &impl Abort, row: i32, holds: bool) {
+    assert!(rt; holds, "at {row}");
 }
 
 /// Takes the text, so that it does not outlive its comparison.
