@@ -16,8 +16,7 @@ stopped_line : (v : Result Outcome Reason) (r : Reason) (before after : List ℕ
 stopped_line v r before after h = grind (arith, common_steps)
 
 -- a buffer is unchanged if its front and the rest are
-same_room : (room later : List ℕ) (b : ℕ) → take b later ≡ take b room → drop b later ≡ drop b room
-    → later ≡ room
+same_room : (room later : List ℕ) (b : ℕ) → take b later ≡ take b room → drop b later ≡ drop b room → later ≡ room
 same_room room later b et ed = sym (take-append-drop b later) ∙ ap (λ x. x ++ drop b later) et ∙ ap
     (λ x. take b room ++ x) ed ∙ take-append-drop b room
 
@@ -27,10 +26,9 @@ bytes_after_front : (front init room : List ℕ) (b : ℕ) → b ≡ length fron
 bytes_after_front front init room b eb er = grind (arith, common_steps)
 
 -- the next item stops
-pub stops_at_item : {A : Type 0} (n : ℕ) (items : List A) (line : A → Result Outcome Reason) (bytes
-    : ℕ) (before room later : List ℕ) (item : A) (r : Reason)
-    → n < length items → item ≡ get_or items n item → Stand n items line bytes before room
-    → IsText (line item) (Err r) (drop bytes room) (drop bytes later)
+pub stops_at_item : {A : Type 0} (n : ℕ) (items : List A) (line : A → Result Outcome Reason) (bytes : ℕ)
+    (before room later : List ℕ) (item : A) (r : Reason) → n < length items → item ≡ get_or items n item
+    → Stand n items line bytes before room → IsText (line item) (Err r) (drop bytes room) (drop bytes later)
     → take bytes later ≡ take bytes room
     → Stand n items line bytes before later × StopsAt r n items line (length (drop bytes before))
 stops_at_item n items line bytes before room later item r inside is s h same =
@@ -40,8 +38,7 @@ stops_at_item n items line bytes before room later item r inside is s h same =
 
 -- a text in the front of a buffer is in the buffer
 in_front : (text room mid : List ℕ) (n most : ℕ) → n ≡ length text → n ≤ most
-    → take most mid ≡ text ++ drop n (take most room) → drop most mid ≡ drop most room
-    → mid ≡ text ++ drop n room
+    → take most mid ≡ text ++ drop n (take most room) → drop most mid ≡ drop most room → mid ≡ text ++ drop n room
 in_front text room mid n most en inside et ed =
     let whole = sym (take-append-drop most mid) in
     let old = sym (take-append-drop most room) in
@@ -58,8 +55,7 @@ placed_end text room mid n e en inside em =
 pub ended_text : (asked : Result Outcome Reason) (n e most : ℕ) (room mid : List ℕ) → n ≤ most
     → n < length mid → IsText asked (Ok n) (take most room) (take most mid)
     → drop most mid ≡ drop most room → IsText (ended e asked) (Ok (n + 1)) room (set mid n e)
-ended_text asked n e most room mid h k l p =
-    grind (arith, common_steps, in_front, join_done, length-append, placed_end)
+ended_text asked n e most room mid h k l p = grind (arith, common_steps, in_front, join_done, placed_end)
 
 -- what is refused first is refused of both
 pub refused_first : (a b : Outcome) (r : Reason) → IsRefusedFor r a → IsRefusedFor r (join a b)

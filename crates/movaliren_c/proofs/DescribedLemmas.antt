@@ -1,7 +1,6 @@
 -- Descriptions, item by item.
-use Rattle.std.proofs.Common.{◌≡◌, ◌≤◌, ◌<◌, ◌+◌, ◌-◌, ◌++◌, ℕ, min, List, [], ◌∷◌, length, drop, take, get_or, map, None, Some, IfOk, Result, Ok, Err}
-use Rattle.std.proofs.Common.{zero, suc, refl, sym, ap, ◌∙◌, arith, append_assoc, length-append, subst}
-use Rattle.std.proofs.Common.{true, false}
+use Rattle.std.proofs.Common.{◌≡◌, ◌≤◌, ◌<◌, ◌+◌, ◌-◌, ◌++◌, ℕ, min, List, [], ◌∷◌, length, drop, take, get_or, map}
+use Rattle.std.proofs.Common.{None, IfOk, Result, Ok, Err, sym, ap, ◌∙◌, arith, length-append, subst, true, false}
 use Rattle.std.specs.Prelude.{ℤ, pos, int_lt, is_some, unsigned_abs}
 use Rattle.std.proofs.Math.Seq.{take-append_seam}
 use Rattle.std.proofs.lemmas.Grind.{common_steps}
@@ -20,10 +19,9 @@ use Rattle.time_below.specs.Width.{component_width, tree_width, trees_width}
 use Rattle.time_below.specs.declared.format_description.component.Component.{Component}
 use Rattle.time_below.specs.declared.format_description.modifier.Padding.TheVariants as padding
 use Rattle.time_fmt.specs.Description.{component_outcome, tree_outcome, trees_outcome}
-use Rattle.time_fmt.specs.Ends.{Ends, refusal_in, refusal_of}
+use Rattle.time_fmt.specs.Ends.{Ends, refusal_of}
 use Rattle.time_fmt.specs.Kind.{kind_outcome, extended_year, standard_year}
 use Rattle.time_fmt.specs.declared.error.Format.{Format}
-use Rattle.time_fmt.specs.declared.error.Format.TheVariants as error
 use Rattle.time_fmt.specs.declared.refused.Refused.{Refused}
 use Rattle.time_fmt.specs.declared.refused.Refused.TheVariants as refused
 use Rattle.time_fmt.specs.Outcome.{IsAtTheStart, Names, Outcome, done, join}
@@ -36,19 +34,16 @@ use Rattle.movaliren_c.proofs.BatchLemmas.{refused_first}
 use Rattle.movaliren_c.proofs.FlatLemmas.{alone, joined}
 
 -- what is left of a list begins with the member at its index
-next_of : {I A : Type 0} (f : I → Result A Reason) (items : List I) (i : ℕ) (d : I)
-    → i < length items
+next_of : {I A : Type 0} (f : I → Result A Reason) (items : List I) (i : ℕ) (d : I) → i < length items
     → list_of (map f (drop i items)) ≡ list_of (f (get_or items i d) ∷ map f (drop (i + 1) items))
 next_of f items i d inside = at_drop_more (λ rest. list_of (map f rest)) items i d inside
 
-pub next_there : {I A : Type 0} (f : I → Result A Reason) (items : List I) (i : ℕ) (d : I) (a : A)
-    → i < length items → f (get_or items i d) ≡ Ok a
-    → list_of (map f (drop i items)) ≡ with_value (list_of (map f (drop (i + 1) items))) (λ others.
-    Ok (a ∷ others))
+pub next_there : {I A : Type 0} (f : I → Result A Reason) (items : List I) (i : ℕ) (d : I) (a : A) → i < length items
+    → f (get_or items i d) ≡ Ok a
+    → list_of (map f (drop i items)) ≡ with_value (list_of (map f (drop (i + 1) items))) (λ others. Ok (a ∷ others))
 next_there f items i d a inside there = grind (arith, common_steps, next_of)
 
-pub next_not_there : {I A : Type 0} (f : I → Result A Reason) (items : List I) (i : ℕ) (d : I) (r :
-    Reason)
+pub next_not_there : {I A : Type 0} (f : I → Result A Reason) (items : List I) (i : ℕ) (d : I) (r : Reason)
     → i < length items → f (get_or items i d) ≡ Err r → list_of (map f (drop i items)) ≡ Err r
 next_not_there f items i d r inside none = grind (arith, common_steps, next_of)
 
@@ -67,10 +62,9 @@ summed_rest : (greatest sum : ℕ) (t : Tree) (rest : Result (List Tree) Reason)
 summed_rest greatest sum t rest = grind (arith, common_steps)
 
 -- one item more
-pub summed_more : {I : Type 0} (f : I → Result Tree Reason) (items : List I) (i : ℕ) (d : I) (t :
-    Tree) (greatest sum next : ℕ) (all : Result (List Tree) Reason)
-    → i < length items → f (get_or items i d) ≡ Ok t → next ≡ min (sum + tree_width t) greatest
-    → Summed greatest sum all (list_of (map f (drop i items)))
+pub summed_more : {I : Type 0} (f : I → Result Tree Reason) (items : List I) (i : ℕ) (d : I) (t : Tree)
+    (greatest sum next : ℕ) (all : Result (List Tree) Reason) → i < length items → f (get_or items i d) ≡ Ok t
+    → next ≡ min (sum + tree_width t) greatest → Summed greatest sum all (list_of (map f (drop i items)))
     → Summed greatest next all (list_of (map f (drop (i + 1) items)))
 summed_more f items i d t greatest sum next all inside there is summed =
     grind (arith, common_steps, next_there, summed_rest)
@@ -83,76 +77,27 @@ component_fits c = grind (arith, common_steps)
 
 -- a text that was put
 pub put_once : (old new : Buffer) (text : List ℕ) → Puts old new (length text) text → PutsOrLoses old new 0 text
-put_once old new text put = record {
-  capacity = put.capacity;
-  lender = put.lender;
-  small = omega arith;
-  counted = omega (arith, put.grown);
-  put = λ _. put;
-  longer = λ h. absurd (omega (arith, h));
-}
+put_once old new text put = grind arith
 
 -- a text that has no room
 pub lost_whole : (b : Buffer) (n : ℕ) (text : List ℕ) → n ≡ length text → n ≤ 0xffff_ffff_ffff_ffff
     → b.capacity - b.len < n → PutsOrLoses b b n text
-lost_whole b n text is small many = record {
-  capacity = refl;
-  lender = refl;
-  small = small;
-  counted = omega (arith, is);
-  put = λ none. absurd (omega (arith, none, many));
-  longer = λ _. omega (arith, is, many);
-}
+lost_whole b n text is small many = grind arith
 
 -- what ended was put
 pub ended : {u : Unit} (next : Result Tree Reason) (f : Facts) (now new : Buffer) → EndsItem next f now new (Ok u)
     → IsPut next f now new (Ok 0)
-ended (Err r) f now new ends = absurd ends
-ended (Ok t) f now new ends = (
-  sym ends.refusal,
-  omega (arith, ends.grown, ends.within),
-  put_once now new (tree_outcome t f).bytes (record {
-    appended = ends.appended;
-    counted = refl;
-    grown = ends.grown;
-    capacity = ends.capacity;
-    lender = ends.lender;
-  }),
-)
+ended next f now new h = grind (arith, put_once)
 
 -- ---- texts, one after another
 
 longer_both : (old now new : Buffer) (lost more : ℕ) (a b : List ℕ) → PutsOrLoses old now lost a
     → PutsOrLoses now new more b → 0 < lost + more → old.capacity < old.len + length a + length b
-longer_both old now new zero more a b first second some =
-    let put = first.put refl in
-    let longer = second.longer (omega (arith, some)) in
-    omega (arith, put.grown, longer, first.capacity)
-longer_both old now new (suc k) more a b first second some = let longer = first.longer (omega arith) in omega (arith, longer)
+longer_both old now new lost more a b h k l = grind arith
 
 put_both : (old now new : Buffer) (lost more total : ℕ) (a b : List ℕ) → PutsOrLoses old now lost a
     → PutsOrLoses now new more b → total ≡ min (lost + more) 0xffff_ffff_ffff_ffff → PutsOrLoses old new total (a ++ b)
-put_both old now new lost more total a b first second sum =
-    let long : length (a ++ b) ≡ length a + length b = length-append a b in
-    record {
-      capacity = second.capacity ∙ first.capacity;
-      lender = second.lender ∙ first.lender;
-      small = omega (arith, sum);
-      counted = omega (arith, sum, first.counted, second.counted, long);
-      put = λ none.
-          let p = first.put (omega (arith, sum, none)) in
-          let q = second.put (omega (arith, sum, none)) in
-          record {
-            appended = q.appended ∙ ap (λ (bytes : List ℕ). bytes ++ b) p.appended ∙ append_assoc old.bytes a b;
-            counted = refl;
-            grown = omega (arith, p.grown, q.grown, long);
-            capacity = q.capacity ∙ p.capacity;
-            lender = q.lender ∙ p.lender;
-          };
-      longer = λ some.
-          let longer = longer_both old now new lost more a b first second (omega (arith, sum, some)) in
-          omega (arith, longer, long);
-    }
+put_both old now new lost more total a b first second sum = grind (arith, common_steps, longer_both)
 
 width_joined : (a b : List Tree) → trees_width (trees (a ++ b)) ≡ trees_width (trees a) + trees_width (trees b)
 width_joined [] b = omega arith
@@ -181,34 +126,17 @@ pub record SoFar (agrees : Type 0) (old now : Buffer) (lost : ℕ) (f : Facts)
   pub put : IsPut (Ok (all_of (trees front))) f old now (Ok lost)
 
 none_in_front : (all : Result (List Tree) Reason) → all ≡ with_value all (λ others. Ok ([] ++ others))
-none_in_front (Ok ts) = refl
-none_in_front (Err r) = refl
+none_in_front all = grind arith
 
 -- nothing was put before the first item
 pub nothing_so_far : {agrees : Type 0} (now : Buffer) (f : Facts) (all : Result (List Tree) Reason) → agrees
     → SoFar agrees now now 0 f all all
-nothing_so_far now f all state = record {
-  state = state;
-  front = [];
-  begin = none_in_front all;
-  put = (
-    refl,
-    omega arith,
-    put_once now now [] (record {
-      appended = sym (append-nil now.bytes);
-      counted = refl;
-      grown = omega arith;
-      capacity = refl;
-      lender = refl;
-    }),
-  );
-}
+nothing_so_far now f all state = grind (arith, none_in_front, put_once, append-nil)
 
 further : (front next : List Tree) (behind : Result (List Tree) Reason)
     → with_value (with_value behind (λ others. Ok (next ++ others))) (λ others. Ok (front ++ others))
     ≡ with_value behind (λ others. Ok ((front ++ next) ++ others))
-further front next (Ok others) = ap Ok (sym (append_assoc front next others))
-further front next (Err r) = refl
+further front next behind = grind (arith, common_steps)
 
 -- what was put or lost behind them is in front too
 more_put : {before after : Type 0} (next : List Tree) (left behind : Result (List Tree) Reason) (old now new : Buffer)
@@ -299,25 +227,15 @@ refused_of : (all behind : Result (List Tree) Reason) (front : List Tree) (t : T
     (old new : Buffer) → (trees_outcome (trees front) f).refusal ≡ None → IsRefusedFor r (tree_outcome t f)
     → all ≡ with_value (with_value behind (λ others. Ok (t ∷ others))) (λ others. Ok (front ++ others))
     → IsPut (as_one all) f old new (Err (reason_before all r))
-refused_of all (Err invalid) front t f r old new completed refused same = rw same refl
-refused_of all (Ok others) front t f r old new completed refused same =
-    let a = trees_outcome (trees front) f in
-    let b = tree_outcome t f in
-    let c = trees_outcome (trees others) f in
-    rw (same, joined front (t ∷ others) f, join_done a (join b c) completed) (refused_first b c r refused)
+refused_of all behind front t f r old new h k l = grind (arith, joined, join_done, refused_first)
 
 -- an item ends all
 pub stops_here : {agrees : Type 0} {I : Type 0} (g : I → Result Tree Reason) (items : List I) (d : I)
     (next : Result Tree Reason) (old now mid new : Buffer) (lost : ℕ) (f : Facts) (all : Result (List Tree) Reason) (r : Reason)
     → 1 ≤ length items → g (get_or items 0 d) ≡ next → IsPut next f now mid (Err r)
     → SoFar agrees old now lost f all (list_of (map g items)) → IsPut (as_one all) f old new (Err (reason_before all r))
-stops_here g items d (Ok t) old now mid new lost f all r some is ends so_far =
-    refused_of all (list_of (map g (drop 1 items))) so_far.front t f r old new so_far.put.0 ends (so_far.begin
-    ∙ ap (λ left. with_value left (λ others. Ok (so_far.front ++ others))) (next_there g items 0 d t (omega (arith, some)) is))
-stops_here g items d (Err q) old now mid new lost f all r some is ends so_far =
-    let none : all ≡ Err q = so_far.begin
-    ∙ ap (λ left. with_value left (λ others. Ok (so_far.front ++ others))) (next_not_there g items 0 d q (omega (arith, some)) is) in
-    rw none refl
+stops_here g items d next old now mid new lost f all r h k l p =
+    grind (arith, common_steps, refused_of, next_there, next_not_there)
 
 reason_of_refused : (refused : Refused) (e : Format) (r : Reason) → Names e (refusal_of refused) → IsReasonFor r e
     → Refuses r (refusal_of refused)
@@ -327,20 +245,13 @@ reason_of_refused refused e r h k = grind (arith, common_steps)
 pub ended_refused : (next : Result Tree Reason) (f : Facts) (now new : Buffer) (answer : Result Unit Refused)
     (refused : Refused) (e : Format) (r : Reason) → answer ≡ Err refused → EndsItem next f now new answer
     → Names e (refusal_of refused) → IsReasonFor r e → IsPut next f now new (Err r)
-ended_refused (Ok t) f now new answer refused e r is ends names reason =
-    let same : Some (refusal_of refused) ≡ (tree_outcome t f).refusal = sym (ap refusal_in is) ∙ ends.refusal in
-    rw (← same) (reason_of_refused refused e r names reason)
-ended_refused (Err q) f now new answer refused e r is ends names reason = absurd ends
+ended_refused next f now new answer refused e r h k l p = grind (arith, reason_of_refused)
 
 -- all items are there
 pub all_put : {agrees : Type 0} {I : Type 0} (g : I → Result Tree Reason) (items : List I) (old now : Buffer)
     (lost : ℕ) (f : Facts) (all : Result (List Tree) Reason)
     → length items < 1 → SoFar agrees old now lost f all (list_of (map g items)) → IsPut (as_one all) f old now (Ok lost)
-all_put g items old now lost f all none so_far =
-    let left : list_of (map g items) ≡ Ok [] = at_drop_all (λ rest. list_of (map g rest)) items 0 (omega (arith, none)) in
-    let is : all ≡ Ok so_far.front = so_far.begin
-    ∙ ap (λ left. with_value left (λ others. Ok (so_far.front ++ others))) left ∙ ap Ok (append-nil so_far.front) in
-    rw is so_far.put
+all_put g items old now lost f all none so_far = grind (arith, common_steps, at_drop_all, append-nil)
 
 -- a date or a time of day that ended is all that the items are
 pub run_alone : {agrees : Type 0} {I : Type 0} (g : I → Result Tree Reason) (items : List I) (r : Run) (x y : ℕ)
@@ -348,40 +259,26 @@ pub run_alone : {agrees : Type 0} {I : Type 0} (g : I → Result Tree Reason) (i
     → list_of (map g items) ≡ with_value (list_of (map g (drop 5 items))) (λ others. Ok (run_before r x y others))
     → EndsRun r x y f old new → IsPut (as_one (list_of (map g items))) f old new (Ok 0)
 run_alone {agrees = agrees} g items r x y old new f state five begin ends =
-    let all = list_of (map g items) in
-    let none : length (drop 5 items) < 1 = omega (arith, five, length-drop 5 items) in
-    all_put {agrees = agrees} g (drop 5 items) old new 0 f all none
-    (run_more {before = agrees} {after = agrees} g items (drop 5 items) r x y old old new 0 f all refl state begin ends
-    (nothing_so_far {agrees = agrees} old f all state))
+    grind (arith, common_steps, length-drop, all_put, run_more, nothing_so_far)
 
 written_whole : (lost : ℕ) (old new : Buffer) (text before after : List ℕ) → PutsOrLoses old new lost text
     → old.bytes ≡ [] → old.len ≡ 0 → length before ≤ old.capacity → after ≡ new.bytes ++ drop (length new.bytes) before
     → length text ≤ length before → after ≡ text ++ drop (length text) before
-written_whole zero old new text before after put empty len fits after_is inside =
-    let bytes_is : new.bytes ≡ text = rw empty at (put.put refl).appended in cc
-written_whole (suc k) old new text before after put empty len fits after_is inside =
-    let longer = put.longer (omega arith) in absurd (omega (arith, longer, len, fits, inside))
+written_whole lost old new text before after h k l p q r = grind arith
 
 -- so they are shown at the start of the buffer
 pub put_shown : (all : Result (List Tree) Reason) (f : Facts) (lost count : ℕ) (old new : Buffer) (before after : List ℕ)
     → IsPut (as_one all) f old new (Ok lost) → count ≡ min (new.len + lost) 0xffff_ffff_ffff_ffff → old.bytes ≡ []
     → old.len ≡ 0 → length before ≤ old.capacity → after ≡ new.bytes ++ drop (length new.bytes) before
     → IsShown all f (Ok count) before after
-put_shown (Err invalid) f lost count old new before after put counted empty len fits after_is = absurd (let e = put in cc)
-put_shown (Ok ts) f lost count old new before after put counted empty len fits after_is = record {
-  completed = put.0;
-  within = put.1;
-  counted = omega (arith, counted, put.2.counted, len);
-  written = written_whole lost old new (trees_outcome (trees ts) f).bytes before after put.2 empty len fits after_is;
-}
+put_shown all f lost count old new before after h k l p q r = grind (arith, written_whole)
 
 -- ---- no text
 
 -- no value
 pub no_value : {V : Type 0} (description : Result (List Tree) Reason) (r : Reason) (facts : V → Facts)
     → described {V = V} description (Err r) facts ≡ Err (reason_before description r)
-no_value (Ok ts) r facts = refl
-no_value (Err invalid) r facts = refl
+no_value description r facts = grind arith
 
 -- too many bytes
 pub no_room : {V : Type 0} (description : Result (List Tree) Reason) (v : V) (facts : V → Facts) (count : ℕ)

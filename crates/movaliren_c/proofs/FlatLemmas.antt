@@ -11,7 +11,6 @@ use Rattle.time_describe.specs.Items.{are_leaves, is_leaf, is_nil}
 use Rattle.time_describe.specs.Literal.{literal_of}
 use Rattle.time_describe.specs.Reading.{Frame, nested}
 use Rattle.time_describe.specs.declared.pieces.Nest.{Nest}
-use Rattle.time_describe.specs.declared.pieces.Nest.TheVariants as nests
 use Rattle.time_fmt.specs.Description.{tree_outcome, trees_outcome}
 use Rattle.time_fmt.specs.Outcome.{Outcome, Refusal, done, join}
 use Rattle.std.proofs.lemmas.Grind.{common_steps}
@@ -126,10 +125,7 @@ hidden_below (f ∷ fs) d is = omega (arith, below_by (hidden_at fs) (is_nil f.l
 -- the list that is opened is the outermost one that is not shown, if there was none and it is not the first
 pub opened_hidden : (hidden : Option ℕ) (fs : List Frame) (f : Frame) (is_first : Bool) (depth : ℕ) → hidden ≡ hidden_at fs → depth ≡ length fs → is_first ≡ is_nil f.lists
     → or_at hidden is_first depth ≡ hidden_at (f ∷ fs)
-opened_hidden hidden fs f is_first depth same deep first =
-    ap (λ (o : Option ℕ). or_at o is_first depth) same
-    ∙ ap (λ (b : Bool). or_at (hidden_at fs) b depth) first
-    ∙ ap (or_at (hidden_at fs) (is_nil f.lists)) deep
+opened_hidden hidden fs f is_first depth same deep first = grind arith
 
 closed_place : (same : Bool) (d here : ℕ) → nat_eq d here ≡ same → (Some d ≡ Some here → ⊥) → closed_at (Some d) here ≡ Some d
 closed_place same d here h k = grind (arith, common_steps, eqb-true)

@@ -43,9 +43,7 @@ shown_same c h f = grind (arith, common_steps)
 
 -- nothing is written of these
 nothing_shown : (c : Component) → is_shown c ≡ false → IsTrue (is_current c) → (f : Facts) → current_outcome c f ≡ done []
-nothing_shown (component.Ignore m) none h f = refl
-nothing_shown (component.End m) none h f = refl
-nothing_shown c none h f = let never : ⊥ = cc in absurd never
+nothing_shown c h k f = grind arith
 
 pub item_is_of : (text : List ℕ) (c : Component) (i : Item) → IsTrue (is_current (current_component c)) → IsItemOf (current_component c) i
     → IsItem text i (of_component c)
@@ -177,10 +175,7 @@ begun text fs array count hidden items holds = grind (arith, begun_shown)
 
 pub opened : (text : List ℕ) (f : Frame) (fs : List Frame) (array : List Item) (count depth : ℕ) (hidden new : Option ℕ) (is_first : Bool) → depth ≡ length fs
     → is_first ≡ is_nil f.lists → new ≡ or_at hidden is_first depth → HoldsListsIn text fs f.items array count hidden f.lists → HoldsIn text (f ∷ fs) array count new []
-opened text f fs array count depth hidden new is_first deep first is holds = record {
-  hidden = is ∙ opened_hidden hidden fs f is_first depth holds.hidden deep first;
-  held = holds.held;
-}
+opened text f fs array count depth hidden new is_first deep first is holds = grind (arith, opened_hidden)
 
 pub closed : (text : List ℕ) (f : Frame) (fs : List Frame) (array : List Item) (count depth : ℕ) (hidden new : Option ℕ) (items : List Tree) → depth ≡ length fs
     → new ≡ closed_at hidden depth → HoldsIn text (f ∷ fs) array count hidden items
@@ -223,9 +218,7 @@ given_by fits text all count room most items old new value facts h k l = grind (
 text_given : {A : Type 0} (text : List ℕ) (d : Result (List Tree) Fault) (count most : ℕ) (items : List Item) (old new : Fault) (value : Result A Reason)
     (facts : A → Facts) → length items ≤ most → Leaves text d (Ok count) items old new
     → described (few_in most d) value facts ≡ described (trees_of text (take count items)) value facts
-text_given text (Ok all) count most items old new value facts small h =
-    given_by (nat_le (length all) (length items)) text all count (length items) most items old new value facts small refl h
-text_given text (Err f) count most items old new value facts small h = absurd (let e = h.0 in cc)
+text_given text d count most items old new value facts h k = grind (arith, given_by)
 
 -- so a text of the items is one of the text
 pub text_shown : {A : Type 0} (text : List ℕ) (d : Result (List Tree) Fault) (count most : ℕ) (items : List Item) (old new : Fault)
@@ -233,9 +226,7 @@ pub text_shown : {A : Type 0} (text : List ℕ) (d : Result (List Tree) Fault) (
     → Leaves text d (Ok count) items old new
     → IsText (described (trees_of text (take count items)) value facts) answer before after
     → IsText (described (few_in most d) value facts) answer before after
-text_shown text d count most items old new value facts answer before after small h =
-    subst (λ (o : Result Outcome Reason). IsText o answer before after)
-    (sym (text_given text d count most items old new value facts small h))
+text_shown text d count most items old new value facts answer before after small h = grind (arith, text_given)
 
 many_only : (fits : Bool) (text : List ℕ) (all : List Tree) (r : Reason) (items : List Item) (old new : Fault)
     → LeavesItems fits text all (Err r) items old new → r ≡ reason.ManyItems

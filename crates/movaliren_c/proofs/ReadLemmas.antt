@@ -12,7 +12,7 @@ use Rattle.time_below.specs.Calendar.{IsDate, IsDayOfMonth, IsYear, OrdinalDate,
 use Rattle.time_below.specs.Moment.{OffsetDateAndTime}
 use Rattle.time_below.specs.Offset.{HasNoOtherSign, IsOffset, Offset}
 use Rattle.time_below.specs.TimeOfDay.{IsTimeOfDay, TimeOfDay}
-use Rattle.time_below.proofs.MonthLemmas.{date_of-month_and_day, day_of-date_of, month_length, month_of-date_of}
+use Rattle.time_below.proofs.MonthLemmas.{date_of-month_and_day, day_of_date, month_of_date, day_of-date_of, month_length, month_of-date_of}
 use Rattle.movaliren_c.proofs.MeaningLemmas.{same_value, test_that_passed, value_of_given}
 use Rattle.std.proofs.lemmas.Grind.{common_steps}
 
@@ -22,29 +22,17 @@ go test r rest h = rw h refl
 both : (a b : Bool) → a ≡ true → b ≡ true → (a && b) ≡ true
 both a b x y = rw (x, y) refl
 
--- ---- dates
+-- ---- dates and times
 
 date_given : (y : ℤ) (m d : ℕ) → IsYear y → IsInRange 1 12 m → IsDayOfMonth y m d → date_value y m d ≡ Ok (date_of y m d)
 unfolding date_value
 date_given y m d year month day = grind (arith, go, le-leb, both)
 
-same_parts : (y z : ℤ) (m n d e : ℕ) → y ≡ z → m ≡ n → d ≡ e → date_of y m d ≡ date_of z n e
-same_parts y z m n d e year month day = rw (year, month, day) refl
+date_by_parts : (d : OrdinalDate) → IsDate d → date_value d.year (month_of d) (day_of d) ≡ Ok d
+date_by_parts d real = grind (arith, date_given, month_of_date, day_of_date, date_of-month_and_day)
 
-date_of_value : (y : ℤ) (m d : ℕ) (date : OrdinalDate) → y ≡ date.year → m ≡ month_of date → d ≡ day_of date
-    → IsYear y → IsInRange 1 12 m → IsDayOfMonth y m d → IsDate date → date_value y m d ≡ Ok date
-date_of_value y m d date year month day is_year is_month is_day real =
-    grind (arith, date_given, same_parts, date_of-month_and_day)
-
--- ---- times
-
-same_time : (h m s n : ℕ) (t : TimeOfDay) → h ≡ t.hour → m ≡ t.minute → s ≡ t.second → n ≡ t.nanosecond
-    → ◌≡◌ {A = TimeOfDay} (record { hour = h; minute = m; second = s; nanosecond = n }) t
-same_time h m s n t a b c d = rw (a, b, c, d) refl
-
-time_of_value : (m : Moment) (t : TimeOfDay) → m.hour ≡ t.hour → m.minute ≡ t.minute → m.second ≡ t.second
-    → m.nanosecond ≡ t.nanosecond → IsTimeOfDay t → time_value m ≡ Ok t
-time_of_value m t a b c d real = grind (arith, go, lt-ltb, same_time)
+time_given : (m : Moment) (t : TimeOfDay) → time_of_parts m ≡ t → IsTimeOfDay t → time_value m ≡ Ok t
+time_given m t is real = grind (arith, go, lt-ltb)
 
 -- ---- offsets
 
@@ -67,38 +55,25 @@ part_given : (greatest : ℕ) (a b part : ℤ) → unsigned_abs part ≤ greates
     → is_offset_part greatest a b part ≡ true
 part_given greatest a b part size first second = grind (arith, both, le-leb, alike)
 
-same_offset : (h m s : ℤ) (o : Offset) → h ≡ o.hours → m ≡ o.minutes → s ≡ o.seconds
-    → ◌≡◌ {A = Offset} (record { hours = h; minutes = m; seconds = s }) o
-same_offset h m s o a b c = rw (a, b, c) refl
-
 of_zero : (x : ℤ) → HasNoOtherSign (pos 0) x
 of_zero x = (λ above. absurd above.lt, λ below. absurd below.lt)
 
-pub offset_of_value : (m : Moment) (o : Offset) → m.offset_hours ≡ o.hours → m.offset_minutes ≡ o.minutes
-    → m.offset_seconds ≡ o.seconds → IsOffset o → offset_value m ≡ Ok o
-offset_of_value m o a b c real = grind (arith, common_steps, part_given, of_zero, go, same_offset)
+pub offset_given : (m : Moment) (o : Offset) → offset_of_parts m ≡ o → IsOffset o → offset_value m ≡ Ok o
+offset_given m o is real = grind (arith, common_steps, part_given, of_zero, go)
 
 -- ---- values
 
-value_given : (m : Moment) (v : OffsetDateAndTime) → date_value m.year m.month m.day ≡ Ok v.date
-    → time_value m ≡ Ok v.time → offset_value m ≡ Ok v.offset → moment_value m ≡ Ok v
-unfolding moment_value
-value_given m v date time offset = rw (date, time, offset) refl
-
 pub value_of_parts : (m : Moment) (v : OffsetDateAndTime) → m.year ≡ v.date.year → m.month ≡ month_of v.date
-    → m.day ≡ day_of v.date → IsYear m.year → IsInRange 1 12 m.month → IsDayOfMonth m.year m.month m.day → IsDate v.date
-    → m.hour ≡ v.time.hour → m.minute ≡ v.time.minute → m.second ≡ v.time.second → m.nanosecond ≡ v.time.nanosecond
-    → IsTimeOfDay v.time → m.offset_hours ≡ v.offset.hours → m.offset_minutes ≡ v.offset.minutes
-    → m.offset_seconds ≡ v.offset.seconds → IsOffset v.offset → moment_value m ≡ Ok v
-value_of_parts m v p q r is_year is_month is_day real a b c e time i j k offset =
-    value_given m v (date_of_value m.year m.month m.day v.date p q r is_year is_month is_day real)
-    (time_of_value m v.time a b c e time) (offset_of_value m v.offset i j k offset)
+    → m.day ≡ day_of v.date → time_of_parts m ≡ v.time → offset_of_parts m ≡ v.offset → IsDate v.date
+    → IsTimeOfDay v.time → IsOffset v.offset → moment_value m ≡ Ok v
+unfolding moment_value
+value_of_parts m v p q r time offset is_date is_time is_offset = grind (arith, date_by_parts, time_given, offset_given)
 
 -- ---- the parts of a local date and time
 
-day_of_date : (y : ℤ) (m d : ℕ) (date : OrdinalDate) → date_value y m d ≡ Ok date → IsDayOf m d date
+day_of_given : (y : ℤ) (m d : ℕ) (date : OrdinalDate) → date_value y m d ≡ Ok date → IsDayOf m d date
 unfolding date_value
-day_of_date y m d date h = grind (
+day_of_given y m d date h = grind (
   arith,
   common_steps,
   test_that_passed,
@@ -131,7 +106,7 @@ value_by_parts m v h =
     let offset = value_of_given (offset_value m) _ v time.2 in
     let same = same_value _ v offset.2 in
     subst (IsByParts m) same (record {
-      day = day_of_date m.year m.month m.day date.0 date.1;
+      day = day_of_given m.year m.month m.day date.0 date.1;
       time = time_by_parts m time.0 time.1;
       offset = offset_by_parts m offset.0 offset.1;
     })

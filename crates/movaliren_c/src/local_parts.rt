@@ -9,7 +9,7 @@ ghost use Rattle.time_below.specs.Calendar.{day_of, month_of};
 ghost use Rattle.time_below.specs.Facts.{date_facts, facts_of_offset_date_time};
 ghost use Rattle.time_below.specs.Month.{month_number};
 
-use crate::moment::{Moment, moment_value};
+use crate::moment::{Moment, moment_value, parts_of};
 use crate::reason::Reason;
 use crate::source::local_value;
 use std::default::Default;
@@ -54,24 +54,7 @@ impl LocalParts {
     pub fn new(value: OffsetDateTime) -> LocalParts
         ensures { result ≡ value }
     {
-        let (hour, minute, second, nanosecond) = value.time().as_hms_nano();
-        let (offset_hours, offset_minutes, offset_seconds) = value.offset().as_hms();
-        let parts = Moment {
-            year: value.date().year(),
-            nanosecond,
-            month: 0,
-            day: 0,
-            hour,
-            minute,
-            second,
-            offset_hours,
-            offset_minutes,
-            offset_seconds,
-        };
-        LocalParts {
-            date: value.date(),
-            parts,
-        }
+        LocalParts::by_parts(value, &parts_of(value, 0, 0))
     }
 
     /// A value whose parts are known.

@@ -1,5 +1,6 @@
 //! Moments in the interface, and the values that they give.
 ghost use Rattle.std.specs.Prelude.{◌≡◌, ◌≤◌, IsTrue, unsigned_abs};
+ghost use Rattle.movaliren_c.specs.Known.{offset_of_parts, time_of_parts};
 ghost use Rattle.movaliren_c.specs.Utc.{utc_value};
 ghost use Rattle.movaliren_c.specs.Value.{date_value, is_alike, is_offset_part, moment_value, offset_value, time_value, timestamp_value};
 ghost use Rattle.time_below.specs.Moment.{utc_date_and_time};
@@ -30,6 +31,31 @@ pub struct Moment {
 pub struct UtcMoment {
     pub seconds: i64,
     pub nanosecond: u32,
+}
+
+/// The parts of a value, with this month and this day.
+#[inline(always)]
+pub fn parts_of(value: OffsetDateTime, month: u8, day: u8) -> Moment
+    ensures year { result.year ≡ value.date.year }
+    ensures month { result.month ≡ month }
+    ensures day { result.day ≡ day }
+    ensures time { time_of_parts result ≡ value.time }
+    ensures offset { offset_of_parts result ≡ value.offset }
+{
+    let (hour, minute, second, nanosecond) = value.time().as_hms_nano();
+    let (offset_hours, offset_minutes, offset_seconds) = value.offset().as_hms();
+    Moment {
+        year: value.date().year(),
+        nanosecond,
+        month,
+        day,
+        hour,
+        minute,
+        second,
+        offset_hours,
+        offset_minutes,
+        offset_seconds,
+    }
 }
 
 /// The date of a year, a month and a day, or the first of them that is outside its range.

@@ -5,7 +5,7 @@ ghost use Rattle.time_below.specs.Moment.{OffsetDateAndTime};
 ghost use Rattle.time_known.specs.Rfc3339Grammar.{Rfc3339Spells};
 ghost use Rattle.time_read.specs.Lenient.{Rfc3339Means};
 
-use crate::moment::{Moment, UtcMoment};
+use crate::moment::{Moment, UtcMoment, parts_of};
 use crate::reason::{Reason, answer_number};
 use time_below::OffsetDateTime;
 use time_read::{Expected, NotRead, Profile, rfc3339};
@@ -41,23 +41,13 @@ pub trait OfValue: Copy {
 impl OfValue for Moment {
     ghost Holds = { IsByParts };
 
+    #[tactic(auto, using(crate::proofs::ReadLemmas::value_of_parts))]
     fn of_value(value: OffsetDateTime) -> Moment {
-        let _in_range = value.date().ordinal();
-        let (year, month, day) = value.date().to_calendar_date();
-        let (hour, minute, second, nanosecond) = value.time().as_hms_nano();
-        let (offset_hours, offset_minutes, offset_seconds) = value.offset().as_hms();
-        Moment {
-            year,
-            nanosecond,
-            month: u8::from(month),
-            day,
-            hour,
-            minute,
-            second,
-            offset_hours,
-            offset_minutes,
-            offset_seconds,
-        }
+        let _date_in_range = value.date().ordinal();
+        let _time_in_range = value.time().as_hms_nano();
+        let _offset_in_range = value.offset().as_hms();
+        let (_, month, day) = value.date().to_calendar_date();
+        parts_of(value, u8::from(month), day)
     }
 }
 
