@@ -1,4 +1,4 @@
-use Rattle.std.proofs.Common.{◌≡◌, ◌-◌, true, false, refl, ap, sym, subst, take, drop, length, to_z, of_z, w64, ◌∙◌}
+use Rattle.std.proofs.Common.{ℕ, List, ◌≡◌, ◌-◌, ◌≤◌, ◌++◌, true, false, refl, ap, sym, subst, take, drop, length, length-append, to_z, of_z, w64, ◌∙◌, arith}
 use Rattle.std.proofs.lemmas.Int.{to_z-of_z}
 use Rattle.time_below.specs.Moment.{IsTimestampSecond, moved, utc_date}
 use Rattle.time_known.specs.Rfc3339.{rfc3339_outcome}
@@ -22,6 +22,18 @@ begins c =
     (day_of_moment c.args.moment.now c.args.offset c.in-Some.local c.args.output.now.items c.append_text.new.output.items c.deref.result.now
     (length c.as_slice-length.result.now) c.in_ok-has_text.has_text c.local_second.ensures.moment (c.in-Some.ensures.accepted.0 refl)
     c.in-Some.ensures.value c.if-has_text.true c.in_ok-has_text.ensures c.deref.ensures.value (ap length c.as_slice-length.ensures.value))
+
+-- what was written stands behind what there was
+behind : (old more new all : List ℕ) (n : ℕ) → n ≡ length old → new ≡ old ++ more → all ≡ new → n ≤ length all
+behind old more new all n is grown same = omega (arith, ap length same, ap length grown, length-append old more)
+
+pub slice_bounds-of-count : goal.slice_bounds-of-count
+slice_bounds-of-count c =
+    behind _ _ _ _ _ (ap length c.as_slice-length.ensures.value) c.in_ok-has_text.ensures.3 c.deref.ensures.value
+
+pub slice_bounds-of-start : goal.slice_bounds-of-start
+slice_bounds-of-start c =
+    behind _ _ _ _ _ (ap length c.as_slice-length.ensures.value) c.in_ok-has_text.ensures.3 c.deref.ensures.value
 
 pub of-requires-clause-range : goal.of-requires-clause-range
 of-requires-clause-range c =
