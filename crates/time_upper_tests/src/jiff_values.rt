@@ -1,38 +1,10 @@
 //! A worked row of each function, by the moment that GNU `date -u -d @1795341306` shows as
 //! `Sun Nov 22 09:55:06 UTC 2026`, and the bounds of the years.
-use crate::values::{assert_at, assert_that};
+use crate::values::assert_that;
 use jiff::tz::{Offset, TimeZone};
 use jiff::{Timestamp as Instant, civil};
 use std::process::Abort;
 use time_below::{Date, Month, OffsetDateTime, PlainDateTime, Time, Timestamp, UtcOffset};
-
-fn their_date(rt: &impl Abort) -> civil::Date {
-    match civil::Date::new(2026, 11, 22) {
-        Ok(date) => date,
-        Err(_) => panic!(rt; "no date"),
-    }
-}
-
-fn their_time(rt: &impl Abort) -> civil::Time {
-    match civil::Time::new(9, 55, 6, 120_000_000) {
-        Ok(time) => time,
-        Err(_) => panic!(rt; "no time"),
-    }
-}
-
-fn their_moment(rt: &impl Abort, nanosecond: i32) -> Instant {
-    match Instant::new(1_795_341_306, nanosecond) {
-        Ok(moment) => moment,
-        Err(_) => panic!(rt; "no moment"),
-    }
-}
-
-fn their_offset(rt: &impl Abort) -> Offset {
-    match Offset::from_seconds(-23_400) {
-        Ok(offset) => offset,
-        Err(_) => panic!(rt; "no offset"),
-    }
-}
 
 fn moment(rt: &impl Abort, seconds: i64, nanosecond: u32) -> Timestamp {
     match Timestamp::new(seconds, nanosecond) {
@@ -41,25 +13,16 @@ fn moment(rt: &impl Abort, seconds: i64, nanosecond: u32) -> Timestamp {
     }
 }
 
-fn first_day(rt: &impl Abort, year: i32) -> Date {
-    match Date::from_calendar_date(year, Month::January, 1) {
-        Ok(date) => date,
-        Err(_) => panic!(rt; "no date"),
-    }
-}
-
 #[test]
 fn a_moment_has_its_seconds(rt: HostRuntime) {
     let ours = moment(&rt, 1_795_341_306, 120_000_000);
-    let theirs = their_moment(&rt, 120_000_000);
+    let theirs = Instant::new(1_795_341_306, 120_000_000).expect(&rt, "no moment");
     assert_that(
         &rt,
         time_jiff::timestamp(theirs).as_parts() == ours.as_parts(),
     );
-    assert_that(
-        &rt,
-        matches!(time_jiff::jiff_timestamp(ours), Ok(same) if same == theirs),
-    );
+    let same = time_jiff::jiff_timestamp(ours).expect(&rt, "it is refused");
+    assert_that(&rt, same == theirs);
     assert_that(&rt, theirs.as_nanosecond() == 1_795_341_306_120_000_000);
 }
 
@@ -77,72 +40,69 @@ fn moments_outside_jiff_are_refused(rt: HostRuntime) {
 
 #[test]
 fn a_date_and_a_time_have_their_parts(rt: HostRuntime) {
-    let date = time_jiff::date(their_date(&rt));
+    let their_date = civil::Date::new(2026, 11, 22).expect(&rt, "no date");
+    let their_time = civil::Time::new(9, 55, 6, 120_000_000).expect(&rt, "no time");
+    let date = time_jiff::date(their_date);
     assert_that(&rt, date.to_calendar_date() == (2026, Month::November, 22));
-    let time = time_jiff::time(their_time(&rt));
+    let time = time_jiff::time(their_time);
     assert_that(&rt, time.as_hms_nano() == (9, 55, 6, 120_000_000));
-    assert_that(&rt, time_jiff::jiff_time(time) == their_time(&rt));
-    assert_that(
-        &rt,
-        matches!(time_jiff::jiff_date(date), Ok(same) if same == their_date(&rt)),
-    );
-}
-
-#[test]
-fn a_date_with_a_time_has_the_parts_of_both(rt: HostRuntime) {
-    let both = civil::DateTime::from_parts(their_date(&rt), their_time(&rt));
+    assert_that(&rt, time_jiff::jiff_time(time) == their_time);
+    let same = time_jiff::jiff_date(date).expect(&rt, "it is refused");
+    assert_that(&rt, same == their_date);
+    let both = civil::DateTime::from_parts(their_date, their_time);
     let shown = time_jiff::plain_date_time(both);
     assert_that(
         &rt,
         shown.date().to_calendar_date() == (2026, Month::November, 22),
     );
     assert_that(&rt, shown.time().as_hms_nano() == (9, 55, 6, 120_000_000));
-    let back = time_jiff::jiff_date_time(shown);
-    assert_that(&rt, matches!(back, Ok(same) if same == both));
+    let same = time_jiff::jiff_date_time(shown).expect(&rt, "it is refused");
+    assert_that(&rt, same == both);
 }
+
+/// Years, and whether jiff refuses them.
+const YEARS: &[(i32, bool)] = &[
+    (-10_000, true),
+    (-9999, false),
+    (9999, false),
+    (10_000, true),
+];
 
 #[test]
 fn years_outside_jiff_are_refused(rt: HostRuntime) {
-    let time = time_jiff::time(their_time(&rt));
-    for (year, refused) in [
-        (-10_000, true),
-        (-9999, false),
-        (9999, false),
-        (10_000, true),
-    ] {
-        let date = first_day(&rt, year);
-        assert_at(&rt, year, time_jiff::jiff_date(date).is_err() == refused);
+    let time = civil::Time::new(9, 55, 6, 120_000_000).expect(&rt, "no time");
+    let time = time_jiff::time(time);
+    for (year, refused) in YEARS {
+        let refused = *refused;
+        let Ok(date) = Date::from_calendar_date(*year, Month::January, 1) else {
+            panic!(&rt; "no date")
+        };
+        assert_that(&rt, time_jiff::jiff_date(date).is_err() == refused);
         let both = PlainDateTime::new(date, time);
-        assert_at(
-            &rt,
-            year,
-            time_jiff::jiff_date_time(both).is_err() == refused,
-        );
+        assert_that(&rt, time_jiff::jiff_date_time(both).is_err() == refused);
     }
 }
 
 #[test]
 fn an_offset_has_its_seconds(rt: HostRuntime) {
-    let ours = time_jiff::offset(their_offset(&rt));
+    let theirs = Offset::from_seconds(-23_400).expect(&rt, "no offset");
+    let ours = time_jiff::offset(theirs);
     assert_that(&rt, ours.as_hms() == (-6, -30, 0));
     assert_that(&rt, time_jiff::jiff_offset(ours).seconds() == -23_400);
 }
 
 #[test]
 fn a_zoned_moment_has_its_clock_and_offset_both_ways(rt: HostRuntime) {
-    let (offset, instant) = (their_offset(&rt), their_moment(&rt, 0));
+    let offset = Offset::from_seconds(-23_400).expect(&rt, "no offset");
+    let instant = Instant::from_second(1_795_341_306).expect(&rt, "no moment");
     let shown = time_jiff::offset_date_time(&instant.to_zoned(TimeZone::fixed(offset)));
     assert_that(&rt, shown.unix_timestamp() == 1_795_341_306);
     assert_that(&rt, shown.time().as_hms_nano() == (3, 25, 6, 0));
     assert_that(&rt, shown.offset().as_hms() == (-6, -30, 0));
-    match time_jiff::jiff_zoned(shown) {
-        Ok(back) => {
-            assert_that(&rt, back.timestamp() == instant);
-            assert_that(&rt, back.offset().seconds() == -23_400);
-            assert_that(&rt, back.time().hour() == 3);
-        }
-        Err(_) => panic!(rt; "it is refused"),
-    }
+    let back = time_jiff::jiff_zoned(shown).expect(&rt, "it is refused");
+    assert_that(&rt, back.timestamp() == instant);
+    assert_that(&rt, back.offset().seconds() == -23_400);
+    assert_that(&rt, back.time().hour() == 3);
 }
 
 /// At -06:30 the last moment of jiff is at 15:30 of 9999-12-30.
@@ -154,11 +114,11 @@ fn zoned_moments_outside_jiff_are_refused(rt: HostRuntime) {
     ) else {
         panic!(rt; "no moment")
     };
-    for (minute, second, refused) in [(30, 0, false), (30, 1, true)] {
-        let Ok(time) = Time::from_hms_nano(15, minute, second, 999_999_999) else {
+    for second in 0..2 {
+        let Ok(time) = Time::from_hms_nano(15, 30, second, 999_999_999) else {
             panic!(rt; "no time")
         };
         let moment = OffsetDateTime::new_in_offset(date, time, offset);
-        assert_that(&rt, time_jiff::jiff_zoned(moment).is_err() == refused);
+        assert_that(&rt, time_jiff::jiff_zoned(moment).is_err() == (second == 1));
     }
 }

@@ -54,11 +54,6 @@ pub fn assert_that(rt: &impl Abort, holds: bool) {
     assert!(rt; holds);
 }
 
-/// Fails where this does not hold of the row with this number.
-pub fn assert_at(rt: &impl Abort, row: i32, holds: bool) {
-    assert!(rt; holds, "at {row}");
-}
-
 /// Takes the text, so that it does not outlive its comparison.
 pub fn assert_text(rt: &impl Abort, text: String, wanted: &str) {
     assert!(rt; text.as_str() == wanted, "another text than {wanted}");
