@@ -12,8 +12,8 @@ import sys
 TOP = pathlib.Path(__file__).resolve().parent.parent
 RECIPES = [
     "crates/time_known_tests/src/recipes.rt",
-    "crates/time_describe_tests/src/recipes.rt",
-    "crates/time_describe_tests/src/plans/recipes.rt",
+    "crates/time_upper_tests/src/describe/recipes.rt",
+    "crates/time_upper_tests/src/describe/plans/recipes.rt",
     "crates/time_known_tests/src/log/recipes.rt",
     "crates/time_known_tests/src/read/recipes.rt",
     "crates/time_upper_tests/src/recipes.rt",

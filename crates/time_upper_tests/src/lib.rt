@@ -1,7 +1,10 @@
-//! Tests of the crates above the formatter by public calls: of `line_streams`, `time_lines` and `time_jiff`, and
-//! of the lines of `docs/FROM.md` in Rattle. One library reads all crates below once.
+//! Tests of the crates above the formatter by public calls: of `time_describe`, `time_plan`, `line_streams`,
+//! `time_lines` and `time_jiff`, and of the lines of `docs/FROM.md` in Rattle. One library reads all crates below once,
+//! and `time_describe` stands on `time_below` alone.
 #![tactic(auto)]
 
+#[cfg(test)]
+mod describe;
 #[cfg(test)]
 mod from_jiff;
 #[cfg(test)]

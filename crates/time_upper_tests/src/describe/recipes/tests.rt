@@ -1,6 +1,6 @@
 //! The texts of the recipes.
 use super::{append_by_pattern, append_described, description_of};
-use crate::texts::moment;
+use crate::describe::texts::moment;
 use std::process::Abort;
 use time_below::OffsetDateTime;
 

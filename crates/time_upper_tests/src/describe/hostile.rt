@@ -1,6 +1,6 @@
 //! Texts that are cut, changed, long or deep: each is a description, or the index of its fault is that of one of its
 //! bytes.
-use crate::texts::{fault_in_brackets, fault_in_percents, repeated};
+use crate::describe::texts::{fault_in_brackets, fault_in_percents, repeated};
 use std::alloc::{AllocError, Global};
 use std::process::Abort;
 use time_describe::Reason;

@@ -1,6 +1,6 @@
 //! Refusals, and bytes that are no UTF-8.
 use super::{DAY, HOUR, MINUTE, MONTH, SECOND, YEAR, plan_of};
-use crate::texts::{EXAMPLE, assert_appends, assert_formats, assert_same, moment};
+use crate::describe::texts::{EXAMPLE, assert_appends, assert_formats, assert_same, moment};
 use std::alloc::{AllocError, Global};
 use std::default::Default;
 use std::test::Fail;

@@ -1,5 +1,5 @@
 //! What is wrong with texts in brackets, and where.
-use crate::texts::{assert_displays, fault_in_brackets};
+use crate::describe::texts::{assert_displays, fault_in_brackets};
 use time_describe::{InvalidDescription, Reason};
 
 /// Rows of a text, its first fault with the index of the byte, and the words that display it beside the text.

@@ -1,5 +1,5 @@
 //! Descriptions in brackets and in the syntax of strftime, and the texts that standards and documentation give.
-use crate::texts::{Numbers, Row, WEDNESDAY, assert_brackets};
+use crate::describe::texts::{Numbers, Row, WEDNESDAY, assert_brackets};
 
 /// Examples of RFC 3339 (5.8), RFC 2822 (A.1.1), RFC 9110 (5.6.7) and ISO 8601 (week date, ordinal date).
 const OF_STANDARDS: &[Row] = &[

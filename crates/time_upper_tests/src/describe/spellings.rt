@@ -1,5 +1,5 @@
 //! Each component by both of its texts, which `docs/COMPONENTS.md` shows.
-use crate::texts::{WEDNESDAY, assert_in_brackets, assert_in_percents};
+use crate::describe::texts::{WEDNESDAY, assert_in_brackets, assert_in_percents};
 
 /// Rows of a component in brackets, its conversion of strftime or nothing, and the text of 1997-11-12 9:55:06.12
 /// -6:00 that the component's row in `docs/COMPONENTS.md` has, with the choices of that row.

@@ -1,6 +1,6 @@
 //! Worked texts, each by the list and by its plan.
 use super::{DAY, HOUR, MINUTE, MONTH, SECOND, YEAR, plan_of};
-use crate::texts::{EXAMPLE, assert_appends, assert_same};
+use crate::describe::texts::{EXAMPLE, assert_appends, assert_same};
 use std::alloc::{AllocError, Global};
 use std::process::Abort;
 use time_below::format_description::modifier::{self, MonthRepr, Padding, YearRange, YearRepr};

@@ -1,6 +1,6 @@
 //! The plans of each type of tree.
 use super::{DAY, MONTH, YEAR};
-use crate::texts::{EXAMPLE, assert_appends};
+use crate::describe::texts::{EXAMPLE, assert_appends};
 use std::alloc::{AllocError, Global};
 use time_below::format_description::{
     BorrowedFormatItem as Borrowed, FormatDescriptionV3Inner as Inner, Node,

@@ -1,6 +1,6 @@
 //! The recipe's text.
 use super::{append_times, plan_of_text, plan_of_times};
-use crate::texts::{EXAMPLE, assert_appends, assert_same, moment};
+use crate::describe::texts::{EXAMPLE, assert_appends, assert_same, moment};
 use std::alloc::Global;
 use std::test::Fail;
 use time_plan::{InvalidDescription, InvalidStrftime, Plan};

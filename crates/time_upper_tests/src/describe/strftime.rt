@@ -1,5 +1,7 @@
 //! Descriptions in the syntax of strftime, and the texts that standards and GNU `date` 9.1 give for them.
-use crate::texts::{Numbers, Row, assert_displays, assert_percents, fault_in_percents, repeated};
+use crate::describe::texts::{
+    Numbers, Row, assert_displays, assert_percents, fault_in_percents, repeated,
+};
 use std::alloc::AllocError;
 use time_describe::{InvalidStrftime, StrftimeReason};
 
