@@ -5,9 +5,18 @@ mod descriptions;
 mod equality;
 mod moments;
 
-use crate::texts::{assert_same, assert_that};
-use crate::values::time_at;
-use time_below::{ComponentRange, Time};
+use crate::texts::{assert_same, assert_that, some};
+use std::process::Abort;
+use time_below::{ComponentRange, Date, Time};
+use time_compare::time_at;
+
+/// The date of this day of the year.
+fn date_on(rt: &impl Abort, year: i32, ordinal: u16) -> Date {
+    let Ok(date) = Date::from_ordinal_date(year, ordinal) else {
+        panic!(rt; "no ordinal {ordinal} in {year}");
+    };
+    date
+}
 
 /// The name of the part that is refused, and whether that depends on other parts.
 fn refusal_of<T>(made: &Result<T, ComponentRange>) -> (&'static str, bool) {
@@ -19,7 +28,7 @@ fn refusal_of<T>(made: &Result<T, ComponentRange>) -> (&'static str, bool) {
 
 #[test]
 fn a_time_has_its_parts(rt: HostRuntime) {
-    let time = time_at(&rt, (23, 59, 59, 999_999_999));
+    let time = some(&rt, time_at((23, 59, 59, 999_999_999)));
     assert_same(&rt, time.as_hms_nano(), (23, 59, 59, 999_999_999));
     assert_same(&rt, time.hour(), 23);
 }

@@ -1,12 +1,12 @@
 //! What trees of each kind are made of, by one trait: a test of trees is proved once, for all kinds.
 use crate::texts::{assert_same, assert_value};
-use crate::values::WEDNESDAY;
 use std::alloc::{AllocError, Global};
 use std::process::Abort;
 use time_below::format_description::{
     BorrowedFormatItem as Borrowed, Component, FormatDescriptionV3,
     FormatDescriptionV3Inner as Inner, Node, OwnedFormatItem as Owned,
 };
+use time_compare::WEDNESDAY;
 
 /// A tree borrows its parts, for their whole life, so they are leaked.
 pub(crate) struct Lent;

@@ -15,5 +15,3 @@ mod items;
 mod provide;
 #[cfg(test)]
 mod texts;
-#[cfg(test)]
-mod values;

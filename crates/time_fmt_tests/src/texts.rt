@@ -1,14 +1,15 @@
-//! What calls are compared by: texts, counts, widths and refusals. No helper hands on a clause, so that a test
-//! proves no more than it compares.
-use crate::values::{Value, date_at, moment, offset_at, time_at, timestamp_at};
+//! What descriptions and their components are compared by. No helper hands on a clause, so that a test proves no
+//! more than it compares.
 use std::alloc::Global;
 use std::default::Default;
 use std::fmt::Debug;
 use std::process::Abort;
 use time_below::format_description::modifier::{Day, Padding};
 use time_below::format_description::{BorrowedFormatItem as Item, Component, component_width};
-use time_below::{ComponentRange, PlainDateTime, UtcDateTime};
-use time_fmt::{ComponentProvider, ComputeMetadata, Format, Formattable};
+use time_compare::{
+    Answers, Value, append, append_with, date_at, has_text, is_refused, refusal_name,
+};
+use time_fmt::{ComponentProvider, Format, Formattable};
 
 /// The day of the month, in two places.
 pub(crate) const DAY: Component = Component::Day(Day {
@@ -23,6 +24,14 @@ pub(crate) fn assert_same<T: PartialEq + Debug + Copy>(rt: &impl Abort, found: T
 /// Asserts a condition, by one function for all tests.
 pub(crate) fn assert_that(rt: &impl Abort, is_so: bool) {
     assert!(rt; is_so);
+}
+
+/// What is there.
+pub(crate) fn some<T>(rt: &impl Abort, found: Option<T>) -> T {
+    match found {
+        Some(value) => value,
+        None => panic!(rt; "no value"),
+    }
 }
 
 /// So many times a byte.
@@ -41,47 +50,6 @@ pub(crate) fn long_text(rt: &impl Abort, alloc: Global, count: usize) -> String 
     text
 }
 
-/// What came of a text that was appended, of the same as a text of its own, and the state after both.
-type Answers<S> = (Result<usize, Format>, Result<String, Format>, S);
-
-/// Appends the text. Of the clauses of the call a test hands on the one that a second call needs.
-pub(crate) fn append_with<D: Formattable, V: ComponentProvider>(
-    output: &mut Vec<u8>,
-    item: &D,
-    value: &V,
-    state: &mut V::State,
-) -> Result<usize, Format>
-    requires { V.agrees state.old value.now }
-    ensures { V.agrees state.new value.now }
-{
-    item.format_into(output, value, state)
-}
-
-/// Makes the text. No clause is handed on.
-fn make_with<D: Formattable, V: ComponentProvider>(
-    alloc: Global,
-    item: &D,
-    value: &V,
-    state: &mut V::State,
-) -> Result<String, Format>
-    requires { V.agrees state.old value.now }
-{
-    item.format(alloc, value, state)
-}
-
-/// Appends the text by a fresh state, and makes it once more by the same.
-pub(crate) fn append_by<D: Formattable, V: ComponentProvider>(
-    alloc: Global,
-    output: &mut Vec<u8>,
-    item: &D,
-    value: &V,
-) -> Answers<V::State> {
-    let mut state = V::State::default();
-    let appended = append_with(output, item, value, &mut state);
-    let made = make_with(alloc, item, value, &mut state);
-    (appended, made, state)
-}
-
 /// Appends both texts by one fresh state, and returns the length between them and both answers.
 fn append_both<D: Formattable, V: ComponentProvider>(
     output: &mut Vec<u8>,
@@ -98,76 +66,15 @@ where
     (appended, length, written)
 }
 
-/// Does the same where the state is not looked at.
-fn append_of<D: Formattable, V: ComponentProvider>(
-    alloc: Global,
-    output: &mut Vec<u8>,
-    item: &D,
-    value: &V,
-) -> (Result<usize, Format>, Result<String, Format>)
-where
-    V::State: Drop,
-{
-    let (appended, made, _) = append_by(alloc, output, item, value);
-    (appended, made)
-}
-
-/// Appends the text of the value that has these numbers, and makes it once more. Each type of value stands here
-/// alone, since a test proves again what it asks of a type that it names.
-pub(crate) fn append<D: Formattable>(
-    rt: &impl Abort,
-    alloc: Global,
-    output: &mut Vec<u8>,
-    item: &D,
-    value: Value,
-) -> (Result<usize, Format>, Result<String, Format>) {
-    match value {
-        Value::Date(year, month, day) => {
-            append_of(alloc, output, item, &date_at(rt, (year, month, day)))
-        }
-        Value::Time(hour, minute, second, nanosecond) => {
-            let time = time_at(rt, (hour, minute, second, nanosecond));
-            append_of(alloc, output, item, &time)
-        }
-        Value::Local(date, time) => {
-            let local = PlainDateTime::new(date_at(rt, date), time_at(rt, time));
-            append_of(alloc, output, item, &local)
-        }
-        Value::Utc(date, time) => {
-            let utc = UtcDateTime::new(date_at(rt, date), time_at(rt, time));
-            append_of(alloc, output, item, &utc)
-        }
-        Value::Moment(date, time, offset) => {
-            append_of(alloc, output, item, &moment(rt, date, time, offset))
-        }
-        Value::Offset(hours, minutes, seconds) => {
-            append_of(
-                alloc,
-                output,
-                item,
-                &offset_at(rt, (hours, minutes, seconds)),
-            )
-        }
-        Value::Timestamp(seconds, nanosecond) => {
-            append_of(
-                alloc,
-                output,
-                item,
-                &timestamp_at(rt, (seconds, nanosecond)),
-            )
-        }
-    }
-}
-
-/// Does the same by an item, a description of one type that many tests have.
+/// Appends the text of an item, a description of one type that many tests have, and makes it once more.
 pub(crate) fn append_item(
     rt: &impl Abort,
     alloc: Global,
     output: &mut Vec<u8>,
     item: &Item<'_>,
     value: Value,
-) -> (Result<usize, Format>, Result<String, Format>) {
-    append(rt, alloc, output, item, value)
+) -> Answers {
+    some(rt, append(alloc, output, item, value))
 }
 
 /// The text of an item, made of the value that has these numbers.
@@ -179,13 +86,8 @@ pub(crate) fn made(rt: &impl Abort, alloc: Global, item: &Item<'_>, value: Value
     text
 }
 
-/// The width of a description.
-pub(crate) fn measured<D: ComputeMetadata>(item: &D) -> usize {
-    item.compute_metadata().max_bytes_needed
-}
-
-/// Appends the text of a description to an empty vector, and makes it as a text, of the value that has these
-/// numbers, and compares the texts, the count and the width.
+/// Compares the text of a description, appended and made, its count and the width, of the value that has these
+/// numbers.
 pub(crate) fn assert_value<D: Formattable>(
     rt: &impl Abort,
     alloc: Global,
@@ -193,13 +95,11 @@ pub(crate) fn assert_value<D: Formattable>(
     value: Value,
     (text, width): (&str, usize),
 ) {
-    let mut output = Vec::new(alloc);
-    let (Ok(count), Ok(formatted)) = append(rt, alloc, &mut output, item, value) else {
-        panic!(rt; "refused: {text}");
-    };
-    assert_same(rt, output.as_slice(), text.as_bytes());
-    assert_same(rt, (count, measured(item)), (text.len(), width));
-    assert_same(rt, formatted.as_str(), text);
+    let is_so = has_text(alloc, item, value, (text, width));
+    assert!(rt;
+        is_so,
+        "another text or count than of {text}, or another width than {width}"
+    );
 }
 
 /// Does the same of an item.
@@ -247,8 +147,7 @@ pub(crate) fn assert_rows(rt: &impl Abort, alloc: Global, rows: Rows) {
     }
 }
 
-/// Formats the value with a fresh state after a byte, and as a text, and compares the refusals. No
-/// byte is appended.
+/// Compares the refusals of the value that has these numbers, after a byte and as a text. No byte is appended.
 pub(crate) fn assert_refused<D: Formattable>(
     rt: &impl Abort,
     alloc: Global,
@@ -256,12 +155,8 @@ pub(crate) fn assert_refused<D: Formattable>(
     value: Value,
     name: &str,
 ) {
-    let mut output = Vec::new(alloc);
-    assert_that(rt, output.push(b'x').is_ok());
-    let (appended, made) = append(rt, alloc, &mut output, item, value);
-    assert_same(rt, refusal_name(&appended), name);
-    assert_same(rt, output.as_slice(), b"x".as_slice());
-    assert_same(rt, refusal_name(&made), name);
+    let is_so = is_refused(alloc, item, value, name);
+    assert!(rt; is_so, "another refusal than {name}");
 }
 
 /// Formats the date with a fresh state after a byte, and compares the bytes before the refusal, and its
@@ -276,33 +171,8 @@ pub(crate) fn assert_refused_after(
     let mut output = Vec::new(alloc);
     assert_that(rt, output.push(b'x').is_ok());
     let items = (item, &Item::Component(DAY));
-    let (refused, length, written) = append_both(&mut output, items, &date_at(rt, date));
+    let (refused, length, written) = append_both(&mut output, items, &some(rt, date_at(date)));
     assert_same(rt, (refusal_name(&refused), length), (name, before.len()));
     assert_that(rt, matches!(&written, Ok(2)) && after.starts_with(before));
     assert_same(rt, output.as_slice(), after.as_bytes());
-}
-
-/// The name of the component that is refused, or why else there is no text.
-pub(crate) fn refusal_name<T>(answer: &Result<T, Format>) -> &'static str {
-    match answer {
-        Err(refusal) => name_of(refusal),
-        Ok(_) => "none",
-    }
-}
-
-fn name_of(refusal: &Format) -> &'static str {
-    match refusal {
-        Format::InvalidComponent(name) => name,
-        Format::InsufficientTypeInformation => "insufficient",
-        Format::ComponentRange(range) => name_of_range(range),
-        Format::OutOfMemory => "memory",
-    }
-}
-
-fn name_of_range(range: &ComponentRange) -> &'static str {
-    if range.is_conditional() {
-        range.name()
-    } else {
-        "unconditional"
-    }
 }

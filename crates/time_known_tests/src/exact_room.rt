@@ -2,12 +2,12 @@
 ghost use Rattle.std.specs.Prelude.{◌<◌};
 ghost use Rattle.time_fmt.specs.Room.{HasRoom};
 
-use crate::format_texts::{assert_same, assert_that};
-use crate::format_values::wednesday;
+use crate::format_texts::{assert_same, assert_that, some};
 use std::alloc::{AllocError, Global};
 use std::default::Default;
 use std::process::Abort;
 use std::test::Fail;
+use time_compare::wednesday;
 use time_fmt::{ComponentProvider, ComputeMetadata, Format, Formattable};
 use time_known::{Iso8601, Rfc2822, Rfc3339};
 
@@ -36,7 +36,7 @@ fn assert_fills<D: Formattable>(
         panic!(rt; "too wide");
     }
     let mut output = Vec::with_capacity(alloc, width)?;
-    let answer = write_at(&mut output, format, &wednesday(rt, 123_456_789));
+    let answer = write_at(&mut output, format, &some(rt, wednesday(123_456_789)));
     assert_that(rt, matches!(&answer, Ok(count) if *count == width));
     assert_same(rt, (output.len(), output.capacity()), (width, width));
     Ok(())

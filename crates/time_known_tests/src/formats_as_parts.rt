@@ -1,9 +1,9 @@
 //! Well-known formats as parts of a text.
 use crate::format_texts::{assert_refused, assert_text};
-use crate::format_values::Value;
 use std::alloc::Global;
 use std::default::Default;
 use std::process::Abort;
+use time_compare::Value;
 use time_fmt::parts::*;
 use time_known::{Iso8601, Rfc2822, Rfc3339};
 

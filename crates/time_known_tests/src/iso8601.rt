@@ -1,21 +1,40 @@
 //! ISO 8601 by a configuration. Each row is tried with both decimal signs.
 ghost use Rattle.std.specs.Prelude.{IsTrue};
 
-use crate::format_texts::{self, append, assert_same, assert_that, refusal_name};
-use crate::format_values::Unit::{Hour, Minute, Second};
-use crate::format_values::Value::{Date, Moment, Offset, Time, Timestamp, Utc};
-use crate::format_values::{Unit, Value, WEDNESDAY, moment, precision, wednesday};
+use self::Unit::{Hour, Minute, Second};
+use crate::format_texts::{self, assert_same, assert_that, some};
 use std::alloc::Global;
 use std::default::Default;
 use std::process::Abort;
 use std::test::Fail;
+use time_compare::Value::{Date, Moment, Offset, Time, Timestamp, Utc};
+use time_compare::{Value, WEDNESDAY, append, moment, refusal_name, wednesday};
+use time_digits::ru8;
 use time_fmt::{ComponentProvider, ComputeMetadata, Format};
 use time_known::Iso8601;
 use time_known::iso8601::DateKind::{Calendar, Ordinal, Week};
 use time_known::iso8601::{
-    Config, DateKind, DecimalSign, FormattedComponents as Parts, OffsetPrecision, format_date,
-    format_offset, format_time,
+    Config, DateKind, DecimalSign, FormattedComponents as Parts, OffsetPrecision, TimePrecision,
+    format_date, format_offset, format_time,
 };
+
+/// The smallest whole unit of a time.
+#[derive(Clone, Copy)]
+enum Unit {
+    Hour,
+    Minute,
+    Second,
+}
+
+/// This unit and its decimals.
+fn precision(unit: Unit, decimals: u8) -> TimePrecision {
+    let decimal_digits = ru8::new(decimals);
+    match unit {
+        Hour => TimePrecision::Hour { decimal_digits },
+        Minute => TimePrecision::Minute { decimal_digits },
+        Second => TimePrecision::Second { decimal_digits },
+    }
+}
 
 /// What a row chooses.
 #[derive(Clone, Copy)]
@@ -114,7 +133,10 @@ fn assert_refused_after(
 ) {
     for &sign in SIGNS {
         let mut output = Vec::new(alloc);
-        let (answer, _) = append(rt, alloc, &mut output, &with_sign(format, sign), value);
+        let (answer, _) = some(
+            rt,
+            append(alloc, &mut output, &with_sign(format, sign), value),
+        );
         assert_same(rt, refusal_name(&answer), name);
         let text = signed(rt, alloc, text, sign);
         assert_same(rt, output.as_slice(), text.as_bytes());
@@ -223,7 +245,7 @@ fn assert_decimals(
     for &sign in SIGNS {
         let (whole, format) = (signed(rt, alloc, whole, sign), with_sign(&format, sign));
         let mut output = Vec::new(alloc);
-        let (answer, _) = append(rt, alloc, &mut output, &format, time);
+        let (answer, _) = some(rt, append(alloc, &mut output, &format, time));
         assert_that(rt, matches!(&answer, Ok(length) if *length == output.len()));
         assert_same(rt, format.compute_metadata().max_bytes_needed, output.len());
         let Some((text, decimals)) = output.as_slice().split_at_checked(whole.len()) else {
@@ -436,7 +458,7 @@ where
 fn assert_parts(rt: &impl Abort, alloc: Global, sign: DecimalSign, text: &str) {
     let nothing = with_parts(Parts::None).set_decimal_sign(sign);
     let mut output = Vec::new(alloc);
-    let answer = append_parts(&nothing, &mut output, &wednesday(rt, 0));
+    let answer = append_parts(&nothing, &mut output, &some(rt, wednesday(0)));
     assert_that(rt, matches!(&answer, Ok((10, 18, 6))));
     assert_same(rt, output.as_slice(), text.as_bytes());
 }
@@ -451,7 +473,7 @@ fn each_part_is_written_by_itself(rt: HostRuntime) {
 
 #[test]
 fn refuses_each_part_by_itself(rt: HostRuntime) {
-    let value = moment(&rt, (10_000, 1, 1), (0, 0, 0, 0), (0, 0, 1));
+    let value = some(&rt, moment((10_000, 1, 1), (0, 0, 0, 0), (0, 0, 1)));
     let mut output = Vec::new(rt.alloc());
     let names = refused_parts(&with_parts(Parts::Time), &mut output, &value);
     assert_that(&rt, matches!(&names, Ok(("year", "offset_second"))));

@@ -11,8 +11,6 @@ mod exact_room;
 #[cfg(test)]
 mod format_texts;
 #[cfg(test)]
-mod format_values;
-#[cfg(test)]
 mod formats_as_parts;
 #[cfg(test)]
 mod iso8601;

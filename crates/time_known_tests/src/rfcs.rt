@@ -1,9 +1,9 @@
 //! RFC 3339 and RFC 2822.
-use crate::format_texts::{append, assert_refused, assert_same, assert_text, assert_that};
-use crate::format_values::{Value, WEDNESDAY};
+use crate::format_texts::{assert_refused, assert_same, assert_text, assert_that, some};
 use std::alloc::Global;
 use std::process::Abort;
 use std::test::Fail;
+use time_compare::{Value, WEDNESDAY, append};
 use time_fmt::Formattable;
 use time_known::{Rfc2822, Rfc3339};
 
@@ -142,7 +142,7 @@ fn assert_count<D: Formattable>(
     format: &D,
     count: usize,
 ) {
-    let (appended, _) = append(rt, alloc, output, format, WEDNESDAY);
+    let (appended, _) = some(rt, append(alloc, output, format, WEDNESDAY));
     assert_that(rt, matches!(&appended, Ok(found) if *found == count));
 }
 

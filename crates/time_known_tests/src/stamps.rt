@@ -2,12 +2,12 @@
 ghost use Rattle.std.specs.Prelude.{◌↔◌, IfOk};
 ghost use Rattle.time_known.specs.Stamps.{IsBefore, IsTextBefore, moment_of};
 
-use crate::format_texts::{assert_same, assert_that, refusal_name};
-use crate::format_values::moment;
+use crate::format_texts::{assert_same, assert_that, some};
 use std::alloc::Global;
 use std::process::Abort;
 use std::test::Fail;
 use time_below::UtcDateTime;
+use time_compare::{moment, refusal_name};
 use time_fmt::Format;
 use time_known::laws::stamp_order;
 use time_known::stamp_into;
@@ -40,7 +40,7 @@ const MOMENTS: &[Parts] = &[
 ];
 
 fn utc(rt: &impl Abort, (date, time): Parts) -> UtcDateTime {
-    let value = moment(rt, date, time, (0, 0, 0));
+    let value = some(rt, moment(date, time, (0, 0, 0)));
     UtcDateTime::new(value.date(), value.time())
 }
 

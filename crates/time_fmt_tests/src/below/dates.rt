@@ -1,12 +1,13 @@
 //! Dates, weekdays and weeks.
+use super::date_on;
 use crate::below::refusal_of;
-use crate::texts::assert_same;
-use crate::values::{date_at, date_on};
+use crate::texts::{assert_same, some};
 use time_below::{Date, Month, Weekday};
+use time_compare::date_at;
 
 #[test]
 fn a_date_has_its_parts(rt: HostRuntime) {
-    let date = date_at(&rt, (1997, 11, 12));
+    let date = some(&rt, date_at((1997, 11, 12)));
     assert_same(&rt, date.to_calendar_date(), (1997, Month::November, 12));
     assert_same(&rt, u8::from(date.month()), 11);
     assert_same(&rt, (date.year(), date.ordinal()), (1997, 316));
@@ -14,7 +15,7 @@ fn a_date_has_its_parts(rt: HostRuntime) {
 
 #[test]
 fn a_year_may_begin_in_the_last_week_of_the_year_before(rt: HostRuntime) {
-    let date = date_at(&rt, (2010, 1, 3));
+    let date = some(&rt, date_at((2010, 1, 3)));
     assert_same(&rt, date.iso_year_week(), (2009, 53));
     assert_same(&rt, date.monday_based_week(), 0);
     assert_same(&rt, date.sunday_based_week(), 1);
@@ -22,16 +23,16 @@ fn a_year_may_begin_in_the_last_week_of_the_year_before(rt: HostRuntime) {
 
 #[test]
 fn the_calendar_begins_on_a_monday_and_ends_on_a_friday(rt: HostRuntime) {
-    let leap_day = date_at(&rt, (2000, 2, 29));
+    let leap_day = some(&rt, date_at((2000, 2, 29)));
     assert_same(&rt, leap_day.weekday(), Weekday::Tuesday);
     assert_same(
         &rt,
-        date_at(&rt, (-999_999, 1, 1)).weekday(),
+        some(&rt, date_at((-999_999, 1, 1))).weekday(),
         Weekday::Monday,
     );
     assert_same(
         &rt,
-        date_at(&rt, (999_999, 12, 31)).weekday(),
+        some(&rt, date_at((999_999, 12, 31))).weekday(),
         Weekday::Friday,
     );
 }

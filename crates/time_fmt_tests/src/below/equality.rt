@@ -1,6 +1,5 @@
 //! Values that are equal, and values that are not.
-use crate::texts::{DAY, assert_same, assert_that};
-use crate::values::wednesday;
+use crate::texts::{DAY, assert_same, assert_that, some};
 use std::default::Default;
 use time_below::format_description::{Component, FormatDescriptionV3Inner, Group, Layer, Metadata};
 use time_below::laws::choices::{
@@ -16,6 +15,7 @@ use time_below::laws::{
     period_equality, range_equality, weekday_equality, weeks_count_their_first_days,
 };
 use time_below::{ComponentRange, DifferentVariant, Month, Period, Weekday};
+use time_compare::wednesday;
 use time_digits::laws::{
     ri8_equality, ri16_equality, ri32_equality, ru8_equality, ru16_equality, ru32_equality,
 };
@@ -41,7 +41,7 @@ fn different_numbers_are_not_equal(rt: HostRuntime) {
 
 #[test]
 fn a_clone_of_a_date_is_that_date(rt: HostRuntime) {
-    let date = wednesday(&rt).date();
+    let date = some(&rt, wednesday(0)).date();
     let Ok(same) = date.clone() else {
         panic!(rt; "no clone");
     };

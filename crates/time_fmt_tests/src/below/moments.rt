@@ -1,13 +1,14 @@
 //! Offsets, date-times and timestamps.
+use super::date_on;
 use crate::below::refusal_of;
-use crate::texts::{assert_same, assert_that};
-use crate::values::{date_on, offset_at, time_at, timestamp_at};
+use crate::texts::{assert_same, assert_that, some};
 use std::process::Abort;
 use time_below::{OffsetDateTime, PlainDateTime, Time, Timestamp, UtcDateTime, UtcOffset};
+use time_compare::{offset_at, time_at, timestamp_at};
 
 // The last second of a day.
 fn last_second(rt: &impl Abort) -> Time {
-    time_at(rt, (23, 59, 59, 5))
+    some(rt, time_at((23, 59, 59, 5)))
 }
 
 const OFFSETS: &[((i8, i8, i8), (i8, i8, i8))] = &[
@@ -20,12 +21,12 @@ const OFFSETS: &[((i8, i8, i8), (i8, i8, i8))] = &[
 #[test]
 fn the_largest_part_has_the_sign_of_an_offset(rt: HostRuntime) {
     for &(given, settled) in OFFSETS {
-        let offset = offset_at(&rt, given);
+        let offset = some(&rt, offset_at(given));
         assert_same(&rt, offset.as_hms(), settled);
     }
-    let half_hour = offset_at(&rt, (0, -30, 0));
+    let half_hour = some(&rt, offset_at((0, -30, 0)));
     assert_that(&rt, half_hour.is_negative() && !half_hour.is_utc());
-    let utc = offset_at(&rt, (0, 0, 0));
+    let utc = some(&rt, offset_at((0, 0, 0)));
     assert_that(&rt, utc.is_utc() && !utc.is_negative());
 }
 
@@ -52,7 +53,7 @@ const TIMESTAMPS: &[(i64, u32, i64)] = &[
 #[test]
 fn milliseconds_round_toward_zero(rt: HostRuntime) {
     for &(seconds, nanosecond, milliseconds) in TIMESTAMPS {
-        let stamp = timestamp_at(&rt, (seconds, nanosecond));
+        let stamp = some(&rt, timestamp_at((seconds, nanosecond)));
         assert_same(&rt, stamp.as_seconds(), seconds);
         assert_same(&rt, stamp.as_parts(), (seconds, nanosecond));
         assert_same(&rt, stamp.as_milliseconds(), milliseconds);
@@ -61,7 +62,7 @@ fn milliseconds_round_toward_zero(rt: HostRuntime) {
 
 #[test]
 fn a_timestamp_before_1970_is_on_the_day_before(rt: HostRuntime) {
-    let stamp = timestamp_at(&rt, (-1, 5));
+    let stamp = some(&rt, timestamp_at((-1, 5)));
     assert_same(
         &rt,
         (stamp.date().year(), stamp.date().ordinal()),
@@ -96,7 +97,7 @@ fn an_offset_moves_a_moment_past_the_last_timestamp(rt: HostRuntime) {
     let local = OffsetDateTime::new_in_offset(
         date_on(&rt, 999_999, 365),
         last_second(&rt),
-        offset_at(&rt, (-25, -59, -59)),
+        some(&rt, offset_at((-25, -59, -59))),
     );
     assert_same(&rt, local.unix_timestamp(), 31_494_784_874_398);
     assert_same(&rt, local.date().year(), 999_999);

@@ -2,13 +2,13 @@
 //! of other modules go through the same rows. Behind them stands each constant of `time_fmt::parts` as a part.
 use crate::fmt::texts_by_parts::assert_part;
 use crate::texts::assert_components;
-use crate::values::{Value, WEDNESDAY};
 use time_below::format_description::modifier::Padding::{Space, Zero};
 use time_below::format_description::modifier::{
     MonthRepr, Padding, SubsecondDigits, TrailingInput, UnixTimestampPrecision, WeekNumberRepr,
     WeekdayRepr, YearRange, YearRepr,
 };
 use time_below::format_description::{Component, modifier};
+use time_compare::{Value, WEDNESDAY};
 use time_fmt::parts::*;
 
 /// Rows of a component by its choices, its text and its width.

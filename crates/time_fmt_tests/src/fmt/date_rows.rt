@@ -1,8 +1,8 @@
 //! Dates.
 use crate::texts::{Rows, assert_rows};
-use crate::values::Value::Date;
 use time_below::format_description::modifier::Padding;
 use time_below::format_description::{Component, modifier};
+use time_compare::Value::Date;
 
 /// Numbers are filled as asked for.
 const PADDED: Rows = padded! {

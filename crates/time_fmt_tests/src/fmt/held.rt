@@ -1,9 +1,9 @@
 //! What a text holds: no clause speaks of that.
 use crate::texts::{DAY, assert_that, long_text, made};
-use crate::values::WEDNESDAY;
 use std::alloc::Global;
 use std::process::Abort;
 use time_below::format_description::{BorrowedFormatItem, Component};
+use time_compare::WEDNESDAY;
 use time_fmt::parts::MONTH_LONG;
 
 /// The length of a long text.

@@ -1,9 +1,9 @@
 //! Refusals in the midst of a tree, and literals that are no text by themselves.
 use crate::texts::{DAY, assert_refused_after, assert_same, made};
-use crate::values::Value;
 use std::alloc::Global;
 use std::process::Abort;
 use time_below::format_description::{BorrowedFormatItem as Item, Component};
+use time_compare::Value;
 use time_fmt::parts::{HOUR, YEAR_CENTURY_STANDARD, YEAR_STANDARD};
 
 const C3: Item<'static> = Item::Literal(b"\xc3");

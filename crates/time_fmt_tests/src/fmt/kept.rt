@@ -1,13 +1,13 @@
 //! What each component keeps in the state of a value, and its text by the third version.
 use crate::fmt::components_table::{COMPONENTS, DEPRECATED};
 use crate::provide::states::{Kept, state_with};
-use crate::texts::{append_with, assert_same, assert_that};
-use crate::values::wednesday;
+use crate::texts::{assert_same, assert_that, some};
 use std::alloc::Global;
 use std::process::Abort;
 use time_below::format_description::{
     BorrowedFormatItem, Component, FormatDescriptionV3, FormatDescriptionV3Inner,
 };
+use time_compare::{append_with, wednesday};
 use time_fmt::{ComponentProvider, Formattable};
 
 /// What a component keeps that is not deprecated. The number of a month is computed with the day, and both
@@ -39,7 +39,7 @@ fn write<D: Formattable, V: ComponentProvider>(
 
 /// Appends the text of the Wednesday, and compares what is kept.
 fn appended<D: Formattable>(rt: &impl Abort, alloc: Global, item: &D, kept: Kept) -> Vec<u8> {
-    let (value, mut output) = (wednesday(rt), Vec::new(alloc));
+    let (value, mut output) = (some(rt, wednesday(0)), Vec::new(alloc));
     let (is_written, state) = write(&mut output, item, &value);
     let wanted = state_with(&value.date(), kept, kept, kept);
     assert_that(rt, is_written && state == wanted);

@@ -1,15 +1,12 @@
 //! Allocations that fail.
-use crate::texts::{
-    DAY, append_by, append_item, assert_same, assert_that, long_text, measured, refusal_name,
-    repeated,
-};
-use crate::values::{WEDNESDAY, wednesday};
-use std::alloc::{AllocError, Global};
+use crate::texts::{DAY, append_item, assert_same, assert_that, long_text, repeated, some};
+use std::alloc::Global;
 use std::process::Abort;
 use std::test::Fail;
 use time_below::format_description::{
     BorrowedFormatItem, FormatDescriptionV3, FormatDescriptionV3Inner, OwnedFormatItem,
 };
+use time_compare::{WEDNESDAY, all_that_is_left, append_by, measured, refusal_name, wednesday};
 use time_fmt::{BorrowedItems, Formattable, OwnedItems};
 use time_provide::DateState;
 
@@ -27,26 +24,6 @@ const SIZES: &[usize] = &[
     1 << 22,
 ];
 
-/// Takes pieces of this size until none is left.
-fn take_pieces(alloc: Global, taken: &mut Vec<Vec<u8>>, size: usize) -> Result<(), AllocError> {
-    for _ in 0..65_536 {
-        let Ok(piece) = Vec::with_capacity(alloc, size) else {
-            return Ok(());
-        };
-        taken.push(piece)?;
-    }
-    Ok(())
-}
-
-/// All addresses that are left, in pieces of these sizes, of which no byte is written.
-fn all_that_is_left(alloc: Global) -> Result<Vec<Vec<u8>>, AllocError> {
-    let mut taken = Vec::with_capacity(alloc, 65_536)?;
-    for &size in SIZES {
-        take_pieces(alloc, &mut taken, size)?;
-    }
-    Ok(taken)
-}
-
 /// Appends the text where no block as large as the width is left: neither that nor the text as its own can be made.
 fn assert_no_memory<D: Formattable>(
     rt: &impl Abort,
@@ -54,9 +31,9 @@ fn assert_no_memory<D: Formattable>(
     output: &mut Vec<u8>,
     item: &D,
 ) {
-    let taken = all_that_is_left(alloc);
+    let taken = all_that_is_left(alloc, SIZES);
     assert_that(rt, taken.is_ok());
-    let (refused, made, state) = append_by(alloc, output, item, &wednesday(rt).date());
+    let (refused, made, state) = append_by(alloc, output, item, &some(rt, wednesday(0)).date());
     drop(taken);
     assert_same(rt, refusal_name(&refused), "memory");
     assert_same(rt, refusal_name(&made), "memory");

@@ -1,9 +1,9 @@
 //! Offsets, moments and timestamps.
 use crate::texts::{Rows, assert_rows};
-use crate::values::Value;
-use crate::values::Value::{Offset, Timestamp};
 use time_below::format_description::modifier::Padding;
 use time_below::format_description::{Component, modifier};
+use time_compare::Value;
+use time_compare::Value::{Offset, Timestamp};
 
 /// Seconds since 1970 and a nanosecond, of the ends, around zero and of either sign.
 const TIMESTAMPS: Rows = rows! {

@@ -1,14 +1,13 @@
 //! Long texts, long outputs, long lists and deep trees. Memory is available, so no call is out of memory.
 use crate::items::{Tree, one};
 use crate::texts::{
-    DAY, append, append_item, assert_item, assert_same, assert_that, long_text, made, measured,
-    repeated,
+    DAY, append_item, assert_item, assert_same, assert_that, long_text, made, repeated, some,
 };
-use crate::values::WEDNESDAY;
 use std::alloc::{AllocError, Global};
 use std::process::Abort;
 use std::test::Fail;
 use time_below::format_description::{BorrowedFormatItem, metadata_of_node};
+use time_compare::{WEDNESDAY, append, measured};
 use time_fmt::BorrowedItems;
 
 /// How many bytes the longest literals have.
@@ -87,7 +86,7 @@ fn a_list_of_ten_thousand_days_is_written(rt: HostRuntime) -> Result<(), Fail> {
     let list = BorrowedItems(items.as_slice());
     assert_same(&rt, measured(&list), 20_000);
     let mut output = Vec::new(rt.alloc());
-    let (count, _) = append(&rt, rt.alloc(), &mut output, &list, WEDNESDAY);
+    let (count, _) = some(&rt, append(rt.alloc(), &mut output, &list, WEDNESDAY));
     assert_that(&rt, matches!(&count, Ok(20_000)));
     assert_repeated(&rt, output.as_slice(), b"12", 10_000);
     Ok(())

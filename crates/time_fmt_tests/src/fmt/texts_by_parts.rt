@@ -2,16 +2,14 @@
 //! as a part. The components are in `components_table`.
 use crate::examples::append_clock;
 use crate::items::one;
-use crate::texts::{
-    append, assert_refused, assert_same, assert_that, assert_value, measured, refusal_name,
-};
-use crate::values::{Value, time_at};
+use crate::texts::{assert_refused, assert_same, assert_that, assert_value, some};
 use std::alloc::{AllocError, Global};
 use std::process::Abort;
 use std::test::Fail;
 use time_below::format_description::{
     BorrowedFormatItem, Component, FormatDescriptionV3, FormatDescriptionV3Inner, OwnedFormatItem,
 };
+use time_compare::{Value, append, measured, refusal_name, time_at};
 use time_fmt::laws::parts::{
     ascii_is_text, choices_mean_their_component, item_means_its_list, literal_means_its_bytes,
     pair_means_both_lists, pair_means_one_after_the_other,
@@ -48,8 +46,8 @@ fn assert_as_list<P: Formattable>(
     let (mut written, mut listed) = (Vec::new(alloc), Vec::new(alloc));
     let pushed = written.push(b'x').is_ok() && listed.push(b'x').is_ok();
     assert_that(rt, pushed);
-    let (answer, _) = append(rt, alloc, &mut written, parts, value);
-    let (wanted, _) = append(rt, alloc, &mut listed, &BorrowedItems(items), value);
+    let (answer, _) = some(rt, append(alloc, &mut written, parts, value));
+    let (wanted, _) = some(rt, append(alloc, &mut listed, &BorrowedItems(items), value));
     assert_same(rt, written.as_slice(), listed.as_slice());
     assert_same(rt, refusal_name(&answer), refusal_name(&wanted));
     assert_same(rt, answer.unwrap_or(0), wanted.unwrap_or(0));
@@ -164,7 +162,7 @@ fn a_refusal_in_the_midst_ends_the_text(rt: HostRuntime) {
         text!(DAY, b" ", HOUR, b" ", MONTH),
         Value::Date(1997, 11, 12),
     );
-    let (answer, _) = append(&rt, rt.alloc(), &mut output, &day, value);
+    let (answer, _) = some(&rt, append(rt.alloc(), &mut output, &day, value));
     assert_same(&rt, refusal_name(&answer), "insufficient");
     assert_same(&rt, output.as_slice(), b"12 ".as_slice());
 }
@@ -172,7 +170,7 @@ fn a_refusal_in_the_midst_ends_the_text(rt: HostRuntime) {
 #[test]
 fn the_example_writes_the_clock(rt: HostRuntime) {
     let mut line = Vec::new(rt.alloc());
-    let written = append_clock(&mut line, &time_at(&rt, (9, 55, 6, 0)));
+    let written = append_clock(&mut line, &some(&rt, time_at((9, 55, 6, 0))));
     assert_that(&rt, matches!(&written, Ok(5)));
     assert_same(&rt, line.as_slice(), b"09:55".as_slice());
 }

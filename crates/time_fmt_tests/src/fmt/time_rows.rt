@@ -2,9 +2,9 @@
 use crate::texts::{
     Rows, append_item, assert_components, assert_items, assert_rows, assert_same, assert_that,
 };
-use crate::values::Value::Time;
 use time_below::format_description::modifier::{Padding, SubsecondDigits, TrailingInput};
 use time_below::format_description::{BorrowedFormatItem as Item, Component, modifier};
+use time_compare::Value::Time;
 use time_fmt::parts;
 
 const HOUR: Item<'static> = Item::Component(Component::Hour24(parts::HOUR));

@@ -1,8 +1,7 @@
 //! Descriptions of each kind, deprecated components, and metadata.
 use crate::fmt::sizes::{assert_levels, assert_linear};
 use crate::items::{Held, Lent, Tree, one};
-use crate::texts::{DAY, assert_refused, assert_same, assert_that, assert_value, measured};
-use crate::values::{Value, WEDNESDAY, time_at};
+use crate::texts::{DAY, assert_refused, assert_same, assert_that, assert_value, some};
 use std::alloc::{AllocError, Global};
 use std::process::Abort;
 use std::test::Fail;
@@ -11,6 +10,7 @@ use time_below::format_description::{
     BorrowedFormatItem as Borrowed, Component, FormatDescriptionV3Inner as Inner,
     OwnedFormatItem as Owned, modifier,
 };
+use time_compare::{Value, WEDNESDAY, measured, time_at};
 use time_fmt::parts::{HOUR, MINUTE};
 use time_fmt::{
     BorrowedItems, ComputeMetadata, Formattable, Metadata, OwnedItems, component_write_into,
@@ -193,7 +193,7 @@ fn a_literal_of_bytes_takes_the_text_guarantee(rt: HostRuntime) {
 
 #[test]
 fn write_into_takes_the_room_that_there_is(rt: HostRuntime) -> Result<(), Fail> {
-    let value = time_at(&rt, (9, 55, 6, 0));
+    let value = some(&rt, time_at((9, 55, 6, 0)));
     let mut output = Vec::with_capacity(rt.alloc(), 5)?;
     let text = Borrowed::StringLiteral("at ");
     let first = text.write_into(&mut output, &value, &mut ());
@@ -220,7 +220,7 @@ fn a_deprecated_year_may_be_out_of_range(rt: HostRuntime) {
 
 #[test]
 fn engines_write_where_there_is_room(rt: HostRuntime) -> Result<(), Fail> {
-    let value = time_at(&rt, (9, 55, 6, 0));
+    let value = some(&rt, time_at((9, 55, 6, 0)));
     let mut output = Vec::with_capacity(rt.alloc(), 16)?;
     let hour = Component::Hour24(HOUR);
     let first = component_write_into(&hour, &mut output, &value, &mut ());

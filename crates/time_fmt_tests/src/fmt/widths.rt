@@ -1,11 +1,11 @@
 //! Each component, written into exactly as much spare capacity as its width.
 use crate::fmt::components_table::{COMPONENTS, DEPRECATED};
-use crate::texts::{assert_same, assert_that};
-use crate::values::moment;
+use crate::texts::{assert_same, assert_that, some};
 use std::alloc::Global;
 use std::process::Abort;
 use time_below::OffsetDateTime;
 use time_below::format_description::{Component, component_width};
+use time_compare::moment;
 use time_fmt::component_write_into;
 use time_provide::DateState;
 
@@ -29,8 +29,8 @@ fn written(rt: &impl Abort, alloc: Global, component: &Component, value: &Offset
 /// -23:45:30: the most bytes that the component has of one of the two.
 fn longest(rt: &impl Abort, alloc: Global, component: &Component) -> usize {
     let (time, offset) = ((12, 34, 56, 123_456_789), (-23, -45, -30));
-    let extended = moment(rt, (-999_999, 9, 12), time, offset);
-    let standard = moment(rt, (-9_999, 10, 10), time, offset);
+    let extended = some(rt, moment((-999_999, 9, 12), time, offset));
+    let standard = some(rt, moment((-9_999, 10, 10), time, offset));
     let first = written(rt, alloc, component, &extended);
     first.max(written(rt, alloc, component, &standard))
 }

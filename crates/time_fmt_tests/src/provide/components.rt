@@ -1,10 +1,10 @@
 //! The components of each type, in one text for each group.
-use crate::texts::{assert_same, assert_value, measured};
-use crate::values::Value::{Date, Local, Moment, Offset, Time, Timestamp, Utc};
-use crate::values::{Value, WEDNESDAY};
+use crate::texts::{assert_same, assert_value};
 use std::alloc::Global;
 use std::process::Abort;
 use time_below::format_description::{BorrowedFormatItem as Item, Component};
+use time_compare::Value::{Date, Local, Moment, Offset, Time, Timestamp, Utc};
+use time_compare::{Value, WEDNESDAY, measured};
 use time_fmt::parts::*;
 
 /// Components by their constants, and a space after each.

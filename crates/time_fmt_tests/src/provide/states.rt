@@ -2,13 +2,13 @@
 //! states of dates are equal if they hold the same.
 ghost use Rattle.std.specs.Prelude.{IsTrue};
 
-use crate::texts::assert_same;
-use crate::values::{date_at, moment, offset_at, time_at, timestamp_at};
+use crate::texts::{assert_same, some};
 use std::alloc::Global;
 use std::default::Default;
 use std::fmt::Debug;
 use std::process::Abort;
 use time_below::{Date, OffsetDateTime, PlainDateTime, UtcDateTime};
+use time_compare::{date_at, moment, offset_at, time_at, timestamp_at};
 use time_provide::{ComponentProvider, DateState};
 
 #[derive(Clone, Copy, Debug)]
@@ -299,10 +299,10 @@ fn assert_date(rt: &impl Abort, alloc: Global, date: Date) {
     assert_shown(rt, alloc, date);
     assert_pairs(rt, &date, date);
     for &(hour, offset) in HOURS {
-        let time = time_at(rt, (hour, 0, 0, 0));
+        let time = some(rt, time_at((hour, 0, 0, 0)));
         assert_pairs(rt, &PlainDateTime::new(date, time), date);
         assert_pairs(rt, &UtcDateTime::new(date, time), date);
-        let offset = offset_at(rt, (offset, 0, 0));
+        let offset = some(rt, offset_at((offset, 0, 0)));
         assert_pairs(rt, &OffsetDateTime::new_in_offset(date, time, offset), date);
     }
 }
@@ -329,12 +329,12 @@ fn a_state_holds_what_two_methods_keep_on_dates_from_1970(rt: HostRuntime) {
 
 #[test]
 fn a_state_holds_what_three_methods_keep(rt: HostRuntime) {
-    let date = date_at(&rt, (1997, 11, 12));
-    let time = time_at(&rt, (9, 55, 6, 0));
+    let date = some(&rt, date_at((1997, 11, 12)));
+    let time = some(&rt, time_at((9, 55, 6, 0)));
     assert_triples(&rt, &date, date);
     assert_triples(&rt, &PlainDateTime::new(date, time), date);
     assert_triples(&rt, &UtcDateTime::new(date, time), date);
-    let value = moment(&rt, (1997, 11, 12), (9, 55, 6, 0), (-6, 0, 0));
+    let value = some(&rt, moment((1997, 11, 12), (9, 55, 6, 0), (-6, 0, 0)));
     assert_triples(&rt, &value, date);
 }
 
@@ -346,7 +346,7 @@ fn assert_moment(
     (first, of_first): (Method, [bool; 6]),
     (second, of_second): (Method, [bool; 6]),
 ) {
-    let moment = timestamp_at(rt, parts);
+    let moment = some(rt, timestamp_at(parts));
     for &(third, of_third, beside) in METHODS {
         let state = state_after(&moment, first, second, third);
         let wanted = either(either(of_first, of_second), entries(of_third, beside));

@@ -3,11 +3,12 @@ ghost use Rattle.std.specs.Prelude.{◌≤◌};
 
 use crate::answers::assert_ends;
 use crate::format_texts::assert_same;
-use std::alloc::{AllocError, Global};
+use std::alloc::Global;
 use std::io;
 use std::io::Write;
 use std::process::Abort;
 use std::test::Fail;
+use time_compare::all_that_is_left;
 
 /// Holds what is written in an array, so that it allocates nothing.
 #[derive(Drop)]
@@ -69,26 +70,6 @@ const SIZES: &[usize] = &[
     1 << 4,
 ];
 
-/// Takes vectors of this size until none is left.
-fn take_pieces(alloc: Global, taken: &mut Vec<Vec<u8>>, size: usize) -> Result<(), AllocError> {
-    for _ in 0..65_536 {
-        let Ok(piece) = Vec::with_capacity(alloc, size) else {
-            return Ok(());
-        };
-        taken.push(piece)?;
-    }
-    Ok(())
-}
-
-/// The memory that is left, in vectors of these sizes, of which no byte is written.
-fn all_that_is_left(alloc: Global) -> Result<Vec<Vec<u8>>, AllocError> {
-    let mut taken = Vec::with_capacity(alloc, 1_048_576)?;
-    for &size in SIZES {
-        take_pieces(alloc, &mut taken, size)?;
-    }
-    Ok(taken)
-}
-
 /// Compares the answer to one time of day. Only `run` allocates.
 fn assert_answer(rt: &impl Abort, alloc: Global, answer: &[u8]) {
     let mut source: &[u8] = b"time 9 55 6 120000000\n";
@@ -109,7 +90,7 @@ fn assert_answer(rt: &impl Abort, alloc: Global, answer: &[u8]) {
 fn a_value_is_refused_where_no_memory_is_left(rt: HostRuntime) -> Result<(), Fail> {
     let text = b"ok 11 18 09:55:06.12\n".as_slice();
     assert_answer(&rt, rt.alloc(), text);
-    let mut taken = all_that_is_left(rt.alloc())?;
+    let mut taken = all_that_is_left(rt.alloc(), SIZES)?;
     let is_empty = Vec::<u8>::with_capacity(rt.alloc(), 16).is_err();
     if is_empty {
         assert_answer(&rt, rt.alloc(), b"refused 0 out-of-memory\n");

@@ -1,8 +1,9 @@
 //! Moments with their texts, and what is refused.
-use crate::format_values::{offset_at, timestamp_at};
+use crate::format_texts::some;
 use std::process::Abort;
 use std::test::Fail;
 use time_below::Timestamp;
+use time_compare::{offset_at, timestamp_at};
 use time_fmt::Format;
 use time_log::Decimals::{Microseconds, Milliseconds, Nanoseconds};
 use time_log::{Decimals, LogTime};
@@ -77,7 +78,7 @@ const BORDERS: &[((i64, u32), &str)] = &[
 ];
 
 fn at(rt: &impl Abort, (hours, minutes): (i8, i8), decimals: Decimals) -> LogTime {
-    match LogTime::new(offset_at(rt, (hours, minutes, 0)), decimals) {
+    match LogTime::new(some(rt, offset_at((hours, minutes, 0))), decimals) {
         Ok(time) => time,
         Err(_) => panic!(rt; "the offset is refused"),
     }
@@ -97,7 +98,7 @@ fn assert_text(
     text: &str,
 ) {
     output.clear();
-    let answer = append(output, time, timestamp_at(rt, at));
+    let answer = append(output, time, some(rt, timestamp_at(at)));
     assert!(rt;
         matches!(answer, Ok(count) if count == text.len()),
         "the count of {text}"
@@ -157,7 +158,11 @@ fn a_refused_year_leaves_what_was_written_and_what_is_kept(rt: HostRuntime) {
         31_494_784_780_799,
         -31_619_087_596_800,
     ] {
-        let answer = append(&mut output, &mut time, timestamp_at(&rt, (seconds, 0)));
+        let answer = append(
+            &mut output,
+            &mut time,
+            some(&rt, timestamp_at((seconds, 0))),
+        );
         assert!(&rt; is_named(answer, "year"), "{seconds}");
         assert!(&rt; output.as_slice() == b"9999-12-31T23:59:59.000+01:00".as_slice());
     }
@@ -185,7 +190,10 @@ fn offsets_without_a_text_are_refused_by_their_component(rt: HostRuntime) {
         (23, 59, 1, "offset_second"),
         (0, 0, -1, "offset_second"),
     ] {
-        match LogTime::new(offset_at(&rt, (hours, minutes, seconds)), Milliseconds) {
+        match LogTime::new(
+            some(&rt, offset_at((hours, minutes, seconds))),
+            Milliseconds,
+        ) {
             Ok(_) => panic!(&rt; "{hours}:{minutes}:{seconds} is accepted"),
             Err(refusal) => assert!(&rt; is_named(Err(refusal), name), "{name}"),
         }

@@ -4,12 +4,12 @@ use super::{
     append_mail_date, append_milliseconds, append_stamp, append_unix_time, append_week_date,
     reason, stamp_text, write_kept,
 };
-use crate::format_texts::{assert_same, assert_that};
-use crate::format_values::moment;
+use crate::format_texts::{assert_same, assert_that, some};
 use std::default::Default;
 use std::process::Abort;
 use std::test::Fail;
 use time_below::{OffsetDateTime, Timestamp, UtcDateTime, UtcOffset};
+use time_compare::moment;
 use time_fmt::{DateState, Format};
 use time_known::Rfc3339;
 
@@ -18,7 +18,10 @@ const FIRST: i64 = -31_619_087_596_800;
 
 /// 2026-11-22 9:55:06.12 UTC, a Sunday.
 fn sunday(rt: &impl Abort) -> OffsetDateTime {
-    moment(rt, (2026, 11, 22), (9, 55, 6, 120_000_000), (0, 0, 0))
+    some(
+        rt,
+        moment((2026, 11, 22), (9, 55, 6, 120_000_000), (0, 0, 0)),
+    )
 }
 
 /// Compares the text and its count, and clears the line.
