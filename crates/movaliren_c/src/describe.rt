@@ -107,6 +107,7 @@ pub extern "C" fn movaliren_strftime_local(
 
 /// Reads the items of a text into an array. If there are none, or they do not fit, the first item of the
 /// array is none.
+#[tactic(auto, using(crate::proofs::ItemLemmas::left_complete, std::proofs::lemmas::Grind::common_steps, std::proofs::lemmas::Bool::Decides::nat_tests))]
 fn describe<S: Syntax>(text: &[u8], items: &mut [Item], fault: &mut Fault) -> Result<usize, Reason>
     ensures leaves { Leaves text.now (S.described text.now) result items.new fault.old fault.new }
     ensures fits { IfOk result (λ count. count ≤ length items.new) }
@@ -129,6 +130,7 @@ fn describe<S: Syntax>(text: &[u8], items: &mut [Item], fault: &mut Fault) -> Re
 }
 
 /// Writes the text of the value by the description that another text is.
+#[tactic(auto, using(crate::proofs::ItemLemmas::text_shown, crate::proofs::ItemLemmas::text_faulty, std::proofs::lemmas::Grind::common_steps))]
 fn write_text<S: Syntax, V: FirstState + Drop>(
     text: &[u8],
     value: Result<V, Reason>,
@@ -150,6 +152,7 @@ where
 /// Writes the text of the value by a description of more items than most have.
 #[cold]
 #[inline(never)]
+#[tactic(auto, using(crate::proofs::ItemLemmas::text_shown, crate::proofs::ItemLemmas::text_refused, std::proofs::lemmas::Grind::common_steps))]
 fn write_many<S: Syntax, V: FirstState + Drop>(
     text: &[u8],
     value: Result<V, Reason>,
