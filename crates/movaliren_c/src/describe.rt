@@ -107,7 +107,6 @@ pub extern "C" fn movaliren_strftime_local(
 
 /// Reads the items of a text into an array. If there are none, or they do not fit, the first item of the
 /// array is none.
-#[tactic(auto, using(crate::proofs::ItemLemmas::left_complete, std::proofs::lemmas::Grind::common_steps, std::proofs::lemmas::Bool::Decides::nat_tests))]
 fn describe<S: Syntax>(text: &[u8], items: &mut [Item], fault: &mut Fault) -> Result<usize, Reason>
     ensures leaves { Leaves text.now (S.described text.now) result items.new fault.old fault.new }
     ensures fits { IfOk result (λ count. count ≤ length items.new) }

@@ -125,7 +125,6 @@ pub extern "C" fn movaliren_width(items: &[Item], texts: &[u8]) -> isize
 /// array first, so that the buffer is as it was where there is no text. A longer text is written again,
 /// once it is known that it is complete and fits.
 #[inline(always)]
-#[tactic(auto, using(crate::proofs::DescribedLemmas::no_room, crate::proofs::DescribedLemmas::no_value, std::proofs::lemmas::Grind::common_steps))]
 pub fn write_described<V: FirstState + Drop>(
     items: &[Item],
     texts: &[u8],
@@ -218,7 +217,6 @@ where
 /// Writes a date or a time of day into a sink, if the items are one, the value has it and the longest fits.
 /// Returns whether it was written.
 #[inline(always)]
-#[tactic(auto, using(crate::proofs::DescribedLemmas::run_alone, std::proofs::lemmas::Grind::common_steps))]
 fn put_alone<S: Sink, V: FirstState>(
     items: &[Item],
     texts: &[u8],

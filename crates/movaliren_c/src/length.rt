@@ -69,7 +69,6 @@ pub extern "C" fn movaliren_format_date_length(
 }
 
 /// The number of bytes of the text of the value by the description, up to the greatest `isize`, if there are both.
-#[tactic(auto, using(crate::proofs::DescribedLemmas::no_value))]
 fn text_length<V: FirstState + Drop>(
     items: &[Item],
     texts: &[u8],

@@ -30,7 +30,6 @@ impl Format for Stamp {
     ghost outcome = { λ _. utc_stamp_of };
 
     #[inline(always)]
-    #[tactic(auto, using(time_known::proofs::AcceptedLemmas::usual_accepted, time_known::proofs::AcceptedLemmas::usual_refused, std::proofs::lemmas::Grind::common_steps))]
     fn text(self, value: &OffsetDateTime) -> Result<StampText, Reason> {
         let value = UtcDateTime::new(value.date(), value.time());
         match accepted_fields(0, 25, &value, &mut DateState::default()) {
