@@ -1,10 +1,11 @@
 #!/usr/bin/env python3
-"""Tries shorter proofs of the lemmas of a crate, in its folder, which must be proved.
+"""Tries shorter proofs of the lemmas and the answers of a crate, in its folder, which must be proved.
 
 A body that takes more lines becomes one call, `grind (arith, LEMMAS)` or else `grind (arith, common_steps, LEMMAS)`, with the
 lemmas that it named. A definition by cases, and one with a `where`, becomes one clause. All are tried at once: what the
-prover refuses is put back, and the rest is checked again, until all is proved. A longer list than fits in a line is not
-tried, since `rt fmt` gives each name of it a line. Each check takes one to four minutes. `--jobs N` goes to `rt check`.
+prover refuses is tried by the other call and then put back, and the rest is checked again, until all is proved. A longer
+list than fits in a line is not tried, since `rt fmt` gives each name of it a line. Each check takes one to four minutes.
+`--jobs N` goes to `rt check`.
 What is left to do by hand: `rt tidy`, which drops the imports that nothing names now, and a look at the time of the proof.
 """
 import argparse
@@ -22,6 +23,10 @@ REFUSED = re.compile(r"^\./(proofs/[^:]+\.antt):(\d+):\d+: error: (.*)$", re.M)
 OTHER = re.compile(r"--|(?:pub )?(?:use|mod|record|data|abbrev|ruleset|unfoldable|unfolding|module|open)\b|infix|pattern|[)}\]]")
 # The types of what is computed. A definition of one of these is no lemma.
 DATA = {"ℕ", "ℤ", "Bool", "List", "Option", "Result", "Ordering", "Type", "String", "Char", "Unit"}
+# The lemmas of `Common`, beside those with a dash in their name. What else it has are definitions, and steps as `sym`.
+COMMON_LEMMAS = {"append_assoc", "ne_eqb"}
+# An answer that takes more arguments takes them before the call.
+BOUND = re.compile(r"[^\n]*= (λ [^.]*\.)(?=\s)")
 SPACED = re.compile(r"[\s(){};,.@«»\"]+")
 
 
@@ -31,9 +36,10 @@ def words(text):
 
 def lemmas_of(text):
     """The names of lemmas that a file imports or declares."""
-    imported = [name.strip().split(" as ")[-1] for module, names in USE.findall(text)
-                if ".proofs" in module and module != COMMON for name in names.split(",")]
-    return {it for it in imported if it[:1].islower() or "-" in it} | {
+    imported = [(module, name.strip().split(" as ")[-1]) for module, names in USE.findall(text)
+                if ".proofs" in module for name in names.split(",")]
+    return {it for module, it in imported
+            if (it in COMMON_LEMMAS or "-" in it[1:-1] if module == COMMON else it[:1].islower() or "-" in it)} | {
         found[1] for found in map(SIGNATURE.match, text.split("\n")) if found}
 
 
@@ -106,6 +112,9 @@ def made(head, body, lemmas, facts):
     own = head.split()[0]
     cited = dict.fromkeys(it for it in words(body) if it in lemmas and it not in (own, *facts))
     call = "grind arith" if len(facts) == 1 and not cited else f"grind ({', '.join([*facts, *cited])})"
+    bound = BOUND.match(body)
+    if bound:
+        call = f"{bound[1]} {call}"
     for lines in ([f"{head} = {call}"], [f"{head} =", f"    {call}"]):
         if all(len(it) <= WIDTH for it in lines):
             return lines
@@ -179,19 +188,22 @@ def refused(said, spans):
     return found
 
 
-def shorten(facts, jobs):
-    """Tries one kind of call for all bodies, and returns how many lines fewer there are."""
-    files = sorted(str(it) for it in Path("proofs").rglob("*.antt") if it.name not in ("Answers.antt", "Invariants.antt", "Lib.antt"))
+def shorten(jobs):
+    """Tries the calls for all bodies, and returns how many lines fewer there are."""
+    files = sorted(str(it) for it in Path("proofs").rglob("*.antt") if it.name not in ("Invariants.antt", "Lib.antt"))
     texts = {it: Path(it).read_text(encoding="utf-8") for it in files}
-    tried = {it: shorter_in(text, facts) for it, text in texts.items()}
+    tried, longer = ({it: shorter_in(text, facts) for it, text in texts.items()} for facts in (["arith"], ["arith", "common_steps"]))
+    longer = {(path, it.start, it.end): it for path, those in longer.items() for it in those}
     while any(tried.values()):
         spans = {it: written(it, texts[it], tried[it]) for it in files}
         said, is_proved = check(jobs)
         if is_proved:
             break
         bad = refused(said, spans) or {it for those in tried.values() for it in those}
-        tried = {path: [it for it in those if it not in bad] for path, those in tried.items()}
-        print(f"{', '.join(facts)}: {len(bad)} put back, {sum(map(len, tried.values()))} left", flush=True)
+        # What is refused is tried by the other call, once.
+        tried = {path: [other for it in those if (other := longer.pop((path, it.start, it.end), None) if it in bad else it)]
+                 for path, those in tried.items()}
+        print(f"{len(bad)} refused, {sum(map(len, tried.values()))} left", flush=True)
     for path in files:
         if not tried[path]:
             Path(path).write_text(texts[path], encoding="utf-8")
@@ -206,8 +218,7 @@ def main():
         asked.error("there is no proofs/ here")
     if not check(jobs)[1]:
         asked.error("the crate is not proved")
-    fewer = shorten(["arith"], jobs) + shorten(["arith", "common_steps"], jobs)
-    print(f"{fewer} lines fewer")
+    print(f"{shorten(jobs)} lines fewer")
 
 
 if __name__ == "__main__":

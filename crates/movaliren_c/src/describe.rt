@@ -129,6 +129,7 @@ fn describe<S: Syntax>(text: &[u8], items: &mut [Item], fault: &mut Fault) -> Re
 }
 
 /// Writes the text of the value by the description that another text is.
+#[tactic(auto, using(crate::proofs::ItemLemmas::text_shown, crate::proofs::ItemLemmas::text_faulty, std::proofs::lemmas::Grind::common_steps))]
 fn write_text<S: Syntax, V: FirstState + Drop>(
     text: &[u8],
     value: Result<V, Reason>,
@@ -150,6 +151,7 @@ where
 /// Writes the text of the value by a description of more items than most have.
 #[cold]
 #[inline(never)]
+#[tactic(auto, using(crate::proofs::ItemLemmas::text_shown, crate::proofs::ItemLemmas::text_refused, std::proofs::lemmas::Grind::common_steps))]
 fn write_many<S: Syntax, V: FirstState + Drop>(
     text: &[u8],
     value: Result<V, Reason>,

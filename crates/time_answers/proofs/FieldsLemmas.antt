@@ -91,20 +91,17 @@ digit_no_space b h = grind arith
 
 -- each of some first digits is one
 digit_at : (text : List ℕ) (count k : ℕ) → list_all is_ascii_digit (take count text) ≡ true → k < count
-    → count ≤ length text →
-    is_ascii_digit (get_or text k 0) ≡ true
+    → count ≤ length text → is_ascii_digit (get_or text k 0) ≡ true
 digit_at text count k h lt le = grind (arith, get_or-take, All-get_or, length-take, AllPass-from_list_all)
 
 -- first digits are no number if another byte follows them, or a byte follows nine
 no_natural : (field : List ℕ) (count : ℕ) → count < length field
-    → (count ≡ 9) ⊎ (is_ascii_digit (get_or field count 0) ≡ false) →
-    natural_of field ≡ None
+    → (count ≡ 9) ⊎ (is_ascii_digit (get_or field count 0) ≡ false) → natural_of field ≡ None
 no_natural field count h k = grind (arith, common_steps, list_all_at)
 
 -- no space stands among first digits
 no_space : (text : List ℕ) (count k : ℕ) → list_all is_ascii_digit (take count text) ≡ true → count ≤ length text
-    → k < count →
-    is_space (get_or text k 0) ≡ false
+    → k < count → is_space (get_or text k 0) ≡ false
 no_space text count k h le lt = digit_no_space _ (digit_at text count k h lt le)
 
 -- digits up to the end of their field are a number
@@ -113,9 +110,8 @@ natural_of_digits : (text : List ℕ) (value count : ℕ) → LeadingDigits text
 natural_of_digits text value count read some = grind (arith, natural-whole, length-take)
 
 -- digits up to the end of the text are its first number, and nothing is left
-pub natural_last : (text : List ℕ) (value count : ℕ) → LeadingDigits text value count → 0 < count → count ≡ length text
-    →
-    FirstNatural text (Some (value, []))
+pub natural_last : (text : List ℕ) (value count : ℕ) → LeadingDigits text value count → 0 < count
+    → count ≡ length text → FirstNatural text (Some (value, []))
 natural_last text value count read some end =
     let at : position_or_len is_space text ≡ count = position_or_len_is is_space text count 0 read.inside
     (λ k lt. no_space text count k read.digits read.inside lt) (λ lt. absurd (omega arith)) in (
@@ -139,8 +135,7 @@ natural_before text value count read some inside here =
 
 -- the text up to the first space is no number, if first digits end before it
 no_natural_before : (text : List ℕ) (value count : ℕ) → LeadingDigits text value count
-    → count < position_or_len is_space text →
-    natural_of (take (position_or_len is_space text) text) ≡ None
+    → count < position_or_len is_space text → natural_of (take (position_or_len is_space text) text) ≡ None
 no_natural_before text value count read lt =
     grind (arith, common_steps, length-take, prefix_len-le-length, no_natural, get_or-take)
 
@@ -160,16 +155,14 @@ no_space_before text value count read inside other le =
     (cases_lt (position_or_len is_space text) count)
 
 -- no digit, or another byte after them than a space, is no number
-missed_number : (text : List ℕ) (value count : ℕ) → LeadingDigits text value count →
-    (count ≡ 0) ⊎ ((count < length text) × (is_space (get_or text count 0) ≡ false))
-    → position_or_len is_space text ≤ count →
-    natural_of (take (position_or_len is_space text) text) ≡ None
+missed_number : (text : List ℕ) (value count : ℕ) → LeadingDigits text value count
+    → (count ≡ 0) ⊎ ((count < length text) × (is_space (get_or text count 0) ≡ false))
+    → position_or_len is_space text ≤ count → natural_of (take (position_or_len is_space text) text) ≡ None
 missed_number text value count read (inl none) le = let zero : position_or_len is_space text ≡ 0 = omega arith in rw zero refl
 missed_number text value count read (inr other) le = absurd (no_space_before text value count read other.0 other.1 le)
 
-pub natural_missed : (text : List ℕ) (value count : ℕ) → LeadingDigits text value count →
-    (count ≡ 0) ⊎ ((count < length text) × (is_space (get_or text count 0) ≡ false)) →
-    FirstNatural text None
+pub natural_missed : (text : List ℕ) (value count : ℕ) → LeadingDigits text value count
+    → (count ≡ 0) ⊎ ((count < length text) × (is_space (get_or text count 0) ≡ false)) → FirstNatural text None
 natural_missed text value count read wrong =
     let first = first_field text in
     let none : natural_of (take (position_or_len is_space text) text) ≡ None =

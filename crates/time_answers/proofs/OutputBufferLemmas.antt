@@ -1,6 +1,6 @@
 -- One write after another, what waits in front of a writer, and the parts of a text.
-use Rattle.std.proofs.Common.{ℕ, suc, Bor, ◌≡◌, ◌≢◌, ◌+◌, ◌<◌, ◌++◌, List, [], length, take, drop, get_or, Option, refl}
-use Rattle.std.proofs.Common.{ap, sym, append_assoc, append-nil, length-append, arith}
+use Rattle.std.proofs.Common.{ℕ, suc, Bor, ◌≡◌, ◌≢◌, ◌+◌, ◌<◌, ◌++◌, List, [], length, take, drop, get_or, Option}
+use Rattle.std.proofs.Common.{refl, ap, sym, append_assoc, append-nil, length-append, arith, ◌∷◌, ◌∙◌}
 use Rattle.std.proofs.Math.Seq.{drop-cons}
 use Rattle.std.proofs.lemmas.Grind.{common_steps}
 use Rattle.std.proofs.lemmas.List.{take-append-drop, take_more}
@@ -8,8 +8,6 @@ use Rattle.std.proofs.KnownBytes.{Appends-nil, Appends-trans}
 use Rattle.std.specs.Io.KnownBytes.{Appends}
 use Rattle.time_digits.specs.Digits.{joined}
 use Rattle.time_answers.specs.OutputBuffer.{Output, buffered, Accepts, AppendsStart, CutsOff}
-use Rattle.std.proofs.Common.{◌∷◌}
-use Rattle.std.proofs.Common.{◌∙◌}
 
 -- bytes are left after a place before the end
 drop-some : (n : ℕ) (xs : List ℕ) → n < length xs → drop n xs ≢ []

@@ -1,6 +1,6 @@
 -- A run goes on from what it has answered.
-use Rattle.std.proofs.Common.{ℕ, Ok, Err, ◌≡◌, ◌≢◌, ◌++◌, List, [], ◌∷◌, Option, Some, sym, arith}
-use Rattle.std.proofs.Common.{append-nil, append_assoc}
+use Rattle.std.proofs.Common.{ℕ, Ok, Err, ◌≡◌, ◌≢◌, ◌++◌, List, [], ◌∷◌, Option, Some, sym, arith, append-nil}
+use Rattle.std.proofs.Common.{append_assoc, refl, ap, ◌∙◌, inr, inl}
 use Rattle.std.proofs.lemmas.Grind.{common_steps}
 use Rattle.std.proofs.KnownBytes.{Appends-trans, Consumes-trans}
 use Rattle.std.specs.Io.KnownBytes.{Appends, Consumes, IsAtEnd}
@@ -8,7 +8,7 @@ use Rattle.time_answers.specs.declared.run.ShowError.TheVariants.{Write}
 use Rattle.time_answers.specs.Answer.{IsAnswer, AreAnswers, BreaksOff}
 use Rattle.time_answers.specs.LineBuffer.{kept_of, kept_with}
 use Rattle.line_streams.specs.Lines.{line_feed, lines_of, whole_lines_of, unended_of, IsOneLine}
-use Rattle.time_answers.specs.OutputBuffer.{buffered, Accepts, AppendsStart}
+use Rattle.time_answers.specs.OutputBuffer.{buffered, Accepts, AppendsStart, CutsOff}
 use Rattle.time_answers.specs.Run.{RunState, state, output_of, AnsweredUpTo, AcceptsAnswer, CutsAnswerOff, AnswersOn}
 use Rattle.time_answers.specs.Run.{CutsAnswersOff, Ran}
 use Rattle.time_answers.proofs.OutputBufferLemmas.{Accepts-none, Accepts-flushed, Accepts-then}
@@ -16,11 +16,6 @@ use Rattle.time_answers.proofs.OutputBufferLemmas.{CutsOff-after, CutsOff-flushe
 use Rattle.line_streams.proofs.FilterLemmas.{Become-append, Become-one, last_is_one}
 use Rattle.line_streams.proofs.LinesLemmas.{lines_of-rest, whole_lines_of-append, whole_lines_of-fed, unended_of-fed}
 use Rattle.line_streams.proofs.LinesLemmas.{whole_lines_of-more, unended_of-more}
-use Rattle.std.proofs.Common.{refl}
-use Rattle.std.proofs.Common.{ap, ◌∙◌}
-use Rattle.std.proofs.Common.{inr}
-use Rattle.std.proofs.Common.{inl}
-use Rattle.time_answers.specs.OutputBuffer.{CutsOff}
 
 -- the answers to some lines, and the answer to the line that these bytes and a line feed complete
 line_answered : (before bytes text answer : List ℕ) → IsOneLine bytes → AreAnswers (whole_lines_of before) text
@@ -122,8 +117,7 @@ AnswersOn-kept bytes s one before text upto =
 
 -- the bytes complete the line, the line is answered, and a new one begins
 pub AnswersOn-line : (bytes : List ℕ) (kept : Option (List ℕ)) (old new : RunState) → IsOneLine bytes
-    → old.kept ≡ kept_with kept bytes →
-    AcceptsAnswer old new
+    → old.kept ≡ kept_with kept bytes → AcceptsAnswer old new
     → AnswersOn (bytes ++ line_feed ∷ []) (state kept old.held old.waiting) (state (Some []) new.held new.waiting)
 AnswersOn-line bytes kept old new one with_bytes p before text upto =
     grind (arith, kept_of-more, unended_of-fed, line_answered)
@@ -221,8 +215,7 @@ Accepts-sent a b text p = rw (p.in_order, append-nil p.sent) p.went_out
 
 -- one more block of the input is answered
 pub Running-on : (l0 l1 l2 h0 h1 h2 k1 k2 : Option (List ℕ)) (block : List ℕ) → Running l0 l1 h0 h1 k1
-    → Consumes l1 l2 block →
-    AnswersOn block (state k1 h1 []) (state k2 h2 []) → Running l0 l2 h0 h2 k2
+    → Consumes l1 l2 block → AnswersOn block (state k1 h1 []) (state k2 h2 []) → Running l0 l2 h0 h2 k2
 Running-on l0 l1 l2 h0 h1 h2 k1 k2 block run next on = grind (arith, Consumes-trans, Appends-trans, Accepts-sent)
 
 -- the answers to more bytes are cut off
@@ -251,8 +244,7 @@ is_cut bytes text block kept h1 h2 upto off =
 
 -- The answers to a block are cut off.
 pub Ran-cut : {T : Type 0} (l0 l1 l2 h0 h1 h2 k1 : Option (List ℕ)) (block : List ℕ) → Running l0 l1 h0 h1 k1
-    → Consumes l1 l2 block →
-    CutsAnswersOff block (state k1 h1 []) h2 → Ran {T = T} (Err Write) l0 l2 h0 h2
+    → Consumes l1 l2 block → CutsAnswersOff block (state k1 h1 []) h2 → Ran {T = T} (Err Write) l0 l2 h0 h2
 Ran-cut l0 l1 l2 h0 h1 h2 k1 block run next off =
     let cut = is_cut run.bytes run.text block k1 h1 h2 run.answered off in
     record {

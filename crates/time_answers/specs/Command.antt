@@ -1,6 +1,5 @@
 -- The numbers of a command, and the names of the commands.
-use Rattle.std.specs.Prelude.{ℕ, ℤ, Option, Some, None, List, [], ◌∷◌, codes, bytes_eq, option_map}
-use Rattle.std.specs.Prelude.{if◌then◌else◌}
+use Rattle.std.specs.Prelude.{ℕ, ℤ, Option, Some, None, List, [], ◌∷◌, codes, bytes_eq, option_map, if◌then◌else◌}
 use Rattle.time_answers.specs.declared.command.Name.{Name}
 use Rattle.time_answers.specs.declared.command.Name.TheVariants as name
 use Rattle.time_answers.specs.declared.value.DateNumbers.{DateNumbers}

@@ -5,9 +5,7 @@ use Rattle.movaliren_c.proofs.DescribedLemmas.{SoFar, ended, ended_refused, noth
 use Rattle.movaliren_c.proofs.described.put_items.Goals as goal
 
 pub loop-left-init : goal.loop-left-init
-loop-left-init g c =
-    nothing_so_far (g.S.Sink.buffer c.args.output.now) (g.V.ComponentProvider.facts c.args.value.now)
-    (trees_of c.args.texts.now c.args.items.now) c.first_state-state.ensures
+loop-left-init g c = grind (arith, nothing_so_far)
 
 pub loop-left-preserved-then-write_run : goal.loop-left-preserved-then-write_run
 loop-left-preserved-then-write_run g c =

@@ -1,17 +1,15 @@
-use Rattle.std.proofs.Common.{◌≡◌, ℕ, List, None, Result, refl, sym}
+use Rattle.std.proofs.Common.{◌≡◌, ℕ, List, None, Result}
 use Rattle.std.proofs.lemmas.List.{take_at}
 use Rattle.movaliren_c.specs.Answer.{IsWritten}
 use Rattle.movaliren_c.specs.declared.reason.Reason.{Reason}
 use Rattle.time_fmt.specs.Outcome.{Outcome, done}
 use Rattle.movaliren_c.proofs.iso8601.write_parts.Goals as goal
+use Rattle.std.proofs.Common.{arith}
 
 -- the bytes of a completed outcome, copied, are its text
 copied_whole : (answer : Result ℕ Reason) (o : Outcome) (bytes before after : List ℕ) → bytes ≡ o.bytes
     → o.refusal ≡ None → IsWritten answer (done bytes) before after → IsWritten answer o before after
-copied_whole answer o bytes before after same completed written =
-    let is : done bytes ≡ o = rw (same, ← completed) refl in rw (← is) written
+copied_whole answer o bytes before after same completed written = grind arith
 
 pub returns-in-Ok : goal.returns-in-Ok
-returns-in-Ok c =
-    let put = c.in-Ok.ensures.text in
-    copied_whole _ _ _ _ _ (rw put.2 (take_at _ _ _ (sym put.1))) put.0 c.copy_text.ensures.written
+returns-in-Ok c = grind (arith, copied_whole, take_at)

@@ -4,6 +4,7 @@ use Rattle.movaliren_c.specs.Value.{is_in_years}
 use Rattle.time_below.specs.Moment.{IsTimestampSecond, Moment, OffsetDateAndTime, local_at}
 use Rattle.time_below.specs.Offset.{Offset, offset_seconds}
 use Rattle.movaliren_c.proofs.source.local_there.Goals as goal
+use Rattle.std.proofs.Common.{arith}
 
 in_years : (seconds : ℤ) → IsTimestampSecond seconds → is_in_years seconds ≡ true
 in_years seconds inside = search rules
@@ -13,6 +14,4 @@ there : (m : Moment) (o : Offset) (t : OffsetDateAndTime) → t ≡ local_at m o
 there m o t same inside = rw (inside, same) refl
 
 pub returns-in-Some : goal.returns-in-Some
-returns-in-Some c =
-    there c.args.moment c.args.offset c.in-Some.local c.in-Some.ensures.value
-    (in_years _ (c.in-Some.ensures.accepted.0 refl))
+returns-in-Some c = grind (arith, there, in_years)

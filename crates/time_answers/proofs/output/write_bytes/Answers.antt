@@ -1,4 +1,4 @@
-use Rattle.std.proofs.Common.{◌≡◌, ◌≤◌, ℕ, List, ◌++◌, length, take, drop, ◌+◌, ◌-◌, arith, ap, append-nil}
+use Rattle.std.proofs.Common.{◌≡◌, ◌≤◌, ℕ, List, ◌++◌, length, take, drop, ◌+◌, ◌-◌, arith, append-nil}
 use Rattle.std.proofs.lemmas.Grind.{common_steps, pieces}
 use Rattle.std.proofs.Math.Seq.{take-add}
 use Rattle.std.proofs.KnownBytes.{Appends-trans, Appends-kept}
@@ -16,21 +16,10 @@ taken-fits : (bytes : List ℕ) (done n : ℕ) → done ≤ length bytes
 taken-fits bytes done n le fits = grind (arith, common_steps, pieces)
 
 pub returns-in-Ok-eq0-clause-err : goal.returns-in-Ok-eq0-clause-err
-returns-in-Ok-eq0-clause-err g c =
-    let none = rw c.in-Ok-eq0.field-0-test at c.in-Ok-eq0.ensures.bytes in
-    AppendsStart-at _ _ c.args.bytes.now c.loop-done.done c.loop-done-test.true
-    (rw append-nil at (Appends-trans _ _ _ _ _ c.loop-done.invariant.written none))
+returns-in-Ok-eq0-clause-err g c = grind (arith, AppendsStart-at, append-nil, Appends-trans)
 
 pub loop-done-preserved : goal.loop-done-preserved
-loop-done-preserved g c = record {
-  in_range = taken-fits c.args.bytes.now c.loop-done.done c.in-Ok.count c.loop-done.invariant.in_range
-      c.in-Ok.ensures.bound;
-  written = rw (taken-more c.args.bytes.now c.loop-done.done c.in-Ok.count c.loop-done.invariant.in_range)
-      (Appends-trans _ _ _ _ _ c.loop-done.invariant.written c.in-Ok.ensures.bytes);
-  untouched = λ e. absurd (omega (arith, ap length e));
-}
+loop-done-preserved g c = grind (arith, taken-fits, taken-more, Appends-trans)
 
 pub returns-in-Err-clause-err : goal.returns-in-Err-clause-err
-returns-in-Err-clause-err g c =
-    AppendsStart-at _ _ c.args.bytes.now c.loop-done.done c.loop-done-test.true
-    (Appends-kept _ _ _ _ c.loop-done.invariant.written c.in-Err.ensures.bytes)
+returns-in-Err-clause-err g c = grind (arith, AppendsStart-at, Appends-kept)

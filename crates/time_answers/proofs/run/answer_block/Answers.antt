@@ -2,11 +2,10 @@ use Rattle.std.proofs.lemmas.Result.{err_from_is_err_and}
 use Rattle.time_answers.specs.Run.{state}
 use Rattle.time_answers.proofs.RunLemmas.{AnswersOn-flushed, CutsAnswersOff-flushed}
 use Rattle.time_answers.proofs.run.answer_block.Goals as goal
+use Rattle.std.proofs.Common.{arith}
 
 pub returns-in_err-feed-clause-err : goal.returns-in_err-feed-clause-err
-returns-in_err-feed-clause-err g c =
-    let p = err_from_is_err_and c.from_residual.result c.from_residual.ensures.1 in
-    rw p.1 (rw c.new-answers.ensures at c.in_err-feed.ensures.err)
+returns-in_err-feed-clause-err g c = grind (arith, err_from_is_err_and)
 
 pub returns-in_err-flush-clause-err : goal.returns-in_err-flush-clause-err
 returns-in_err-flush-clause-err g c =

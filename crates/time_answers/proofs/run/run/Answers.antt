@@ -1,13 +1,12 @@
-use Rattle.std.proofs.Common.{[], Some, ◌≡◌, ◌≢◌, take, rules}
+use Rattle.std.proofs.Common.{[], Some, ◌≡◌, ◌≢◌, take, rules, arith}
 use Rattle.std.proofs.lemmas.Result.{err_from_is_err_and}
 use Rattle.time_answers.proofs.RunLemmas.{Running-on, Ran-cut, Ran-ended, Ran-last, Ran-end_cut}
 use Rattle.time_answers.proofs.run.run.Goals as goal
 use Rattle.time_answers.proofs.run.run.Goals.{then-not-is_empty+in_ok-answer_block, else-not-is_empty}
+use Rattle.std.proofs.lemmas.Grind.{common_steps}
 
 pub loop-preserved : goal.loop-preserved
-loop-preserved g c =
-    Running-on _ _ _ _ _ _ _ _ (take c.in-Ok.count c.read.new.buf) c.loop.invariant c.in-Ok.ensures.bytes.0
-    c.in_ok-answer_block-2.ensures.ok
+loop-preserved g c = grind (arith, common_steps, Running-on)
 
 pub returns-in_err-answer_block-clause-ran : goal.returns-in_err-answer_block-clause-ran
 returns-in_err-answer_block-clause-ran g c =

@@ -5,9 +5,7 @@ use Rattle.time_answers.proofs.OutputBufferLemmas.{Accepts-then, Accepts-written
 use Rattle.time_answers.proofs.output.OutputBuffer.append.Goals as goal
 
 pub returns-in_err-make_room : goal.returns-in_err-make_room
-returns-in_err-make_room g c =
-    let p = err_from_is_err_and c.from_residual.result c.from_residual.ensures.1 in
-    rw p.1 (AppendsStart-more _ _ _ _ c.in_err-make_room.ensures.err)
+returns-in_err-make_room g c = grind (arith, err_from_is_err_and, AppendsStart-more)
 
 pub returns-in_err-write_bytes : goal.returns-in_err-write_bytes
 returns-in_err-write_bytes g c =
