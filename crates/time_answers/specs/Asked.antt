@@ -52,6 +52,12 @@ abbrev pub asked_numbers : {N V : Type 0} → ℕ → (V → Outcome) → (N →
 asked_numbers width outcome_of value_of None = no_command
 asked_numbers width outcome_of value_of (Some numbers) = asked_value width outcome_of (value_of numbers)
 
+-- the request of numbers for a text of ISO 8601 by these choices
+abbrev pub asked_iso : Choices → Option (List ℤ) → Asked
+asked_iso c numbers =
+    asked_numbers (iso8601_width c) (λ value. iso8601_outcome c (facts_of_offset_date_time value)) date_time_value
+    (date_time_numbers numbers)
+
 -- the request of numbers after a name
 abbrev pub asked_by : Name → Option (List ℤ) → Asked
 asked_by Time numbers =
@@ -63,14 +69,8 @@ asked_by Rfc3339 numbers =
 asked_by Rfc2822 numbers =
     asked_numbers rfc2822_width (λ value. rfc2822_outcome (facts_of_offset_date_time value)) date_time_value
     (date_time_numbers numbers)
-asked_by Iso numbers =
-    asked_numbers (iso8601_width default_choices)
-    (λ value. iso8601_outcome default_choices (facts_of_offset_date_time value)) date_time_value
-    (date_time_numbers numbers)
-asked_by IsoComma numbers =
-    asked_numbers (iso8601_width comma_choices)
-    (λ value. iso8601_outcome comma_choices (facts_of_offset_date_time value)) date_time_value
-    (date_time_numbers numbers)
+asked_by Iso numbers = asked_iso default_choices numbers
+asked_by IsoComma numbers = asked_iso comma_choices numbers
 asked_by Stamp numbers = asked_numbers stamp_width stamp_of utc_date_time_value (utc_numbers numbers)
 
 -- the request of numbers after a name, if it is one
