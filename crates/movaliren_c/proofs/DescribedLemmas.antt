@@ -23,7 +23,6 @@ use Rattle.time_fmt.specs.Ends.{Ends, refusal_of}
 use Rattle.time_fmt.specs.Kind.{kind_outcome, extended_year, standard_year}
 use Rattle.time_fmt.specs.declared.error.Format.{Format}
 use Rattle.time_fmt.specs.declared.refused.Refused.{Refused}
-use Rattle.time_fmt.specs.declared.refused.Refused.TheVariants as refused
 use Rattle.time_fmt.specs.Outcome.{IsAtTheStart, Names, Outcome, done, join}
 use Rattle.time_fmt.specs.Runs.{date_run, year_text}
 use Rattle.time_fmt.specs.Sink.{Buffer, Puts}

@@ -16,7 +16,6 @@ use Rattle.time_below.specs.Conversion.{current_component, is_current}
 use Rattle.time_below.specs.Facts.{Facts}
 use Rattle.time_below.specs.Tree.{Tree, trees, all_of, byte_literal, of_component}
 use Rattle.time_below.specs.declared.format_description.component.Component.{Component}
-use Rattle.time_below.specs.declared.format_description.component.Component.TheVariants as component
 use Rattle.time_describe.specs.Description as bracket_says
 use Rattle.time_describe.specs.Items.{are_leaves, is_nil}
 use Rattle.time_describe.specs.Literal.{literal_of}

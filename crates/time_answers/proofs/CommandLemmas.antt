@@ -16,7 +16,6 @@ use Rattle.time_answers.specs.Command.{onto_date, onto_time, onto_offset, time_n
 use Rattle.time_answers.specs.Command.{named}
 use Rattle.time_answers.specs.Asked.{no_command, asked_after, asked_of_fields}
 use Rattle.time_answers.specs.declared.command.Name.{Name}
-use Rattle.time_answers.specs.declared.command.Name.TheVariants as name
 use Rattle.time_answers.proofs.FieldsLemmas.{is_space, parts-none}
 use Rattle.time_answers.specs.Fields.{space, fields_of, Lacks, onto_numbers, numbers_of}
 use Rattle.std.proofs.lemmas.Grind.{common_steps}

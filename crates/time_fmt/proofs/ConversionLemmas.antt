@@ -3,7 +3,6 @@ use Rattle.std.proofs.Common.{◌≡◌, ◌∙◌, ◌≤◌, IsTrue, true, fal
 use Rattle.std.proofs.lemmas.Grind.{common_steps}
 use Rattle.time_below.specs.Conversion.{current_component, is_current}
 use Rattle.time_below.specs.declared.format_description.component.Component.{Component}
-use Rattle.time_below.specs.declared.format_description.component.Component.TheVariants as component
 use Rattle.time_below.specs.Facts.{Facts}
 use Rattle.time_below.specs.Group.{group_of}
 use Rattle.time_below.specs.Width.{component_width}

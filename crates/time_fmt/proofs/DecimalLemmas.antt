@@ -4,7 +4,6 @@ use Rattle.std.proofs.Common.{sym, ap, ◌∙◌, arith, length-append, append_a
 use Rattle.std.proofs.lemmas.List.{take-append-le, take_all}
 use Rattle.std.proofs.Math.ListN.{length-take}
 use Rattle.time_below.specs.declared.format_description.modifier.SubsecondDigits.{SubsecondDigits}
-use Rattle.time_below.specs.declared.format_description.modifier.SubsecondDigits.TheVariants as digits
 use Rattle.time_below.specs.Width.{subsecond_width}
 use Rattle.time_digits.specs.Digits.{fixed, zero_padded}
 use Rattle.time_digits.proofs.DigitLemmas.{fixed-append, fixed-mod, length-fixed, zero_padded_is, decimal_one}

@@ -11,7 +11,6 @@ use Rattle.time_below.specs.Conversion.{current_component}
 use Rattle.time_below.specs.declared.period.Period.{Period}
 use Rattle.time_below.specs.declared.format_description.component.Component.{Component}
 use Rattle.time_below.specs.declared.format_description.modifier.Padding.{Padding}
-use Rattle.time_below.specs.declared.format_description.modifier.Padding.TheVariants as padding
 use Rattle.time_below.specs.declared.format_description.modifier.SubsecondDigits.{SubsecondDigits}
 use Rattle.time_below.specs.declared.format_description.modifier.SubsecondDigits.TheVariants as digits
 use Rattle.time_below.specs.Facts.{Facts}

@@ -8,7 +8,6 @@ use Rattle.time_below.specs.Calendar.{days_of_months, last_begun, date_at}
 use Rattle.time_below.specs.declared.format_description.component.Component.{Component}
 use Rattle.time_below.specs.declared.format_description.component.Component.TheVariants as component
 use Rattle.time_below.specs.declared.format_description.modifier.SubsecondDigits.{SubsecondDigits}
-use Rattle.time_below.specs.declared.format_description.modifier.SubsecondDigits.TheVariants as chosen
 use Rattle.time_below.specs.declared.period.Period.{Period}
 use Rattle.time_below.specs.Facts.{facts_of_offset_date_time}
 use Rattle.time_below.specs.Moment.{OffsetDateAndTime}

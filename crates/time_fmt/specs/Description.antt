@@ -32,11 +32,6 @@ is_supplied date time offset moment group.None = true
 abbrev pub has_group : Group → Facts → Bool
 has_group g f = is_supplied (is_some f.date) (is_some f.time) (is_some f.offset) (is_some f.moment) g
 
--- what a group gives that the value supplies, or the refusal of one that it does not
-abbrev pub of_group : {G : Type 0} → Option G → (G → Outcome) → Outcome
-of_group None outcome = refused insufficient
-of_group (Some group) outcome = outcome group
-
 -- what a component that is not deprecated shows of a value that supplies its group
 abbrev pub kind_of : Component → Facts → Kind
 kind_of (component.Day m) f = kind.number m.padding 2 (the_date f).day

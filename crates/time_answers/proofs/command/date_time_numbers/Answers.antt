@@ -1,4 +1,4 @@
-use Rattle.std.proofs.Common.{[], rules, arith}
+use Rattle.std.proofs.Common.{rules, arith}
 use Rattle.time_answers.proofs.CommandLemmas.{too_few_for_date_time, too_few_after_date}
 use Rattle.time_answers.proofs.CommandLemmas.{too_few_after_time, fields_after_offset}
 use Rattle.time_answers.proofs.command.date_time_numbers.Goals as goal

@@ -1,4 +1,4 @@
-use Rattle.std.proofs.Common.{[], rules, arith}
+use Rattle.std.proofs.Common.{rules, arith}
 use Rattle.time_answers.proofs.CommandLemmas.{too_few_for_time_of_day, fields_after_time_of_day}
 use Rattle.time_answers.proofs.command.time_numbers.Goals as goal
 

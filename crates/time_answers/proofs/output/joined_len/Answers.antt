@@ -1,4 +1,4 @@
-use Rattle.std.proofs.Common.{[], arith}
+use Rattle.std.proofs.Common.{arith}
 use Rattle.time_answers.proofs.OutputBufferLemmas.{length-joined-more}
 use Rattle.time_answers.proofs.output.joined_len.Goals as goal
 

@@ -1,4 +1,4 @@
-use Rattle.std.proofs.Common.{[], arith}
+use Rattle.std.proofs.Common.{arith}
 use Rattle.time_known.proofs.AcceptedLemmas.{usual_accepted, usual_refused}
 use Rattle.movaliren_c.proofs.stamp.StampFormat.text.Goals as goal
 use Rattle.std.proofs.lemmas.Grind.{common_steps}
