@@ -1,5 +1,5 @@
 -- What a description gives for the components of a value.
-use Rattle.std.specs.Prelude.{Bool, true, ◌%◌, [], Option, Some, None, is_some, pos, int_lt, unsigned_abs}
+use Rattle.std.specs.Prelude.{Bool, true, ◌%◌, [], is_some, pos, int_lt, unsigned_abs}
 use Rattle.std.specs.Prelude.{if◌then◌else◌}
 use Rattle.time_below.specs.Conversion.{current_component}
 use Rattle.time_below.specs.declared.format_description.component.Component.{Component}
