@@ -38,8 +38,8 @@ fn descriptions(rt: HostRuntime) -> Result<(), Fail> {
     let alloc = rt.alloc();
     let moment = moment(&rt);
     let state = &mut DateState::default();
-    let text = text!(HOUR, b":", MINUTE).format(alloc, &moment, state)?;
-    assert_text(&rt, text, "09:55");
+    let text = text!(YEAR, b"-", MONTH, b"-", DAY).format(alloc, &moment, state)?;
+    assert_text(&rt, text, "2026-11-22");
     Ok(())
 }
 

@@ -20,9 +20,12 @@ pub fn append_instant(line: &mut Vec<u8>, instant: Timestamp) -> Result<usize, F
     Rfc3339.format_into(line, &moment, &mut TimestampState::default())
 }
 
-/// Appends what the clock of the zone shows, such as `03:00`.
+/// Appends what the clock of the zone shows, such as `Sunday, 29 March, 03:00`.
 pub fn append_clock_of(line: &mut Vec<u8>, zoned: &Zoned<'_>) -> Result<usize, Format> {
-    text!(HOUR, b":", MINUTE).format_into(
+    text!(
+        WEEKDAY, b", ", DAY, b" ", MONTH_LONG, b", ", HOUR, b":", MINUTE
+    )
+    .format_into(
         line,
         &time_jiff::offset_date_time(zoned),
         &mut DateState::default(),
