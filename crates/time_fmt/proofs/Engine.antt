@@ -10,7 +10,7 @@ use Rattle.time_fmt.specs.declared.refused.Refused.{Refused}
 use Rattle.time_fmt.specs.Description.{tree_outcome, trees_outcome}
 use Rattle.time_fmt.specs.Guarantee.{IsTextIf, AppendsTree}
 use Rattle.time_fmt.specs.Outcome.{Outcome}
-use Rattle.time_fmt.specs.Sink.{Buffer, Fits, Puts}
+use Rattle.time_fmt.specs.Sink.{Block, Buffer, Fits, Puts}
 use Rattle.time_fmt.proofs.EndLemmas.{whole_text}
 use Rattle.time_fmt.proofs.WriteLemmas.{join_refused, join_done}
 use Rattle.time_fmt.proofs.GuaranteeLemmas.{text_more, empty_utf8}
@@ -24,10 +24,9 @@ pub record Along (agrees : Type 0) (old now : Buffer) (f : Facts) (all left : Tr
   pub bytes : old.bytes ++ (trees_outcome all f).bytes ≡ now.bytes ++ (trees_outcome left f).bytes
   pub refusal : (trees_outcome all f).refusal ≡ (trees_outcome left f).refusal
   pub grown : old.len + length (trees_outcome all f).bytes ≡ now.len + length (trees_outcome left f).bytes
-  pub room : now.len + trees_width left ≤ now.capacity
+  pub room : now.len + trees_width left ≤ now.block.capacity
   pub within : now.len + trees_width left ≤ old.len + trees_width all
-  pub capacity : now.capacity ≡ old.capacity
-  pub lender : now.lender ≡ old.lender
+  pub block : now.block ≡ old.block
   pub text : IsTextIf (are_guaranteed_text left) (trees_outcome left f)
       → IsTextIf (are_guaranteed_text all) (trees_outcome all f)
 
@@ -79,10 +78,9 @@ written_along old mid new f all left others t along next smaller step agrees =
           ∙ ap (λ bs. bs ++ b.bytes) (sym step.ends.appended);
       refusal = along.refusal ∙ ap (λ (o : Outcome). o.refusal) e;
       grown = omega (arith, along.grown, length, step.ends.grown);
-      room = omega (arith, along.room, width, step.ends.capacity, step.ends.within);
+      room = omega (arith, along.room, width, ap (λ (b : Block). b.capacity) step.ends.block, step.ends.within);
       within = omega (arith, along.within, width, step.ends.within);
-      capacity = step.ends.capacity ∙ along.capacity;
-      lender = step.ends.lender ∙ along.lender;
+      block = step.ends.block ∙ along.block;
       text = λ rest. along.text (subst P (sym next) (text_more t others f step.text rest));
     }
 

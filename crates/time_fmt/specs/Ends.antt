@@ -17,11 +17,10 @@ refusal_in (Ok u) = None
 refusal_in (Err reason) = Some (refusal_of reason)
 
 -- The bytes of the outcome are appended, and are at most this many. The answer has the refusal of the outcome. The
--- capacity is unchanged.
+-- block is unchanged.
 pub record Ends (width : ℕ) (old new : Buffer) (answer : Result Unit Refused) (o : Outcome) : Type 0 where
   pub appended : new.bytes ≡ old.bytes ++ o.bytes
   pub refusal : refusal_in answer ≡ o.refusal
   pub grown : new.len ≡ old.len + length o.bytes
-  pub capacity : new.capacity ≡ old.capacity
-  pub lender : new.lender ≡ old.lender
+  pub block : new.block ≡ old.block
   pub within : new.len ≤ old.len + width

@@ -3,30 +3,33 @@ use base.Fml.{GName}
 use Rattle.std.specs.Prelude.{ℕ, ◌≡◌, ◌+◌, ◌≤◌, ◌++◌, List, length, Option, None, vec_len, vec_capacity, Vec}
 use Rattle.std.specs.Global.{Global}
 
--- the bytes, their number, how many there may be, and what all that is borrowed from
-pub record Buffer : Type 0 where
-  pub bytes : List ℕ
-  pub len : ℕ
+-- how many bytes there may be, and what they are borrowed from
+pub record Block : Type 0 where
   pub capacity : ℕ
   pub lender : Option GName
 
+-- the bytes, their number, and the memory that they are in
+pub record Buffer : Type 0 where
+  pub bytes : List ℕ
+  pub len : ℕ
+  pub block : Block
+
 -- that of a vector
 abbrev pub vec_buffer : Vec ℕ Global → Buffer
-vec_buffer v = record { bytes = v.items; len = vec_len v; capacity = vec_capacity v; lender = None }
+vec_buffer v = record { bytes = v.items; len = vec_len v; block = record { capacity = vec_capacity v; lender = None } }
 
 -- this many more bytes fit
 abbrev pub Fits : Buffer → ℕ → Type 0
-Fits buffer width = buffer.len + width ≤ buffer.capacity
+Fits buffer width = buffer.len + width ≤ buffer.block.capacity
 
 -- this many more bytes fit, and the state agrees with the value
 abbrev pub Ready : Buffer → ℕ → Type 0 → Type 0
 Ready buffer width agrees = Fits buffer width × agrees
 
--- The text was put after the bytes, and the count is its length. The capacity is unchanged, so that what fits
+-- The text was put after the bytes, and the count is its length. The block is unchanged, so that what fits
 -- afterwards is less by the length of the text.
 pub record Puts (old new : Buffer) (count : ℕ) (text : List ℕ) : Type 0 where
   pub appended : new.bytes ≡ old.bytes ++ text
   pub counted : count ≡ length text
   pub grown : new.len ≡ old.len + length text
-  pub capacity : new.capacity ≡ old.capacity
-  pub lender : new.lender ≡ old.lender
+  pub block : new.block ≡ old.block

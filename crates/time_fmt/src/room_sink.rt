@@ -37,8 +37,7 @@ impl<'a, B: Before> RoomSink<'a, B> {
         ensures { ⟦<RoomSink<'a, B> as Sink>⟧.buffer result ≡ record {
           bytes = [];
           len = 0;
-          capacity = length room.old;
-          lender = Some room.entry.ghost_name;
+          block = record { capacity = length room.old; lender = Some room.entry.ghost_name };
         } }
     {
         RoomSink {
@@ -61,8 +60,7 @@ impl<B: Before> Sink for RoomSink<'_, B> {
     ghost buffer = { λ s. record {
       bytes = take s.len s.room.now;
       len = s.len;
-      capacity = length s.room.now;
-      lender = Some s.room.ghost_name;
+      block = record { capacity = length s.room.now; lender = Some s.room.ghost_name };
     } };
 
     #[inline(always)]

@@ -17,8 +17,7 @@ pub trait Sink: Sized {
         requires room { Fits (buffer self.old) 1 }
         ensures bytes { (buffer self.new).bytes ≡ (buffer self.old).bytes ++ byte ∷ [] }
         ensures len { (buffer self.new).len ≡ (buffer self.old).len + 1 }
-        ensures capacity { (buffer self.new).capacity ≡ (buffer self.old).capacity }
-        ensures lender { (buffer self.new).lender ≡ (buffer self.old).lender };
+        ensures block { (buffer self.new).block ≡ (buffer self.old).block };
 
     /// Appends the first `count` of nine bytes, for all of which there is room.
     fn put_first(&mut self, bytes: [u8; 9], count: usize)
@@ -26,8 +25,7 @@ pub trait Sink: Sized {
         requires room { Fits (buffer self.old) 9 }
         ensures bytes { (buffer self.new).bytes ≡ (buffer self.old).bytes ++ take count bytes }
         ensures len { (buffer self.new).len ≡ (buffer self.old).len + count }
-        ensures capacity { (buffer self.new).capacity ≡ (buffer self.old).capacity }
-        ensures lender { (buffer self.new).lender ≡ (buffer self.old).lender }
+        ensures block { (buffer self.new).block ≡ (buffer self.old).block }
     {
         let first = &bytes[..count];
         for byte in first {
@@ -38,7 +36,7 @@ pub trait Sink: Sized {
     /// How many more bytes it can hold. A writer that adds counts asks for it, since nothing else bounds
     /// their sum.
     fn room(&self) -> usize
-        ensures { (buffer self.now).len + result ≡ (buffer self.now).capacity };
+        ensures { (buffer self.now).len + result ≡ (buffer self.now).block.capacity };
 
     /// Takes the sink out of its borrow, which keeps an empty one. A call that is not inlined, and
     /// that borrows a sink, keeps that sink in memory for the whole of the caller. So the slow

@@ -95,8 +95,7 @@ fn write_in_blocks<S: Sink>(output: &mut S, bytes: &[u8])
     requires room { Fits (S.buffer output.old) (length bytes.now) }
     ensures appended { (S.buffer output.new).bytes ≡ (S.buffer output.old).bytes ++ bytes.now }
     ensures grown { (S.buffer output.new).len ≡ (S.buffer output.old).len + length bytes.now }
-    ensures capacity { (S.buffer output.new).capacity ≡ (S.buffer output.old).capacity }
-    ensures lender { (S.buffer output.new).lender ≡ (S.buffer output.old).lender }
+    ensures block { (S.buffer output.new).block ≡ (S.buffer output.old).block }
 {
     let mut taken = output.take_out();
     let mut rest = bytes;
@@ -120,8 +119,7 @@ fn push_four<S: Sink>(output: &mut S, bytes: [u8; 4])
     requires room { Fits (S.buffer output.old) 4 }
     ensures appended { (S.buffer output.new).bytes ≡ (S.buffer output.old).bytes ++ bytes }
     ensures grown { (S.buffer output.new).len ≡ (S.buffer output.old).len + 4 }
-    ensures capacity { (S.buffer output.new).capacity ≡ (S.buffer output.old).capacity }
-    ensures lender { (S.buffer output.new).lender ≡ (S.buffer output.old).lender }
+    ensures block { (S.buffer output.new).block ≡ (S.buffer output.old).block }
 {
     let [a, b, c, d] = bytes;
     output.put_byte(a);
@@ -137,8 +135,7 @@ fn push_rest<S: Sink>(output: &mut S, bytes: &[u8])
     requires room { Fits (S.buffer output.old) (length bytes.now) }
     ensures appended { (S.buffer output.new).bytes ≡ (S.buffer output.old).bytes ++ bytes.now }
     ensures grown { (S.buffer output.new).len ≡ (S.buffer output.old).len + length bytes.now }
-    ensures capacity { (S.buffer output.new).capacity ≡ (S.buffer output.old).capacity }
-    ensures lender { (S.buffer output.new).lender ≡ (S.buffer output.old).lender }
+    ensures block { (S.buffer output.new).block ≡ (S.buffer output.old).block }
 {
     match bytes {
         [a] => output.put_byte(*a),

@@ -2,6 +2,7 @@ use Rattle.std.proofs.Common.{ap, arith, false, length}
 use Rattle.std.specs.Prelude.{ℤ}
 use Rattle.time_below.specs.declared.format_description.modifier.Padding.TheVariants as padding
 use Rattle.time_fmt.specs.Kind.{kind_text, extended_year}
+use Rattle.time_fmt.specs.Sink.{Block}
 use Rattle.time_fmt.proofs.RunLemmas.{length-year}
 use Rattle.time_fmt.proofs.runs.write_date.Goals as goal
 
@@ -13,7 +14,7 @@ pub write_two_after-requires : goal.write_two_after-requires
 write_two_after-requires g c =
     let long = length-year c.calendar_year-year.result c.calendar_year-year.ensures.range in
     let year = c.fmt_calendar_year_full_extended_range-count.ensures.writes in
-    record { room = omega (arith, c.requires.room, year.grown, year.capacity, long) }
+    record { room = omega (arith, c.requires.room, year.grown, ap (λ (b : Block). b.capacity) year.block, long) }
 
 pub overflow_add-result : goal.overflow_add-result
 overflow_add-result g c =

@@ -13,9 +13,8 @@ loop-preserved g c =
           ∙ decimals_left _ _ _ _ _ _ c.loop-test.true c.loop.invariant.left c.loop.invariant.bytes;
       left = omega arith;
       grown = omega arith;
-      room = omega arith;
-      capacity = omega arith;
-      lender = c.put_byte.ensures.lender ∙ c.loop.invariant.lender;
+      room = grind arith;
+      block = c.put_byte.ensures.block ∙ c.loop.invariant.block;
     }
 
 pub returns : goal.returns
@@ -29,7 +28,6 @@ returns g c =
         appended = all ∙ ap (λ d. (g.S.Sink.buffer c.args.output.now).bytes ++ decimals c.args.rest c.args.unit d) same;
         counted = omega (arith, length);
         grown = omega (arith, length);
-        capacity = omega arith;
-        lender = c.loop.invariant.lender;
+        block = c.loop.invariant.block;
       };
     }

@@ -12,7 +12,6 @@ invariant-loop g l =
           ≡ old.bytes ++ decimals l.rest l.unit l.count;
       left : l.left < l.unit;
       grown : now.len ≡ old.len + l.counter;
-      room : old.len + l.count ≤ now.capacity;
-      capacity : now.capacity ≡ old.capacity;
-      lender : now.lender ≡ old.lender;
+      room : old.len + l.count ≤ now.block.capacity;
+      block : now.block ≡ old.block;
     }

@@ -9,7 +9,6 @@ invariant-loop g l =
     record {
       bytes : now.bytes ≡ old.bytes ++ replicate l.counter 48;
       grown : now.len ≡ old.len + l.counter;
-      room : old.len + l.count ≤ now.capacity;
-      capacity : now.capacity ≡ old.capacity;
-      lender : now.lender ≡ old.lender;
+      room : old.len + l.count ≤ now.block.capacity;
+      block : now.block ≡ old.block;
     }

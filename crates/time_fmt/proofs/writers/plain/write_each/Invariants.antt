@@ -10,7 +10,6 @@ invariant-loop-byte g l =
     record {
       bytes : now.bytes ++ left ≡ old.bytes ++ l.bytes;
       grown : now.len + length left ≡ old.len + length l.bytes;
-      room : now.len + length left ≤ now.capacity;
-      capacity : now.capacity ≡ old.capacity;
-      lender : now.lender ≡ old.lender;
+      room : now.len + length left ≤ now.block.capacity;
+      block : now.block ≡ old.block;
     }

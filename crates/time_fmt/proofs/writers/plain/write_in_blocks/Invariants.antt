@@ -9,8 +9,7 @@ invariant-loop-rest g l =
     record {
       bytes : now.bytes ++ l.rest ≡ old.bytes ++ l.fn.bytes;
       grown : now.len + length l.rest ≡ old.len + length l.fn.bytes;
-      capacity : now.capacity ≡ old.capacity;
-      lender : now.lender ≡ old.lender;
+      block : now.block ≡ old.block;
     }
 
 abbrev pub decreases-loop-rest : goal.decreases-loop-rest

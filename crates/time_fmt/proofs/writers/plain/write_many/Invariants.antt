@@ -12,7 +12,6 @@ invariant-loop-text g l =
       bytes : now.bytes ++ left ≡ old.bytes ++ joined l.texts;
       count : l.sum + length left ≡ length (joined l.texts);
       grown : old.len + l.sum ≡ now.len;
-      room : now.len + length left ≤ now.capacity;
-      capacity : now.capacity ≡ old.capacity;
-      lender : now.lender ≡ old.lender;
+      room : now.len + length left ≤ now.block.capacity;
+      block : now.block ≡ old.block;
     }
