@@ -93,9 +93,7 @@ fn write_long_literal<S: Sink>(output: &mut S, bytes: &[u8]) -> usize
 #[inline(never)]
 fn write_in_blocks<S: Sink>(output: &mut S, bytes: &[u8])
     requires room { Fits (S.buffer output.old) (length bytes.now) }
-    ensures appended { (S.buffer output.new).bytes ≡ (S.buffer output.old).bytes ++ bytes.now }
-    ensures grown { (S.buffer output.new).len ≡ (S.buffer output.old).len + length bytes.now }
-    ensures block { (S.buffer output.new).block ≡ (S.buffer output.old).block }
+    ensures puts { Puts (S.buffer output.old) (S.buffer output.new) (length bytes.now) bytes.now }
 {
     let mut taken = output.take_out();
     let mut rest = bytes;
@@ -117,9 +115,7 @@ fn write_in_blocks<S: Sink>(output: &mut S, bytes: &[u8])
 #[inline(always)]
 fn push_four<S: Sink>(output: &mut S, bytes: [u8; 4])
     requires room { Fits (S.buffer output.old) 4 }
-    ensures appended { (S.buffer output.new).bytes ≡ (S.buffer output.old).bytes ++ bytes }
-    ensures grown { (S.buffer output.new).len ≡ (S.buffer output.old).len + 4 }
-    ensures block { (S.buffer output.new).block ≡ (S.buffer output.old).block }
+    ensures puts { Puts (S.buffer output.old) (S.buffer output.new) 4 bytes }
 {
     let [a, b, c, d] = bytes;
     output.put_byte(a);
@@ -133,9 +129,7 @@ fn push_four<S: Sink>(output: &mut S, bytes: [u8; 4])
 fn push_rest<S: Sink>(output: &mut S, bytes: &[u8])
     requires few { length bytes.now < 4 }
     requires room { Fits (S.buffer output.old) (length bytes.now) }
-    ensures appended { (S.buffer output.new).bytes ≡ (S.buffer output.old).bytes ++ bytes.now }
-    ensures grown { (S.buffer output.new).len ≡ (S.buffer output.old).len + length bytes.now }
-    ensures block { (S.buffer output.new).block ≡ (S.buffer output.old).block }
+    ensures puts { Puts (S.buffer output.old) (S.buffer output.new) (length bytes.now) bytes.now }
 {
     match bytes {
         [a] => output.put_byte(*a),
