@@ -1,5 +1,5 @@
 -- How a text of the engine ends: by the text or the refusal of a component, and as the answer of a public call.
-use Rattle.std.proofs.Common.{◌≡◌, arith, ℕ, ◌-◌, ◌≤◌, true, false, List, length, Result, Ok, Err, Vec, vec_len}
+use Rattle.std.proofs.Common.{◌≡◌, ◌∙◌, ap, arith, append_assoc, length-append, ℕ, ◌+◌, ◌-◌, ◌++◌, ◌≤◌, true, false, List, length, Result, Ok, Err, Vec, vec_len}
 use Rattle.std.proofs.lemmas.List.{append-nil}
 use Rattle.std.specs.Global.{Global}
 use Rattle.std.specs.Prelude.{nat_le}
@@ -16,6 +16,17 @@ use Rattle.std.proofs.lemmas.Grind.{common_steps}
 pub ends_within : {width greatest : ℕ} {answer : Result Unit Refused} {o : Outcome} {old new : Buffer}
     → Ends width old new answer o → width ≤ greatest → Ends greatest old new answer o
 ends_within ends fits = grind arith
+
+-- a text behind another
+pub put_behind : {n m : ℕ} {a b text : List ℕ} {old mid new : Buffer} → Puts old mid n a → Puts mid new m b
+    → a ++ b ≡ text → Puts old new (n + m) text
+put_behind {a = a} {b = b} {old = old} first second is = record {
+  appended = second.appended ∙ ap (λ bytes. bytes ++ b) first.appended ∙ append_assoc old.bytes a b
+      ∙ ap (λ bytes. old.bytes ++ bytes) is;
+  counted = omega (arith, first.counted, second.counted, length-append a b, ap length is);
+  grown = omega (arith, first.grown, second.grown, length-append a b, ap length is);
+  block = second.block ∙ first.block;
+}
 
 -- a text that was written ends complete
 pub whole_text : {width n : ℕ} {text : List ℕ} {old new : Buffer} → Puts old new n text → length text ≤ width
