@@ -80,7 +80,7 @@ put_once old new text put = grind arith
 
 -- a text that has no room
 pub lost_whole : (b : Buffer) (n : ℕ) (text : List ℕ) → n ≡ length text → n ≤ 0xffff_ffff_ffff_ffff
-    → b.capacity - b.len < n → PutsOrLoses b b n text
+    → b.block.capacity - b.len < n → PutsOrLoses b b n text
 lost_whole b n text is small many = grind arith
 
 -- what ended was put
@@ -91,7 +91,7 @@ ended next f now new h = grind (arith, put_once)
 -- ---- texts, one after another
 
 longer_both : (old now new : Buffer) (lost more : ℕ) (a b : List ℕ) → PutsOrLoses old now lost a
-    → PutsOrLoses now new more b → 0 < lost + more → old.capacity < old.len + length a + length b
+    → PutsOrLoses now new more b → 0 < lost + more → old.block.capacity < old.len + length a + length b
 longer_both old now new lost more a b h k l = grind arith
 
 put_both : (old now new : Buffer) (lost more total : ℕ) (a b : List ℕ) → PutsOrLoses old now lost a
@@ -208,8 +208,7 @@ standard_date_ends r x y f old new is there small beside_year most put =
       appended = ends.appended;
       refusal = ends.refusal;
       grown = ends.grown;
-      capacity = ends.capacity;
-      lender = ends.lender;
+      block = ends.block;
       within = omega (arith, put.counted, put.grown, beside_year, four);
     })
 
@@ -261,14 +260,14 @@ run_alone {agrees = agrees} g items r x y old new f state five begin ends =
     grind (arith, common_steps, length-drop, all_put, run_more, nothing_so_far)
 
 written_whole : (lost : ℕ) (old new : Buffer) (text before after : List ℕ) → PutsOrLoses old new lost text
-    → old.bytes ≡ [] → old.len ≡ 0 → length before ≤ old.capacity → after ≡ new.bytes ++ drop (length new.bytes) before
+    → old.bytes ≡ [] → old.len ≡ 0 → length before ≤ old.block.capacity → after ≡ new.bytes ++ drop (length new.bytes) before
     → length text ≤ length before → after ≡ text ++ drop (length text) before
 written_whole lost old new text before after h k l p q r = grind arith
 
 -- so they are shown at the start of the buffer
 pub put_shown : (all : Result (List Tree) Reason) (f : Facts) (lost count : ℕ) (old new : Buffer) (before after : List ℕ)
     → IsPut (as_one all) f old new (Ok lost) → count ≡ min (new.len + lost) 0xffff_ffff_ffff_ffff → old.bytes ≡ []
-    → old.len ≡ 0 → length before ≤ old.capacity → after ≡ new.bytes ++ drop (length new.bytes) before
+    → old.len ≡ 0 → length before ≤ old.block.capacity → after ≡ new.bytes ++ drop (length new.bytes) before
     → IsShown all f (Ok count) before after
 put_shown all f lost count old new before after h k l p q r = grind (arith, written_whole)
 

@@ -200,12 +200,11 @@ reason_before (Err invalid) r = invalid
 -- A text was put, or it is longer than the room, and has so many bytes more than were put. Both numbers are up to the
 -- greatest `usize`.
 pub record PutsOrLoses (old new : Buffer) (lost : ℕ) (text : List ℕ) : Type 0 where
-  pub capacity : new.capacity ≡ old.capacity
-  pub lender : new.lender ≡ old.lender
+  pub block : new.block ≡ old.block
   pub small : lost ≤ 0xffff_ffff_ffff_ffff
   pub counted : min (new.len + lost) 0xffff_ffff_ffff_ffff ≡ min (old.len + length text) 0xffff_ffff_ffff_ffff
   pub put : lost ≡ 0 → Puts old new (length text) text
-  pub longer : 0 < lost → old.capacity < old.len + length text
+  pub longer : 0 < lost → old.block.capacity < old.len + length text
 
 -- an item that is there ended
 abbrev pub EndsItem : Result Tree Reason → Facts → Buffer → Buffer → Result Unit Refused → Type 0

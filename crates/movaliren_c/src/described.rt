@@ -228,7 +228,7 @@ where
     requires five { length items.now ≡ 5 }
     ensures puts { IsTrue result → IsPut (as_one (trees_of texts.now items.now)) (V.facts value.now)
         (S.buffer output.old) (S.buffer output.new) (Ok 0) }
-    ensures lender { (S.buffer output.new).lender ≡ (S.buffer output.old).lender }
+    ensures lender { (S.buffer output.new).block.lender ≡ (S.buffer output.old).block.lender }
     ensures nothing { IsFalse result → S.buffer output.new ≡ S.buffer output.old }
 {
     let mut state = value.first_state();
@@ -307,7 +307,7 @@ where
     V::State: Drop,
     ensures puts { IsPut (as_one (trees_of texts.now items.now)) (V.facts value.now)
         (S.buffer output.old) (S.buffer output.new) result }
-    ensures lender { IfOk result (λ _. (S.buffer output.new).lender ≡ (S.buffer output.old).lender) }
+    ensures lender { IfOk result (λ _. (S.buffer output.new).block.lender ≡ (S.buffer output.old).block.lender) }
 {
     let mut state = value.first_state();
     let mut lost = 0usize;

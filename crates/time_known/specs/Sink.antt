@@ -6,6 +6,5 @@ use Rattle.time_fmt.specs.Sink.{Buffer}
 pub record PutsUpTo (width : ℕ) (old new : Buffer) (text : List ℕ) : Type 0 where
   pub put : new.bytes ≡ old.bytes ++ text
   pub grown : new.len ≡ old.len + length text
-  pub capacity : new.capacity ≡ old.capacity
-  pub lender : new.lender ≡ old.lender
+  pub block : new.block ≡ old.block
   pub within : length text ≤ width

@@ -25,8 +25,7 @@ text_behind {o = o} {bs = bs} {old = old} first second fits = record {
       ∙ append_assoc old.bytes o.bytes bs;
   refusal = refl;
   grown = omega (arith, first.grown, second.grown, length-append o.bytes bs);
-  capacity = second.capacity ∙ first.capacity;
-  lender = second.lender ∙ first.lender;
+  block = second.block ∙ first.block;
   within = omega (arith, first.within, second.grown, fits);
 }
 
@@ -59,8 +58,7 @@ step_refused {r = r} s f old new stopped =
       appended = stopped.appended;
       refusal = stopped.refusal;
       grown = stopped.grown;
-      capacity = stopped.capacity;
-      lender = stopped.lender;
+      block = stopped.block;
       within = omega (arith, stopped.within, step_width s);
     } in
     record {
