@@ -5,9 +5,6 @@ use Rattle.std.proofs.lemmas.Bool.{leb-true, leb-false}
 use Rattle.std.proofs.lemmas.List.{drop-drop, length-drop, nil_from_length, take_all}
 use Rattle.time_describe.specs.Outcome.{IsEnd}
 
-pub end_whole : (s : List ℕ) → IsEnd s s
-end_whole s = (0, refl)
-
 pub end_cut : (s : List ℕ) (b : ℕ) (bs : List ℕ) → s ≡ b ∷ bs → IsEnd s bs
 end_cut s b bs is = (1, sym (ap (drop 1) is))
 
@@ -30,9 +27,6 @@ place_by false text rest n test is =
 -- where an end begins
 pub end_place : (text rest : List ℕ) → IsEnd text rest → drop (length text - length rest) text ≡ rest
 end_place text rest h = place_by (nat_le h.0 (length text)) text rest h.0 refl h.1
-
-pub end_fits : (text rest : List ℕ) → IsEnd text rest → length rest ≤ length text
-end_fits text rest h = omega (arith, ap length h.1, length-drop h.0 text)
 
 -- its first bytes, in the text
 pub end_bytes : (text rest : List ℕ) (n : ℕ) → IsEnd text rest
