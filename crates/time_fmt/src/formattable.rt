@@ -73,9 +73,6 @@ pub trait Formattable: ComputeMetadata {
     /// Returns the number of bytes appended, or the refusal that ends the text. The bytes appended
     /// before a refusal stay. If the reservation fails, or the width has reached the greatest
     /// `usize`, the result is `OutOfMemory`, and output and state are unchanged.
-    ///
-    /// It becomes part of the caller, so that no result lies in memory.
-    #[inline(always)]
     fn format_into<V: ComponentProvider>(
         &self,
         output: &mut Vec<u8>,

@@ -7,8 +7,8 @@ ghost use Rattle.time_below.specs.Width.{trees_width, are_guaranteed_text};
 ghost use Rattle.time_fmt.specs.Description.{trees_outcome};
 
 use crate::error::Format;
-use crate::formattable::Formattable;
 use crate::formattable::into_sink::write_into_sink;
+use crate::formattable::{Formattable, make_room};
 use crate::metadata::ComputeMetadata;
 use time_below::format_description::{
     BorrowedFormatItem, Metadata, OwnedFormatItem, metadata_of_nodes, nodes_fit,
@@ -47,6 +47,23 @@ impl Formattable for BorrowedItems<'_> {
         }
     }
 
+    // This becomes part of the caller, so that no result lies in memory.
+    #[inline(always)]
+    fn format_into<V: ComponentProvider>(
+        &self,
+        output: &mut Vec<u8>,
+        value: &V,
+        state: &mut V::State,
+    ) -> Result<usize, Format> {
+        if !self.fits_plainly(output.capacity() - output.len()) {
+            let width = self.compute_metadata().max_bytes_needed;
+            if width == usize::MAX || make_room(output, width).is_err() {
+                return Err(Format::OutOfMemory);
+            }
+        }
+        self.write_into(output, value, state)
+    }
+
     #[inline(always)]
     fn fits_plainly(&self, room: usize) -> bool {
         nodes_fit(self.0, room)
@@ -83,6 +100,23 @@ impl Formattable for OwnedItems<'_> {
             Ok(()) => Ok(output.len() - begin),
             Err(refused) => Err(Format::from(refused)),
         }
+    }
+
+    // This becomes part of the caller, so that no result lies in memory.
+    #[inline(always)]
+    fn format_into<V: ComponentProvider>(
+        &self,
+        output: &mut Vec<u8>,
+        value: &V,
+        state: &mut V::State,
+    ) -> Result<usize, Format> {
+        if !self.fits_plainly(output.capacity() - output.len()) {
+            let width = self.compute_metadata().max_bytes_needed;
+            if width == usize::MAX || make_room(output, width).is_err() {
+                return Err(Format::OutOfMemory);
+            }
+        }
+        self.write_into(output, value, state)
     }
 
     #[inline(always)]
