@@ -590,11 +590,11 @@ fn write_text<S: Sink>(output: &mut S, text: &[u8]) -> usize
 fn width(items: &[Item], texts: &[u8]) -> Result<usize, Reason>
     ensures { result ≡ width_answer (trees_of texts.now items.now) }
 {
-    let mut sum = 0usize;
+    let mut left = GREATEST_WIDTH;
     for item in items {
-        sum += part_width(part_of(item, texts)?).min(GREATEST_WIDTH - sum);
+        left -= part_width(part_of(item, texts)?).min(left);
     }
-    Ok(sum)
+    Ok(GREATEST_WIDTH - left)
 }
 
 #[inline(always)]
