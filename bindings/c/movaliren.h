@@ -916,12 +916,14 @@ MOVALIREN_INLINE void movaliren_add_item(
 MOVALIREN_INLINE void movaliren_add(struct movaliren_description *description, uint32_t kind,
     uint8_t padding, uint8_t flag, uint8_t digits)
 {
-    struct movaliren_item item = { 0, 0, 0, 0, 0, 0, 0 };
     const int is_component = MOVALIREN_DAY <= kind && kind <= MOVALIREN_UNIX_MILLISECOND;
+    struct movaliren_item item;
     item.kind = kind;
     item.padding = padding;
     item.flag = flag;
     item.digits = digits;
+    item.byte = 0;
+    item.start = item.len = 0;
     if (is_component && padding <= MOVALIREN_NO_PADDING && flag <= 1 && digits <= 9)
         movaliren_add_item(description, item);
     else

@@ -48,24 +48,23 @@ next_not_there f items i d r inside none = grind (arith, common_steps, next_of)
 
 -- ---- widths
 
--- the sum so far and the width of what is left make the width of all, up to the greatest
-pub record Summed (greatest sum : ℕ) (all left : Result (List Tree) Reason) : Type 0 where
-  pub fits : sum ≤ greatest
-  pub same : with_value all (λ ts. Ok (min (trees_width (trees ts)) greatest)) ≡ with_value left (λ
-      ts. Ok (min (sum + trees_width (trees ts)) greatest))
+-- what the items so far leave of the greatest width, less the width of the others, is what all leave
+pub record Summed (greatest left : ℕ) (all others : Result (List Tree) Reason) : Type 0 where
+  pub fits : left ≤ greatest
+  pub same : with_value all (λ ts. Ok (min (trees_width (trees ts)) greatest)) ≡ with_value others (λ
+      ts. Ok (greatest - (left - trees_width (trees ts))))
 
-summed_rest : (greatest sum : ℕ) (t : Tree) (rest : Result (List Tree) Reason)
-    → with_value (with_value rest (λ others. Ok (t ∷ others))) (λ ts. Ok (min (sum + trees_width
-    (trees ts)) greatest)) ≡ with_value rest (λ ts. Ok (min (min (sum + tree_width t) greatest +
-    trees_width (trees ts)) greatest))
-summed_rest greatest sum t rest = grind (arith, common_steps)
+summed_rest : (greatest left : ℕ) (t : Tree) (rest : Result (List Tree) Reason)
+    → with_value (with_value rest (λ others. Ok (t ∷ others))) (λ ts. Ok (greatest - (left - trees_width (trees ts))))
+    ≡ with_value rest (λ ts. Ok (greatest - (left - tree_width t - trees_width (trees ts))))
+summed_rest greatest left t rest = grind (arith, common_steps)
 
 -- one item more
 pub summed_more : {I : Type 0} (f : I → Result Tree Reason) (items : List I) (i : ℕ) (d : I) (t : Tree)
-    (greatest sum next : ℕ) (all : Result (List Tree) Reason) → i < length items → f (get_or items i d) ≡ Ok t
-    → next ≡ min (sum + tree_width t) greatest → Summed greatest sum all (list_of (map f (drop i items)))
+    (greatest left next : ℕ) (all : Result (List Tree) Reason) → i < length items → f (get_or items i d) ≡ Ok t
+    → next ≡ left - tree_width t → Summed greatest left all (list_of (map f (drop i items)))
     → Summed greatest next all (list_of (map f (drop (i + 1) items)))
-summed_more f items i d t greatest sum next all inside there is summed =
+summed_more f items i d t greatest left next all inside there is summed =
     grind (arith, common_steps, next_there, summed_rest)
 
 -- ---- texts

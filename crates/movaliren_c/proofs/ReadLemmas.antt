@@ -73,17 +73,8 @@ value_of_parts m v p q r time offset is_date is_time is_offset = grind (arith, d
 
 day_of_given : (y : ℤ) (m d : ℕ) (date : OrdinalDate) → date_value y m d ≡ Ok date → IsDayOf m d date
 unfolding date_value
-day_of_given y m d date h = grind (
-  arith,
-  common_steps,
-  test_that_passed,
-  and_parts,
-  leb-true,
-  same_value,
-  month_length,
-  month_of-date_of,
-  day_of-date_of,
-)
+day_of_given y m d date h =
+    grind (arith, common_steps, test_that_passed, and_parts, leb-true, same_value, month_length, month_of-date_of, day_of-date_of)
 
 -- what a value is by its parts
 pub record IsByParts (m : Moment) (v : OffsetDateAndTime) : Type 0 where
@@ -104,8 +95,7 @@ value_by_parts m v h =
     let date = value_of_given (date_value m.year m.month m.day) _ v h in
     let time = value_of_given (time_value m) _ v date.2 in
     let offset = value_of_given (offset_value m) _ v time.2 in
-    let same = same_value _ v offset.2 in
-    subst (IsByParts m) same (record {
+    subst (IsByParts m) (same_value _ v offset.2) (record {
       day = day_of_given m.year m.month m.day date.0 date.1;
       time = time_by_parts m time.0 time.1;
       offset = offset_by_parts m offset.0 offset.1;

@@ -137,7 +137,8 @@ fn write_text<S: Syntax, V: FirstState + Drop>(
 ) -> Result<usize, Reason>
 where
     V::State: Drop,
-    ensures { IsText (described (few (S.described text.now)) value V.facts) result room.old room.new }
+    ensures text { IsText (described (few (S.described text.now)) value V.facts) result room.old room.new }
+    ensures fits { IfOk result (λ count. count ≤ length room.old) }
 {
     let mut items = [NO_ITEM; USUAL];
     let mut fault = Fault::many(0);
@@ -159,7 +160,8 @@ fn write_many<S: Syntax, V: FirstState + Drop>(
 ) -> Result<usize, Reason>
 where
     V::State: Drop,
-    ensures { IsText (described (few (S.described text.now)) value V.facts) result room.old room.new }
+    ensures text { IsText (described (few (S.described text.now)) value V.facts) result room.old room.new }
+    ensures fits { IfOk result (λ count. count ≤ length room.old) }
 {
     let mut all = [NO_ITEM; FEW];
     let mut fault = Fault::many(0);

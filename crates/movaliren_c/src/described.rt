@@ -133,7 +133,8 @@ pub fn write_described<V: FirstState + Drop>(
 ) -> Result<usize, Reason>
 where
     V::State: Drop,
-    ensures { IsDescribed texts.now items.now value V.facts result room.old room.new }
+    ensures text { IsDescribed texts.now items.now value V.facts result room.old room.new }
+    ensures fits { IfOk result (λ count. count ≤ length room.old) }
 {
     let value = match value {
         Ok(value) => value,
@@ -190,7 +191,6 @@ where
 /// Writes a date or a time of day to the start of a buffer, if five items are one, the value has it and the longest
 /// fits. Returns the number of bytes, if it was written. Nothing of it is refused, so that it needs no array.
 #[inline(never)]
-#[tactic(auto, using(time_fmt::proofs::RoomLemmas::room_written, crate::proofs::DescribedLemmas::put_shown))]
 fn write_alone<B: Before, V: FirstState>(
     items: &[Item],
     texts: &[u8],
@@ -590,11 +590,11 @@ fn write_text<S: Sink>(output: &mut S, text: &[u8]) -> usize
 fn width(items: &[Item], texts: &[u8]) -> Result<usize, Reason>
     ensures { result ≡ width_answer (trees_of texts.now items.now) }
 {
-    let mut sum = 0usize;
+    let mut left = GREATEST_WIDTH;
     for item in items {
-        sum += part_width(part_of(item, texts)?).min(GREATEST_WIDTH - sum);
+        left -= part_width(part_of(item, texts)?).min(left);
     }
-    Ok(sum)
+    Ok(GREATEST_WIDTH - left)
 }
 
 #[inline(always)]

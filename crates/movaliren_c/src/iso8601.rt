@@ -293,7 +293,6 @@ fn write_parts(config: &Config, value: &OffsetDateTime, room: &mut [u8]) -> Resu
 
 /// Puts the parts at the start of a buffer that holds them, up to what is refused.
 #[inline(always)]
-#[tactic(auto, using(time_fmt::proofs::RoomLemmas::room_written))]
 fn put_at_once<B: Before>(
     config: &Config,
     value: &OffsetDateTime,

@@ -49,8 +49,7 @@ pub extern "C" fn movaliren_format_local_length(
     ensures { Answers result (λ answer. IsLength (described (trees_of texts.now items.now)
         (local_value seconds nanosecond offset) facts_of_offset_date_time) answer) }
 {
-    let value = local_parts_at(seconds, nanosecond, offset);
-    answer_number(text_length(items, texts, value))
+    answer_number(text_length(items, texts, local_parts_at(seconds, nanosecond, offset)))
 }
 
 /// The number of bytes of the text of a date.

@@ -4,7 +4,7 @@ ghost use Rattle.movaliren_c.specs.Known.{offset_of_parts, time_of_parts};
 ghost use Rattle.movaliren_c.specs.Utc.{utc_value};
 ghost use Rattle.movaliren_c.specs.Value.{date_value, is_alike, is_offset_part, moment_value, offset_value, time_value, timestamp_value};
 ghost use Rattle.time_below.specs.Moment.{utc_date_and_time};
-ghost use Rattle.time_below.specs.Offset.{AreOffsetParts, HasNoOtherSign};
+ghost use Rattle.time_below.specs.Offset.{HasNoOtherSign, IsOffset};
 
 use crate::reason::Reason;
 use time_below::{Date, Month, OffsetDateTime, Time, Timestamp, UtcDateTime, UtcOffset};
@@ -116,10 +116,7 @@ fn offset_value(moment: &Moment) -> Result<UtcOffset, Reason>
 /// each two, and one where all are zero, as in UTC.
 #[inline(always)]
 fn are_offset_parts(hours: i8, minutes: i8, seconds: i8) -> bool
-    ensures range { IsTrue result → AreOffsetParts hours minutes seconds }
-    ensures minutes_like_hours { IsTrue result → HasNoOtherSign hours minutes }
-    ensures seconds_like_hours { IsTrue result → HasNoOtherSign hours seconds }
-    ensures seconds_like_minutes { IsTrue result → HasNoOtherSign minutes seconds }
+    ensures { IsTrue result → IsOffset (record { hours = hours; minutes = minutes; seconds = seconds }) }
 {
     let is_zero = (hours == 0) & (minutes == 0) & (seconds == 0);
     if is_zero {

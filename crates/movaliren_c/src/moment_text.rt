@@ -108,7 +108,6 @@ pub fn put_at_start<T: Text>(text: &T, room: &mut [u8]) -> usize
 
 /// Puts it at the start of a buffer that held these bytes before.
 #[inline(always)]
-#[tactic(auto, using(time_fmt::proofs::RoomLemmas::room_written))]
 fn put_before<B: Before, T: Text>(text: &T, room: &mut [u8]) -> usize
     requires before { room.old ≡ B.before }
     requires room { T.width text.now ≤ length room.old }

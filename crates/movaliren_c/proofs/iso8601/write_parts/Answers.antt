@@ -1,10 +1,9 @@
-use Rattle.std.proofs.Common.{◌≡◌, ℕ, List, None, Result}
+use Rattle.std.proofs.Common.{◌≡◌, ℕ, List, None, Result, arith}
 use Rattle.std.proofs.lemmas.List.{take_at}
 use Rattle.movaliren_c.specs.Answer.{IsWritten}
 use Rattle.movaliren_c.specs.declared.reason.Reason.{Reason}
 use Rattle.time_fmt.specs.Outcome.{Outcome, done}
 use Rattle.movaliren_c.proofs.iso8601.write_parts.Goals as goal
-use Rattle.std.proofs.Common.{arith}
 
 -- the bytes of a completed outcome, copied, are its text
 copied_whole : (answer : Result ℕ Reason) (o : Outcome) (bytes before after : List ℕ) → bytes ≡ o.bytes

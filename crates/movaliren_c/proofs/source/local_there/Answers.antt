@@ -1,10 +1,9 @@
-use Rattle.std.proofs.Common.{◌≡◌, ℤ, ◌+ℤ◌, Ok, true, refl, rules}
+use Rattle.std.proofs.Common.{◌≡◌, ℤ, ◌+ℤ◌, Ok, true, refl, rules, arith}
 use Rattle.movaliren_c.specs.Utc.{local_there}
 use Rattle.movaliren_c.specs.Value.{is_in_years}
 use Rattle.time_below.specs.Moment.{IsTimestampSecond, Moment, OffsetDateAndTime, local_at}
 use Rattle.time_below.specs.Offset.{Offset, offset_seconds}
 use Rattle.movaliren_c.proofs.source.local_there.Goals as goal
-use Rattle.std.proofs.Common.{arith}
 
 in_years : (seconds : ℤ) → IsTimestampSecond seconds → is_in_years seconds ≡ true
 in_years seconds inside = search rules
