@@ -83,6 +83,7 @@ impl Text for Rfc3339Text {
     ghost text = { λ t. rfc3339_text (shown t.fields).date t.fields.time t.fields.offset };
 
     #[inline(always)]
+    #[tactic(auto, using(crate::proofs::LengthLemmas::joined_lengths))]
     fn put_into<S: Sink>(&self, output: &mut S) {
         put_date(output, &self.fields, "-");
         write(output, "T");

@@ -1,17 +1,18 @@
 -- The parts that are written, one after another, give the outcome and the width of the choices.
-use Rattle.std.proofs.Common.{◌≡◌, ◌≢◌, ℕ, ◌+◌, Bool, append_assoc, length-append, arith, Result, Ok}
+use Rattle.std.proofs.Common.{◌≡◌, ◌≢◌, ℕ, ◌+◌, Bool, append_assoc, length-append, arith, Result, Ok, MatchOption, Option, Some, Vec}
+use Rattle.std.specs.Global.{Global}
 use Rattle.std.proofs.lemmas.Grind.{common_steps}
 use Rattle.std.proofs.lemmas.List.{append-nil}
-use Rattle.time_fmt.specs.Outcome.{Outcome, join}
+use Rattle.time_fmt.specs.Outcome.{AppendsUpTo, Outcome, join}
 use Rattle.time_fmt.specs.Sink.{Buffer}
 use Rattle.time_known.specs.Accepted.{PutsOutcome}
 use Rattle.time_known.specs.Config.{Choices, DateKind}
-use Rattle.time_known.specs.Groups.{at_groups}
-use Rattle.time_known.specs.Iso8601.{iso8601_outcome, iso_of_groups, iso_date}
+use Rattle.time_known.specs.Groups.{AreAllSupplied, at_groups}
+use Rattle.time_known.specs.Iso8601.{iso8601_outcome, iso_of_groups, iso_date, iso_time}
 use Rattle.time_known.specs.Iso8601Parts.{SuppliesParts, date_of_parts, date_parts_width, AreOfDate}
-use Rattle.time_known.specs.Iso8601Width.{iso_date_width}
+use Rattle.time_known.specs.Iso8601Width.{iso8601_width, iso_date_width, iso_time_width}
 use Rattle.time_provide.specs.Laws.{Supplies}
-use Rattle.time_known.specs.Values.{Facts, DateFacts}
+use Rattle.time_known.specs.Values.{Facts, DateFacts, the_date, the_time}
 use Rattle.time_known.specs.declared.accepted.OutOfRange.{OutOfRange}
 use Rattle.time_known.specs.declared.iso8601.config.FormattedComponents.TheVariants as components
 use Rattle.time_known.specs.declared.iso8601.parts.DateParts.{DateParts}
@@ -39,5 +40,42 @@ pub puts_three : {i j k : ℕ} {old mid last new : Buffer} {answer : Result Unit
     → PutsOutcome (i + j + k) old new answer (join d (join t o))
 puts_three p q r = grind (arith, common_steps, append_assoc, length-append)
 
--- what a part that is not written leaves of the others
-pub ruleset some_parts = (append-nil)
+-- ---- some parts
+
+-- what is appended, if anything, by other words for the outcome and for the most bytes
+appended_by : (found : Option ℕ) (old new : Vec ℕ Global) {a b : Outcome} {k width : ℕ} → a ≡ b → k ≡ width
+    → MatchOption found (new ≡ old) (λ n. AppendsUpTo width old new (Ok n) b)
+    → MatchOption found (new ≡ old) (λ n. AppendsUpTo k old new (Ok n) a)
+appended_by found old new e w h = rw (e, w) h
+
+-- a date alone is the whole text
+pub date_alone : {date time offset moment : Bool} (found : Option ℕ) (old new : Vec ℕ Global) (c : Choices) (f : Facts)
+    → c.formatted_components ≡ components.Date → SuppliesParts c date time offset → Supplies date time offset moment f
+    → MatchOption found (new ≡ old) (λ n. AppendsUpTo (iso_date_width c) old new (Ok n) (iso_date c (the_date f)))
+    → MatchOption found (new ≡ old) (λ n. AppendsUpTo (iso8601_width c) old new (Ok n) (iso8601_outcome c f))
+date_alone found old new c f e supplied groups h =
+    appended_by found old new {b = iso_date c (the_date f)} (grind (arith, common_steps)) (grind arith) h
+
+-- a time alone is
+pub time_alone : {n : ℕ} {old new : Vec ℕ Global} {date time offset moment : Bool} (c : Choices) (f : Facts)
+    → c.formatted_components ≡ components.Time → SuppliesParts c date time offset → Supplies date time offset moment f
+    → AppendsUpTo (iso_time_width c) old new (Ok n) (iso_time c (the_time f))
+    → AppendsUpTo (iso8601_width c) old new (Ok n) (iso8601_outcome c f)
+time_alone {n} {old} {new} c f e supplied groups h =
+    appended_by (Some n) old new {b = iso_time c (the_time f)} (grind (arith, common_steps)) (grind arith) h
+
+-- a date and a time are
+pub date_and_time : {date time offset moment : Bool} (found : Option ℕ) (old new : Vec ℕ Global) (c : Choices) (f : Facts)
+    → c.formatted_components ≡ components.DateTime → SuppliesParts c date time offset → Supplies date time offset moment f
+    → MatchOption found (new ≡ old) (λ n. AppendsUpTo (iso_date_width c + iso_time_width c) old new (Ok n)
+    (join (iso_date c (the_date f)) (iso_time c (the_time f))))
+    → MatchOption found (new ≡ old) (λ n. AppendsUpTo (iso8601_width c) old new (Ok n) (iso8601_outcome c f))
+date_and_time found old new c f e supplied groups h =
+    appended_by found old new {b = join (iso_date c (the_date f)) (iso_time c (the_time f))}
+    (grind (arith, common_steps, append-nil)) (grind arith) h
+
+-- all three parts are
+pub all_parts : {date time offset moment : Bool} (c : Choices) (f : Facts) → c.formatted_components ≡ components.DateTimeOffset
+    → AreAllSupplied date time offset → Supplies date time offset moment f
+    → iso8601_outcome c f ≡ at_groups (iso_of_groups components.DateTimeOffset c) f
+all_parts c f e supplied groups = grind (arith, common_steps)
