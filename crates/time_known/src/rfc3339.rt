@@ -53,7 +53,6 @@ impl Formattable for Rfc3339 {
 
     // More than one caller would else call it for each text.
     #[inline(always)]
-    #[tactic(auto, using(crate::proofs::GuaranteeLemmas::rfc3339_utf8))]
     fn write_into<V: ComponentProvider>(
         &self,
         output: &mut Vec<u8>,

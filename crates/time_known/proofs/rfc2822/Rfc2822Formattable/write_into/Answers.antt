@@ -6,9 +6,13 @@ use Rattle.time_known.specs.Values.{the_date, the_offset}
 use Rattle.time_known.proofs.AcceptedLemmas.{any_hour}
 use Rattle.time_known.proofs.GuaranteeLemmas.{rfc2822_utf8}
 use Rattle.time_known.proofs.LawLemmas.{completed_are_canonical}
-use Rattle.time_known.proofs.ReadBackLemmas.{reads_as}
+use Rattle.time_known.proofs.ReadBackLemmas.{are_all, reads_as}
 use Rattle.time_known.proofs.Rfc2822Lemmas.{rfc2822_is_written}
 use Rattle.time_known.proofs.rfc2822.Rfc2822Formattable.write_into.Goals as goal
+
+pub weekday-weekday-requires-clause-supplied : goal.weekday-weekday-requires-clause-supplied
+weekday-weekday-requires-clause-supplied g c =
+    (are_all _ _ _ (sym c.are_supplied_by.ensures.supplied ∙ c.if-not-are_supplied_by.false)).0
 
 pub returns-in-Ok-clause-spelled : goal.returns-in-Ok-clause-spelled
 returns-in-Ok-clause-spelled g c =
