@@ -16,9 +16,9 @@ returns-in-Ok-clause-appends g c =
     let o = the_offset f in
     let fields = c.offset_of-offset.ensures.offset in
     let accepted : checked_text 0 25 d.iso_year (unsigned_abs o.hours) (unsigned_abs o.seconds) [] ≡ done [] =
-    first_of (cc (c.in-Ok.ensures.accepted []), search (rules, c.in-Ok.ensures.accepted [])) in
+    search (rules, c.in-Ok.ensures.accepted []) in
     let year : c.in-Ok.year ≡ unsigned_abs d.iso_year =
-    first_of (cc (c.in-Ok.ensures.year), search (rules, c.in-Ok.ensures.year)) in
+    search (rules, c.in-Ok.ensures.year) in
     rw (
       all_parts c.args.config.now f (ap (λ (k : Choices). k.formatted_components) c.requires.usual) c.requires.supplied
           (g.met.V.ComponentProvider.groups c.args.value.now),
