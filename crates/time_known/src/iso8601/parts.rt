@@ -246,7 +246,6 @@ fn write_unusual<V: ComponentProvider>(
 
 // Appends the date by month and day after four digits of the year, and the time.
 #[inline(never)]
-#[tactic(auto, using(time_fmt::proofs::WriteLemmas::appends_both))]
 fn write_date_time<V: ComponentProvider>(
     config: &Config,
     output: &mut Vec<u8>,
