@@ -1,7 +1,6 @@
-use Rattle.std.proofs.Common.{◌≡◌, [], ap, rules, unsigned_abs}
+use Rattle.std.proofs.Common.{◌≡◌, [], rules, unsigned_abs}
 use Rattle.time_fmt.specs.Outcome.{done}
 use Rattle.time_known.specs.Accepted.{checked_text}
-use Rattle.time_known.specs.Config.{Choices}
 use Rattle.time_known.specs.Values.{the_date, the_time, the_offset}
 use Rattle.time_known.specs.declared.iso8601.config.DateKind.TheVariants as kind
 use Rattle.time_known.proofs.AcceptedLemmas.{usual_accepted}
@@ -20,7 +19,7 @@ returns-in-Ok-clause-appends g c =
     let year : c.in-Ok.year ≡ unsigned_abs d.iso_year =
     search (rules, c.in-Ok.ensures.year) in
     rw (
-      all_parts c.args.config.now f (ap (λ (k : Choices). k.formatted_components) c.requires.usual) c.requires.supplied
+      all_parts c.args.config.now f kind.Week u c.requires.usual c.requires.supplied
           (g.met.V.ComponentProvider.groups c.args.value.now),
       usual_accepted c.args.config.now kind.Week u.has_separators u.decimal_digits u.decimal_sign d (the_time f) (the_offset f) []
           c.requires.usual accepted,
