@@ -1,14 +1,13 @@
 -- The parts that are written, one after another, give the outcome and the width of the choices.
 use Rattle.std.proofs.Common.{◌≡◌, ◌≢◌, ℕ, ◌+◌, Bool, append_assoc, length-append, arith, Result, Ok, MatchOption, Option, Vec}
 use Rattle.std.specs.Global.{Global}
-use Rattle.std.specs.Prelude.{IsTrue, not, ◌||◌}
 use Rattle.std.proofs.lemmas.Grind.{common_steps}
 use Rattle.std.proofs.lemmas.List.{append-nil}
 use Rattle.time_fmt.specs.Outcome.{AppendsUpTo, Outcome, join}
 use Rattle.time_fmt.specs.Sink.{Buffer}
 use Rattle.time_known.specs.Accepted.{PutsOutcome}
 use Rattle.time_known.specs.Config.{Choices, DateKind}
-use Rattle.time_known.specs.Groups.{AreAllSupplied, are_supplied, at_groups}
+use Rattle.time_known.specs.Groups.{AreAllSupplied, at_groups}
 use Rattle.time_known.specs.Iso8601.{iso8601_outcome, iso_of_groups, iso_date, iso_time}
 use Rattle.time_known.specs.Iso8601Parts.{SuppliesParts, date_of_parts, date_parts_width, AreOfDate}
 use Rattle.time_known.specs.Iso8601Width.{iso8601_width, iso_date_width, iso_time_width}
@@ -16,7 +15,6 @@ use Rattle.time_provide.specs.Laws.{Supplies}
 use Rattle.time_known.specs.UsualText.{choices_of}
 use Rattle.time_known.specs.Values.{Facts, DateFacts, the_date, the_time}
 use Rattle.time_known.specs.declared.accepted.OutOfRange.{OutOfRange}
-use Rattle.time_known.specs.declared.groups.Groups.{Groups}
 use Rattle.time_known.specs.declared.iso8601.config.FormattedComponents.TheVariants as components
 use Rattle.time_known.specs.declared.iso8601.config.Usual.{Usual}
 use Rattle.time_known.specs.declared.iso8601.parts.DateParts.{DateParts}
@@ -43,11 +41,6 @@ pub puts_three : {i j k : ℕ} {old mid last new : Buffer} {answer : Result Unit
     → PutsOutcome i old mid (Ok tt) d → PutsOutcome j mid last (Ok tt) t → PutsOutcome k last new answer o
     → PutsOutcome (i + j + k) old new answer (join d (join t o))
 puts_three p q r = grind (arith, common_steps, append_assoc, length-append)
-
--- each group that is needed is supplied
-pub each_supplied : (needed : Groups) (date time offset : Bool) → IsTrue (are_supplied needed date time offset)
-    → IsTrue (date || not needed.date) × IsTrue (time || not needed.time) × IsTrue (offset || not needed.offset)
-each_supplied needed date time offset h = grind (arith, common_steps)
 
 -- ---- some parts
 
