@@ -10,10 +10,12 @@ use Rattle.time_fmt.specs.Outcome.{AppendsUpTo, done, refused, join, invalid_com
 use Rattle.time_known.specs.Accepted.{checked_text, component_name, refused_for}
 use Rattle.time_known.specs.Config.{Choices, DecimalSign, DateKind}
 use Rattle.time_known.specs.Iso8601.{iso_of_groups, year_of_kind}
-use Rattle.time_known.specs.UsualText.{usual_choices, usual_text}
+use Rattle.time_known.specs.UsualText.{choices_of, usual_choices, usual_text}
 use Rattle.time_known.specs.Values.{DateFacts, Offset, TimeOfDay}
 use Rattle.time_known.specs.WellKnown.{refused_if, is_outside}
 use Rattle.time_known.specs.declared.accepted.OutOfRange.{OutOfRange}
+use Rattle.time_known.specs.declared.accepted.OutOfRange.TheVariants as out
+use Rattle.time_known.specs.declared.iso8601.config.Usual.{Usual}
 use Rattle.time_known.specs.declared.iso8601.config.FormattedComponents.TheVariants as components
 use Rattle.time_known.proofs.OutcomeLemmas.{above_not, test_is_passed}
 
@@ -39,6 +41,13 @@ pub usual_accepted : (c : Choices) (k : DateKind) (has_separators : Bool) (digit
     → iso_of_groups components.DateTimeOffset c d t o ≡ done (usual_text c digits d t o)
 usual_accepted c k has_separators digits sign d t o text e accepted =
     grind (arith, common_steps, test_is_passed, usual_passes)
+
+-- a year that is refused is refused by the text of these choices
+pub usual_year_refused : (c : Choices) (k : DateKind) (u : Usual) (d : DateFacts) (t : TimeOfDay) (o : Offset) (text : List ℕ)
+    → c ≡ choices_of k u
+    → checked_text 0 25 (year_of_kind k d) (unsigned_abs o.hours) (unsigned_abs o.seconds) text ≡ refused_for out.Year
+    → iso_of_groups components.DateTimeOffset c d t o ≡ refused_for out.Year
+usual_year_refused c k u d t o text e refused = grind (arith, common_steps, any_hour)
 
 -- UTC has no seconds
 no_seconds : (o : Offset) → is_utc o ≡ true → nat_lt 0 (unsigned_abs o.seconds) ≡ false

@@ -1,10 +1,10 @@
 -- A completed text spells the value whose groups were formatted.
-use Rattle.std.proofs.Common.{◌≡◌, true, sym, ap, ◌∙◌, Some, None, arith}
+use Rattle.std.proofs.Common.{◌≡◌, Bool, true, sym, ap, ◌∙◌, Some, None, arith}
 use Rattle.std.proofs.lemmas.Bool.{and_parts}
 use Rattle.std.proofs.lemmas.Grind.{common_steps}
 use Rattle.time_fmt.specs.Outcome.{Outcome}
 use Rattle.time_provide.specs.Real.{AreReal, date_in}
-use Rattle.time_known.specs.Groups.{has_groups, all_groups, at_groups}
+use Rattle.time_known.specs.Groups.{AreAllSupplied, are_supplied, has_groups, all_groups, at_groups}
 use Rattle.time_known.specs.Laws.{IsValue, CompletedAreCanonical}
 use Rattle.time_known.specs.ReadBack.{ReadsAs}
 use Rattle.time_known.specs.Rules.{Rule}
@@ -17,6 +17,10 @@ record HasAll (f : Facts) : Type 0 where
   date : f.date ≡ Some (the_date f)
   time : f.time ≡ Some (the_time f)
   offset : f.offset ≡ Some (the_offset f)
+
+-- all three are supplied, where all are needed and none is missing
+pub are_all : (date time offset : Bool) → are_supplied all_groups date time offset ≡ true → AreAllSupplied date time offset
+are_all date time offset h = grind (arith, common_steps, and_parts)
 
 -- they are, where all are needed and none is missing
 has_all : (f : Facts) → has_groups all_groups f ≡ true → HasAll f

@@ -87,6 +87,7 @@ impl Text for Rfc2822Text {
     ghost text = { λ t. rfc2822_text (on_weekday (days_from_monday t.weekday) t.fields) t.fields.time t.fields.offset };
 
     #[inline(always)]
+    #[tactic(auto, using(crate::proofs::LengthLemmas::joined_lengths))]
     fn put_into<S: Sink>(&self, output: &mut S) {
         put_named_date(output, self.weekday, &self.fields);
         write(output, " ");

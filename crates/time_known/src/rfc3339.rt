@@ -53,7 +53,6 @@ impl Formattable for Rfc3339 {
 
     // More than one caller would else call it for each text.
     #[inline(always)]
-    #[tactic(auto, using(crate::proofs::GuaranteeLemmas::rfc3339_utf8))]
     fn write_into<V: ComponentProvider>(
         &self,
         output: &mut Vec<u8>,
@@ -83,6 +82,7 @@ impl Text for Rfc3339Text {
     ghost text = { λ t. rfc3339_text (shown t.fields).date t.fields.time t.fields.offset };
 
     #[inline(always)]
+    #[tactic(auto, using(crate::proofs::LengthLemmas::joined_lengths))]
     fn put_into<S: Sink>(&self, output: &mut S) {
         put_date(output, &self.fields, "-");
         write(output, "T");

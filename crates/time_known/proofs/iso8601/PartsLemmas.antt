@@ -1,19 +1,22 @@
 -- The parts that are written, one after another, give the outcome and the width of the choices.
-use Rattle.std.proofs.Common.{◌≡◌, ◌≢◌, ℕ, ◌+◌, Bool, append_assoc, length-append, arith, Result, Ok}
+use Rattle.std.proofs.Common.{◌≡◌, ◌≢◌, ℕ, ◌+◌, Bool, append_assoc, length-append, arith, Result, Ok, MatchOption, Option, Vec}
+use Rattle.std.specs.Global.{Global}
 use Rattle.std.proofs.lemmas.Grind.{common_steps}
 use Rattle.std.proofs.lemmas.List.{append-nil}
-use Rattle.time_fmt.specs.Outcome.{Outcome, join}
+use Rattle.time_fmt.specs.Outcome.{AppendsUpTo, Outcome, join}
 use Rattle.time_fmt.specs.Sink.{Buffer}
 use Rattle.time_known.specs.Accepted.{PutsOutcome}
 use Rattle.time_known.specs.Config.{Choices, DateKind}
-use Rattle.time_known.specs.Groups.{at_groups}
-use Rattle.time_known.specs.Iso8601.{iso8601_outcome, iso_of_groups, iso_date}
+use Rattle.time_known.specs.Groups.{AreAllSupplied, at_groups}
+use Rattle.time_known.specs.Iso8601.{iso8601_outcome, iso_of_groups, iso_date, iso_time}
 use Rattle.time_known.specs.Iso8601Parts.{SuppliesParts, date_of_parts, date_parts_width, AreOfDate}
-use Rattle.time_known.specs.Iso8601Width.{iso_date_width}
+use Rattle.time_known.specs.Iso8601Width.{iso8601_width, iso_date_width, iso_time_width}
 use Rattle.time_provide.specs.Laws.{Supplies}
-use Rattle.time_known.specs.Values.{Facts, DateFacts}
+use Rattle.time_known.specs.UsualText.{choices_of}
+use Rattle.time_known.specs.Values.{Facts, DateFacts, the_date, the_time}
 use Rattle.time_known.specs.declared.accepted.OutOfRange.{OutOfRange}
 use Rattle.time_known.specs.declared.iso8601.config.FormattedComponents.TheVariants as components
+use Rattle.time_known.specs.declared.iso8601.config.Usual.{Usual}
 use Rattle.time_known.specs.declared.iso8601.parts.DateParts.{DateParts}
 
 -- ---- dates
@@ -39,5 +42,37 @@ pub puts_three : {i j k : ℕ} {old mid last new : Buffer} {answer : Result Unit
     → PutsOutcome (i + j + k) old new answer (join d (join t o))
 puts_three p q r = grind (arith, common_steps, append_assoc, length-append)
 
--- what a part that is not written leaves of the others
-pub ruleset some_parts = (append-nil)
+-- ---- some parts
+
+-- what the choices give of a value, and the most bytes of it
+pub record Gives (c : Choices) (f : Facts) (most : ℕ) (o : Outcome) : Type 0 where
+  outcome : iso8601_outcome c f ≡ o
+  width : iso8601_width c ≡ most
+
+-- what is appended of that, if anything, is appended of the whole text
+pub appended_whole : {k : ℕ} {o : Outcome} (found : Option ℕ) (old new : Vec ℕ Global) (c : Choices) (f : Facts) → Gives c f k o
+    → MatchOption found (new ≡ old) (λ n. AppendsUpTo k old new (Ok n) o)
+    → MatchOption found (new ≡ old) (λ n. AppendsUpTo (iso8601_width c) old new (Ok n) (iso8601_outcome c f))
+appended_whole found old new c f g h = rw (g.outcome, g.width) h
+
+-- a date alone
+pub date_alone : {date time offset moment : Bool} (c : Choices) (f : Facts) → c.formatted_components ≡ components.Date
+    → SuppliesParts c date time offset → Supplies date time offset moment f → Gives c f (iso_date_width c) (iso_date c (the_date f))
+date_alone c f e supplied groups = record { outcome = grind (arith, common_steps); width = grind arith }
+
+-- a time alone
+pub time_alone : {date time offset moment : Bool} (c : Choices) (f : Facts) → c.formatted_components ≡ components.Time
+    → SuppliesParts c date time offset → Supplies date time offset moment f → Gives c f (iso_time_width c) (iso_time c (the_time f))
+time_alone c f e supplied groups = record { outcome = grind (arith, common_steps); width = grind arith }
+
+-- a date and a time
+pub date_and_time : {date time offset moment : Bool} (c : Choices) (f : Facts) → c.formatted_components ≡ components.DateTime
+    → SuppliesParts c date time offset → Supplies date time offset moment f
+    → Gives c f (iso_date_width c + iso_time_width c) (join (iso_date c (the_date f)) (iso_time c (the_time f)))
+date_and_time c f e supplied groups = record { outcome = grind (arith, common_steps, append-nil); width = grind arith }
+
+-- all three, by the choices of a usual text
+pub all_parts : {date time offset moment : Bool} (c : Choices) (f : Facts) (k : DateKind) (u : Usual) → c ≡ choices_of k u
+    → AreAllSupplied date time offset → Supplies date time offset moment f
+    → iso8601_outcome c f ≡ at_groups (iso_of_groups components.DateTimeOffset c) f
+all_parts c f k u e supplied groups = grind (arith, common_steps)

@@ -173,7 +173,6 @@ fn write_each<V: ComponentProvider>(
 // Appends by the function that the configuration decided, where nothing of the value is refused. It may refuse what
 // the text refuses before any byte; else it appends nothing.
 #[inline(always)]
-#[tactic(auto, using(crate::proofs::iso8601::PartsLemmas::some_parts))]
 fn write_by_way<V: ComponentProvider>(
     config: &Config,
     way: &Way,
@@ -203,7 +202,6 @@ fn write_by_way<V: ComponentProvider>(
 // Appends an unusual text by the function that the configuration decided, where nothing of the value is refused; else it
 // appends nothing.
 #[inline(always)]
-#[tactic(auto, using(crate::proofs::iso8601::PartsLemmas::some_parts))]
 fn write_unusual<V: ComponentProvider>(
     config: &Config,
     unusual: &Unusual,
@@ -248,7 +246,6 @@ fn write_unusual<V: ComponentProvider>(
 
 // Appends the date by month and day after four digits of the year, and the time.
 #[inline(never)]
-#[tactic(auto, using(time_fmt::proofs::WriteLemmas::appends_both))]
 fn write_date_time<V: ComponentProvider>(
     config: &Config,
     output: &mut Vec<u8>,

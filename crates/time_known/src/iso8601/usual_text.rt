@@ -10,8 +10,8 @@ ghost use Rattle.time_fmt.specs.Sink.{Fits, Puts};
 ghost use Rattle.time_provide.specs.Real.{AreReal};
 ghost use Rattle.time_known.specs.Accepted.{AppendsAllOrNone};
 ghost use Rattle.time_known.specs.Fields.{shown, by_week};
-ghost use Rattle.time_known.specs.Groups.{AreAllSupplied, at_groups};
-ghost use Rattle.time_known.specs.Iso8601.{decimal_part, iso_of_groups, week_text};
+ghost use Rattle.time_known.specs.Groups.{AreAllSupplied};
+ghost use Rattle.time_known.specs.Iso8601.{decimal_part, iso8601_outcome, week_text};
 ghost use Rattle.time_known.specs.Iso8601Width.{decimal_part_width, iso8601_width};
 ghost use Rattle.time_known.specs.Sink.{PutsUpTo};
 ghost use Rattle.time_known.specs.Stamps.{stamp_length};
@@ -19,7 +19,6 @@ ghost use Rattle.time_known.specs.UsualText.{choices_of, usual_choices, usual_te
 ghost use Rattle.time_known.specs.WellKnown.{offset_text, date_text};
 ghost use Rattle.time_known.specs.Config.{default_choices};
 ghost use Rattle.time_known.specs.declared.iso8601.config.DateKind.TheVariants.{Calendar, Week};
-ghost use Rattle.time_known.specs.declared.iso8601.config.FormattedComponents.TheVariants.{DateTimeOffset};
 ghost use Rattle.time_known.specs.Values.{utc};
 ghost use Rattle.time_below.specs.Weekday.{days_from_monday};
 
@@ -57,7 +56,7 @@ pub(super) fn write_usual<V: ComponentProvider>(
     requires agrees { V.agrees state.old value.now }
     ensures appends { MatchOption result (output.new ≡ output.old)
         (λ answer. AppendsAllOrNone (iso8601_width config.now) output.old output.new answer
-        (at_groups (iso_of_groups DateTimeOffset config.now) (V.facts value.now))) }
+        (iso8601_outcome config.now (V.facts value.now))) }
     ensures real { IfSome result (λ answer. OnOk answer (AreReal (V.facts value.now))) }
     ensures agrees { V.agrees state.new value.now }
 {
@@ -87,7 +86,7 @@ pub(super) fn write_usual_week<V: ComponentProvider>(
     requires agrees { V.agrees state.old value.now }
     ensures appends { MatchOption result (output.new ≡ output.old)
         (λ n. AppendsUpTo (iso8601_width config.now) output.old output.new (Ok n)
-        (at_groups (iso_of_groups DateTimeOffset config.now) (V.facts value.now))) }
+        (iso8601_outcome config.now (V.facts value.now))) }
     ensures real { OnSome result (AreReal (V.facts value.now)) }
     ensures agrees { V.agrees state.new value.now }
 {

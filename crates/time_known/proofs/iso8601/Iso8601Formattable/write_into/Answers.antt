@@ -16,3 +16,6 @@ returns-clause-spelled g c =
 
 pub returns-clause-text : goal.returns-clause-text
 returns-clause-text g c = λ _. iso8601_utf8 c.args.self.now (g.V.ComponentProvider.facts c.args.value.now)
+
+pub returns-then-not-are_supplied_by-clause-text : goal.returns-then-not-are_supplied_by-clause-text
+returns-then-not-are_supplied_by-clause-text g c = λ _. iso8601_utf8 c.args.self.now (g.V.ComponentProvider.facts c.args.value.now)

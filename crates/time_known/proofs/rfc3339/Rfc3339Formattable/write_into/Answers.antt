@@ -2,6 +2,7 @@ use Rattle.std.proofs.Common.{ap, ◌∙◌}
 use Rattle.time_fmt.specs.Outcome.{Outcome}
 use Rattle.time_known.specs.Groups.{at_groups}
 use Rattle.time_known.specs.Rfc3339.{rfc3339_of_groups, rfc3339_text}
+use Rattle.time_known.proofs.GuaranteeLemmas.{rfc3339_utf8}
 use Rattle.time_known.proofs.LawLemmas.{completed_are_canonical}
 use Rattle.time_known.proofs.ReadBackLemmas.{reads_as}
 use Rattle.time_known.proofs.Rfc3339Lemmas.{rfc3339_is_written}
@@ -13,4 +14,10 @@ returns-in-Ok-clause-spelled g c =
     let f = g.V.ComponentProvider.facts value in
     let all = c.are_supplied_by.ensures.there value ∙ c.if-not-are_supplied_by.false in
     rw all (reads_as rfc3339_of_groups (completed_are_canonical rfc3339_is_written) f all c.in-Ok.ensures.real
-    (ap (λ (o : Outcome). o.refusal) (c.in-Ok.ensures.accepted (at_groups rfc3339_text f))))
+    (ap (λ (o : Outcome). o.refusal) {x = at_groups rfc3339_of_groups f} (c.in-Ok.ensures.accepted (at_groups rfc3339_text f))))
+
+pub returns-in-Ok-clause-text : goal.returns-in-Ok-clause-text
+returns-in-Ok-clause-text g c = λ _. rfc3339_utf8 (g.V.ComponentProvider.facts c.args.value.now)
+
+pub returns-in-Err-clause-text : goal.returns-in-Err-clause-text
+returns-in-Err-clause-text g c = λ _. rfc3339_utf8 (g.V.ComponentProvider.facts c.args.value.now)
