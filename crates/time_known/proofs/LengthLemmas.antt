@@ -14,19 +14,21 @@ pub ruleset fraction_lengths = (length-trimmed_fraction, length-append, append_a
 -- the same, where one is a sign
 pub ruleset sign_lengths = (length-sign_text, length-append, append_assoc)
 
--- a piece has no more bytes than it has
+-- ---- one piece after another
+
+-- a piece, by its own length
 pub piece : {count : ℕ} {old new : Buffer} {text : List ℕ} → Puts old new count text → PutsUpTo (length text) old new text
 piece p = record { put = p.appended; grown = p.grown; block = p.block; within = omega arith }
 
--- nor more than were counted
+-- a piece, by the count of its bytes
 pub counted : {count : ℕ} {old new : Buffer} {text : List ℕ} → Puts old new count text → PutsUpTo count old new text
 counted p = record { put = p.appended; grown = p.grown; block = p.block; within = omega arith }
 
--- a text has no more bytes than a greater width
+-- a text, by a greater width
 pub at_most : {i k : ℕ} {old new : Buffer} {text : List ℕ} → PutsUpTo i old new text → i ≤ k → PutsUpTo k old new text
 at_most p h = record { put = p.put; grown = p.grown; block = p.block; within = omega arith }
 
--- a text and then another have no more bytes than both
+-- two texts, by both of their widths
 pub puts_then : {i j : ℕ} {old mid new : Buffer} {a b : List ℕ} → PutsUpTo i old mid a → PutsUpTo j mid new b
     → PutsUpTo (i + j) old new (a ++ b)
 puts_then first second = grind (arith, joined_lengths)
