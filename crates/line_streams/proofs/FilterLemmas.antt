@@ -1,7 +1,6 @@
 -- Lines that become something, one after another.
 use Rattle.std.proofs.Common.{ℕ, ◌≡◌, ◌+◌, ◌-◌, ◌++◌, List, [], ◌∷◌, length, take, drop, map, refl, ap, sym, subst, ◌∙◌, append_assoc, append-nil, length-append, arith}
 use Rattle.std.proofs.Math.Seq.{drop-append_seam}
-use Rattle.std.specs.List.{flat_map}
 use Rattle.line_streams.specs.Lines.{line_feed, whole_lines_of, unended_of, last_line_of, with_line_feed, EndsAt, IsOneLine}
 use Rattle.line_streams.specs.Filter.{ended_lines_of, Adds, Become, Stays}
 use Rattle.line_streams.proofs.LinesLemmas.{IsOneLine-append, unended_of-one, whole_lines_of-one, slice-end, whole_lines_of-append, unended_of-append, whole_lines_of-fed, unended_of-fed, whole_lines_of-ended, unended_of-ended, whole_lines_of-more, unended_of-more}
@@ -31,16 +30,6 @@ Become-before R Q lines text stays p = Become-weaker Q R lines text (λ line t q
 pub Become-after : (R Q : List ℕ → List ℕ → Type 0) (lines : List (List ℕ)) (text : List ℕ) → Stays R Q
     → Become R lines text → Become Q lines text
 Become-after R Q lines text stays p = Become-weaker R Q lines text (λ line t r. (stays line t).0 r) p
-
--- where each line becomes one text alone, so do the lines
-pub Become-function : (f : List ℕ → List ℕ) (lines : List (List ℕ)) (text : List ℕ)
-    → Become (λ line t. t ≡ f line) lines text → text ≡ flat_map f lines
-Become-function f [] text p = p
-Become-function f (line ∷ lines) text p =
-    p.2 ∙ ap (λ t. t ++ p.1) p.3 ∙ ap (λ t. f line ++ t) (Become-function f lines p.1 p.4)
-
-pub Stays-none : (R : List ℕ → List ℕ → Type 0) → Stays R R
-Stays-none R line text = (λ r. r, λ r. r)
 
 pub Stays-then : (R Q S : List ℕ → List ℕ → Type 0) → Stays R Q → Stays Q S → Stays R S
 Stays-then R Q S p q line text =

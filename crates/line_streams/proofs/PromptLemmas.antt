@@ -93,17 +93,6 @@ pub record Going (R : List ℕ → List ℕ → Type 0) (got put : Option (List 
   pub became : Become R (ended_lines_of bytes) text
   pub waits : pending ≡ unended_of bytes
 
-pub Going-none : (R : List ℕ → List ℕ → Type 0) (got put : Option (List ℕ)) (pending : List ℕ) → Knows got [] → Knows put []
-    → pending ≡ [] → Going R got put pending
-Going-none R got put pending read written none = record {
-  bytes = [];
-  text = [];
-  read = read;
-  written = written;
-  became = refl;
-  waits = none;
-}
-
 pub Going-prompt : (R Q : List ℕ → List ℕ → Type 0) (got put : Option (List ℕ)) (pending : List ℕ) → Going R got put pending
     → Stays R Q → IsPrompt Q got put
 Going-prompt R Q got put pending going stays = record {

@@ -69,9 +69,6 @@ bool_tells : (b : Bool) → (b ≡ true) ⊎ (b ≡ false)
 bool_tells true = inl refl
 bool_tells false = inr refl
 
-all-cons : (p : ℕ → Bool) (x : ℕ) (xs : List ℕ) → list_all p (x ∷ xs) ≡ true → (p x ≡ true) × (list_all p xs ≡ true)
-all-cons p x xs h = (grind arith, grind arith)
-
 one_more : (n : ℕ) → 1 + n ≡ suc n
 one_more n = omega arith
 

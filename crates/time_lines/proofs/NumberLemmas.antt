@@ -18,11 +18,6 @@ use Rattle.time_lines.specs.declared.number.Unit.{Unit as UnixUnit}
 one_less : (length at : ℕ) → at < length → length - at ≡ suc (length - (at + 1))
 one_less length at lt = omega arith
 
--- a place that passes is the first one from there on
-pub first_place-here : (p : ℕ → Bool) (length at : ℕ) → at < length → p at ≡ true
-    → first_place p (length - at) at ≡ Some at
-first_place-here p length at lt passes = rw (one_less length at lt, passes) refl
-
 -- one that does not leaves the places after it
 first_place-later : (p : ℕ → Bool) (length at : ℕ) → at < length → p at ≡ false
     → first_place p (length - at) at ≡ first_place p (length - (at + 1)) (at + 1)
