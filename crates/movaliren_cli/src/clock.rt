@@ -4,20 +4,18 @@ use crate::zone::{Zone, read_system, read_zone};
 use crate::{offset, say};
 use jiff_core::Error;
 use std::process::ExitCode;
-use time_below::UtcOffset;
 
 /// The clock that is asked for, whose zone was read.
 #[derive(Drop)]
 pub enum FoundClock {
     Utc,
-    Offset(UtcOffset),
     Zone(Zone),
 }
 
 /// The clock at the offset that the text is.
 fn at_offset(rt: &HostRuntime, text: &str) -> Result<FoundClock, ExitCode> {
     match offset::read(text) {
-        Some(offset) => Ok(FoundClock::Offset(offset)),
+        Some(offset) => Ok(FoundClock::Zone(Zone::at_offset(offset))),
         None => Err(say::refuse(
             rt,
             "'--offset' takes an offset such as +05:30, -0800 or Z, at most 25:59:59",

@@ -26,7 +26,7 @@ use std::process::ExitCode;
 use texts::{ByDescription, Rfc3339ByDay, Texts};
 use time_fmt::parts::UNIX_TIMESTAMP;
 use time_known::{Iso8601, Rfc2822};
-use time_lines::{AtOffset, InUtc, NowJob, ReadJob, Shown, UnixJob};
+use time_lines::{InUtc, NowJob, ReadJob, Shown, UnixJob};
 use time_read::LenientReader;
 
 /// Does the job for each line of standard input.
@@ -102,7 +102,6 @@ fn run<S: Shown + Drop>(rt: &HostRuntime, task: Task, shown: S) -> ExitCode {
 fn run_at<T: Texts + Drop>(rt: &HostRuntime, task: Task, clock: &FoundClock, texts: T) -> ExitCode {
     match clock {
         FoundClock::Utc => texts.run_in_utc(rt, task),
-        FoundClock::Offset(offset) => texts.run_in(rt, task, AtOffset { offset: *offset }),
         FoundClock::Zone(zone) => texts.run_in(rt, task, ZoneClock::new(zone.as_time_zone())),
     }
 }

@@ -1,11 +1,12 @@
 //! The zone of one file, with no look at the others.
-use jiff_core::Error;
+use jiff_core::{Error, Offset};
 use jiff_tz::posix::TimeZone as PosixTimeZone;
 use jiff_tz::{SystemTimeZone, TimeZone, Tzif};
 use std::env::VarError;
 use std::io::{ErrorKind, Read};
 use std::rt::{Env, Files};
 use std::{env, fs};
+use time_below::UtcOffset;
 
 /// The longest file that is read as a zone.
 const MAX_FILE_BYTES: u64 = 1 << 20;
@@ -89,6 +90,8 @@ fn read_usual<R: Files + AllocGlobal>(rt: &R, name: &str) -> Result<Tzif, Error>
 #[derive(Drop)]
 pub enum Zone {
     Utc,
+    /// One offset at every moment.
+    Fixed(Offset),
     /// By the table of a file.
     Table(Tzif),
     /// By a rule such as `CET-1CEST,M3.5.0,M10.5.0/3`.
@@ -96,10 +99,16 @@ pub enum Zone {
 }
 
 impl Zone {
+    /// The zone that has this offset at every moment.
+    pub fn at_offset(offset: UtcOffset) -> Zone {
+        Zone::Fixed(time_jiff::jiff_offset(offset).to_plain())
+    }
+
     /// The zone, as moments ask it for their offsets.
     pub fn as_time_zone(&self) -> TimeZone<'_> {
         match self {
             Zone::Utc => TimeZone::UTC,
+            Zone::Fixed(offset) => TimeZone::Fixed(*offset),
             Zone::Table(table) => TimeZone::Tzif(table),
             Zone::Rule(rule) => TimeZone::Posix(*rule),
         }
