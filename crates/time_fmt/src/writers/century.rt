@@ -6,6 +6,7 @@
 ghost use Rattle.std.specs.Prelude.{◌≡◌, ◌<◌, ◌≤◌, ◌%◌, ◌++◌, MatchOption, decimal, int_lt, length, pos, true, unsigned_abs};
 ghost use Rattle.time_below.specs.declared.format_description.component.Component.TheVariants as component;
 ghost use Rattle.time_fmt.specs.Kind.{kind_text, extended_century, standard_century, century_of};
+ghost use Rattle.time_fmt.specs.Ends.{EndsWhole};
 ghost use Rattle.time_fmt.specs.Sink.{Fits, Puts};
 ghost use Rattle.time_fmt.specs.Text.{padded_text, sign_text};
 
@@ -198,6 +199,8 @@ pub fn fmt_calendar_year_last_two<S: Sink>(
 ) -> usize
     requires room { Fits (S.buffer output.old) (length (padded_text modifier.padding 2 last_two)) }
     ensures writes { Puts (S.buffer output.old) (S.buffer output.new) result (padded_text modifier.padding 2 last_two) }
+    ensures ends { EndsWhole 2 (S.buffer output.old) (S.buffer output.new)
+        (padded_text modifier.padding 2 last_two) }
 {
     format_two_digits(output, last_two, modifier.padding)
 }
@@ -232,6 +235,8 @@ pub fn fmt_iso_year_last_two<S: Sink>(
 ) -> usize
     requires room { Fits (S.buffer output.old) (length (padded_text modifier.padding 2 last_two)) }
     ensures writes { Puts (S.buffer output.old) (S.buffer output.new) result (padded_text modifier.padding 2 last_two) }
+    ensures ends { EndsWhole 2 (S.buffer output.old) (S.buffer output.new)
+        (padded_text modifier.padding 2 last_two) }
 {
     format_two_digits(output, last_two, modifier.padding)
 }
