@@ -37,6 +37,9 @@ pub fn fmt_calendar_year_century_extended_range<S: Sink>(
     ensures writes { Puts (S.buffer output.old) (S.buffer output.new) result
         (kind_text (extended_century modifier.padding modifier.sign_is_mandatory
         is_negative (unsigned_abs century))) }
+    ensures ends { EndsWhole 5 (S.buffer output.old) (S.buffer output.new)
+        (kind_text (extended_century modifier.padding modifier.sign_is_mandatory
+        is_negative (unsigned_abs century))) }
 {
     let (padding, sign) = (modifier.padding, modifier.sign_is_mandatory);
     write_extended_century(output, century.abs(), is_negative, padding, sign)
@@ -76,6 +79,9 @@ pub fn fmt_calendar_year_century_standard_range<S: Sink>(
         (length (kind_text (standard_century modifier.padding modifier.sign_is_mandatory
         is_negative (unsigned_abs century)))) }
     ensures writes { Puts (S.buffer output.old) (S.buffer output.new) result
+        (kind_text (standard_century modifier.padding modifier.sign_is_mandatory
+        is_negative (unsigned_abs century))) }
+    ensures ends { EndsWhole 3 (S.buffer output.old) (S.buffer output.new)
         (kind_text (standard_century modifier.padding modifier.sign_is_mandatory
         is_negative (unsigned_abs century))) }
 {
@@ -121,6 +127,9 @@ pub fn fmt_iso_year_century_extended_range<S: Sink>(
     ensures writes { Puts (S.buffer output.old) (S.buffer output.new) result
         (kind_text (extended_century modifier.padding modifier.sign_is_mandatory
         is_negative (unsigned_abs century))) }
+    ensures ends { EndsWhole 5 (S.buffer output.old) (S.buffer output.new)
+        (kind_text (extended_century modifier.padding modifier.sign_is_mandatory
+        is_negative (unsigned_abs century))) }
 {
     let (padding, sign) = (modifier.padding, modifier.sign_is_mandatory);
     write_extended_century(output, century.abs(), is_negative, padding, sign)
@@ -160,6 +169,9 @@ pub fn fmt_iso_year_century_standard_range<S: Sink>(
         (length (kind_text (standard_century modifier.padding modifier.sign_is_mandatory
         is_negative (unsigned_abs century)))) }
     ensures writes { Puts (S.buffer output.old) (S.buffer output.new) result
+        (kind_text (standard_century modifier.padding modifier.sign_is_mandatory
+        is_negative (unsigned_abs century))) }
+    ensures ends { EndsWhole 3 (S.buffer output.old) (S.buffer output.new)
         (kind_text (standard_century modifier.padding modifier.sign_is_mandatory
         is_negative (unsigned_abs century))) }
 {
@@ -274,6 +286,8 @@ fn write_extended_century<S: Sink>(
         (length (kind_text (extended_century padding sign_is_mandatory is_negative century))) }
     ensures writes { Puts (S.buffer output.old) (S.buffer output.new) result
         (kind_text (extended_century padding sign_is_mandatory is_negative century)) }
+    ensures ends { EndsWhole 5 (S.buffer output.old) (S.buffer output.new)
+        (kind_text (extended_century padding sign_is_mandatory is_negative century)) }
 {
     let number = century.get();
     if number < 100 {
@@ -304,6 +318,8 @@ fn write_standard_century<S: Sink>(
     requires room { Fits (S.buffer output.old)
         (length (kind_text (standard_century padding sign_is_mandatory is_negative century))) }
     ensures writes { Puts (S.buffer output.old) (S.buffer output.new) result
+        (kind_text (standard_century padding sign_is_mandatory is_negative century)) }
+    ensures ends { EndsWhole 3 (S.buffer output.old) (S.buffer output.new)
         (kind_text (standard_century padding sign_is_mandatory is_negative century)) }
 {
     let sign = fmt_sign(output, is_negative, sign_is_mandatory);
