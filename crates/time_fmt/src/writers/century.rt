@@ -6,6 +6,7 @@
 ghost use Rattle.std.specs.Prelude.{◌≡◌, ◌<◌, ◌≤◌, ◌%◌, ◌++◌, MatchOption, decimal, int_lt, length, pos, true, unsigned_abs};
 ghost use Rattle.time_below.specs.declared.format_description.component.Component.TheVariants as component;
 ghost use Rattle.time_fmt.specs.Kind.{kind_text, extended_century, standard_century, century_of};
+ghost use Rattle.time_fmt.specs.Ends.{EndsWhole};
 ghost use Rattle.time_fmt.specs.Sink.{Fits, Puts};
 ghost use Rattle.time_fmt.specs.Text.{padded_text, sign_text};
 
@@ -34,6 +35,9 @@ pub fn fmt_calendar_year_century_extended_range<S: Sink>(
         (length (kind_text (extended_century modifier.padding modifier.sign_is_mandatory
         is_negative (unsigned_abs century)))) }
     ensures writes { Puts (S.buffer output.old) (S.buffer output.new) result
+        (kind_text (extended_century modifier.padding modifier.sign_is_mandatory
+        is_negative (unsigned_abs century))) }
+    ensures ends { EndsWhole 5 (S.buffer output.old) (S.buffer output.new)
         (kind_text (extended_century modifier.padding modifier.sign_is_mandatory
         is_negative (unsigned_abs century))) }
 {
@@ -75,6 +79,9 @@ pub fn fmt_calendar_year_century_standard_range<S: Sink>(
         (length (kind_text (standard_century modifier.padding modifier.sign_is_mandatory
         is_negative (unsigned_abs century)))) }
     ensures writes { Puts (S.buffer output.old) (S.buffer output.new) result
+        (kind_text (standard_century modifier.padding modifier.sign_is_mandatory
+        is_negative (unsigned_abs century))) }
+    ensures ends { EndsWhole 3 (S.buffer output.old) (S.buffer output.new)
         (kind_text (standard_century modifier.padding modifier.sign_is_mandatory
         is_negative (unsigned_abs century))) }
 {
@@ -120,6 +127,9 @@ pub fn fmt_iso_year_century_extended_range<S: Sink>(
     ensures writes { Puts (S.buffer output.old) (S.buffer output.new) result
         (kind_text (extended_century modifier.padding modifier.sign_is_mandatory
         is_negative (unsigned_abs century))) }
+    ensures ends { EndsWhole 5 (S.buffer output.old) (S.buffer output.new)
+        (kind_text (extended_century modifier.padding modifier.sign_is_mandatory
+        is_negative (unsigned_abs century))) }
 {
     let (padding, sign) = (modifier.padding, modifier.sign_is_mandatory);
     write_extended_century(output, century.abs(), is_negative, padding, sign)
@@ -161,6 +171,9 @@ pub fn fmt_iso_year_century_standard_range<S: Sink>(
     ensures writes { Puts (S.buffer output.old) (S.buffer output.new) result
         (kind_text (standard_century modifier.padding modifier.sign_is_mandatory
         is_negative (unsigned_abs century))) }
+    ensures ends { EndsWhole 3 (S.buffer output.old) (S.buffer output.new)
+        (kind_text (standard_century modifier.padding modifier.sign_is_mandatory
+        is_negative (unsigned_abs century))) }
 {
     let (padding, sign) = (modifier.padding, modifier.sign_is_mandatory);
     write_standard_century(output, century.abs(), is_negative, padding, sign)
@@ -198,6 +211,8 @@ pub fn fmt_calendar_year_last_two<S: Sink>(
 ) -> usize
     requires room { Fits (S.buffer output.old) (length (padded_text modifier.padding 2 last_two)) }
     ensures writes { Puts (S.buffer output.old) (S.buffer output.new) result (padded_text modifier.padding 2 last_two) }
+    ensures ends { EndsWhole 2 (S.buffer output.old) (S.buffer output.new)
+        (padded_text modifier.padding 2 last_two) }
 {
     format_two_digits(output, last_two, modifier.padding)
 }
@@ -232,6 +247,8 @@ pub fn fmt_iso_year_last_two<S: Sink>(
 ) -> usize
     requires room { Fits (S.buffer output.old) (length (padded_text modifier.padding 2 last_two)) }
     ensures writes { Puts (S.buffer output.old) (S.buffer output.new) result (padded_text modifier.padding 2 last_two) }
+    ensures ends { EndsWhole 2 (S.buffer output.old) (S.buffer output.new)
+        (padded_text modifier.padding 2 last_two) }
 {
     format_two_digits(output, last_two, modifier.padding)
 }
@@ -269,6 +286,8 @@ fn write_extended_century<S: Sink>(
         (length (kind_text (extended_century padding sign_is_mandatory is_negative century))) }
     ensures writes { Puts (S.buffer output.old) (S.buffer output.new) result
         (kind_text (extended_century padding sign_is_mandatory is_negative century)) }
+    ensures ends { EndsWhole 5 (S.buffer output.old) (S.buffer output.new)
+        (kind_text (extended_century padding sign_is_mandatory is_negative century)) }
 {
     let number = century.get();
     if number < 100 {
@@ -299,6 +318,8 @@ fn write_standard_century<S: Sink>(
     requires room { Fits (S.buffer output.old)
         (length (kind_text (standard_century padding sign_is_mandatory is_negative century))) }
     ensures writes { Puts (S.buffer output.old) (S.buffer output.new) result
+        (kind_text (standard_century padding sign_is_mandatory is_negative century)) }
+    ensures ends { EndsWhole 3 (S.buffer output.old) (S.buffer output.new)
         (kind_text (standard_century padding sign_is_mandatory is_negative century)) }
 {
     let sign = fmt_sign(output, is_negative, sign_is_mandatory);

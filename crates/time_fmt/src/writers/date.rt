@@ -5,6 +5,7 @@ ghost use Rattle.std.specs.Prelude.{◌≡◌, length, take};
 ghost use Rattle.time_below.specs.declared.format_description.component.Component.TheVariants as component;
 ghost use Rattle.time_below.specs.Month.{month_number};
 ghost use Rattle.time_fmt.specs.DateText.{month_name, short_name};
+ghost use Rattle.time_fmt.specs.Ends.{EndsWhole};
 ghost use Rattle.time_fmt.specs.Sink.{Fits, Puts};
 ghost use Rattle.time_fmt.specs.Text.{padded_text};
 
@@ -24,6 +25,8 @@ use time_provide::ranges::{Day, Ordinal};
 pub fn fmt_day<S: Sink>(output: &mut S, day: Day, modifier: modifier::Day) -> usize
     requires room { Fits (S.buffer output.old) (length (padded_text modifier.padding 2 day)) }
     ensures writes { Puts (S.buffer output.old) (S.buffer output.new) result (padded_text modifier.padding 2 day) }
+    ensures ends { EndsWhole 2 (S.buffer output.old) (S.buffer output.new)
+        (padded_text modifier.padding 2 day) }
 {
     format_two_digits(output, day.expand(), modifier.padding)
 }
@@ -126,6 +129,8 @@ pub fn fmt_month_numerical<S: Sink>(
         (length (padded_text modifier.padding 2 (month_number month))) }
     ensures writes { Puts (S.buffer output.old) (S.buffer output.new) result
         (padded_text modifier.padding 2 (month_number month)) }
+    ensures ends { EndsWhole 2 (S.buffer output.old) (S.buffer output.new)
+        (padded_text modifier.padding 2 (month_number month)) }
 {
     format_two_digits(output, ru8::within(u8::from(month)), modifier.padding)
 }
@@ -157,6 +162,8 @@ impl Modifier for modifier::MonthNumerical {
 pub fn fmt_ordinal<S: Sink>(output: &mut S, ordinal: Ordinal, modifier: modifier::Ordinal) -> usize
     requires room { Fits (S.buffer output.old) (length (padded_text modifier.padding 3 ordinal)) }
     ensures writes { Puts (S.buffer output.old) (S.buffer output.new) result (padded_text modifier.padding 3 ordinal) }
+    ensures ends { EndsWhole 3 (S.buffer output.old) (S.buffer output.new)
+        (padded_text modifier.padding 3 ordinal) }
 {
     format_three_digits(output, ordinal.expand(), modifier.padding)
 }

@@ -1,6 +1,7 @@
 //! Numbers, and the signs before them.
 ghost use Rattle.std.specs.Prelude.{◌≡◌, ◌<◌, ◌≤◌, length, decimal, replicate};
 ghost use Rattle.time_digits.specs.Digits.{fixed, zero_padded};
+ghost use Rattle.time_fmt.specs.Ends.{EndsWhole};
 ghost use Rattle.time_fmt.specs.Sink.{Fits, Puts};
 ghost use Rattle.time_fmt.specs.Text.{padded_text, sign_text};
 
@@ -55,9 +56,11 @@ pub fn format_two_digits_pad_zero<S: Sink>(output: &mut S, value: ru8<0, 99>) ->
 
 /// Appends a number of at most two digits, padded to two places as `padding` says.
 #[inline(always)]
+#[tactic(auto, using(crate::proofs::TextLemmas::text_lengths))]
 pub fn format_two_digits<S: Sink>(output: &mut S, value: ru8<0, 99>, padding: Padding) -> usize
     requires room { Fits (S.buffer output.old) (length (padded_text padding 2 value)) }
     ensures writes { Puts (S.buffer output.old) (S.buffer output.new) result (padded_text padding 2 value) }
+    ensures ends { EndsWhole 2 (S.buffer output.old) (S.buffer output.new) (padded_text padding 2 value) }
 {
     match padding {
         Padding::Zero => write_pair(output, two_digits_zero_padded(value)),
@@ -94,9 +97,11 @@ fn write_two_places<S: Sink>(output: &mut S, value: ru8<0, 99>, padding: Padding
 
 /// Appends a number of at most three digits, padded to three places as `padding` says.
 #[inline]
+#[tactic(auto, using(crate::proofs::TextLemmas::text_lengths))]
 pub fn format_three_digits<S: Sink>(output: &mut S, value: ru16<0, 999>, padding: Padding) -> usize
     requires room { Fits (S.buffer output.old) (length (padded_text padding 3 value)) }
     ensures writes { Puts (S.buffer output.old) (S.buffer output.new) result (padded_text padding 3 value) }
+    ensures ends { EndsWhole 3 (S.buffer output.old) (S.buffer output.new) (padded_text padding 3 value) }
 {
     match padding {
         Padding::Zero => write_many(output, &three_digits_zero_padded(value)),

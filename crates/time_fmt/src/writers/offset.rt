@@ -4,6 +4,7 @@
 ghost use Rattle.std.specs.Prelude.{length, unsigned_abs};
 ghost use Rattle.time_below.specs.declared.format_description.component.Component.TheVariants as component;
 ghost use Rattle.time_fmt.specs.Kind.{kind_text, offset_hour};
+ghost use Rattle.time_fmt.specs.Ends.{EndsWhole};
 ghost use Rattle.time_fmt.specs.Sink.{Fits, Puts};
 ghost use Rattle.time_fmt.specs.Text.{padded_text};
 
@@ -69,6 +70,8 @@ pub fn fmt_offset_minute<S: Sink>(
         (length (padded_text modifier.padding 2 (unsigned_abs minute))) }
     ensures writes { Puts (S.buffer output.old) (S.buffer output.new) result
         (padded_text modifier.padding 2 (unsigned_abs minute)) }
+    ensures ends { EndsWhole 2 (S.buffer output.old) (S.buffer output.new)
+        (padded_text modifier.padding 2 (unsigned_abs minute)) }
 {
     format_two_digits(output, minute.abs().expand(), modifier.padding)
 }
@@ -103,6 +106,8 @@ pub fn fmt_offset_second<S: Sink>(
     requires room { Fits (S.buffer output.old)
         (length (padded_text modifier.padding 2 (unsigned_abs second))) }
     ensures writes { Puts (S.buffer output.old) (S.buffer output.new) result
+        (padded_text modifier.padding 2 (unsigned_abs second)) }
+    ensures ends { EndsWhole 2 (S.buffer output.old) (S.buffer output.new)
         (padded_text modifier.padding 2 (unsigned_abs second)) }
 {
     format_two_digits(output, second.abs().expand(), modifier.padding)

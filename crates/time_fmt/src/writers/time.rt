@@ -3,6 +3,7 @@
 
 ghost use Rattle.std.specs.Prelude.{◌≡◌, length};
 ghost use Rattle.time_below.specs.declared.format_description.component.Component.TheVariants as component;
+ghost use Rattle.time_fmt.specs.Ends.{EndsWhole};
 ghost use Rattle.time_fmt.specs.Sink.{Fits, Puts};
 ghost use Rattle.time_fmt.specs.Text.{padded_text, hour_12, period_text};
 
@@ -22,6 +23,8 @@ use time_provide::ranges::{Hours, Minutes, Seconds};
 pub fn fmt_hour_12<S: Sink>(output: &mut S, hour: Hours, modifier: modifier::Hour12) -> usize
     requires room { Fits (S.buffer output.old) (length (padded_text modifier.padding 2 (hour_12 hour))) }
     ensures writes { Puts (S.buffer output.old) (S.buffer output.new) result
+        (padded_text modifier.padding 2 (hour_12 hour)) }
+    ensures ends { EndsWhole 2 (S.buffer output.old) (S.buffer output.new)
         (padded_text modifier.padding 2 (hour_12 hour)) }
 {
     format_two_digits(output, on_the_dial(hour), modifier.padding)
@@ -52,6 +55,8 @@ impl Modifier for modifier::Hour12 {
 pub fn fmt_hour_24<S: Sink>(output: &mut S, hour: Hours, modifier: modifier::Hour24) -> usize
     requires room { Fits (S.buffer output.old) (length (padded_text modifier.padding 2 hour)) }
     ensures writes { Puts (S.buffer output.old) (S.buffer output.new) result (padded_text modifier.padding 2 hour) }
+    ensures ends { EndsWhole 2 (S.buffer output.old) (S.buffer output.new)
+        (padded_text modifier.padding 2 hour) }
 {
     format_two_digits(output, hour.expand(), modifier.padding)
 }
@@ -81,6 +86,8 @@ impl Modifier for modifier::Hour24 {
 pub fn fmt_minute<S: Sink>(output: &mut S, minute: Minutes, modifier: modifier::Minute) -> usize
     requires room { Fits (S.buffer output.old) (length (padded_text modifier.padding 2 minute)) }
     ensures writes { Puts (S.buffer output.old) (S.buffer output.new) result (padded_text modifier.padding 2 minute) }
+    ensures ends { EndsWhole 2 (S.buffer output.old) (S.buffer output.new)
+        (padded_text modifier.padding 2 minute) }
 {
     format_two_digits(output, minute.expand(), modifier.padding)
 }
@@ -146,6 +153,8 @@ impl Modifier for modifier::Period {
 pub fn fmt_second<S: Sink>(output: &mut S, second: Seconds, modifier: modifier::Second) -> usize
     requires room { Fits (S.buffer output.old) (length (padded_text modifier.padding 2 second)) }
     ensures writes { Puts (S.buffer output.old) (S.buffer output.new) result (padded_text modifier.padding 2 second) }
+    ensures ends { EndsWhole 2 (S.buffer output.old) (S.buffer output.new)
+        (padded_text modifier.padding 2 second) }
 {
     format_two_digits(output, second.expand(), modifier.padding)
 }

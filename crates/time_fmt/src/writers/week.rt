@@ -6,6 +6,7 @@ ghost use Rattle.time_below.specs.Calendar.{from_sunday};
 ghost use Rattle.time_below.specs.declared.format_description.component.Component.TheVariants as component;
 ghost use Rattle.time_below.specs.Weekday.{days_from_monday};
 ghost use Rattle.time_fmt.specs.DateText.{weekday_name, short_name, indexed};
+ghost use Rattle.time_fmt.specs.Ends.{EndsWhole};
 ghost use Rattle.time_fmt.specs.Sink.{Fits, Puts};
 ghost use Rattle.time_fmt.specs.Text.{padded_text};
 
@@ -188,6 +189,8 @@ pub fn fmt_week_number_iso<S: Sink>(
 ) -> usize
     requires room { Fits (S.buffer output.old) (length (padded_text modifier.padding 2 week)) }
     ensures writes { Puts (S.buffer output.old) (S.buffer output.new) result (padded_text modifier.padding 2 week) }
+    ensures ends { EndsWhole 2 (S.buffer output.old) (S.buffer output.new)
+        (padded_text modifier.padding 2 week) }
 {
     format_two_digits(output, week.expand(), modifier.padding)
 }
@@ -222,6 +225,8 @@ pub fn fmt_week_number_sunday<S: Sink>(
 ) -> usize
     requires room { Fits (S.buffer output.old) (length (padded_text modifier.padding 2 week)) }
     ensures writes { Puts (S.buffer output.old) (S.buffer output.new) result (padded_text modifier.padding 2 week) }
+    ensures ends { EndsWhole 2 (S.buffer output.old) (S.buffer output.new)
+        (padded_text modifier.padding 2 week) }
 {
     format_two_digits(output, week.expand(), modifier.padding)
 }
@@ -256,6 +261,8 @@ pub fn fmt_week_number_monday<S: Sink>(
 ) -> usize
     requires room { Fits (S.buffer output.old) (length (padded_text modifier.padding 2 week)) }
     ensures writes { Puts (S.buffer output.old) (S.buffer output.new) result (padded_text modifier.padding 2 week) }
+    ensures ends { EndsWhole 2 (S.buffer output.old) (S.buffer output.new)
+        (padded_text modifier.padding 2 week) }
 {
     format_two_digits(output, week.expand(), modifier.padding)
 }

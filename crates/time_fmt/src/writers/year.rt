@@ -5,6 +5,7 @@
 
 ghost use Rattle.std.specs.Prelude.{◌≡◌, ◌<◌, MatchOption, length, unsigned_abs};
 ghost use Rattle.time_below.specs.declared.format_description.component.Component.TheVariants as component;
+ghost use Rattle.time_fmt.specs.Ends.{EndsWhole};
 ghost use Rattle.time_fmt.specs.Kind.{kind_text, extended_year, standard_year};
 ghost use Rattle.time_fmt.specs.Sink.{Fits, Puts};
 ghost use Rattle.time_fmt.specs.Text.{padded_text};
@@ -32,6 +33,8 @@ pub fn fmt_calendar_year_full_extended_range<S: Sink>(
     requires room { Fits (S.buffer output.old)
         (length (kind_text (extended_year modifier.padding modifier.sign_is_mandatory year))) }
     ensures writes { Puts (S.buffer output.old) (S.buffer output.new) result
+        (kind_text (extended_year modifier.padding modifier.sign_is_mandatory year)) }
+    ensures ends { EndsWhole 7 (S.buffer output.old) (S.buffer output.new)
         (kind_text (extended_year modifier.padding modifier.sign_is_mandatory year)) }
 {
     write_extended_year(output, year, modifier.padding, modifier.sign_is_mandatory)
@@ -108,6 +111,8 @@ pub fn fmt_iso_year_full_extended_range<S: Sink>(
         (length (kind_text (extended_year modifier.padding modifier.sign_is_mandatory year))) }
     ensures writes { Puts (S.buffer output.old) (S.buffer output.new) result
         (kind_text (extended_year modifier.padding modifier.sign_is_mandatory year)) }
+    ensures ends { EndsWhole 7 (S.buffer output.old) (S.buffer output.new)
+        (kind_text (extended_year modifier.padding modifier.sign_is_mandatory year)) }
 {
     write_extended_year(output, year, modifier.padding, modifier.sign_is_mandatory)
 }
@@ -182,6 +187,8 @@ fn write_extended_year<S: Sink>(
     requires room { Fits (S.buffer output.old)
         (length (kind_text (extended_year padding sign_is_mandatory year))) }
     ensures writes { Puts (S.buffer output.old) (S.buffer output.new) result
+        (kind_text (extended_year padding sign_is_mandatory year)) }
+    ensures ends { EndsWhole 7 (S.buffer output.old) (S.buffer output.new)
         (kind_text (extended_year padding sign_is_mandatory year)) }
 {
     let number = year.get();
