@@ -1,5 +1,5 @@
 -- A component that is not deprecated is its own current one, with its outcome; that of a deprecated one is no wider.
-use Rattle.std.proofs.Common.{◌≡◌, ◌∙◌, ◌≤◌, IsTrue, true, false, ap, refl, arith, Result}
+use Rattle.std.proofs.Common.{◌≡◌, ◌∙◌, ◌≤◌, IsTrue, true, false, ap, refl, arith}
 use Rattle.std.proofs.lemmas.Grind.{common_steps}
 use Rattle.time_below.specs.Conversion.{current_component, is_current}
 use Rattle.time_below.specs.declared.format_description.component.Component.{Component}
@@ -7,11 +7,7 @@ use Rattle.time_below.specs.Facts.{Facts}
 use Rattle.time_below.specs.Group.{group_of}
 use Rattle.time_below.specs.Width.{component_width}
 use Rattle.time_fmt.specs.Description.{has_group, supplied_outcome, current_outcome, component_outcome}
-use Rattle.time_fmt.specs.Ends.{Ends}
 use Rattle.time_fmt.specs.Outcome.{refused, insufficient}
-use Rattle.time_fmt.specs.Sink.{Buffer}
-use Rattle.time_fmt.specs.declared.refused.Refused.{Refused}
-use Rattle.time_fmt.proofs.EndLemmas.{ends_within}
 
 -- a component that is not deprecated stays
 pub current_is_kept : (c : Component) → IsTrue (is_current c) → current_component c ≡ c
@@ -33,11 +29,3 @@ current_is_current c = grind (arith, common_steps)
 -- the text in the place of a deprecated component is no wider
 pub current_fits : (c : Component) → component_width (current_component c) ≤ component_width c
 current_fits c = grind (arith, common_steps)
-
--- what the current one writes is what the component does
-pub current_ends : {answer : Result Unit Refused} {old new : Buffer} (c d : Component) (f : Facts) → d ≡ current_component c
-    → Ends (component_width d) old new answer (component_outcome d f)
-    → Ends (component_width c) old new answer (component_outcome c f)
-current_ends c d f is ends =
-    let same = ap (λ e. current_outcome e f) (ap current_component is ∙ current_is_current c) in
-    ends_within (rw same at ends) (rw (← is) at (current_fits c))

@@ -1,5 +1,5 @@
 -- What a description gives for the components of a value.
-use Rattle.std.specs.Prelude.{Bool, true, false, ◌%◌, [], is_some, pos, int_lt, unsigned_abs}
+use Rattle.std.specs.Prelude.{Bool, true, ◌%◌, [], is_some, pos, int_lt, unsigned_abs}
 use Rattle.std.specs.Prelude.{if◌then◌else◌}
 use Rattle.time_below.specs.Conversion.{current_component}
 use Rattle.time_below.specs.declared.format_description.component.Component.{Component}
@@ -74,26 +74,7 @@ kind_of (component.UnixTimestampSecond m) f = timestamp m.sign_is_mandatory (the
 kind_of (component.UnixTimestampMillisecond m) f = timestamp m.sign_is_mandatory (milliseconds (the_moment f))
 kind_of c f = kind.empty
 
--- whether it is among those that most descriptions have
-abbrev pub is_often : Component → Bool
-is_often (component.Day m) = true
-is_often (component.MonthShort m) = true
-is_often (component.MonthLong m) = true
-is_often (component.MonthNumerical m) = true
-is_often (component.WeekdayShort m) = true
-is_often (component.WeekdayMonday m) = true
-is_often (component.CalendarYearFullExtendedRange m) = true
-is_often (component.Hour12 m) = true
-is_often (component.Hour24 m) = true
-is_often (component.Minute m) = true
-is_often (component.Period m) = true
-is_often (component.Second m) = true
-is_often (component.Subsecond m) = true
-is_often (component.OffsetHour m) = true
-is_often (component.OffsetMinute m) = true
-is_often c = false
-
--- the outcome of a component of a value that supplies its group
+-- its outcome
 abbrev pub supplied_outcome : Component → Facts → Outcome
 supplied_outcome c f = kind_outcome (kind_of c f)
 

@@ -1,8 +1,8 @@
 //! The engine for one component.
-ghost use Rattle.std.specs.Prelude.{◌≡◌, ◌+◌, ◌≤◌, IfNone, IsUtf8, MatchOption, false, vec_len};
+ghost use Rattle.std.specs.Prelude.{◌≡◌, ◌+◌, ◌≤◌, IsUtf8, MatchOption, false, vec_len};
 ghost use Rattle.time_below.specs.Conversion.{is_current};
 ghost use Rattle.time_below.specs.Width.{component_width};
-ghost use Rattle.time_fmt.specs.Description.{component_outcome, is_often};
+ghost use Rattle.time_fmt.specs.Description.{component_outcome};
 ghost use Rattle.time_fmt.specs.Ends.{Ends};
 ghost use Rattle.time_fmt.specs.Outcome.{Appends};
 ghost use Rattle.time_fmt.specs.Room.{HasRoom};
@@ -38,7 +38,6 @@ pub fn write_often<S: Sink, V: ComponentProvider>(
     ensures writes { MatchOption result (S.buffer output.new ≡ S.buffer output.old)
         (λ answer. Ends (component_width component) (S.buffer output.old) (S.buffer output.new) answer
         (component_outcome component (V.facts value.now))) × V.agrees state.new value.now }
-    ensures other { IfNone result (is_often component ≡ false) }
 {
     each!(component, [
         Day MonthShort MonthLong MonthNumerical WeekdayShort WeekdayMonday
@@ -47,30 +46,36 @@ pub fn write_often<S: Sink, V: ComponentProvider>(
     ], part => write_part(part, output, value, state), _ => None)
 }
 
-/// Appends the text of a component that is seldom met and not deprecated. Returns its refusal, if it is
-/// refused. Of any other component writes nothing and returns `None`.
+/// Appends the text of a component that is not deprecated. Returns its refusal, if it is refused. Of one
+/// that is deprecated writes nothing and returns `None`.
 #[inline(always)]
-pub(crate) fn write_other<S: Sink, V: ComponentProvider>(
+pub(crate) fn write_current<S: Sink, V: ComponentProvider>(
     component: Component,
     output: &mut S,
     value: &V,
     state: &mut V::State,
 ) -> Option<Result<(), Refused>>
     requires ready { Ready (S.buffer output.old) (component_width component) (V.agrees state.old value.now) }
-    ensures writes { MatchOption result (S.buffer output.new ≡ S.buffer output.old)
+    ensures writes { MatchOption result ((S.buffer output.new ≡ S.buffer output.old) × (is_current component ≡ false))
         (λ answer. Ends (component_width component) (S.buffer output.old) (S.buffer output.new) answer
         (component_outcome component (V.facts value.now))) × V.agrees state.new value.now }
-    ensures other { IfNone result (is_often component ≡ is_current component) }
 {
     each!(component, [
-        Ordinal WeekdayLong WeekdaySunday WeekNumberIso WeekNumberSunday WeekNumberMonday
+        Day MonthShort MonthLong MonthNumerical Ordinal WeekdayShort WeekdayLong WeekdaySunday
+        WeekdayMonday WeekNumberIso WeekNumberSunday WeekNumberMonday CalendarYearFullExtendedRange
         CalendarYearFullStandardRange CalendarYearCenturyExtendedRange
         CalendarYearCenturyStandardRange CalendarYearLastTwo IsoYearFullExtendedRange
         IsoYearFullStandardRange IsoYearCenturyExtendedRange IsoYearCenturyStandardRange
-        IsoYearLastTwo OffsetSecond UnixTimestampSecond UnixTimestampMillisecond
+        IsoYearLastTwo Hour12 Hour24 Minute Period Second Subsecond OffsetHour OffsetMinute
+        OffsetSecond UnixTimestampSecond UnixTimestampMillisecond
     ], part => write_rare(part, output, value, state),
         Component::Ignore(_) | Component::End(_) => Some(Ok(())),
-        _ => None,
+        Component::Month(_)
+        | Component::Weekday(_)
+        | Component::WeekNumber(_)
+        | Component::Hour(_)
+        | Component::UnixTimestamp(_)
+        | Component::Year(_) => None,
     )
 }
 
@@ -93,23 +98,6 @@ fn write_rare<M: Modifier, S: Sink, V: ComponentProvider>(
     write_part(part, output, value, state)
 }
 
-// Appends the text of a component that is met often, by a call that is not inlined.
-#[inline(never)]
-fn write_often_apart<S: Sink, V: ComponentProvider>(
-    component: Component,
-    output: &mut S,
-    value: &V,
-    state: &mut V::State,
-) -> Option<Result<(), Refused>>
-    requires ready { Ready (S.buffer output.old) (component_width component) (V.agrees state.old value.now) }
-    ensures writes { MatchOption result (S.buffer output.new ≡ S.buffer output.old)
-        (λ answer. Ends (component_width component) (S.buffer output.old) (S.buffer output.new) answer
-        (component_outcome component (V.facts value.now))) × V.agrees state.new value.now }
-    ensures other { IfNone result (is_often component ≡ false) }
-{
-    write_often(component, output, value, state)
-}
-
 /// Appends the text of any component, of a deprecated one that of the current one in its place. Returns
 /// its refusal, if it is refused.
 #[inline]
@@ -125,14 +113,10 @@ pub fn end_component<S: Sink, V: ComponentProvider>(
         (component_outcome component (V.facts value.now)) }
     ensures agrees { V.agrees state.new value.now }
 {
-    let current = component.current();
-    match write_other(current, output, value, state) {
+    match write_current(component.current(), output, value, state) {
         Some(answer) => answer,
-        None => match write_often_apart(current, output, value, state) {
-            Some(answer) => answer,
-            // No current component is deprecated.
-            None => Ok(()),
-        },
+        // No current component is deprecated.
+        None => Ok(()),
     }
 }
 

@@ -5,7 +5,7 @@ ghost use Rattle.time_below.specs.Width.{tree_width, trees_width};
 ghost use Rattle.time_fmt.specs.Guarantee.{AppendsLeaf, AppendsTree};
 ghost use Rattle.time_fmt.specs.Sink.{Fits};
 
-use crate::component::{end_component, write_often, write_other};
+use crate::component::{end_component, write_current, write_often};
 use crate::refused::Refused;
 use crate::sink::Sink;
 use crate::writers::{write, write_bytes, write_literal};
@@ -99,7 +99,7 @@ fn write_seldom<T: Node, S: Sink, V: ComponentProvider>(
     ensures agrees { V.agrees state.new value.now }
 {
     match node.layer() {
-        Layer::Component(component) => write_other(component, output, value, state),
+        Layer::Component(component) => write_current(component, output, value, state),
         _ => None,
     }
 }

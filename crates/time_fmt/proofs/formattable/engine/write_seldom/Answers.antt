@@ -3,5 +3,5 @@ use Rattle.time_fmt.proofs.formattable.engine.write_seldom.Goals as goal
 
 pub returns-in-Component-clause-appends : goal.returns-in-Component-clause-appends
 returns-in-Component-clause-appends g c = rw (← c.in-Component.ensures.tree)
-    (leaf_of_written c.write_other.result c.in-Component.component (g.V.ComponentProvider.facts c.args.value.now)
-    (g.S.Sink.buffer c.args.output.now) (g.S.Sink.buffer c.write_other.new.output) (λ same. same) c.write_other.ensures.writes.0)
+    (leaf_of_written c.write_current.result c.in-Component.component (g.V.ComponentProvider.facts c.args.value.now)
+    (g.S.Sink.buffer c.args.output.now) (g.S.Sink.buffer c.write_current.new.output) (λ nothing. nothing.0) c.write_current.ensures.writes.0)
