@@ -55,10 +55,13 @@ pub appended_whole : {k : ℕ} {o : Outcome} (found : Option ℕ) (old new : Vec
     → MatchOption found (new ≡ old) (λ n. AppendsUpTo (iso8601_width c) old new (Ok n) (iso8601_outcome c f))
 appended_whole found old new c f g h = rw (g.outcome, g.width) h
 
--- a date alone
-pub date_alone : {date time offset moment : Bool} (c : Choices) (f : Facts) → c.formatted_components ≡ components.Date
-    → SuppliesParts c date time offset → Supplies date time offset moment f → Gives c f (iso_date_width c) (iso_date c (the_date f))
-date_alone c f e supplied groups = record { outcome = grind (arith, common_steps); width = grind arith }
+-- what is appended of a date alone is the whole text
+pub date_alone : {date time offset moment : Bool} (found : Option ℕ) (old new : Vec ℕ Global) (c : Choices) (f : Facts)
+    → c.formatted_components ≡ components.Date → SuppliesParts c date time offset → Supplies date time offset moment f
+    → MatchOption found (new ≡ old) (λ n. AppendsUpTo (iso_date_width c) old new (Ok n) (iso_date c (the_date f)))
+    → MatchOption found (new ≡ old) (λ n. AppendsUpTo (iso8601_width c) old new (Ok n) (iso8601_outcome c f))
+date_alone found old new c f e supplied groups =
+    appended_whole found old new c f (record { outcome = grind (arith, common_steps); width = grind arith })
 
 -- a time alone
 pub time_alone : {date time offset moment : Bool} (c : Choices) (f : Facts) → c.formatted_components ≡ components.Time

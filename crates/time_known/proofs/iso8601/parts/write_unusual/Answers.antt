@@ -4,27 +4,23 @@ use Rattle.time_known.proofs.iso8601.parts.write_unusual.Goals as goal
 
 pub returns-in-CalendarDate-clause-appends : goal.returns-in-CalendarDate-clause-appends
 returns-in-CalendarDate-clause-appends g c =
-    appended_whole _ _ _ _ _ (date_alone c.args.config.now (g.V.ComponentProvider.facts c.args.value.now)
-    (rw c.in-CalendarDate.is at c.requires.fits).0 c.requires.supplied (g.met.V.ComponentProvider.groups c.args.value.now))
-    c.write_date_by.ensures.appends
+    date_alone _ _ _ c.args.config.now (g.V.ComponentProvider.facts c.args.value.now) (rw c.in-CalendarDate.is at c.requires.fits).0
+    c.requires.supplied (g.met.V.ComponentProvider.groups c.args.value.now) c.write_date_by.ensures.appends
 
 pub returns-in-WeekDate-clause-appends : goal.returns-in-WeekDate-clause-appends
 returns-in-WeekDate-clause-appends g c =
-    appended_whole _ _ _ _ _ (date_alone c.args.config.now (g.V.ComponentProvider.facts c.args.value.now)
-    (rw c.in-WeekDate.is at c.requires.fits).0 c.requires.supplied (g.met.V.ComponentProvider.groups c.args.value.now))
-    c.write_date_by-in-WeekDate.ensures.appends
+    date_alone _ _ _ c.args.config.now (g.V.ComponentProvider.facts c.args.value.now) (rw c.in-WeekDate.is at c.requires.fits).0
+    c.requires.supplied (g.met.V.ComponentProvider.groups c.args.value.now) c.write_date_by-in-WeekDate.ensures.appends
 
 pub returns-in-OrdinalDate-clause-appends : goal.returns-in-OrdinalDate-clause-appends
 returns-in-OrdinalDate-clause-appends g c =
-    appended_whole _ _ _ _ _ (date_alone c.args.config.now (g.V.ComponentProvider.facts c.args.value.now)
-    (rw c.in-OrdinalDate.is at c.requires.fits).0.0 c.requires.supplied (g.met.V.ComponentProvider.groups c.args.value.now))
-    c.write_date_by-in-OrdinalDate.ensures.appends
+    date_alone _ _ _ c.args.config.now (g.V.ComponentProvider.facts c.args.value.now) (rw c.in-OrdinalDate.is at c.requires.fits).0.0
+    c.requires.supplied (g.met.V.ComponentProvider.groups c.args.value.now) c.write_date_by-in-OrdinalDate.ensures.appends
 
 pub returns-in-CompactOrdinalDate-clause-appends : goal.returns-in-CompactOrdinalDate-clause-appends
 returns-in-CompactOrdinalDate-clause-appends g c =
-    appended_whole _ _ _ _ _ (date_alone c.args.config.now (g.V.ComponentProvider.facts c.args.value.now)
-    (rw c.in-CompactOrdinalDate.is at c.requires.fits).0.0 c.requires.supplied (g.met.V.ComponentProvider.groups c.args.value.now))
-    c.write_date_by-in-CompactOrdinalDate.ensures.appends
+    date_alone _ _ _ c.args.config.now (g.V.ComponentProvider.facts c.args.value.now) (rw c.in-CompactOrdinalDate.is at c.requires.fits).0.0
+    c.requires.supplied (g.met.V.ComponentProvider.groups c.args.value.now) c.write_date_by-in-CompactOrdinalDate.ensures.appends
 
 pub returns-in-Time-clause-appends : goal.returns-in-Time-clause-appends
 returns-in-Time-clause-appends g c =
