@@ -55,6 +55,7 @@ impl<'a> ItemRoom<'a> {
     #[tactic(auto, using(crate::proofs::ItemLemmas::cleared))]
     pub fn clear(&mut self)
         ensures cleared { DescribeNothing self.new.array.now }
+        ensures count { self.new.count ≡ self.old.count }
         ensures len { length self.new.array.now ≡ length self.old.array.now }
         ensures same_reference { self.new.array.ghost_name ≡ self.old.array.ghost_name }
     {
