@@ -112,7 +112,6 @@ impl CalendarDay {
 
     // Two digits of the month, and two of the day.
     #[inline]
-    #[tactic(auto, using(crate::proofs::DayLemmas::digits_of_days))]
     pub(crate) fn digits(self) -> (&'static str, &'static str)
         ensures month { result.0.now ≡ zero_padded 2 (month_and_day self).month }
         ensures day { result.1.now ≡ zero_padded 2 (month_and_day self).day }
@@ -133,7 +132,6 @@ impl CalendarDay {
 
     // The first letter of the month's English name, and the next two.
     #[inline]
-    #[tactic(auto, using(crate::proofs::DayLemmas::names_of_days))]
     pub(crate) fn month_letters(self) -> (&'static str, &'static str)
         ensures text { result.0.now ++ result.1.now
             ≡ short_name (month_name (month_and_day self).month) }
@@ -152,7 +150,6 @@ impl CalendarDay {
 
 // Three digits of a day of the year, after a dash if it is wanted, in two pieces.
 #[inline]
-#[tactic(auto, using(crate::proofs::DayLemmas::digits_of_ordinals))]
 pub(crate) fn ordinal_digits(day: Ordinal, has_dash: bool) -> (&'static str, &'static str)
     ensures digits { result.0.now ++ result.1.now ≡ dash has_dash ++ zero_padded 3 day }
     ensures first { length result.0.now ≡ 1 + length (dash has_dash) }

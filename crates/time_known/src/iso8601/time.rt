@@ -220,7 +220,6 @@ fn put_decimals<S: Sink>(
 
 // Puts the first `digits` decimals of `rest / unit`, not rounded, by a call that borrows a sink that is taken out.
 #[inline]
-#[tactic(auto, using(crate::proofs::iso8601::LengthLemmas::decimal_lengths))]
 pub(super) fn put_long_division<S: Sink>(output: &mut S, rest: u64, unit: u64, digits: ru8<1, 255>)
     requires part { rest < unit }
     requires unit { unit ≤ NANOSECONDS_PER_HOUR }
