@@ -55,7 +55,6 @@ pub fn format_two_digits_pad_zero<S: Sink>(output: &mut S, value: ru8<0, 99>) ->
 
 /// Appends a number of at most two digits, padded to two places as `padding` says.
 #[inline(always)]
-#[tactic(auto, using(crate::proofs::TextLemmas::text_lengths))]
 pub fn format_two_digits<S: Sink>(output: &mut S, value: ru8<0, 99>, padding: Padding) -> usize
     requires room { Fits (S.buffer output.old) (length (padded_text padding 2 value)) }
     ensures writes { Puts (S.buffer output.old) (S.buffer output.new) result (padded_text padding 2 value) }
