@@ -11,6 +11,7 @@ pub mod NumberLemmas
 pub mod PartLemmas
 pub mod RoomLemmas
 pub mod RunLemmas
+pub mod Steps
 pub mod TextLemmas
 pub mod TrimLemmas
 pub mod WriteLemmas

@@ -71,7 +71,6 @@ impl<B: Before> Sink for RoomSink<'_, B> {
     }
 
     #[inline]
-    #[tactic(auto, using(crate::proofs::RoomLemmas::still_behind))]
     fn put_first(&mut self, bytes: [u8; 9], count: usize) {
         let at = self.len;
         self.len = at + count;

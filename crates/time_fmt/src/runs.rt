@@ -1,6 +1,4 @@
 //! A date and a time of day in one step, with a byte between each two parts.
-#![tactic(auto, using(crate::proofs::TextLemmas::signed_parts))]
-
 ghost use Rattle.std.specs.Prelude.{◌≡◌, ◌+◌, ◌≤◌, ◌<◌, IsTrue, length};
 ghost use Rattle.time_below.specs.Facts.{the_date, the_time};
 ghost use Rattle.time_below.specs.Month.{month_number};

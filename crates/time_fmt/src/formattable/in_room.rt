@@ -33,7 +33,6 @@ pub fn write_into_room<T: Node, V: ComponentProvider>(
 }
 
 // Writes it to a buffer that held these bytes before.
-#[tactic(auto, using(crate::proofs::RoomLemmas::room_written))]
 fn write_before<B: Before, T: Node, V: ComponentProvider>(
     nodes: &[T],
     room: &mut [u8],

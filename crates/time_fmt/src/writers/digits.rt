@@ -35,7 +35,6 @@ pub fn fmt_sign<S: Sink>(output: &mut S, is_negative: bool, sign_is_mandatory: b
 
 /// Appends one digit.
 #[inline(always)]
-#[tactic(auto, using(std::proofs::lemmas::Fmt::decimal_digit))]
 pub fn format_single_digit<S: Sink>(output: &mut S, value: ru8<0, 9>) -> usize
     requires room { Fits (S.buffer output.old) (length (decimal value)) }
     ensures writes { Puts (S.buffer output.old) (S.buffer output.new) result (decimal value) }
@@ -56,7 +55,6 @@ pub fn format_two_digits_pad_zero<S: Sink>(output: &mut S, value: ru8<0, 99>) ->
 
 /// Appends a number of at most two digits, padded to two places as `padding` says.
 #[inline(always)]
-#[tactic(auto, using(crate::proofs::TextLemmas::text_lengths))]
 pub fn format_two_digits<S: Sink>(output: &mut S, value: ru8<0, 99>, padding: Padding) -> usize
     requires room { Fits (S.buffer output.old) (length (padded_text padding 2 value)) }
     ensures writes { Puts (S.buffer output.old) (S.buffer output.new) result (padded_text padding 2 value) }
@@ -139,7 +137,6 @@ fn write_four_rarely<S: Sink>(output: &mut S, value: ru16<0, 9_999>, padding: Pa
 // Appends four places to a sink that was taken out.
 #[cold]
 #[inline(never)]
-#[tactic(auto, using(crate::proofs::NumberLemmas::number_lengths))]
 fn write_four_places<S: Sink>(output: &mut S, value: ru16<0, 9_999>, padding: Padding) -> usize
     requires room { Fits (S.buffer output.old) (length (padded_text padding 4 value)) }
     ensures writes { Puts (S.buffer output.old) (S.buffer output.new) result (padded_text padding 4 value) }
@@ -184,7 +181,6 @@ pub fn format_six_digits_pad_zero<S: Sink>(output: &mut S, value: ru32<0, 999_99
 /// Appends all digits of a number, and nothing before them. The last eight of nine to sixteen digits are
 /// appended as eight, so that the compiler knows their number.
 #[inline]
-#[tactic(auto, using(crate::proofs::NumberLemmas::eight_after))]
 pub fn format_u64_pad_none<S: Sink>(output: &mut S, value: u64) -> usize
     requires room { Fits (S.buffer output.old) (length (decimal value)) }
     ensures writes { Puts (S.buffer output.old) (S.buffer output.new) result (decimal value) }
@@ -203,7 +199,6 @@ pub fn format_u64_pad_none<S: Sink>(output: &mut S, value: u64) -> usize
 // Appends all digits of a number that has at most eight. Of five to eight the last four have a length
 // that is known.
 #[inline(always)]
-#[tactic(auto, using(crate::proofs::NumberLemmas::four_after))]
 fn write_at_most_eight<S: Sink>(output: &mut S, value: u32) -> usize
     requires most { value < 100_000_000 }
     requires room { Fits (S.buffer output.old) (length (decimal value)) }
@@ -222,7 +217,6 @@ fn write_at_most_eight<S: Sink>(output: &mut S, value: u32) -> usize
 
 /// Appends a number in eight places, with zeros in front.
 #[inline(always)]
-#[tactic(auto, using(crate::proofs::NumberLemmas::eight_digits))]
 pub(super) fn write_eight_digits<S: Sink>(output: &mut S, value: u32) -> usize
     requires digits { value < 100_000_000 }
     requires room { Fits (S.buffer output.old) 8 }
@@ -236,7 +230,6 @@ pub(super) fn write_eight_digits<S: Sink>(output: &mut S, value: u32) -> usize
 
 /// Appends a number in `width` places, with zeros in front, where it has no more digits than that.
 #[inline]
-#[tactic(auto, using(crate::proofs::TextLemmas::zeros_before))]
 pub fn format_int_padded<S: Sink>(output: &mut S, value: u64, width: u8) -> usize
     requires digits { length (decimal value) ≤ width }
     requires room { Fits (S.buffer output.old) (length (zero_padded width value)) }

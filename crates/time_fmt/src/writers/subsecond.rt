@@ -24,7 +24,6 @@ use time_provide::ranges::Nanoseconds;
 
 /// Appends the first decimals of the second, one to nine, or as many as are needed, at least one.
 #[inline(always)]
-#[tactic(auto, using(crate::proofs::TrimLemmas::usual_decimals))]
 pub fn fmt_subsecond<S: Sink>(
     output: &mut S,
     nanosecond: Nanoseconds,
@@ -53,7 +52,6 @@ impl Modifier for modifier::Subsecond {
     }
 
     #[inline(always)]
-    #[tactic(auto, using(crate::proofs::TrimLemmas::subsecond_lengths))]
     fn write_supplied<S: Sink, V: ComponentProvider>(
         self,
         output: &mut S,
@@ -84,7 +82,6 @@ fn write_rare_decimals<S: Sink>(
 // Any number of decimals, of a sink that was taken out.
 #[cold]
 #[inline(never)]
-#[tactic(auto, using(crate::proofs::DecimalLemmas::first_decimals))]
 fn write_first_decimals<S: Sink>(
     output: &mut S,
     nanosecond: Nanoseconds,
@@ -121,7 +118,6 @@ fn write_first_decimals<S: Sink>(
 ///
 /// Returns the number of bytes appended.
 #[inline(always)]
-#[tactic(auto, using(crate::proofs::DecimalLemmas::first_decimals))]
 pub fn write_three_decimals<S: Sink>(output: &mut S, nanosecond: Nanoseconds) -> usize
     requires room { Fits (S.buffer output.old) 3 }
     ensures writes { Puts (S.buffer output.old) (S.buffer output.new) 3 (take 3 (fixed 9 nanosecond)) }
@@ -149,7 +145,6 @@ fn write_three_digits<S: Sink>(output: &mut S, number: ru16<0, 999>) -> usize
 /// Returns the number of bytes appended. Nine digits, milliseconds and microseconds are stored at
 /// once: digits that are read back wait until they are all stored.
 #[inline(always)]
-#[tactic(auto, using(crate::proofs::TrimLemmas::whole_fractions))]
 pub fn write_fraction<S: Sink>(output: &mut S, nanosecond: Nanoseconds) -> usize
     requires room { Fits (S.buffer output.old) (length (trimmed_fraction nanosecond)) }
     ensures writes { Puts (S.buffer output.old) (S.buffer output.new) result (trimmed_fraction nanosecond) }
@@ -184,7 +179,6 @@ fn write_rare_fraction<S: Sink>(output: &mut S, nanosecond: Nanoseconds) -> usiz
 ///
 /// Returns the number of bytes appended.
 #[inline(always)]
-#[tactic(auto, using(crate::proofs::DecimalLemmas::six_digits))]
 pub fn write_six_decimals<S: Sink>(output: &mut S, nanosecond: Nanoseconds) -> usize
     requires room { Fits (S.buffer output.old) 6 }
     ensures writes { Puts (S.buffer output.old) (S.buffer output.new) 6 (take 6 (fixed 9 nanosecond)) }
@@ -201,7 +195,6 @@ pub fn write_six_decimals<S: Sink>(output: &mut S, nanosecond: Nanoseconds) -> u
 ///
 /// Returns the number of bytes appended.
 #[inline(always)]
-#[tactic(auto, using(crate::proofs::DecimalLemmas::nine_digits))]
 pub fn write_nine_digits<S: Sink>(output: &mut S, nanosecond: Nanoseconds) -> usize
     requires room { Fits (S.buffer output.old) 9 }
     ensures writes { Puts (S.buffer output.old) (S.buffer output.new) 9 (fixed 9 nanosecond) }
@@ -228,7 +221,6 @@ fn write_trimmed_fraction<S: Sink>(output: &mut S, nanosecond: Nanoseconds) -> u
 }
 
 // Appends a number in seven places, with zeros in front.
-#[tactic(auto, using(crate::proofs::DecimalLemmas::two_parts))]
 fn format_seven_digits<S: Sink>(output: &mut S, number: u32) -> usize
     requires digits { number < 10_000_000 }
     requires room { Fits (S.buffer output.old) 7 }

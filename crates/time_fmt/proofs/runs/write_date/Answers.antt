@@ -4,6 +4,7 @@ use Rattle.time_below.specs.declared.format_description.modifier.Padding.TheVari
 use Rattle.time_fmt.specs.Kind.{kind_text, extended_year}
 use Rattle.time_fmt.specs.Sink.{Block}
 use Rattle.time_fmt.proofs.RunLemmas.{length-year}
+use Rattle.std.proofs.lemmas.Grind.{common_steps}
 use Rattle.time_fmt.proofs.runs.write_date.Goals as goal
 
 pub fmt_calendar_year_full_extended_range-count-requires : goal.fmt_calendar_year_full_extended_range-count-requires
@@ -30,3 +31,6 @@ pub returns-clause-beside_year : goal.returns-clause-beside_year
 returns-clause-beside_year g c =
     let same = ap (λ (year : ℤ). length (kind_text (extended_year padding.Zero false year))) c.calendar_year-year.ensures.value in
     omega (arith, same, c.fmt_calendar_year_full_extended_range-count.ensures.writes.counted, c.write_two_after.ensures.count)
+
+pub returns-clause-writes : goal.returns-clause-writes
+returns-clause-writes g c = grind (arith, common_steps)

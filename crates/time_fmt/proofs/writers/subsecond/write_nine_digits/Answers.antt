@@ -1,15 +1,21 @@
-use Rattle.std.proofs.Common.{arith, refl, ◌≡◌, ◌+◌}
-use Rattle.time_digits.proofs.LengthLemmas.{length-digit}
-use Rattle.time_fmt.proofs.DecimalLemmas.{nine_parts}
-use Rattle.time_fmt.proofs.EndLemmas.{put_behind}
+use Rattle.std.proofs.Common.{arith}
+use Rattle.time_fmt.proofs.DecimalLemmas.{nine_digits}
 use Rattle.time_fmt.proofs.writers.subsecond.write_nine_digits.Goals as goal
 
 pub returns : goal.returns
-returns g c =
-    let first = c.format_single_digit-first.ensures.writes in
-    let one : c.format_single_digit-first.result ≡ 1 = omega (arith, length-digit c.within.result (omega arith), first.counted) in
-    let five = put_behind (rw one at first) c.format_four_digits_pad_zero.ensures.writes refl in
-    record {
-      writes = put_behind five c.format_four_digits_pad_zero-2.ensures.writes (cc (nine_parts c.args.nanosecond (omega arith)));
-      count = omega arith;
-    }
+returns g c = grind (arith, nine_digits)
+
+pub format_single_digit-first-requires : goal.format_single_digit-first-requires
+format_single_digit-first-requires g c = grind (arith, nine_digits)
+
+pub format_four_digits_pad_zero-requires : goal.format_four_digits_pad_zero-requires
+format_four_digits_pad_zero-requires g c = grind (arith, nine_digits)
+
+pub overflow_add-count : goal.overflow_add-count
+overflow_add-count g c = grind (arith, nine_digits)
+
+pub format_four_digits_pad_zero-requires-2 : goal.format_four_digits_pad_zero-requires-2
+format_four_digits_pad_zero-requires-2 g c = grind (arith, nine_digits)
+
+pub overflow_add-result : goal.overflow_add-result
+overflow_add-result g c = grind (arith, nine_digits)

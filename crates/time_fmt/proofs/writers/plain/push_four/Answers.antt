@@ -1,0 +1,5 @@
+use Rattle.time_fmt.proofs.Steps.{steps}
+use Rattle.time_fmt.proofs.writers.plain.push_four.Goals as goal
+
+pub returns : goal.returns
+returns g c = grind steps
