@@ -9,15 +9,12 @@ use Rattle.std.proofs.lemmas.List.{length-replicate}
 use Rattle.std.proofs.Math.ListN.{length-take}
 use Rattle.time_below.specs.declared.format_description.modifier.Padding.{Padding}
 use Rattle.time_below.specs.declared.format_description.modifier.Padding.TheVariants as padding
-use Rattle.time_below.specs.declared.weekday.Weekday.{Weekday}
-use Rattle.time_below.specs.Calendar.{from_sunday}
-use Rattle.time_below.specs.Weekday.{days_from_monday}
 use Rattle.time_digits.specs.Digits.{padded, zero_padded}
 use Rattle.time_digits.proofs.DigitLemmas.{decimal_longer, padded_whole}
 use Rattle.time_digits.proofs.LengthLemmas.{length-padded, length-padded-le}
 use Rattle.time_fmt.specs.DateText.{month_name, weekday_name, short_name, indexed}
 use Rattle.time_fmt.specs.Text.{padded_text, sign_text}
-use Rattle.time_fmt.proofs.EndLemmas.{whole_text, in_range, beyond_range}
+use Rattle.time_fmt.proofs.EndLemmas.{whole_text}
 use Rattle.std.proofs.lemmas.Grind.{common_steps}
 
 -- ---- numbers
@@ -143,23 +140,9 @@ length-weekday_name n = grind (arith, leb-true, passes_at)
 pub length-short_name : (name : List ℕ) → length (short_name name) ≤ 3
 length-short_name name = omega (arith, length-take 3 name)
 
--- a weekday has fewer than seven days before it in its week
-days_in_week : (w : Weekday) → days_from_monday w ≤ 6
-days_in_week w = grind arith
-
 -- a number of days below seven, counted from 0 or from 1 on
-length-indexed : (one_indexed : Bool) (days : ℕ) → days ≤ 6 → length (decimal (indexed one_indexed days)) ≤ 1
+pub length-indexed : (one_indexed : Bool) (days : ℕ) → days ≤ 6 → length (decimal (indexed one_indexed days)) ≤ 1
 length-indexed one_indexed days h = grind (arith, common_steps, length-decimal-le)
-
--- a weekday is one digit, from Monday
-pub length-monday_digit : (one_indexed : Bool) (w : Weekday)
-    → length (decimal (indexed one_indexed (days_from_monday w))) ≤ 1
-length-monday_digit one_indexed w = length-indexed one_indexed (days_from_monday w) (days_in_week w)
-
--- a weekday that is counted from Sunday has one digit
-pub length-sunday_digit : (one_indexed : Bool) (w : Weekday)
-    → length (decimal (indexed one_indexed (from_sunday (days_from_monday w)))) ≤ 1
-length-sunday_digit one_indexed w = omega (arith, length-indexed, days_in_week)
 
 -- ---- what a writer of a component cites
 
@@ -169,8 +152,7 @@ pub ruleset text_lengths = (
   length-month_name,
   length-weekday_name,
   length-short_name,
-  length-monday_digit,
-  length-sunday_digit,
+  length-indexed,
   whole_text,
 )
 
@@ -182,6 +164,4 @@ pub ruleset signed_lengths = (
   signed_seconds,
   signed_milliseconds,
   whole_text,
-  in_range,
-  beyond_range,
 )

@@ -341,7 +341,7 @@ fn century_of(year: Year) -> (ExtendedCentury, bool)
 #[inline(always)]
 fn standard_century_of(year: Year) -> Option<(StandardCentury, bool)>
     ensures { MatchOption result (99 < century_of year)
-        (λ both. (unsigned_abs both.0 ≡ century_of year) × (both.1 ≡ int_lt year (pos 0))) }
+        (λ both. (unsigned_abs both.0 ≡ century_of year) × (both.1 ≡ int_lt year (pos 0)) × (century_of year ≤ 99)) }
 {
     let number = year.get();
     let century = number.unsigned_abs() / 100;

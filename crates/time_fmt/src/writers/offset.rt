@@ -31,6 +31,8 @@ pub fn fmt_offset_hour<S: Sink>(
         (offset_hour modifier.padding modifier.sign_is_mandatory is_negative hour))) }
     ensures writes { Puts (S.buffer output.old) (S.buffer output.new) result
         (kind_text (offset_hour modifier.padding modifier.sign_is_mandatory is_negative hour)) }
+    ensures ends { EndsWhole 3 (S.buffer output.old) (S.buffer output.new)
+        (kind_text (offset_hour modifier.padding modifier.sign_is_mandatory is_negative hour)) }
 {
     let _room = output.room();
     let sign = fmt_sign(output, is_negative, modifier.sign_is_mandatory);

@@ -113,6 +113,8 @@ pub fn fmt_weekday_sunday<S: Sink>(
         (length (decimal (indexed modifier.one_indexed (from_sunday (days_from_monday weekday))))) }
     ensures writes { Puts (S.buffer output.old) (S.buffer output.new) result
         (decimal (indexed modifier.one_indexed (from_sunday (days_from_monday weekday)))) }
+    ensures ends { EndsWhole 1 (S.buffer output.old) (S.buffer output.new)
+        (decimal (indexed modifier.one_indexed (from_sunday (days_from_monday weekday)))) }
 {
     write_weekday_digit(
         output,
@@ -151,6 +153,8 @@ pub fn fmt_weekday_monday<S: Sink>(
     requires room { Fits (S.buffer output.old)
         (length (decimal (indexed modifier.one_indexed (days_from_monday weekday)))) }
     ensures writes { Puts (S.buffer output.old) (S.buffer output.new) result
+        (decimal (indexed modifier.one_indexed (days_from_monday weekday))) }
+    ensures ends { EndsWhole 1 (S.buffer output.old) (S.buffer output.new)
         (decimal (indexed modifier.one_indexed (days_from_monday weekday))) }
 {
     write_weekday_digit(
@@ -308,6 +312,7 @@ fn write_weekday_digit<S: Sink>(output: &mut S, days: u8, one_indexed: bool) -> 
     requires days { days ≤ 6 }
     requires room { Fits (S.buffer output.old) (length (decimal (indexed one_indexed days))) }
     ensures writes { Puts (S.buffer output.old) (S.buffer output.new) result (decimal (indexed one_indexed days)) }
+    ensures ends { EndsWhole 1 (S.buffer output.old) (S.buffer output.new) (decimal (indexed one_indexed days)) }
 {
     format_single_digit(output, ru8::within(days + u8::from(one_indexed)))
 }

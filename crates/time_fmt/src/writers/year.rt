@@ -3,7 +3,7 @@
 //! The calendar year and the year of the week calendar have the same texts.
 #![tactic(auto, using(crate::proofs::TextLemmas::signed_lengths))]
 
-ghost use Rattle.std.specs.Prelude.{◌≡◌, ◌<◌, MatchOption, length, unsigned_abs};
+ghost use Rattle.std.specs.Prelude.{◌≡◌, ◌<◌, ◌≤◌, MatchOption, length, unsigned_abs};
 ghost use Rattle.time_below.specs.declared.format_description.component.Component.TheVariants as component;
 ghost use Rattle.time_fmt.specs.Ends.{EndsWhole};
 ghost use Rattle.time_fmt.specs.Kind.{kind_text, extended_year, standard_year};
@@ -71,6 +71,8 @@ pub fn fmt_calendar_year_full_standard_range<S: Sink>(
     requires room { Fits (S.buffer output.old)
         (length (kind_text (standard_year modifier.padding modifier.sign_is_mandatory year))) }
     ensures writes { Puts (S.buffer output.old) (S.buffer output.new) result
+        (kind_text (standard_year modifier.padding modifier.sign_is_mandatory year)) }
+    ensures ends { EndsWhole 5 (S.buffer output.old) (S.buffer output.new)
         (kind_text (standard_year modifier.padding modifier.sign_is_mandatory year)) }
 {
     write_standard_year(output, year, modifier.padding, modifier.sign_is_mandatory)
@@ -148,6 +150,8 @@ pub fn fmt_iso_year_full_standard_range<S: Sink>(
     requires room { Fits (S.buffer output.old)
         (length (kind_text (standard_year modifier.padding modifier.sign_is_mandatory year))) }
     ensures writes { Puts (S.buffer output.old) (S.buffer output.new) result
+        (kind_text (standard_year modifier.padding modifier.sign_is_mandatory year)) }
+    ensures ends { EndsWhole 5 (S.buffer output.old) (S.buffer output.new)
         (kind_text (standard_year modifier.padding modifier.sign_is_mandatory year)) }
 {
     write_standard_year(output, year, modifier.padding, modifier.sign_is_mandatory)
@@ -247,6 +251,8 @@ fn write_standard_year<S: Sink>(
         (length (kind_text (standard_year padding sign_is_mandatory year))) }
     ensures writes { Puts (S.buffer output.old) (S.buffer output.new) result
         (kind_text (standard_year padding sign_is_mandatory year)) }
+    ensures ends { EndsWhole 5 (S.buffer output.old) (S.buffer output.new)
+        (kind_text (standard_year padding sign_is_mandatory year)) }
 {
     let sign = fmt_sign(output, year.get() < 0, sign_is_mandatory);
     sign + format_four_digits(output, year.abs(), padding)
@@ -269,7 +275,8 @@ fn write_year_digits<S: Sink>(output: &mut S, year: ru32<0, 999_999>, padding: P
 // The year, if it has at most four digits.
 #[inline(always)]
 fn in_standard_range(year: Year) -> Option<StandardYear>
-    ensures { MatchOption result (9_999 < unsigned_abs year) (λ standard. standard ≡ year) }
+    ensures { MatchOption result (9_999 < unsigned_abs year)
+        (λ standard. (standard ≡ year) × (unsigned_abs year ≤ 9_999)) }
 {
     let number = year.get();
     if number.unsigned_abs() > 9_999 {

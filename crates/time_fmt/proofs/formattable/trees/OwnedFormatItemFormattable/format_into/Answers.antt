@@ -1,0 +1,4 @@
+use Rattle.time_fmt.proofs.formattable.trees.OwnedFormatItemFormattable.format_into.Goals as goal
+
+pub returns : goal.returns
+returns g c = c.format_into.ensures
