@@ -1,13 +1,11 @@
 -- Nodes one after another: what is written so far, and then the outcome of what is left, is the outcome of all.
-use Rattle.std.proofs.Common.{◌≡◌, ap, sym, ◌∙◌, arith, ℕ, ◌+◌, ◌<◌, ◌≤◌, ◌++◌, List, [], ◌∷◌, map, drop, length}
+use Rattle.std.proofs.Common.{◌≡◌, ap, sym, ◌∙◌, arith, ℕ, ◌+◌, ◌≤◌, ◌++◌, List, [], ◌∷◌, map, drop, length}
 use Rattle.std.proofs.Common.{append_assoc, length-append, subst, Some, None, Result, Ok, Err}
-use Rattle.std.specs.Prelude.{slice_get, slice_index_or}
+use Rattle.std.specs.Prelude.{slice_get}
 use Rattle.std.proofs.lemmas.List.{append-nil, at_drop_all}
 use Rattle.time_below.specs.Facts.{Facts}
-use Rattle.time_below.specs.Size.{sizes}
 use Rattle.time_below.specs.Tree.{Tree, Trees, trees, byte_literal, all_of, first_of, nothing, more}
 use Rattle.time_below.specs.Width.{tree_width, trees_width, are_guaranteed_text}
-use Rattle.time_below.proofs.NodeLemmas.{next_of, smaller_rest}
 use Rattle.time_fmt.specs.declared.refused.Refused.{Refused}
 use Rattle.time_fmt.specs.Description.{tree_outcome, trees_outcome}
 use Rattle.time_fmt.specs.Guarantee.{IsTextIf, AppendsTree}
@@ -37,11 +35,11 @@ pub along_from_the_start : {agrees : Type 0} (output : Buffer) (f : Facts) (all 
     → Fits output (trees_width all) → Along agrees output output f all all size size
 along_from_the_start output f all size agrees room = grind arith
 
--- what is left begins with a tree, which fits the capacity
-room_before : {agrees : Type 0} {all_size left_size : ℕ} (old now : Buffer) (f : Facts)
+-- the next node fits the capacity
+pub room_for_next : {agrees : Type 0} {all_size left_size : ℕ} (old now : Buffer) (f : Facts)
     (all left others : Trees) (t : Tree) →
     Along agrees old now f all left all_size left_size → left ≡ more t others → Fits now (tree_width t)
-room_before old now f all left others t along next = grind arith
+room_for_next old now f all left others t along next = grind arith
 
 -- the outcome of a list is that of its next node after what was written
 pub record StopsAt (old mid : Buffer) (all first : Outcome) : Type 0 where
@@ -49,20 +47,20 @@ pub record StopsAt (old mid : Buffer) (all first : Outcome) : Type 0 where
   pub refusal : all.refusal ≡ first.refusal
   pub grown : old.len + length all.bytes ≡ mid.len + length first.bytes
 
--- a list ends with a tree that is refused
-refused_before : {agrees : Type 0} {all_size left_size : ℕ} {reason : Refused} (old mid new : Buffer)
+-- a list ends with a node that is refused
+pub list_refused : {agrees : Type 0} {all_size left_size : ℕ} {reason : Refused} (old mid new : Buffer)
     (f : Facts) (all left others : Trees) (t : Tree) →
     Along agrees old mid f all left all_size left_size → left ≡ more t others
     → AppendsTree t f mid new (Err reason) → AppendsTree (all_of all) f old new (Err reason)
-refused_before old mid new f all left others t along next step = grind (arith, join_refused)
+list_refused old mid new f all left others t along next step = grind (arith, join_refused)
 
--- what was written before a tree, and what the tree gave, is followed by what is left
-along_one : {agrees agrees_after : Type 0} {all_size left_size rest_size : ℕ} (old mid new : Buffer)
+-- what was written before a node, and what the node wrote, is followed by what is left
+pub written_along : {agrees agrees_after : Type 0} {all_size left_size rest_size : ℕ} (old mid new : Buffer)
     (f : Facts) (all left others : Trees) (t : Tree) →
     Along agrees old mid f all left all_size left_size → left ≡ more t others → rest_size ≤ left_size
     → AppendsTree t f mid new (Ok tt) → agrees_after
     → Along agrees_after old new f all others all_size rest_size
-along_one old mid new f all left others t along next smaller step agrees =
+written_along old mid new f all left others t along next smaller step agrees =
     let a = tree_outcome t f in
     let b = trees_outcome others f in
     let e : trees_outcome left f ≡ record { bytes = a.bytes ++ b.bytes; refusal = b.refusal } =
@@ -85,24 +83,6 @@ along_one old mid new f all left others t along next smaller step agrees =
       block = step.ends.block ∙ along.block;
       text = λ rest. along.text (subst P (sym next) (text_more t others f step.text rest));
     }
-
--- the same of the node at a place: it fits the capacity, or ends the list, or is followed by the nodes behind it
-module _ {A agrees : Type 0} (tree : A → Tree) (size : A → ℕ) (nodes : List A) (i : ℕ) (x : A) (old mid : Buffer)
-    (f : Facts) (there : i < length nodes) (is : x ≡ slice_index_or nodes i x)
-    (along : Along agrees old mid f (trees (map tree nodes)) (trees (map tree (drop i nodes)))
-    (sizes (map size nodes)) (sizes (map size (drop i nodes)))) where
-  pub room_for_next : Fits mid (tree_width (tree x))
-  room_for_next = room_before old mid f _ _ _ _ along (next_of tree nodes i x there is)
-
-  pub list_refused : {reason : Refused} (new : Buffer) → AppendsTree (tree x) f mid new (Err reason)
-      → AppendsTree (all_of (trees (map tree nodes))) f old new (Err reason)
-  list_refused new step = refused_before old mid new f _ _ _ _ along (next_of tree nodes i x there is) step
-
-  pub written_along : {agrees_after : Type 0} (new : Buffer) → AppendsTree (tree x) f mid new (Ok tt) → agrees_after
-      → Along agrees_after old new f (trees (map tree nodes)) (trees (map tree (drop (i + 1) nodes)))
-      (sizes (map size nodes)) (sizes (map size (drop (i + 1) nodes)))
-  written_along new step agrees =
-      along_one old mid new f _ _ _ _ along (next_of tree nodes i x there is) (smaller_rest size nodes i x there is) step agrees
 
 -- the end of a list leaves nothing, so that all of it is written
 pub all_along : {A agrees : Type 0} {all_size left_size : ℕ} (tree : A → Tree) (nodes : List A) (i : ℕ)
