@@ -1,38 +1,12 @@
 -- Texts that were written one after another are one text, and one text is what an outcome appends; so are
 -- outcomes.
-use Rattle.std.proofs.Common.{◌≡◌, ◌≢◌, ◌<◌, ◌≤◌, min, ℕ, ◌+◌, ◌-◌, ◌++◌, List, [], ◌∷◌, length, IsUtf8, length-append, append_assoc, refl, arith, Option, Some, None}
-use Rattle.std.proofs.Common.{IfOk, IsSomeAnd, Result, Ok, Err, Vec, vec_len}
+use Rattle.std.proofs.Common.{◌≡◌, ℕ, ◌+◌, ◌-◌, ◌++◌, length-append, append_assoc, refl, arith, Option, Some, None}
+use Rattle.std.proofs.Common.{IsSomeAnd, Result, Ok, Err, Vec, vec_len}
 use Rattle.std.proofs.lemmas.List.{append-nil}
-use Rattle.std.proofs.lemmas.Str.{IsUtf8-nil}
 use Rattle.std.specs.Global.{Global}
 use Rattle.time_fmt.specs.declared.error.Format.{Format}
-use Rattle.time_fmt.specs.declared.error.Format.TheVariants as error
 use Rattle.time_fmt.specs.Outcome.{Outcome, Refusal, Names, Appends, Adds, refused, join}
 use Rattle.std.proofs.lemmas.Grind.{common_steps}
-
--- a value is no error
-pub never_refused : {A E : Type 0} {value : A} {e : E} → ◌≡◌ {A = Result A E} (Ok value) (Err e) → ⊥
-never_refused e = cc
-
--- what holds of a value under a condition holds of it under a stronger one
-pub under_stronger : {A E P Q : Type 0} (of : A → Type 0) (r : Result A E) → (Q → P) → IfOk r (λ x. P → of x)
-    → IfOk r (λ x. Q → of x)
-under_stronger of (Ok x) implies under = λ q. under (implies q)
-under_stronger of (Err e) implies under = under
-
--- within no width there is no byte, which is a text
-no_bytes : (bytes : List ℕ) → length bytes ≡ 0 → IsUtf8 bytes
-no_bytes [] h = IsUtf8-nil
-no_bytes (x ∷ xs) h = absurd (omega arith)
-
-pub nothing_is_text : {answer : Result ℕ Format} {o : Outcome} {old new : Vec ℕ Global} (width : ℕ)
-    → Appends old new answer o → vec_len new ≤ vec_len old + width → width ≡ 0 → IsUtf8 o.bytes
-nothing_is_text {o = o} width appends within none = no_bytes o.bytes (omega arith)
-
--- a width that has reached the greatest number is not below it
-pub never_too_wide : {width greatest counted : ℕ} → counted ≡ min width greatest → counted < greatest
-    → greatest ≤ width → ⊥
-never_too_wide is below wide = omega arith
 
 -- an outcome is added if it is appended after a reservation
 pub adds_after_room : {answer : Result ℕ Format} {o : Outcome} (old mid new : Vec ℕ Global) → mid.items ≡ old.items
@@ -52,16 +26,6 @@ appends_nothing output e r named = grind (arith, append-nil)
 -- a refusal that is named is there
 pub some_of : (P : Refusal → Type 0) (x : Option Refusal) → IsSomeAnd x P → (r : Refusal) × (x ≡ Some r)
 some_of P x h = grind (arith, common_steps)
-
--- no refusal is named as being out of memory
-pub never_out_of_memory : {answer : Result ℕ Format} {o : Outcome} {old new : Vec ℕ Global} → Appends old new answer o
-    → answer ≢ Err error.OutOfMemory
-never_out_of_memory appends e = grind (arith, common_steps, some_of)
-
--- nor in the error of another result
-pub never_passed_on : {A : Type 0} {e : Format} {o : Outcome} {old new : Vec ℕ Global} → Appends old new (Err e) o
-    → ◌≡◌ {A = Result A Format} (Err e) (Err error.OutOfMemory) → ⊥
-never_passed_on appends e = never_out_of_memory appends (cc)
 
 -- nothing follows what is refused
 pub join_refused : (a b : Outcome) (r : Refusal) → a.refusal ≡ Some r → join a b ≡ a
