@@ -18,11 +18,6 @@ pub counted_by_length : {count : ℕ} {o : Outcome} {old new : Vec ℕ Global} (
     → begin ≡ vec_len old → end ≡ vec_len new → Appends old new (Ok (end - begin)) o
 counted_by_length begin end appends from to = grind arith
 
--- a refusal before any byte appends nothing
-pub appends_nothing : (output : Vec ℕ Global) (e : Format) (r : Refusal) → Names e r
-    → Appends output output (Err e) (refused r)
-appends_nothing output e r named = grind (arith, append-nil)
-
 -- a refusal that is named is there
 pub some_of : (P : Refusal → Type 0) (x : Option Refusal) → IsSomeAnd x P → (r : Refusal) × (x ≡ Some r)
 some_of P x h = grind (arith, common_steps)
